@@ -1,0 +1,31 @@
+-- What goes on for ever: within an epoch a list that has ended stays as it is, and the epochs that ended stay.
+use Rattle.std.specs.Prelude.{◌≡◌, ℕ, ◌⊎◌, Bool, true, false, not, ◌&&◌, ◌||◌, List, ◌∷◌, ◌++◌, length}
+use Rattle.ring_machine.specs.declared.states.ControllerState.{ControllerState}
+use Rattle.ring_machine.specs.declared.states.ControllerState.TheVariants.{Off, Serving, Ended}
+use Rattle.ring_machine.specs.Ring.{RxLedger, RxRing, is_open, is_answered, is_serving}
+
+abbrev pub is_ended : ControllerState → Bool
+is_ended Off = false
+is_ended Serving = false
+is_ended Ended = true
+
+module _ {Payload : Type 0} where
+  -- the controller stores no more in this epoch: it answered the disabling, or it said that it is quiet
+  abbrev pub is_over : RxRing Payload → Bool
+  is_over r = (is_ended r.handshake.controller && not (is_open r.handshake.driver)) || (is_serving r.handshake.controller && r.still)
+
+  -- a later epoch: that of the first ring has ended, and lies among the past ones
+  pub record NewEpoch (r later : RxRing Payload) : Type 0 where
+    pub ended : RxLedger Payload
+    pub more : List (RxLedger Payload)
+    pub past : r.past ++ (ended ∷ more) ≡ later.past
+
+  -- the same epoch: posted is fixed once the driver is no longer open, stored once the controller is over, taken once the disabling was answered
+  pub record SameEpoch (r later : RxRing Payload) : Type 0 where
+    pub past : later.past ≡ r.past
+    pub posted : is_open r.handshake.driver ≡ false → (later.ledger.posted ≡ r.ledger.posted) × (is_open later.handshake.driver ≡ false)
+    pub stored : is_over r ≡ true → (later.ledger.stored ≡ r.ledger.stored) × (is_over later ≡ true)
+    pub taken : is_answered r.handshake.driver ≡ true → (later.ledger.taken ≡ r.ledger.taken) × (is_answered later.handshake.driver ≡ true)
+
+  abbrev pub Later : RxRing Payload → RxRing Payload → Type 0
+  Later r later = NewEpoch r later ⊎ SameEpoch r later

@@ -1,0 +1,11 @@
+pub mod Lists
+pub mod Ring
+pub mod Frames
+pub mod Lawful
+pub mod Handshakes
+pub mod Steps
+pub mod Notes
+pub mod Schedules
+pub mod Agreement
+pub mod Laws
+pub mod Rows

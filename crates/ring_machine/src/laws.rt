@@ -1,0 +1,22 @@
+//! What holds of every receive ring that a schedule gives, as contracts of functions that do nothing.
+ghost use Rattle.std.specs.Prelude.{◌≡◌, ℕ, ◌<◌, List};
+ghost use Rattle.ring_machine.specs.Ring.{Bytes, RxRing};
+ghost use Rattle.ring_machine.specs.declared.steps.RxStep.{RxStep};
+ghost use Rattle.ring_machine.specs.Lawful.{IsLawfulRx};
+ghost use Rattle.ring_machine.specs.Schedules.{IsReachable, after_all};
+ghost use Rattle.ring_machine.specs.Laws.{Later};
+
+/// Every ring of two places or more that a schedule gives has a lawful ledger and a lawful owner map, whether its
+/// segments carry bytes or the number of their bytes.
+pub fn rings_are_lawful()
+    ensures bytes { (n : ℕ) (r : RxRing Bytes) → 1 < n → IsReachable Bytes n r → IsLawfulRx Bytes r }
+    ensures lengths { (n : ℕ) (r : RxRing ℕ) → 1 < n → IsReachable ℕ n r → IsLawfulRx ℕ r }
+{}
+
+/// Whatever schedule goes on from a ring that a schedule gave: within its epoch, what is posted is fixed once the
+/// driver is no longer open, what is stored once the controller answered the disabling or said that it is quiet, and
+/// what is taken once the driver saw the disabling answered. The epochs that ended stay as they were.
+pub fn epochs_are_fixed()
+    ensures bytes { (n : ℕ) (r : RxRing Bytes) (more : List (RxStep Bytes)) → 1 < n → IsReachable Bytes n r → Later r (after_all r more) }
+    ensures lengths { (n : ℕ) (r : RxRing ℕ) (more : List (RxStep ℕ)) → 1 < n → IsReachable ℕ n r → Later r (after_all r more) }
+{}

@@ -1,0 +1,35 @@
+//! What a step tells of itself: one variant for each row of the table of notes.
+
+/// What a taken descriptor says.
+#[derive(Clone, Copy, Debug, PartialEq, Eq)]
+pub struct TakenSegment {
+    /// The buffer's number.
+    pub buffer: u16,
+    /// The bytes in it.
+    pub len: u16,
+    /// Whether it ends its frame.
+    pub eop: bool,
+}
+
+/// What a step tells of itself. Places, heads and tails are below the ring's length.
+#[derive(Clone, Copy, Debug, PartialEq, Eq)]
+pub enum Note {
+    /// The place that was posted or written back.
+    Place(u16),
+    /// The tail that was stored.
+    Tail(u16),
+    /// How many descriptors the controller of a receive queue knows to be free.
+    Free(u16),
+    /// The place that was fetched, and the buffer's number.
+    Fetched(u16, u16),
+    /// The segment that was taken, if DD was set.
+    Taken(Option<TakenSegment>),
+    /// The head that was stored.
+    Head(u16),
+    /// The number of the buffer that came out.
+    Buffer(u16),
+    /// The control value that was stored or loaded.
+    Control(u8),
+    /// The quiet value that was stored or loaded.
+    Quiet(u8),
+}
