@@ -1,0 +1,8 @@
+use Rattle.std.specs.Prelude.{ℕ}
+use Rattle.buffer_pool.specs.declared.error.PoolError.{PoolError}
+use Rattle.buffer_pool.specs.declared.error.PoolError.TheVariants.{Memory, Count}
+
+-- the number of a refusal
+abbrev pub refusal_number : PoolError → ℕ
+refusal_number Memory = 31
+refusal_number Count = 34

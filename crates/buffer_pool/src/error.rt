@@ -1,0 +1,28 @@
+//! The refusals of this crate.
+ghost use Rattle.std.specs.Prelude.{◌≡◌};
+ghost use Rattle.buffer_pool.specs.Refusal.{refusal_number};
+
+use thiserror::Error;
+
+/// Why a pool call was refused.
+#[derive(Clone, Copy, Debug, PartialEq, Eq, Error)]
+pub enum PoolError {
+    /// Memory was refused.
+    #[error("memory")]
+    Memory,
+    /// The number of buffers is out of range, or one of their numbers would be.
+    #[error("count")]
+    Count,
+}
+
+impl PoolError {
+    /// The number of the refusal, which programs print before its text.
+    pub fn number(&self) -> u8
+        ensures { result ≡ refusal_number self.now }
+    {
+        match self {
+            PoolError::Memory => 31,
+            PoolError::Count => 34,
+        }
+    }
+}
