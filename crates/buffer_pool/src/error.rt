@@ -1,7 +1,9 @@
 //! The refusals of this crate.
 ghost use Rattle.std.specs.Prelude.{◌≡◌};
 ghost use Rattle.buffer_pool.specs.Refusal.{refusal_number};
+ghost use Rattle.buffer_pool.specs.declared.error.PoolError.TheVariants.{Memory};
 
+use std::alloc::AllocError;
 use thiserror::Error;
 
 /// Why a pool call was refused.
@@ -24,5 +26,13 @@ impl PoolError {
             PoolError::Memory => 31,
             PoolError::Count => 34,
         }
+    }
+}
+
+impl From<AllocError> for PoolError {
+    ghost from_gives = { λ _ e. e ≡ Memory };
+
+    fn from(_: AllocError) -> PoolError {
+        PoolError::Memory
     }
 }
