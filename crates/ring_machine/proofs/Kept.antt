@@ -6,7 +6,18 @@ use Rattle.ring_machine.specs.declared.states.ControllerState.{ControllerState}
 use Rattle.ring_machine.specs.declared.states.ControllerState.TheVariants.{Off, Serving, Ended}
 use Rattle.ring_machine.specs.Lists.{IsBeginning}
 use Rattle.ring_machine.specs.Ring.{Segment, RxLedger, RxRing, Handshake, is_open, is_answered, is_serving, posted_count, stored_count, taken_count}
+use Rattle.ring_machine.specs.Steps.{is_tailed}
 use Rattle.ring_machine.specs.Lawful.{IsLawfulMap, window}
+
+-- every buffer came back, and the driver clears the queue's words
+abbrev pub is_emptied : DriverState → Bool
+is_emptied New = false
+is_emptied Asked = false
+is_emptied On = false
+is_emptied Stopping = false
+is_emptied Stopped = false
+is_emptied Cleared = true
+is_emptied Tailed = true
 
 -- which control words and values seen go with the two states
 abbrev pub ShakesAs : DriverState → ControllerState → ℕ → ℕ → Type 0
@@ -48,6 +59,8 @@ pub record InOrder (n posted stored taken published known reclaimed : ℕ) (held
   pub held_serving : held ≡ true → is_serving h.controller ≡ true
   pub not_reclaimed : is_answered h.driver ≡ false → reclaimed ≡ 0
   pub none_stored : is_serving h.controller ≡ false → is_open h.driver ≡ true → stored ≡ 0
+  pub all_back : is_emptied h.driver ≡ true → taken + reclaimed ≡ posted
+  pub tail_cleared : is_tailed h.driver ≡ true → published ≡ 0
 
 pub record IsKept (Payload : Type 0) (n : ℕ) (r : RxRing Payload) : Type 0 where
   pub size_is : r.size ≡ n
@@ -57,3 +70,4 @@ pub record IsKept (Payload : Type 0) (n : ℕ) (r : RxRing Payload) : Type 0 whe
   pub taken : IsBeginning r.ledger.taken r.ledger.stored
   pub stored : IsBeginning (map (λ (s : Segment Payload). s.number) r.ledger.stored) r.ledger.posted
   pub map : IsLawfulMap (window r) r.owners
+  pub at_rest : r.still ≡ true → r.held ≡ false

@@ -1,2 +1,9 @@
 pub mod Places
 pub mod Kept
+pub mod Shakes
+pub mod Orders
+pub mod Owners
+pub mod Beginnings
+pub mod Stepping
+pub mod Fixed
+pub mod Reached

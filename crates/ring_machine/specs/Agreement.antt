@@ -48,9 +48,9 @@ module _ {Payload Buffer : Type 0} (size : Payload → ℕ) (fresh : ℕ → Buf
   wanted_slot r k = if r.held && (k == stored_count r) then None else Some (buffer_of (slice_index r.ledger.posted k) (slice_get r.ledger.stored k))
 
   -- each item that is out has its word and its buffer. Places of the driver may have anything
-  pub record HasItems (r : RxRing Payload) (word : ℕ → ℕ) (slot : ℕ → Option Buffer) : Type 0 where
-    pub words : EachItem r.size (returned_count r) (posted_count r) word (wanted_word r)
-    pub slots : EachItem r.size (returned_count r) (posted_count r) slot (wanted_slot r)
+  pub record HasItems (n : ℕ) (r : RxRing Payload) (word : ℕ → ℕ) (slot : ℕ → Option Buffer) : Type 0 where
+    pub words : EachItem n (returned_count r) (posted_count r) word (wanted_word r)
+    pub slots : EachItem n (returned_count r) (posted_count r) slot (wanted_slot r)
 
 -- A ring as the two sides have it: places below n, one word a descriptor, and what each side keeps for itself
 pub record RxWrapped (Buffer : Type 0) : Type 0 where
@@ -85,7 +85,7 @@ module _ {Payload Buffer : Type 0} (size : Payload → ℕ) (fresh : ℕ → Buf
   pub record Agrees (w : RxWrapped Buffer) (r : RxRing Payload) : Type 0 where
     pub size_is : w.size ≡ r.size
     pub registers : HasRegisters r.size (registers_of r) w.words
-    pub items : HasItems size fresh filled r (slice_index w.words) (slot_at w.slots)
+    pub items : HasItems size fresh filled r.size r (slice_index w.words) (slot_at w.slots)
     pub fill : w.fill ≡ posted_count r % r.size
     pub next : w.next ≡ returned_count r % r.size
     pub serve : is_between r ≡ false → w.serve ≡ stored_count r % r.size

@@ -30,6 +30,26 @@ pub enum DriverState {
     Tailed,
 }
 
+impl DriverState {
+    ghost use Rattle.std.specs.Prelude.{◌≡◌};
+    ghost use Rattle.ring_machine.specs.Ring.{is_live};
+
+    /// Whether the driver may look for completed work: the queue was seen enabled, and not yet seen disabled.
+    #[inline]
+    pub fn is_live(self) -> bool
+        ensures { result ≡ is_live self }
+    {
+        match self {
+            DriverState::On | DriverState::Stopping => true,
+            DriverState::New
+            | DriverState::Asked
+            | DriverState::Stopped
+            | DriverState::Cleared
+            | DriverState::Tailed => false,
+        }
+    }
+}
+
 /// How far the controller is with a queue.
 #[derive(Clone, Copy, Debug, PartialEq, Eq)]
 pub enum ControllerState {

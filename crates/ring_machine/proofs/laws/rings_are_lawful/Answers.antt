@@ -1,0 +1,11 @@
+-- What a schedule gives is kept, and what is kept is lawful.
+use Rattle.ring_machine.specs.Ring.{Bytes}
+use Rattle.std.proofs.Common.{ℕ}
+use Rattle.ring_machine.proofs.Reached.{kept, lawful}
+use Rattle.ring_machine.proofs.laws.rings_are_lawful.Goals as goal
+
+pub returns-clause-bytes : goal.returns-clause-bytes
+returns-clause-bytes c = λ n r h e. lawful n r (kept n r h e)
+
+pub returns-clause-lengths : goal.returns-clause-lengths
+returns-clause-lengths c = λ n r h e. lawful n r (kept n r h e)
