@@ -1,5 +1,5 @@
 -- The numbers in a stock, as buffers come and go.
-use Rattle.std.proofs.Common.{◌≡◌, ◌≢◌, ℕ, zero, suc, ◌+◌, ◌-◌, ◌<◌, ◌≤◌, ◌<◌, List, ◌∷◌, length, get_or, All, AllPairs, Contains, nat_eq, true, sym, ◌∙◌, ap, subst, arith}
+use Rattle.std.proofs.Common.{◌≡◌, ◌≢◌, ℕ, zero, suc, ◌+◌, ◌-◌, ◌<◌, ◌≤◌, List, [], ◌∷◌, length, get_or, All, AllPairs, Contains, nat_eq, true, sym, ◌∙◌, ap, subst, arith, ◌++◌, length-append, IsPermutation}
 use Rattle.std.specs.List.{range_with_len}
 use Rattle.std.specs.Set.{is_member}
 use Rattle.std.proofs.lemmas.List.{get_or_default}
@@ -9,7 +9,12 @@ use Rattle.std.proofs.lemmas.List.FromFn.{length-range_with_len, get_or-range_wi
 use Rattle.std.proofs.lemmas.Bool.Decides.{Decides-eqb}
 use Rattle.std.proofs.lemmas.Cmp.{nat_eq_equiv}
 use Rattle.std.proofs.lemmas.Map.Made.{IsDistinct-from_AllPairs, is_member-Decides, length-le_from_is_member}
-use Rattle.buffer_pool.specs.Stocked.{Stocked, full_stock, with_number, IsNumberOf, IsStock, IsOut}
+use Rattle.std.proofs.lemmas.List.{append-nil, get_or_append_left}
+use Rattle.std.proofs.lemmas.List.Sorted.{IsPermutation-refl, IsPermutation-sym, IsPermutation-trans, IsPermutation-middle, All-permutation}
+use Rattle.std.proofs.lemmas.Map.Keys.{IsDistinct-IsPermutation}
+use Rattle.std.proofs.Math.Seq.{get_or-append_seam}
+use Rattle.std.proofs.lemmas.Map.Made.{AllPairs-from_IsDistinct}
+use Rattle.buffer_pool.specs.Stocked.{Stocked, full_stock, with_number, IsNumberOf, IsStock, IsOut, Shares}
 
 All-cons : (P : ℕ → Type 0) (x : ℕ) (xs : List ℕ) → P x → All P xs → All P (x ∷ xs)
 All-cons P x xs p ps zero d h = p
@@ -95,3 +100,34 @@ range_with_len-before number past low high =
     let next : number - 1 + 1 ≡ number = omega arith in
     ap (range_with_len (number - 1)) longer
     ∙ ap (λ (from : ℕ). (number - 1) ∷ range_with_len from (past - number)) next
+
+-- ---- in the stock or out
+
+pub Shares-taken : (s : Stocked) (number : ℕ) (out : List ℕ) → Shares (with_number s number) out → Shares s (number ∷ out)
+Shares-taken s number out h =
+    IsPermutation-trans (range_with_len s.first s.count) (number ∷ (s.numbers ++ out)) (s.numbers ++ number ∷ out) h
+    (IsPermutation-sym (s.numbers ++ number ∷ out) (number ∷ (s.numbers ++ out)) (IsPermutation-middle s.numbers number out))
+
+pub Shares-given : (s : Stocked) (number : ℕ) (out : List ℕ) → Shares s (number ∷ out) → Shares (with_number s number) out
+Shares-given s number out h =
+    IsPermutation-trans (range_with_len s.first s.count) (s.numbers ++ number ∷ out) (number ∷ (s.numbers ++ out)) h
+    (IsPermutation-middle s.numbers number out)
+
+-- a number that is out may come back
+pub IsOut-from_Shares : (s : Stocked) (number : ℕ) (out : List ℕ) → Shares s (number ∷ out) → IsOut s number
+IsOut-from_Shares s number out h =
+    let range : List ℕ = range_with_len s.first s.count in
+    let all : List ℕ = s.numbers ++ number ∷ out in
+    let full : IsStock (full_stock s.first s.count) = IsStock-full_stock s.first s.count in
+    let of_range : All (IsNumberOf s) all = All-permutation (IsNumberOf s) range all h full.of_range in
+    let once : AllPairs (λ one other. one ≢ other) all =
+    AllPairs-from_IsDistinct Decides-eqb all
+    (IsDistinct-IsPermutation nat_eq nat_eq_equiv.symm range all h (IsDistinct-from_AllPairs Decides-eqb range full.once)) in
+    let place : length s.numbers < length all = omega (arith, length-append s.numbers (number ∷ out)) in
+    let here : get_or all (length s.numbers) number ≡ number = get_or-append_seam s.numbers number out number in
+    record {
+      of_range = subst (IsNumberOf s) here (of_range (length s.numbers) number place);
+      absent = λ (k, l, e).
+          once k (length s.numbers) number l place
+          (get_or_append_left s.numbers (number ∷ out) number k l ∙ e ∙ sym here);
+    }

@@ -5,8 +5,8 @@ use Rattle.std.proofs.lemmas.List.Elements.{All-append}
 use Rattle.std.proofs.Math.Seq.{get_or-append_seam}
 use Rattle.buffer_pool.specs.Buffer.{Buffer, buffer}
 use Rattle.buffer_pool.specs.Shelf.{numbers_of, stock_of, AllReady}
-use Rattle.buffer_pool.specs.Stocked.{with_number, IsStock, IsOut}
-use Rattle.buffer_pool.proofs.Numbers.{IsStock-rest, IsStock-with_number, IsOut-taken}
+use Rattle.buffer_pool.specs.Stocked.{with_number, IsStock, IsOut, Shares}
+use Rattle.buffer_pool.proofs.Numbers.{IsStock-rest, IsStock-with_number, IsOut-taken, Shares-taken, Shares-given}
 
 pub numbers_of-push : (pile : List Buffer) (b : Buffer) → numbers_of (pile ++ b ∷ []) ≡ b.number ∷ numbers_of pile
 numbers_of-push pile b = ap (map (λ (x : Buffer). x.number)) (reverse-append pile (b ∷ []))
@@ -40,37 +40,46 @@ IsStock-push first count pile b h out =
     (IsStock-with_number (stock_of first count pile) b.number h out)
 
 -- a stock with a buffer on top, as the numbers below it and this one
-on_top : (first count : ℕ) (pile : List Buffer) (b : Buffer)
+IsStock-top : (first count : ℕ) (pile : List Buffer) (b : Buffer)
     → IsStock (stock_of first count (pile ++ b ∷ [])) → IsStock (with_number (stock_of first count pile) b.number)
-on_top first count pile b h =
+IsStock-top first count pile b h =
     subst (λ (ns : List ℕ). IsStock (record { first = first; count = count; numbers = ns })) (numbers_of-push pile b) h
 
 -- what is left after a `pop`, and what it gave
-pub record IsTaken (first count : ℕ) (rest : List Buffer) (top : Option Buffer) : Type 0 where
+pub record IsTaken (first count : ℕ) (pile rest : List Buffer) (top : Option Buffer) : Type 0 where
   pub numbers : IsStock (stock_of first count rest)
   pub ready : AllReady rest
-  pub empty : IfSome top (λ b. b ≡ buffer b.number [])
   pub out : IfSome top (λ b. IsOut (stock_of first count rest) b.number)
+  pub shared : IfSome top (λ b. (out : List ℕ) → Shares (stock_of first count pile) out
+      → Shares (stock_of first count rest) (b.number ∷ out))
 
 IsTaken-whole : (first count : ℕ) (rest : List Buffer) (top : Option Buffer)
     → IsStock (stock_of first count (rest ++ option_to_list top)) → AllReady (rest ++ option_to_list top)
-    → IsTaken first count rest top
+    → IsTaken first count (rest ++ option_to_list top) rest top
 IsTaken-whole first count rest None h ready = record {
   numbers = subst (λ (pile : List Buffer). IsStock (stock_of first count pile)) (append-nil rest) h;
   ready = subst AllReady (append-nil rest) ready;
-  empty = tt;
   out = tt;
+  shared = tt;
 }
 IsTaken-whole first count rest (Some b) h ready = record {
-  numbers = IsStock-rest (stock_of first count rest) b.number (on_top first count rest b h);
+  numbers = IsStock-rest (stock_of first count rest) b.number (IsStock-top first count rest b h);
   ready = AllReady-rest rest b ready;
-  empty = AllReady-top rest b ready;
-  out = IsOut-taken (stock_of first count rest) b.number (on_top first count rest b h);
+  out = IsOut-taken (stock_of first count rest) b.number (IsStock-top first count rest b h);
+  shared = λ out s. Shares-taken (stock_of first count rest) b.number out
+      (subst (λ (ns : List ℕ). Shares (record { first = first; count = count; numbers = ns }) out) (numbers_of-push rest b) s);
 }
 
 pub IsTaken-popped : (first count : ℕ) (pile rest : List Buffer) (top : Option Buffer)
     → pile ≡ rest ++ option_to_list top → IsStock (stock_of first count pile) → AllReady pile
-    → IsTaken first count rest top
+    → IsTaken first count pile rest top
 IsTaken-popped first count pile rest top e h ready =
-    IsTaken-whole first count rest top
-    (subst (λ (p : List Buffer). IsStock (stock_of first count p)) e h) (subst AllReady e ready)
+    subst (λ (p : List Buffer). IsStock (stock_of first count p) → AllReady p → IsTaken first count p rest top) (sym e)
+    (IsTaken-whole first count rest top) h ready
+
+-- the same of the buffers that are out
+pub Shares-push : (first count : ℕ) (pile : List Buffer) (b : Buffer) (out : List ℕ)
+    → Shares (stock_of first count pile) (b.number ∷ out) → Shares (stock_of first count (pile ++ b ∷ [])) out
+Shares-push first count pile b out h =
+    subst (λ (ns : List ℕ). Shares (record { first = first; count = count; numbers = ns }) out) (sym (numbers_of-push pile b))
+    (Shares-given (stock_of first count pile) b.number out h)

@@ -1,5 +1,5 @@
 -- What a contract sees of a `Stock`.
-use Rattle.std.specs.Prelude.{◌≢◌, ℕ, ◌+◌, ◌<◌, ◌≤◌, List, ◌∷◌, All, AllPairs, Contains}
+use Rattle.std.specs.Prelude.{◌≢◌, ℕ, ◌+◌, ◌<◌, ◌≤◌, List, ◌∷◌, ◌++◌, All, AllPairs, Contains, IsPermutation}
 use Rattle.std.specs.List.{range_with_len}
 
 -- the range of its numbers, and those of the buffers in it, in the order in which they come out
@@ -29,3 +29,7 @@ pub record IsStock (s : Stocked) : Type 0 where
 pub record IsOut (s : Stocked) (number : ℕ) : Type 0 where
   pub of_range : IsNumberOf s number
   pub absent : ¬ Contains s.numbers number
+
+-- the numbers in the stock and these of buffers that are out are together its range, each once
+abbrev pub Shares : Stocked → List ℕ → Type 0
+Shares s out = IsPermutation (range_with_len s.first s.count) (s.numbers ++ out)

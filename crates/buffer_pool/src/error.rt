@@ -32,7 +32,7 @@ impl PoolError {
 impl From<AllocError> for PoolError {
     ghost from_gives = { λ _ e. e ≡ Memory };
 
-    fn from(_: AllocError) -> PoolError {
-        PoolError::Memory
+    fn from(_: AllocError) -> Self {
+        Self::Memory
     }
 }

@@ -11,6 +11,8 @@
 mod buf;
 mod error;
 mod stock;
+#[cfg(test)]
+mod tests;
 
 pub use buf::{BUFFER_BYTES, Buf};
 pub use error::PoolError;

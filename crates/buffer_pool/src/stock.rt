@@ -1,9 +1,9 @@
 //! A stock of buffers.
-ghost use Rattle.std.specs.Prelude.{◌≡◌, ◌+◌, ◌<◌, ◌≤◌, ◌↔◌, ◌⊎◌, [], length, vec_capacity, IsTrue, IsNone, IfNone, IfSome, IfOk, IsErrOf};
+ghost use Rattle.std.specs.Prelude.{◌≡◌, ◌+◌, ◌<◌, ◌≤◌, ◌↔◌, ◌⊎◌, ℕ, List, [], ◌∷◌, length, vec_capacity, IsTrue, IsNone, IfNone, IfSome, IfOk, IsErrOf};
 ghost use Rattle.std.specs.List.{range_with_len};
 ghost use Rattle.buffer_pool.specs.Buffer.{buffer};
 ghost use Rattle.buffer_pool.specs.Shelf.{numbers_of, AllReady};
-ghost use Rattle.buffer_pool.specs.Stocked.{full_stock, with_number, IsStock, IsOut};
+ghost use Rattle.buffer_pool.specs.Stocked.{full_stock, with_number, IsStock, IsOut, Shares};
 
 use crate::{BUFFER_BYTES, Buf, PoolError};
 use std::alloc::{AllocError, Global};
@@ -45,6 +45,7 @@ impl Stock {
     pub fn new(alloc: Global, first: u32, count: u32) -> Result<Self, PoolError>
         ensures refused { IsErrOf result PoolError.Count ↔ ((count < FEWEST_BUFFERS) ⊎ (MOST_BUFFERS < first + count)) }
         ensures full { IfOk result (λ s. s ≡ full_stock first count) }
+        ensures shared { IfOk result (λ s. Shares s []) }
     {
         if count < FEWEST_BUFFERS || first > MOST_BUFFERS || count > MOST_BUFFERS - first {
             return Err(PoolError::Count);
@@ -75,6 +76,8 @@ impl Stock {
         ensures left { IfSome result (λ b. self.old ≡ with_number self.new b.number) }
         ensures empty { IfSome result (λ b. b ≡ buffer b.number []) }
         ensures out { IfSome result (λ b. IsOut self.new b.number) }
+        ensures shared { IfSome result (λ b. (out : List ℕ) → Shares self.old out
+            → Shares self.new (b.number ∷ out)) }
     {
         self.pile.pop()
     }
@@ -83,7 +86,8 @@ impl Stock {
     pub fn give(&mut self, mut buf: Buf)
         requires real { buf.capacity ≡ BUFFER_BYTES }
         requires out { IsOut self.old buf.number }
-        ensures { self.new ≡ with_number self.old buf.number }
+        ensures back { self.new ≡ with_number self.old buf.number }
+        ensures shared { (out : List ℕ) → Shares self.old (buf.number ∷ out) → Shares self.new out }
     {
         buf.clear();
         self.pile.push_reserved(buf);

@@ -1,0 +1,89 @@
+use crate::{BUFFER_BYTES, Buf, PoolError, Stock};
+use std::test::Fail;
+
+#[test]
+fn a_buffer_has_the_bytes_of_the_last_fill(rt: HostRuntime) -> Result<(), Fail> {
+    let mut stock = Stock::new(rt.alloc(), 100, 16)?;
+    let mut buf = stock.take().ok_or("no buffer")?;
+    assert_eq!(rt; buf.number(), 100);
+    assert_eq!(rt; buf.capacity(), BUFFER_BYTES);
+    assert!(rt; buf.is_empty());
+    buf.fill(&[0xab; BUFFER_BYTES]);
+    assert_eq!(rt; buf.len(), BUFFER_BYTES);
+    buf.fill(&[1, 2, 3]);
+    assert_eq!(rt; buf.bytes(), [1, 2, 3].as_slice());
+    buf.clear();
+    assert_eq!(rt; buf.bytes(), [].as_slice());
+    Ok(())
+}
+
+#[test]
+fn the_default_buffer_is_a_blank(rt: HostRuntime) {
+    let blank = Buf::default();
+    assert_eq!(rt; blank.number(), 0);
+    assert_eq!(rt; blank.capacity(), 0);
+    assert_eq!(rt; blank.bytes(), [].as_slice());
+}
+
+#[test]
+fn a_stock_hands_out_each_number_once(rt: HostRuntime) -> Result<(), Fail> {
+    let mut stock = Stock::new(rt.alloc(), 7, 16)?;
+    for number in 7..23 {
+        assert_eq!(rt; stock.take().map(|buf| buf.number()), Some(number));
+    }
+    assert_eq!(rt; stock.len(), 0);
+    assert!(rt; stock.take().is_none());
+    Ok(())
+}
+
+#[test]
+fn a_given_buffer_comes_out_first_and_empty(rt: HostRuntime) -> Result<(), Fail> {
+    let mut stock = Stock::new(rt.alloc(), 0, 16)?;
+    let mut buf = stock.take().ok_or("no buffer")?;
+    buf.fill(&[5; 60]);
+    stock.give(buf);
+    assert_eq!(rt; stock.len(), 16);
+    let again = stock.take().ok_or("no buffer")?;
+    assert_eq!(rt; again.number(), 0);
+    assert!(rt; again.is_empty());
+    assert!(rt; !stock.is_empty());
+    Ok(())
+}
+
+#[test]
+fn only_lawful_counts_are_made(rt: HostRuntime) {
+    for (first, count, want) in [
+        (0, 15, Some(34)),
+        (0, 16, None),
+        (65_520, 16, None),
+        (65_521, 16, Some(34)),
+        (65_536, 16, Some(34)),
+        (u32::MAX, 16, Some(34)),
+        (16, u32::MAX, Some(34)),
+        (0, 65_537, Some(34)),
+        (1, 65_536, Some(34)),
+        (0, 65_536, None),
+    ] {
+        let refusal = Stock::new(rt.alloc(), first, count).err();
+        assert_eq!(rt; refusal.map(|e| e.number()), want, "{count} from {first}");
+    }
+}
+
+// With the first or a later allocation refused, as `rt try --test --fail-alloc` does, this passes too.
+#[test]
+fn without_memory_no_stock_is_made(rt: HostRuntime) {
+    let refusal = Stock::new(rt.alloc(), 0, 16).err();
+    assert!(rt; matches!(refusal, None | Some(PoolError::Memory)));
+}
+
+#[test]
+fn refusals_have_a_number_and_a_text(rt: HostRuntime) -> Result<(), Fail> {
+    for (refusal, want) in [
+        (PoolError::Memory, "31 memory"),
+        (PoolError::Count, "34 count"),
+    ] {
+        let text = format!(in rt.alloc(); "{} {refusal}", refusal.number())?;
+        assert_eq!(rt; text.as_str(), want);
+    }
+    Ok(())
+}
