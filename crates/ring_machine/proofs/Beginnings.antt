@@ -1,7 +1,7 @@
 -- Lists that are beginnings of others, as either grows by one.
-use Rattle.std.proofs.Common.{◌≡◌, ℕ, zero, suc, ◌+◌, ◌<◌, ◌≤◌, List, [], ◌∷◌, ◌++◌, map, length, Option, Some, None, sym, refl, ap, ◌∙◌, subst, arith, append_assoc, append-nil, length-append}
+use Rattle.std.proofs.Common.{◌≡◌, ◌⊎◌, inl, inr, ⊎_elim, ℕ, zero, suc, ◌+◌, ◌<◌, ◌≤◌, List, [], ◌∷◌, ◌++◌, map, length, Option, Some, None, sym, refl, ap, ◌∙◌, subst, arith, append_assoc, append-nil, length-append}
 use Rattle.std.specs.Prelude.{slice_get, slice_index}
-use Rattle.std.proofs.lemmas.Option.{same_Some, none-some, slice_get-get_or}
+use Rattle.std.proofs.lemmas.Option.{same_Some, none-some, slice_get-get_or, slice_get_within}
 use Rattle.std.proofs.lemmas.List.{length-map, map-append}
 use Rattle.ring_machine.specs.Lists.{IsBeginning}
 use Rattle.ring_machine.specs.Ring.{Segment}
@@ -35,6 +35,22 @@ module _ {X : Type 0} where
   beginning-snoc (z ∷ xs) [] x b e = absurd (none-some x e)
   beginning-snoc (z ∷ xs) (y ∷ ys) x b e = let t = beginning-snoc xs ys x (b.0, same_tail z y (xs ++ b.0) ys b.1) e in
       (t.0, ap (λ (l : List X). z ∷ l) t.1 ∙ ap (λ (w : X). w ∷ ys) (same_head z y (xs ++ b.0) ys b.1))
+
+  pub slice_get-front : (xs ys : List X) (k : ℕ) → k < length xs → slice_get (xs ++ ys) k ≡ slice_get xs k
+  slice_get-front [] ys k h = absurd (omega arith)
+  slice_get-front (x ∷ xs) ys zero h = refl
+  slice_get-front (x ∷ xs) ys (suc k) h = slice_get-front xs ys k (omega arith)
+
+  -- what lies at a place of the beginning lies there in the whole
+  pub beginning_at : (xs ys : List X) (k : ℕ) (x : X) → IsBeginning xs ys → slice_get xs k ≡ Some x → slice_get ys k ≡ Some x
+  beginning_at xs ys k x b e = ap (λ (l : List X). slice_get l k) (sym b.1) ∙ slice_get-front xs b.0 k (slice_get_within xs k x e) ∙ e
+
+  -- an element of a list with one more is an element of the list, or the last
+  pub slice_get-snoc : (xs : List X) (y x : X) (k : ℕ) → slice_get (xs ++ y ∷ []) k ≡ Some x → ((k < length xs) × (slice_get xs k ≡ Some x)) ⊎ ((k ≡ length xs) × (y ≡ x))
+  slice_get-snoc [] y x zero e = inr (refl, same_Some y x e)
+  slice_get-snoc [] y x (suc k) e = absurd (none-some x e)
+  slice_get-snoc (z ∷ xs) y x zero e = inl (omega arith, e)
+  slice_get-snoc (z ∷ xs) y x (suc k) e = ⊎_elim (λ t. let h = t.0 in inl (omega arith, t.1)) (λ t. inr (ap suc t.0, t.1)) (slice_get-snoc xs y x k e)
 
 -- the next number that follows
 pub next_number : {X : Type 0} (xs : List X) (ys : List ℕ) → length xs < length ys → slice_get ys (length xs) ≡ Some (slice_index ys (length xs))

@@ -7,3 +7,4 @@ pub mod Beginnings
 pub mod Stepping
 pub mod Fixed
 pub mod Reached
+pub mod FrameLaws

@@ -21,6 +21,11 @@ piece_count b len = (len + b - 1) / b
 abbrev pub cut : ℕ → Bytes → List Piece
 cut b f = pieces b (piece_count b (length f)) f
 
+-- the bytes of pieces put together
+abbrev pub join_pieces : List Piece → Bytes
+join_pieces [] = []
+join_pieces (p ∷ ps) = p.bytes ++ join_pieces ps
+
 -- the bytes of segments, one after another
 abbrev pub join : List (Segment Bytes) → Bytes
 join [] = []
@@ -54,3 +59,7 @@ pub record Follows (n : ℕ) (before : List (Segment Bytes)) (bytes : Bytes) (eo
 -- each segment follows the unfinished frame of those before it: so every chain that ends is a lawful frame
 abbrev pub AllFollow : ℕ → List (Segment Bytes) → Type 0
 AllFollow n ss = (k : ℕ) (s : Segment Bytes) → slice_get ss k ≡ Some s → Follows n (unfinished (take k ss)) s.payload s.eop
+
+-- no shorter and no longer than a frame may be
+abbrev pub HasFrameLength : Bytes → Type 0
+HasFrameLength f = (LEAST_FRAME ≤ length f) × (length f ≤ MOST_FRAME)
