@@ -1,0 +1,28 @@
+-- Fields of one digit, and of a length.
+use Rattle.std.proofs.Common.{◌≡◌, ℕ, zero, suc, ◌-◌, ◌<◌, true, ◌&&◌, List, [], ◌∷◌, length, get_or, nat_le, nat_lt, if◌then◌else◌, None, Some, refl, arith}
+use Rattle.std.specs.List.{list_all}
+use Rattle.std.specs.Char.{is_ascii_digit}
+use Rattle.std.proofs.lemmas.Bool.{and_parts}
+use Rattle.wire_script.specs.Line.{digit_below}
+
+-- a field of another length is no digit
+pub digit_below-other : (n : ℕ) (field : List ℕ) → (length field ≡ 1 → ⊥) → digit_below n field ≡ None
+unfolding digit_below
+digit_below-other n [] other = refl
+digit_below-other n (b ∷ []) other = absurd (other refl)
+digit_below-other n (b ∷ c ∷ more) other = refl
+
+-- a field of length 1
+pub digit_below-one : (n : ℕ) (field : List ℕ) → length field ≡ 1
+    → digit_below n field ≡ (if nat_le 48 (get_or field 0 0) && nat_lt (get_or field 0 0 - 48) n then Some (get_or field 0 0 - 48) else None)
+unfolding digit_below
+digit_below-one n [] one = absurd (omega arith)
+digit_below-one n (b ∷ []) one = refl
+digit_below-one n (b ∷ c ∷ more) one = absurd (omega arith)
+
+-- each of some digits is a digit
+pub digit_at : (xs : List ℕ) (i : ℕ) → list_all is_ascii_digit xs ≡ true → i < length xs → is_ascii_digit (get_or xs i 0) ≡ true
+digit_at [] i all below = absurd (omega arith)
+digit_at (x ∷ xs) zero all below = (and_parts (is_ascii_digit x) (list_all is_ascii_digit xs) all).0
+digit_at (x ∷ xs) (suc i) all below =
+    digit_at xs i (and_parts (is_ascii_digit x) (list_all is_ascii_digit xs) all).1 (omega arith)

@@ -1,0 +1,5 @@
+pub mod FieldLemmas
+pub mod CutLemmas
+pub mod SplitLemmas
+pub mod Steps
+pub mod RoundTrip

@@ -1,0 +1,5 @@
+pub mod Frame
+pub mod ScriptError
+pub mod Line
+pub mod Script
+pub mod Split

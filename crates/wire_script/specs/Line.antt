@@ -1,0 +1,102 @@
+-- What one line of a script says.
+use Rattle.std.specs.Prelude.{ℕ, ◌+◌, ◌-◌, ◌*◌, ◌==◌, nat_le, nat_lt, Bool, not, ◌&&◌, ◌||◌, if◌then◌else◌, List, [], ◌∷◌, length, slice_index, codes, fold, replicate, Option, Some, None, Result, Ok, Err}
+use Rattle.std.specs.List.{list_all, list_any, slice_split}
+use Rattle.std.specs.Char.{is_ascii_digit}
+use Rattle.std.specs.Option.{ok_or}
+use Rattle.std.specs.Str.{bytes_eq}
+use Rattle.hex.specs.Hex.{decode_of, decode_sized}
+use Rattle.hex.specs.declared.error.FromHexError.{FromHexError}
+use Rattle.wire_script.specs.declared.error.ScriptError.{ScriptError}
+use Rattle.wire_script.specs.declared.error.ScriptError.TheVariants.{Fields, Port, Queue, Bytes, FrameLength}
+use Rattle.wire_script.specs.declared.frame.TheConstants.{MAX_FRAME, MIN_FRAME, PORTS, QUEUES}
+use Rattle.wire_script.specs.Frame.{Frame}
+use Rattle.wire_script.specs.ScriptError.{◌>>=◌}
+
+-- what stands before, between and after the bytes that are the separator
+abbrev pub parts : ℕ → List ℕ → List (List ℕ)
+parts separator bytes = slice_split (λ b. b == separator) bytes
+
+-- one digit, below a number
+unfoldable pub digit_below : ℕ → List ℕ → Option ℕ
+digit_below n (byte ∷ []) = if nat_le 48 byte && nat_lt (byte - 48) n then Some (byte - 48) else None
+digit_below n field = None
+
+-- a port is `0` or `1`
+abbrev pub port_in : ℕ → List ℕ → Result ℕ ScriptError
+port_in k field = ok_or (digit_below PORTS field) (Port k)
+
+-- a queue is one digit from `0` to `7`
+abbrev pub queue_in : ℕ → List ℕ → Result ℕ ScriptError
+queue_in k field = ok_or (digit_below QUEUES field) (Queue k)
+
+-- what hex digits of either case decode to
+abbrev pub decoded : ℕ → Result (List ℕ) FromHexError → Result (List ℕ) ScriptError
+decoded k (Ok bytes) = Ok bytes
+decoded k (Err e) = Err (Bytes k)
+
+-- the bytes of a frame, if they are as many as a frame may have
+unfoldable pub sized : ℕ → List ℕ → Result (List ℕ) ScriptError
+sized k bytes = if nat_le MIN_FRAME (length bytes) && nat_le (length bytes) MAX_FRAME then Ok bytes else Err (FrameLength k)
+
+-- a frame in hex
+unfoldable pub hex_in : ℕ → List ℕ → Result (List ℕ) ScriptError
+hex_in k field = decoded k (decode_of field) >>= sized k
+
+-- the number that decimal digits write
+abbrev pub value_of : List ℕ → ℕ
+value_of digits = fold (λ n digit. 10 * n + (digit - 48)) 0 digits
+
+-- 1 to 5 decimal digits, the first of more than one not `0`
+abbrev pub is_number : List ℕ → Bool
+is_number field =
+    nat_le 1 (length field) && nat_le (length field) 5
+    && (length field == 1 || not (slice_index field 0 == 48))
+    && list_all is_ascii_digit field
+
+-- a length
+unfoldable pub len_in : ℕ → List ℕ → Result ℕ ScriptError
+len_in k field = if is_number field then Ok (value_of field) else Err (Bytes k)
+
+-- one byte, in two hex digits
+unfoldable pub byte_in : ℕ → List ℕ → Result ℕ ScriptError
+byte_in k field = do
+  bytes ← decoded k (decode_sized field 1)
+  Ok (slice_index bytes 0)
+
+-- a frame of one byte over and over
+unfoldable pub fill_in : ℕ → List ℕ → List ℕ → Result (List ℕ) ScriptError
+fill_in k len byte = do
+  n ← len_in k len
+  b ← byte_in k byte
+  sized k (replicate n b)
+
+-- the frame of its fields, or the lowest of their faults from 72 on
+unfoldable pub frame_with : ℕ → List ℕ → List ℕ → Result (List ℕ) ScriptError → Result Frame ScriptError
+frame_with k port queue payload = do
+  p ← port_in k port
+  q ← queue_in k queue
+  bytes ← payload
+  Ok (record { port = p; queue = q; bytes = bytes })
+
+-- the frame that three fields say, or five
+unfoldable pub frame_in : ℕ → List (List ℕ) → Result Frame ScriptError
+frame_in k (port ∷ queue ∷ hex ∷ []) = frame_with k port queue (hex_in k hex)
+frame_in k (port ∷ queue ∷ word ∷ len ∷ byte ∷ []) =
+    if bytes_eq word (codes "fill") then frame_with k port queue (fill_in k len byte) else Err (Fields k)
+frame_in k fields = Err (Fields k)
+
+-- whether a field is empty
+abbrev pub has_empty : List (List ℕ) → Bool
+has_empty fields = list_any (λ field. length field == 0) fields
+
+-- the frame that a line's fields say, or the lowest fault
+unfoldable pub fields_say : ℕ → List (List ℕ) → Result Frame ScriptError
+fields_say k fields = if has_empty fields then Err (Fields k) else frame_in k fields
+
+-- What the line k says: nothing if it is empty or begins with `#`, else a frame between its spaces,
+-- or its lowest fault.
+unfoldable pub line_says : ℕ → List ℕ → Result (Option Frame) ScriptError
+line_says k [] = Ok None
+line_says k (first ∷ rest) =
+    if first == 35 then Ok None
+    else fields_say k (parts 32 (first ∷ rest)) >>= λ frame. Ok (Some frame)

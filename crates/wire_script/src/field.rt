@@ -1,0 +1,115 @@
+//! The fields of a line, each read alone. A refusal names the line that it is given.
+
+ghost use Rattle.std.specs.Prelude.{◌≡◌, ◌<◌, ◌≤◌, IfOk, IfSome, vec_len};
+ghost use Rattle.std.specs.Char.{is_ascii_digit};
+ghost use Rattle.std.specs.List.{list_all};
+ghost use Rattle.wire_script.specs.Line.{byte_in, digit_below, fill_in, hex_in, is_number, len_in, port_in, queue_in};
+ghost use Rattle.wire_script.specs.ScriptError.{AnswersAs};
+ghost use Rattle.wire_script.specs.declared.frame.TheConstants.{MAX_FRAME, MIN_FRAME, PORTS, QUEUES};
+
+use crate::error::ScriptError;
+use crate::frame::{MAX_FRAME, MIN_FRAME, PORTS, QUEUES};
+use hex::{FromHex, FromHexError};
+use std::alloc::Global;
+
+// The value of a field that is one digit, below this number.
+fn digit_below(field: &[u8], count: u8) -> Option<u8>
+    ensures value { result ≡ digit_below count field.now }
+    ensures below { IfSome result (λ digit. digit < count) }
+{
+    let [byte] = field else {
+        return None;
+    };
+    if *byte < b'0' || *byte - b'0' >= count {
+        return None;
+    }
+    Some(*byte - b'0')
+}
+
+/// The port.
+pub fn port_of(field: &[u8], line: u64) -> Result<u8, ScriptError>
+    ensures value { result ≡ port_in line field.now }
+    ensures in_range { IfOk result (λ port. port < PORTS) }
+{
+    digit_below(field, PORTS).ok_or(ScriptError::Port { line })
+}
+
+/// The queue.
+pub fn queue_of(field: &[u8], line: u64) -> Result<u8, ScriptError>
+    ensures value { result ≡ queue_in line field.now }
+    ensures in_range { IfOk result (λ queue. queue < QUEUES) }
+{
+    digit_below(field, QUEUES).ok_or(ScriptError::Queue { line })
+}
+
+/// The bytes that pairs of hex digits give.
+#[tactic(auto, unfolding(crate::specs::Line::hex_in, crate::specs::Line::sized))]
+pub fn hex_of(alloc: Global, field: &[u8], line: u64) -> Result<Vec<u8>, ScriptError>
+    ensures value { AnswersAs (λ bytes. bytes.items) result (hex_in line field.now) }
+    ensures least { IfOk result (λ bytes. MIN_FRAME ≤ vec_len bytes) }
+    ensures greatest { IfOk result (λ bytes. vec_len bytes ≤ MAX_FRAME) }
+{
+    let bytes = match hex::decode(alloc, field) {
+        Ok(bytes) => bytes,
+        Err(FromHexError::OutOfMemory) => return Err(ScriptError::Memory),
+        Err(_) => return Err(ScriptError::Bytes { line }),
+    };
+    if bytes.len() < MIN_FRAME || bytes.len() > MAX_FRAME {
+        return Err(ScriptError::FrameLength { line });
+    }
+    Ok(bytes)
+}
+
+fn are_digits(field: &[u8]) -> bool
+    ensures { result ≡ list_all is_ascii_digit field.now }
+{
+    field.iter().all(|byte| byte.is_ascii_digit())
+}
+
+// Whether a length is written as it may be.
+fn is_number(field: &[u8]) -> bool
+    ensures { result ≡ is_number field.now }
+{
+    (1..=5).contains(&field.len()) && (field.len() == 1 || field[0] != b'0') && are_digits(field)
+}
+
+/// The length that stands after `fill`, from 0 to 99,999.
+#[tactic(auto, unfolding(crate::specs::Line::len_in))]
+pub fn len_of(field: &[u8], line: u64) -> Result<usize, ScriptError>
+    ensures { result ≡ len_in line field.now }
+{
+    if !is_number(field) {
+        return Err(ScriptError::Bytes { line });
+    }
+    let mut value: usize = 0;
+    for digit in field {
+        value = 10 * value + usize::from(*digit - b'0');
+    }
+    Ok(value)
+}
+
+/// The byte that stands after the length.
+#[tactic(auto, unfolding(crate::specs::Line::byte_in))]
+pub fn byte_of(field: &[u8], line: u64) -> Result<u8, ScriptError>
+    ensures { result ≡ byte_in line field.now }
+{
+    match <[u8; 1] as FromHex>::from_hex(field) {
+        Ok(bytes) => Ok(bytes[0]),
+        Err(_) => Err(ScriptError::Bytes { line }),
+    }
+}
+
+/// The bytes that a length and a byte give.
+#[tactic(auto, unfolding(crate::specs::Line::fill_in, crate::specs::Line::sized))]
+pub fn fill_of(alloc: Global, len: &[u8], byte: &[u8], line: u64) -> Result<Vec<u8>, ScriptError>
+    ensures value { AnswersAs (λ bytes. bytes.items) result (fill_in line len.now byte.now) }
+    ensures least { IfOk result (λ bytes. MIN_FRAME ≤ vec_len bytes) }
+    ensures greatest { IfOk result (λ bytes. vec_len bytes ≤ MAX_FRAME) }
+{
+    let len = len_of(len, line)?;
+    let byte = byte_of(byte, line)?;
+    if len < MIN_FRAME || len > MAX_FRAME {
+        return Err(ScriptError::FrameLength { line });
+    }
+    Vec::from_elem(alloc, byte, len).map_err(|_| ScriptError::Memory)
+}

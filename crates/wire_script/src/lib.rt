@@ -1,0 +1,33 @@
+//! Wire scripts: the text in which frames come in and in which the wire goes out.
+//!
+//! A script is lines that end with LF; the last may lack it, and CR is a byte like any other. An
+//! empty line and one that begins with `#` say nothing. Each other line says one frame, in fields
+//! between single spaces:
+//!
+//! ```text
+//! <port> <queue> <hex>
+//! <port> <queue> fill <len> <byte>
+//! ```
+//!
+//! [`parse`] answers the frames that the text says, or its first fault with the number of its line.
+//! [`print`] writes frames as lines of the first form, in lower case, and `parse` reads from them
+//! the same frames.
+#![tactic(auto)]
+
+mod error;
+mod field;
+mod frame;
+mod line;
+mod printing;
+mod reading;
+mod script;
+mod split;
+
+pub use error::ScriptError;
+pub use frame::{MAX_FRAME, MIN_FRAME, PORTS, QUEUES, WireFrame};
+pub use printing::print;
+pub use reading::parse;
+pub use script::{MAX_FRAMES, Script};
+
+#[cfg(test)]
+mod tests;

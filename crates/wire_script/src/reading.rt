@@ -1,0 +1,48 @@
+//! Reading a script.
+
+ghost use Rattle.std.specs.Prelude.{◌≡◌, ◌≢◌, ◌++◌, ◌⊎◌, length, IfErr, IsSome, OnOk, option_to_list};
+ghost use Rattle.wire_script.specs.Script.{script_of};
+ghost use Rattle.wire_script.specs.ScriptError.{Answers};
+ghost use Rattle.wire_script.specs.declared.error.ScriptError.TheVariants.{Memory, TooMany};
+ghost use Rattle.wire_script.specs.declared.script.TheConstants.{MAX_FRAMES};
+
+use crate::error::ScriptError;
+use crate::frame::WireFrame;
+use crate::line::line_of;
+use crate::script::{MAX_FRAMES, Script};
+use crate::split::cut;
+use std::alloc::Global;
+
+/// The frames that a text says, or its first fault: the first faulty line, and in it the fault of
+/// the lowest number. Nothing of a text that is refused is kept.
+///
+/// It goes over the text once and makes no copy of it.
+pub fn parse(alloc: Global, text: &[u8]) -> Result<Script, ScriptError>
+    ensures { Answers result (script_of text.now) }
+{
+    let mut frames = Vec::new(alloc);
+    let mut rest = Some(text);
+    let mut line: u64 = 0;
+    while let Some(left) = rest {
+        let (bytes, after) = cut(left, b'\n');
+        line += 1;
+        rest = after;
+        add(&mut frames, line_of(alloc, bytes, line)?, line)?;
+    }
+    Ok(Script::new(frames))
+}
+
+// Adds the frame that this line says, if it says one and there may be one more.
+fn add(frames: &mut Vec<WireFrame>, said: Option<WireFrame>, line: u64) -> Result<(), ScriptError>
+    ensures added { OnOk result (frames.new.items ≡ frames.old.items ++ option_to_list said) }
+    ensures room { OnOk result (IsSome said → length frames.old.items ≢ MAX_FRAMES) }
+    ensures err { IfErr result (λ e. (e ≡ Memory) ⊎ ((e ≡ TooMany line) × IsSome said × (length frames.old.items ≡ MAX_FRAMES))) }
+{
+    let Some(frame) = said else {
+        return Ok(());
+    };
+    if frames.len() == MAX_FRAMES {
+        return Err(ScriptError::TooMany { line });
+    }
+    frames.push(frame).map_err(|_| ScriptError::Memory)
+}

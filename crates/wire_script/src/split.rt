@@ -1,0 +1,110 @@
+//! Cutting a text into lines, and a line into fields.
+
+ghost use Rattle.std.specs.Prelude.{◌≡◌, ◌∷◌, ◌<◌, ◌+◌, codes, ◌==◌, ℕ, List, [], false, length, IfNone, IfSome, position};
+ghost use Rattle.std.specs.Str.{bytes_eq};
+ghost use Rattle.wire_script.specs.Line.{fields_say, parts};
+ghost use Rattle.wire_script.specs.Split.{begins_inner, frame_of_payload, frame_of_split, is_last, later_parts};
+ghost use Rattle.wire_script.specs.declared.split.TheConstants.{SPACE};
+
+const SPACE: u8 = b' ';
+
+/// What a line's fields give the frame's bytes by.
+#[derive(Clone, Copy, Debug)]
+pub enum Payload<'a> {
+    Hex(&'a [u8]),
+    Fill { len: &'a [u8], byte: &'a [u8] },
+}
+
+/// The fields of a line, none of them empty and as many as there may be.
+#[derive(Clone, Copy, Debug)]
+pub struct Split<'a> {
+    pub port: &'a [u8],
+    pub queue: &'a [u8],
+    pub payload: Payload<'a>,
+}
+
+// Where the first byte of this value stands.
+fn place_of(bytes: &[u8], wanted: u8) -> Option<usize>
+    ensures { result ≡ position (λ b. b == wanted) bytes.now }
+{
+    bytes.iter().position(|b| *b == wanted)
+}
+
+/// The bytes before the first `separator`, and those after it if there is one.
+pub fn cut(bytes: &[u8], separator: u8) -> (&[u8], Option<&[u8]>)
+    ensures parts { parts separator bytes.now ≡ result.0.now ∷ later_parts separator result.1 }
+    ensures shorter { IfSome result.1 (λ rest. length rest.now < length bytes.now) }
+{
+    match place_of(bytes, separator) {
+        None => (bytes, None),
+        Some(at) => (&bytes[..at], Some(&bytes[at + 1..])),
+    }
+}
+
+// A field that is not empty and that another follows, and what begins with that other.
+fn inner_field(bytes: &[u8]) -> Option<(&[u8], &[u8])>
+    ensures found { IfSome result (λ x. parts SPACE bytes.now ≡ x.0.now ∷ parts SPACE x.1.now) }
+    ensures filled { IfSome result (λ x. 0 < length x.0.now) }
+    ensures none { IfNone result (begins_inner (parts SPACE bytes.now) ≡ false) }
+{
+    let (field, rest) = cut(bytes, SPACE);
+    let rest = rest?;
+    if field.is_empty() {
+        return None;
+    }
+    Some((field, rest))
+}
+
+// The one field that is left, if it is one and not empty.
+fn last_field(bytes: &[u8]) -> Option<&[u8]>
+    ensures found { IfSome result (λ x. parts SPACE bytes.now ≡ x.now ∷ []) }
+    ensures filled { IfSome result (λ x. 0 < length x.now) }
+    ensures none { IfNone result (is_last (parts SPACE bytes.now) ≡ false) }
+{
+    let (field, rest) = cut(bytes, SPACE);
+    if rest.is_some() {
+        return None;
+    }
+    if field.is_empty() {
+        return None;
+    }
+    Some(field)
+}
+
+// Whether a field is the word of a line of five fields.
+fn is_fill(word: &[u8]) -> bool
+    ensures { result ≡ bytes_eq word.now (codes "fill") }
+{
+    word == b"fill".as_slice()
+}
+
+// The fields after port and queue.
+fn payload_of(bytes: &[u8]) -> Option<Payload<'_>>
+    ensures { (k : ℕ) (port queue : List ℕ) → 0 < length port → 0 < length queue
+        → fields_say k (port ∷ queue ∷ parts SPACE bytes.now) ≡ frame_of_payload k port queue result }
+{
+    if let Some(hex) = last_field(bytes) {
+        return Some(Payload::Hex(hex));
+    }
+    let (word, rest) = inner_field(bytes)?;
+    if !is_fill(word) {
+        return None;
+    }
+    let (len, rest) = inner_field(rest)?;
+    let byte = last_field(rest)?;
+    Some(Payload::Fill { len, byte })
+}
+
+/// The fields of a line, or `None` where they are not as they may be.
+pub fn split_of(line: &[u8]) -> Option<Split<'_>>
+    ensures { (k : ℕ) → fields_say k (parts SPACE line.now) ≡ frame_of_split k result }
+{
+    let (port, rest) = inner_field(line)?;
+    let (queue, rest) = inner_field(rest)?;
+    let payload = payload_of(rest)?;
+    Some(Split {
+        port,
+        queue,
+        payload,
+    })
+}
