@@ -1,13 +1,12 @@
 -- Frames and segments: what one segment more, or a list behind, makes of the frames and of the unfinished rest.
-use Rattle.std.proofs.Common.{◌≡◌, ℕ, zero, suc, ◌+◌, ◌-◌, ◌*◌, ◌/◌, ◌<◌, ◌≤◌, ◌⊎◌, Bool, true, false, List, [], ◌∷◌, ◌++◌, length, take, drop, Option, Some, None, sym, refl, ap, ◌∙◌, ⊎_elim, subst, arith, if◌then◌else◌, append_assoc, append-nil, length-append, take-append-drop, zero-mul}
+use Rattle.std.proofs.Common.{◌≡◌, ℕ, zero, suc, ◌+◌, ◌-◌, ◌*◌, ◌/◌, ◌<◌, ◌≤◌, ◌⊎◌, Bool, true, false, List, [], ◌∷◌, ◌++◌, length, take, drop, Option, Some, None, sym, refl, ap, ◌∙◌, ⊎_elim, subst, arith, if◌then◌else◌, append_assoc, append-nil, length-append}
 use Rattle.std.specs.Prelude.{slice_get}
 use Rattle.std.proofs.lemmas.Option.{none-some, same_Some, slice_get_within}
 use Rattle.std.proofs.lemmas.List.{take-append-le}
 use Rattle.std.proofs.Math.Seq.{take-append_seam}
-use Rattle.std.proofs.Math.Nat.{lt-div-mul-add}
 use Rattle.ring_machine.specs.Lists.{IsBeginning}
 use Rattle.ring_machine.specs.Ring.{Bytes, Segment}
-use Rattle.ring_machine.specs.Frames.{Piece, pieces, piece_count, cut, join, join_pieces, unfinished_from, unfinished, frames_from, frames, Follows, AllFollow, HasFrameLength}
+use Rattle.ring_machine.specs.Frames.{join, unfinished_from, unfinished, frames_from, frames, Follows, AllFollow, HasFrameLength}
 use Rattle.ring_machine.proofs.Beginnings.{slice_get-front, slice_get-snoc, beginning_at}
 
 pub join-append : (xs ys : List (Segment Bytes)) → join (xs ++ ys) ≡ join xs ++ join ys
@@ -91,24 +90,3 @@ lengths_from n rest (s ∷ ss) all k f e = chained n rest s ss s.eop refl (all z
 
 pub AllFollow-lengths : (n : ℕ) (ss : List (Segment Bytes)) → AllFollow n ss → (k : ℕ) (f : Bytes) → slice_get (frames ss) k ≡ Some f → HasFrameLength f
 AllFollow-lengths n ss all = lengths_from n [] ss all
-
--- one piece or more, whatever its bytes, are the frame again
-join-pieces : (b k : ℕ) (f : Bytes) → join_pieces (pieces b (suc k) f) ≡ f
-join-pieces b zero f = append-nil f
-join-pieces b (suc k) f = ap (λ (l : Bytes). take b f ++ l) (join-pieces b k (drop b f)) ∙ take-append-drop b f
-
--- what goes no time into a number is more than that number
-none_fits : (a b : ℕ) → 0 < b → a / b ≡ 0 → a < b
-none_fits a b pos e = let h : a < a / b * b + b = lt-div-mul-add pos in let z : a / b * b ≡ 0 = ap (λ (q : ℕ). q * b) e ∙ zero-mul b in omega arith
-
--- only a frame with no bytes has no pieces
-no_bytes : (b : ℕ) (f : Bytes) → 0 < b → piece_count b (length f) ≡ zero → [] ≡ f
-no_bytes b [] pos e = refl
-no_bytes b (x ∷ f) pos e = let h = none_fits (length (x ∷ f) + b - 1) b pos e in absurd (omega arith)
-
-joined : (b : ℕ) (f : Bytes) (count : ℕ) → 0 < b → piece_count b (length f) ≡ count → join_pieces (pieces b count f) ≡ f
-joined b f zero pos e = no_bytes b f pos e
-joined b f (suc k) pos e = join-pieces b k f
-
-pub join-cut : (b : ℕ) (f : Bytes) → 0 < b → join_pieces (cut b f) ≡ f
-join-cut b f pos = joined b f (piece_count b (length f)) pos refl

@@ -8,3 +8,4 @@ pub mod Stepping
 pub mod Fixed
 pub mod Reached
 pub mod FrameLaws
+pub mod Cuts

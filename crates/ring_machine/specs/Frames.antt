@@ -26,6 +26,10 @@ abbrev pub join_pieces : List Piece → Bytes
 join_pieces [] = []
 join_pieces (p ∷ ps) = p.bytes ++ join_pieces ps
 
+-- what a segment carries, whatever its buffer
+abbrev pub piece_of : Segment Bytes → Piece
+piece_of s = record { bytes = s.payload; eop = s.eop }
+
 -- the bytes of segments, one after another
 abbrev pub join : List (Segment Bytes) → Bytes
 join [] = []

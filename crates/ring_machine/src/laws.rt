@@ -1,10 +1,12 @@
 //! What holds of every receive ring that a schedule gives, as contracts of functions that do nothing.
-ghost use Rattle.std.specs.Prelude.{◌≡◌, ℕ, ◌<◌, List};
-ghost use Rattle.ring_machine.specs.Ring.{Bytes, RxRing};
+ghost use Rattle.std.specs.Prelude.{◌≡◌, ℕ, ◌<◌, List, [], ◌∷◌, map, length, Some, slice_get};
+ghost use Rattle.ring_machine.specs.Lists.{IsBeginning};
+ghost use Rattle.ring_machine.specs.Ring.{Bytes, RxRing, Segment};
 ghost use Rattle.ring_machine.specs.declared.steps.RxStep.{RxStep};
 ghost use Rattle.ring_machine.specs.Lawful.{IsLawfulRx};
 ghost use Rattle.ring_machine.specs.Schedules.{IsReachable, after_all};
 ghost use Rattle.ring_machine.specs.Laws.{Later};
+ghost use Rattle.ring_machine.specs.Frames.{cut, join_pieces, piece_of, frames, AllFollow, HasFrameLength};
 
 /// Every ring of two places or more that a schedule gives has a lawful ledger and a lawful owner map, whether its
 /// segments carry bytes or the number of their bytes.
@@ -19,4 +21,14 @@ pub fn rings_are_lawful()
 pub fn epochs_are_fixed()
     ensures bytes { (n : ℕ) (r : RxRing Bytes) (more : List (RxStep Bytes)) → 1 < n → IsReachable Bytes n r → Later r (after_all r more) }
     ensures lengths { (n : ℕ) (r : RxRing ℕ) (more : List (RxStep ℕ)) → 1 < n → IsReachable ℕ n r → Later r (after_all r more) }
+{}
+
+/// A frame that is cut is the same frame again when its pieces are put together, and when they are stored as segments.
+/// More segments leave the frames before them as they are. Where each segment follows the unfinished frame before it,
+/// every frame has a lawful length.
+pub fn frames_are_rejoined()
+    ensures pieces { (b : ℕ) (f : Bytes) → 0 < b → join_pieces (cut b f) ≡ f }
+    ensures segments { (b : ℕ) (f : Bytes) (ss : List (Segment Bytes)) → 0 < b → 0 < length f → map piece_of ss ≡ cut b f → frames ss ≡ f ∷ [] }
+    ensures beginnings { (xs : List (Segment Bytes)) (ys : List (Segment Bytes)) → IsBeginning xs ys → IsBeginning (frames xs) (frames ys) }
+    ensures lengths { (n : ℕ) (ss : List (Segment Bytes)) → AllFollow n ss → (k : ℕ) (f : Bytes) → slice_get (frames ss) k ≡ Some f → HasFrameLength f }
 {}

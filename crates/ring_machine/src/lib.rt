@@ -1,8 +1,8 @@
 //! Receive rings of the 82599 as plain data: what a ring is, what each atomic step changes, and what every schedule of steps keeps.
 //!
-//! The definitions stand in `specs/`. The running rings of `rx_ring` and this crate cite the same ones. Two laws are
-//! contracts of public functions: every ring that a schedule gives is lawful, and within an epoch a list that has
-//! ended stays as it is.
+//! The definitions stand in `specs/`. The running rings of `rx_ring` and this crate cite the same ones. Three laws are
+//! contracts of public functions: every ring that a schedule gives is lawful, within an epoch a list that has ended
+//! stays as it is, and segments join to the frames that were cut.
 #![tactic(auto)]
 
 mod laws;
@@ -11,7 +11,7 @@ mod notes;
 mod states;
 mod steps;
 
-pub use laws::{epochs_are_fixed, rings_are_lawful};
+pub use laws::{epochs_are_fixed, frames_are_rejoined, rings_are_lawful};
 pub use limits::{BUFFER_BYTES, LEAST_FRAME, LEAST_RING, MOST_FRAME, MOST_RING, MOST_SEGMENTS};
 pub use notes::{Note, TakenSegment};
 pub use states::{ControllerState, DriverState, Owner};
