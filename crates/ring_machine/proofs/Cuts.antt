@@ -1,5 +1,5 @@
 -- A frame cut into pieces: put together, and stored as segments, they are the frame again.
-use Rattle.std.proofs.Common.{◌≡◌, ℕ, zero, suc, ◌+◌, ◌-◌, ◌*◌, ◌/◌, ◌<◌, ◌≤◌, Bool, true, false, List, [], ◌∷◌, ◌++◌, map, length, take, drop, sym, refl, ap, ◌∙◌, subst, arith, if◌then◌else◌, append_assoc, append-nil, take-append-drop, zero-mul}
+use Rattle.std.proofs.Common.{◌≡◌, ℕ, zero, suc, ◌+◌, ◌-◌, ◌*◌, ◌/◌, ◌<◌, Bool, true, false, List, [], ◌∷◌, ◌++◌, map, length, take, drop, refl, ap, ◌∙◌, subst, arith, if◌then◌else◌, append_assoc, append-nil, take-append-drop, zero-mul}
 use Rattle.std.proofs.Math.Nat.{lt-div-mul-add}
 use Rattle.ring_machine.specs.Ring.{Bytes, Segment}
 use Rattle.ring_machine.specs.Frames.{Piece, pieces, piece_count, cut, piece_of, join, join_pieces, unfinished_from, unfinished, frames_from, frames}
@@ -59,8 +59,8 @@ ends-pieces b zero rest (s ∷ []) f e = last_ends rest s f (same_head (piece_of
 ends-pieces b zero rest (s ∷ t ∷ ss) f e = absurd (let h : map piece_of (t ∷ ss) ≡ [] = same_tail (piece_of s) (record { bytes = f; eop = true }) (map piece_of (t ∷ ss)) [] e in cc)
 ends-pieces b (suc k) rest (s ∷ ss) f e = let p : Piece = record { bytes = take b f; eop = false } in
     subst (λ (g : Bytes). Ends rest (s ∷ ss) g) (take-append-drop b f)
-        (more_ends rest s ss (take b f) (drop b f) (same_head (piece_of s) p (map piece_of ss) (pieces b (suc k) (drop b f)) e)
-            (ends-pieces b k (rest ++ s ∷ []) ss (drop b f) (same_tail (piece_of s) p (map piece_of ss) (pieces b (suc k) (drop b f)) e)))
+    (more_ends rest s ss (take b f) (drop b f) (same_head (piece_of s) p (map piece_of ss) (pieces b (suc k) (drop b f)) e)
+    (ends-pieces b k (rest ++ s ∷ []) ss (drop b f) (same_tail (piece_of s) p (map piece_of ss) (pieces b (suc k) (drop b f)) e)))
 
 ends-counted : (b count : ℕ) (rest ss : List (Segment Bytes)) (f : Bytes) → 0 < b → 0 < length f → piece_count b (length f) ≡ count → map piece_of ss ≡ pieces b count f → Ends rest ss f
 ends-counted b zero rest ss f pos some e m = let h : 0 ≡ length f = ap length (no_bytes b f pos e) in absurd (omega arith)

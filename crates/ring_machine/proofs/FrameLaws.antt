@@ -1,5 +1,5 @@
 -- Frames and segments: what one segment more, or a list behind, makes of the frames and of the unfinished rest.
-use Rattle.std.proofs.Common.{◌≡◌, ℕ, zero, suc, ◌+◌, ◌-◌, ◌*◌, ◌/◌, ◌<◌, ◌≤◌, ◌⊎◌, Bool, true, false, List, [], ◌∷◌, ◌++◌, length, take, drop, Option, Some, None, sym, refl, ap, ◌∙◌, ⊎_elim, subst, arith, if◌then◌else◌, append_assoc, append-nil, length-append}
+use Rattle.std.proofs.Common.{◌≡◌, ℕ, zero, suc, ◌+◌, Bool, true, false, List, [], ◌∷◌, ◌++◌, length, take, Some, sym, refl, ap, ◌∙◌, ⊎_elim, subst, arith, if◌then◌else◌, append_assoc, append-nil, length-append}
 use Rattle.std.specs.Prelude.{slice_get}
 use Rattle.std.proofs.lemmas.Option.{none-some, same_Some, slice_get_within}
 use Rattle.std.proofs.lemmas.List.{take-append-le}
@@ -7,7 +7,7 @@ use Rattle.std.proofs.Math.Seq.{take-append_seam}
 use Rattle.ring_machine.specs.Lists.{IsBeginning}
 use Rattle.ring_machine.specs.Ring.{Bytes, Segment}
 use Rattle.ring_machine.specs.Frames.{join, unfinished_from, unfinished, frames_from, frames, Follows, AllFollow, HasFrameLength}
-use Rattle.ring_machine.proofs.Beginnings.{slice_get-front, slice_get-snoc, beginning_at}
+use Rattle.ring_machine.proofs.Beginnings.{slice_get-snoc, beginning_at}
 
 pub join-append : (xs ys : List (Segment Bytes)) → join (xs ++ ys) ≡ join xs ++ join ys
 join-append [] ys = refl
@@ -31,7 +31,7 @@ frames_from-past : (rest : List (Segment Bytes)) (s : Segment Bytes) (xs ys : Li
     → frames_from [] (xs ++ ys) ≡ frames_from [] xs ++ frames_from (unfinished_from [] xs) ys
     → frames_from (rest ++ s ∷ []) (xs ++ ys) ≡ frames_from (rest ++ s ∷ []) xs ++ frames_from (unfinished_from (rest ++ s ∷ []) xs) ys
     → (if ends then join (rest ++ s ∷ []) ∷ frames_from [] (xs ++ ys) else frames_from (rest ++ s ∷ []) (xs ++ ys))
-        ≡ (if ends then join (rest ++ s ∷ []) ∷ frames_from [] xs else frames_from (rest ++ s ∷ []) xs) ++ frames_from (unfinished_from (if ends then [] else rest ++ s ∷ []) xs) ys
+    ≡ (if ends then join (rest ++ s ∷ []) ∷ frames_from [] xs else frames_from (rest ++ s ∷ []) xs) ++ frames_from (unfinished_from (if ends then [] else rest ++ s ∷ []) xs) ys
 frames_from-past rest s xs ys true a b = ap (λ (l : List Bytes). join (rest ++ s ∷ []) ∷ l) a
 frames_from-past rest s xs ys false a b = b
 
@@ -56,15 +56,15 @@ pub AllFollow-snoc : (n : ℕ) (ss : List (Segment Bytes)) (s : Segment Bytes) �
 AllFollow-snoc n ss s all f = λ k t e. ⊎_elim
     (λ a. let h = a.0 in subst (λ (l : List (Segment Bytes)). Follows n (unfinished l) t.payload t.eop) (sym (take-append-le k ss (s ∷ []) (omega arith))) (all k t a.1))
     (λ b. subst (λ (u : Segment Bytes). Follows n (unfinished (take k (ss ++ s ∷ []))) u.payload u.eop) b.1
-        (subst (λ (j : ℕ). Follows n (unfinished (take j (ss ++ s ∷ []))) s.payload s.eop) (sym b.0)
-            (subst (λ (l : List (Segment Bytes)). Follows n (unfinished l) s.payload s.eop) (sym (take-append_seam ss (s ∷ []))) f)))
+    (subst (λ (j : ℕ). Follows n (unfinished (take j (ss ++ s ∷ []))) s.payload s.eop) (sym b.0)
+    (subst (λ (l : List (Segment Bytes)). Follows n (unfinished l) s.payload s.eop) (sym (take-append_seam ss (s ∷ []))) f)))
     (slice_get-snoc ss s t k e)
 
 -- the segments of a beginning follow as they do in the whole
 pub AllFollow-beginning : (n : ℕ) (xs ys : List (Segment Bytes)) → IsBeginning xs ys → AllFollow n ys → AllFollow n xs
 AllFollow-beginning n xs ys b all = λ k s e. let h = slice_get_within xs k s e in
     subst (λ (l : List (Segment Bytes)). Follows n (unfinished l) s.payload s.eop) (ap (λ (l : List (Segment Bytes)). take k l) (sym b.1) ∙ take-append-le k xs b.0 (omega arith))
-        (all k s (beginning_at xs ys k s b e))
+    (all k s (beginning_at xs ys k s b e))
 
 -- the next segment after those of a beginning follows their unfinished frame
 pub follows_next : (n : ℕ) (xs ys : List (Segment Bytes)) (s : Segment Bytes) → IsBeginning xs ys → slice_get ys (length xs) ≡ Some s → AllFollow n ys → Follows n (unfinished xs) s.payload s.eop

@@ -1,11 +1,11 @@
 -- What every step keeps. The lawful predicates follow from it, and so does what the running rings ask of a ring that a schedule gave.
-use Rattle.std.proofs.Common.{◌≡◌, ◌≢◌, ℕ, ◌+◌, ◌<◌, ◌≤◌, Bool, true, false, List, [], map, length}
+use Rattle.std.proofs.Common.{◌≡◌, ℕ, ◌+◌, ◌<◌, ◌≤◌, Bool, true, false, map}
 use Rattle.ring_machine.specs.declared.states.DriverState.{DriverState}
 use Rattle.ring_machine.specs.declared.states.DriverState.TheVariants.{New, Asked, On, Stopping, Stopped, Cleared, Tailed}
 use Rattle.ring_machine.specs.declared.states.ControllerState.{ControllerState}
 use Rattle.ring_machine.specs.declared.states.ControllerState.TheVariants.{Off, Serving, Ended}
 use Rattle.ring_machine.specs.Lists.{IsBeginning}
-use Rattle.ring_machine.specs.Ring.{Segment, RxLedger, RxRing, Handshake, is_open, is_answered, is_serving, posted_count, stored_count, taken_count}
+use Rattle.ring_machine.specs.Ring.{Segment, RxRing, Handshake, is_open, is_answered, is_serving, posted_count, stored_count, taken_count}
 use Rattle.ring_machine.specs.Steps.{is_tailed}
 use Rattle.ring_machine.specs.Lawful.{IsLawfulMap, window}
 

@@ -1,5 +1,5 @@
 -- The order of an epoch's counts, kept by each step, over plain numbers.
-use Rattle.std.proofs.Common.{◌≡◌, ℕ, ◌+◌, ◌-◌, ◌<◌, ◌≤◌, Bool, true, false, sym, refl, ◌∙◌, arith}
+use Rattle.std.proofs.Common.{◌≡◌, ℕ, ◌+◌, ◌-◌, ◌<◌, Bool, true, false, sym, refl, ◌∙◌, arith}
 use Rattle.std.proofs.lemmas.Bool.{false≢true, both_ways}
 use Rattle.ring_machine.specs.Ring.{Handshake, is_open, is_live, is_answered, is_serving}
 use Rattle.ring_machine.specs.Steps.{is_stopped, is_tailed}

@@ -1,11 +1,11 @@
 -- The owner map, kept by each step that passes a place on: one write at the place of one item.
-use Rattle.std.proofs.Common.{◌≡◌, ◌≢◌, ℕ, zero, suc, ◌+◌, ◌%◌, ◌<◌, ◌≤◌, Bool, true, false, ◌&&◌, List, length, replicate, Some, sym, refl, ap, ◌∙◌, ⊎_elim, subst, arith, mod-lt, length-set, if◌then◌else◌}
+use Rattle.std.proofs.Common.{◌≡◌, ◌≢◌, ℕ, zero, suc, ◌+◌, ◌%◌, ◌<◌, ◌≤◌, Bool, true, false, ◌&&◌, List, length, replicate, Some, sym, refl, ap, ◌∙◌, ⊎_elim, arith, mod-lt, length-set, if◌then◌else◌}
 use Rattle.std.specs.Prelude.{slice_get, slice_set, ◌==◌}
 use Rattle.std.proofs.lemmas.Bool.{cases_eq, cases_Bool, both_ways, ne_eqb, eq-eqb}
 use Rattle.std.proofs.lemmas.List.{length-replicate}
 use Rattle.ring_machine.specs.declared.states.Owner.{Owner}
 use Rattle.ring_machine.specs.declared.states.Owner.TheVariants.{Driver, Ring, Controller}
-use Rattle.ring_machine.specs.Lawful.{Window, holder, IsLawfulMap}
+use Rattle.ring_machine.specs.Lawful.{Window, IsLawfulMap}
 use Rattle.ring_machine.proofs.Places.{Writes, each_item-set, each_item-push, each_item-drop, each_item-same, slice_set-writes}
 
 abbrev pub window_of : ℕ → ℕ → ℕ → ℕ → Bool → Window

@@ -1,5 +1,5 @@
 -- Items that lie round a ring of n places: item k lies at k % n, and two items less than n apart lie at two places.
-use Rattle.std.proofs.Common.{◌≡◌, ◌≢◌, ℕ, zero, suc, ◌+◌, ◌-◌, ◌*◌, ◌/◌, ◌%◌, ◌<◌, ◌≤◌, ◌⊎◌, Bool, true, false, List, [], ◌∷◌, length, Option, Some, sym, refl, ap, ◌∙◌, ⊎_elim, subst, arith, if◌then◌else◌, mul-le-mul_right, suc-mul, lt_of_not-le, div-add-mod', mod-lt, mod-eq_of_lt, get_or-set_same, get_or-set_other}
+use Rattle.std.proofs.Common.{◌≡◌, ◌≢◌, ℕ, zero, suc, ◌+◌, ◌-◌, ◌*◌, ◌/◌, ◌%◌, ◌<◌, ◌≤◌, Bool, true, false, List, [], ◌∷◌, length, Some, sym, refl, ap, ◌∙◌, ⊎_elim, subst, arith, if◌then◌else◌, mul-le-mul_right, suc-mul, lt_of_not-le, div-add-mod', mod-lt, mod-eq_of_lt, get_or-set_same, get_or-set_other}
 use Rattle.std.specs.Prelude.{slice_get, slice_index, slice_set, ◌==◌}
 use Rattle.std.proofs.lemmas.Bool.{cases_eq, cases_lt, eqb-true, eqb-false}
 use Rattle.std.proofs.Math.Nat.{mod-add-mod, add-mod_right, mod_self}
@@ -47,8 +47,8 @@ ahead_by : (n a b d : ℕ) → a < n → d < n → b ≡ (a + d) % n → (b + n 
 ahead_by n a b d an dn e = ⊎_elim
     (λ lt. let f : b ≡ a + d = e ∙ mod-eq_of_lt lt in ap (λ (k : ℕ). k % n) (let g : b + n - a ≡ d + n = omega arith in g) ∙ add-mod_right d n ∙ mod-eq_of_lt dn)
     (λ le. let g : (a + d - n) + n ≡ a + d = omega arith in
-        let f : b ≡ a + d - n = e ∙ ap (λ (k : ℕ). k % n) (sym g) ∙ add-mod_right (a + d - n) n ∙ mod-eq_of_lt (omega arith) in
-        let i : b + n - a ≡ d = omega arith in ap (λ (k : ℕ). k % n) i ∙ mod-eq_of_lt dn)
+    let f : b ≡ a + d - n = e ∙ ap (λ (k : ℕ). k % n) (sym g) ∙ add-mod_right (a + d - n) n ∙ mod-eq_of_lt (omega arith) in
+    let i : b + n - a ≡ d = omega arith in ap (λ (k : ℕ). k % n) i ∙ mod-eq_of_lt dn)
     (cases_lt (a + d) n)
 
 -- how far item k is ahead of item s, told from their places

@@ -1,5 +1,5 @@
 -- Whatever schedule goes on from a ring that a schedule gave: every ring on the way is kept, and so it is lawful.
-use Rattle.std.proofs.Common.{◌≡◌, ℕ, ◌+◌, ◌-◌, ◌<◌, ◌≤◌, Bool, true, false, List, [], ◌∷◌, ◌++◌, sym, refl, ap, ◌∙◌, subst, arith, if◌then◌else◌}
+use Rattle.std.proofs.Common.{◌≡◌, ℕ, ◌<◌, Bool, true, List, [], ◌∷◌, ◌++◌, refl, ap, ◌∙◌, subst, arith, if◌then◌else◌}
 use Rattle.ring_machine.specs.declared.steps.RxStep.{RxStep}
 use Rattle.ring_machine.specs.Ring.{RxRing, opening}
 use Rattle.ring_machine.specs.Steps.{can, changed, next}

@@ -1,5 +1,5 @@
 -- The handshake: what each control step makes of the two states, the control word and the value seen.
-use Rattle.std.proofs.Common.{◌≡◌, ℕ, ◌<◌, ◌≤◌, Bool, true, false, sym, refl, subst, arith, if◌then◌else◌}
+use Rattle.std.proofs.Common.{◌≡◌, ℕ, Bool, true, false, sym, refl, subst, arith, if◌then◌else◌}
 use Rattle.std.specs.Prelude.{◌==◌}
 use Rattle.std.proofs.lemmas.Bool.{false≢true, true≢false}
 use Rattle.ring_machine.specs.declared.states.DriverState.{DriverState}
@@ -9,7 +9,6 @@ use Rattle.ring_machine.specs.declared.states.ControllerState.TheVariants.{Off, 
 use Rattle.ring_machine.specs.Ring.{is_open, is_live, is_answered, is_serving}
 use Rattle.ring_machine.specs.Handshakes.{is_new, is_on, learned}
 use Rattle.ring_machine.specs.Steps.{is_stopped, is_cleared, is_tailed}
-use Rattle.ring_machine.specs.Laws.{is_ended}
 use Rattle.ring_machine.proofs.Kept.{ShakesAs, is_emptied}
 
 -- What one test on a driver's state tells of another

@@ -1,25 +1,22 @@
 -- What every step keeps: one lemma a step, and then any step.
-use Rattle.std.proofs.Common.{◌≡◌, ◌≢◌, ℕ, zero, suc, ◌+◌, ◌-◌, ◌%◌, ◌<◌, ◌≤◌, Bool, true, false, not, ◌&&◌, ◌||◌, List, [], ◌∷◌, ◌++◌, map, length, Option, Some, None, sym, refl, ap, ◌∙◌, ⊎_elim, subst, arith, if◌then◌else◌, length-append}
-use Rattle.std.specs.Prelude.{slice_get, slice_index, slice_set, ◌==◌, nat_lt}
+use Rattle.std.proofs.Common.{◌≡◌, ℕ, ◌+◌, ◌-◌, ◌%◌, ◌<◌, ◌≤◌, Bool, true, false, not, ◌&&◌, ◌||◌, [], ◌∷◌, map, Option, Some, None, sym, refl, ap, ◌∙◌, ⊎_elim, arith, if◌then◌else◌, length-append}
+use Rattle.std.specs.Prelude.{◌==◌, nat_lt}
 use Rattle.std.proofs.lemmas.Bool.{cases_Bool, both_ways, and_parts, or_cases, not-true, ltb-true, eqb-true, false≢true, true≢false}
 use Rattle.std.proofs.lemmas.Option.{slice_get_within}
-use Rattle.ring_machine.specs.declared.states.Owner.TheVariants.{Driver, Ring, Controller}
-use Rattle.ring_machine.specs.declared.states.DriverState.TheVariants.{New, Asked, On, Stopping, Stopped, Cleared, Tailed}
-use Rattle.ring_machine.specs.declared.states.ControllerState.TheVariants.{Serving, Ended}
+use Rattle.ring_machine.specs.declared.states.Owner.TheVariants.{Ring, Controller}
+use Rattle.ring_machine.specs.declared.states.DriverState.TheVariants.{New, Cleared, Tailed}
 use Rattle.ring_machine.specs.declared.steps.ControlStep.{ControlStep}
 use Rattle.ring_machine.specs.declared.steps.ControlStep.TheVariants.{AskEnable, LookAsked, Answer, LookAnswered, AskDisable}
 use Rattle.ring_machine.specs.declared.steps.RxStep.{RxStep}
 use Rattle.ring_machine.specs.declared.steps.RxStep.TheVariants.{Post, Publish, Look, Fetch, Store, Take, Head, Control, Reclaim, StoreQuiet, LoadQuiet, ClearHead, ClearTail, ClearQuiet}
-use Rattle.ring_machine.specs.Lists.{IsBeginning}
 use Rattle.ring_machine.specs.Ring.{Segment, RxRing, Handshake, is_whole, opening, first_handshake, is_open, is_live, is_answered, is_serving, posted_count, stored_count, taken_count, returned_count}
-use Rattle.ring_machine.specs.Lawful.{IsLawfulMap, window}
-use Rattle.ring_machine.specs.Handshakes.{is_new, is_on, ask_enable, look_asked, can_enable, enable, can_disable, disable, look_answered, ask_disable, learned}
-use Rattle.ring_machine.specs.Steps.{is_stopped, is_cleared, is_tailed, can_post, post, can_publish, publish, can_look, look, can_fetch, fetch, can_store, next_segment, store, can_take, due, took, can_head, head, is_settled, can_control, answer, control, can_reclaim, reclaim, can_quiet, quiet, can_clear_head, clear_head, clear_tail, renew, can, changed, next}
+use Rattle.ring_machine.specs.Handshakes.{is_new, is_on, ask_enable, look_asked, can_enable, enable, can_disable, disable, look_answered, ask_disable}
+use Rattle.ring_machine.specs.Steps.{is_stopped, is_cleared, is_tailed, can_post, post, can_publish, publish, can_look, look, can_fetch, fetch, can_store, next_segment, store, can_take, due, took, head, is_settled, can_control, control, can_reclaim, reclaim, can_quiet, quiet, can_clear_head, clear_head, clear_tail, renew, can, changed, next}
 use Rattle.ring_machine.proofs.Kept.{ShakesAs, is_emptied, IsShaken, InOrder, IsKept}
-use Rattle.ring_machine.proofs.Shakes.{new_open, on_open, open_unanswered, live_unanswered, stopped_full, stopped_answered, cleared_emptied, tailed_emptied, emptied_answered, answered_closed, answered_ended, serving_unanswered, shakes-ask_enable, shakes-look_asked, shakes-enable, shakes-disable, shakes-look_answered, learned_open, learned_emptied, learned_tailed, learned_unanswered, shakes-ask_disable, shakes-clear_head, shakes-clear_tail, shakes-renew}
+use Rattle.ring_machine.proofs.Shakes.{new_open, on_open, open_unanswered, live_unanswered, stopped_answered, cleared_emptied, tailed_emptied, emptied_answered, answered_ended, serving_unanswered, shakes-ask_enable, shakes-look_asked, shakes-enable, shakes-disable, shakes-look_answered, learned_open, learned_emptied, learned_tailed, learned_unanswered, shakes-ask_disable, shakes-clear_head, shakes-clear_tail, shakes-renew}
 use Rattle.ring_machine.proofs.Orders.{order-post, order-publish, order-look, order-fetch, stored_below, order-store, order-take, order-reclaim, order-shake, order-enable, order-disable, order-clear_tail, order-begin}
-use Rattle.ring_machine.proofs.Owners.{who, who-unheld, who-other, who-held, map-post, map-serve, map-return_at, map-none, map-opening}
-use Rattle.ring_machine.proofs.Beginnings.{beginning-append, beginning-length, beginning-snoc, numbers-snoc}
+use Rattle.ring_machine.proofs.Owners.{who-other, who-held, map-post, map-serve, map-return_at, map-none, map-opening}
+use Rattle.ring_machine.proofs.Beginnings.{beginning-append, beginning-snoc, numbers-snoc}
 
 pub kept-opening : {Payload : Type 0} (n : ℕ) (enabled : Bool) → 1 < n → IsKept Payload n (opening n enabled)
 kept-opening n true h = record {
@@ -175,7 +172,7 @@ module _ {Payload : Type 0} where
     kept-look_answered : IsKept Payload n (record r { handshake = look_answered r.handshake })
     kept-look_answered = let h = r.handshake in let o = k.order in kept-shake (look_answered h) (record { shakes = shakes-look_answered h.driver h.controller h.control h.seen shook })
         (ordered-shake (look_answered h) refl (learned_unanswered h.driver h.control) (λ a. sym (learned_open h.driver h.control) ∙ a)
-            (λ e. o.all_back (sym (learned_emptied h.driver h.control) ∙ e)) (λ e. o.tail_cleared (sym (learned_tailed h.driver h.control) ∙ e)))
+        (λ e. o.all_back (sym (learned_emptied h.driver h.control) ∙ e)) (λ e. o.tail_cleared (sym (learned_tailed h.driver h.control) ∙ e)))
 
     kept-ask_disable : is_on r.handshake.driver ≡ true → IsKept Payload n (record r { handshake = ask_disable r.handshake })
     kept-ask_disable may = let h = r.handshake in kept-shake (ask_disable h) (record { shakes = shakes-ask_disable h.driver h.controller h.control h.seen may shook })
@@ -200,7 +197,7 @@ module _ {Payload : Type 0} where
         let v = and_parts (not r.held && (r.head == stored_count r % r.size)) (is_whole r) t.1 in let w = and_parts (not r.held) (r.head == stored_count r % r.size) v.0 in
         let s = shakes-disable h.driver h.controller h.control h.seen (eqb-true h.seen 3 u.0) u.1 shook in
         kept-shake (disable h) (record { shakes = s.0 })
-            (order-disable n (posted_count r) (stored_count r) (taken_count r) r.published r.known r.reclaimed r.held h k.order (disable h) refl (not-true r.held w.0) s.1 refl)
+        (order-disable n (posted_count r) (stored_count r) (taken_count r) r.published r.known r.reclaimed r.held h k.order (disable h) refl (not-true r.held w.0) s.1 refl)
 
     kept-answered : (on : Bool) → can_enable r.handshake ≡ on → (can_enable r.handshake || (can_disable r.handshake && is_settled r)) ≡ true
         → IsKept Payload n (if on then record r { handshake = enable r.handshake; known = 0; still = false } else record r { handshake = disable r.handshake })

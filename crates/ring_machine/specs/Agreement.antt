@@ -1,5 +1,5 @@
 -- How a ring whose places wrap, with words and slots, agrees with the unbounded one.
-use Rattle.std.specs.Prelude.{◌≡◌, ℕ, ◌+◌, ◌*◌, ◌%◌, ◌^◌, Bool, true, false, not, ◌&&◌, ◌==◌, List, Option, Some, None, slice_get, slice_index, if◌then◌else◌}
+use Rattle.std.specs.Prelude.{◌≡◌, ℕ, ◌+◌, ◌*◌, ◌%◌, ◌^◌, Bool, true, false, ◌&&◌, ◌==◌, List, Option, Some, None, slice_get, slice_index, if◌then◌else◌}
 use Rattle.ring_machine.specs.Lists.{EachItem}
 use Rattle.ring_machine.specs.Ring.{Segment, RxRing, Handshake, is_open, posted_count, stored_count, returned_count, is_whole}
 use Rattle.ring_machine.specs.Laws.{is_ended}
@@ -57,9 +57,9 @@ pub record RxWrapped (Buffer : Type 0) : Type 0 where
   pub size : ℕ
   pub words : List ℕ
   pub slots : List (Option Buffer)
-  pub fill : ℕ                  -- the driver's next place to post, and the next to take
+  pub fill : ℕ  -- the driver's next place to post, and the next to take
   pub next : ℕ
-  pub serve : ℕ                 -- the controller's next place to fetch, and the last tail that it loaded
+  pub serve : ℕ  -- the controller's next place to fetch, and the last tail that it loaded
   pub known : ℕ
   pub held : Option Buffer
   pub whole : Bool

@@ -1,5 +1,5 @@
 -- Frames and segments: a frame is cut into segments, a list of segments joins to frames, and what may follow an unfinished frame.
-use Rattle.std.specs.Prelude.{◌≡◌, ℕ, zero, suc, ◌+◌, ◌-◌, ◌/◌, ◌<◌, ◌≤◌, Bool, true, false, List, [], ◌∷◌, ◌++◌, length, take, drop, Option, Some, slice_get, if◌then◌else◌}
+use Rattle.std.specs.Prelude.{◌≡◌, ℕ, zero, suc, ◌+◌, ◌-◌, ◌/◌, ◌<◌, ◌≤◌, Bool, true, false, List, [], ◌∷◌, ◌++◌, length, take, drop, Some, slice_get, if◌then◌else◌}
 use Rattle.ring_machine.specs.declared.limits.TheConstants.{BUFFER_BYTES, LEAST_FRAME, MOST_FRAME, MOST_SEGMENTS}
 use Rattle.ring_machine.specs.Ring.{Bytes, Segment}
 

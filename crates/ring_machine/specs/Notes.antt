@@ -1,5 +1,5 @@
 -- What each step of a receive ring tells, where a segment's payload is the number of its bytes.
-use Rattle.std.specs.Prelude.{ℕ, ◌-◌, ◌%◌, Bool, Option, Some, None, slice_index, if◌then◌else◌}
+use Rattle.std.specs.Prelude.{ℕ, ◌-◌, ◌%◌, Option, Some, None, slice_index, if◌then◌else◌}
 use Rattle.ring_machine.specs.declared.steps.ControlStep.{ControlStep}
 use Rattle.ring_machine.specs.declared.steps.ControlStep.TheVariants.{AskEnable, LookAsked, Answer, LookAnswered, AskDisable}
 use Rattle.ring_machine.specs.declared.steps.RxStep.{RxStep}

@@ -1,5 +1,5 @@
 -- A receive ring as unbounded lists, counts and an owner map. Nothing here wraps but the place of an item.
-use Rattle.std.specs.Prelude.{ℕ, ◌+◌, ◌-◌, ◌%◌, Bool, true, false, List, [], ◌∷◌, length, replicate, if◌then◌else◌}
+use Rattle.std.specs.Prelude.{ℕ, ◌+◌, Bool, true, false, List, [], ◌∷◌, length, replicate}
 use Rattle.ring_machine.specs.declared.states.Owner.{Owner}
 use Rattle.ring_machine.specs.declared.states.Owner.TheVariants.{Driver}
 use Rattle.ring_machine.specs.declared.states.DriverState.{DriverState}
@@ -32,13 +32,13 @@ pub record Handshake : Type 0 where
 
 pub record RxRing (Payload : Type 0) : Type 0 where
   pub size : ℕ
-  pub past : List (RxLedger Payload)     -- the ledgers of the epochs that ended
-  pub ledger : RxLedger Payload          -- of this epoch
+  pub past : List (RxLedger Payload)  -- the ledgers of the epochs that ended
+  pub ledger : RxLedger Payload  -- of this epoch
   pub owners : List Owner
-  pub published : ℕ                      -- counts of items of this epoch's ledger
+  pub published : ℕ  -- counts of items of this epoch's ledger
   pub known : ℕ
   pub reclaimed : ℕ
-  pub head : ℕ                           -- a place
+  pub head : ℕ  -- a place
   pub held : Bool
   pub handshake : Handshake
   pub quiet : ℕ

@@ -1,11 +1,11 @@
 -- Worked rows: what schedules tell, computed from the definitions alone.
-use Rattle.std.specs.Prelude.{◌≡◌, ℕ, zero, suc, ◌+◌, ◌%◌, Bool, true, false, List, [], ◌∷◌, ◌++◌, map, length, take, drop, Option, Some, None, refl}
+use Rattle.std.specs.Prelude.{◌≡◌, ℕ, zero, suc, ◌+◌, Bool, true, false, List, [], ◌∷◌, ◌++◌, map, length, take, drop, Option, Some, None, refl}
 use Rattle.ring_machine.specs.declared.steps.ControlStep.TheVariants.{AskEnable, LookAsked, Answer, LookAnswered, AskDisable}
 use Rattle.ring_machine.specs.declared.steps.RxStep.{RxStep}
-use Rattle.ring_machine.specs.declared.steps.RxStep.TheVariants.{Post, Publish, Look, Fetch, Store, Take, Head, Control, Reclaim, StoreQuiet, LoadQuiet, ClearHead, ClearTail, ClearQuiet}
+use Rattle.ring_machine.specs.declared.steps.RxStep.TheVariants.{Post, Publish, Look, Fetch, Store, Take, Head, Control, Reclaim, ClearHead, ClearTail, ClearQuiet}
 use Rattle.ring_machine.specs.declared.notes.Note.{Note}
 use Rattle.ring_machine.specs.declared.notes.Note.TheVariants as note
-use Rattle.ring_machine.specs.Ring.{RxRing, opening, Segment, posted_count}
+use Rattle.ring_machine.specs.Ring.{RxRing, opening, Segment}
 use Rattle.ring_machine.specs.Schedules.{after_all, happened, notes}
 
 abbrev ring_of_8 : RxRing ℕ

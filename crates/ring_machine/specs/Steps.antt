@@ -1,5 +1,5 @@
 -- The steps of a receive ring: where each can happen, and what it changes.
-use Rattle.std.specs.Prelude.{ℕ, ◌+◌, ◌-◌, ◌%◌, Bool, true, false, not, ◌&&◌, ◌||◌, ◌==◌, nat_lt, List, [], ◌∷◌, ◌++◌, length, Option, Some, None, slice_get, slice_index, slice_set, if◌then◌else◌}
+use Rattle.std.specs.Prelude.{ℕ, ◌+◌, ◌-◌, ◌%◌, Bool, true, false, not, ◌&&◌, ◌||◌, ◌==◌, nat_lt, List, [], ◌∷◌, ◌++◌, Option, Some, None, slice_get, slice_index, slice_set, if◌then◌else◌}
 use Rattle.ring_machine.specs.declared.states.Owner.{Owner}
 use Rattle.ring_machine.specs.declared.states.Owner.TheVariants.{Driver, Ring, Controller}
 use Rattle.ring_machine.specs.declared.states.DriverState.{DriverState}
@@ -8,7 +8,7 @@ use Rattle.ring_machine.specs.declared.steps.ControlStep.{ControlStep}
 use Rattle.ring_machine.specs.declared.steps.ControlStep.TheVariants.{AskEnable, LookAsked, Answer, LookAnswered, AskDisable}
 use Rattle.ring_machine.specs.declared.steps.RxStep.{RxStep}
 use Rattle.ring_machine.specs.declared.steps.RxStep.TheVariants.{Post, Publish, Look, Fetch, Store, Take, Head, Control, Reclaim, StoreQuiet, LoadQuiet, ClearHead, ClearTail, ClearQuiet}
-use Rattle.ring_machine.specs.Ring.{Segment, RxLedger, RxRing, is_open, is_live, is_serving, no_ledger, posted_count, stored_count, taken_count, returned_count, is_whole}
+use Rattle.ring_machine.specs.Ring.{Segment, RxRing, is_open, is_live, is_serving, no_ledger, posted_count, stored_count, taken_count, returned_count, is_whole}
 use Rattle.ring_machine.specs.Handshakes.{is_new, is_on, ask_enable, look_asked, can_enable, enable, can_disable, disable, look_answered, ask_disable}
 
 abbrev pub is_stopped : DriverState → Bool

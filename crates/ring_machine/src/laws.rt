@@ -15,9 +15,9 @@ pub fn rings_are_lawful()
     ensures lengths { (n : ℕ) (r : RxRing ℕ) → 1 < n → IsReachable ℕ n r → IsLawfulRx ℕ r }
 {}
 
-/// Whatever schedule goes on from a ring that a schedule gave: within its epoch, what is posted is fixed once the
-/// driver is no longer open, what is stored once the controller answered the disabling or said that it is quiet, and
-/// what is taken once the driver saw the disabling answered. The epochs that ended stay as they were.
+/// Whatever schedule goes on from a ring that a schedule gave: the lists of its epoch only grow. What is posted is fixed
+/// once the driver is no longer open, what is stored once the controller answered the disabling or said that it is
+/// quiet, and what is taken once the driver saw the disabling answered. The epochs that ended stay as they were.
 pub fn epochs_are_fixed()
     ensures bytes { (n : ℕ) (r : RxRing Bytes) (more : List (RxStep Bytes)) → 1 < n → IsReachable Bytes n r → Later r (after_all r more) }
     ensures lengths { (n : ℕ) (r : RxRing ℕ) (more : List (RxStep ℕ)) → 1 < n → IsReachable ℕ n r → Later r (after_all r more) }

@@ -1,6 +1,4 @@
 -- What a schedule gives is kept, and what is kept is lawful.
-use Rattle.ring_machine.specs.Ring.{Bytes}
-use Rattle.std.proofs.Common.{ℕ}
 use Rattle.ring_machine.proofs.Reached.{kept, lawful}
 use Rattle.ring_machine.proofs.laws.rings_are_lawful.Goals as goal
 
