@@ -1,9 +1,7 @@
 -- What goes on for ever: each step leaves the lists that have ended, or begins a new epoch.
 use Rattle.std.proofs.Common.{◌≡◌, ℕ, ◌-◌, inl, inr, Bool, true, false, not, ◌&&◌, ◌||◌, [], ◌∷◌, ◌++◌, Option, Some, None, sym, refl, ap, ◌∙◌, ⊎_elim, subst, if◌then◌else◌, append_assoc}
 use Rattle.std.specs.Prelude.{◌==◌, nat_lt}
-use Rattle.std.proofs.lemmas.Bool.{both_ways, and_parts, and_from, or_cases, or_left, or_right, not-true, not_from_false, eqb-true, false≢true}
-use Rattle.ring_machine.specs.declared.states.ControllerState.{ControllerState}
-use Rattle.ring_machine.specs.declared.states.ControllerState.TheVariants.{Serving}
+use Rattle.std.proofs.lemmas.Bool.{both_ways, and_parts, and_from, or_cases, or_left, or_right, not-true, not_from_false, eqb-true}
 use Rattle.ring_machine.specs.declared.steps.ControlStep.{ControlStep}
 use Rattle.ring_machine.specs.declared.steps.ControlStep.TheVariants.{AskEnable, LookAsked, Answer, LookAnswered, AskDisable}
 use Rattle.ring_machine.specs.declared.steps.RxStep.{RxStep}
@@ -13,27 +11,9 @@ use Rattle.ring_machine.specs.Handshakes.{is_new, is_on, ask_enable, look_asked,
 use Rattle.ring_machine.specs.Steps.{can_post, post, next_segment, store, can_take, due, took, is_settled, can_control, control, can_quiet, quiet, can_clear_head, clear_head, clear_tail, can, changed, next}
 use Rattle.ring_machine.specs.Laws.{is_ended, is_over, IsGrown, SameEpoch, Later}
 use Rattle.ring_machine.proofs.Kept.{IsKept}
-use Rattle.ring_machine.proofs.Shakes.{new_open, on_open, live_unanswered, open_unanswered, shakes-enable, shakes-disable, learned_open, learned_answered}
+use Rattle.ring_machine.proofs.Shakes.{new_open, on_open, live_unanswered, open_unanswered, shakes-enable, shakes-disable, learned_open, learned_answered, over-close, over-idle, over-serving}
 use Rattle.ring_machine.proofs.Beginnings.{beginning-refl, beginning-trans, beginning-append}
 use Rattle.ring_machine.proofs.Stepping.{shook}
-
--- whether the controller is over, told from its state, whether the driver may post, and the quiet flag
-abbrev over : ControllerState → Bool → Bool → Bool
-over c posts still = (is_ended c && not posts) || (is_serving c && still)
-
--- a driver that posts no more leaves over what was over
-over-close : (c : ControllerState) (posts still : Bool) → over c posts still ≡ true → over c false still ≡ true
-over-close c true still e = ⊎_elim (λ a. let t = and_parts (is_ended c) false a in absurd (false≢true t.1)) (λ b. or_right (is_ended c && true) (is_serving c && still) b) (or_cases (is_ended c && false) (is_serving c && still) e)
-over-close c false still e = e
-
--- an idle controller is over only once the driver posts no more
-over-idle : (c : ControllerState) (posts still : Bool) → is_serving c ≡ false → over c posts still ≡ true → posts ≡ false
-over-idle c posts still idle e = ⊎_elim (λ a. let t = and_parts (is_ended c) (not posts) a in not-true posts t.1) (λ b. let t = and_parts (is_serving c) still b in absurd (both_ways (is_serving c) idle t.0)) (or_cases (is_ended c && not posts) (is_serving c && still) e)
-
--- a serving controller is over only where it said so
-over-serving : (c : ControllerState) (posts still : Bool) → is_serving c ≡ true → over c posts still ≡ true → still ≡ true
-over-serving Serving posts still serving e = e
-over-serving _ posts still serving e = absurd (false≢true serving)
 
 module _ {Payload : Type 0} where
   pub grown-refl : (l : RxLedger Payload) → IsGrown l l

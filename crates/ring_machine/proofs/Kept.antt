@@ -1,12 +1,13 @@
 -- What every step keeps. The lawful predicates follow from it, and so does what the running rings ask of a ring that a schedule gave.
-use Rattle.std.proofs.Common.{◌≡◌, ℕ, ◌+◌, ◌<◌, ◌≤◌, Bool, true, false, map}
+use Rattle.std.proofs.Common.{◌≡◌, ℕ, ◌+◌, ◌%◌, ◌<◌, ◌≤◌, Bool, true, false, map}
 use Rattle.ring_machine.specs.declared.states.DriverState.{DriverState}
 use Rattle.ring_machine.specs.declared.states.DriverState.TheVariants.{New, Asked, On, Stopping, Stopped, Cleared, Tailed}
 use Rattle.ring_machine.specs.declared.states.ControllerState.{ControllerState}
 use Rattle.ring_machine.specs.declared.states.ControllerState.TheVariants.{Off, Serving, Ended}
 use Rattle.ring_machine.specs.Lists.{IsBeginning}
-use Rattle.ring_machine.specs.Ring.{Segment, RxRing, Handshake, is_open, is_answered, is_serving, posted_count, stored_count, taken_count}
+use Rattle.ring_machine.specs.Ring.{Segment, RxRing, Handshake, is_open, is_answered, is_serving, posted_count, stored_count, taken_count, is_whole}
 use Rattle.ring_machine.specs.Steps.{is_tailed}
+use Rattle.ring_machine.specs.Laws.{is_ended, is_over}
 use Rattle.ring_machine.specs.Lawful.{IsLawfulMap, window}
 
 -- every buffer came back, and the driver clears the queue's words
@@ -71,3 +72,5 @@ pub record IsKept (Payload : Type 0) (n : ℕ) (r : RxRing Payload) : Type 0 whe
   pub stored : IsBeginning (map (λ (s : Segment Payload). s.number) r.ledger.stored) r.ledger.posted
   pub map : IsLawfulMap (window r) r.owners
   pub at_rest : r.still ≡ true → r.held ≡ false
+  pub whole : is_over r ≡ true → is_whole r ≡ true
+  pub told : is_ended r.handshake.controller ≡ true → is_open r.handshake.driver ≡ false → is_emptied r.handshake.driver ≡ false → r.head ≡ stored_count r % r.size

@@ -5,8 +5,9 @@ use Rattle.ring_machine.specs.Ring.{RxRing, opening}
 use Rattle.ring_machine.specs.Steps.{can, changed, next}
 use Rattle.ring_machine.specs.Schedules.{IsReachable, after_all}
 use Rattle.ring_machine.specs.Lawful.{IsLawfulRx}
-use Rattle.ring_machine.specs.Laws.{Later}
+use Rattle.ring_machine.specs.Laws.{IsConcluded, Later}
 use Rattle.ring_machine.proofs.Kept.{IsKept}
+use Rattle.ring_machine.proofs.Shakes.{ended_full}
 use Rattle.ring_machine.proofs.Stepping.{kept-opening, kept-next}
 use Rattle.ring_machine.proofs.Fixed.{later-refl, later-trans, later-next}
 
@@ -38,6 +39,12 @@ module _ {Payload : Type 0} where
   pub lawful : (n : ℕ) (r : RxRing Payload) → IsKept Payload n r → IsLawfulRx Payload r
   lawful n r k = let e = k.size_is in let o = k.order in let h = o.room in let p = k.places in
       record { ledger = record { taken = k.taken; stored = k.stored; room = omega arith }; map = k.map }
+
+  pub concluded : (n : ℕ) (r : RxRing Payload) → IsKept Payload n r → IsConcluded r
+  concluded n r k = let h = r.handshake in let s = k.shaken in record {
+    whole = k.whole;
+    head = λ e l. let t = ended_full h.driver h.controller h.control h.seen e l s.shakes in k.told e t.0 t.1;
+  }
 
   pub later-all : (n : ℕ) (r : RxRing Payload) (more : List (RxStep Payload)) → IsKept Payload n r → Later r (after_all r more)
   later-all n r [] k = later-refl r

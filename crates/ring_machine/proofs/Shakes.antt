@@ -1,7 +1,7 @@
 -- The handshake: what each control step makes of the two states, the control word and the value seen.
-use Rattle.std.proofs.Common.{◌≡◌, ℕ, Bool, true, false, sym, refl, subst, arith, if◌then◌else◌}
+use Rattle.std.proofs.Common.{◌≡◌, ℕ, Bool, true, false, not, ◌&&◌, ◌||◌, ⊎_elim, sym, refl, subst, arith, if◌then◌else◌}
 use Rattle.std.specs.Prelude.{◌==◌}
-use Rattle.std.proofs.lemmas.Bool.{false≢true, true≢false}
+use Rattle.std.proofs.lemmas.Bool.{false≢true, true≢false, both_ways, and_parts, and_from, or_cases, or_right, not-true}
 use Rattle.ring_machine.specs.declared.states.DriverState.{DriverState}
 use Rattle.ring_machine.specs.declared.states.DriverState.TheVariants.{New, Asked, On, Stopping, Stopped, Cleared, Tailed}
 use Rattle.ring_machine.specs.declared.states.ControllerState.{ControllerState}
@@ -9,6 +9,7 @@ use Rattle.ring_machine.specs.declared.states.ControllerState.TheVariants.{Off, 
 use Rattle.ring_machine.specs.Ring.{is_open, is_live, is_answered, is_serving}
 use Rattle.ring_machine.specs.Handshakes.{is_new, is_on, learned}
 use Rattle.ring_machine.specs.Steps.{is_stopped, is_cleared, is_tailed}
+use Rattle.ring_machine.specs.Laws.{is_ended}
 use Rattle.ring_machine.proofs.Kept.{ShakesAs, is_emptied}
 
 -- What one test on a driver's state tells of another
@@ -207,3 +208,50 @@ shakes-renew Tailed Ended control seen e s = (s, refl)
 shakes-renew Tailed Off control seen e s = absurd s
 shakes-renew Tailed Serving control seen e s = absurd s
 shakes-renew _ _ control seen e s = absurd (false≢true e)
+
+-- whether the controller is over, told from its state, whether the driver may post, and the quiet flag
+abbrev pub over : ControllerState → Bool → Bool → Bool
+over c posts still = (is_ended c && not posts) || (is_serving c && still)
+
+-- a driver that posts no more leaves over what was over
+pub over-close : (c : ControllerState) (posts still : Bool) → over c posts still ≡ true → over c false still ≡ true
+over-close c true still e = ⊎_elim (λ a. let t = and_parts (is_ended c) false a in absurd (false≢true t.1)) (λ b. or_right (is_ended c && true) (is_serving c && still) b) (or_cases (is_ended c && false) (is_serving c && still) e)
+over-close c false still e = e
+
+-- an idle controller is over only once the driver posts no more
+pub over-idle : (c : ControllerState) (posts still : Bool) → is_serving c ≡ false → over c posts still ≡ true → posts ≡ false
+over-idle c posts still idle e = ⊎_elim (λ a. let t = and_parts (is_ended c) (not posts) a in not-true posts t.1) (λ b. let t = and_parts (is_serving c) still b in absurd (both_ways (is_serving c) idle t.0)) (or_cases (is_ended c && not posts) (is_serving c && still) e)
+
+-- a serving controller is over only where it said so
+pub over-serving : (c : ControllerState) (posts still : Bool) → is_serving c ≡ true → over c posts still ≡ true → still ≡ true
+over-serving Serving posts still serving e = e
+over-serving _ posts still serving e = absurd (false≢true serving)
+
+-- a serving controller that said so is over, whatever the driver does
+pub over-quiet : (c : ControllerState) (posts still : Bool) → is_serving c ≡ true → still ≡ true → over c posts still ≡ true
+over-quiet c posts still serving e = or_right (is_ended c && not posts) (is_serving c && still) (and_from (is_serving c) still serving e)
+
+pub serving_unended : (c : ControllerState) → is_serving c ≡ true → is_ended c ≡ false
+serving_unended Serving e = refl
+serving_unended _ e = absurd (false≢true e)
+
+pub on_serving : (d : DriverState) (c : ControllerState) (control seen : ℕ) → is_on d ≡ true → ShakesAs d c control seen → is_serving c ≡ true
+on_serving On Serving control seen e s = refl
+on_serving On Off control seen e s = absurd s
+on_serving On Ended control seen e s = absurd s
+on_serving _ _ control seen e s = absurd (false≢true e)
+
+-- a disabling that was answered, and whose head is not cleared
+pub ended_full : (d : DriverState) (c : ControllerState) (control seen : ℕ) → is_ended c ≡ true → (is_live d || is_stopped d) ≡ true → ShakesAs d c control seen → (is_open d ≡ false) × (is_emptied d ≡ false)
+ended_full Stopping Ended control seen e l s = (refl, refl)
+ended_full Stopped Ended control seen e l s = (refl, refl)
+ended_full On Ended control seen e l s = absurd s
+ended_full New Ended control seen e l s = absurd (false≢true l)
+ended_full Asked Ended control seen e l s = absurd (false≢true l)
+ended_full Cleared Ended control seen e l s = absurd (false≢true l)
+ended_full Tailed Ended control seen e l s = absurd (false≢true l)
+ended_full _ _ control seen e l s = absurd (false≢true e)
+
+pub over-stopped : (d : DriverState) (c : ControllerState) (still : Bool) → is_stopped d ≡ true → over c false still ≡ true → over c (is_open d) still ≡ true
+over-stopped Stopped c still e o = o
+over-stopped _ c still e o = absurd (false≢true e)

@@ -11,9 +11,10 @@ use Rattle.ring_machine.specs.declared.steps.RxStep.{RxStep}
 use Rattle.ring_machine.specs.declared.steps.RxStep.TheVariants.{Post, Publish, Look, Fetch, Store, Take, Head, Control, Reclaim, StoreQuiet, LoadQuiet, ClearHead, ClearTail, ClearQuiet}
 use Rattle.ring_machine.specs.Ring.{Segment, RxRing, Handshake, is_whole, opening, first_handshake, is_open, is_live, is_answered, is_serving, posted_count, stored_count, taken_count, returned_count}
 use Rattle.ring_machine.specs.Handshakes.{is_new, is_on, ask_enable, look_asked, can_enable, enable, can_disable, disable, look_answered, ask_disable}
-use Rattle.ring_machine.specs.Steps.{is_stopped, is_cleared, is_tailed, can_post, post, can_publish, publish, can_look, look, can_fetch, fetch, can_store, next_segment, store, can_take, due, took, head, is_settled, can_control, control, can_reclaim, reclaim, can_quiet, quiet, can_clear_head, clear_head, clear_tail, renew, can, changed, next}
+use Rattle.ring_machine.specs.Steps.{is_stopped, is_cleared, is_tailed, can_head, can_post, post, can_publish, publish, can_look, look, can_fetch, fetch, can_store, next_segment, store, can_take, due, took, head, is_settled, can_control, control, can_reclaim, reclaim, can_quiet, quiet, can_clear_head, clear_head, clear_tail, renew, can, changed, next}
+use Rattle.ring_machine.specs.Laws.{is_ended}
 use Rattle.ring_machine.proofs.Kept.{ShakesAs, is_emptied, IsShaken, InOrder, IsKept}
-use Rattle.ring_machine.proofs.Shakes.{new_open, on_open, open_unanswered, live_unanswered, stopped_answered, cleared_emptied, tailed_emptied, emptied_answered, answered_ended, serving_unanswered, shakes-ask_enable, shakes-look_asked, shakes-enable, shakes-disable, shakes-look_answered, learned_open, learned_emptied, learned_tailed, learned_unanswered, shakes-ask_disable, shakes-clear_head, shakes-clear_tail, shakes-renew}
+use Rattle.ring_machine.proofs.Shakes.{new_open, on_open, open_unanswered, live_unanswered, stopped_answered, cleared_emptied, tailed_emptied, emptied_answered, answered_closed, answered_ended, serving_unanswered, shakes-ask_enable, shakes-look_asked, shakes-enable, shakes-disable, shakes-look_answered, learned_open, learned_emptied, learned_tailed, learned_unanswered, shakes-ask_disable, shakes-clear_head, shakes-clear_tail, shakes-renew, over, over-stopped, over-serving, over-quiet, serving_unended, on_serving}
 use Rattle.ring_machine.proofs.Orders.{order-post, order-publish, order-look, order-fetch, stored_below, order-store, order-take, order-reclaim, order-shake, order-enable, order-disable, order-clear_tail, order-begin}
 use Rattle.ring_machine.proofs.Owners.{who-other, who-held, map-post, map-serve, map-return_at, map-none, map-opening}
 use Rattle.ring_machine.proofs.Beginnings.{beginning-append, beginning-snoc, numbers-snoc}
@@ -28,6 +29,8 @@ kept-opening n true h = record {
   stored = ([], refl);
   map = map-opening n 0 false;
   at_rest = λ e. refl;
+  whole = λ e. refl;
+  told = λ e. absurd (false≢true e);
 }
 kept-opening n false h = record {
   size_is = refl;
@@ -38,6 +41,8 @@ kept-opening n false h = record {
   stored = ([], refl);
   map = map-opening n 0 false;
   at_rest = λ e. refl;
+  whole = λ e. refl;
+  told = λ e. absurd (false≢true e);
 }
 
 module _ {Payload : Type 0} where
@@ -72,6 +77,8 @@ module _ {Payload : Type 0} where
           stored = beginning-append (map (λ (s : Segment Payload). s.number) r.ledger.stored) r.ledger.posted (b ∷ []) k.stored;
           map = rw (length-append r.ledger.posted (b ∷ [])) (map-post r.size (returned_count r) (stored_count r) (posted_count r) r.held r.owners k.map some_places (omega arith) back held_below);
           at_rest = k.at_rest;
+          whole = k.whole;
+          told = k.told;
         }
 
     pub kept-publish : can_publish r ≡ true → IsKept Payload n (publish r)
@@ -84,6 +91,8 @@ module _ {Payload : Type 0} where
       stored = k.stored;
       map = k.map;
       at_rest = k.at_rest;
+      whole = k.whole;
+      told = k.told;
     }
 
     pub kept-look : can_look r ≡ true → IsKept Payload n (look r)
@@ -96,6 +105,8 @@ module _ {Payload : Type 0} where
       stored = k.stored;
       map = k.map;
       at_rest = k.at_rest;
+      whole = k.whole;
+      told = k.told;
     }
 
     pub kept-fetch : can_fetch r ≡ true → IsKept Payload n (fetch r)
@@ -114,6 +125,8 @@ module _ {Payload : Type 0} where
           map = map-serve r.size (returned_count r) (stored_count r) (posted_count r) r.held r.owners k.map some_places (stored_count r) true Controller (sym (who-held (stored_count r))) within back (omega arith)
               (λ j ne. who-other (stored_count r) j true ne ∙ sym (who-other (stored_count r) j r.held ne));
           at_rest = λ e. absurd (both_ways r.still (not-true r.still t.1) e);
+          whole = k.whole;
+          told = k.told;
         }
 
     pub kept-store : (x : Payload) (eop : Bool) → can_store r ≡ true → IsKept Payload n (store r x eop)
@@ -128,6 +141,8 @@ module _ {Payload : Type 0} where
           map = rw (length-append r.ledger.stored (s ∷ [])) (map-serve r.size (returned_count r) (stored_count r) (posted_count r) r.held r.owners k.map some_places (stored_count r + 1) false Ring refl within back below
               (λ j ne. sym (who-other (stored_count r) j r.held ne)));
           at_rest = λ e. refl;
+          whole = λ e. absurd (both_ways r.held (k.at_rest (over-serving r.handshake.controller (is_open r.handshake.driver) r.still (o.held_serving may) e)) may);
+          told = λ e. absurd (both_ways (is_ended r.handshake.controller) (serving_unended r.handshake.controller (o.held_serving may)) e);
         }
 
     kept-took : (found : Option (Segment Payload)) → due r ≡ found → can_take r ≡ true → IsKept Payload n (took r found)
@@ -145,17 +160,32 @@ module _ {Payload : Type 0} where
           map = rw (length-append r.ledger.taken (s ∷ [])) (map-return_at r.size (returned_count r) (stored_count r) (posted_count r) r.held r.owners k.map some_places (taken_count r) (taken_count r + 1 + r.reclaimed)
               (omega arith) (omega arith) within (omega arith));
           at_rest = k.at_rest;
+          whole = k.whole;
+          told = k.told;
         }
 
     pub kept-take : can_take r ≡ true → IsKept Payload n (took r (due r))
     kept-take may = kept-took (due r) refl may
 
-    pub kept-head : IsKept Payload n (head r)
-    kept-head = record { size_is = k.size_is; places = k.places; shaken = k.shaken; order = k.order; taken = k.taken; stored = k.stored; map = k.map; at_rest = k.at_rest }
+    pub kept-head : can_head r ≡ true → IsKept Payload n (head r)
+    kept-head may = let t = and_parts (is_serving r.handshake.controller) (not r.held) may in record {
+      size_is = k.size_is;
+      places = k.places;
+      shaken = k.shaken;
+      order = k.order;
+      taken = k.taken;
+      stored = k.stored;
+      map = k.map;
+      at_rest = k.at_rest;
+      whole = k.whole;
+      told = λ e. absurd (both_ways (is_ended r.handshake.controller) (serving_unended r.handshake.controller t.0) e);
+    }
 
     -- a step that changes the handshake alone
-    kept-shake : (g : Handshake) → IsShaken g → InOrder n (posted_count r) (stored_count r) (taken_count r) r.published r.known r.reclaimed r.held g → IsKept Payload n (record r { handshake = g })
-    kept-shake g s o = record { size_is = k.size_is; places = k.places; shaken = s; order = o; taken = k.taken; stored = k.stored; map = k.map; at_rest = k.at_rest }
+    kept-shake : (g : Handshake) → IsShaken g → InOrder n (posted_count r) (stored_count r) (taken_count r) r.published r.known r.reclaimed r.held g
+        → (over g.controller (is_open g.driver) r.still ≡ true → is_whole r ≡ true)
+        → (is_ended g.controller ≡ true → is_open g.driver ≡ false → is_emptied g.driver ≡ false → r.head ≡ stored_count r % r.size) → IsKept Payload n (record r { handshake = g })
+    kept-shake g s o whole told = record { size_is = k.size_is; places = k.places; shaken = s; order = o; taken = k.taken; stored = k.stored; map = k.map; at_rest = k.at_rest; whole = whole; told = told }
 
     ordered-shake : (g : Handshake) → is_serving g.controller ≡ is_serving r.handshake.controller → (is_answered g.driver ≡ false → is_answered r.handshake.driver ≡ false) → (is_open g.driver ≡ true → is_open r.handshake.driver ≡ true)
         → (is_emptied g.driver ≡ true → returned_count r ≡ posted_count r) → (is_tailed g.driver ≡ true → r.published ≡ 0) → InOrder n (posted_count r) (stored_count r) (taken_count r) r.published r.known r.reclaimed r.held g
@@ -164,19 +194,27 @@ module _ {Payload : Type 0} where
     kept-ask_enable : is_new r.handshake.driver ≡ true → IsKept Payload n (record r { handshake = ask_enable r.handshake })
     kept-ask_enable may = let h = r.handshake in kept-shake (ask_enable h) (record { shakes = shakes-ask_enable h.driver h.controller h.control h.seen may shook })
         (ordered-shake (ask_enable h) refl (λ a. open_unanswered h.driver (new_open h.driver may)) (λ a. new_open h.driver may) (λ e. absurd (false≢true e)) (λ e. absurd (false≢true e)))
+        (λ e. k.whole (rw (new_open h.driver may) e))
+        (λ e c. absurd (true≢false c))
 
     kept-look_asked : IsKept Payload n (record r { handshake = look_asked r.handshake })
     kept-look_asked = let h = r.handshake in let o = k.order in kept-shake (look_asked h) (record { shakes = shakes-look_asked h.driver h.controller h.control h.seen shook })
         (ordered-shake (look_asked h) refl (λ a. a) (λ a. a) o.all_back o.tail_cleared)
+        (k.whole)
+        (k.told)
 
     kept-look_answered : IsKept Payload n (record r { handshake = look_answered r.handshake })
     kept-look_answered = let h = r.handshake in let o = k.order in kept-shake (look_answered h) (record { shakes = shakes-look_answered h.driver h.controller h.control h.seen shook })
         (ordered-shake (look_answered h) refl (learned_unanswered h.driver h.control) (λ a. sym (learned_open h.driver h.control) ∙ a)
         (λ e. o.all_back (sym (learned_emptied h.driver h.control) ∙ e)) (λ e. o.tail_cleared (sym (learned_tailed h.driver h.control) ∙ e)))
+        (λ e. k.whole (rw (sym (learned_open h.driver h.control)) e))
+        (λ e c f. k.told e (sym (learned_open h.driver h.control) ∙ c) (sym (learned_emptied h.driver h.control) ∙ f))
 
     kept-ask_disable : is_on r.handshake.driver ≡ true → IsKept Payload n (record r { handshake = ask_disable r.handshake })
-    kept-ask_disable may = let h = r.handshake in kept-shake (ask_disable h) (record { shakes = shakes-ask_disable h.driver h.controller h.control h.seen may shook })
+    kept-ask_disable may = let h = r.handshake in let serving = on_serving h.driver h.controller h.control h.seen may shook in kept-shake (ask_disable h) (record { shakes = shakes-ask_disable h.driver h.controller h.control h.seen may shook })
         (ordered-shake (ask_disable h) refl (λ a. open_unanswered h.driver (on_open h.driver may)) (λ a. on_open h.driver may) (λ e. absurd (false≢true e)) (λ e. absurd (false≢true e)))
+        (λ e. k.whole (over-quiet h.controller (is_open h.driver) r.still serving (over-serving h.controller false r.still serving e)))
+        (λ e. absurd (both_ways (is_ended h.controller) (serving_unended h.controller serving) e))
 
     kept-enable : can_enable r.handshake ≡ true → IsKept Payload n (record r { handshake = enable r.handshake; known = 0; still = false })
     kept-enable may = let h = r.handshake in let t = and_parts (h.seen == 1) (not (is_serving h.controller)) may in
@@ -190,6 +228,8 @@ module _ {Payload : Type 0} where
           stored = k.stored;
           map = k.map;
           at_rest = λ e. absurd (false≢true e);
+          whole = λ e. absurd (false≢true e);
+          told = λ e. absurd (false≢true e);
         }
 
     kept-disable : (can_disable r.handshake && is_settled r) ≡ true → IsKept Payload n (record r { handshake = disable r.handshake })
@@ -198,6 +238,8 @@ module _ {Payload : Type 0} where
         let s = shakes-disable h.driver h.controller h.control h.seen (eqb-true h.seen 3 u.0) u.1 shook in
         kept-shake (disable h) (record { shakes = s.0 })
         (order-disable n (posted_count r) (stored_count r) (taken_count r) r.published r.known r.reclaimed r.held h k.order (disable h) refl (not-true r.held w.0) s.1 refl)
+        (λ e. v.1)
+        (λ e c f. eqb-true r.head (stored_count r % r.size) w.1)
 
     kept-answered : (on : Bool) → can_enable r.handshake ≡ on → (can_enable r.handshake || (can_disable r.handshake && is_settled r)) ≡ true
         → IsKept Payload n (if on then record r { handshake = enable r.handshake; known = 0; still = false } else record r { handshake = disable r.handshake })
@@ -222,11 +264,13 @@ module _ {Payload : Type 0} where
           stored = k.stored;
           map = map-return_at r.size (returned_count r) (stored_count r) (posted_count r) r.held r.owners k.map some_places (returned_count r) (taken_count r + (r.reclaimed + 1)) refl (omega arith) within more;
           at_rest = k.at_rest;
+          whole = k.whole;
+          told = k.told;
         }
 
     pub kept-quiet : can_quiet r ≡ true → IsKept Payload n (quiet r)
     kept-quiet may = let t = and_parts (is_serving r.handshake.controller && not r.held) (is_whole r) may in let u = and_parts (is_serving r.handshake.controller) (not r.held) t.0 in
-        record { size_is = k.size_is; places = k.places; shaken = k.shaken; order = k.order; taken = k.taken; stored = k.stored; map = k.map; at_rest = λ e. not-true r.held u.1 }
+        record { size_is = k.size_is; places = k.places; shaken = k.shaken; order = k.order; taken = k.taken; stored = k.stored; map = k.map; at_rest = λ e. not-true r.held u.1; whole = λ e. t.1; told = k.told }
 
     -- once the disabling was seen answered, the controller serves no more and holds nothing
     answered_idle : is_answered r.handshake.driver ≡ true → is_serving r.handshake.controller ≡ false
@@ -247,6 +291,8 @@ module _ {Payload : Type 0} where
           stored = k.stored;
           map = k.map;
           at_rest = k.at_rest;
+          whole = λ e. k.whole (over-stopped h.driver h.controller r.still t.0 e);
+          told = λ e c f. absurd (true≢false f);
         }
 
     pub kept-clear_tail : is_cleared r.handshake.driver ≡ true → IsKept Payload n (clear_tail r)
@@ -261,6 +307,8 @@ module _ {Payload : Type 0} where
           stored = k.stored;
           map = k.map;
           at_rest = k.at_rest;
+          whole = λ e. k.whole (rw (answered_closed h.driver a) e);
+          told = λ e c f. absurd (true≢false f);
         }
 
     pub kept-renew : is_tailed r.handshake.driver ≡ true → IsKept Payload n (renew r)
@@ -275,6 +323,8 @@ module _ {Payload : Type 0} where
           stored = ([], refl);
           map = map-none r.size (returned_count r) (stored_count r) (posted_count r) 0 0 r.held r.held r.owners (omega arith) k.map;
           at_rest = k.at_rest;
+          whole = λ e. refl;
+          told = λ e c. absurd (true≢false c);
         }
 
     pub kept-changed : (s : RxStep Payload) → can r s ≡ true → IsKept Payload n (changed r s)
@@ -284,7 +334,7 @@ module _ {Payload : Type 0} where
     kept-changed Fetch e = kept-fetch e
     kept-changed (Store x eop) e = kept-store x eop e
     kept-changed Take e = kept-take e
-    kept-changed Head e = kept-head
+    kept-changed Head e = kept-head e
     kept-changed (Control c) e = kept-control c e
     kept-changed Reclaim e = kept-reclaim e
     kept-changed StoreQuiet e = kept-quiet e

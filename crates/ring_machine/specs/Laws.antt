@@ -1,9 +1,10 @@
--- What goes on for ever: the lists of an epoch only grow, a list that has ended stays as it is, and so do the epochs that ended.
-use Rattle.std.specs.Prelude.{◌≡◌, ◌⊎◌, Bool, true, false, not, ◌&&◌, ◌||◌, List, ◌∷◌, ◌++◌}
+-- What is settled, and what goes on for ever: the lists of an epoch only grow, a list that has ended stays as it is, and so do the epochs that ended.
+use Rattle.std.specs.Prelude.{◌≡◌, ◌%◌, ◌⊎◌, Bool, true, false, not, ◌&&◌, ◌||◌, List, ◌∷◌, ◌++◌}
 use Rattle.ring_machine.specs.declared.states.ControllerState.{ControllerState}
 use Rattle.ring_machine.specs.declared.states.ControllerState.TheVariants.{Off, Serving, Ended}
 use Rattle.ring_machine.specs.Lists.{IsBeginning}
-use Rattle.ring_machine.specs.Ring.{RxLedger, RxRing, is_open, is_answered, is_serving}
+use Rattle.ring_machine.specs.Ring.{RxLedger, RxRing, is_open, is_live, is_answered, is_serving, stored_count, is_whole}
+use Rattle.ring_machine.specs.Steps.{is_stopped}
 
 abbrev pub is_ended : ControllerState → Bool
 is_ended Off = false
@@ -14,6 +15,11 @@ module _ {Payload : Type 0} where
   -- the controller stores no more in this epoch: it answered the disabling, or it said that it is quiet
   abbrev pub is_over : RxRing Payload → Bool
   is_over r = (is_ended r.handshake.controller && not (is_open r.handshake.driver)) || (is_serving r.handshake.controller && r.still)
+
+  -- where the controller is over, no frame is left unfinished; and once it answered the disabling, the head tells how many were stored, until it is cleared
+  pub record IsConcluded (r : RxRing Payload) : Type 0 where
+    pub whole : is_over r ≡ true → is_whole r ≡ true
+    pub head : is_ended r.handshake.controller ≡ true → (is_live r.handshake.driver || is_stopped r.handshake.driver) ≡ true → r.head ≡ stored_count r % r.size
 
   -- nothing that a ledger has is ever changed or lost
   pub record IsGrown (before later : RxLedger Payload) : Type 0 where

@@ -5,14 +5,17 @@ ghost use Rattle.ring_machine.specs.Ring.{Bytes, RxRing, Segment};
 ghost use Rattle.ring_machine.specs.declared.steps.RxStep.{RxStep};
 ghost use Rattle.ring_machine.specs.Lawful.{IsLawfulRx};
 ghost use Rattle.ring_machine.specs.Schedules.{IsReachable, after_all};
-ghost use Rattle.ring_machine.specs.Laws.{Later};
+ghost use Rattle.ring_machine.specs.Laws.{IsConcluded, Later};
 ghost use Rattle.ring_machine.specs.Frames.{cut, join_pieces, piece_of, frames, AllFollow, HasFrameLength};
 
 /// Every ring of two places or more that a schedule gives has a lawful ledger and a lawful owner map, whether its
-/// segments carry bytes or the number of their bytes.
+/// segments carry bytes or the number of their bytes. Where its controller stores no more, the last frame is whole, and
+/// from the answer to the disabling until the head is cleared, the head tells how many segments were stored.
 pub fn rings_are_lawful()
     ensures bytes { (n : ℕ) (r : RxRing Bytes) → 1 < n → IsReachable Bytes n r → IsLawfulRx Bytes r }
     ensures lengths { (n : ℕ) (r : RxRing ℕ) → 1 < n → IsReachable ℕ n r → IsLawfulRx ℕ r }
+    ensures concluded_bytes { (n : ℕ) (r : RxRing Bytes) → 1 < n → IsReachable Bytes n r → IsConcluded r }
+    ensures concluded_lengths { (n : ℕ) (r : RxRing ℕ) → 1 < n → IsReachable ℕ n r → IsConcluded r }
 {}
 
 /// Whatever schedule goes on from a ring that a schedule gave: the lists of its epoch only grow. What is posted is fixed

@@ -1,5 +1,5 @@
--- What a schedule gives is kept, and what is kept is lawful.
-use Rattle.ring_machine.proofs.Reached.{kept, lawful}
+-- What a schedule gives is kept, and what is kept is lawful and concluded.
+use Rattle.ring_machine.proofs.Reached.{kept, lawful, concluded}
 use Rattle.ring_machine.proofs.laws.rings_are_lawful.Goals as goal
 
 pub returns-clause-bytes : goal.returns-clause-bytes
@@ -7,3 +7,9 @@ returns-clause-bytes c = λ n r h e. lawful n r (kept n r h e)
 
 pub returns-clause-lengths : goal.returns-clause-lengths
 returns-clause-lengths c = λ n r h e. lawful n r (kept n r h e)
+
+pub returns-clause-concluded_bytes : goal.returns-clause-concluded_bytes
+returns-clause-concluded_bytes c = λ n r h e. concluded n r (kept n r h e)
+
+pub returns-clause-concluded_lengths : goal.returns-clause-concluded_lengths
+returns-clause-concluded_lengths c = λ n r h e. concluded n r (kept n r h e)
