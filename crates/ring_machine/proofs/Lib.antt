@@ -9,3 +9,4 @@ pub mod Fixed
 pub mod Reached
 pub mod FrameLaws
 pub mod Cuts
+pub mod Following
