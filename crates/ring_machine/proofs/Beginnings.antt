@@ -1,7 +1,7 @@
 -- Lists that are beginnings of others, as either grows by one.
-use Rattle.std.proofs.Common.{◌≡◌, ◌⊎◌, inl, inr, ⊎_elim, ℕ, zero, suc, ◌+◌, ◌<◌, ◌≤◌, List, [], ◌∷◌, ◌++◌, map, length, Some, sym, refl, ap, ◌∙◌, subst, arith, append_assoc, append-nil, length-append}
+use Rattle.std.proofs.Common.{◌≡◌, ◌⊎◌, inl, inr, ⊎_elim, ℕ, zero, suc, ◌+◌, ◌<◌, ◌≤◌, List, [], ◌∷◌, ◌++◌, map, length, Option, Some, option_map, sym, refl, ap, ◌∙◌, subst, arith, append_assoc, append-nil, length-append}
 use Rattle.std.specs.Prelude.{slice_get, slice_index}
-use Rattle.std.proofs.lemmas.Option.{same_Some, none-some, slice_get-get_or, slice_get_within}
+use Rattle.std.proofs.lemmas.Option.{same_Some, none-some, slice_get-get_or, slice_get_within, slice_get-map, get_or_from_slice_get}
 use Rattle.std.proofs.lemmas.List.{length-map, map-append}
 use Rattle.ring_machine.specs.Lists.{IsBeginning}
 use Rattle.ring_machine.specs.Ring.{Segment}
@@ -62,3 +62,13 @@ pub numbers-snoc : {Payload : Type 0} (ss : List (Segment Payload)) (posted : Li
 numbers-snoc {Payload} ss posted s b h e = let number : Segment Payload → ℕ = λ t. t.number in
     let same : length (map number ss) ≡ length ss = length-map ss number in
     rw (map-append number ss (s ∷ [])) (beginning-snoc (map number ss) posted s.number b (subst (λ (j : ℕ). slice_get posted j ≡ Some s.number) (sym same) (next_number ss posted h ∙ ap Some (sym e))))
+
+-- the number of a stored segment is the one posted as the same item
+pub number_at : {Payload : Type 0} (ss : List (Segment Payload)) (posted : List ℕ) (k : ℕ) (s : Segment Payload) → IsBeginning (map (λ (t : Segment Payload). t.number) ss) posted → slice_get ss k ≡ Some s
+    → slice_get posted k ≡ Some s.number
+number_at {Payload} ss posted k s b e = let number : Segment Payload → ℕ = λ t. t.number in
+    beginning_at (map number ss) posted k s.number b (slice_get-map number ss k ∙ ap (λ (o : Option (Segment Payload)). option_map number o) e)
+
+pub index_at : {Payload : Type 0} (ss : List (Segment Payload)) (posted : List ℕ) (k : ℕ) (s : Segment Payload) → IsBeginning (map (λ (t : Segment Payload). t.number) ss) posted → slice_get ss k ≡ Some s
+    → slice_index posted k ≡ s.number
+index_at ss posted k s b e = get_or_from_slice_get posted k s.number 0 (number_at ss posted k s b e)

@@ -47,17 +47,17 @@ kept-opening n false h = record {
 
 module _ {Payload : Type 0} where
   module _ (n : ℕ) (r : RxRing Payload) (k : IsKept Payload n r) where
-    some_places : 0 < r.size
+    pub some_places : 0 < r.size
     some_places = let e = k.size_is in let p = k.places in omega arith
 
-    within : posted_count r ≤ returned_count r + r.size
+    pub within : posted_count r ≤ returned_count r + r.size
     within = let e = k.size_is in let o = k.order in let h = o.room in omega arith
 
     pub shook : ShakesAs r.handshake.driver r.handshake.controller r.handshake.control r.handshake.seen
     shook = let s = k.shaken in s.shakes
 
     -- while the controller serves, what is with the driver again was stored
-    returned_stored : is_serving r.handshake.controller ≡ true → returned_count r ≤ stored_count r
+    pub returned_stored : is_serving r.handshake.controller ≡ true → returned_count r ≤ stored_count r
     returned_stored serving = let o = k.order in let a = o.taken_stored in
         let none = o.not_reclaimed (serving_unanswered r.handshake.driver r.handshake.controller r.handshake.control r.handshake.seen serving shook) in omega arith
 
@@ -273,10 +273,10 @@ module _ {Payload : Type 0} where
         record { size_is = k.size_is; places = k.places; shaken = k.shaken; order = k.order; taken = k.taken; stored = k.stored; map = k.map; at_rest = λ e. not-true r.held u.1; whole = λ e. t.1; told = k.told }
 
     -- once the disabling was seen answered, the controller serves no more and holds nothing
-    answered_idle : is_answered r.handshake.driver ≡ true → is_serving r.handshake.controller ≡ false
+    pub answered_idle : is_answered r.handshake.driver ≡ true → is_serving r.handshake.controller ≡ false
     answered_idle a = let h = r.handshake in let t = answered_ended h.driver h.controller h.control h.seen a shook in ap is_serving t.0
 
-    answered_unheld : is_answered r.handshake.driver ≡ true → r.held ≡ false
+    pub answered_unheld : is_answered r.handshake.driver ≡ true → r.held ≡ false
     answered_unheld a = let o = k.order in ⊎_elim (λ e. absurd (both_ways (is_serving r.handshake.controller) (answered_idle a) (o.held_serving e))) (λ e. e) (cases_Bool r.held)
 
     pub kept-clear_head : can_clear_head r ≡ true → IsKept Payload n (clear_head r)

@@ -2,7 +2,7 @@
 use Rattle.std.specs.Prelude.{◌≡◌, ℕ, zero, suc, ◌+◌, Bool, true, false, List, [], ◌∷◌, ◌++◌, map, length, take, drop, Option, Some, None, refl}
 use Rattle.ring_machine.specs.declared.steps.ControlStep.TheVariants.{AskEnable, LookAsked, Answer, LookAnswered, AskDisable}
 use Rattle.ring_machine.specs.declared.steps.RxStep.{RxStep}
-use Rattle.ring_machine.specs.declared.steps.RxStep.TheVariants.{Post, Publish, Look, Fetch, Store, Take, Head, Control, Reclaim, ClearHead, ClearTail, ClearQuiet}
+use Rattle.ring_machine.specs.declared.steps.RxStep.TheVariants.{Post, Publish, Look, Fetch, Store, Take, Head, Control, Reclaim, StoreQuiet, LoadQuiet, ClearHead, ClearTail, ClearQuiet}
 use Rattle.ring_machine.specs.declared.notes.Note.{Note}
 use Rattle.ring_machine.specs.declared.notes.Note.TheVariants as note
 use Rattle.ring_machine.specs.Ring.{RxRing, opening, Segment}
@@ -107,3 +107,23 @@ asked_at_every_step = refl
 on_and_off : notes (opening 8 false) (Control AskEnable ∷ Control LookAsked ∷ Control Answer ∷ Control LookAnswered ∷ Control AskDisable ∷ Control LookAsked ∷ Control Answer ∷ Control LookAnswered ∷ Control AskEnable ∷ [])
     ≡ control 1 ∷ control 1 ∷ control 2 ∷ control 2 ∷ control 3 ∷ control 3 ∷ control 0 ∷ control 0 ∷ None ∷ []
 on_and_off = refl
+
+-- a disabling is asked only once the enabling was seen answered
+asked_too_early : notes (opening 8 false) (Control AskDisable ∷ Control AskEnable ∷ Control AskDisable ∷ Control LookAsked ∷ Control Answer ∷ Control AskDisable ∷ Control LookAnswered ∷ Control AskDisable ∷ [])
+    ≡ None ∷ control 1 ∷ None ∷ control 1 ∷ control 2 ∷ None ∷ control 2 ∷ control 3 ∷ []
+asked_too_early = refl
+
+-- after quiet nothing is fetched, and nothing holds back the next epoch
+until_quiet : List (RxStep ℕ)
+until_quiet = Post 1 ∷ Post 2 ∷ Publish ∷ Look ∷ Fetch ∷ StoreQuiet ∷ Store 60 true ∷ LoadQuiet ∷ StoreQuiet ∷ Fetch ∷ LoadQuiet ∷ Take ∷ Head ∷ Control AskDisable ∷ Control LookAsked ∷ Control Answer ∷ Control LookAnswered ∷ Reclaim ∷ []
+
+after_quiet : List (RxStep ℕ)
+after_quiet = ClearHead ∷ ClearTail ∷ LoadQuiet ∷ ClearQuiet ∷ LoadQuiet ∷ Control AskEnable ∷ Control LookAsked ∷ Control Answer ∷ Control LookAnswered ∷ Post 7 ∷ Publish ∷ Fetch ∷ Look ∷ Fetch ∷ []
+
+quiet_and_renewed : notes ring_of_8 (until_quiet ++ after_quiet)
+    ≡ place 0 ∷ place 1 ∷ Some (note.Tail 2) ∷ Some (note.Free 2) ∷ Some (note.Fetched 0 1) ∷ None ∷ place 0 ∷ Some (note.Quiet 0) ∷ Some (note.Quiet 1) ∷ None
+    ∷ Some (note.Quiet 1) ∷ taken 1 60 true ∷ Some (note.Head 1) ∷ control 3 ∷ control 3 ∷ control 0 ∷ control 0 ∷ Some (note.Buffer 2)
+    ∷ Some (note.Head 0) ∷ Some (note.Tail 0) ∷ Some (note.Quiet 1) ∷ Some (note.Quiet 0) ∷ Some (note.Quiet 0) ∷ control 1 ∷ control 1 ∷ control 2 ∷ control 2
+    ∷ place 0 ∷ Some (note.Tail 1) ∷ None ∷ Some (note.Free 1) ∷ Some (note.Fetched 0 7) ∷ []
+unfolding until_quiet after_quiet
+quiet_and_renewed = refl
