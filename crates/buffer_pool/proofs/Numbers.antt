@@ -1,19 +1,17 @@
 -- The numbers in a stock, as buffers come and go.
-use Rattle.std.proofs.Common.{◌≡◌, ◌≢◌, ℕ, zero, suc, ◌+◌, ◌-◌, ◌<◌, ◌≤◌, List, [], ◌∷◌, length, get_or, All, AllPairs, Contains, nat_eq, true, sym, ◌∙◌, ap, subst, arith, ◌++◌, length-append, IsPermutation}
+use Rattle.std.proofs.Common.{◌≡◌, ◌≢◌, ℕ, zero, suc, ◌+◌, ◌-◌, ◌<◌, ◌≤◌, List, ◌∷◌, ◌++◌, length, get_or, All, AllPairs, Contains, nat_eq, true, sym, ◌∙◌, ap, subst, arith, length-append}
 use Rattle.std.specs.List.{range_with_len}
 use Rattle.std.specs.Set.{is_member}
-use Rattle.std.proofs.lemmas.List.{get_or_default}
+use Rattle.std.proofs.lemmas.List.{get_or_default, get_or_append_left}
 use Rattle.std.proofs.lemmas.List.Elements.{All-tail}
-use Rattle.std.proofs.lemmas.List.Kept.{AllPairs-cons}
 use Rattle.std.proofs.lemmas.List.FromFn.{length-range_with_len, get_or-range_with_len}
+use Rattle.std.proofs.lemmas.List.Kept.{AllPairs-cons}
+use Rattle.std.proofs.lemmas.List.Sorted.{IsPermutation-sym, IsPermutation-trans, IsPermutation-middle, All-permutation}
 use Rattle.std.proofs.lemmas.Bool.Decides.{Decides-eqb}
 use Rattle.std.proofs.lemmas.Cmp.{nat_eq_equiv}
-use Rattle.std.proofs.lemmas.Map.Made.{IsDistinct-from_AllPairs, is_member-Decides, length-le_from_is_member}
-use Rattle.std.proofs.lemmas.List.{append-nil, get_or_append_left}
-use Rattle.std.proofs.lemmas.List.Sorted.{IsPermutation-refl, IsPermutation-sym, IsPermutation-trans, IsPermutation-middle, All-permutation}
 use Rattle.std.proofs.lemmas.Map.Keys.{IsDistinct-IsPermutation}
+use Rattle.std.proofs.lemmas.Map.Made.{IsDistinct-from_AllPairs, AllPairs-from_IsDistinct, is_member-Decides, length-le_from_is_member}
 use Rattle.std.proofs.Math.Seq.{get_or-append_seam}
-use Rattle.std.proofs.lemmas.Map.Made.{AllPairs-from_IsDistinct}
 use Rattle.buffer_pool.specs.Stocked.{Stocked, full_stock, with_number, IsNumberOf, IsStock, IsOut, Shares}
 
 All-cons : (P : ℕ → Type 0) (x : ℕ) (xs : List ℕ) → P x → All P xs → All P (x ∷ xs)
@@ -56,40 +54,38 @@ Contains-range first count number low high =
       get_or-range_with_len first count (number - first) number place ∙ omega arith,
     )
 
-IsNumberOf-member : (s : Stocked) (q : ℕ) → IsStock s → is_member nat_eq s.numbers q ≡ true → IsNumberOf s q
-IsNumberOf-member s q h m =
-    let found : Contains s.numbers q = (is_member-Decides Decides-eqb s.numbers q).0 m in
-    subst (IsNumberOf s) found.2 (h.of_range found.0 q found.1)
-
 range-has : (s : Stocked) (q : ℕ) → IsNumberOf s q → is_member nat_eq (range_with_len s.first s.count) q ≡ true
 range-has s q h = (is_member-Decides Decides-eqb (range_with_len s.first s.count) q).1 (Contains-range s.first s.count q h.0 h.1)
 
-pub length-le_count : (s : Stocked) → IsStock s → length s.numbers ≤ s.count
+member-in_range : (s : Stocked) (q : ℕ) → IsStock s → is_member nat_eq s.numbers q ≡ true
+    → is_member nat_eq (range_with_len s.first s.count) q ≡ true
+member-in_range s q h m =
+    let found : Contains s.numbers q = (is_member-Decides Decides-eqb s.numbers q).0 m in
+    range-has s q (subst (IsNumberOf s) found.2 (h.of_range found.0 q found.1))
+
+length-le_count : (s : Stocked) → IsStock s → length s.numbers ≤ s.count
 length-le_count s h =
-    let fewer : length s.numbers ≤ length (range_with_len s.first s.count) =
-    length-le_from_is_member nat_eq_equiv s.numbers (range_with_len s.first s.count)
-    (IsDistinct-from_AllPairs Decides-eqb s.numbers h.once)
-    (λ q m. range-has s q (IsNumberOf-member s q h m))
-    in
-    omega (arith, length-range_with_len s.first s.count)
+    let once = IsDistinct-from_AllPairs Decides-eqb s.numbers h.once in
+    omega (
+      arith,
+      length-range_with_len s.first s.count,
+      length-le_from_is_member nat_eq_equiv s.numbers (range_with_len s.first s.count) once (λ q m. member-in_range s q h m),
+    )
 
 pub length-lt_count : (s : Stocked) (number : ℕ) → IsStock s → IsOut s number → length s.numbers < s.count
 length-lt_count s number h out = omega (arith, length-le_count (with_number s number) (IsStock-with_number s number h out))
 
 -- ---- a full stock
 
+range-at : (first count k d : ℕ) → k < length (range_with_len first count) → get_or (range_with_len first count) k d ≡ first + k
+range-at first count k d h = get_or-range_with_len first count k d (omega (arith, length-range_with_len first count))
+
 pub IsStock-full_stock : (first count : ℕ) → IsStock (full_stock first count)
 IsStock-full_stock first count = record {
-  of_range = λ k d l.
-      let place : k < count = omega (arith, length-range_with_len first count) in
-      let e : get_or (range_with_len first count) k d ≡ first + k = get_or-range_with_len first count k d place in
-      (omega arith, omega arith);
-  once = λ i j d h l p.
-      let at_i : get_or (range_with_len first count) i d ≡ first + i =
-      get_or-range_with_len first count i d (omega (arith, length-range_with_len first count)) in
-      let at_j : get_or (range_with_len first count) j d ≡ first + j =
-      get_or-range_with_len first count j d (omega (arith, length-range_with_len first count)) in
-      omega arith;
+  of_range = λ k d h. omega (arith, range-at first count k d h, length-range_with_len first count);
+  once = λ i j d h l e.
+      let before : i < length (range_with_len first count) = omega arith in
+      omega (arith, range-at first count i d before, range-at first count j d l);
 }
 
 -- the range from one number earlier on
@@ -105,13 +101,15 @@ range_with_len-before number past low high =
 
 pub Shares-taken : (s : Stocked) (number : ℕ) (out : List ℕ) → Shares (with_number s number) out → Shares s (number ∷ out)
 Shares-taken s number out h =
-    IsPermutation-trans (range_with_len s.first s.count) (number ∷ (s.numbers ++ out)) (s.numbers ++ number ∷ out) h
-    (IsPermutation-sym (s.numbers ++ number ∷ out) (number ∷ (s.numbers ++ out)) (IsPermutation-middle s.numbers number out))
+    let on_top : List ℕ = number ∷ (s.numbers ++ out) in
+    let outside : List ℕ = s.numbers ++ number ∷ out in
+    let moved = IsPermutation-sym outside on_top (IsPermutation-middle s.numbers number out) in
+    IsPermutation-trans (range_with_len s.first s.count) on_top outside h moved
 
 pub Shares-given : (s : Stocked) (number : ℕ) (out : List ℕ) → Shares s (number ∷ out) → Shares (with_number s number) out
 Shares-given s number out h =
-    IsPermutation-trans (range_with_len s.first s.count) (s.numbers ++ number ∷ out) (number ∷ (s.numbers ++ out)) h
-    (IsPermutation-middle s.numbers number out)
+    let moved = IsPermutation-middle s.numbers number out in
+    IsPermutation-trans (range_with_len s.first s.count) (s.numbers ++ number ∷ out) (number ∷ (s.numbers ++ out)) h moved
 
 -- a number that is out may come back
 pub IsOut-from_Shares : (s : Stocked) (number : ℕ) (out : List ℕ) → Shares s (number ∷ out) → IsOut s number
@@ -120,14 +118,14 @@ IsOut-from_Shares s number out h =
     let all : List ℕ = s.numbers ++ number ∷ out in
     let full : IsStock (full_stock s.first s.count) = IsStock-full_stock s.first s.count in
     let of_range : All (IsNumberOf s) all = All-permutation (IsNumberOf s) range all h full.of_range in
-    let once : AllPairs (λ one other. one ≢ other) all =
-    AllPairs-from_IsDistinct Decides-eqb all
-    (IsDistinct-IsPermutation nat_eq nat_eq_equiv.symm range all h (IsDistinct-from_AllPairs Decides-eqb range full.once)) in
+    let in_range = IsDistinct-from_AllPairs Decides-eqb range full.once in
+    let distinct = IsDistinct-IsPermutation nat_eq nat_eq_equiv.symm range all h in_range in
+    let once = AllPairs-from_IsDistinct Decides-eqb all distinct in
     let place : length s.numbers < length all = omega (arith, length-append s.numbers (number ∷ out)) in
     let here : get_or all (length s.numbers) number ≡ number = get_or-append_seam s.numbers number out number in
     record {
       of_range = subst (IsNumberOf s) here (of_range (length s.numbers) number place);
       absent = λ (k, l, e).
-          once k (length s.numbers) number l place
-          (get_or_append_left s.numbers (number ∷ out) number k l ∙ e ∙ sym here);
+          let there = get_or_append_left s.numbers (number ∷ out) number k l in
+          once k (length s.numbers) number l place (there ∙ e ∙ sym here);
     }
