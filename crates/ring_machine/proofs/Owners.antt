@@ -6,7 +6,7 @@ use Rattle.std.proofs.lemmas.List.{length-replicate}
 use Rattle.ring_machine.specs.declared.states.Owner.{Owner}
 use Rattle.ring_machine.specs.declared.states.Owner.TheVariants.{Driver, Ring, Controller}
 use Rattle.ring_machine.specs.Lawful.{Window, IsLawfulMap}
-use Rattle.ring_machine.proofs.Places.{Writes, each_item-set, each_item-push, each_item-drop, each_item-same, slice_set-writes}
+use Rattle.ring_machine.proofs.Places.{Writes, each_item-set, each_item-push, each_item-drop, slice_set-writes}
 
 abbrev pub window_of : ℕ → ℕ → ℕ → ℕ → Bool → Window
 window_of n first serving past held = record { size = n; first = first; serving = serving; past = past; held = held }
@@ -73,14 +73,6 @@ map-none n first serving past serves begin held holds owners none m = record {
   places = m.places;
   out = λ k a b. absurd (omega arith);
   home = λ place below away. m.home place below (λ k a b. absurd (omega arith));
-}
-
--- nobody but the ring has an item where nothing is fetched, whichever is next
-pub map-unheld : (n first serving past serves : ℕ) (held holds : Bool) (owners : List Owner) → held ≡ false → holds ≡ false → IsLawfulMap (window_of n first serving past held) owners → IsLawfulMap (window_of n first serves past holds) owners
-map-unheld n first serving past serves held holds owners e f m = record {
-  places = m.places;
-  out = each_item-same n first past (slice_get owners) (λ k. Some (who serving held k)) (λ k. Some (who serves holds k)) (λ k a b. ap Some (who-unheld serves k holds f ∙ sym (who-unheld serving k held e))) m.out;
-  home = m.home;
 }
 
 all_of : (n p : ℕ) → p < n → slice_get (replicate n Driver) p ≡ Some Driver
