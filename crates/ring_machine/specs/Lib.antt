@@ -9,3 +9,10 @@ pub mod Schedules
 pub mod Agreement
 pub mod Laws
 pub mod Rows
+pub mod TxRing
+pub mod TxSteps
+pub mod TxNotes
+pub mod TxSchedules
+pub mod TxLawful
+pub mod TxLaws
+pub mod TxRows

@@ -13,6 +13,6 @@ mod steps;
 
 pub use laws::{epochs_are_fixed, frames_are_rejoined, rings_are_lawful};
 pub use limits::{BUFFER_BYTES, LEAST_FRAME, LEAST_RING, MOST_FRAME, MOST_RING, MOST_SEGMENTS};
-pub use notes::{Note, TakenSegment};
-pub use states::{ControllerState, DriverState, Owner};
-pub use steps::{ControlStep, RxStep};
+pub use notes::{FetchedSegment, Note, TakenSegment};
+pub use states::{Completion, ControllerState, DriverState, Owner};
+pub use steps::{ControlStep, RxStep, TxStep};

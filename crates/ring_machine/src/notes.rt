@@ -11,6 +11,19 @@ pub struct TakenSegment {
     pub eop: bool,
 }
 
+/// What a fetched transmit descriptor says.
+#[derive(Clone, Copy, Debug, PartialEq, Eq)]
+pub struct FetchedSegment {
+    /// The buffer's number.
+    pub buffer: u16,
+    /// The bytes in it.
+    pub len: u16,
+    /// Whether it ends its frame.
+    pub eop: bool,
+    /// Whether a report is asked for.
+    pub rs: bool,
+}
+
 /// What a step tells of itself. Places, heads and tails are below the ring's length.
 #[derive(Clone, Copy, Debug, PartialEq, Eq)]
 pub enum Note {
@@ -20,10 +33,16 @@ pub enum Note {
     Tail(u16),
     /// How many descriptors the controller of a receive queue knows to be free.
     Free(u16),
+    /// How many descriptors the controller of a transmit queue knows to be ready.
+    Ready(u16),
     /// The place that was fetched, and the buffer's number.
     Fetched(u16, u16),
+    /// The place that was fetched to be sent, and what its descriptor says.
+    Sending(u16, FetchedSegment),
     /// The segment that was taken, if DD was set.
     Taken(Option<TakenSegment>),
+    /// The place whose report was seen, if there is one.
+    Reported(Option<u16>),
     /// The head that was stored.
     Head(u16),
     /// The number of the buffer that came out.

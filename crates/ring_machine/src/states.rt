@@ -60,3 +60,12 @@ pub enum ControllerState {
     /// It answered a disabling.
     Ended,
 }
+
+/// How a transmit queue's controller reports that frames are sent.
+#[derive(Clone, Copy, Debug, PartialEq, Eq)]
+pub enum Completion {
+    /// It stores DD in the descriptor that asked for the report.
+    Status,
+    /// It stores its head in a word of its own, after the queue's other words.
+    Head,
+}

@@ -1,4 +1,4 @@
-//! The atomic steps of a receive queue. Each is one load or store of one word, but for the slot that goes with it.
+//! The atomic steps of receive and transmit queues. Each is one load or store of one word, but for the slot that goes with it.
 
 /// A step of the handshake over the control word (82599 datasheet, RXDCTL.ENABLE), the same for both kinds of queue.
 #[derive(Clone, Copy, Debug, PartialEq, Eq)]
@@ -46,4 +46,35 @@ pub enum RxStep<P> {
     ClearTail,
     /// C11: the driver clears the quiet word, and the queue can be enabled again.
     ClearQuiet,
+}
+
+/// A step of a transmit queue. `P` is what a descriptor is posted with.
+#[derive(Clone, Copy, Debug, PartialEq, Eq)]
+pub enum TxStep<P> {
+    /// B1: the driver posts a segment.
+    Post(P),
+    /// B2: the driver stores the tail (TDT), after whole frames alone.
+    Publish,
+    /// B3: the controller loads the tail.
+    Look,
+    /// B4: the controller fetches the next descriptor, with its buffer.
+    Fetch,
+    /// B5: the controller has sent the segment: it gives the buffer back and stores the head (TDH).
+    Send,
+    /// B6: the controller reports, where the segment that it sent asked for it (RS).
+    Report,
+    /// B7: the driver loads the oldest report that it has not seen.
+    LoadReport,
+    /// B8: the driver takes the buffer of the oldest descriptor that is reported.
+    Clean,
+    /// C1 to C5.
+    Control(ControlStep),
+    /// C6: the driver takes a buffer out of a disabled queue.
+    Reclaim,
+    /// C9: the driver clears the head of a queue whose buffers are reclaimed.
+    ClearHead,
+    /// C10: the driver clears the tail. The queue can then be enabled again, unless it reports by a head word.
+    ClearTail,
+    /// C12: the driver clears the head word of reports, and the queue can be enabled again.
+    ClearReport,
 }
