@@ -69,6 +69,10 @@ held_number c = (controlling (controller_size c) c.events).held
 abbrev pub controller_state : ControllerSide → ControllerState
 controller_state c = (controlling (controller_size c) c.events).state
 
+-- whether it said that it stores no more
+abbrev pub is_quiet : ControllerSide → Bool
+is_quiet c = (controlling (controller_size c) c.events).still
+
 abbrev pub serve_place : ControllerSide → ℕ
 serve_place c = length (stored c) % controller_size c
 
@@ -170,6 +174,7 @@ pub record IsControllerEnd (table : TableId) (me : Seated) (size serve free : �
   pub serve_is : serve ≡ length (controlling size (controllers_of me.0)).stored % size
   pub free_is : free + length (controlling size (controllers_of me.0)).stored ≡ (controlling size (controllers_of me.0)).known
   pub free_below : free < size
+  pub held_free : (b : ℕ) → (controlling size (controllers_of me.0)).held ≡ Some b → 0 < free
   pub state_is : state ≡ (controlling size (controllers_of me.0)).state
 
 -- the seat from which an end is made

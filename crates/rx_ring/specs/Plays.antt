@@ -12,7 +12,7 @@ use Rattle.rx_ring.specs.declared.view.DriverEvent.{DriverEvent}
 use Rattle.rx_ring.specs.declared.view.ControllerEvent.{ControllerEvent}
 use Rattle.rx_ring.specs.declared.view.ControllerEvent.TheVariants.{Looked, Fetched, WroteBack}
 use Rattle.rx_ring.specs.declared.view.View.TheVariants.{Driver, Controller, Both}
-use Rattle.rx_ring.specs.Records.{RxView, drivers_of, controllers_of, driving, controlling, eop_of, empty_slots, front_buffer}
+use Rattle.rx_ring.specs.Records.{RxView, drivers_of, controllers_of, driving, controlling, eop_of, count_at, empty_slots, front_buffer}
 use Rattle.rx_ring.specs.Rule.{driven, controlled}
 
 abbrev pub Seated : Type 0
@@ -44,9 +44,11 @@ pub record LoadsStatus (st : Step (Option Buffer)) (m : Seated) (r : ℕ) (m' : 
   pub not_done : r % 2 ≡ 0 → m' ≡ (driver_does m (NotDone st.word r), m.1)
   pub done : r % 2 ≡ 1 → TakesOut st m r m'
 
+-- a place of the ring, at which no fewer items are posted than the controller knew of
 pub record LoadsTail (st : Step (Option Buffer)) (m : Seated) (r : ℕ) (m' : Seated) : Type 0 where
   pub seat : m' ≡ (controller_does m (Looked r), m.1)
   pub below : r < st.slots
+  pub grows : (controlling st.slots (controllers_of m.0)).known ≤ count_at st.slots (length (controlling st.slots (controllers_of m.0)).stored) r
 
 -- the next descriptor, whose empty buffer is out with the seat
 pub record Fetches (st : Step (Option Buffer)) (m : Seated) (r : ℕ) (m' : Seated) : Type 0 where

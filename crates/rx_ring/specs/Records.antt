@@ -1,5 +1,5 @@
 -- What the records of the two ends amount to.
-use Rattle.std.specs.Prelude.{◌≡◌, ℕ, zero, suc, ◌+◌, ◌-◌, ◌/◌, ◌%◌, Bool, List, [], ◌∷◌, ◌++◌, length, Option, Some, None, ◌==◌}
+use Rattle.std.specs.Prelude.{◌≡◌, ℕ, zero, suc, ◌+◌, ◌-◌, ◌/◌, ◌%◌, Bool, false, List, [], ◌∷◌, ◌++◌, length, Option, Some, None, ◌==◌}
 use Rattle.buffer_pool.specs.Buffer.{Buffer, blank}
 use Rattle.ring_machine.specs.declared.states.DriverState.{DriverState}
 use Rattle.ring_machine.specs.declared.states.DriverState.TheVariants.{On}
@@ -50,12 +50,13 @@ driving_from d (e ∷ es) = driving_from (drive d e) es
 abbrev pub driving : List DriverEvent → Driven
 driving es = driving_from (record { posted = []; published = 0; taken = []; state = On }) es
 
--- What the controller did: the segments that it stored, how many posted items it knows of, and the number of the buffer that it holds
+-- What the controller did: the segments that it stored, how many posted items it knows of, the number of the buffer that it holds, and whether it said that it stores no more
 pub record Controlled : Type 0 where
   pub stored : List (Segment Bytes)
   pub known : ℕ
   pub held : Option ℕ
   pub state : ControllerState
+  pub still : Bool
 
 -- the count of items up to a loaded tail, in a ring of n places where so many are stored
 abbrev pub count_at : ℕ → ℕ → ℕ → ℕ
@@ -71,7 +72,7 @@ controlling_from n c [] = c
 controlling_from n c (e ∷ es) = controlling_from n (control n c e) es
 
 abbrev pub controlling : ℕ → List ControllerEvent → Controlled
-controlling n es = controlling_from n (record { stored = []; known = 0; held = None; state = Serving }) es
+controlling n es = controlling_from n (record { stored = []; known = 0; held = None; state = Serving; still = false }) es
 
 -- the slots of so many items from item k on, all empty
 abbrev pub empty_slots : ℕ → ℕ → ℕ → List (ℕ × Option Buffer)
@@ -83,18 +84,18 @@ abbrev pub driver_slots : ℕ → Driven → List (ℕ × Option Buffer)
 driver_slots n d = empty_slots n (length d.posted) (length d.taken + n - length d.posted)
 
 -- the slot that the controller has: that of the fetched buffer
+abbrev pub slots_while : ℕ → Option ℕ → List (ℕ × Option Buffer)
+slots_while place None = []
+slots_while place (Some b) = (place, None) ∷ []
+
 abbrev pub controller_slots : ℕ → Controlled → List (ℕ × Option Buffer)
-controller_slots n c = slots_while c.held
-  where
-    slots_while : Option ℕ → List (ℕ × Option Buffer)
-    slots_while None = []
-    slots_while (Some b) = (length c.stored % n, None) ∷ []
+controller_slots n c = slots_while (length c.stored % n) c.held
 
 -- the buffer in the slot that a seat took last
+abbrev pub buffer_in : Option Buffer → Buffer
+buffer_in None = blank
+buffer_in (Some b) = b
+
 abbrev pub front_buffer : List (ℕ × Option Buffer) → Buffer
 front_buffer [] = blank
 front_buffer (x ∷ xs) = buffer_in x.1
-  where
-    buffer_in : Option Buffer → Buffer
-    buffer_in None = blank
-    buffer_in (Some b) = b

@@ -1,5 +1,5 @@
 -- The rule of a ring's table: between any two steps words, slots and both records agree with one ring that a schedule makes.
-use Rattle.std.specs.Prelude.{◌≡◌, ℕ, ◌+◌, ◌≤◌, ◌⊎◌, IsTrue, List, [], ◌∷◌, map, length, replicate, Option, Some, None, slice_index, slice_set, if◌then◌else◌}
+use Rattle.std.specs.Prelude.{◌≡◌, ℕ, ◌+◌, ◌<◌, ◌≤◌, ◌⊎◌, IsTrue, List, [], ◌∷◌, map, length, replicate, Option, Some, None, slice_index, slice_set, if◌then◌else◌}
 use Rattle.std.specs.Int.{is_power_of_two}
 use mathlib.Core.Option as maybe
 use mathlib.Core.Option.{some, none}
@@ -30,13 +30,13 @@ abbrev pub opening_words_of : ℕ → List ℕ
 opening_words_of n = slice_set (replicate (n + 4) 0) (n + 2) 2
 
 -- the buffer at home in a slot, if the slot is at home and has one
+abbrev pub at_home : maybe.Option (maybe.Option (Option Buffer)) → Option Buffer
+at_home none = None
+at_home (some none) = None
+at_home (some (some b)) = b
+
 abbrev pub home_at : List (maybe.Option (Option Buffer)) → ℕ → Option Buffer
 home_at homes place = at_home (get_elem? homes place)
-  where
-    at_home : maybe.Option (maybe.Option (Option Buffer)) → Option Buffer
-    at_home none = None
-    at_home (some none) = None
-    at_home (some (some b)) = b
 
 -- what the two ends have of a ring
 abbrev pub driven : RxRing Bytes → Driven
@@ -48,6 +48,7 @@ controlled q = record {
   known = q.known;
   held = if q.held then Some (slice_index q.ledger.posted (stored_count q)) else None;
   state = q.handshake.controller;
+  still = q.still;
 }
 
 -- the records are those of the ring q, and words and slots lie as q has them
@@ -58,7 +59,7 @@ pub record LiesAs (n : ℕ) (q : RxRing Bytes) (ds : List DriverEvent) (cs : Lis
   pub driver : driving ds ≡ driven q
   pub controller : controlling n cs ≡ controlled q
   pub registers : HasRegisters n (registers_of q) words
-  pub items : HasItems {Payload = Bytes} length (λ b. buffer b []) buffer q (slice_index words) (home_at homes)
+  pub items : HasItems {Payload = Bytes} length (λ b. buffer b []) buffer n q (slice_index words) (home_at homes)
   pub follow : AllFollow n q.ledger.stored
 
 -- both ends are made
@@ -76,7 +77,7 @@ pub record Begins (n : ℕ) (s : Table) : Type 0 where
   pub views : s.views ≡ Maker ∷ []
 
 abbrev pub IsRuled : ℕ → Table → Type 0
-IsRuled n s = (1 ≤ n) × (Begins n s ⊎ Runs n s)
+IsRuled n s = (1 < n) × (Begins n s ⊎ Runs n s)
 
 -- a ring's table: n slots, n + 4 words, and the rule at n
 pub record IsTableOf (table : TableId) (n : ℕ) : Type 0 where

@@ -1,10 +1,10 @@
 //! The controller's end: it loads the tail, fetches posted buffers, and writes them back filled.
-ghost use Rattle.std.specs.Prelude.{◌≡◌, ◌+◌, ◌<◌, true, [], ◌∷◌, ◌++◌, length, Some, None};
+ghost use Rattle.std.specs.Prelude.{◌≡◌, ◌+◌, ◌<◌, ◌≤◌, true, false, [], ◌∷◌, ◌++◌, length, Some, None};
 ghost use Rattle.buffer_pool.specs.Buffer.{buffer};
 ghost use Rattle.ring_machine.specs.Ring.{is_serving};
 ghost use Rattle.ring_machine.specs.Frames.{Follows, unfinished};
 ghost use Rattle.rx_ring.specs.Rule.{IsRingLength};
-ghost use Rattle.rx_ring.specs.Ends.{controller_size, stored, known_free, held_number, controller_state, IsFreshController, MakesController, Looked, Fetched, WroteBack};
+ghost use Rattle.rx_ring.specs.Ends.{controller_size, stored, known_free, held_number, controller_state, is_quiet, IsFreshController, MakesController, Looked, Fetched, WroteBack};
 
 use crate::exchange::{put_in, take_out};
 use crate::plays::{FetchLoad, TailLoad, WriteBackStep};
@@ -72,9 +72,11 @@ impl RxControllerEnd {
         requires serving { is_serving (controller_state self.old) ≡ true }
         ensures step { Looked self.old result self.new }
         ensures free { known_free self.new ≡ result }
+        ensures grows { known_free self.old ≤ result }
         ensures stored { stored self.new ≡ stored self.old }
         ensures held { held_number self.new ≡ held_number self.old }
         ensures state { controller_state self.new ≡ controller_state self.old }
+        ensures quiet { is_quiet self.new ≡ is_quiet self.old }
     {
         let tail = ring
             .table
@@ -95,12 +97,14 @@ impl RxControllerEnd {
         requires serving { is_serving (controller_state self.old) ≡ true }
         requires free { 0 < known_free self.old }
         requires held { held_number self.old ≡ None }
+        requires quiet { is_quiet self.old ≡ false }
         ensures step { Fetched self.old result self.new }
         ensures empty { result ≡ buffer result.number [] }
         ensures free { known_free self.new ≡ known_free self.old }
         ensures stored { stored self.new ≡ stored self.old }
         ensures held { held_number self.new ≡ Some result.number }
         ensures state { controller_state self.new ≡ controller_state self.old }
+        ensures quiet { is_quiet self.new ≡ is_quiet self.old }
     {
         let place = self.serve as usize;
         ring.table.shared.load::<FetchLoad>(&mut self.seat, place);
@@ -120,6 +124,7 @@ impl RxControllerEnd {
         ensures stored { stored self.new ≡ stored self.old ++ record { number = buf.number; payload = buf.bytes; eop = eop } ∷ [] }
         ensures held { held_number self.new ≡ None }
         ensures state { controller_state self.new ≡ controller_state self.old }
+        ensures quiet { is_quiet self.new ≡ is_quiet self.old }
     {
         let place = self.serve as usize;
         let word = 1 + 2 * u64::from(eop) + buf.len() as u64 * (1 << 32);

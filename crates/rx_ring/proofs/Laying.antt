@@ -1,0 +1,94 @@
+-- Words and slots in the table's lists, read by place.
+use Rattle.std.proofs.Common.{◌≡◌, ◌≢◌, ℕ, zero, suc, ◌+◌, ◌*◌, ◌/◌, ◌%◌, ◌^◌, ◌<◌, ◌≤◌, Bool, true, false, List, [], ◌∷◌, ◌++◌, length, set, get_or, Option, Some, None, sym, refl, ap, ◌∙◌, subst, arith, get_or-set_other}
+use Rattle.std.specs.Prelude.{slice_get, slice_index, slice_set}
+use Rattle.std.proofs.lemmas.Option.{same_Some, none-some}
+use mathlib.Core.Option as maybe
+use mathlib.Core.Option.{some, none}
+use lib.ListN.{get_elem?}
+use Rattle.atomic_table.proofs.Lists.{set_here, set_else}
+use Rattle.ring_machine.specs.Agreement.{Registers, HasRegisters}
+use Rattle.ring_machine.proofs.Places.{Writes}
+use Rattle.buffer_pool.specs.Buffer.{Buffer}
+use Rattle.rx_ring.specs.Rule.{at_home, home_at}
+
+-- a load leaves the words
+pub set-same : (ws : List ℕ) (i : ℕ) → slice_set ws i (slice_index ws i) ≡ ws
+set-same [] i = refl
+set-same (w ∷ ws) zero = refl
+set-same (w ∷ ws) (suc i) = ap (λ (l : List ℕ). w ∷ l) (set-same ws i)
+
+-- a descriptor's word leaves the registers
+pub registers-stay : (n p x : ℕ) (g : Registers) (ws : List ℕ) → p < n → HasRegisters n g ws → HasRegisters n g (slice_set ws p x)
+registers-stay n p x g ws h r = record {
+  head = get_or-set_other ws p n x 0 (λ e. omega arith) ∙ r.head;
+  tail = get_or-set_other ws p (n + 1) x 0 (λ e. omega arith) ∙ r.tail;
+  control = get_or-set_other ws p (n + 2) x 0 (λ e. omega arith) ∙ r.control;
+  quiet = get_or-set_other ws p (n + 3) x 0 (λ e. omega arith) ∙ r.quiet;
+}
+
+-- a register's word leaves the descriptors
+pub descriptors-stay : (n p x j : ℕ) (ws : List ℕ) → n ≤ p → j < n → slice_index (slice_set ws p x) j ≡ slice_index ws j
+descriptors-stay n p x j ws h b = get_or-set_other ws p j x 0 (λ e. omega arith)
+
+-- what is at home, where a buffer is found there
+full_home : (o : maybe.Option (maybe.Option (Option Buffer))) (b : Buffer) → at_home o ≡ Some b → o ≡ some (some (Some b))
+full_home none b e = absurd (none-some b e)
+full_home (some none) b e = absurd (none-some b e)
+full_home (some (some x)) b e = ap (λ (y : Option Buffer). some (some y)) e
+
+pub home-full : (homes : List (maybe.Option (Option Buffer))) (p : ℕ) (b : Buffer) → home_at homes p ≡ Some b → get_elem? homes p ≡ some (some (Some b))
+home-full homes p b e = full_home (get_elem? homes p) b e
+
+-- a slot that comes home with a buffer, and one that goes out
+pub home-given : (homes : List (maybe.Option (Option Buffer))) (n p : ℕ) (b : Option Buffer) → p < length homes → Writes n (home_at homes) (home_at (set homes p (some b))) p b
+home-given homes n p b h = record {
+  here = ap at_home (set_here homes p (some b) h);
+  rest = λ j below ne. ap at_home (set_else homes p j (some b) ne);
+}
+
+pub home-taken : (homes : List (maybe.Option (Option Buffer))) (n p : ℕ) → p < length homes → Writes n (home_at homes) (home_at (set homes p none)) p None
+home-taken homes n p h = record {
+  here = ap at_home (set_here homes p none h);
+  rest = λ j below ne. ap at_home (set_else homes p j none ne);
+}
+
+pub home-left : (homes : List (maybe.Option (Option Buffer))) (p j : ℕ) → j ≢ p → home_at (set homes p none) j ≡ home_at homes j
+home-left homes p j ne = ap at_home (set_else homes p j none ne)
+
+-- lists read by place, as they grow
+module _ {X : Type 0} where
+  pub slice_get-past : (xs : List X) (k : ℕ) → length xs ≤ k → slice_get xs k ≡ None
+  slice_get-past [] k h = refl
+  slice_get-past (x ∷ xs) zero h = absurd (omega arith)
+  slice_get-past (x ∷ xs) (suc k) h = slice_get-past xs k (omega arith)
+
+  pub slice_get-front : (xs ys : List X) (k : ℕ) → k < length xs → slice_get (xs ++ ys) k ≡ slice_get xs k
+  slice_get-front [] ys k h = absurd (omega arith)
+  slice_get-front (x ∷ xs) ys zero h = refl
+  slice_get-front (x ∷ xs) ys (suc k) h = slice_get-front xs ys k (omega arith)
+
+  pub slice_get-last : (xs : List X) (x : X) → slice_get (xs ++ x ∷ []) (length xs) ≡ Some x
+  slice_get-last [] x = refl
+  slice_get-last (y ∷ ys) x = slice_get-last ys x
+
+  -- one more at the back leaves every other place
+  pub slice_get-snoc_other : (xs : List X) (x : X) (k : ℕ) → k ≢ length xs → slice_get (xs ++ x ∷ []) k ≡ slice_get xs k
+  slice_get-snoc_other [] x zero ne = absurd (ne refl)
+  slice_get-snoc_other [] x (suc k) ne = refl
+  slice_get-snoc_other (y ∷ ys) x zero ne = refl
+  slice_get-snoc_other (y ∷ ys) x (suc k) ne = slice_get-snoc_other ys x k (λ e. ne (ap suc e))
+
+  -- an element that is there lies below the length
+  pub slice_get-below : (xs : List X) (k : ℕ) (x : X) → slice_get xs k ≡ Some x → k < length xs
+  slice_get-below [] k x e = absurd (none-some x e)
+  slice_get-below (y ∷ ys) zero x e = omega arith
+  slice_get-below (y ∷ ys) (suc k) x e = let h : k < length ys = slice_get-below ys k x e in omega arith
+
+pub slice_index-front : (xs ys : List ℕ) (k : ℕ) → k < length xs → slice_index (xs ++ ys) k ≡ slice_index xs k
+slice_index-front [] ys k h = absurd (omega arith)
+slice_index-front (x ∷ xs) ys zero h = refl
+slice_index-front (x ∷ xs) ys (suc k) h = slice_index-front xs ys k (omega arith)
+
+pub slice_index-last : (xs : List ℕ) (x : ℕ) → slice_index (xs ++ x ∷ []) (length xs) ≡ x
+slice_index-last [] x = refl
+slice_index-last (y ∷ ys) x = slice_index-last ys x

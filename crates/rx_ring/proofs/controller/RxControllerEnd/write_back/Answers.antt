@@ -1,0 +1,71 @@
+-- The step keeps the rule, and the record has the segment that the buffer carries.
+use Rattle.std.proofs.Common.{◌≡◌, ℕ, ◌+◌, ◌-◌, ◌*◌, ◌%◌, ◌<◌, ◌≤◌, true, false, [], ◌∷◌, ◌++◌, length, sym, refl, ap, ◌∙◌, subst, arith}
+use Rattle.std.specs.Prelude.{Option, Some, None}
+use Rattle.ring_machine.specs.Ring.{Bytes, Segment, is_serving}
+use Rattle.ring_machine.specs.Agreement.{rx_word}
+use Rattle.ring_machine.specs.Frames.{Follows, unfinished}
+use Rattle.rx_ring.specs.declared.view.ControllerEvent.TheVariants as event
+use Rattle.rx_ring.specs.Records.{Controlled, controlling, controllers_of, count_at, segment_of, front_buffer}
+use Rattle.rx_ring.specs.Ends.{ControllerSide, controller_size, stored, known_free, held_number, controller_state, is_quiet}
+use Rattle.rx_ring.proofs.Calls.{slots-are}
+use Rattle.rx_ring.proofs.ControllerCalls.{word-is, write_back-asks, write_back-keeps, write_back-steps, write_back-counts, some-free, wrote, words-are}
+use Rattle.rx_ring.proofs.controller.RxControllerEnd.write_back.Goals as goal
+
+pub store-requires : goal.store-requires
+store-requires c =
+    let i = c.self.inside in
+    let own : i.seat.table_id ≡ c.ring.inside.table.shared.table_id = ap (λ (d : ControllerSide). d.table) c.self.view_is ∙ c.requires.own ∙ sym c.ring.view_is in
+    let held : (controlling i.size (controllers_of i.seat.me.0)).held ≡ Some c.args.buf.number = subst (λ (n : ℕ). (controlling n (controllers_of i.seat.me.0)).held ≡ Some c.args.buf.number) c.self.invariant.size_is (subst (λ (s : ControllerSide). held_number s ≡ Some c.args.buf.number) (sym c.self.view_is) c.requires.held) in
+    let follows : Follows i.size (unfinished (controlling i.size (controllers_of i.seat.me.0)).stored) c.args.buf.bytes c.args.eop = subst (λ (n : ℕ). Follows n (unfinished (controlling n (controllers_of i.seat.me.0)).stored) c.args.buf.bytes c.args.eop) c.self.invariant.size_is (subst (λ (s : ControllerSide). Follows (controller_size s) (unfinished (stored s)) c.args.buf.bytes c.args.eop) (sym c.self.view_is) c.requires.follows) in
+    write_back-asks i.seat.table_id i.seat.me i.size i.serve i.free i.state c.self.invariant c.args.buf c.args.eop held c.ring.inside.table.shared.table_id c.put_in.new.seat.table_id c.ring.inside.table.shared.key c.put_in.new.seat.id (1 + 2 * c.from.result + c.len.result * 4294967296) c.put_in.new.seat.me own c.ring.invariant c.put_in.ensures.same.0 c.put_in.ensures.put (word-is c.len.result c.from.result c.args.eop c.from.ensures ∙ ap (λ n. rx_word n c.args.eop) c.len.ensures.value) c.requires.real follows
+
+pub overflow_sub-self : goal.overflow_sub-self
+overflow_sub-self c =
+    let i = c.self.inside in
+    let held : (controlling i.size (controllers_of i.seat.me.0)).held ≡ Some c.args.buf.number = subst (λ (n : ℕ). (controlling n (controllers_of i.seat.me.0)).held ≡ Some c.args.buf.number) c.self.invariant.size_is (subst (λ (s : ControllerSide). held_number s ≡ Some c.args.buf.number) (sym c.self.view_is) c.requires.held) in
+    some-free i.seat.table_id i.seat.me i.size i.serve i.free i.state c.self.invariant c.args.buf c.args.eop held
+
+pub invariant_of-self : goal.invariant_of-self
+invariant_of-self c =
+    let i = c.self.inside in
+    let held : (controlling i.size (controllers_of i.seat.me.0)).held ≡ Some c.args.buf.number = subst (λ (n : ℕ). (controlling n (controllers_of i.seat.me.0)).held ≡ Some c.args.buf.number) c.self.invariant.size_is (subst (λ (s : ControllerSide). held_number s ≡ Some c.args.buf.number) (sym c.self.view_is) c.requires.held) in
+    write_back-keeps i.seat.table_id i.seat.me i.size i.serve i.free i.state c.self.invariant c.args.buf c.args.eop held (1 + 2 * c.from.result + c.len.result * 4294967296) c.place_after-self-inside.result c.put_in.new.seat.me c.store.new.seat.me c.store.new.seat.table_id (word-is c.len.result c.from.result c.args.eop c.from.ensures ∙ ap (λ n. rx_word n c.args.eop) c.len.ensures.value) c.put_in.ensures.put c.store.ensures.2 (c.store.ensures.0 ∙ c.put_in.ensures.same.0) c.place_after-self-inside.ensures
+
+pub returns-clause-step : goal.returns-clause-step
+returns-clause-step c =
+    let i = c.self.inside in
+    let held : (controlling i.size (controllers_of i.seat.me.0)).held ≡ Some c.args.buf.number = subst (λ (n : ℕ). (controlling n (controllers_of i.seat.me.0)).held ≡ Some c.args.buf.number) c.self.invariant.size_is (subst (λ (s : ControllerSide). held_number s ≡ Some c.args.buf.number) (sym c.self.view_is) c.requires.held) in
+    write_back-steps i.seat.table_id i.seat.me i.size i.serve i.free i.state c.self.invariant c.args.buf c.args.eop held c.args.self.now (1 + 2 * c.from.result + c.len.result * 4294967296) c.put_in.new.seat.me c.store.new.seat.me c.store.new.seat.table_id c.self.view_is (word-is c.len.result c.from.result c.args.eop c.from.ensures ∙ ap (λ n. rx_word n c.args.eop) c.len.ensures.value) c.put_in.ensures.put c.store.ensures.2 (c.store.ensures.0 ∙ c.put_in.ensures.same.0)
+
+pub returns-clause-free : goal.returns-clause-free
+returns-clause-free c =
+    let i = c.self.inside in
+    let held : (controlling i.size (controllers_of i.seat.me.0)).held ≡ Some c.args.buf.number = subst (λ (n : ℕ). (controlling n (controllers_of i.seat.me.0)).held ≡ Some c.args.buf.number) c.self.invariant.size_is (subst (λ (s : ControllerSide). held_number s ≡ Some c.args.buf.number) (sym c.self.view_is) c.requires.held) in
+    write_back-counts i.seat.table_id i.seat.me i.size i.serve i.free i.state c.self.invariant c.args.buf c.args.eop held c.args.self.now (1 + 2 * c.from.result + c.len.result * 4294967296) c.put_in.new.seat.me c.store.new.seat.me c.store.new.seat.table_id c.self.view_is (word-is c.len.result c.from.result c.args.eop c.from.ensures ∙ ap (λ n. rx_word n c.args.eop) c.len.ensures.value) c.put_in.ensures.put c.store.ensures.2 (c.store.ensures.0 ∙ c.put_in.ensures.same.0)
+
+pub returns-clause-stored : goal.returns-clause-stored
+returns-clause-stored c =
+    let i = c.self.inside in
+    let held : (controlling i.size (controllers_of i.seat.me.0)).held ≡ Some c.args.buf.number = subst (λ (n : ℕ). (controlling n (controllers_of i.seat.me.0)).held ≡ Some c.args.buf.number) c.self.invariant.size_is (subst (λ (s : ControllerSide). held_number s ≡ Some c.args.buf.number) (sym c.self.view_is) c.requires.held) in
+    wrote i.seat.table_id i.seat.me i.size i.serve i.free i.state c.self.invariant c.args.buf c.args.eop held (λ (y : Controlled). y.stored) (1 + 2 * c.from.result + c.len.result * 4294967296) c.put_in.new.seat.me c.store.new.seat.me c.store.new.seat.table_id (word-is c.len.result c.from.result c.args.eop c.from.ensures ∙ ap (λ n. rx_word n c.args.eop) c.len.ensures.value) c.put_in.ensures.put c.store.ensures.2 (c.store.ensures.0 ∙ c.put_in.ensures.same.0)
+    ∙ ap (λ xs. xs ++ record { number = c.args.buf.number; payload = c.args.buf.bytes; eop = c.args.eop } ∷ []) (sym (words-are i.seat.table_id i.seat.me i.size i.serve i.free i.state c.self.invariant (λ (y : Controlled). y.stored)) ∙ ap stored c.self.view_is)
+
+pub returns-clause-held : goal.returns-clause-held
+returns-clause-held c =
+    let i = c.self.inside in
+    let held : (controlling i.size (controllers_of i.seat.me.0)).held ≡ Some c.args.buf.number = subst (λ (n : ℕ). (controlling n (controllers_of i.seat.me.0)).held ≡ Some c.args.buf.number) c.self.invariant.size_is (subst (λ (s : ControllerSide). held_number s ≡ Some c.args.buf.number) (sym c.self.view_is) c.requires.held) in
+    wrote i.seat.table_id i.seat.me i.size i.serve i.free i.state c.self.invariant c.args.buf c.args.eop held (λ (y : Controlled). y.held) (1 + 2 * c.from.result + c.len.result * 4294967296) c.put_in.new.seat.me c.store.new.seat.me c.store.new.seat.table_id (word-is c.len.result c.from.result c.args.eop c.from.ensures ∙ ap (λ n. rx_word n c.args.eop) c.len.ensures.value) c.put_in.ensures.put c.store.ensures.2 (c.store.ensures.0 ∙ c.put_in.ensures.same.0)
+
+pub returns-clause-state : goal.returns-clause-state
+returns-clause-state c =
+    let i = c.self.inside in
+    let held : (controlling i.size (controllers_of i.seat.me.0)).held ≡ Some c.args.buf.number = subst (λ (n : ℕ). (controlling n (controllers_of i.seat.me.0)).held ≡ Some c.args.buf.number) c.self.invariant.size_is (subst (λ (s : ControllerSide). held_number s ≡ Some c.args.buf.number) (sym c.self.view_is) c.requires.held) in
+    wrote i.seat.table_id i.seat.me i.size i.serve i.free i.state c.self.invariant c.args.buf c.args.eop held (λ (y : Controlled). y.state) (1 + 2 * c.from.result + c.len.result * 4294967296) c.put_in.new.seat.me c.store.new.seat.me c.store.new.seat.table_id (word-is c.len.result c.from.result c.args.eop c.from.ensures ∙ ap (λ n. rx_word n c.args.eop) c.len.ensures.value) c.put_in.ensures.put c.store.ensures.2 (c.store.ensures.0 ∙ c.put_in.ensures.same.0)
+    ∙ sym (words-are i.seat.table_id i.seat.me i.size i.serve i.free i.state c.self.invariant (λ (y : Controlled). y.state)) ∙ ap controller_state c.self.view_is
+
+pub returns-clause-quiet : goal.returns-clause-quiet
+returns-clause-quiet c =
+    let i = c.self.inside in
+    let held : (controlling i.size (controllers_of i.seat.me.0)).held ≡ Some c.args.buf.number = subst (λ (n : ℕ). (controlling n (controllers_of i.seat.me.0)).held ≡ Some c.args.buf.number) c.self.invariant.size_is (subst (λ (s : ControllerSide). held_number s ≡ Some c.args.buf.number) (sym c.self.view_is) c.requires.held) in
+    wrote i.seat.table_id i.seat.me i.size i.serve i.free i.state c.self.invariant c.args.buf c.args.eop held (λ (y : Controlled). y.still) (1 + 2 * c.from.result + c.len.result * 4294967296) c.put_in.new.seat.me c.store.new.seat.me c.store.new.seat.table_id (word-is c.len.result c.from.result c.args.eop c.from.ensures ∙ ap (λ n. rx_word n c.args.eop) c.len.ensures.value) c.put_in.ensures.put c.store.ensures.2 (c.store.ensures.0 ∙ c.put_in.ensures.same.0)
+    ∙ sym (words-are i.seat.table_id i.seat.me i.size i.serve i.free i.state c.self.invariant (λ (y : Controlled). y.still)) ∙ ap is_quiet c.self.view_is
