@@ -1,8 +1,5 @@
--- Fields of one digit, and of a length.
-use Rattle.std.proofs.Common.{◌≡◌, ℕ, zero, suc, ◌-◌, ◌<◌, true, ◌&&◌, List, [], ◌∷◌, length, get_or, nat_le, nat_lt, if◌then◌else◌, None, Some, refl, arith}
-use Rattle.std.specs.List.{list_all}
-use Rattle.std.specs.Char.{is_ascii_digit}
-use Rattle.std.proofs.lemmas.Bool.{and_parts}
+-- Fields of one digit.
+use Rattle.std.proofs.Common.{◌≡◌, ℕ, ◌-◌, ◌&&◌, List, [], ◌∷◌, length, get_or, nat_le, nat_lt, if◌then◌else◌, None, Some, refl, arith}
 use Rattle.wire_script.specs.Line.{digit_below}
 
 -- a field of another length is no digit
@@ -19,10 +16,3 @@ unfolding digit_below
 digit_below-one n [] one = absurd (omega arith)
 digit_below-one n (b ∷ []) one = refl
 digit_below-one n (b ∷ c ∷ more) one = absurd (omega arith)
-
--- each of some digits is a digit
-pub digit_at : (xs : List ℕ) (i : ℕ) → list_all is_ascii_digit xs ≡ true → i < length xs → is_ascii_digit (get_or xs i 0) ≡ true
-digit_at [] i all below = absurd (omega arith)
-digit_at (x ∷ xs) zero all below = (and_parts (is_ascii_digit x) (list_all is_ascii_digit xs) all).0
-digit_at (x ∷ xs) (suc i) all below =
-    digit_at xs i (and_parts (is_ascii_digit x) (list_all is_ascii_digit xs) all).1 (omega arith)

@@ -3,3 +3,5 @@ pub mod CutLemmas
 pub mod SplitLemmas
 pub mod Steps
 pub mod RoundTrip
+pub mod Meaning
+pub mod HexLength

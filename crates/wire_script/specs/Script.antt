@@ -1,6 +1,6 @@
 -- What a text says as a script, and the text of frames.
-use Rattle.std.specs.Prelude.{ℕ, ◌+◌, ◌==◌, if◌then◌else◌, List, [], ◌∷◌, ◌++◌, Option, Some, None, Result, Ok, Err}
-use Rattle.std.specs.List.{flat_map}
+use Rattle.std.specs.Prelude.{◌≡◌, ◌⊎◌, ℕ, ◌+◌, ◌≤◌, ◌==◌, if◌then◌else◌, List, [], ◌∷◌, ◌++◌, length, All, Option, Some, None, IsSome, Result, Ok, Err, IsOk}
+use Rattle.std.specs.List.{enumerate_from, filter_map, flat_map}
 use Rattle.hex.specs.Hex.{encode_lower}
 use Rattle.wire_script.specs.declared.error.ScriptError.{ScriptError}
 use Rattle.wire_script.specs.declared.error.ScriptError.TheVariants.{TooMany}
@@ -25,6 +25,41 @@ lines_say k earlier (line ∷ lines) = and_then k earlier (line_says k line) (λ
 -- the frames that a text says, or its first fault
 abbrev pub script_of : List ℕ → Result (List Frame) ScriptError
 script_of text = lines_say 1 0 (parts 10 text)
+
+-- a text's lines with their numbers
+abbrev pub numbered_lines : List ℕ → List (ℕ × List ℕ)
+numbered_lines text = enumerate_from 1 (parts 10 text)
+
+-- the line of this number has no fault
+abbrev pub IsGood : ℕ × List ℕ → Type 0
+IsGood line = IsOk (line_says line.0 line.1)
+
+-- the frame that was said, if one was
+abbrev pub said_frame : Result (Option Frame) ScriptError → Option Frame
+said_frame (Ok said) = said
+said_frame (Err e) = None
+
+-- the frames of lines
+abbrev pub frames_in : List (ℕ × List ℕ) → List Frame
+frames_in lines = filter_map (λ line. said_frame (line_says line.0 line.1)) lines
+
+-- no line has a fault, and these are their frames
+pub record Says (text : List ℕ) (frames : List Frame) : Type 0 where
+  pub good : All IsGood (numbered_lines text)
+  pub same : frames ≡ frames_in (numbered_lines text)
+  pub room : length frames ≤ MAX_FRAMES
+
+-- these lines have no fault, and the line k after them has this one, or it says one frame too many
+pub record StopsAt (before : List (ℕ × List ℕ)) (k : ℕ) (line : List ℕ) (e : ScriptError) : Type 0 where
+  pub good : All IsGood before
+  pub fault : (line_says k line ≡ Err e)
+      ⊎ ((length (frames_in before) ≡ MAX_FRAMES) × IsSome (said_frame (line_says k line)) × (e ≡ TooMany k))
+
+-- this is the text's first fault
+abbrev pub Refuses : List ℕ → ScriptError → Type 0
+Refuses text e =
+    (before : List (ℕ × List ℕ)) × (k : ℕ) × (line : List ℕ) × (after : List (ℕ × List ℕ))
+    × (numbered_lines text ≡ before ++ (k, line) ∷ after) × StopsAt before k line e
 
 -- the line of a frame
 unfoldable pub line_for : Frame → List ℕ

@@ -1,8 +1,9 @@
 //! The fields of a line, each read alone. A refusal names the line that it is given.
 
-ghost use Rattle.std.specs.Prelude.{◌≡◌, ◌<◌, ◌≤◌, IfOk, IfSome, vec_len};
+ghost use Rattle.std.specs.Prelude.{◌≡◌, ◌*◌, ◌<◌, ◌≤◌, IfOk, IfSome, length, vec_len};
 ghost use Rattle.std.specs.Char.{is_ascii_digit};
 ghost use Rattle.std.specs.List.{list_all};
+ghost use Rattle.hex.specs.Hex.{is_hex_digit};
 ghost use Rattle.wire_script.specs.Line.{byte_in, digit_below, fill_in, hex_in, is_number, len_in, port_in, queue_in};
 ghost use Rattle.wire_script.specs.ScriptError.{AnswersAs};
 ghost use Rattle.wire_script.specs.declared.frame.TheConstants.{MAX_FRAME, MIN_FRAME, PORTS, QUEUES};
@@ -42,6 +43,34 @@ pub fn queue_of(field: &[u8], line: u64) -> Result<u8, ScriptError>
     digit_below(field, QUEUES).ok_or(ScriptError::Queue { line })
 }
 
+fn is_hex_digit(byte: u8) -> bool
+    ensures { result ≡ is_hex_digit byte }
+{
+    matches!(byte, b'0'..=b'9' | b'A'..=b'F' | b'a'..=b'f')
+}
+
+fn are_hex_digits(field: &[u8]) -> bool
+    ensures { result ≡ list_all is_hex_digit field.now }
+{
+    field.iter().all(|byte| is_hex_digit(*byte))
+}
+
+// What is wrong with more digits than a frame has, found without room for their bytes.
+#[tactic(auto, using(crate::proofs::HexLength::long_digits, crate::proofs::HexLength::no_digits))]
+fn long_fault(field: &[u8], line: u64) -> ScriptError
+    requires { 2 * MAX_FRAME < length field.now }
+    ensures { hex_in line field.now ≡ Err result }
+{
+    if field.len() % 2 != 0 {
+        return ScriptError::Bytes { line };
+    }
+    if are_hex_digits(field) {
+        ScriptError::FrameLength { line }
+    } else {
+        ScriptError::Bytes { line }
+    }
+}
+
 /// The bytes that pairs of hex digits give.
 #[tactic(auto, unfolding(crate::specs::Line::hex_in, crate::specs::Line::sized))]
 pub fn hex_of(alloc: Global, field: &[u8], line: u64) -> Result<Vec<u8>, ScriptError>
@@ -49,6 +78,9 @@ pub fn hex_of(alloc: Global, field: &[u8], line: u64) -> Result<Vec<u8>, ScriptE
     ensures least { IfOk result (λ bytes. MIN_FRAME ≤ vec_len bytes) }
     ensures greatest { IfOk result (λ bytes. vec_len bytes ≤ MAX_FRAME) }
 {
+    if field.len() > 2 * MAX_FRAME {
+        return Err(long_fault(field, line));
+    }
     let bytes = match hex::decode(alloc, field) {
         Ok(bytes) => bytes,
         Err(FromHexError::OutOfMemory) => return Err(ScriptError::Memory),

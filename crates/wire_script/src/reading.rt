@@ -1,7 +1,7 @@
 //! Reading a script.
 
-ghost use Rattle.std.specs.Prelude.{◌≡◌, ◌≢◌, ◌++◌, ◌⊎◌, length, IfErr, IsSome, OnOk, option_to_list};
-ghost use Rattle.wire_script.specs.Script.{script_of};
+ghost use Rattle.std.specs.Prelude.{◌≡◌, ◌≢◌, ◌++◌, ◌⊎◌, length, IfErr, IfOk, IsSome, OnOk, option_to_list};
+ghost use Rattle.wire_script.specs.Script.{Refuses, Says, script_of};
 ghost use Rattle.wire_script.specs.ScriptError.{Answers};
 ghost use Rattle.wire_script.specs.declared.error.ScriptError.TheVariants.{Memory, TooMany};
 ghost use Rattle.wire_script.specs.declared.script.TheConstants.{MAX_FRAMES};
@@ -18,6 +18,18 @@ use std::alloc::Global;
 ///
 /// It goes over the text once and makes no copy of it.
 pub fn parse(alloc: Global, text: &[u8]) -> Result<Script, ScriptError>
+    // The one answer.
+    ensures exact { Answers result (script_of text.now) }
+
+    // What that is: no line has a fault, and the frames are theirs; or the lines before the one that
+    // is refused have no fault.
+    ensures frames { IfOk result (Says text.now) }
+    ensures refused { IfErr result (λ e. (e ≡ Memory) ⊎ Refuses text.now e) }
+{
+    read(alloc, text)
+}
+
+fn read(alloc: Global, text: &[u8]) -> Result<Script, ScriptError>
     ensures { Answers result (script_of text.now) }
 {
     let mut frames = Vec::new(alloc);

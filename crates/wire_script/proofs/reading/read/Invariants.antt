@@ -2,7 +2,7 @@ use Rattle.std.proofs.Common.{◌+◌, ◌≤◌, length}
 use Rattle.wire_script.specs.Script.{script_of}
 use Rattle.wire_script.specs.Split.{later_parts}
 use Rattle.wire_script.proofs.Steps.{Reads, left_len}
-use Rattle.wire_script.proofs.reading.parse.Given as goal
+use Rattle.wire_script.proofs.reading.read.Given as goal
 
 abbrev pub invariant-loop-rest : goal.invariant-loop-rest
 invariant-loop-rest l = record {
