@@ -10,3 +10,7 @@ pub mod Reached
 pub mod FrameLaws
 pub mod Cuts
 pub mod Following
+pub mod TxKept
+pub mod TxStepping
+pub mod TxFixed
+pub mod TxReached

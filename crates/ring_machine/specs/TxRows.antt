@@ -1,5 +1,5 @@
 -- Worked rows of transmit rings: what schedules tell, computed from the definitions alone.
-use Rattle.std.specs.Prelude.{◌≡◌, ℕ, suc, zero, ◌+◌, Bool, true, false, List, [], ◌∷◌, ◌++◌, map, length, Option, Some, None, refl}
+use Rattle.std.specs.Prelude.{◌≡◌, ℕ, suc, zero, ◌+◌, Bool, true, false, List, [], ◌∷◌, map, length, Option, Some, None, refl}
 use Rattle.ring_machine.specs.declared.states.Completion.TheVariants as by
 use Rattle.ring_machine.specs.declared.steps.ControlStep.TheVariants.{AskEnable, LookAsked, Answer, LookAnswered, AskDisable}
 use Rattle.ring_machine.specs.declared.steps.TxStep.{TxStep}

@@ -1,4 +1,4 @@
-//! What holds of every receive ring that a schedule gives, as contracts of functions that do nothing.
+//! What holds of every ring that a schedule gives, as contracts of functions that do nothing.
 ghost use Rattle.std.specs.Prelude.{◌≡◌, ℕ, ◌<◌, List, [], ◌∷◌, map, length, Some, slice_get};
 ghost use Rattle.ring_machine.specs.Lists.{IsBeginning};
 ghost use Rattle.ring_machine.specs.Ring.{Bytes, RxRing, Segment};
@@ -6,6 +6,11 @@ ghost use Rattle.ring_machine.specs.declared.steps.RxStep.{RxStep};
 ghost use Rattle.ring_machine.specs.Lawful.{IsLawfulRx};
 ghost use Rattle.ring_machine.specs.Schedules.{IsReachable, after_all};
 ghost use Rattle.ring_machine.specs.Laws.{IsConcluded, Later};
+ghost use Rattle.ring_machine.specs.TxRing.{Posting, TxRing};
+ghost use Rattle.ring_machine.specs.declared.steps.TxStep.{TxStep};
+ghost use Rattle.ring_machine.specs.TxLawful.{IsLawfulTx};
+ghost use Rattle.ring_machine.specs.TxSchedules.{IsTxReachable, tx_after_all};
+ghost use Rattle.ring_machine.specs.TxLaws.{IsTxConcluded, TxLater};
 ghost use Rattle.ring_machine.specs.Frames.{cut, join_pieces, piece_of, frames, AllFollow, HasFrameLength};
 
 /// Every ring of two places or more that a schedule gives has a lawful ledger and a lawful owner map, whether its
@@ -34,4 +39,22 @@ pub fn frames_are_rejoined()
     ensures segments { (b : ℕ) (f : Bytes) (ss : List (Segment Bytes)) → 0 < b → 0 < length f → map piece_of ss ≡ cut b f → frames ss ≡ f ∷ [] }
     ensures beginnings { (xs : List (Segment Bytes)) (ys : List (Segment Bytes)) → IsBeginning xs ys → IsBeginning (frames xs) (frames ys) }
     ensures lengths { (n : ℕ) (ss : List (Segment Bytes)) → AllFollow n ss → (k : ℕ) (f : Bytes) → slice_get (frames ss) k ≡ Some f → HasFrameLength f }
+{}
+
+/// Every transmit ring of two places or more that a schedule gives has a lawful ledger and a lawful owner map, however it
+/// reports. Where its controller answered a disabling, the last frame is whole, no report is owed, and the head tells how
+/// many segments were sent until it is cleared. Where all that was posted is cleaned, all was sent, in order.
+pub fn tx_rings_are_lawful()
+    ensures bytes { (n : ℕ) (r : TxRing Bytes) → 1 < n → IsTxReachable Bytes n r → IsLawfulTx Bytes r }
+    ensures lengths { (n : ℕ) (r : TxRing ℕ) → 1 < n → IsTxReachable ℕ n r → IsLawfulTx ℕ r }
+    ensures concluded_bytes { (n : ℕ) (r : TxRing Bytes) → 1 < n → IsTxReachable Bytes n r → IsTxConcluded r }
+    ensures concluded_lengths { (n : ℕ) (r : TxRing ℕ) → 1 < n → IsTxReachable ℕ n r → IsTxConcluded r }
+{}
+
+/// Whatever schedule goes on from a transmit ring that a schedule gave: the lists of its epoch only grow. What is posted
+/// is fixed once the driver is no longer open, what is sent once the controller answered the disabling, and what is
+/// cleaned once the driver saw the disabling answered. The epochs that ended stay as they were.
+pub fn tx_epochs_are_fixed()
+    ensures bytes { (n : ℕ) (r : TxRing Bytes) (more : List (TxStep (Posting Bytes))) → 1 < n → IsTxReachable Bytes n r → TxLater r (tx_after_all r more) }
+    ensures lengths { (n : ℕ) (r : TxRing ℕ) (more : List (TxStep (Posting ℕ))) → 1 < n → IsTxReachable ℕ n r → TxLater r (tx_after_all r more) }
 {}

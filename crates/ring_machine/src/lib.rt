@@ -11,7 +11,10 @@ mod notes;
 mod states;
 mod steps;
 
-pub use laws::{epochs_are_fixed, frames_are_rejoined, rings_are_lawful};
+pub use laws::{
+    epochs_are_fixed, frames_are_rejoined, rings_are_lawful, tx_epochs_are_fixed,
+    tx_rings_are_lawful,
+};
 pub use limits::{BUFFER_BYTES, LEAST_FRAME, LEAST_RING, MOST_FRAME, MOST_RING, MOST_SEGMENTS};
 pub use notes::{FetchedSegment, Note, TakenSegment};
 pub use states::{Completion, ControllerState, DriverState, Owner};
