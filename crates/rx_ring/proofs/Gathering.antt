@@ -62,8 +62,8 @@ zero-words (suc m) (suc k) = zero-words m k
 within-words : (k m len : ℕ) → len ≡ m → k < m → k < len
 within-words k m len e h = omega arith
 
-opening-registers : (n : ℕ) → 0 < n → HasRegisters n (registers_of {Payload = Bytes} (opening n true)) (opening_words_of n)
-opening-registers n pos = let within : n + 2 < length (replicate (n + 4) 0) = within-words (n + 2) (n + 4) (length (replicate (n + 4) 0)) (length-replicate (n + 4) 0) (omega arith) in record {
+opening-registers : (n : ℕ) → 0 < n → (n + 2) < length {A = ℕ} (replicate (n + 4) 0) → HasRegisters n (registers_of {Payload = Bytes} (opening n true)) (opening_words_of n)
+opening-registers n pos within = record {
   head = get_or-set_other (replicate (n + 4) 0) (n + 2) n 2 0 (λ e. omega arith) ∙ zero-words (n + 4) n;
   tail = get_or-set_other (replicate (n + 4) 0) (n + 2) (n + 1) 2 0 (λ e. omega arith) ∙ zero-words (n + 4) (n + 1) ∙ sym (mod-eq_of_lt pos);
   control = get_or-set_same (replicate (n + 4) 0) (n + 2) 2 0 within;
@@ -81,7 +81,7 @@ opening-lies n words homes pos w count = record {
   reachable = record { enabled = true; schedule = []; made = refl };
   driver = refl;
   controller = refl;
-  registers = subst (λ (ws : List ℕ). HasRegisters n (registers_of {Payload = Bytes} (opening n true)) ws) (sym w) (opening-registers n (omega arith));
+  registers = subst (λ (ws : List ℕ). HasRegisters n (registers_of {Payload = Bytes} (opening n true)) ws) (sym w) (opening-registers n (omega arith) (within-words (n + 2) (n + 4) (length {A = ℕ} (replicate (n + 4) 0)) (length-replicate (n + 4) 0) (omega arith)));
   items = record { words = λ k a b. absurd (omega arith); slots = λ k a b. absurd (omega arith) };
   follow = AllFollow-nil n;
 }

@@ -11,3 +11,4 @@ pub mod DriverCalls
 pub mod PollCalls
 pub mod ControllerCalls
 pub mod MeetCalls
+pub mod Whole

@@ -98,6 +98,8 @@ module _ (table : TableId) (me : Seated) (size fill next out : ℕ) (state : Dri
     real = t.real;
     follows = subst (λ (n : ℕ). Follows n (unfinished (taken (side table me))) t.buf.bytes (eop_of r)) (count ∙ sym inv.size_is) t.follows;
     taken_grew = ap (λ (x : Driven). x.taken) (driving-snoc (drivers_of me.0) (Taken next r t.buf));
+    room = subst (λ (x : Driven). length x.posted + 1 < table.slots + length x.taken) (sym (driving-snoc (drivers_of me.0) (Taken next r t.buf)))
+        (let o = inv.out_is in let m = inv.room in let z = inv.size_is in let e = taken-more (segment_of r t.buf) in omega arith);
     same = same-after (Taken next r t.buf) refl refl refl;
   }
 

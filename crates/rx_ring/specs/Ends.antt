@@ -4,7 +4,7 @@ use Rattle.atomic_table.specs.Seated.{TableId}
 use Rattle.buffer_pool.specs.Buffer.{Buffer, buffer}
 use Rattle.ring_machine.specs.declared.states.DriverState.{DriverState}
 use Rattle.ring_machine.specs.declared.states.ControllerState.{ControllerState}
-use Rattle.ring_machine.specs.Ring.{Bytes, Segment, RxLedger, is_live}
+use Rattle.ring_machine.specs.Ring.{Bytes, Segment, RxLedger, is_open, is_live, is_serving}
 use Rattle.ring_machine.specs.Frames.{Follows, unfinished}
 use Rattle.ring_machine.specs.Agreement.{rx_word}
 use Rattle.rx_ring.specs.declared.view.DriverEvent.{DriverEvent}
@@ -111,7 +111,7 @@ pub record SawNotDone (old new : DriverSide) : Type 0 where
   pub taken_same : taken new ≡ taken old
   pub same : SamePosted old new
 
--- the next descriptor was loaded, and had DD: the segment lies in the buffer that was posted next in order, with the length and EOP of the word, and it follows the frame so far
+-- the next descriptor was loaded, and had DD: the segment lies in the buffer that was posted next in order, with the length and EOP of the word, and it follows the frame so far; so there is room for one more
 pub record TookSegment (old : DriverSide) (buf : Buffer) (eop : Bool) (new : DriverSide) : Type 0 where
   pub live : is_live (driver_state old) ≡ true
   pub some_out : length (taken old) < length (posted old)
@@ -120,6 +120,7 @@ pub record TookSegment (old : DriverSide) (buf : Buffer) (eop : Bool) (new : Dri
   pub real : buf ≡ buffer buf.number buf.bytes
   pub follows : Follows (driver_size old) (unfinished (taken old)) buf.bytes eop
   pub taken_grew : taken new ≡ taken old ++ record { number = buf.number; payload = buf.bytes; eop = eop } ∷ []
+  pub room : length (posted new) + 1 < driver_size new + length (taken new)
   pub same : SamePosted old new
 
 pub record SawEmpty (old new : DriverSide) : Type 0 where
@@ -153,6 +154,19 @@ pub record Made (n : ℕ) (ring : TableId) (d : DriverSide) (c : ControllerSide)
   pub controller_own : c.table ≡ ring
   pub driver_empty : d.events ≡ []
   pub controller_empty : c.events ≡ []
+
+-- a driver's end of this ring, which may post and publish
+pub record MayPost (ring : TableId) (d : DriverSide) : Type 0 where
+  pub own : d.table ≡ ring
+  pub opened : is_open (driver_state d) ≡ true
+
+-- a controller's end of this ring, which serves it and stands between two frames
+pub record IsBetweenFrames (ring : TableId) (c : ControllerSide) : Type 0 where
+  pub own : c.table ≡ ring
+  pub serving : is_serving (controller_state c) ≡ true
+  pub unheld : held_number c ≡ None
+  pub storing : is_quiet c ≡ false
+  pub whole : unfinished (stored c) ≡ []
 
 -- what the fields of an end keep: the record amounts to the places, the counts and the slots that the seat has
 pub record IsDriverEnd (table : TableId) (me : Seated) (size fill next out : ℕ) (state : DriverState) : Type 0 where

@@ -1,0 +1,15 @@
+-- A frame in one segment.
+use Rattle.std.proofs.Common.{◌≡◌, ℕ, ◌+◌, ◌<◌, ◌≤◌, Bool, true, List, [], length, sym, refl, subst, arith}
+use Rattle.ring_machine.specs.Ring.{Bytes, Segment}
+use Rattle.ring_machine.specs.Frames.{Follows}
+
+-- a whole frame of one segment may follow where nothing is unfinished
+pub follows-whole : (n : ℕ) (before : List (Segment Bytes)) (xs : Bytes) → 8 ≤ n → before ≡ [] → 14 ≤ length xs → length xs ≤ 2048 → Follows n before xs true
+follows-whole n before xs big none least most = subst (λ (b : List (Segment Bytes)). Follows n b xs true) (sym none) (record {
+  some_bytes = omega arith;
+  few_bytes = most;
+  segments = omega arith;
+  descriptors = omega arith;
+  most = omega arith;
+  least = λ e. omega arith;
+})
