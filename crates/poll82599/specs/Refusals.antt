@@ -1,0 +1,27 @@
+-- The numbers of refusals, and what they are for.
+use Rattle.std.specs.Prelude.{◌≡◌, ◌⊎◌, ℕ}
+use Rattle.poll82599.specs.declared.refusal.Refusal.{Refusal}
+use Rattle.poll82599.specs.declared.refusal.Refusal.TheVariants.{Ring, Stock, FrameLength, Thread, Hex, Input, Memory, Output}
+use Rattle.rx_ring.specs.declared.error.RingError.TheVariants.{Memory as RingMemory}
+use Rattle.rx_ring.specs.Refusal.{refusal_number as ring_number}
+use Rattle.buffer_pool.specs.declared.error.PoolError.TheVariants.{Memory as StockMemory}
+use Rattle.buffer_pool.specs.Refusal.{refusal_number as stock_number}
+
+-- a ring and a stock have numbers of their own
+abbrev pub refusal_number : Refusal → ℕ
+refusal_number (Ring error) = ring_number error
+refusal_number (Stock error) = stock_number error
+refusal_number FrameLength = 41
+refusal_number Thread = 63
+refusal_number Hex = 81
+refusal_number Input = 82
+refusal_number Memory = 83
+refusal_number Output = 84
+
+-- no memory for the ring or its buffers, or no thread for one of its ends
+abbrev pub IsUnmade : Refusal → Type 0
+IsUnmade e = (e ≡ Ring RingMemory) ⊎ (e ≡ Stock StockMemory) ⊎ (e ≡ Thread)
+
+-- no memory, no thread, or no output
+abbrev pub IsWant : Refusal → Type 0
+IsWant e = IsUnmade e ⊎ (e ≡ Memory) ⊎ (e ≡ Output)

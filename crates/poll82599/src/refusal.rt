@@ -1,0 +1,80 @@
+//! Why a command was refused.
+ghost use Rattle.std.specs.Prelude.{◌≡◌};
+ghost use Rattle.poll82599.specs.Refusals.{refusal_number};
+ghost use Rattle.poll82599.specs.declared.refusal.Refusal.TheVariants.{Ring, Stock, Memory};
+
+use buffer_pool::PoolError;
+use rx_ring::RingError;
+use std::alloc::AllocError;
+use thiserror::Error;
+
+/// Why a command was refused. It is printed as `refused`, its number and its words.
+#[derive(Clone, Copy, Debug, PartialEq, Eq, Error)]
+pub enum Refusal {
+    /// The ring refused.
+    #[error(transparent)]
+    Ring(RingError),
+    /// The stock of buffers refused.
+    #[error(transparent)]
+    Stock(PoolError),
+    /// The frame is shorter than an Ethernet header, or longer than what is carried.
+    #[error("frame length")]
+    FrameLength,
+    /// A thread could not be started.
+    #[error("thread")]
+    Thread,
+    /// The argument is no even number of hexadecimal digits.
+    #[error("hex")]
+    Hex,
+    /// Standard input could not be read.
+    #[error("input")]
+    Input,
+    /// Memory was refused to the program itself.
+    #[error("memory")]
+    Memory,
+    /// Standard output could not be written. A beginning of the output may have gone out.
+    #[error("output")]
+    Output,
+}
+
+impl Refusal {
+    /// The number of the refusal. Those of a ring and of a stock are their own.
+    pub fn number(&self) -> u8
+        ensures { result ≡ refusal_number self.now }
+    {
+        match self {
+            Refusal::Ring(error) => error.number(),
+            Refusal::Stock(error) => error.number(),
+            Refusal::FrameLength => 41,
+            Refusal::Thread => 63,
+            Refusal::Hex => 81,
+            Refusal::Input => 82,
+            Refusal::Memory => 83,
+            Refusal::Output => 84,
+        }
+    }
+}
+
+impl From<RingError> for Refusal {
+    ghost from_gives = { λ error refusal. refusal ≡ Ring error };
+
+    fn from(error: RingError) -> Refusal {
+        Refusal::Ring(error)
+    }
+}
+
+impl From<PoolError> for Refusal {
+    ghost from_gives = { λ error refusal. refusal ≡ Stock error };
+
+    fn from(error: PoolError) -> Refusal {
+        Refusal::Stock(error)
+    }
+}
+
+impl From<AllocError> for Refusal {
+    ghost from_gives = { λ _ refusal. refusal ≡ Memory };
+
+    fn from(_: AllocError) -> Refusal {
+        Refusal::Memory
+    }
+}

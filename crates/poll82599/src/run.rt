@@ -1,0 +1,115 @@
+//! What a command line does to the three streams, and the status that it ends with.
+ghost use Rattle.std.specs.Prelude.{◌≡◌, ◌⊎◌, ℕ, List, Ok, IfErr, OnOk};
+ghost use Rattle.std.specs.Io.KnownBytes.{Appends, Keeps};
+ghost use Rattle.poll82599.specs.Answers.{answer_of, line_of};
+ghost use Rattle.poll82599.specs.Refusals.{IsWant};
+
+use crate::command::{Request, request_of};
+use crate::frame::frame_of;
+use crate::once::once;
+use crate::refusal::Refusal;
+use clap::error::ErrorKind;
+use std::alloc::Global;
+use std::io::{Read, Write};
+use std::sync::Wait;
+use std::thread::Threads;
+
+/// Done.
+pub const DONE: u8 = 0;
+
+/// The command was refused.
+pub const REFUSED: u8 = 1;
+
+/// The command line asks for nothing that the program knows.
+pub const MISUSED: u8 = 2;
+
+/// Runs the program on the words after its name, and answers its exit status.
+///
+/// Results and help go to `output`, with status 0. A refusal goes to `faults` as one line, `refused` with its number
+/// and its words, with status 1. What is wrong with the command line goes to `faults`, with status 2. A failed write
+/// to `faults` changes no status.
+pub fn run<R: Threads + Wait + Sync, I: Read, W: Write, E: Write>(
+    rt: &R,
+    alloc: Global,
+    words: &[String],
+    _input: &mut I,
+    output: &mut W,
+    faults: &mut E,
+) -> u8
+    ensures status { (result ≡ DONE) ⊎ (result ≡ REFUSED) ⊎ (result ≡ MISUSED) }
+    ensures done { result ≡ DONE → Keeps (E.contents faults.old) (E.contents faults.new) }
+    ensures misused { result ≡ MISUSED → Keeps (W.contents output.old) (W.contents output.new) }
+{
+    let request = match request_of(alloc, words) {
+        Ok(request) => request,
+        Err(error) => return tell(&error, output, faults),
+    };
+    match perform(rt, alloc, request, output) {
+        Ok(()) => DONE,
+        Err(refusal) => refuse(faults, refusal),
+    }
+}
+
+/// Does what was asked for. What it refuses before it prints leaves `output` as it was.
+pub fn perform<R: Threads + Wait + Sync, W: Write>(
+    rt: &R,
+    alloc: Global,
+    request: Request<'_>,
+    output: &mut W,
+) -> Result<(), Refusal>
+    ensures done { OnOk result ((text : List ℕ) × (answer_of request.entry ≡ Ok text)
+        × Appends (W.contents output.old) (W.contents output.new) text) }
+    ensures refused { IfErr result (λ e. (answer_of request.entry ≡ Err e) ⊎ IsWant e) }
+    ensures quiet { IfErr result (λ e. (e ≡ Refusal.Output)
+        ⊎ Keeps (W.contents output.old) (W.contents output.new)) }
+{
+    match request {
+        Request::Once { digits } => {
+            let frame = frame_of(alloc, digits)?;
+            let passage = once(rt, alloc, frame.as_slice())?;
+            print_frame(alloc, passage.buf.bytes(), output)
+        }
+    }
+}
+
+/// Prints a frame as lower case hex digits, in a line of its own.
+fn print_frame<W: Write>(alloc: Global, frame: &[u8], output: &mut W) -> Result<(), Refusal>
+    ensures done { OnOk result (Appends (W.contents output.old) (W.contents output.new) (line_of frame.now)) }
+    ensures refused { IfErr result (λ e. (e ≡ Refusal.Output)
+        ⊎ ((e ≡ Refusal.Memory) × Keeps (W.contents output.old) (W.contents output.new))) }
+{
+    let mut line = hex::encode(alloc, frame)?;
+    line.push('\n')?;
+    output
+        .write_all(line.as_str().as_bytes())
+        .map_err(|_| Refusal::Output)?;
+    output.flush().map_err(|_| Refusal::Output)
+}
+
+/// Prints a refusal, and answers its status.
+pub fn refuse<E: Write>(faults: &mut E, refusal: Refusal) -> u8
+    ensures { result ≡ REFUSED }
+{
+    let number = refusal.number();
+    let _ = writeln!(faults, "refused {number} {refusal}");
+    REFUSED
+}
+
+/// Prints what `clap` says in place of a request, and answers the status.
+fn tell<W: Write, E: Write>(error: &clap::Error, output: &mut W, faults: &mut E) -> u8
+    ensures status { (result ≡ DONE) ⊎ (result ≡ REFUSED) ⊎ (result ≡ MISUSED) }
+    ensures done { result ≡ DONE → Keeps (E.contents faults.old) (E.contents faults.new) }
+    ensures misused { result ≡ MISUSED → Keeps (W.contents output.old) (W.contents output.new) }
+{
+    if error.kind() == ErrorKind::OutOfMemory {
+        return refuse(faults, Refusal::Memory);
+    }
+    if error.use_stderr() {
+        let _ = write!(faults, "{error}");
+        return MISUSED;
+    }
+    match write!(output, "{error}").and_then(|()| output.flush()) {
+        Ok(()) => DONE,
+        Err(_) => refuse(faults, Refusal::Output),
+    }
+}
