@@ -1,0 +1,160 @@
+-- What a call that decodes answers, for a form and the descriptors that have it.
+use Rattle.std.proofs.Common.{◌≡◌, ℕ, ◌+◌, ◌*◌, ◌<◌, ◌≤◌, ◌^◌, ◌↔◌, List, [], ◌∷◌, length, drop, Result, Ok, Err, IfOk, refl, sym, ap, subst, ◌∙◌, arith}
+use Rattle.byteorder.specs.Endian.{little_number}
+use Rattle.descriptor.specs.declared.error.DescError.{DescError}
+use Rattle.descriptor.specs.declared.error.DescError.TheVariants.{Length, Reserved, Kind, Size}
+use Rattle.descriptor.specs.Refusal.{refusal_number, IsLowest}
+use Rattle.descriptor.specs.Layout.{Name, Form, Field, Content, fixed, kind, flag, flag_under, number, Keeps, KeepsField, KeepsWords, KeepsBytes, HasWords, EachField, read, first_word, second_word, bytes_of}
+use Rattle.descriptor.proofs.Bytes.{first-read, second-read, length-bytes_of}
+use Rattle.descriptor.proofs.Fields.{IsWhole, IsNarrow, IsKept, AreSame, keeps-form, words-same, first-lt, second-lt}
+use Rattle.descriptor.proofs.Refusals.{Decodes, Decodes-ok, Decodes-err}
+
+-- ---- the lowest refusal of two words
+
+keeps-length : (w : ℕ) (c : Content) (n : ℕ) → Keeps Length w c n
+keeps-length w (fixed _) n = tt
+keeps-length w (kind _) n = tt
+keeps-length w flag n = tt
+keeps-length w (flag_under _) n = tt
+keeps-length w (number _ _) n = tt
+
+each-length : (w : ℕ) (fs : List Field) → EachField (KeepsField Length w) fs
+each-length w [] = tt
+each-length w (f ∷ fs) = (keeps-length w f.content (read w f), each-length w fs)
+
+words-length : (form : Form) (first second : ℕ) → KeepsWords form first second Length
+words-length form first second = record { in_first = each-length first form.first; in_second = each-length second form.second }
+
+pub lowest-reserved : (form : Form) (first second : ℕ) → ¬ KeepsWords form first second Reserved → IsLowest (KeepsWords form first second) Reserved
+lowest-reserved form first second broken = record {
+  broken = broken;
+  lowest = λ lower below. elim lower as (λ e. refusal_number e < 2 → KeepsWords form first second e) [
+    | Length ↦ λ h. words-length form first second
+    | Reserved ↦ λ h. absurd (omega arith)
+    | Kind ↦ λ h. absurd (omega arith)
+    | Size ↦ λ h. absurd (omega arith)
+  ] below;
+}
+
+pub lowest-kind : (form : Form) (first second : ℕ) → KeepsWords form first second Reserved → ¬ KeepsWords form first second Kind
+    → IsLowest (KeepsWords form first second) Kind
+lowest-kind form first second reserved broken = record {
+  broken = broken;
+  lowest = λ lower below. elim lower as (λ e. refusal_number e < 3 → KeepsWords form first second e) [
+    | Length ↦ λ h. words-length form first second
+    | Reserved ↦ λ h. reserved
+    | Kind ↦ λ h. absurd (omega arith)
+    | Size ↦ λ h. absurd (omega arith)
+  ] below;
+}
+
+pub lowest-size : (form : Form) (first second : ℕ) → KeepsWords form first second Reserved → KeepsWords form first second Kind
+    → ¬ KeepsWords form first second Size → IsLowest (KeepsWords form first second) Size
+lowest-size form first second reserved kinds broken = record {
+  broken = broken;
+  lowest = λ lower below. elim lower as (λ e. refusal_number e < 4 → KeepsWords form first second e) [
+    | Length ↦ λ h. words-length form first second
+    | Reserved ↦ λ h. reserved
+    | Kind ↦ λ h. kinds
+    | Size ↦ λ h. absurd (omega arith)
+  ] below;
+}
+
+lowest-moved : (K K' : DescError → Type 0) → ((e : DescError) → K e → K' e) → ((e : DescError) → K' e → K e) → (e : DescError) → IsLowest K e → IsLowest K' e
+lowest-moved K K' onto back e h = record { broken = λ k. h.broken (back e k); lowest = λ lower below. onto lower (h.lowest lower below) }
+
+IfOk-map : {D : Type 0} (P Q : D → Type 0) → ((d : D) → P d → Q d) → (r : Result D DescError) → IfOk r P → IfOk r Q
+IfOk-map P Q onto (Ok d) h = onto d h
+IfOk-map P Q onto (Err e) h = tt
+
+-- ---- a form, and the descriptors that have it
+
+pub record IsCodec {D : Type 0} (form : Form) (numbers : D → Name → ℕ) : Type 0 where
+  pub whole : IsWhole form
+  pub narrow : (d : D) → IsNarrow form (numbers d)
+  pub kept : (d : D) (e : DescError) → IsKept form (numbers d) e
+  pub alone : (d other : D) → AreSame form (numbers d) (numbers other) → d ≡ other
+
+module _ {D : Type 0} (form : Form) (numbers : D → Name → ℕ) (codec : IsCodec form numbers) where
+  abbrev pub AreWords : ℕ → ℕ → D → Type 0
+  AreWords first second d = (first ≡ first_word form (numbers d)) × (second ≡ second_word form (numbers d))
+
+  abbrev pub AreBytes : List ℕ → D → Type 0
+  AreBytes bytes d = bytes ≡ bytes_of (first_word form (numbers d)) (second_word form (numbers d))
+
+  keeps : (first second : ℕ) (d : D) → AreWords first second d → (e : DescError) → KeepsWords form first second e
+  keeps first second d words e =
+      keeps-form form (numbers d) codec.whole (codec.narrow d) e (codec.kept d e) first second words.0 words.1
+
+  pub words-accepted : (first second : ℕ) (d : D) → AreWords first second d → Decodes (AreWords first second) (KeepsWords form first second) (Ok d)
+  words-accepted first second d words =
+      Decodes-ok (AreWords first second) (KeepsWords form first second) d words
+      (λ other same. codec.alone d other
+      (words-same form (numbers d) (numbers other) codec.whole (codec.narrow d) (codec.narrow other)
+      (sym words.0 ∙ same.0) (sym words.1 ∙ same.1)))
+      (keeps first second d words)
+
+  pub words-refused : (first second : ℕ) (e : DescError) → IsLowest (KeepsWords form first second) e
+      → Decodes {D = D} (AreWords first second) (KeepsWords form first second) (Err e)
+  words-refused first second e lowest =
+      Decodes-err (AreWords first second) (KeepsWords form first second) e lowest (keeps first second)
+
+  -- ---- in bytes
+
+  words-of : (bytes : List ℕ) (d : D) → AreBytes bytes d → AreWords (little_number 8 bytes) (little_number 8 (drop 8 bytes)) d
+  words-of bytes d same =
+      let a : ℕ = first_word form (numbers d) in
+      let b : ℕ = second_word form (numbers d) in (
+        ap (little_number 8) same ∙ first-read a b (first-lt form (numbers d) codec.whole (codec.narrow d)),
+        ap (λ (xs : List ℕ). little_number 8 (drop 8 xs)) same ∙ second-read a b (second-lt form (numbers d) codec.whole (codec.narrow d)),
+      )
+
+  keeps-bytes : (bytes : List ℕ) → length bytes ≡ 16 → (e : DescError)
+      → KeepsWords form (little_number 8 bytes) (little_number 8 (drop 8 bytes)) e → KeepsBytes form bytes e
+  keeps-bytes bytes len Length h = len
+  keeps-bytes bytes len Reserved h = h
+  keeps-bytes bytes len Kind h = h
+  keeps-bytes bytes len Size h = h
+
+  keeps-words : (bytes : List ℕ) (e : DescError) → KeepsBytes form bytes e → KeepsWords form (little_number 8 bytes) (little_number 8 (drop 8 bytes)) e
+  keeps-words bytes Length h = words-length form (little_number 8 bytes) (little_number 8 (drop 8 bytes))
+  keeps-words bytes Reserved h = h
+  keeps-words bytes Kind h = h
+  keeps-words bytes Size h = h
+
+  keeps-all : (bytes : List ℕ) (d : D) → AreBytes bytes d → (e : DescError) → KeepsBytes form bytes e
+  keeps-all bytes d same e =
+      let len : length bytes ≡ 16 = ap length same in
+      keeps-bytes bytes len e (keeps (little_number 8 bytes) (little_number 8 (drop 8 bytes)) d (words-of bytes d same) e)
+
+  -- of 16 bytes the words decide
+  pub bytes-decoded : (bytes : List ℕ) {first second : ℕ} → HasWords bytes first second
+      → (r : Result D DescError) → Decodes (AreWords first second) (KeepsWords form first second) r
+      → Decodes (AreBytes bytes) (KeepsBytes form bytes) r
+  bytes-decoded bytes {first} {second} words r h =
+      let one = words.first_is in
+      let two = words.second_is in
+      let onto : (e : DescError) → KeepsWords form first second e → KeepsBytes form bytes e = λ e k. keeps-bytes bytes words.sixteen e (rw (← one, ← two) k) in
+      let back : (e : DescError) → KeepsBytes form bytes e → KeepsWords form first second e = λ e k. rw (one, two) (keeps-words bytes e k) in
+      let moved : (d : D) → AreWords first second d → AreBytes bytes d = λ d same. words.whole ∙ ap (bytes_of first) same.1 ∙ ap (λ (a : ℕ). bytes_of a (second_word form (numbers d))) same.0 in
+      record {
+        accepted = IfOk-map (AreWords first second) (AreBytes bytes) moved r h.accepted;
+        reads_back = λ d same. h.reads_back d (one ∙ (words-of bytes d same).0, two ∙ (words-of bytes d same).1);
+        refused = λ e. (
+          (λ err. lowest-moved (KeepsWords form first second) (KeepsBytes form bytes) onto back e ((h.refused e).0 err)),
+          (λ k. (h.refused e).1 (lowest-moved (KeepsBytes form bytes) (KeepsWords form first second) back onto e k)),
+        );
+      }
+
+  -- other bytes are refused
+  pub bytes-refused : (bytes : List ℕ) → ¬ (length bytes ≡ 16) → Decodes {D = D} (AreBytes bytes) (KeepsBytes form bytes) (Err Length)
+  bytes-refused bytes other =
+      Decodes-err (AreBytes bytes) (KeepsBytes form bytes) Length (record {
+        broken = other;
+        lowest = λ lower below. elim lower as (λ e. refusal_number e < 1 → KeepsBytes form bytes e) [
+          | Length ↦ λ h. absurd (omega arith)
+          | Reserved ↦ λ h. absurd (omega arith)
+          | Kind ↦ λ h. absurd (omega arith)
+          | Size ↦ λ h. absurd (omega arith)
+        ] below;
+      }) (keeps-all bytes)

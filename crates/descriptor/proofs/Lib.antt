@@ -1,0 +1,6 @@
+pub mod Bits
+pub mod Bytes
+pub mod Codec
+pub mod Fields
+pub mod ReceiveBack
+pub mod Refusals

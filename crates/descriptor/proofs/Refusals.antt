@@ -1,0 +1,66 @@
+-- The lowest refusal is one, and none applies to what keeps everything.
+use Rattle.std.proofs.Common.{◌≡◌, ℕ, ◌<◌, ◌↔◌, ◌⊎◌, inl, inr, Result, Ok, Err, IfOk, refl, sym, ap, subst, ◌∙◌, arith}
+use Rattle.descriptor.specs.declared.error.DescError.{DescError}
+use Rattle.descriptor.specs.declared.error.DescError.TheVariants.{Length, Reserved, Kind, Size}
+use Rattle.descriptor.specs.Refusal.{refusal_number, IsLowest}
+
+same-refusal : (e e' : DescError) → refusal_number e ≡ refusal_number e' → e ≡ e'
+same-refusal Length Length h = refl
+same-refusal Length Reserved h = absurd (omega arith)
+same-refusal Length Kind h = absurd (omega arith)
+same-refusal Length Size h = absurd (omega arith)
+same-refusal Reserved Length h = absurd (omega arith)
+same-refusal Reserved Reserved h = refl
+same-refusal Reserved Kind h = absurd (omega arith)
+same-refusal Reserved Size h = absurd (omega arith)
+same-refusal Kind Length h = absurd (omega arith)
+same-refusal Kind Reserved h = absurd (omega arith)
+same-refusal Kind Kind h = refl
+same-refusal Kind Size h = absurd (omega arith)
+same-refusal Size Length h = absurd (omega arith)
+same-refusal Size Reserved h = absurd (omega arith)
+same-refusal Size Kind h = absurd (omega arith)
+same-refusal Size Size h = refl
+
+compare : (m n : ℕ) → (m < n) ⊎ ((n < m) ⊎ (m ≡ n))
+compare m n = grind arith
+
+pub one_lowest : (Keeps : DescError → Type 0) (e e' : DescError) → IsLowest Keeps e → IsLowest Keeps e' → e ≡ e'
+one_lowest Keeps e e' h h' = elim (compare (refusal_number e) (refusal_number e')) [
+  | inl below ↦ absurd (h.broken (h'.lowest e below))
+  | inr other ↦ elim other [
+    | inl above ↦ absurd (h'.broken (h.lowest e' above))
+    | inr same ↦ same-refusal e e' same
+  ]
+]
+
+-- what a call that decodes answers, where IsForm tells what is the form of a descriptor
+pub record Decodes {D : Type 0} (IsForm : D → Type 0) (Keeps : DescError → Type 0) (r : Result D DescError) : Type 0 where
+  pub accepted : IfOk r IsForm
+  pub reads_back : (d : D) → IsForm d → r ≡ Ok d
+  pub refused : (e : DescError) → (r ≡ Err e) ↔ IsLowest Keeps e
+
+pub Decodes-ok : {D : Type 0} (IsForm : D → Type 0) (Keeps : DescError → Type 0) (d : D) → IsForm d
+    → ((other : D) → IsForm other → d ≡ other) → ((e : DescError) → Keeps e) → Decodes IsForm Keeps (Ok d)
+Decodes-ok {D = D} IsForm Keeps d form alone keeps =
+    let r : Result D DescError = Ok d in
+    let clash : (e : DescError) → r ≡ Err e → ⊥ = λ e err. cc in
+    record {
+      accepted = form;
+      reads_back = λ other same. ap (λ (x : D). Ok x) (alone other same);
+      refused = λ e. ((λ err. absurd (clash e err)), (λ h. absurd (h.broken (keeps e))));
+    }
+
+pub Decodes-err : {D : Type 0} (IsForm : D → Type 0) (Keeps : DescError → Type 0) (given : DescError) → IsLowest Keeps given
+    → ((d : D) → IsForm d → (e : DescError) → Keeps e) → Decodes IsForm Keeps (Err given)
+Decodes-err {D = D} IsForm Keeps given lowest keeps =
+    let r : Result D DescError = Err given in
+    let inside : (e : DescError) → r ≡ Err e → given ≡ e = λ e err. cc in
+    record {
+      accepted = tt;
+      reads_back = λ d form. absurd (lowest.broken (keeps d form given));
+      refused = λ e. (
+        (λ err. subst (IsLowest Keeps) (inside e err) lowest),
+        (λ h. ap (λ (x : DescError). Err x) (one_lowest Keeps given e lowest h)),
+      );
+    }

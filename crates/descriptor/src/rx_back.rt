@@ -1,0 +1,100 @@
+//! The receive write-back (82599 datasheet, 7.1.6.2).
+ghost use Rattle.std.specs.Prelude.{◌≡◌, ℕ, ◌+◌, ◌*◌, ◌/◌, ◌%◌, ◌^◌, ◌<◌, ◌≤◌, ◌↔◌, IsTrue, IfOk, IfErr};
+ghost use Rattle.descriptor.specs.Layout.{bit};
+ghost use Rattle.descriptor.specs.declared.limits.TheConstants.{MOST_DATA};
+
+use crate::words::{bits, bytes_from_words, is_set, words_from_bytes};
+use crate::{DescError, MOST_DATA};
+
+/// What the controller writes back where a receive descriptor was (82599 datasheet, 7.1.6.2): that
+/// it is done, and how many bytes of the frame lie in its buffer.
+#[derive(Clone, Copy, Debug, PartialEq, Eq)]
+pub struct RxBack {
+    /// How many bytes lie in the buffer, 1 to `MOST_DATA`.
+    pub len: u16,
+    /// EOP: whether they end their frame.
+    pub eop: bool,
+    pub ghost some_data: { 1 ≤ len },
+    pub ghost fits: { len ≤ MOST_DATA },
+}
+
+impl RxBack {
+    ghost use Rattle.descriptor.specs.Refusal.{IsLowest};
+    ghost use Rattle.descriptor.specs.Layout.{KeepsWords, KeepsBytes};
+    ghost use Rattle.descriptor.specs.Receive.{rx_back_form, rx_back_first, rx_back_second, rx_back_bytes};
+
+    /// A write-back of `len` bytes, 1 to `MOST_DATA`.
+    #[inline]
+    pub fn new(len: u16, eop: bool) -> Self
+        requires some_data { 1 ≤ len }
+        requires fits { len ≤ MOST_DATA }
+        ensures len { result.len ≡ len }
+        ensures eop { result.eop ≡ eop }
+    {
+        RxBack { len, eop }
+    }
+
+    /// The first word: 0 in this profile.
+    #[inline]
+    pub fn first_word(&self) -> u64
+        ensures layout { result ≡ rx_back_first self.now }
+        ensures value { result ≡ 0 }
+    {
+        0
+    }
+
+    /// The second word, which a ring's table keeps.
+    #[inline]
+    pub fn second_word(&self) -> u64
+        ensures layout { result ≡ rx_back_second self.now }
+        ensures value { result ≡ 1 + 2 * bit self.now.eop + self.now.len * 2 ^ 32 }
+    {
+        second_word_of(self.len, self.eop)
+    }
+
+    /// The descriptor in 16 bytes.
+    pub fn to_bytes(&self) -> [u8; 16]
+        ensures { result ≡ rx_back_bytes self.now }
+    {
+        bytes_from_words(self.first_word(), self.second_word())
+    }
+
+    /// The descriptor whose two words these are. Refused are `Reserved`, and `Size` for a length
+    /// that is 0 or above `MOST_DATA`.
+    pub fn from_words(first: u64, second: u64) -> Result<Self, DescError>
+        ensures accepted { IfOk result (λ d. (first ≡ rx_back_first d) × (second ≡ rx_back_second d)) }
+        ensures reads_back { (d : RxBack) → (first ≡ rx_back_first d) × (second ≡ rx_back_second d) → result ≡ Ok d }
+        ensures refused { (e : DescError) → (result ≡ Err e) ↔ IsLowest (KeepsWords rx_back_form first second) e }
+    {
+        if first != 0 {
+            return Err(DescError::Reserved);
+        }
+        let len = bits(second, 32, 16) as u16;
+        let eop = is_set(second, 1);
+        if second != second_word_of(len, eop) {
+            return Err(DescError::Reserved);
+        }
+        if len < 1 || len > MOST_DATA {
+            return Err(DescError::Size);
+        }
+        Ok(RxBack { len, eop })
+    }
+
+    /// The descriptor whose 16 bytes these are. Refused are `Length`, and what `from_words` refuses.
+    pub fn from_bytes(bytes: &[u8]) -> Result<Self, DescError>
+        ensures accepted { IfOk result (λ d. bytes.now ≡ rx_back_bytes d) }
+        ensures reads_back { (d : RxBack) → bytes.now ≡ rx_back_bytes d → result ≡ Ok d }
+        ensures refused { (e : DescError) → (result ≡ Err e) ↔ IsLowest (KeepsBytes rx_back_form bytes.now) e }
+    {
+        let (first, second) = words_from_bytes(bytes)?;
+        Self::from_words(first, second)
+    }
+}
+
+/// The second word of a write-back of `len` bytes.
+#[inline]
+fn second_word_of(len: u16, eop: bool) -> u64
+    ensures { result ≡ 1 + 2 * bit eop + len * 2 ^ 32 }
+{
+    1 + 2 * u64::from(eop) + u64::from(len) * (1 << 32)
+}
