@@ -1,0 +1,25 @@
+use Rattle.std.proofs.Common.{◌∙◌, ap, refl}
+use Rattle.std.proofs.lemmas.List.Elements.{All-same}
+use Rattle.buffer_pool.specs.Buffer.{Buffer}
+use Rattle.ring_machine.specs.Ring.{is_serving}
+use Rattle.rx_ring.specs.Ends.{stored}
+use Rattle.bench.specs.Passing.{IsWhole}
+use Rattle.bench.proofs.Ends.{whole_after}
+use Rattle.bench.proofs.storing.store.Goals as goal
+
+pub returns : goal.returns
+returns c =
+    let can = c.requires.can in
+    let fetched = c.fetch-buf.ensures in
+    let back = c.write_back.ensures in
+    let before = stored c.fetch-buf.new.self in
+    let all_before = All-same (IsWhole c.args.frame.now) before (stored c.args.controller.now) fetched.stored can.stored_only.only in
+    let bytes = ap (λ (b : Buffer). b.bytes) c.fill.ensures in
+    let after = whole_after c.args.frame.now before (stored c.write_back.new.self) _ all_before (record { bytes = bytes; last = refl }) back.stored in
+    record {
+      stored_only = record { own = ap (λ s. s.table) back.step ∙ (ap (λ s. s.table) fetched.step.step ∙ can.stored_only.own); only = after.0 };
+      none_unfinished = after.1;
+      none_held = back.held;
+      serving = ap is_serving back.state ∙ (ap is_serving fetched.state ∙ can.serving);
+      not_quiet = back.quiet ∙ (fetched.quiet ∙ can.not_quiet);
+    }

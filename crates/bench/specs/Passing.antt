@@ -1,0 +1,48 @@
+-- What the threads at the two ends of a ring keep while frames are passed, and what was passed at the end.
+use Rattle.std.specs.Prelude.{◌≡◌, ℕ, ◌+◌, ◌≤◌, true, false, [], All, length, replicate, None}
+use Rattle.atomic_table.specs.Seated.{TableId}
+use Rattle.ring_machine.specs.declared.limits.TheConstants.{BUFFER_BYTES, LEAST_FRAME}
+use Rattle.ring_machine.specs.declared.states.DriverState.TheVariants.{On}
+use Rattle.ring_machine.specs.Ring.{Bytes, Segment, is_serving}
+use Rattle.ring_machine.specs.Frames.{frames, unfinished}
+use Rattle.ring_machine.specs.Lawful.{IsLawfulRxLedger}
+use Rattle.rx_ring.specs.Ends.{DriverSide, ControllerSide, driver_size, posted, taken, driver_state, stored, held_number, controller_state, is_quiet, ledger_of}
+
+-- at least an Ethernet header, and no more than a buffer has room for
+abbrev pub IsFrameLength : ℕ → Type 0
+IsFrameLength len = (LEAST_FRAME ≤ len) × (len ≤ BUFFER_BYTES)
+
+-- the segment is the whole frame
+pub record IsWhole (frame : Bytes) (s : Segment Bytes) : Type 0 where
+  pub bytes : s.payload ≡ frame
+  pub last : s.eop ≡ true
+
+-- the controller stored nothing but the frame at the ring
+pub record StoredOnly (ring : TableId) (frame : Bytes) (controller : ControllerSide) : Type 0 where
+  pub own : controller.table ≡ ring
+  pub only : All (IsWhole frame) (stored controller)
+
+-- the controller stored nothing but the frame at the ring, and can store it again where a descriptor is free
+pub record CanStore (ring : TableId) (frame : Bytes) (controller : ControllerSide) : Type 0 where
+  pub stored_only : StoredOnly ring frame controller
+  pub none_unfinished : unfinished (stored controller) ≡ []
+  pub none_held : held_number controller ≡ None
+  pub serving : is_serving (controller_state controller) ≡ true
+  pub not_quiet : is_quiet controller ≡ false
+
+-- the driver's queue is enabled, and what it takes it can post again
+pub record CanTake (ring : TableId) (driver : DriverSide) : Type 0 where
+  pub own : driver.table ≡ ring
+  pub on : driver_state driver ≡ On
+  pub room : length (posted driver) + 1 ≤ driver_size driver + length (taken driver)
+
+-- the driver took so many segments at the ring
+pub record TookAll (ring : TableId) (count : ℕ) (driver : DriverSide) : Type 0 where
+  pub own : driver.table ≡ ring
+  pub count_is : length (taken driver) ≡ count
+
+-- So many copies of the frame went through one ring: they are the frames that the driver took, and the ledger of the two ends is lawful
+pub record HasPassed (count : ℕ) (frame : Bytes) (driver : DriverSide) (controller : ControllerSide) : Type 0 where
+  pub one_ring : controller.table ≡ driver.table
+  pub lawful : IsLawfulRxLedger Bytes (driver_size driver) (ledger_of driver controller)
+  pub copies : frames (taken driver) ≡ replicate count frame

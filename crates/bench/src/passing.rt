@@ -1,0 +1,130 @@
+//! A ring is made, its two ends run in threads of their own, and the time is taken.
+ghost use Rattle.std.specs.Prelude.{◌≡◌, ◌+◌, ◌≤◌, [], length, replicate, IfOk};
+ghost use Rattle.rx_ring.specs.Rule.{IsRingLength};
+ghost use Rattle.rx_ring.specs.Ends.{taken, IsFreshController, IsFreshDriver};
+ghost use Rattle.bench.specs.Passing.{CanTake, HasPassed, IsFrameLength, StoredOnly, TookAll};
+
+use crate::storing::store_all;
+use crate::taking::{Reception, Tally, take_all};
+use crate::words::Plan;
+use anyhow::{Result, bail, ensure};
+use buffer_pool::{FEWEST_BUFFERS, Stock};
+use ring_machine::{BUFFER_BYTES, LEAST_FRAME};
+use rx_ring::{RxControllerEnd, RxDriverEnd, RxRing, meet_rx};
+use std::alloc::Global;
+use std::rt::Clock;
+use std::sync::Wait;
+use std::thread;
+use std::thread::{Promise, Threads};
+use std::time::{Duration, Instant};
+
+/// Each byte of a frame.
+const BYTE: u8 = 0xab;
+
+/// What was passed, and how long it took.
+#[derive(Drop)]
+pub struct Passage {
+    pub driver: RxDriverEnd,
+    pub controller: RxControllerEnd,
+    pub spent: Duration,
+}
+
+/// The controller stores nothing but this frame at this ring.
+#[derive(Clone, Copy)]
+struct StoresOnly<'a>(&'a RxRing, &'a [u8]);
+
+impl<'a> Promise<RxControllerEnd> for StoresOnly<'a> {
+    ghost kept_by = { λ p controller. StoredOnly p.0.now p.1.now controller };
+}
+
+/// Passes the plan's frames through a ring, and answers how long that took, from the start of the controller's thread
+/// on. The driver runs in the thread of the caller.
+pub fn pass<R: Threads + Wait + Clock + Sync>(rt: &R, alloc: Global, plan: Plan) -> Result<Passage>
+    ensures { IfOk result (λ p. HasPassed plan.frames (replicate plan.size BYTE) p.driver p.controller) }
+{
+    if plan.size < LEAST_FRAME || BUFFER_BYTES < plan.size {
+        bail!("frame length");
+    }
+    let frame = vec![in alloc; BYTE; plan.size]?;
+    let (ring, mut driver, controller) = RxRing::new(alloc, plan.ring)?;
+    let mut stock = Stock::new(alloc, 0, plan.ring.max(FEWEST_BUFFERS))?;
+    post_all(&ring, &mut driver, &mut stock);
+    let start = Instant::now(rt)?;
+    let (reception, mut controller) = in_threads(
+        rt,
+        &ring,
+        driver,
+        controller,
+        frame.as_slice(),
+        plan,
+    )?;
+    let spent = start.elapsed(rt)?;
+    let Reception { mut driver, tally } = reception;
+    meet_rx(&ring, &mut driver, &mut controller);
+    ensure!(
+        tally == Tally::of(frame.as_slice(), plan.frames),
+        "the frames that were taken are not those that were stored"
+    );
+    Ok(Passage {
+        driver,
+        controller,
+        spent,
+    })
+}
+
+/// Runs both ends, the controller's in a thread of its own, and joins it.
+fn in_threads<R: Threads + Wait + Sync>(
+    rt: &R,
+    ring: &RxRing,
+    driver: RxDriverEnd,
+    controller: RxControllerEnd,
+    frame: &[u8],
+    plan: Plan,
+) -> Result<(Reception, RxControllerEnd)>
+    requires size { IsRingLength ring.now.slots }
+    requires driver { CanTake ring.now driver }
+    requires none { taken driver ≡ [] }
+    requires controller { IsFreshController ring.now controller }
+    requires frame { IsFrameLength (length frame.now) }
+    ensures driver { IfOk result (λ ends. TookAll ring.now plan.frames ends.0.driver) }
+    ensures controller { IfOk result (λ ends. StoredOnly ring.now frame.now ends.1) }
+{
+    thread::scope(
+        thread::scope_env(),
+        rt,
+        move |scope| -> Result<(Reception, RxControllerEnd)>
+            requires size { IsRingLength ring.now.slots }
+            requires driver { CanTake ring.now driver }
+            requires none { taken driver ≡ [] }
+            requires controller { IsFreshController ring.now controller }
+            requires frame { IsFrameLength (length frame.now) }
+            ensures driver { IfOk result (λ ends. TookAll ring.entry.now plan.frames ends.0.driver) }
+            ensures controller { IfOk result (λ ends. StoredOnly ring.entry.now frame.entry.now ends.1) }
+        {
+            let storing = scope.spawn_with(StoresOnly(ring, frame), move || {
+                store_all(rt, ring, controller, frame, plan.frames)
+            });
+            let Ok(storing) = storing else {
+                bail!("no thread could be made");
+            };
+            let reception = take_all(rt, ring, driver, plan.frames, plan.batch);
+            Ok((reception, storing.join(rt)))
+        },
+    )
+}
+
+/// Posts a buffer of the stock at each place that there is room for, and publishes them.
+fn post_all(ring: &RxRing, driver: &mut RxDriverEnd, stock: &mut Stock)
+    requires fresh { IsFreshDriver ring.now driver.old }
+    requires stock { ring.now.slots ≤ length stock.old.numbers }
+    ensures can { CanTake ring.now driver.new }
+    ensures none { taken driver.new ≡ [] }
+{
+    for _ in 0..driver.room() {
+        let Some(buf) = stock.take() else {
+            unreachable!()
+        };
+        driver.post(ring, buf);
+    }
+    driver.publish(ring);
+}

@@ -1,0 +1,96 @@
+//! The driver's thread.
+ghost use Rattle.std.specs.Prelude.{◌≡◌, ◌+◌, ◌≤◌, [], length};
+ghost use Rattle.rx_ring.specs.Ends.{taken};
+ghost use Rattle.bench.specs.Passing.{CanTake, TookAll};
+
+use crate::patience::Patience;
+use rx_ring::{Poll, RxDriverEnd, RxRing};
+use std::sync::Wait;
+
+/// What the driver read in the frames that it took: their bytes, and the sum of their first bytes.
+#[derive(Clone, Copy, PartialEq, Eq)]
+pub struct Tally {
+    pub bytes: u64,
+    pub first_bytes: u64,
+}
+
+impl Tally {
+    /// What so many frames like this one come to.
+    pub fn of(frame: &[u8], frames: u32) -> Tally {
+        let first = frame.first().map_or(0, |byte| u64::from(*byte));
+        let count = u64::from(frames);
+        Tally {
+            bytes: (frame.len() as u64).wrapping_mul(count),
+            first_bytes: first.wrapping_mul(count),
+        }
+    }
+
+    /// Reads one more frame.
+    #[inline]
+    fn add(&mut self, frame: &[u8]) {
+        let first = frame.first().map_or(0, |byte| u64::from(*byte));
+        self.bytes = self.bytes.wrapping_add(frame.len() as u64);
+        self.first_bytes = self.first_bytes.wrapping_add(first);
+    }
+}
+
+/// What the driver's thread gives back.
+#[derive(Drop)]
+pub struct Reception {
+    pub driver: RxDriverEnd,
+    pub tally: Tally,
+}
+
+/// Takes so many frames and posts each buffer again. What is posted is published once a batch, and where nothing more
+/// is done.
+pub fn take_all<R: Wait>(
+    rt: &R,
+    ring: &RxRing,
+    mut driver: RxDriverEnd,
+    frames: u32,
+    batch: u32,
+) -> Reception
+    requires can { CanTake ring.now driver }
+    requires none { taken driver ≡ [] }
+    ensures { TookAll ring.now frames result.driver }
+{
+    let mut patience = Patience::new();
+    let mut tally = Tally {
+        bytes: 0,
+        first_bytes: 0,
+    };
+    let mut left = frames;
+    for _ in rt.forever() {
+        if left == 0 {
+            return Reception { driver, tally };
+        }
+        let got = take_batch(ring, &mut driver, batch.min(left), &mut tally);
+        if got == 0 {
+            patience.wait();
+            continue;
+        }
+        patience.reset();
+        driver.publish(ring);
+        left -= got;
+    }
+    unreachable!()
+}
+
+/// Takes up to `most` frames that are done, posts their buffers again, and answers how many there were.
+#[inline]
+fn take_batch(ring: &RxRing, driver: &mut RxDriverEnd, most: u32, tally: &mut Tally) -> u32
+    requires can { CanTake ring.now driver.old }
+    ensures can { CanTake ring.now driver.new }
+    ensures most { result ≤ most }
+    ensures taken { length (taken driver.new) ≡ length (taken driver.old) + result }
+{
+    for got in 0..most {
+        let Poll::Segment(mut buf, _) = driver.poll(ring) else {
+            return got;
+        };
+        tally.add(buf.bytes());
+        buf.clear();
+        driver.post(ring, buf);
+    }
+    most
+}
