@@ -5,3 +5,4 @@ pub mod Steps
 pub mod RoundTrip
 pub mod Meaning
 pub mod HexLength
+pub mod FillLine

@@ -27,7 +27,7 @@ frame_bytes f wire i =
 not_digit : (b d : ℕ) → hex_digit_value b ≡ None → d < 16 → nat_eq (slice_index lower_digits d) b ≡ false
 not_digit b d none below = ne_eqb (slice_index lower_digits d) b (λ same. cc (sym none ∙ ap hex_digit_value (sym same) ∙ IsDigits-lower_digits d below))
 
-without : (b : ℕ) (xs : List ℕ) → hex_digit_value b ≡ None → IsBytes xs → All (λ x. nat_eq x b ≡ false) (encode_lower xs)
+pub without : (b : ℕ) (xs : List ℕ) → hex_digit_value b ≡ None → IsBytes xs → All (λ x. nat_eq x b ≡ false) (encode_lower xs)
 unfolding encode_with
 without b [] none fits = All-nil (λ x. nat_eq x b ≡ false)
 without b (x ∷ xs) none fits =
@@ -68,13 +68,13 @@ text_parts f fs wire =
     ap (parts 10) same ∙ slice_split_at (λ b. nat_eq b 10) (body f) 10 (text_for fs) none refl
 
 -- the three fields read
-port_again : (k port : ℕ) → port < PORTS → port_in k ((48 + port) ∷ []) ≡ Ok port
+pub port_again : (k port : ℕ) → port < PORTS → port_in k ((48 + port) ∷ []) ≡ Ok port
 unfolding digit_below
 port_again k port below =
     let same : 48 + port - 48 ≡ port = omega arith in
     rw (le-leb 48 (48 + port) (omega arith), same, lt-ltb port PORTS below) refl
 
-queue_again : (k queue : ℕ) → queue < QUEUES → queue_in k ((48 + queue) ∷ []) ≡ Ok queue
+pub queue_again : (k queue : ℕ) → queue < QUEUES → queue_in k ((48 + queue) ∷ []) ≡ Ok queue
 unfolding digit_below
 queue_again k queue below =
     let same : 48 + queue - 48 ≡ queue = omega arith in

@@ -1,9 +1,10 @@
 -- What one line of a script says.
-use Rattle.std.specs.Prelude.{ℕ, ◌+◌, ◌-◌, ◌*◌, ◌==◌, nat_le, nat_lt, Bool, not, ◌&&◌, ◌||◌, if◌then◌else◌, List, [], ◌∷◌, length, slice_index, codes, fold, replicate, Option, Some, None, Result, Ok, Err}
+use Rattle.std.specs.Prelude.{ℕ, ◌-◌, ◌==◌, nat_le, nat_lt, Bool, not, ◌&&◌, ◌||◌, if◌then◌else◌, List, [], ◌∷◌, length, slice_index, codes, replicate, Option, Some, None, Result, Ok, Err}
 use Rattle.std.specs.List.{list_all, list_any, slice_split}
 use Rattle.std.specs.Char.{is_ascii_digit}
 use Rattle.std.specs.Option.{ok_or}
 use Rattle.std.specs.Str.{bytes_eq}
+use Rattle.std.specs.Str.Parse.{digits_value}
 use Rattle.hex.specs.Hex.{decode_of, decode_sized}
 use Rattle.hex.specs.declared.error.FromHexError.{FromHexError}
 use Rattle.wire_script.specs.declared.error.ScriptError.{ScriptError}
@@ -42,10 +43,6 @@ sized k bytes = if nat_le MIN_FRAME (length bytes) && nat_le (length bytes) MAX_
 unfoldable pub hex_in : ℕ → List ℕ → Result (List ℕ) ScriptError
 hex_in k field = decoded k (decode_of field) >>= sized k
 
--- the number that decimal digits write
-abbrev pub value_of : List ℕ → ℕ
-value_of digits = fold (λ n digit. 10 * n + (digit - 48)) 0 digits
-
 -- 1 to 5 decimal digits, the first of more than one not `0`
 abbrev pub is_number : List ℕ → Bool
 is_number field =
@@ -53,9 +50,9 @@ is_number field =
     && (length field == 1 || not (slice_index field 0 == 48))
     && list_all is_ascii_digit field
 
--- a length
+-- a length, in decimal
 unfoldable pub len_in : ℕ → List ℕ → Result ℕ ScriptError
-len_in k field = if is_number field then Ok (value_of field) else Err (Bytes k)
+len_in k field = if is_number field then Ok (digits_value 10 field) else Err (Bytes k)
 
 -- one byte, in two hex digits
 unfoldable pub byte_in : ℕ → List ℕ → Result ℕ ScriptError

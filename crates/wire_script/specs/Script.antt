@@ -1,5 +1,5 @@
 -- What a text says as a script, and the text of frames.
-use Rattle.std.specs.Prelude.{◌≡◌, ◌⊎◌, ℕ, ◌+◌, ◌≤◌, ◌==◌, if◌then◌else◌, List, [], ◌∷◌, ◌++◌, length, All, Option, Some, None, IsSome, Result, Ok, Err, IsOk}
+use Rattle.std.specs.Prelude.{◌≡◌, ◌⊎◌, ℕ, ◌+◌, ◌≤◌, ◌==◌, if◌then◌else◌, List, [], ◌∷◌, ◌++◌, length, codes, decimal, All, Option, Some, None, IsSome, Result, Ok, Err, IsOk}
 use Rattle.std.specs.List.{enumerate_from, filter_map, flat_map}
 use Rattle.hex.specs.Hex.{encode_lower}
 use Rattle.wire_script.specs.declared.error.ScriptError.{ScriptError}
@@ -9,8 +9,8 @@ use Rattle.wire_script.specs.Frame.{Frame}
 use Rattle.wire_script.specs.Line.{line_says, parts}
 use Rattle.wire_script.specs.ScriptError.{◌>>=◌}
 
--- what line k adds, of which this is said, where so many frames stand before it; later gives what
--- the lines after it say, from a number of frames on
+-- What line k and those after it say, where the line alone says this and so many frames stand before
+-- it. `later` is what the lines after it say, by how many frames stand before them.
 unfoldable pub and_then : ℕ → ℕ → Result (Option Frame) ScriptError → (ℕ → Result (List Frame) ScriptError) → Result (List Frame) ScriptError
 and_then k earlier (Err e) later = Err e
 and_then k earlier (Ok None) later = later earlier
@@ -68,3 +68,8 @@ line_for f = (48 + f.port) ∷ 32 ∷ (48 + f.queue) ∷ 32 ∷ (encode_lower f.
 -- the lines of frames
 abbrev pub text_for : List Frame → List ℕ
 text_for frames = flat_map line_for frames
+
+-- a line that says a frame of one byte over and over
+unfoldable pub fill_line : Frame → ℕ → List ℕ
+fill_line f byte =
+    (48 + f.port) ∷ 32 ∷ (48 + f.queue) ∷ 32 ∷ (codes "fill" ++ 32 ∷ (decimal (length f.bytes) ++ 32 ∷ encode_lower (byte ∷ [])))

@@ -1,7 +1,8 @@
 //! Reading a script.
 
-ghost use Rattle.std.specs.Prelude.{◌≡◌, ◌≢◌, ◌++◌, ◌⊎◌, length, IfErr, IfOk, IsSome, OnOk, option_to_list};
-ghost use Rattle.wire_script.specs.Script.{Refuses, Says, script_of};
+ghost use Rattle.std.specs.Prelude.{◌≡◌, ◌≢◌, ◌<◌, [], ◌∷◌, ◌++◌, ◌⊎◌, ℕ, length, replicate, Ok, IfErr, IfOk, IsSome, OnOk, option_to_list};
+ghost use Rattle.wire_script.specs.Frame.{Frame, InRange};
+ghost use Rattle.wire_script.specs.Script.{Refuses, Says, fill_line, script_of};
 ghost use Rattle.wire_script.specs.ScriptError.{Answers};
 ghost use Rattle.wire_script.specs.declared.error.ScriptError.TheVariants.{Memory, TooMany};
 ghost use Rattle.wire_script.specs.declared.script.TheConstants.{MAX_FRAMES};
@@ -14,9 +15,11 @@ use crate::split::cut;
 use std::alloc::Global;
 
 /// The frames that a text says, or its first fault: the first faulty line, and in it the fault of
-/// the lowest number. Nothing of a text that is refused is kept.
+/// the lowest number (71 to 76, see [`ScriptError`]). Where memory is refused before either is
+/// found, the answer is 77, without a line. Nothing of a text that is refused is kept.
 ///
-/// It goes over the text once and makes no copy of it.
+/// It goes over the text once and makes no copy of it. What is kept takes the frames' bytes and, from
+/// the second frame on, at most 64 bytes a frame: 32 for each, in a list that grows by doubling.
 pub fn parse(alloc: Global, text: &[u8]) -> Result<Script, ScriptError>
     // The one answer.
     ensures exact { Answers result (script_of text.now) }
@@ -25,6 +28,11 @@ pub fn parse(alloc: Global, text: &[u8]) -> Result<Script, ScriptError>
     // is refused have no fault.
     ensures frames { IfOk result (Says text.now) }
     ensures refused { IfErr result (λ e. (e ≡ Memory) ⊎ Refuses text.now e) }
+
+    // A line with `fill` says its length in decimal and its byte in hex.
+    ensures fill { (frame : Frame) (byte : ℕ) → InRange frame → byte < 256
+        → frame.bytes ≡ replicate (length frame.bytes) byte → text.now ≡ fill_line frame byte
+        → Answers result (Ok (frame ∷ [])) }
 {
     read(alloc, text)
 }

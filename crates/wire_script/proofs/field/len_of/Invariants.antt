@@ -1,6 +1,6 @@
 use Rattle.std.proofs.Common.{◌≡◌, ◌^◌, ◌<◌, take}
-use Rattle.wire_script.specs.Line.{value_of}
+use Rattle.std.specs.Str.Parse.{digits_value}
 use Rattle.wire_script.proofs.field.len_of.Given as goal
 
 abbrev pub invariant-loop-digit : goal.invariant-loop-digit
-invariant-loop-digit l = record { value : l.value ≡ value_of (take l.digit-index l.field); bound : l.value < 10 ^ l.digit-index }
+invariant-loop-digit l = record { value : l.value ≡ digits_value 10 (take l.digit-index l.field); bound : l.value < 10 ^ l.digit-index }
