@@ -4,7 +4,7 @@ use Rattle.std.proofs.lemmas.Nat.{pow-add, shr-shr, shr_split, shr_high, mod_low
 use Rattle.std.proofs.Math.Nat.{mul-le-mul_right}
 use Rattle.descriptor.specs.declared.error.DescError.{DescError}
 use Rattle.descriptor.specs.declared.error.DescError.TheVariants.{Length, Reserved, Kind, Size}
-use Rattle.descriptor.specs.Layout.{Name, Form, Field, Content, fixed, kind, flag, flag_under, number, word_of, read, EachField, Keeps, KeepsField, KeepsWords, number_in, first_word, second_word}
+use Rattle.descriptor.specs.Layout.{Name, Form, Field, Content, fixed, kind, flag, flag_under, range, word_of, read, EachField, Keeps, KeepsField, KeepsWords, number_in, first_word, second_word}
 
 -- the fields lie side by side from bit b up to bit 63
 abbrev pub Tiles : ℕ → List Field → Type 0
@@ -78,7 +78,7 @@ settle (fixed m) _ = m
 settle (kind _) n = n
 settle flag n = n
 settle (flag_under _) n = n
-settle (number _ _) n = n
+settle (range _ _) n = n
 
 abbrev pub settled : ℕ → Field → ℕ
 settled w f = settle f.content (read w f)
@@ -88,7 +88,7 @@ settle-is (fixed m) w n h = sym h
 settle-is (kind _) w n h = refl
 settle-is flag w n h = refl
 settle-is (flag_under _) w n h = refl
-settle-is (number _ _) w n h = refl
+settle-is (range _ _) w n h = refl
 
 settled-read : (w : ℕ) (fs : List Field) → EachField (KeepsField Reserved w) fs → word_of (settled w) fs ≡ word_of (read w) fs
 settled-read w [] h = refl

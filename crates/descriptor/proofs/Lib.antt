@@ -1,6 +1,10 @@
+pub mod BufferAddress
 pub mod Bits
 pub mod Bytes
 pub mod Codec
 pub mod Fields
 pub mod ReceiveBack
+pub mod ReceiveRead
 pub mod Refusals
+pub mod TransmitBack
+pub mod TransmitRead

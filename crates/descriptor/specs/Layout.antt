@@ -49,7 +49,7 @@ pub data Content : Type 0 where
   kind : ℕ → Content  -- this number alone, which tells the kind of descriptor
   flag : Content  -- 0 or 1
   flag_under : ℕ → Content  -- 0 or 1, and 0 where the word's bit with this number is 0
-  number : ℕ → ℕ → Content  -- the numbers from the first to the second
+  range : ℕ → ℕ → Content  -- the numbers from the first to the second
 
 pub record Field : Type 0 where
   pub name : Name
@@ -73,7 +73,7 @@ filled (fixed m) _ = m
 filled (kind m) _ = m
 filled flag n = n
 filled (flag_under _) n = n
-filled (number _ _) n = n
+filled (range _ _) n = n
 
 abbrev pub number_in : (Name → ℕ) → Field → ℕ
 number_in numbers f = filled f.content (numbers f.name)
@@ -116,7 +116,7 @@ abbrev pub Keeps : DescError → ℕ → Content → ℕ → Type 0
 Keeps Reserved word (fixed m) n = n ≡ m
 Keeps Reserved word (flag_under place) n = word / 2 ^ place % 2 ≡ 0 → n ≡ 0
 Keeps Kind word (kind m) n = n ≡ m
-Keeps Size word (number low high) n = (low ≤ n) × (n ≤ high)
+Keeps Size word (range low high) n = (low ≤ n) × (n ≤ high)
 Keeps _ _ _ _ = ⊤
 
 abbrev pub KeepsField : DescError → ℕ → Field → Type 0

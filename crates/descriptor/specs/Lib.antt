@@ -1,3 +1,5 @@
+pub mod Address
 pub mod Layout
-pub mod Refusal
 pub mod Receive
+pub mod Refusal
+pub mod Transmit

@@ -11,11 +11,18 @@
 //! `second_word` and `from_words` are for it, and so are the calls that read a status word.
 #![tactic(auto)]
 
+mod address;
 mod error;
 mod limits;
 mod rx_back;
+mod rx_read;
+mod tx_back;
+mod tx_read;
 mod words;
 
 pub use error::DescError;
 pub use limits::{LEAST_FRAME, MOST_DATA, MOST_FRAME};
 pub use rx_back::RxBack;
+pub use rx_read::RxRead;
+pub use tx_back::TxBack;
+pub use tx_read::TxRead;

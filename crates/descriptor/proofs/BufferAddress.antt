@@ -1,0 +1,15 @@
+-- A buffer's address, as a word of fields.
+use Rattle.std.proofs.Common.{◌≡◌, ◌≢◌, ℕ, ◌+◌, ◌*◌, ◌/◌, ◌%◌, ◌<◌, ◌≤◌, ◌^◌, refl, sym, arith}
+use Rattle.descriptor.specs.declared.error.DescError.TheVariants.{Reserved}
+use Rattle.descriptor.specs.Address.{address_fields}
+use Rattle.descriptor.specs.Layout.{KeepsField, EachField, word_of}
+use Rattle.descriptor.proofs.Fields.{Tiles, settled, word_of-settled}
+
+pub address-tiles : Tiles 0 address_fields
+address-tiles = (refl, (refl, (refl, refl)))
+
+pub address-other : (address number : ℕ) → address < 2 ^ 64 → number ≡ address / 2 ^ 11 % 2 ^ 16 → address ≢ 2048 * number
+    → ¬ EachField (KeepsField Reserved address) address_fields
+address-other address number h is_number other keeps =
+    let sum = word_of-settled address h address_fields address-tiles keeps in
+    other (omega arith)
