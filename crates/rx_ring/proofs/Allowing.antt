@@ -1,30 +1,19 @@
 -- Each step of an end keeps the rule, whatever the table is when it happens, and tells what its play says.
-use Rattle.std.proofs.Common.{◌≡◌, ◌≢◌, ℕ, zero, suc, ◌+◌, ◌-◌, ◌*◌, ◌%◌, ◌^◌, ◌<◌, ◌≤◌, ◌⊎◌, Bool, true, false, List, [], ◌∷◌, ◌++◌, map, take, replicate, length, set, Option, Some, None, sym, refl, ap, ◌∙◌, subst, ⊎_elim, inl, inr, arith, mod-lt}
-use Rattle.std.specs.Prelude.{slice_get, slice_index, slice_set}
-use Rattle.std.proofs.lemmas.Option.{same_Some, none-some}
+use Rattle.std.proofs.Common.{◌≡◌, ◌≢◌, ℕ, zero, suc, ◌<◌, List, [], ◌∷◌, ◌++◌, Option, sym, subst, ⊎_elim, inr}
+use Rattle.std.specs.Prelude.{slice_index, slice_set}
 use mathlib.Core.Option as maybe
 use mathlib.Core.Option.{some, none, some-injective, some-ne-none}
 use lib.ListN.{get_elem?}
-use Rattle.atomic_table.specs.Table.{State, Act, keeps, takes, gives, chain, Valid, homes_after, carried_after, step, Step, Allows, rest}
-use Rattle.buffer_pool.specs.Buffer.{Buffer, buffer}
-use Rattle.ring_machine.specs.Ring.{Bytes, Segment, RxRing, is_open, is_live, is_serving, posted_count, stored_count, taken_count, returned_count}
-use Rattle.ring_machine.specs.Steps.{post, publish, look, fetch, store, took, due}
-use Rattle.ring_machine.specs.Frames.{Follows, unfinished}
-use Rattle.ring_machine.specs.Lists.{IsBeginning}
-use Rattle.ring_machine.specs.Agreement.{rx_word, word_of, buffer_of}
-use Rattle.ring_machine.proofs.Kept.{IsKept}
-use Rattle.ring_machine.proofs.Reached.{kept, lawful}
+use Rattle.atomic_table.specs.Table.{Act, Valid, homes_after, carried_after, Allows}
+use Rattle.buffer_pool.specs.Buffer.{Buffer}
+use Rattle.ring_machine.specs.Ring.{Bytes, RxRing}
 use Rattle.rx_ring.specs.declared.view.DriverEvent.{DriverEvent}
-use Rattle.rx_ring.specs.declared.view.DriverEvent.TheVariants.{Posted, Published, NotDone, Taken}
 use Rattle.rx_ring.specs.declared.view.ControllerEvent.{ControllerEvent}
-use Rattle.rx_ring.specs.declared.view.ControllerEvent.TheVariants.{Looked, Fetched, WroteBack}
-use Rattle.rx_ring.specs.declared.view.View.TheVariants.{Maker, Driver, Controller, Both, Nobody}
-use Rattle.rx_ring.specs.Records.{RxView, Driven, driving, Controlled, controlling, segment_of, eop_of, front_buffer}
-use Rattle.rx_ring.specs.Rule.{Table, IsRuled, Runs, Begins, LiesAs, driven, controlled, home_at}
-use Rattle.rx_ring.specs.Plays.{Seated, posts, publishes, TakesOut, LoadsStatus, LoadsTail, Fetches, writes_back, AreOf, Meets}
-use Rattle.rx_ring.proofs.Seating.{drivers_are, controllers_are, both_are, driver_seated, controller_seated, same_seated}
-use Rattle.rx_ring.proofs.Laying.{set-same, home-full, slice_get-past}
-use Rattle.rx_ring.proofs.Moving.{fresh, word_at, slot_of, keeps_it, eop_of-rx_word, rx_word-odd, slot_unheld, post-lies, publish-lies, not_done-lies, take-lies, look-lies, fetch-lies, store-lies}
+use Rattle.rx_ring.specs.declared.view.View.TheVariants.{Maker, Driver, Controller}
+use Rattle.rx_ring.specs.Records.{RxView}
+use Rattle.rx_ring.specs.Rule.{Table, IsRuled, Runs, LiesAs}
+use Rattle.rx_ring.specs.Plays.{Seated}
+use Rattle.rx_ring.proofs.Seating.{drivers_are, controllers_are, driver_seated, controller_seated}
 
 -- in a table that is being made no seat has a record
 no_record : (views : List RxView) (id : ℕ) (v : RxView) → views ≡ Maker ∷ [] → get_elem? views id ≡ some v → v ≡ Maker

@@ -1,5 +1,5 @@
 -- The controller's calls, over the fields of its end: what each step asks, and what the end keeps.
-use Rattle.std.proofs.Common.{◌≡◌, ℕ, suc, ◌+◌, ◌-◌, ◌*◌, ◌%◌, ◌<◌, ◌≤◌, Bool, true, false, List, [], ◌∷◌, ◌++◌, length, Option, Some, None, sym, refl, ap, ◌∙◌, subst, ⊎_elim, arith, if◌then◌else◌, length-append, mod-lt, mod-eq_of_lt}
+use Rattle.std.proofs.Common.{◌≡◌, ℕ, ◌+◌, ◌-◌, ◌*◌, ◌%◌, ◌<◌, ◌≤◌, Bool, true, false, List, [], ◌∷◌, ◌++◌, length, Option, Some, None, sym, refl, ap, ◌∙◌, subst, ⊎_elim, arith, if◌then◌else◌, length-append, mod-lt, mod-eq_of_lt}
 use Rattle.std.specs.Prelude.{◌==◌}
 use Rattle.std.proofs.lemmas.Option.{none-some}
 use Rattle.std.proofs.lemmas.Bool.{cases_lt}
@@ -12,7 +12,7 @@ use Rattle.buffer_pool.specs.Buffer.{Buffer, buffer}
 use Rattle.ring_machine.specs.declared.states.ControllerState.{ControllerState}
 use Rattle.ring_machine.specs.Ring.{Bytes, Segment, is_serving}
 use Rattle.ring_machine.specs.Frames.{Follows, unfinished}
-use Rattle.ring_machine.specs.Agreement.{bit, rx_word}
+use Rattle.ring_machine.specs.Agreement.{rx_word}
 use Rattle.ring_machine.proofs.Places.{next_place}
 use Rattle.rx_ring.specs.declared.view.ControllerEvent.{ControllerEvent}
 use Rattle.rx_ring.specs.declared.view.ControllerEvent.TheVariants.{Looked, Fetched, WroteBack}
@@ -23,7 +23,7 @@ use Rattle.rx_ring.specs.Plays.{Seated, controller_does, LoadsTail, Fetches, wri
 use Rattle.rx_ring.specs.Ends as ends
 use Rattle.rx_ring.specs.Ends.{IsControllerEnd, ControllerSide}
 use Rattle.rx_ring.proofs.Folds.{controlling-snoc}
-use Rattle.rx_ring.proofs.Moving.{fresh, eop_of-rx_word}
+use Rattle.rx_ring.proofs.Moving.{eop_of-rx_word}
 use Rattle.rx_ring.proofs.Serving.{allow-look, allow-fetch, allow-write_back}
 use Rattle.rx_ring.proofs.Calls.{key-is, slots-are, word-within, allow-at, front-is}
 
@@ -116,11 +116,11 @@ module _ (table : TableId) (me : Seated) (size serve free : ℕ) (state : Contro
     pub look-keeps : (free' : ℕ) (table' : TableId) → (tail + size - s % size) % size ≡ free' → table' ≡ table → IsControllerEnd table' me' size serve free' state
     look-keeps free' table' e same = let b = big in
         same-end table table' (Controller (controllers_of me.0 ++ Looked tail ∷ []), me.1) me' size serve free' state same told.seat
-            (controller-end table (controllers_of me.0 ++ Looked tail ∷ []) me.1 size serve free' state (control size x (Looked tail)) (controlling-snoc size (controllers_of me.0) (Looked tail)) inv.size_is inv.words inv.lawful
-                slots-are-its inv.serve_is (let f : s + (tail + size - s % size) % size ≡ s + free' = ap (λ (j : ℕ). s + j) e in omega arith)
-                (let m : (tail + size - s % size) % size < size = mod-lt (tail + size - s % size) (omega arith) in omega arith)
-                (λ c h. let f = inv.held_free c h in let g = grew in let i = inv.free_is in let j : s + (tail + size - s % size) % size ≡ s + free' = ap (λ (j : ℕ). s + j) e in omega arith)
-                inv.state_is)
+        (controller-end table (controllers_of me.0 ++ Looked tail ∷ []) me.1 size serve free' state (control size x (Looked tail)) (controlling-snoc size (controllers_of me.0) (Looked tail)) inv.size_is inv.words inv.lawful
+        slots-are-its inv.serve_is (let f : s + (tail + size - s % size) % size ≡ s + free' = ap (λ (j : ℕ). s + j) e in omega arith)
+        (let m : (tail + size - s % size) % size < size = mod-lt (tail + size - s % size) (omega arith) in omega arith)
+        (λ c h. let f = inv.held_free c h in let g = grew in let i = inv.free_is in let j : s + (tail + size - s % size) % size ≡ s + free' = ap (λ (j : ℕ). s + j) e in omega arith)
+        inv.state_is)
 
     looked-at : (free' : ℕ) → (tail + size - s % size) % size ≡ free' → ends.Looked (side table me) free' (ends.answered (side table me) (Looked tail))
     looked-at free' e = record {
@@ -133,8 +133,8 @@ module _ (table : TableId) (me : Seated) (size serve free : ℕ) (state : Contro
     pub look-steps : (now : ControllerSide) (free' : ℕ) (table' : TableId) → side table me ≡ now → (tail + size - s % size) % size ≡ free' → table' ≡ table → ends.Looked now free' (side table' me')
     look-steps now free' table' was e same =
         subst (λ (y : ControllerSide). ends.Looked y free' (side table' me')) was
-            (subst (λ (z : TableId). ends.Looked (side table me) free' (side z me')) (sym same)
-                (subst (λ (m : Seated). ends.Looked (side table me) free' (side table m)) (sym told.seat) (looked-at free' e)))
+        (subst (λ (z : TableId). ends.Looked (side table me) free' (side z me')) (sym same)
+        (subst (λ (m : Seated). ends.Looked (side table me) free' (side table m)) (sym told.seat) (looked-at free' e)))
 
     pub look-counts : (free' : ℕ) (table' : TableId) → (tail + size - s % size) % size ≡ free' → table' ≡ table → ends.known_free (side table' me') ≡ free'
     look-counts free' table' e same = did (λ (y : Controlled). y.known - length y.stored) table' me'.0 (Looked tail) same (ap (λ (m : Seated). m.0) told.seat)
@@ -143,7 +143,7 @@ module _ (table : TableId) (me : Seated) (size serve free : ℕ) (state : Contro
     pub look-grows : (now : ControllerSide) (free' : ℕ) → side table me ≡ now → (tail + size - s % size) % size ≡ free' → ends.known_free now ≤ free'
     look-grows now free' was e = subst (λ (y : ControllerSide). ends.known_free y ≤ free') was
         (let w : ends.known_free (side table me) ≡ x.known - s = words-are (λ (y : Controlled). y.known - length y.stored) in let g = grew in
-          let f : s + (tail + size - s % size) % size ≡ s + free' = ap (λ (j : ℕ). s + j) e in omega arith)
+        let f : s + (tail + size - s % size) % size ≡ s + free' = ap (λ (j : ℕ). s + j) e in omega arith)
 
   -- A4
   pub fetch-asks : (ring : TableId) (key id : ℕ) → table ≡ ring → IsTableOf ring key → is_serving x.state ≡ true → x.held ≡ None → s < x.known → x.still ≡ false
@@ -168,21 +168,21 @@ module _ (table : TableId) (me : Seated) (size serve free : ℕ) (state : Contro
       → IsControllerEnd table' me2 size serve free state
   fetch-keeps r b me1 me2 table' fetched left same unheld some_free =
       same-end table table' (Controller (controllers_of me.0 ++ Fetched serve r b ∷ []), (serve, None) ∷ me.1) me2 size serve free state same (fetch-seat r b me1 me2 fetched left)
-          (controller-end table (controllers_of me.0 ++ Fetched serve r b ∷ []) ((serve, None) ∷ me.1) size serve free state (control size x (Fetched serve r b)) (controlling-snoc size (controllers_of me.0) (Fetched serve r b)) inv.size_is inv.words inv.lawful
-              (ap (λ (xs : List (ℕ × Option Buffer)). (serve, None) ∷ xs) (no-slots unheld) ∙ ap (λ (j : ℕ). (j, None) ∷ []) inv.serve_is)
-              inv.serve_is inv.free_is inv.free_below (λ c h. some_free) inv.state_is)
+      (controller-end table (controllers_of me.0 ++ Fetched serve r b ∷ []) ((serve, None) ∷ me.1) size serve free state (control size x (Fetched serve r b)) (controlling-snoc size (controllers_of me.0) (Fetched serve r b)) inv.size_is inv.words inv.lawful
+      (ap (λ (xs : List (ℕ × Option Buffer)). (serve, None) ∷ xs) (no-slots unheld) ∙ ap (λ (j : ℕ). (j, None) ∷ []) inv.serve_is)
+      inv.serve_is inv.free_is inv.free_below (λ c h. some_free) inv.state_is)
 
   pub fetch-steps : (now : ControllerSide) (r : ℕ) (b c : Buffer) (me1 me2 : Seated) (table' : TableId) → side table me ≡ now → me1 ≡ (controller_does me (Fetched serve r b), (serve, Some b) ∷ me.1) → me2 ≡ (me1.0, (serve, None) ∷ rest me1.1) → table' ≡ table → c ≡ b
       → ends.Fetched now c (side table' me2)
   fetch-steps now r b c me1 me2 table' was fetched left same got =
       subst (λ (y : ControllerSide). ends.Fetched y c (side table' me2)) was
-          (subst (λ (z : TableId). ends.Fetched (side table me) c (side z me2)) (sym same)
-              (subst (λ (m : Seated). ends.Fetched (side table me) c (side table m)) (sym (fetch-seat r b me1 me2 fetched left))
-                  (record {
-                    word = r;
-                    step = ap (λ (y : Buffer). ends.answered (side table me) (Fetched serve r y)) (sym got)
-                        ∙ ap (λ (j : ℕ). ends.answered (side table me) (Fetched j r c)) (inv.serve_is ∙ sym (ap (λ (n : ℕ). length (controlling n (controllers_of me.0)).stored % n) inv.size_is));
-                  })))
+      (subst (λ (z : TableId). ends.Fetched (side table me) c (side z me2)) (sym same)
+      (subst (λ (m : Seated). ends.Fetched (side table me) c (side table m)) (sym (fetch-seat r b me1 me2 fetched left))
+      (record {
+        word = r;
+        step = ap (λ (y : Buffer). ends.answered (side table me) (Fetched serve r y)) (sym got)
+            ∙ ap (λ (j : ℕ). ends.answered (side table me) (Fetched j r c)) (inv.serve_is ∙ sym (ap (λ (n : ℕ). length (controlling n (controllers_of me.0)).stored % n) inv.size_is));
+      })))
 
   -- A5
   module _ (b : Buffer) (eop : Bool) (held : x.held ≡ Some b.number) where
@@ -200,9 +200,9 @@ module _ (table : TableId) (me : Seated) (size serve free : ℕ) (state : Contro
       word-within table ring key size serve own of_key inv.size_is (let f = serve-below in omega arith),
       subst (λ (v : ℕ). Allows (IsRuled key) ring.slots id me' serve (λ _. v) (λ _ m. writes_back (step ring.slots serve v 0 none) me' v m)) (sym word)
           (allow-at (λ k m r m'. writes_back (step k serve (rx_word (length b.bytes) eop) 0 none) m (rx_word (length b.bytes) eop) m') size key ring.slots id serve (λ _. rx_word (length b.bytes) eop) (Controller (controllers_of me.0), (serve, Some b) ∷ rest me.1) me'
-              (key-is table ring key size own of_key inv.size_is) (slots-are table ring key size own of_key inv.size_is)
-              (put ∙ ap (λ (v : RxView). let m : Seated = (v, (serve, Some b) ∷ rest me.1) in m) view-is)
-              (allow-write_back size id (controllers_of me.0) b eop (rest me.1) serve inv.serve_is held real follows)),
+          (key-is table ring key size own of_key inv.size_is) (slots-are table ring key size own of_key inv.size_is)
+          (put ∙ ap (λ (v : RxView). let m : Seated = (v, (serve, Some b) ∷ rest me.1) in m) view-is)
+          (allow-write_back size id (controllers_of me.0) b eop (rest me.1) serve inv.serve_is held real follows)),
     )
 
     pub write_back-seat : (w : ℕ) (me1 me2 : Seated) → w ≡ rx_word (length b.bytes) eop → me1 ≡ (me.0, (serve, Some b) ∷ rest me.1) → me2 ≡ (controller_does me1 (WroteBack serve w (front_buffer me1.1)), rest me1.1)
@@ -223,22 +223,22 @@ module _ (table : TableId) (me : Seated) (size serve free : ℕ) (state : Contro
     write_back-keeps w serve' me1 me2 table' word put wrote same at = let f = some-free in let g = big in let i = inv.free_is in let fb = inv.free_below in
         let more = stored-more (segment_of (rx_word (length b.bytes) eop) b) in
         same-end table table' (Controller (controllers_of me.0 ++ WroteBack serve (rx_word (length b.bytes) eop) b ∷ []), []) me2 size serve' (free - 1) state same (write_back-seat w me1 me2 word put wrote)
-            (controller-end table (controllers_of me.0 ++ WroteBack serve (rx_word (length b.bytes) eop) b ∷ []) [] size serve' (free - 1) state (control size x (WroteBack serve (rx_word (length b.bytes) eop) b))
-                (controlling-snoc size (controllers_of me.0) (WroteBack serve (rx_word (length b.bytes) eop) b)) inv.size_is inv.words inv.lawful
-                refl
-                (at ∙ ap (λ (j : ℕ). if (j + 1) == size then 0 else (j + 1)) inv.serve_is ∙ next_place size s (omega arith) ∙ ap (λ (j : ℕ). j % size) (sym more))
-                (omega arith)
-                (omega arith)
-                (λ c h. absurd (none-some c h))
-                inv.state_is)
+        (controller-end table (controllers_of me.0 ++ WroteBack serve (rx_word (length b.bytes) eop) b ∷ []) [] size serve' (free - 1) state (control size x (WroteBack serve (rx_word (length b.bytes) eop) b))
+        (controlling-snoc size (controllers_of me.0) (WroteBack serve (rx_word (length b.bytes) eop) b)) inv.size_is inv.words inv.lawful
+        refl
+        (at ∙ ap (λ (j : ℕ). if (j + 1) == size then 0 else (j + 1)) inv.serve_is ∙ next_place size s (omega arith) ∙ ap (λ (j : ℕ). j % size) (sym more))
+        (omega arith)
+        (omega arith)
+        (λ c h. absurd (none-some c h))
+        inv.state_is)
 
     pub write_back-steps : (now : ControllerSide) (w : ℕ) (me1 me2 : Seated) (table' : TableId) → side table me ≡ now → w ≡ rx_word (length b.bytes) eop → me1 ≡ (me.0, (serve, Some b) ∷ rest me.1) → me2 ≡ (controller_does me1 (WroteBack serve w (front_buffer me1.1)), rest me1.1) → table' ≡ table
         → ends.WroteBack now b eop (side table' me2)
     write_back-steps now w me1 me2 table' was word put wrote same =
         subst (λ (y : ControllerSide). ends.WroteBack y b eop (side table' me2)) was
-            (subst (λ (z : TableId). ends.WroteBack (side table me) b eop (side z me2)) (sym same)
-                (subst (λ (m : Seated). ends.WroteBack (side table me) b eop (side table m)) (sym (write_back-seat w me1 me2 word put wrote))
-                    (ap (λ (j : ℕ). ends.answered (side table me) (WroteBack j (rx_word (length b.bytes) eop) b)) (inv.serve_is ∙ sym (ap (λ (n : ℕ). length (controlling n (controllers_of me.0)).stored % n) inv.size_is)))))
+        (subst (λ (z : TableId). ends.WroteBack (side table me) b eop (side z me2)) (sym same)
+        (subst (λ (m : Seated). ends.WroteBack (side table me) b eop (side table m)) (sym (write_back-seat w me1 me2 word put wrote))
+        (ap (λ (j : ℕ). ends.answered (side table me) (WroteBack j (rx_word (length b.bytes) eop) b)) (inv.serve_is ∙ sym (ap (λ (n : ℕ). length (controlling n (controllers_of me.0)).stored % n) inv.size_is)))))
 
     stored-is : segment_of (rx_word (length b.bytes) eop) b ≡ record { number = b.number; payload = b.bytes; eop = eop }
     stored-is = ap (λ (e : Bool). let y : Segment Bytes = record { number = b.number; payload = b.bytes; eop = e } in y) (eop_of-rx_word (length b.bytes) eop)
@@ -254,5 +254,5 @@ module _ (table : TableId) (me : Seated) (size serve free : ℕ) (state : Contro
         → ends.known_free (side table' me2) + 1 ≡ ends.known_free now
     write_back-counts now w me1 me2 table' was word put did_it same = subst (λ (y : ControllerSide). ends.known_free (side table' me2) + 1 ≡ ends.known_free y) was
         (let a : ends.known_free (side table' me2) ≡ x.known - length (x.stored ++ record { number = b.number; payload = b.bytes; eop = eop } ∷ []) = wrote (λ (y : Controlled). y.known - length y.stored) w me1 me2 table' word put did_it same in
-          let c : ends.known_free (side table me) ≡ x.known - s = words-are (λ (y : Controlled). y.known - length y.stored) in
-          let more = stored-more (record { number = b.number; payload = b.bytes; eop = eop }) in let f = some-free in let i = inv.free_is in omega arith)
+        let c : ends.known_free (side table me) ≡ x.known - s = words-are (λ (y : Controlled). y.known - length y.stored) in
+        let more = stored-more (record { number = b.number; payload = b.bytes; eop = eop }) in let f = some-free in let i = inv.free_is in omega arith)

@@ -1,22 +1,21 @@
 -- The driver's calls, over the fields of its end: what each step asks, and what the end keeps.
-use Rattle.std.proofs.Common.{◌≡◌, ℕ, suc, ◌+◌, ◌-◌, ◌%◌, ◌<◌, ◌≤◌, Bool, true, List, [], ◌∷◌, ◌++◌, length, Option, Some, None, sym, refl, ap, ◌∙◌, subst, arith, if◌then◌else◌, length-append, mod-lt}
+use Rattle.std.proofs.Common.{◌≡◌, ℕ, ◌+◌, ◌-◌, ◌%◌, ◌<◌, ◌≤◌, true, List, [], ◌∷◌, ◌++◌, length, Option, Some, None, sym, ap, ◌∙◌, subst, arith, if◌then◌else◌, length-append, mod-lt}
 use Rattle.std.specs.Prelude.{◌==◌}
 use mathlib.Core.Option.{none}
-use Rattle.atomic_table.specs.Table.{Allows, step, rest, turned}
+use Rattle.atomic_table.specs.Table.{Allows, step, rest}
 use Rattle.atomic_table.specs.Seated.{TableId}
 use Rattle.buffer_pool.specs.Buffer.{Buffer, buffer}
 use Rattle.ring_machine.specs.declared.states.DriverState.{DriverState}
 use Rattle.ring_machine.specs.Ring.{Bytes, Segment, is_open, is_live}
 use Rattle.ring_machine.proofs.Places.{next_place}
 use Rattle.rx_ring.specs.declared.view.DriverEvent.{DriverEvent}
-use Rattle.rx_ring.specs.declared.view.DriverEvent.TheVariants.{Posted, Published, NotDone, Taken}
+use Rattle.rx_ring.specs.declared.view.DriverEvent.TheVariants.{Posted}
 use Rattle.rx_ring.specs.declared.view.View.TheVariants.{Driver}
-use Rattle.rx_ring.specs.Records.{RxView, drivers_of, Driven, drive, driving, driver_slots, empty_slots, front_buffer, segment_of}
+use Rattle.rx_ring.specs.Records.{RxView, drivers_of, Driven, drive, driving, driver_slots, empty_slots, front_buffer}
 use Rattle.rx_ring.specs.Rule.{IsRuled, IsTableOf, IsRingLength}
-use Rattle.rx_ring.specs.Plays.{Seated, driver_does, posts, publishes, LoadsStatus, TakesOut}
+use Rattle.rx_ring.specs.Plays.{Seated, driver_does, posts, publishes, LoadsStatus}
 use Rattle.rx_ring.specs.Ends.{IsDriverEnd}
-use Rattle.rx_ring.proofs.Folds.{driving-snoc, slots-post, slots-take}
-use Rattle.rx_ring.proofs.Moving.{fresh}
+use Rattle.rx_ring.proofs.Folds.{driving-snoc, slots-post}
 use Rattle.rx_ring.proofs.Driving.{allow-post, allow-publish, allow-status}
 use Rattle.rx_ring.proofs.Calls.{key-is, slots-are, word-within, allow-at, front-is}
 
@@ -93,13 +92,13 @@ module _ (table : TableId) (me : Seated) (size fill next out : ℕ) (state : Dri
     after-post : (b : Buffer) → IsDriverEnd table (Driver (drivers_of me.0 ++ Posted fill 0 b ∷ []), rest me.1) size (if (fill + 1) == size then 0 else (fill + 1)) next (out + 1) state
     after-post b = let o = inv.out_is in let g = big in
         driver-end table (drivers_of me.0 ++ Posted fill 0 b ∷ []) (rest me.1) size _ next (out + 1) state (drive d (Posted fill 0 b)) (driving-snoc (drivers_of me.0) (Posted fill 0 b))
-            inv.size_is inv.words inv.lawful
-            (ap rest front ∙ ap (λ (j : ℕ). empty_slots size j (t + size - j)) (sym (posted-more b.number)))
-            (ap (λ (j : ℕ). if (j + 1) == size then 0 else (j + 1)) inv.fill_is ∙ next_place size p (omega arith) ∙ ap (λ (j : ℕ). j % size) (sym (posted-more b.number)))
-            inv.next_is
-            (let e = posted-more b.number in omega arith)
-            (omega arith)
-            inv.state_is
+        inv.size_is inv.words inv.lawful
+        (ap rest front ∙ ap (λ (j : ℕ). empty_slots size j (t + size - j)) (sym (posted-more b.number)))
+        (ap (λ (j : ℕ). if (j + 1) == size then 0 else (j + 1)) inv.fill_is ∙ next_place size p (omega arith) ∙ ap (λ (j : ℕ). j % size) (sym (posted-more b.number)))
+        inv.next_is
+        (let e = posted-more b.number in omega arith)
+        (omega arith)
+        inv.state_is
 
     -- the seat after a post
     pub post-seat : (b : Buffer) (me' me'' : Seated) → me' ≡ (me.0, (fill, Some b) ∷ rest me.1) → me'' ≡ (driver_does me' (Posted fill 0 (front_buffer me'.1)), rest me'.1)
@@ -110,7 +109,7 @@ module _ (table : TableId) (me : Seated) (size fill next out : ℕ) (state : Dri
         → fill' ≡ (if (fill + 1) == size then 0 else (fill + 1)) → IsDriverEnd table'' me'' size fill' next (out + 1) state
     post-keeps b table' table'' me' me'' fill' a c put stored f =
         subst (λ (j : ℕ). IsDriverEnd table'' me'' size j next (out + 1) state) (sym f)
-            (same-end table table'' (Driver (drivers_of me.0 ++ Posted fill 0 b ∷ []), rest me.1) me'' size _ next (out + 1) state (c ∙ a) (post-seat b me' me'' put stored) (after-post b))
+        (same-end table table'' (Driver (drivers_of me.0 ++ Posted fill 0 b ∷ []), rest me.1) me'' size _ next (out + 1) state (c ∙ a) (post-seat b me' me'' put stored) (after-post b))
 
     pub post-driven : (b : Buffer) (me' me'' : Seated) → me' ≡ (me.0, (fill, Some b) ∷ rest me.1) → me'' ≡ (driver_does me' (Posted fill 0 (front_buffer me'.1)), rest me'.1)
         → driving (drivers_of me''.0) ≡ drive d (Posted fill 0 b)
@@ -132,13 +131,13 @@ module _ (table : TableId) (me : Seated) (size fill next out : ℕ) (state : Dri
       → IsDriverEnd table' me' size fill next out state
   quiet-keeps e table' me' a did same_posted same_taken same_state =
       same-end table table' (Driver (drivers_of me.0 ++ e ∷ []), me.1) me' size fill next out state a did
-          (driver-end table (drivers_of me.0 ++ e ∷ []) me.1 size fill next out state (drive d e) (driving-snoc (drivers_of me.0) e) inv.size_is inv.words inv.lawful
-              (slots-are-its ∙ ap (λ (x : List ℕ). empty_slots size (length x) (t + size - length x)) (sym same_posted) ∙ ap (λ (x : List (Segment Bytes)). empty_slots size (length (drive d e).posted) (length x + size - length (drive d e).posted)) (sym same_taken))
-              (inv.fill_is ∙ ap (λ (x : List ℕ). length x % size) (sym same_posted))
-              (inv.next_is ∙ ap (λ (x : List (Segment Bytes)). length x % size) (sym same_taken))
-              (ap (λ (x : List (Segment Bytes)). out + length x) same_taken ∙ inv.out_is ∙ ap (length {A = ℕ}) (sym same_posted))
-              inv.room
-              (inv.state_is ∙ sym same_state))
+      (driver-end table (drivers_of me.0 ++ e ∷ []) me.1 size fill next out state (drive d e) (driving-snoc (drivers_of me.0) e) inv.size_is inv.words inv.lawful
+      (slots-are-its ∙ ap (λ (x : List ℕ). empty_slots size (length x) (t + size - length x)) (sym same_posted) ∙ ap (λ (x : List (Segment Bytes)). empty_slots size (length (drive d e).posted) (length x + size - length (drive d e).posted)) (sym same_taken))
+      (inv.fill_is ∙ ap (λ (x : List ℕ). length x % size) (sym same_posted))
+      (inv.next_is ∙ ap (λ (x : List (Segment Bytes)). length x % size) (sym same_taken))
+      (ap (λ (x : List (Segment Bytes)). out + length x) same_taken ∙ inv.out_is ∙ ap (length {A = ℕ}) (sym same_posted))
+      inv.room
+      (inv.state_is ∙ sym same_state))
 
   -- A6
   pub status-asks : (ring : TableId) (key id : ℕ) → table ≡ ring → IsTableOf ring key → is_live d.state ≡ true → 0 < out

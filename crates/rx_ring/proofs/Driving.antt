@@ -1,28 +1,27 @@
 -- The steps of the driver's end: each keeps the rule, and tells what its play says.
-use Rattle.std.proofs.Common.{◌≡◌, ◌≢◌, ℕ, zero, suc, ◌+◌, ◌-◌, ◌*◌, ◌%◌, ◌^◌, ◌<◌, ◌≤◌, ◌⊎◌, Bool, true, false, List, [], ◌∷◌, ◌++◌, map, take, replicate, length, set, Option, Some, None, sym, refl, ap, ◌∙◌, subst, ⊎_elim, inl, inr, arith, mod-lt}
-use Rattle.std.specs.Prelude.{slice_get, slice_index, slice_set}
+use Rattle.std.proofs.Common.{◌≡◌, ℕ, zero, suc, ◌+◌, ◌%◌, ◌<◌, Bool, true, List, [], ◌∷◌, ◌++◌, map, take, length, set, Option, Some, None, sym, refl, ap, ◌∙◌, subst, arith}
+use Rattle.std.specs.Prelude.{slice_get, slice_index}
 use Rattle.std.proofs.lemmas.Option.{same_Some, none-some}
 use mathlib.Core.Option as maybe
 use mathlib.Core.Option.{some, none, some-injective, some-ne-none}
 use lib.ListN.{get_elem?}
-use Rattle.atomic_table.specs.Table.{Act, keeps, takes, gives, Valid, homes_after, carried_after, step, Step, Allows, rest}
+use Rattle.atomic_table.specs.Table.{keeps, takes, gives, step, Allows}
 use Rattle.buffer_pool.specs.Buffer.{Buffer, buffer}
 use Rattle.ring_machine.specs.Ring.{Bytes, Segment, RxRing, is_open, is_live, posted_count, stored_count, taken_count, returned_count}
 use Rattle.ring_machine.specs.Steps.{post, publish, took, due}
 use Rattle.ring_machine.specs.Frames.{Follows, unfinished}
 use Rattle.ring_machine.specs.Lists.{IsBeginning}
 use Rattle.ring_machine.specs.Agreement.{rx_word, word_of, buffer_of}
-use Rattle.ring_machine.proofs.Kept.{IsKept}
 use Rattle.ring_machine.proofs.Shakes.{live_unanswered}
 use Rattle.rx_ring.specs.declared.view.DriverEvent.{DriverEvent}
 use Rattle.rx_ring.specs.declared.view.DriverEvent.TheVariants.{Posted, Published, NotDone, Taken}
 use Rattle.rx_ring.specs.declared.view.ControllerEvent.{ControllerEvent}
 use Rattle.rx_ring.specs.declared.view.View.TheVariants.{Driver}
-use Rattle.rx_ring.specs.Records.{RxView, Driven, driving, eop_of}
-use Rattle.rx_ring.specs.Rule.{IsRuled, LiesAs, driven, home_at}
-use Rattle.rx_ring.specs.Plays.{Seated, posts, publishes, TakesOut, LoadsStatus}
+use Rattle.rx_ring.specs.Records.{Driven, driving, eop_of}
+use Rattle.rx_ring.specs.Rule.{IsRuled, LiesAs, home_at}
+use Rattle.rx_ring.specs.Plays.{posts, publishes, LoadsStatus}
 use Rattle.rx_ring.proofs.Laying.{set-same, home-full, slice_get-below}
-use Rattle.rx_ring.proofs.Moving.{fresh, word_at, slot_of, keeps_it, eop_of-rx_word, rx_word-odd, slot_unheld, unreclaimed, post-lies, publish-lies, not_done-lies, take-lies}
+use Rattle.rx_ring.proofs.Moving.{fresh, word_at, keeps_it, eop_of-rx_word, rx_word-odd, slot_unheld, unreclaimed, post-lies, publish-lies, not_done-lies, take-lies}
 use Rattle.rx_ring.proofs.Allowing.{DriverGoes, allow_driver}
 
 -- A1
@@ -108,20 +107,20 @@ module _ (n : ℕ) (es : List DriverEvent) (slots : List (ℕ × Option Buffer))
     home-is : get_elem? homes p ≡ some (some (Some (buffer s.number s.payload)))
     home-is = let below : taken_count q < stored_count q = slice_get-below q.ledger.stored (taken_count q) s e in
         home-full homes p (buffer s.number s.payload)
-            (ap (home_at homes) at ∙ l.items.slots (taken_count q) (omega arith) out
-                ∙ slot_unheld q.held (taken_count q) (stored_count q) _ (λ h x. omega arith)
-                ∙ ap (λ (o : Option (Segment Bytes)). Some (buffer_of {Payload = Bytes} length fresh buffer (slice_index q.ledger.posted (taken_count q)) o)) e)
+        (ap (home_at homes) at ∙ l.items.slots (taken_count q) (omega arith) out
+        ∙ slot_unheld q.held (taken_count q) (stored_count q) _ (λ h x. omega arith)
+        ∙ ap (λ (o : Option (Segment Bytes)). Some (buffer_of {Payload = Bytes} length fresh buffer (slice_index q.ledger.posted (taken_count q)) o)) e)
 
     number-is : slice_get (driving es).posted (length (driving es).taken) ≡ Some s.number
     number-is = let k = keeps_it n q es cs words homes pos l in
         subst (λ (d : Driven). slice_get d.posted (length d.taken) ≡ Some s.number) (sym l.driver)
-            (beginning-get (map (λ (x : Segment Bytes). x.number) q.ledger.stored) q.ledger.posted (taken_count q) s.number k.stored (slice_get-map (λ (x : Segment Bytes). x.number) q.ledger.stored (taken_count q) s e))
+        (beginning-get (map (λ (x : Segment Bytes). x.number) q.ledger.stored) q.ledger.posted (taken_count q) s.number k.stored (slice_get-map (λ (x : Segment Bytes). x.number) q.ledger.stored (taken_count q) s e))
 
     follows-is : Follows n (unfinished (driving es).taken) s.payload (eop_of (slice_index words p))
     follows-is = let k = keeps_it n q es cs words homes pos l in
         subst (λ (x : Bool). Follows n (unfinished (driving es).taken) s.payload x) (sym eop-is)
-            (subst (λ (d : Driven). Follows n (unfinished d.taken) s.payload s.eop) (sym l.driver)
-                (subst (λ (xs : List (Segment Bytes)). Follows n (unfinished xs) s.payload s.eop) (take-beginning q.ledger.taken q.ledger.stored k.taken) (l.follow (taken_count q) s e)))
+        (subst (λ (d : Driven). Follows n (unfinished d.taken) s.payload s.eop) (sym l.driver)
+        (subst (λ (xs : List (Segment Bytes)). Follows n (unfinished xs) s.payload s.eop) (take-beginning q.ledger.taken q.ledger.stored k.taken) (l.follow (taken_count q) s e)))
 
     goes-taken : Goes
     goes-taken = record {
@@ -154,7 +153,7 @@ pub allow-status : (n id : ℕ) (es : List DriverEvent) (slots : List (ℕ × Op
     → Allows (IsRuled n) n id (Driver es, slots) p (λ x. x) (LoadsStatus (step n p 0 0 none) (Driver es, slots))
 allow-status n id es slots p at live out = allow_driver n id es slots p (λ x. x) (LoadsStatus (step n p 0 0 none) (Driver es, slots))
     (λ q cs words homes pos l. let q_live : is_live q.handshake.driver ≡ true = sym (ap (λ (d : Driven). is_live d.state) l.driver) ∙ live in
-        goes-status n es slots p q cs words homes pos l (at ∙ ap (λ (d : Driven). length d.taken % n) l.driver) q_live
-            (subst (λ (d : Driven). length d.taken < length d.posted) l.driver out)
-            (unreclaimed n q es cs words homes pos l (live_unanswered q.handshake.driver q_live))
-            (due q) refl)
+    goes-status n es slots p q cs words homes pos l (at ∙ ap (λ (d : Driven). length d.taken % n) l.driver) q_live
+    (subst (λ (d : Driven). length d.taken < length d.posted) l.driver out)
+    (unreclaimed n q es cs words homes pos l (live_unanswered q.handshake.driver q_live))
+    (due q) refl)

@@ -1,10 +1,10 @@
 -- A record with one more event, and the slots that the ends have by their records.
-use Rattle.std.proofs.Common.{◌≡◌, ℕ, zero, suc, ◌+◌, ◌-◌, ◌%◌, ◌<◌, ◌≤◌, List, [], ◌∷◌, ◌++◌, length, Option, Some, None, sym, refl, ap, ◌∙◌, subst, arith}
+use Rattle.std.proofs.Common.{◌≡◌, ℕ, zero, suc, ◌+◌, ◌-◌, ◌%◌, ◌<◌, ◌≤◌, List, [], ◌∷◌, ◌++◌, Option, None, sym, refl, ap, ◌∙◌, arith}
 use Rattle.buffer_pool.specs.Buffer.{Buffer}
 use Rattle.ring_machine.proofs.Places.{lap}
 use Rattle.rx_ring.specs.declared.view.DriverEvent.{DriverEvent}
 use Rattle.rx_ring.specs.declared.view.ControllerEvent.{ControllerEvent}
-use Rattle.rx_ring.specs.Records.{Driven, drive, driving_from, driving, Controlled, control, controlling_from, controlling, empty_slots, driver_slots}
+use Rattle.rx_ring.specs.Records.{Driven, drive, driving_from, driving, Controlled, control, controlling_from, controlling, empty_slots}
 
 driving_from-snoc : (d : Driven) (es : List DriverEvent) (e : DriverEvent) → driving_from d (es ++ e ∷ []) ≡ drive (driving_from d es) e
 driving_from-snoc d [] e = refl

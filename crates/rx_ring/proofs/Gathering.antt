@@ -1,14 +1,14 @@
 -- The making of a ring, the meeting of its ends, and the seats that are cut and joined for them.
-use Rattle.std.proofs.Common.{◌≡◌, ◌≢◌, ℕ, zero, suc, ◌+◌, ◌-◌, ◌%◌, ◌<◌, ◌≤◌, ◌⊎◌, Bool, true, false, List, [], ◌∷◌, ◌++◌, map, replicate, length, set, Option, Some, None, sym, refl, ap, ◌∙◌, subst, ⊎_elim, inl, inr, arith, mod-lt, mod-eq_of_lt, append_assoc, append-nil, length-set, get_or-set_same, get_or-set_other}
+use Rattle.std.proofs.Common.{◌≡◌, ℕ, zero, suc, ◌+◌, ◌%◌, ◌<◌, ◌≤◌, true, List, [], ◌∷◌, ◌++◌, map, replicate, length, set, Option, None, sym, refl, ap, ◌∙◌, subst, ⊎_elim, inr, arith, mod-eq_of_lt, append_assoc, append-nil, length-set, get_or-set_same, get_or-set_other}
 use Rattle.std.specs.Prelude.{slice_index, slice_set}
 use Rattle.std.proofs.lemmas.List.{length-replicate}
 use mathlib.Core.Option as maybe
 use mathlib.Core.Option.{some, none, some-injective, some-ne-none}
 use lib.ListN.{get_elem?}
-use Rattle.atomic_table.specs.Table.{State, Act, keeps, takes, gives, chain, Valid, homes_after, carried_after, step, Step, Allows, Splits, Joins, rest}
+use Rattle.atomic_table.specs.Table.{Act, keeps, takes, chain, Valid, homes_after, carried_after, step, Allows, Splits, Joins}
 use Rattle.atomic_table.proofs.Lists.{at_set, set_else}
-use Rattle.buffer_pool.specs.Buffer.{Buffer, buffer}
-use Rattle.ring_machine.specs.Ring.{Bytes, RxRing, opening}
+use Rattle.buffer_pool.specs.Buffer.{Buffer}
+use Rattle.ring_machine.specs.Ring.{Bytes, opening}
 use Rattle.ring_machine.specs.Agreement.{HasRegisters, registers_of}
 use Rattle.ring_machine.proofs.Kept.{IsKept}
 use Rattle.ring_machine.proofs.Reached.{kept, lawful}
@@ -18,8 +18,8 @@ use Rattle.rx_ring.specs.declared.view.ControllerEvent.{ControllerEvent}
 use Rattle.rx_ring.specs.declared.view.View.TheVariants.{Maker, Driver, Controller, Both, Nobody}
 use Rattle.rx_ring.specs.Seats.{Fits, HasSeats}
 use Rattle.rx_ring.specs.Records.{RxView, driving, controlling, empty_slots}
-use Rattle.rx_ring.specs.Rule.{Table, IsRuled, Runs, Begins, LiesAs, driven, controlled, opening_words_of}
-use Rattle.rx_ring.specs.Plays.{Seated, Deals, AreOf, Meets, both_halves}
+use Rattle.rx_ring.specs.Rule.{IsRuled, LiesAs, opening_words_of}
+use Rattle.rx_ring.specs.Plays.{Seated, Deals, Meets}
 use Rattle.rx_ring.proofs.Folds.{empty_slots-back}
 use Rattle.rx_ring.proofs.Seating.{both_are, same_seated, halve_seated, lend_seated, unite_seated, return_seated}
 use Rattle.rx_ring.proofs.Laying.{set-same}
@@ -37,7 +37,7 @@ carried-all n (suc k) c h = let below : k < n = omega arith in
     carried-all n k ((k, None) ∷ c) (omega arith)
     ∙ sym (append_assoc (empty_slots n 0 k) ((k, None) ∷ []) c)
     ∙ ap (λ (xs : List (ℕ × Option Buffer)). xs ++ c)
-        (ap (λ (j : ℕ). empty_slots n 0 k ++ (j, None) ∷ []) (sym (mod-eq_of_lt below) ∙ ap (λ (j : ℕ). j % n) (let e : k ≡ 0 + k = omega arith in e)) ∙ empty_slots-back n 0 k)
+    (ap (λ (j : ℕ). empty_slots n 0 k ++ (j, None) ∷ []) (sym (mod-eq_of_lt below) ∙ ap (λ (j : ℕ). j % n) (let e : k ≡ 0 + k = omega arith in e)) ∙ empty_slots-back n 0 k)
 
 valid-all : (k : ℕ) (c : List (ℕ × Option Buffer)) (homes : List (maybe.Option (Option Buffer))) → ((j : ℕ) → j < k → get_elem? homes j ≡ some (some None)) → Valid homes c (take_all k)
 unfolding take_all
@@ -111,13 +111,16 @@ allow-deal n id pos s ruled count at small = ⊎_elim
       Both [] [],
       take_all n,
       valid-all n [] s.homes (λ j h. subst (λ (hs : List (maybe.Option (Option Buffer))). get_elem? hs j ≡ some (some None)) (sym b.homes) (empty-homes n j h)),
-      (pos, inr (record {
-        queue = opening n true;
-        ds = [];
-        cs = [];
-        lies = opening-lies n (slice_set s.words (n + 2) (slice_index s.words (n + 2))) (homes_after s.homes [] (take_all n)) pos (set-same s.words (n + 2) ∙ b.words) (count-all n [] s.homes ∙ count);
-        seats = opening-seats s.views id b.views at;
-      })),
+      (
+        pos,
+        inr (record {
+          queue = opening n true;
+          ds = [];
+          cs = [];
+          lies = opening-lies n (slice_set s.words (n + 2) (slice_index s.words (n + 2))) (homes_after s.homes [] (take_all n)) pos (set-same s.words (n + 2) ∙ b.words) (count-all n [] s.homes ∙ count);
+          seats = opening-seats s.views id b.views at;
+        }),
+      ),
       record { seat = ap (λ (xs : List (ℕ × Option Buffer)). let m : Seated = (Both [] [], xs) in m) (carried-all n n [] (omega arith) ∙ append-nil (empty_slots n 0 n)) },
     ))
     (λ r. absurd (r.seats.fits id Maker at))
@@ -132,13 +135,16 @@ allow-meet n id ds cs slots s ruled count at small =
       Both ds cs,
       keeps,
       tt,
-      (ruled.0, inr (record {
-        queue = r.queue;
-        ds = r.ds;
-        cs = r.cs;
-        lies = subst (λ (ws : List ℕ). LiesAs n r.queue r.ds r.cs ws s.homes) (sym (set-same s.words 0)) r.lies;
-        seats = same_seated r.ds r.cs s.views id (Both ds cs) r.seats at;
-      })),
+      (
+        ruled.0,
+        inr (record {
+          queue = r.queue;
+          ds = r.ds;
+          cs = r.cs;
+          lies = subst (λ (ws : List ℕ). LiesAs n r.queue r.ds r.cs ws s.homes) (sym (set-same s.words 0)) r.lies;
+          seats = same_seated r.ds r.cs s.views id (Both ds cs) r.seats at;
+        }),
+      ),
       record {
         same = refl;
         of_one_ring = record {

@@ -1,33 +1,29 @@
 -- What each step makes of words, slots and records that lie as a ring has them: they lie as the stepped ring has them.
-use Rattle.std.proofs.Common.{◌≡◌, ◌≢◌, ℕ, zero, suc, ◌+◌, ◌-◌, ◌*◌, ◌/◌, ◌%◌, ◌^◌, ◌<◌, ◌≤◌, Bool, true, false, not, ◌&&◌, List, [], ◌∷◌, ◌++◌, map, take, length, set, Option, Some, None, sym, refl, ap, ◌∙◌, subst, ⊎_elim, arith, if◌then◌else◌, length-append, length-set, mod-lt, get_or-set_same, get_or-set_other}
+use Rattle.std.proofs.Common.{◌≡◌, ◌≢◌, ℕ, ◌+◌, ◌-◌, ◌*◌, ◌/◌, ◌%◌, ◌<◌, ◌≤◌, Bool, true, false, not, ◌&&◌, List, [], ◌∷◌, ◌++◌, length, set, Option, Some, None, sym, refl, ap, ◌∙◌, subst, arith, if◌then◌else◌, length-append, length-set, mod-lt, get_or-set_same, get_or-set_other}
 use Rattle.std.specs.Prelude.{slice_get, slice_index, slice_set, ◌==◌}
-use Rattle.std.proofs.lemmas.Bool.{and_from, lt-ltb, eq-eqb, eqb-true, eqb-false, cases_Bool, true≢false, false≢true}
-use Rattle.std.proofs.lemmas.Option.{same_Some, none-some}
+use Rattle.std.proofs.lemmas.Bool.{and_from, lt-ltb, eq-eqb, eqb-true}
 use mathlib.Core.Option as maybe
 use mathlib.Core.Option.{some, none}
-use lib.ListN.{get_elem?}
-use Rattle.atomic_table.specs.Table.{put_back}
 use Rattle.buffer_pool.specs.Buffer.{Buffer, buffer}
-use Rattle.ring_machine.specs.declared.steps.RxStep.{RxStep}
 use Rattle.ring_machine.specs.declared.steps.RxStep.TheVariants.{Post, Publish, Look, Fetch, Store, Take}
 use Rattle.ring_machine.specs.Ring.{Bytes, Segment, RxRing, is_open, is_live, is_answered, is_serving, posted_count, stored_count, taken_count, returned_count}
-use Rattle.ring_machine.specs.Steps.{can, changed, post, publish, look, fetch, store, took, due}
-use Rattle.ring_machine.specs.Frames.{Follows, AllFollow, unfinished}
+use Rattle.ring_machine.specs.Steps.{can, post, publish, look, fetch, store, took, due}
+use Rattle.ring_machine.specs.Frames.{Follows, unfinished}
 use Rattle.ring_machine.specs.Schedules.{IsReachable}
-use Rattle.ring_machine.specs.Agreement.{bit, rx_word, word_of, buffer_of, wanted_word, wanted_slot, HasItems, Registers, HasRegisters, registers_of}
-use Rattle.ring_machine.proofs.Kept.{IsKept, InOrder}
+use Rattle.ring_machine.specs.Agreement.{bit, rx_word, word_of, buffer_of, wanted_word, wanted_slot, HasItems, registers_of}
+use Rattle.ring_machine.proofs.Kept.{IsKept}
 use Rattle.ring_machine.proofs.Shakes.{live_unanswered, serving_unanswered}
-use Rattle.ring_machine.proofs.Places.{ahead, Writes, each_item-set, each_item-push, each_item-drop, each_item-same, slice_index-writes}
+use Rattle.ring_machine.proofs.Places.{ahead, Writes, each_item-set, each_item-push, each_item-drop, slice_index-writes}
 use Rattle.rx_ring.specs.declared.view.DriverEvent.{DriverEvent}
 use Rattle.rx_ring.specs.declared.view.DriverEvent.TheVariants.{Posted, Published, NotDone, Taken}
 use Rattle.rx_ring.specs.declared.view.ControllerEvent.{ControllerEvent}
 use Rattle.rx_ring.specs.declared.view.ControllerEvent.TheVariants.{Looked, Fetched, WroteBack}
-use Rattle.rx_ring.specs.Records.{Driven, drive, driving, Controlled, control, controlling, count_at, segment_of, eop_of}
-use Rattle.rx_ring.specs.Rule.{LiesAs, driven, controlled, home_at}
+use Rattle.rx_ring.specs.Records.{Driven, drive, Controlled, control, count_at, segment_of, eop_of}
+use Rattle.rx_ring.specs.Rule.{LiesAs, controlled, home_at}
 use Rattle.ring_machine.proofs.Reached.{kept, reachable-next}
 use Rattle.ring_machine.proofs.FrameLaws.{AllFollow-snoc}
 use Rattle.rx_ring.proofs.Folds.{driving-snoc, controlling-snoc}
-use Rattle.rx_ring.proofs.Laying.{set-same, registers-stay, descriptors-stay, home-full, home-given, home-taken, home-left, slice_get-snoc_other, slice_get-past, slice_get-front, slice_get-last, slice_get-below, slice_index-front, slice_index-last}
+use Rattle.rx_ring.proofs.Laying.{registers-stay, descriptors-stay, home-given, home-taken, home-left, slice_get-snoc_other, slice_get-past, slice_get-last, slice_get-below, slice_index-front, slice_index-last}
 
 abbrev pub fresh : ℕ → Buffer
 fresh b = buffer b []
@@ -107,9 +103,9 @@ module _ (n : ℕ) (q : RxRing Bytes) (ds : List DriverEvent) (cs : List Control
   slot-last : (b : ℕ) → slot_of (post q b) (posted_count q) ≡ Some (fresh b)
   slot-last b =
       slot_unheld q.held (posted_count q) (stored_count q) (buffer_of {Payload = Bytes} length fresh buffer (slice_index (q.ledger.posted ++ b ∷ []) (posted_count q)) (slice_get q.ledger.stored (posted_count q)))
-          (λ h e. let m = below_held h in omega arith)
+      (λ h e. let m = below_held h in omega arith)
       ∙ ap Some (ap (buffer_of {Payload = Bytes} length fresh buffer (slice_index (q.ledger.posted ++ b ∷ []) (posted_count q))) (slice_get-past q.ledger.stored (posted_count q) stored_posted)
-          ∙ ap fresh (slice_index-last q.ledger.posted b))
+      ∙ ap fresh (slice_index-last q.ledger.posted b))
 
   word-last : word_at q (posted_count q) ≡ 0
   word-last = ap (word_of {Payload = Bytes} length fresh buffer) (slice_get-past q.ledger.stored (posted_count q) stored_posted)
@@ -119,14 +115,14 @@ module _ (n : ℕ) (q : RxRing Bytes) (ds : List DriverEvent) (cs : List Control
   post-items b p at room empty in_words in_homes = let k = keeps_it in let o = k.order in let rp = o.returned_posted in record {
     words = subst (λ (past : ℕ). (k : ℕ) → returned_count q ≤ k → k < past → slice_index (slice_set words p 0) (k % n) ≡ word_at q k) (sym (length-posted b.number))
         (each_item-push n (returned_count q) (posted_count q) (slice_index words) (slice_index (slice_set words p 0)) (word_at q) (word_at q) (omega arith) (omega arith)
-            (subst (λ (x : ℕ). Writes n (slice_index words) (slice_index (slice_set words p 0)) (posted_count q % n) x) (sym word-last)
-                (subst (λ (j : ℕ). Writes n (slice_index words) (slice_index (slice_set words p 0)) j 0) at (slice_index-writes words n p 0 in_words)))
-            (λ k a c. refl) rp l.items.words);
+        (subst (λ (x : ℕ). Writes n (slice_index words) (slice_index (slice_set words p 0)) (posted_count q % n) x) (sym word-last)
+        (subst (λ (j : ℕ). Writes n (slice_index words) (slice_index (slice_set words p 0)) j 0) at (slice_index-writes words n p 0 in_words)))
+        (λ k a c. refl) rp l.items.words);
     slots = subst (λ (past : ℕ). (k : ℕ) → returned_count q ≤ k → k < past → home_at (set homes p (some (Some b))) (k % n) ≡ slot_of (post q b.number) k) (sym (length-posted b.number))
         (each_item-push n (returned_count q) (posted_count q) (home_at homes) (home_at (set homes p (some (Some b)))) (slot_of q) (slot_of (post q b.number)) (omega arith) (omega arith)
-            (subst (λ (x : Option Buffer). Writes n (home_at homes) (home_at (set homes p (some (Some b)))) (posted_count q % n) x) (ap Some empty ∙ sym (slot-last b.number))
-                (subst (λ (j : ℕ). Writes n (home_at homes) (home_at (set homes p (some (Some b)))) j (Some b)) at (home-given homes n p (Some b) in_homes)))
-            (λ k a c. slot-posted b.number k c) rp l.items.slots);
+        (subst (λ (x : Option Buffer). Writes n (home_at homes) (home_at (set homes p (some (Some b)))) (posted_count q % n) x) (ap Some empty ∙ sym (slot-last b.number))
+        (subst (λ (j : ℕ). Writes n (home_at homes) (home_at (set homes p (some (Some b)))) j (Some b)) at (home-given homes n p (Some b) in_homes)))
+        (λ k a c. slot-posted b.number k c) rp l.items.slots);
   }
 
   -- A1
@@ -137,15 +133,15 @@ module _ (n : ℕ) (q : RxRing Bytes) (ds : List DriverEvent) (cs : List Control
       let below : p < n = omega arith in
       let in_words : p < length words = omega arith in
       let in_homes : p < length homes = omega arith in record {
-    word_count = length-set words p 0 ∙ l.word_count;
-    slot_count = length-set homes p (some (Some b)) ∙ l.slot_count;
-    reachable = reachable-next n q (Post b.number) (can-post opened room b.number) l.reachable;
-    driver = driving-snoc ds (Posted p 0 b) ∙ ap (λ (d : Driven). drive d (Posted p 0 b)) l.driver;
-    controller = l.controller ∙ controlled-post b.number;
-    registers = registers-stay n p 0 (registers_of q) words below l.registers;
-    items = post-items b p at room empty in_words in_homes;
-    follow = l.follow;
-  }
+        word_count = length-set words p 0 ∙ l.word_count;
+        slot_count = length-set homes p (some (Some b)) ∙ l.slot_count;
+        reachable = reachable-next n q (Post b.number) (can-post opened room b.number) l.reachable;
+        driver = driving-snoc ds (Posted p 0 b) ∙ ap (λ (d : Driven). drive d (Posted p 0 b)) l.driver;
+        controller = l.controller ∙ controlled-post b.number;
+        registers = registers-stay n p 0 (registers_of q) words below l.registers;
+        items = post-items b p at room empty in_words in_homes;
+        follow = l.follow;
+      }
 
   pub unreclaimed : is_answered q.handshake.driver ≡ false → returned_count q ≡ taken_count q
   unreclaimed h = let k = keeps_it in let o = k.order in let z = o.not_reclaimed h in omega arith
@@ -155,23 +151,23 @@ module _ (n : ℕ) (q : RxRing Bytes) (ds : List DriverEvent) (cs : List Control
       → LiesAs n (publish q) (ds ++ Published t ∷ []) cs (slice_set words (n + 1) t) homes
   publish-lies t at opened = let k = keeps_it in let wc = l.word_count in let g = l.registers in
       let in_words : n + 1 < length words = omega arith in record {
-    word_count = length-set words (n + 1) t ∙ l.word_count;
-    slot_count = l.slot_count;
-    reachable = reachable-next n q Publish opened l.reachable;
-    driver = driving-snoc ds (Published t) ∙ ap (λ (d : Driven). drive d (Published t)) l.driver;
-    controller = l.controller;
-    registers = record {
-      head = get_or-set_other words (n + 1) n t 0 (λ e. omega arith) ∙ g.head;
-      tail = get_or-set_same words (n + 1) t 0 in_words ∙ at ∙ ap (λ (m : ℕ). posted_count q % m) (sym k.size_is);
-      control = get_or-set_other words (n + 1) (n + 2) t 0 (λ e. omega arith) ∙ g.control;
-      quiet = get_or-set_other words (n + 1) (n + 3) t 0 (λ e. omega arith) ∙ g.quiet;
-    };
-    items = record {
-      words = λ k a b. descriptors-stay n (n + 1) t (k % n) words (omega arith) (mod-lt k (omega arith)) ∙ l.items.words k a b;
-      slots = l.items.slots;
-    };
-    follow = l.follow;
-  }
+        word_count = length-set words (n + 1) t ∙ l.word_count;
+        slot_count = l.slot_count;
+        reachable = reachable-next n q Publish opened l.reachable;
+        driver = driving-snoc ds (Published t) ∙ ap (λ (d : Driven). drive d (Published t)) l.driver;
+        controller = l.controller;
+        registers = record {
+          head = get_or-set_other words (n + 1) n t 0 (λ e. omega arith) ∙ g.head;
+          tail = get_or-set_same words (n + 1) t 0 in_words ∙ at ∙ ap (λ (m : ℕ). posted_count q % m) (sym k.size_is);
+          control = get_or-set_other words (n + 1) (n + 2) t 0 (λ e. omega arith) ∙ g.control;
+          quiet = get_or-set_other words (n + 1) (n + 3) t 0 (λ e. omega arith) ∙ g.quiet;
+        };
+        items = record {
+          words = λ k a b. descriptors-stay n (n + 1) t (k % n) words (omega arith) (mod-lt k (omega arith)) ∙ l.items.words k a b;
+          slots = l.items.slots;
+        };
+        follow = l.follow;
+      }
 
   -- A6, with no DD
   pub not_done-lies : (p r : ℕ) → LiesAs n q (ds ++ NotDone p r ∷ []) cs words homes
@@ -200,12 +196,12 @@ module _ (n : ℕ) (q : RxRing Bytes) (ds : List DriverEvent) (cs : List Control
       let grew : returned_count (took q (Some s)) ≡ returned_count q + 1 = let e = length-append q.ledger.taken (s ∷ []) in omega arith in
       let place : p ≡ returned_count q % n = at ∙ ap (λ (j : ℕ). j % n) (sym e0) in
       record {
-    words = subst (λ (first : ℕ). (k : ℕ) → first ≤ k → k < posted_count q → slice_index words (k % n) ≡ word_at q k) (sym grew)
-        (each_item-drop n (returned_count q) (posted_count q) (slice_index words) (slice_index words) (word_at q) (omega arith) w (omega arith) (λ j a b. refl) l.items.words);
-    slots = subst (λ (first : ℕ). (k : ℕ) → first ≤ k → k < posted_count q → home_at (set homes p none) (k % n) ≡ slot_of q k) (sym grew)
-        (each_item-drop n (returned_count q) (posted_count q) (home_at homes) (home_at (set homes p none)) (slot_of q) (omega arith) w (omega arith)
+        words = subst (λ (first : ℕ). (k : ℕ) → first ≤ k → k < posted_count q → slice_index words (k % n) ≡ word_at q k) (sym grew)
+            (each_item-drop n (returned_count q) (posted_count q) (slice_index words) (slice_index words) (word_at q) (omega arith) w (omega arith) (λ j a b. refl) l.items.words);
+        slots = subst (λ (first : ℕ). (k : ℕ) → first ≤ k → k < posted_count q → home_at (set homes p none) (k % n) ≡ slot_of q k) (sym grew)
+            (each_item-drop n (returned_count q) (posted_count q) (home_at homes) (home_at (set homes p none)) (slot_of q) (omega arith) w (omega arith)
             (λ j a b. home-left homes p j (λ e. b (e ∙ place))) l.items.slots);
-  }
+      }
 
   -- A6, with DD
   pub take-lies : (s : Segment Bytes) (p r : ℕ) → due q ≡ Some s → p ≡ taken_count q % n → is_live q.handshake.driver ≡ true → r ≡ rx_word (length s.payload) s.eop
@@ -256,8 +252,8 @@ module _ (n : ℕ) (q : RxRing Bytes) (ds : List DriverEvent) (cs : List Control
     words = l.items.words;
     slots = each_item-set n (returned_count q) (posted_count q) (stored_count q) (home_at homes) (home_at (set homes p none)) (slot_of q) (slot_of (fetch q)) (omega arith) w rs (omega arith)
         (subst (λ (x : Option Buffer). Writes n (home_at homes) (home_at (set homes p none)) (stored_count q % n) x)
-            (sym (slot_held true (stored_count q) (stored_count q) (buffer_of {Payload = Bytes} length fresh buffer (slice_index q.ledger.posted (stored_count q)) (slice_get q.ledger.stored (stored_count q))) refl refl))
-            (subst (λ (j : ℕ). Writes n (home_at homes) (home_at (set homes p none)) j None) at (home-taken homes n p in_homes)))
+        (sym (slot_held true (stored_count q) (stored_count q) (buffer_of {Payload = Bytes} length fresh buffer (slice_index q.ledger.posted (stored_count q)) (slice_get q.ledger.stored (stored_count q))) refl refl))
+        (subst (λ (j : ℕ). Writes n (home_at homes) (home_at (set homes p none)) j None) at (home-taken homes n p in_homes)))
         (λ k a b ne. slot-other true k ne) l.items.slots;
   }
 
@@ -266,15 +262,15 @@ module _ (n : ℕ) (q : RxRing Bytes) (ds : List DriverEvent) (cs : List Control
       → LiesAs n (fetch q) ds (cs ++ Fetched p r (fresh (slice_index q.ledger.posted (stored_count q))) ∷ []) words (set homes p none)
   fetch-lies p r at serving unheld some_known moving = let sc = l.slot_count in
       let small : stored_count q % n < n = mod-lt (stored_count q) (omega arith) in record {
-    word_count = l.word_count;
-    slot_count = length-set homes p none ∙ l.slot_count;
-    reachable = reachable-next n q Fetch (and_from _ _ (and_from _ _ (and_from _ _ serving (ap not unheld)) (lt-ltb (stored_count q) q.known some_known)) (ap not moving)) l.reachable;
-    driver = l.driver;
-    controller = controlling-snoc n cs (Fetched p r (fresh (slice_index q.ledger.posted (stored_count q)))) ∙ ap (λ (c : Controlled). control n c (Fetched p r (fresh (slice_index q.ledger.posted (stored_count q))))) l.controller;
-    registers = l.registers;
-    items = fetch-items p at serving some_known (omega arith);
-    follow = l.follow;
-  }
+        word_count = l.word_count;
+        slot_count = length-set homes p none ∙ l.slot_count;
+        reachable = reachable-next n q Fetch (and_from _ _ (and_from _ _ (and_from _ _ serving (ap not unheld)) (lt-ltb (stored_count q) q.known some_known)) (ap not moving)) l.reachable;
+        driver = l.driver;
+        controller = controlling-snoc n cs (Fetched p r (fresh (slice_index q.ledger.posted (stored_count q)))) ∙ ap (λ (c : Controlled). control n c (Fetched p r (fresh (slice_index q.ledger.posted (stored_count q))))) l.controller;
+        registers = l.registers;
+        items = fetch-items p at serving some_known (omega arith);
+        follow = l.follow;
+      }
 
   -- what is stored at another place as one more segment is stored
   stored-other : (s : Segment Bytes) (k : ℕ) → k ≢ stored_count q → slice_get (q.ledger.stored ++ s ∷ []) k ≡ slice_get q.ledger.stored k
@@ -284,17 +280,17 @@ module _ (n : ℕ) (q : RxRing Bytes) (ds : List DriverEvent) (cs : List Control
       → HasItems {Payload = Bytes} length fresh buffer n (store q b.bytes eop) (slice_index (slice_set words p (rx_word (length b.bytes) eop))) (home_at (set homes p (some (Some b))))
   store-items b eop p at held real number in_words in_homes = let k = keeps_it in let o = k.order in let rs = returned_stored (o.held_serving held) in let bh = below_held held in let w = within in
       let s : Segment Bytes = record { number = slice_index q.ledger.posted (stored_count q); payload = b.bytes; eop = eop } in record {
-    words = each_item-set n (returned_count q) (posted_count q) (stored_count q) (slice_index words) (slice_index (slice_set words p (rx_word (length b.bytes) eop))) (word_at q) (word_at (store q b.bytes eop)) (omega arith) w rs bh
-        (subst (λ (x : ℕ). Writes n (slice_index words) (slice_index (slice_set words p (rx_word (length b.bytes) eop))) (stored_count q % n) x)
+        words = each_item-set n (returned_count q) (posted_count q) (stored_count q) (slice_index words) (slice_index (slice_set words p (rx_word (length b.bytes) eop))) (word_at q) (word_at (store q b.bytes eop)) (omega arith) w rs bh
+            (subst (λ (x : ℕ). Writes n (slice_index words) (slice_index (slice_set words p (rx_word (length b.bytes) eop))) (stored_count q % n) x)
             (sym (ap (word_of {Payload = Bytes} length fresh buffer) (slice_get-last q.ledger.stored s)))
             (subst (λ (j : ℕ). Writes n (slice_index words) (slice_index (slice_set words p (rx_word (length b.bytes) eop))) j (rx_word (length b.bytes) eop)) at (slice_index-writes words n p (rx_word (length b.bytes) eop) in_words)))
-        (λ k a c ne. ap (word_of {Payload = Bytes} length fresh buffer) (stored-other s k ne)) l.items.words;
-    slots = each_item-set n (returned_count q) (posted_count q) (stored_count q) (home_at homes) (home_at (set homes p (some (Some b)))) (slot_of q) (slot_of (store q b.bytes eop)) (omega arith) w rs bh
-        (subst (λ (x : Option Buffer). Writes n (home_at homes) (home_at (set homes p (some (Some b)))) (stored_count q % n) x)
+            (λ k a c ne. ap (word_of {Payload = Bytes} length fresh buffer) (stored-other s k ne)) l.items.words;
+        slots = each_item-set n (returned_count q) (posted_count q) (stored_count q) (home_at homes) (home_at (set homes p (some (Some b)))) (slot_of q) (slot_of (store q b.bytes eop)) (omega arith) w rs bh
+            (subst (λ (x : Option Buffer). Writes n (home_at homes) (home_at (set homes p (some (Some b)))) (stored_count q % n) x)
             (ap Some (real ∙ ap (λ (j : ℕ). buffer j b.bytes) number ∙ sym (ap (buffer_of {Payload = Bytes} length fresh buffer (slice_index q.ledger.posted (stored_count q))) (slice_get-last q.ledger.stored s))))
             (subst (λ (j : ℕ). Writes n (home_at homes) (home_at (set homes p (some (Some b)))) j (Some b)) at (home-given homes n p (Some b) in_homes)))
-        (λ k a c ne. ap (λ (x : Option (Segment Bytes)). Some (buffer_of {Payload = Bytes} length fresh buffer (slice_index q.ledger.posted k) x)) (stored-other s k ne) ∙ slot-other false k ne) l.items.slots;
-  }
+            (λ k a c ne. ap (λ (x : Option (Segment Bytes)). Some (buffer_of {Payload = Bytes} length fresh buffer (slice_index q.ledger.posted k) x)) (stored-other s k ne) ∙ slot-other false k ne) l.items.slots;
+      }
 
   segment-stored : (b : Buffer) (eop : Bool) → b.number ≡ slice_index q.ledger.posted (stored_count q)
       → (let c : Controlled = record (controlled q) { stored = q.ledger.stored ++ segment_of (rx_word (length b.bytes) eop) b ∷ []; held = None } in c) ≡ controlled (store q b.bytes eop)
@@ -309,12 +305,12 @@ module _ (n : ℕ) (q : RxRing Bytes) (ds : List DriverEvent) (cs : List Control
   store-lies b eop p at held real number follows = let sc = l.slot_count in let wc = l.word_count in
       let small : stored_count q % n < n = mod-lt (stored_count q) (omega arith) in
       let w : ℕ = rx_word (length b.bytes) eop in record {
-    word_count = length-set words p (rx_word (length b.bytes) eop) ∙ l.word_count;
-    slot_count = length-set homes p (some (Some b)) ∙ l.slot_count;
-    reachable = reachable-next n q (Store b.bytes eop) held l.reachable;
-    driver = l.driver;
-    controller = controlling-snoc n cs (WroteBack p (rx_word (length b.bytes) eop) b) ∙ ap (λ (c : Controlled). control n c (WroteBack p (rx_word (length b.bytes) eop) b)) l.controller ∙ segment-stored b eop number;
-    registers = registers-stay n p (rx_word (length b.bytes) eop) (registers_of q) words (omega arith) l.registers;
-    items = store-items b eop p at held real number (omega arith) (omega arith);
-    follow = AllFollow-snoc n q.ledger.stored (record { number = slice_index q.ledger.posted (stored_count q); payload = b.bytes; eop = eop }) l.follow follows;
-  }
+        word_count = length-set words p (rx_word (length b.bytes) eop) ∙ l.word_count;
+        slot_count = length-set homes p (some (Some b)) ∙ l.slot_count;
+        reachable = reachable-next n q (Store b.bytes eop) held l.reachable;
+        driver = l.driver;
+        controller = controlling-snoc n cs (WroteBack p (rx_word (length b.bytes) eop) b) ∙ ap (λ (c : Controlled). control n c (WroteBack p (rx_word (length b.bytes) eop) b)) l.controller ∙ segment-stored b eop number;
+        registers = registers-stay n p (rx_word (length b.bytes) eop) (registers_of q) words (omega arith) l.registers;
+        items = store-items b eop p at held real number (omega arith) (omega arith);
+        follow = AllFollow-snoc n q.ledger.stored (record { number = slice_index q.ledger.posted (stored_count q); payload = b.bytes; eop = eop }) l.follow follows;
+      }

@@ -1,22 +1,20 @@
 -- What `poll` leaves and answers, over the fields of its end.
-use Rattle.std.proofs.Common.{◌≡◌, ℕ, suc, ◌+◌, ◌-◌, ◌/◌, ◌%◌, ◌<◌, ◌≤◌, Bool, true, List, [], ◌∷◌, ◌++◌, length, Option, Some, None, sym, refl, ap, ◌∙◌, subst, arith, if◌then◌else◌, length-append, mod-lt}
-use Rattle.std.specs.Prelude.{◌==◌, slice_get}
+use Rattle.std.proofs.Common.{◌≡◌, ℕ, ◌+◌, ◌-◌, ◌%◌, ◌<◌, true, List, [], ◌∷◌, ◌++◌, length, Option, Some, None, sym, refl, ap, ◌∙◌, subst, arith, if◌then◌else◌, length-append}
+use Rattle.std.specs.Prelude.{◌==◌}
 use mathlib.Core.Option.{none}
 use Rattle.atomic_table.specs.Table.{step, rest, turned}
 use Rattle.atomic_table.specs.Seated.{TableId}
-use Rattle.buffer_pool.specs.Buffer.{Buffer, buffer}
+use Rattle.buffer_pool.specs.Buffer.{Buffer}
 use Rattle.ring_machine.specs.declared.states.DriverState.{DriverState}
 use Rattle.ring_machine.specs.Ring.{Bytes, Segment, is_live}
 use Rattle.ring_machine.specs.Frames.{Follows, unfinished}
-use Rattle.ring_machine.specs.Agreement.{rx_word}
 use Rattle.ring_machine.proofs.Places.{next_place}
 use Rattle.rx_ring.specs.declared.view.DriverEvent.{DriverEvent}
 use Rattle.rx_ring.specs.declared.view.DriverEvent.TheVariants.{NotDone, Taken}
 use Rattle.rx_ring.specs.declared.view.View.TheVariants.{Driver}
-use Rattle.rx_ring.specs.Records.{RxView, drivers_of, Driven, drive, driving, driver_slots, empty_slots, front_buffer, segment_of, eop_of}
-use Rattle.rx_ring.specs.Rule.{IsRingLength}
+use Rattle.rx_ring.specs.Records.{drivers_of, Driven, drive, driving, driver_slots, empty_slots, front_buffer, segment_of, eop_of}
 use Rattle.rx_ring.specs.Plays.{Seated, driver_does, TakesOut}
-use Rattle.rx_ring.specs.Ends.{IsDriverEnd, DriverSide, SawNotDone, TookSegment, SamePosted, driver_size, taken, posted, take_place, appended, driver_state}
+use Rattle.rx_ring.specs.Ends.{IsDriverEnd, DriverSide, SawNotDone, TookSegment, SamePosted, taken, posted, take_place, appended, driver_state}
 use Rattle.rx_ring.proofs.Folds.{driving-snoc, slots-take}
 use Rattle.rx_ring.proofs.DriverCalls.{driver-end, same-end, slots-are-its, big}
 
@@ -57,8 +55,8 @@ module _ (table : TableId) (me : Seated) (size fill next out : ℕ) (state : Dri
   pub saw-not_done : (now : DriverSide) (table' : TableId) (me' : Seated) (r : ℕ) → side table me ≡ now → table' ≡ table → me' ≡ (driver_does me (NotDone next r), me.1) → r % 2 ≡ 0 → SawNotDone now (side table' me')
   saw-not_done now table' me' r was same did clear =
       subst (λ (s : DriverSide). SawNotDone s (side table' me')) was
-          (subst (λ (z : TableId). SawNotDone (side table me) (side z me')) (sym same)
-              (subst (λ (m : Seated). SawNotDone (side table me) (side table m)) (sym did) (not_done-at r clear)))
+      (subst (λ (z : TableId). SawNotDone (side table me) (side z me')) (sym same)
+      (subst (λ (m : Seated). SawNotDone (side table me) (side table m)) (sym did) (not_done-at r clear)))
 
   -- the seat after the load, the exchange and the turn
   taken-seat : (r : ℕ) (b : Buffer) (me1 me2 me3 : Seated) → me1 ≡ (driver_does me (Taken next r b), (next, Some b) ∷ me.1) → me2 ≡ (me1.0, (next, None) ∷ rest me1.1) → me3 ≡ (me2.0, turned me2.1)
@@ -72,22 +70,22 @@ module _ (table : TableId) (me : Seated) (size fill next out : ℕ) (state : Dri
   after-take : (r : ℕ) (b : Buffer) → IsDriverEnd table (Driver (drivers_of me.0 ++ Taken next r b ∷ []), me.1 ++ (next, None) ∷ []) size fill (if (next + 1) == size then 0 else (next + 1)) (out - 1) state
   after-take r b = let o = inv.out_is in let m = inv.room in let g = big table me size fill next out state inv in
       driver-end table (drivers_of me.0 ++ Taken next r b ∷ []) (me.1 ++ (next, None) ∷ []) size fill _ (out - 1) state (drive d (Taken next r b)) (driving-snoc (drivers_of me.0) (Taken next r b))
-          inv.size_is inv.words inv.lawful
-          (ap (λ (xs : List (ℕ × Option Buffer)). xs ++ (next, None) ∷ []) (slots-are-its table me size fill next out state inv)
-              ∙ ap (λ (j : ℕ). driver_slots size d ++ (j, None) ∷ []) inv.next_is
-              ∙ slots-take size (length d.posted) (length d.taken) (omega arith)
-              ∙ ap (λ (j : ℕ). empty_slots size (length d.posted) (j + size - length d.posted)) (sym (taken-more (segment_of r b))))
-          inv.fill_is
-          (ap (λ (j : ℕ). if (j + 1) == size then 0 else (j + 1)) inv.next_is ∙ next_place size (length d.taken) (omega arith) ∙ ap (λ (j : ℕ). j % size) (sym (taken-more (segment_of r b))))
-          (let e = taken-more (segment_of r b) in omega arith)
-          (omega arith)
-          inv.state_is
+      inv.size_is inv.words inv.lawful
+      (ap (λ (xs : List (ℕ × Option Buffer)). xs ++ (next, None) ∷ []) (slots-are-its table me size fill next out state inv)
+      ∙ ap (λ (j : ℕ). driver_slots size d ++ (j, None) ∷ []) inv.next_is
+      ∙ slots-take size (length d.posted) (length d.taken) (omega arith)
+      ∙ ap (λ (j : ℕ). empty_slots size (length d.posted) (j + size - length d.posted)) (sym (taken-more (segment_of r b))))
+      inv.fill_is
+      (ap (λ (j : ℕ). if (j + 1) == size then 0 else (j + 1)) inv.next_is ∙ next_place size (length d.taken) (omega arith) ∙ ap (λ (j : ℕ). j % size) (sym (taken-more (segment_of r b))))
+      (let e = taken-more (segment_of r b) in omega arith)
+      (omega arith)
+      inv.state_is
 
   pub take-keeps : (r : ℕ) (b : Buffer) (table' : TableId) (me1 me2 me3 : Seated) (next' : ℕ) → table' ≡ table → me1 ≡ (driver_does me (Taken next r b), (next, Some b) ∷ me.1) → me2 ≡ (me1.0, (next, None) ∷ rest me1.1) → me3 ≡ (me2.0, turned me2.1)
       → next' ≡ (if (next + 1) == size then 0 else (next + 1)) → IsDriverEnd table' me3 size fill next' (out - 1) state
   take-keeps r b table' me1 me2 me3 next' same did left turned_is at =
       subst (λ (j : ℕ). IsDriverEnd table' me3 size fill j (out - 1) state) (sym at)
-          (same-end table table' (Driver (drivers_of me.0 ++ Taken next r b ∷ []), me.1 ++ (next, None) ∷ []) me3 size fill _ (out - 1) state same (taken-seat r b me1 me2 me3 did left turned_is) (after-take r b))
+      (same-end table table' (Driver (drivers_of me.0 ++ Taken next r b ∷ []), me.1 ++ (next, None) ∷ []) me3 size fill _ (out - 1) state same (taken-seat r b me1 me2 me3 did left turned_is) (after-take r b))
 
   took-at : (r slots : ℕ) (me1 : Seated) → slots ≡ size → (t : TakesOut (step slots next 0 0 none) me r me1) → TookSegment (side table me) t.buf (eop_of r) (appended (side table me) (Taken next r t.buf))
   took-at r slots me1 count t = record {
@@ -108,6 +106,6 @@ module _ (table : TableId) (me : Seated) (size fill next out : ℕ) (state : Dri
   took-segment now r slots me1 me2 me3 table' b count was t got left turned_is same =
       let is : b ≡ t.buf = got ∙ ap (λ (m : Seated). front_buffer m.1) t.seat in
       subst (λ (s : DriverSide). TookSegment s b (eop_of r) (side table' me3)) was
-          (subst (λ (z : TableId). TookSegment (side table me) b (eop_of r) (side z me3)) (sym same)
-              (subst (λ (m : Seated). TookSegment (side table me) b (eop_of r) (side table m)) (sym (taken-seat r t.buf me1 me2 me3 t.seat left turned_is))
-                  (subst (λ (x : Buffer). TookSegment (side table me) x (eop_of r) (appended (side table me) (Taken next r t.buf))) (sym is) (took-at r slots me1 count t))))
+      (subst (λ (z : TableId). TookSegment (side table me) b (eop_of r) (side z me3)) (sym same)
+      (subst (λ (m : Seated). TookSegment (side table me) b (eop_of r) (side table m)) (sym (taken-seat r t.buf me1 me2 me3 t.seat left turned_is))
+      (subst (λ (x : Buffer). TookSegment (side table me) x (eop_of r) (appended (side table me) (Taken next r t.buf))) (sym is) (took-at r slots me1 count t))))

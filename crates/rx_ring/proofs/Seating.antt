@@ -1,6 +1,6 @@
 -- Whose record each seat has, as one of them steps. It goes for any kinds of events.
 use Rattle.std.proofs.Common.{zero, suc, ◌<◌, ◌≡◌, ◌≢◌, ℕ, ◌⊎◌, List, [], ◌∷◌, ◌++◌, length, set, sym, refl, ap, ◌∙◌, subst, ⊎_elim, inl, inr, arith}
-use mathlib.Core.Option.{some, none, some-injective, some-ne-none}
+use mathlib.Core.Option.{some, some-injective, some-ne-none}
 use Rattle.std.proofs.Math.ListN.{length-set}
 use lib.ListN.{get_elem?}
 use Rattle.atomic_table.proofs.Lists.{at_set, set_again, set_else}
@@ -88,9 +88,9 @@ module _ {D C : Type 0} where
     controller_seat = length views;
     fits = λ j v e. ⊎_elim
         (λ old. ⊎_elim
-            (λ p. subst (λ (u : View D C). Fits ds cs h.driver_seat (length views) j u) p.1 (subst (λ (m : ℕ). Fits ds cs h.driver_seat (length views) m w) (sym p.0) f))
-            (λ p. fits-moved ds cs h.driver_seat h.controller_seat (length views) j v (λ q. p.0 (q ∙ sym is)) (h.fits j v p.1))
-            (at_set views id j w v old))
+        (λ p. subst (λ (u : View D C). Fits ds cs h.driver_seat (length views) j u) p.1 (subst (λ (m : ℕ). Fits ds cs h.driver_seat (length views) m w) (sym p.0) f))
+        (λ p. fits-moved ds cs h.driver_seat h.controller_seat (length views) j v (λ q. p.0 (q ∙ sym is)) (h.fits j v p.1))
+        (at_set views id j w v old))
         (λ new. subst (λ (u : View D C). Fits ds cs h.driver_seat (length views) j u) new.1 (new.0, refl))
         (at_snoc_or (set views id w) (Controller cs) v j (length views) (length-set views id w) e);
   }
@@ -99,13 +99,13 @@ module _ {D C : Type 0} where
   pub halve_seated : (ds es : List D) (cs fs : List C) (views : List (View D C)) (id : ℕ) → HasSeats ds cs views → get_elem? views id ≡ some (Both es fs) → HasSeats ds cs (set views id (Driver es) ++ Controller fs ∷ [])
   halve_seated ds es cs fs views id h e = let f = h.fits id (Both es fs) e in
       subst (λ (xs : List C). HasSeats ds cs (set views id (Driver es) ++ Controller xs ∷ [])) (sym f.3)
-          (moved ds cs views id h (Driver es) f.2 (within_list views id (Both es fs) e) (f.0, f.1))
+      (moved ds cs views id h (Driver es) f.2 (within_list views id (Both es fs) e) (f.0, f.1))
 
   -- a seat lends its record to a new seat
   pub lend_seated : (ds : List D) (cs fs : List C) (views : List (View D C)) (id : ℕ) → HasSeats ds cs views → get_elem? views id ≡ some (Controller fs) → HasSeats ds cs (set views id Nobody ++ Controller fs ∷ [])
   lend_seated ds cs fs views id h e = let f = h.fits id (Controller fs) e in
       subst (λ (xs : List C). HasSeats ds cs (set views id Nobody ++ Controller xs ∷ [])) (sym f.1)
-          (moved ds cs views id h Nobody f.0 (within_list views id (Controller fs) e) tt)
+      (moved ds cs views id h Nobody f.0 (within_list views id (Controller fs) e) tt)
 
   -- the controller's record goes from the seat `other` to the seat id, which has the view w
   handed : (ds : List D) (cs : List C) (views : List (View D C)) (id other : ℕ) (h : HasSeats ds cs views) (w : View D C) → other ≡ h.controller_seat → ¬ (other ≡ id)
@@ -116,9 +116,9 @@ module _ {D C : Type 0} where
     fits = λ j v e. ⊎_elim
         (λ spent. subst (λ (u : View D C). Fits ds cs h.driver_seat id j u) spent.1 tt)
         (λ old. ⊎_elim
-            (λ p. subst (λ (u : View D C). Fits ds cs h.driver_seat id j u) p.1 (subst (λ (m : ℕ). Fits ds cs h.driver_seat id m w) (sym p.0) f))
-            (λ p. fits-moved ds cs h.driver_seat h.controller_seat id j v (λ q. old.0 (q ∙ sym is)) (h.fits j v p.1))
-            (at_set views id j w v old.1))
+        (λ p. subst (λ (u : View D C). Fits ds cs h.driver_seat id j u) p.1 (subst (λ (m : ℕ). Fits ds cs h.driver_seat id m w) (sym p.0) f))
+        (λ p. fits-moved ds cs h.driver_seat h.controller_seat id j v (λ q. old.0 (q ∙ sym is)) (h.fits j v p.1))
+        (at_set views id j w v old.1))
         (at_set (set views id w) other j Nobody v e);
   }
 

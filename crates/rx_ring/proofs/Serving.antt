@@ -1,26 +1,25 @@
 -- The steps of the controller's end: each keeps the rule, and tells what its play says.
-use Rattle.std.proofs.Common.{◌≡◌, ◌≢◌, ℕ, zero, suc, ◌+◌, ◌-◌, ◌*◌, ◌%◌, ◌^◌, ◌<◌, ◌≤◌, Bool, true, false, List, [], ◌∷◌, ◌++◌, length, set, Option, Some, None, sym, refl, ap, ◌∙◌, subst, arith, mod-lt}
-use Rattle.std.specs.Prelude.{slice_get, slice_index, slice_set, if◌then◌else◌}
+use Rattle.std.proofs.Common.{◌≡◌, ℕ, ◌+◌, ◌%◌, ◌<◌, ◌≤◌, Bool, true, false, List, [], ◌∷◌, ◌++◌, length, set, Option, Some, None, sym, refl, ap, ◌∙◌, subst, arith, mod-lt}
+use Rattle.std.specs.Prelude.{slice_index, if◌then◌else◌}
 use Rattle.std.proofs.lemmas.Option.{same_Some, none-some}
 use mathlib.Core.Option as maybe
 use mathlib.Core.Option.{some, none}
 use lib.ListN.{get_elem?}
-use Rattle.atomic_table.specs.Table.{Act, keeps, takes, gives, Valid, homes_after, carried_after, step, Step, Allows, rest}
+use Rattle.atomic_table.specs.Table.{keeps, takes, gives, step, Allows}
 use Rattle.buffer_pool.specs.Buffer.{Buffer, buffer}
-use Rattle.ring_machine.specs.Ring.{Bytes, Segment, RxRing, is_serving, posted_count, stored_count, taken_count, returned_count}
+use Rattle.ring_machine.specs.Ring.{Bytes, Segment, RxRing, is_serving, stored_count}
 use Rattle.ring_machine.specs.Steps.{look, fetch, store}
 use Rattle.ring_machine.specs.Frames.{Follows, unfinished}
-use Rattle.ring_machine.specs.Agreement.{rx_word, word_of, buffer_of}
-use Rattle.ring_machine.proofs.Kept.{IsKept}
+use Rattle.ring_machine.specs.Agreement.{rx_word, buffer_of}
 use Rattle.rx_ring.specs.declared.view.DriverEvent.{DriverEvent}
 use Rattle.rx_ring.specs.declared.view.ControllerEvent.{ControllerEvent}
 use Rattle.rx_ring.specs.declared.view.ControllerEvent.TheVariants.{Looked, Fetched, WroteBack}
 use Rattle.rx_ring.specs.declared.view.View.TheVariants.{Controller}
-use Rattle.rx_ring.specs.Records.{RxView, Controlled, controlling, count_at}
-use Rattle.rx_ring.specs.Rule.{IsRuled, LiesAs, controlled, home_at}
-use Rattle.rx_ring.specs.Plays.{Seated, LoadsTail, Fetches, writes_back}
+use Rattle.rx_ring.specs.Records.{Controlled, controlling, count_at}
+use Rattle.rx_ring.specs.Rule.{IsRuled, LiesAs, home_at}
+use Rattle.rx_ring.specs.Plays.{LoadsTail, Fetches, writes_back}
 use Rattle.rx_ring.proofs.Laying.{set-same, home-full, slice_get-past}
-use Rattle.rx_ring.proofs.Moving.{fresh, slot_of, keeps_it, slot_unheld, returned_stored, known-looked, look-lies, fetch-lies, store-lies}
+use Rattle.rx_ring.proofs.Moving.{fresh, keeps_it, slot_unheld, returned_stored, known-looked, look-lies, fetch-lies, store-lies}
 use Rattle.rx_ring.proofs.Allowing.{ControllerGoes, allow_controller}
 
 -- what a record says of the buffer that is held
@@ -37,8 +36,8 @@ pub allow-look : (n id : ℕ) (es : List ControllerEvent) (slots : List (ℕ × 
     → Allows (IsRuled n) n id (Controller es, slots) (n + 1) (λ x. x) (LoadsTail (step n (n + 1) 0 0 none) (Controller es, slots))
 allow-look n id es slots serving = allow_controller n id es slots (n + 1) (λ x. x) (LoadsTail (step n (n + 1) 0 0 none) (Controller es, slots))
     (λ q ds words homes pos l. let k = keeps_it n q ds es words homes pos l in
-        let t : ℕ = slice_index words (n + 1) in
-        let tail : slice_index words (n + 1) ≡ q.published % n = l.registers.tail ∙ ap (λ (m : ℕ). q.published % m) k.size_is in record {
+    let t : ℕ = slice_index words (n + 1) in
+    let tail : slice_index words (n + 1) ≡ q.published % n = l.registers.tail ∙ ap (λ (m : ℕ). q.published % m) k.size_is in record {
       event = Looked (slice_index words (n + 1));
       act = keeps;
       valid = tt;
@@ -50,9 +49,9 @@ allow-look n id es slots serving = allow_controller n id es slots (n + 1) (λ x.
         below = let m : q.published % n < n = mod-lt q.published (omega arith) in omega arith;
         grows = subst (λ (c : Controlled). c.known ≤ count_at n (length c.stored) (slice_index words (n + 1))) (sym l.controller)
             (let q_serving : is_serving q.handshake.controller ≡ true = sym (ap (λ (c : Controlled). is_serving c.state) l.controller) ∙ serving in
-              let o = k.order in let b = o.known_published q_serving in
-              let e : count_at n (stored_count q) (slice_index words (n + 1)) ≡ q.published = known-looked n q ds es words homes pos l (slice_index words (n + 1)) tail q_serving in
-              subst (λ (x : ℕ). q.known ≤ x) (sym e) b);
+            let o = k.order in let b = o.known_published q_serving in
+            let e : count_at n (stored_count q) (slice_index words (n + 1)) ≡ q.published = known-looked n q ds es words homes pos l (slice_index words (n + 1)) tail q_serving in
+            subst (λ (x : ℕ). q.known ≤ x) (sym e) b);
       };
     })
 
@@ -65,9 +64,9 @@ module _ (n : ℕ) (es : List ControllerEvent) (slots : List (ℕ × Option Buff
   home-posted : get_elem? homes p ≡ some (some (Some (fresh (slice_index q.ledger.posted (stored_count q)))))
   home-posted = let k = keeps_it n q ds es words homes pos l in let o = k.order in let a = returned_stored n q ds es words homes pos l serving in let b = o.known_published serving in let c = o.published_posted in
       home-full homes p (fresh (slice_index q.ledger.posted (stored_count q)))
-          (ap (home_at homes) at ∙ l.items.slots (stored_count q) a (omega arith)
-              ∙ slot_unheld q.held (stored_count q) (stored_count q) _ (λ h x. cc)
-              ∙ ap (λ (o : Option (Segment Bytes)). Some (buffer_of {Payload = Bytes} length fresh buffer (slice_index q.ledger.posted (stored_count q)) o)) (slice_get-past q.ledger.stored (stored_count q) (omega arith)))
+      (ap (home_at homes) at ∙ l.items.slots (stored_count q) a (omega arith)
+      ∙ slot_unheld q.held (stored_count q) (stored_count q) _ (λ h x. cc)
+      ∙ ap (λ (o : Option (Segment Bytes)). Some (buffer_of {Payload = Bytes} length fresh buffer (slice_index q.ledger.posted (stored_count q)) o)) (slice_get-past q.ledger.stored (stored_count q) (omega arith)))
 
   goes-fetch : ControllerGoes n es slots p (λ x. x) (Fetches (step n p 0 0 none) (Controller es, slots)) ds words homes
   goes-fetch = record {
@@ -85,17 +84,17 @@ pub allow-fetch : (n id : ℕ) (es : List ControllerEvent) (slots : List (ℕ ×
     → Allows (IsRuled n) n id (Controller es, slots) p (λ x. x) (Fetches (step n p 0 0 none) (Controller es, slots))
 allow-fetch n id es slots p at serving unheld some_known moving = allow_controller n id es slots p (λ x. x) (Fetches (step n p 0 0 none) (Controller es, slots))
     (λ q ds words homes pos l. goes-fetch n es slots p q ds words homes pos l
-        (at ∙ ap (λ (c : Controlled). length c.stored % n) l.controller)
-        (sym (ap (λ (c : Controlled). is_serving c.state) l.controller) ∙ serving)
-        (none-held q.held (slice_index q.ledger.posted (stored_count q)) (sym (ap (λ (c : Controlled). c.held) l.controller) ∙ unheld))
-        (subst (λ (c : Controlled). length c.stored < c.known) l.controller some_known)
-        (sym (ap (λ (c : Controlled). c.still) l.controller) ∙ moving))
+    (at ∙ ap (λ (c : Controlled). length c.stored % n) l.controller)
+    (sym (ap (λ (c : Controlled). is_serving c.state) l.controller) ∙ serving)
+    (none-held q.held (slice_index q.ledger.posted (stored_count q)) (sym (ap (λ (c : Controlled). c.held) l.controller) ∙ unheld))
+    (subst (λ (c : Controlled). length c.stored < c.known) l.controller some_known)
+    (sym (ap (λ (c : Controlled). c.still) l.controller) ∙ moving))
 
 -- A5
 pub allow-write_back : (n id : ℕ) (es : List ControllerEvent) (b : Buffer) (eop : Bool) (slots : List (ℕ × Option Buffer)) (p : ℕ)
     → p ≡ length (controlling n es).stored % n → (controlling n es).held ≡ Some b.number → b ≡ buffer b.number b.bytes → Follows n (unfinished (controlling n es).stored) b.bytes eop
     → Allows (IsRuled n) n id (Controller es, (p, Some b) ∷ slots) p (λ _. rx_word (length b.bytes) eop)
-          (λ _ m. writes_back (step n p (rx_word (length b.bytes) eop) 0 none) (Controller es, (p, Some b) ∷ slots) (rx_word (length b.bytes) eop) m)
+    (λ _ m. writes_back (step n p (rx_word (length b.bytes) eop) 0 none) (Controller es, (p, Some b) ∷ slots) (rx_word (length b.bytes) eop) m)
 allow-write_back n id es b eop slots p at held real follows = allow_controller n id es ((p, Some b) ∷ slots) p (λ _. rx_word (length b.bytes) eop)
     (λ _ m. writes_back (step n p (rx_word (length b.bytes) eop) 0 none) (Controller es, (p, Some b) ∷ slots) (rx_word (length b.bytes) eop) m)
     (λ q ds words homes pos l. let h = some-held q.held (slice_index q.ledger.posted (stored_count q)) b.number (sym (ap (λ (c : Controlled). c.held) l.controller) ∙ held) in record {

@@ -1,5 +1,5 @@
 -- A frame in one segment.
-use Rattle.std.proofs.Common.{◌≡◌, ℕ, ◌+◌, ◌<◌, ◌≤◌, Bool, true, List, [], length, sym, refl, subst, arith}
+use Rattle.std.proofs.Common.{◌≡◌, ℕ, ◌≤◌, true, List, [], length, sym, subst, arith}
 use Rattle.ring_machine.specs.Ring.{Bytes, Segment}
 use Rattle.ring_machine.specs.Frames.{Follows}
 

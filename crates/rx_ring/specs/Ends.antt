@@ -1,5 +1,5 @@
 -- What contracts see of a ring's two ends: its identity, and the record of the end's own steps.
-use Rattle.std.specs.Prelude.{◌≡◌, ℕ, ◌+◌, ◌-◌, ◌%◌, ◌<◌, ◌≤◌, Bool, true, false, List, [], ◌∷◌, ◌++◌, length, Option, Some, None, slice_get}
+use Rattle.std.specs.Prelude.{◌≡◌, ℕ, ◌+◌, ◌-◌, ◌%◌, ◌<◌, Bool, true, false, List, [], ◌∷◌, ◌++◌, length, Option, Some, None, slice_get}
 use Rattle.atomic_table.specs.Seated.{TableId}
 use Rattle.buffer_pool.specs.Buffer.{Buffer, buffer}
 use Rattle.ring_machine.specs.declared.states.DriverState.{DriverState}
@@ -14,7 +14,7 @@ use Rattle.rx_ring.specs.declared.view.ControllerEvent.TheVariants as controller
 use Rattle.rx_ring.specs.declared.view.View.TheVariants.{Driver, Controller}
 use Rattle.rx_ring.specs.declared.driver.Poll.{Poll}
 use Rattle.rx_ring.specs.declared.driver.Poll.TheVariants as poll
-use Rattle.rx_ring.specs.Records.{RxView, driving, controlling, driver_slots, controller_slots, empty_slots, drivers_of, controllers_of, count_at}
+use Rattle.rx_ring.specs.Records.{driving, controlling, driver_slots, controller_slots, empty_slots, drivers_of, controllers_of}
 use Rattle.rx_ring.specs.Rule.{IsRingLength}
 use Rattle.rx_ring.specs.Plays.{Seated, AreOf}
 

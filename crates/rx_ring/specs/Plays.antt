@@ -1,5 +1,5 @@
 -- What each step tells: of the step, the seat before, the word stored or loaded, and the seat after.
-use Rattle.std.specs.Prelude.{◌≡◌, ℕ, ◌+◌, ◌*◌, ◌%◌, ◌<◌, ◌≤◌, List, [], ◌∷◌, ◌++◌, length, Option, Some, None, slice_get}
+use Rattle.std.specs.Prelude.{◌≡◌, ℕ, ◌%◌, ◌<◌, ◌≤◌, List, [], ◌∷◌, ◌++◌, length, Option, Some, slice_get}
 use Rattle.atomic_table.specs.Table.{Me, Step, rest}
 use Rattle.buffer_pool.specs.Buffer.{Buffer, buffer}
 use Rattle.ring_machine.specs.Ring.{Bytes, RxRing}

@@ -1,5 +1,5 @@
 -- What the records of the two ends amount to.
-use Rattle.std.specs.Prelude.{◌≡◌, ℕ, zero, suc, ◌+◌, ◌-◌, ◌/◌, ◌%◌, Bool, false, List, [], ◌∷◌, ◌++◌, length, Option, Some, None, ◌==◌}
+use Rattle.std.specs.Prelude.{ℕ, zero, suc, ◌+◌, ◌-◌, ◌/◌, ◌%◌, Bool, false, List, [], ◌∷◌, ◌++◌, length, Option, Some, None, ◌==◌}
 use Rattle.buffer_pool.specs.Buffer.{Buffer, blank}
 use Rattle.ring_machine.specs.declared.states.DriverState.{DriverState}
 use Rattle.ring_machine.specs.declared.states.DriverState.TheVariants.{On}

@@ -60,10 +60,7 @@ pub fn is_ring_length(n: u32) -> bool
 impl RxRing {
     /// A ring of `n` descriptors, enabled, with nothing posted. It answers `RingLength` where `n` is no power of two
     /// from 8 to 4,096, and `Memory` only where memory was refused.
-    pub fn new(
-        alloc: Global,
-        n: u32,
-    ) -> Result<(RxRing, RxDriverEnd, RxControllerEnd), RingError>
+    pub fn new(alloc: Global, n: u32) -> Result<(RxRing, RxDriverEnd, RxControllerEnd), RingError>
         ensures refused { (result ≡ Err RingError.RingLength) ↔ ¬ (IsRingLength n) }
         ensures made { IfOk result (λ r. Made n r.0 r.1 r.2) }
     {

@@ -149,7 +149,9 @@ fn other_lengths_are_refused(rt: HostRuntime) -> Result<(), Fail> {
             panic!(rt; "a ring of {n}")
         };
         assert_eq!(rt; refusal, RingError::RingLength);
-        assert!(rt; refusal.number() == 21 && format!(in rt.alloc(); "{refusal}")?.as_str() == "ring length");
+        assert!(rt;
+            refusal.number() == 21 && format!(in rt.alloc(); "{refusal}")?.as_str() == "ring length"
+        );
     }
     assert!(rt; RingError::Memory.number() == 22);
     Ok(())

@@ -1,8 +1,6 @@
 -- The controller's seat lends its record, the driver's takes it in, one load tells of both, and the record goes back.
-use Rattle.std.proofs.Common.{◌≡◌, [], sym, ap, ◌∙◌}
-use Rattle.rx_ring.specs.declared.view.View.TheVariants.{Driver, Controller, Both, Nobody}
+use Rattle.std.proofs.Common.{◌≡◌, sym, ap, ◌∙◌}
 use Rattle.rx_ring.specs.Records.{drivers_of, controllers_of}
-use Rattle.rx_ring.specs.Plays.{both_halves, controller_half}
 use Rattle.rx_ring.proofs.MeetCalls.{some-words, lend-asks, unite-asks, meet-asks, halve-asks, return-asks}
 use Rattle.rx_ring.proofs.meet.meet_rx.Goals as goal
 

@@ -1,5 +1,5 @@
 -- A segment that ends its frame leaves nothing unfinished.
-use Rattle.std.proofs.Common.{arith, length, ◌≤◌, ◌≡◌, ◌∷◌, ◌++◌, [], true, sym, ap, ◌∙◌}
+use Rattle.std.proofs.Common.{arith, length, ◌≤◌, ◌≡◌, true, sym, ap, ◌∙◌}
 use Rattle.ring_machine.specs.Ring.{is_serving}
 use Rattle.ring_machine.specs.Frames.{unfinished}
 use Rattle.ring_machine.proofs.FrameLaws.{unfinished-snoc}

@@ -1,13 +1,10 @@
 -- The load keeps the rule, and the buffer that came out is the one that was posted next in order.
-use Rattle.std.proofs.Common.{◌≡◌, ℕ, ◌+◌, ◌-◌, ◌*◌, ◌%◌, ◌<◌, ◌≤◌, true, false, [], ◌∷◌, ◌++◌, length, sym, refl, ap, ◌∙◌, subst, arith}
-use Rattle.std.specs.Prelude.{Option, Some, None}
-use Rattle.ring_machine.specs.Ring.{Bytes, Segment, is_serving}
-use Rattle.ring_machine.specs.Agreement.{rx_word}
-use Rattle.ring_machine.specs.Frames.{Follows, unfinished}
+use Rattle.std.proofs.Common.{◌≡◌, ℕ, ◌-◌, ◌<◌, true, false, length, sym, ap, ◌∙◌, subst, arith}
+use Rattle.std.specs.Prelude.{Some, None}
+use Rattle.ring_machine.specs.Ring.{is_serving}
 use Rattle.rx_ring.specs.declared.view.ControllerEvent.TheVariants as event
-use Rattle.rx_ring.specs.Records.{Controlled, controlling, controllers_of, count_at, segment_of, front_buffer}
-use Rattle.rx_ring.specs.Ends.{ControllerSide, controller_size, stored, known_free, held_number, controller_state, is_quiet}
-use Rattle.rx_ring.proofs.Calls.{slots-are}
+use Rattle.rx_ring.specs.Records.{Controlled, controlling, controllers_of, front_buffer}
+use Rattle.rx_ring.specs.Ends.{ControllerSide, stored, known_free, held_number, controller_state, is_quiet}
 use Rattle.rx_ring.proofs.ControllerCalls.{fetch-asks, fetch-keeps, fetch-seat, fetch-steps, did, words-are}
 use Rattle.rx_ring.proofs.controller.RxControllerEnd.fetch.Goals as goal
 
@@ -32,39 +29,39 @@ pub returns-clause-step : goal.returns-clause-step
 returns-clause-step c =
     let i = c.self.inside in
     fetch-steps i.seat.table_id i.seat.me i.size i.serve i.free i.state c.self.invariant c.args.self.now c.load.result c.load.ensures.2.buf c.take_out.result c.load.new.seat.me c.take_out.new.seat.me c.take_out.new.seat.table_id c.self.view_is c.load.ensures.2.seat c.take_out.ensures.left (c.take_out.ensures.same.0 ∙ c.load.ensures.0)
-        (c.take_out.ensures.taken ∙ ap (λ m. front_buffer m.1) c.load.ensures.2.seat)
+    (c.take_out.ensures.taken ∙ ap (λ m. front_buffer m.1) c.load.ensures.2.seat)
 
 pub returns-clause-stored : goal.returns-clause-stored
 returns-clause-stored c =
     let i = c.self.inside in
     did i.seat.table_id i.seat.me i.size i.serve i.free i.state c.self.invariant (λ (y : Controlled). y.stored) c.take_out.new.seat.table_id c.take_out.new.seat.me.0 (event.Fetched i.serve c.load.result c.load.ensures.2.buf) (c.take_out.ensures.same.0 ∙ c.load.ensures.0)
-        (ap (λ m. m.0) (fetch-seat i.seat.table_id i.seat.me i.size i.serve i.free i.state c.self.invariant c.load.result c.load.ensures.2.buf c.load.new.seat.me c.take_out.new.seat.me c.load.ensures.2.seat c.take_out.ensures.left))
+    (ap (λ m. m.0) (fetch-seat i.seat.table_id i.seat.me i.size i.serve i.free i.state c.self.invariant c.load.result c.load.ensures.2.buf c.load.new.seat.me c.take_out.new.seat.me c.load.ensures.2.seat c.take_out.ensures.left))
     ∙ sym (words-are i.seat.table_id i.seat.me i.size i.serve i.free i.state c.self.invariant (λ (y : Controlled). y.stored)) ∙ ap stored c.self.view_is
 
 pub returns-clause-state : goal.returns-clause-state
 returns-clause-state c =
     let i = c.self.inside in
     did i.seat.table_id i.seat.me i.size i.serve i.free i.state c.self.invariant (λ (y : Controlled). y.state) c.take_out.new.seat.table_id c.take_out.new.seat.me.0 (event.Fetched i.serve c.load.result c.load.ensures.2.buf) (c.take_out.ensures.same.0 ∙ c.load.ensures.0)
-        (ap (λ m. m.0) (fetch-seat i.seat.table_id i.seat.me i.size i.serve i.free i.state c.self.invariant c.load.result c.load.ensures.2.buf c.load.new.seat.me c.take_out.new.seat.me c.load.ensures.2.seat c.take_out.ensures.left))
+    (ap (λ m. m.0) (fetch-seat i.seat.table_id i.seat.me i.size i.serve i.free i.state c.self.invariant c.load.result c.load.ensures.2.buf c.load.new.seat.me c.take_out.new.seat.me c.load.ensures.2.seat c.take_out.ensures.left))
     ∙ sym (words-are i.seat.table_id i.seat.me i.size i.serve i.free i.state c.self.invariant (λ (y : Controlled). y.state)) ∙ ap controller_state c.self.view_is
 
 pub returns-clause-quiet : goal.returns-clause-quiet
 returns-clause-quiet c =
     let i = c.self.inside in
     did i.seat.table_id i.seat.me i.size i.serve i.free i.state c.self.invariant (λ (y : Controlled). y.still) c.take_out.new.seat.table_id c.take_out.new.seat.me.0 (event.Fetched i.serve c.load.result c.load.ensures.2.buf) (c.take_out.ensures.same.0 ∙ c.load.ensures.0)
-        (ap (λ m. m.0) (fetch-seat i.seat.table_id i.seat.me i.size i.serve i.free i.state c.self.invariant c.load.result c.load.ensures.2.buf c.load.new.seat.me c.take_out.new.seat.me c.load.ensures.2.seat c.take_out.ensures.left))
+    (ap (λ m. m.0) (fetch-seat i.seat.table_id i.seat.me i.size i.serve i.free i.state c.self.invariant c.load.result c.load.ensures.2.buf c.load.new.seat.me c.take_out.new.seat.me c.load.ensures.2.seat c.take_out.ensures.left))
     ∙ sym (words-are i.seat.table_id i.seat.me i.size i.serve i.free i.state c.self.invariant (λ (y : Controlled). y.still)) ∙ ap is_quiet c.self.view_is
 
 pub returns-clause-free : goal.returns-clause-free
 returns-clause-free c =
     let i = c.self.inside in
     did i.seat.table_id i.seat.me i.size i.serve i.free i.state c.self.invariant (λ (y : Controlled). y.known - length y.stored) c.take_out.new.seat.table_id c.take_out.new.seat.me.0 (event.Fetched i.serve c.load.result c.load.ensures.2.buf) (c.take_out.ensures.same.0 ∙ c.load.ensures.0)
-        (ap (λ m. m.0) (fetch-seat i.seat.table_id i.seat.me i.size i.serve i.free i.state c.self.invariant c.load.result c.load.ensures.2.buf c.load.new.seat.me c.take_out.new.seat.me c.load.ensures.2.seat c.take_out.ensures.left))
+    (ap (λ m. m.0) (fetch-seat i.seat.table_id i.seat.me i.size i.serve i.free i.state c.self.invariant c.load.result c.load.ensures.2.buf c.load.new.seat.me c.take_out.new.seat.me c.load.ensures.2.seat c.take_out.ensures.left))
     ∙ sym (words-are i.seat.table_id i.seat.me i.size i.serve i.free i.state c.self.invariant (λ (y : Controlled). y.known - length y.stored)) ∙ ap known_free c.self.view_is
 
 pub returns-clause-held : goal.returns-clause-held
 returns-clause-held c =
     let i = c.self.inside in
     did i.seat.table_id i.seat.me i.size i.serve i.free i.state c.self.invariant (λ (y : Controlled). y.held) c.take_out.new.seat.table_id c.take_out.new.seat.me.0 (event.Fetched i.serve c.load.result c.load.ensures.2.buf) (c.take_out.ensures.same.0 ∙ c.load.ensures.0)
-        (ap (λ m. m.0) (fetch-seat i.seat.table_id i.seat.me i.size i.serve i.free i.state c.self.invariant c.load.result c.load.ensures.2.buf c.load.new.seat.me c.take_out.new.seat.me c.load.ensures.2.seat c.take_out.ensures.left))
+    (ap (λ m. m.0) (fetch-seat i.seat.table_id i.seat.me i.size i.serve i.free i.state c.self.invariant c.load.result c.load.ensures.2.buf c.load.new.seat.me c.take_out.new.seat.me c.load.ensures.2.seat c.take_out.ensures.left))
     ∙ ap (λ b. Some b.number) (sym (c.take_out.ensures.taken ∙ ap (λ m. front_buffer m.1) c.load.ensures.2.seat))

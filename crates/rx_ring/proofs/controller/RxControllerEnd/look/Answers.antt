@@ -1,14 +1,10 @@
 -- The step keeps the rule; the tail is below the length, and the code counts how far it is ahead.
-use Rattle.std.proofs.Common.{◌≡◌, ℕ, ◌+◌, ◌-◌, ◌%◌, ◌<◌, ◌≤◌, true, false, [], ◌∷◌, ◌++◌, length, sym, refl, ap, ◌∙◌, subst, arith}
-use Rattle.std.specs.Prelude.{Option, Some, None}
-use Rattle.ring_machine.specs.Ring.{Bytes, Segment, is_serving}
-use Rattle.ring_machine.specs.Agreement.{rx_word}
-use Rattle.ring_machine.specs.Frames.{Follows, unfinished}
+use Rattle.std.proofs.Common.{◌≡◌, ℕ, ◌+◌, ◌-◌, ◌%◌, true, length, sym, ap, ◌∙◌, subst, arith}
+use Rattle.ring_machine.specs.Ring.{is_serving}
 use Rattle.rx_ring.specs.declared.view.ControllerEvent.TheVariants as event
-use Rattle.rx_ring.specs.Records.{Controlled, controlling, controllers_of, count_at, segment_of}
-use Rattle.rx_ring.specs.Ends.{ControllerSide, controller_size, stored, known_free, held_number, controller_state, is_quiet}
+use Rattle.rx_ring.specs.Records.{Controlled, controlling, controllers_of}
+use Rattle.rx_ring.specs.Ends.{ControllerSide, stored, held_number, controller_state, is_quiet}
 use Rattle.rx_ring.proofs.Calls.{slots-are}
-use Rattle.rx_ring.specs.Ends as ends
 use Rattle.rx_ring.proofs.ControllerCalls.{look-asks, look-free, look-keeps, look-steps, look-counts, look-grows, did, words-are}
 use Rattle.rx_ring.proofs.controller.RxControllerEnd.look.Goals as goal
 use Rattle.rx_ring.proofs.controller.RxControllerEnd.look.Goals.{After-self-1, then-self-tail, else-self-tail}
@@ -26,8 +22,8 @@ ahead-is c =
     let i = c.self.inside in
     let own : i.seat.table_id ≡ c.ring.inside.table.shared.table_id = ap (λ (d : ControllerSide). d.table) c.self.view_is ∙ c.requires.own ∙ sym c.ring.view_is in
     look-free i.seat.table_id i.seat.me i.size i.serve i.free i.state c.self.invariant c.ring.inside.table.shared.table_id c.load-tail.result c.load-tail.new.seat.me (slots-are i.seat.table_id c.ring.inside.table.shared.table_id c.ring.inside.table.shared.key i.size own c.ring.invariant c.self.invariant.size_is) c.load-tail.ensures.2 c.if-self-tail.self
-        (elim c.if-self-tail.branch [ then-self-tail w ↦ λ h. w.self-is | else-self-tail w ↦ λ h. absurd (omega arith) ])
-        (elim c.if-self-tail.branch [ then-self-tail w ↦ λ h. absurd (omega arith) | else-self-tail w ↦ λ h. w.self-is ])
+    (elim c.if-self-tail.branch [ then-self-tail w ↦ λ h. w.self-is | else-self-tail w ↦ λ h. absurd (omega arith) ])
+    (elim c.if-self-tail.branch [ then-self-tail w ↦ λ h. absurd (omega arith) | else-self-tail w ↦ λ h. w.self-is ])
 
 pub invariant_of-self : goal.invariant_of-self
 invariant_of-self c =

@@ -1,13 +1,10 @@
 -- The step keeps the rule, and the record has the segment that the buffer carries.
-use Rattle.std.proofs.Common.{◌≡◌, ℕ, ◌+◌, ◌-◌, ◌*◌, ◌%◌, ◌<◌, ◌≤◌, true, false, [], ◌∷◌, ◌++◌, length, sym, refl, ap, ◌∙◌, subst, arith}
-use Rattle.std.specs.Prelude.{Option, Some, None}
-use Rattle.ring_machine.specs.Ring.{Bytes, Segment, is_serving}
+use Rattle.std.proofs.Common.{◌≡◌, ℕ, ◌+◌, ◌*◌, [], ◌∷◌, ◌++◌, sym, ap, ◌∙◌, subst}
+use Rattle.std.specs.Prelude.{Some}
 use Rattle.ring_machine.specs.Agreement.{rx_word}
 use Rattle.ring_machine.specs.Frames.{Follows, unfinished}
-use Rattle.rx_ring.specs.declared.view.ControllerEvent.TheVariants as event
-use Rattle.rx_ring.specs.Records.{Controlled, controlling, controllers_of, count_at, segment_of, front_buffer}
-use Rattle.rx_ring.specs.Ends.{ControllerSide, controller_size, stored, known_free, held_number, controller_state, is_quiet}
-use Rattle.rx_ring.proofs.Calls.{slots-are}
+use Rattle.rx_ring.specs.Records.{Controlled, controlling, controllers_of}
+use Rattle.rx_ring.specs.Ends.{ControllerSide, controller_size, stored, held_number, controller_state, is_quiet}
 use Rattle.rx_ring.proofs.ControllerCalls.{word-is, write_back-asks, write_back-keeps, write_back-steps, write_back-counts, some-free, wrote, words-are}
 use Rattle.rx_ring.proofs.controller.RxControllerEnd.write_back.Goals as goal
 

@@ -27,7 +27,7 @@ returns-then-word-eq0 c =
     let i = c.self.inside in
     let some_out : 0 < i.out = omega arith in
     saw-not_done i.seat.table_id i.seat.me i.size i.fill i.next i.out i.state c.self.invariant (sym c.is_live.ensures ∙ c.if-not-is_live.false) some_out c.args.self.now c.load-word.new.seat.table_id c.load-word.new.seat.me c.load-word.result
-        c.self.view_is c.load-word.ensures.0 (c.load-word.ensures.2.not_done c.if-word-eq0.true) c.if-word-eq0.true
+    c.self.view_is c.load-word.ensures.0 (c.load-word.ensures.2.not_done c.if-word-eq0.true) c.if-word-eq0.true
 
 pub invariant_of-self-2 : goal.invariant_of-self-2
 invariant_of-self-2 c =
@@ -36,7 +36,7 @@ invariant_of-self-2 c =
     let odd : c.load-word.result % 2 ≡ 1 = omega arith in
     let t = c.load-word.ensures.2.done odd in
     take-keeps i.seat.table_id i.seat.me i.size i.fill i.next i.out i.state c.self.invariant (sym c.is_live.ensures ∙ c.if-not-is_live.false) some_out c.load-word.result t.buf c.turn.new.self.table_id c.load-word.new.seat.me c.take_out-buf.new.seat.me c.turn.new.self.me c.place_after-self-inside.result
-        (c.turn.ensures.0 ∙ c.take_out-buf.ensures.same.0 ∙ c.load-word.ensures.0) t.seat c.take_out-buf.ensures.left c.turn.ensures.2 c.place_after-self-inside.ensures
+    (c.turn.ensures.0 ∙ c.take_out-buf.ensures.same.0 ∙ c.load-word.ensures.0) t.seat c.take_out-buf.ensures.left c.turn.ensures.2 c.place_after-self-inside.ensures
 
 pub returns : goal.returns
 returns c =
@@ -45,4 +45,4 @@ returns c =
     let some_out : 0 < i.out = omega arith in
     let odd : c.load-word.result % 2 ≡ 1 = omega arith in
     took-segment i.seat.table_id i.seat.me i.size i.fill i.next i.out i.state c.self.invariant (sym c.is_live.ensures ∙ c.if-not-is_live.false) some_out c.args.self.now c.load-word.result c.ring.inside.table.shared.table_id.slots c.load-word.new.seat.me c.take_out-buf.new.seat.me c.turn.new.self.me c.turn.new.self.table_id c.take_out-buf.result
-        (slots-are i.seat.table_id c.ring.inside.table.shared.table_id c.ring.inside.table.shared.key i.size own c.ring.invariant c.self.invariant.size_is) c.self.view_is (c.load-word.ensures.2.done odd) c.take_out-buf.ensures.taken c.take_out-buf.ensures.left c.turn.ensures.2 (c.turn.ensures.0 ∙ c.take_out-buf.ensures.same.0 ∙ c.load-word.ensures.0)
+    (slots-are i.seat.table_id c.ring.inside.table.shared.table_id c.ring.inside.table.shared.key i.size own c.ring.invariant c.self.invariant.size_is) c.self.view_is (c.load-word.ensures.2.done odd) c.take_out-buf.ensures.taken c.take_out-buf.ensures.left c.turn.ensures.2 (c.turn.ensures.0 ∙ c.take_out-buf.ensures.same.0 ∙ c.load-word.ensures.0)

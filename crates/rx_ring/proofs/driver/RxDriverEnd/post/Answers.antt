@@ -1,12 +1,9 @@
 -- The end's own slot is in front; the step keeps the rule, and the record has one more event.
 use Rattle.std.proofs.Common.{◌≡◌, ◌+◌, ◌<◌, true, [], ◌∷◌, ◌++◌, length, sym, ap, ◌∙◌, subst}
-use Rattle.atomic_table.specs.Seated.{TableId}
-use Rattle.buffer_pool.specs.Buffer.{Buffer}
 use Rattle.ring_machine.specs.Ring.{is_open}
 use Rattle.rx_ring.specs.Records.{Driven, driving, drivers_of}
-use Rattle.rx_ring.specs.Plays.{Seated}
 use Rattle.rx_ring.specs.Ends.{DriverSide, driver_size, posted, published, taken, driver_state}
-use Rattle.rx_ring.proofs.DriverCalls.{post-empty, post-asks, post-keeps, post-driven}
+use Rattle.rx_ring.proofs.DriverCalls.{post-asks, post-keeps, post-driven}
 use Rattle.rx_ring.proofs.driver.RxDriverEnd.post.Goals as goal
 
 pub store-requires : goal.store-requires

@@ -1,5 +1,5 @@
 -- The first seat takes all slots, and is cut into the seats of the two ends.
-use Rattle.std.proofs.Common.{◌≡◌, ℕ, ◌+◌, ◌<◌, ◌≤◌, [], length, sym, ap, ◌∙◌, arith}
+use Rattle.std.proofs.Common.{◌≡◌, ◌+◌, ◌≤◌, [], length, ap, ◌∙◌, arith}
 use Rattle.rx_ring.specs.Rule.{IsRingLength}
 use Rattle.rx_ring.proofs.MeetCalls.{deal-asks, halve-asks}
 use Rattle.rx_ring.proofs.Gathering.{opening-count}
