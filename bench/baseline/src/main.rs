@@ -2,6 +2,7 @@
 
 mod buffer;
 mod ring;
+mod steps;
 
 use buffer::{BUFFER_BYTES, Buffer};
 use ring::{Controller, Driver, Poll, Ring};
@@ -9,7 +10,8 @@ use std::process::ExitCode;
 use std::time::{Duration, Instant};
 use std::{env, hint, thread};
 
-const USAGE: &str = "usage: baseline ring --ring N --frames N --size BYTES --batch N";
+const USAGE: &str =
+    "usage: baseline ring --ring N --frames N --size BYTES --batch N\n       baseline steps";
 
 /// The first byte of each frame, which the driver reads.
 const FIRST_BYTE: u8 = 0xab;
@@ -167,6 +169,10 @@ fn run(settings: &Settings) -> Duration {
 }
 
 fn main() -> ExitCode {
+    if env::args().skip(1).eq(["steps"]) {
+        steps::print();
+        return ExitCode::SUCCESS;
+    }
     let Some(settings) = Settings::parse(env::args().skip(1)) else {
         eprintln!("{USAGE}");
         return ExitCode::from(2);
