@@ -13,3 +13,6 @@ pub address-other : (address number : ℕ) → address < 2 ^ 64 → number ≡ a
 address-other address number h is_number other keeps =
     let sum = word_of-settled address h address_fields address-tiles keeps in
     other (omega arith)
+
+pub address-kept : (address number : ℕ) → number < 2 ^ 16 → address ≡ 2048 * number → EachField (KeepsField Reserved address) address_fields
+address-kept address number h e = (omega arith, (tt, (omega arith, tt)))

@@ -1,6 +1,6 @@
 -- Words that are made of fields side by side.
 use Rattle.std.proofs.Common.{◌≡◌, ℕ, zero, suc, ◌+◌, ◌*◌, ◌/◌, ◌%◌, ◌^◌, ◌<◌, ◌≤◌, List, [], ◌∷◌, refl, sym, ap, subst, ◌∙◌, arith}
-use Rattle.std.proofs.lemmas.Nat.{pow-add, shr-shr, shr_split, shr_high, mod_low, div_below}
+use Rattle.std.proofs.lemmas.Nat.{pow-add, shr-shr, shr_split, shr_high, mod_low}
 use Rattle.std.proofs.Math.Nat.{mul-le-mul_right}
 use Rattle.descriptor.specs.declared.error.DescError.{DescError}
 use Rattle.descriptor.specs.declared.error.DescError.TheVariants.{Length, Reserved, Kind, Size}

@@ -5,6 +5,7 @@ ghost use Rattle.descriptor.specs.declared.limits.TheConstants.{MOST_DATA};
 
 use crate::words::{bits, bytes_from_words, is_set, words_from_bytes};
 use crate::{DescError, MOST_DATA};
+use std::fmt;
 
 /// What the controller writes back where a receive descriptor was (82599 datasheet, 7.1.6.2): that
 /// it is done, and how many bytes of the frame lie in its buffer.
@@ -32,6 +33,30 @@ impl RxBack {
         ensures eop { result.eop ≡ eop }
     {
         RxBack { len, eop }
+    }
+
+    /// Whether a second word has DD (bit 0): the controller has written the descriptor back.
+    #[inline]
+    pub fn is_done(word: u64) -> bool
+        ensures { IsTrue result ↔ (word % 2 ≡ 1) }
+    {
+        is_set(word, 0)
+    }
+
+    /// Whether a second word has EOP (bit 1). It tells something where the word has DD.
+    #[inline]
+    pub fn ends_frame(word: u64) -> bool
+        ensures { IsTrue result ↔ (word / 2 % 2 ≡ 1) }
+    {
+        is_set(word, 1)
+    }
+
+    /// The length in a second word (bits 47:32). It tells something where the word has DD.
+    #[inline]
+    pub fn data_len(word: u64) -> u16
+        ensures { result ≡ word / 2 ^ 32 % 2 ^ 16 }
+    {
+        bits(word, 32, 16) as u16
     }
 
     /// The first word: 0 in this profile.
@@ -80,6 +105,17 @@ impl RxBack {
         Ok(RxBack { len, eop })
     }
 
+    /// The descriptor whose second word this is, its first word being 0. A ring's table keeps that
+    /// word alone. The refusals are those of `from_words`.
+    #[inline]
+    pub fn from_second_word(word: u64) -> Result<Self, DescError>
+        ensures accepted { IfOk result (λ d. word ≡ 1 + 2 * bit d.eop + d.len * 2 ^ 32) }
+        ensures reads_back { (d : RxBack) → word ≡ 1 + 2 * bit d.eop + d.len * 2 ^ 32 → result ≡ Ok d }
+        ensures refused { (e : DescError) → (result ≡ Err e) ↔ IsLowest (KeepsWords rx_back_form 0 word) e }
+    {
+        Self::from_words(0, word)
+    }
+
     /// The descriptor whose 16 bytes these are. Refused are `Length`, and what `from_words` refuses.
     pub fn from_bytes(bytes: &[u8]) -> Result<Self, DescError>
         ensures accepted { IfOk result (λ d. bytes.now ≡ rx_back_bytes d) }
@@ -97,4 +133,10 @@ fn second_word_of(len: u16, eop: bool) -> u64
     ensures { result ≡ 1 + 2 * bit eop + len * 2 ^ 32 }
 {
     1 + 2 * u64::from(eop) + u64::from(len) * (1 << 32)
+}
+
+impl fmt::Display for RxBack {
+    fn fmt<W: fmt::Write>(&self, f: &mut fmt::Formatter<W>) -> fmt::Result {
+        write!(f, "dd 1 eop {} length {}", u8::from(self.eop), self.len)
+    }
 }

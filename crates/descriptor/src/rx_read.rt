@@ -4,6 +4,7 @@ ghost use Rattle.std.specs.Prelude.{◌≡◌, ◌*◌, ◌^◌, ◌<◌, ◌↔
 use crate::DescError;
 use crate::address::{address_of, number_at};
 use crate::words::{bytes_from_words, words_from_bytes};
+use std::fmt;
 
 /// An empty buffer, posted to receive into (82599 datasheet, 7.1.6.1). There is no header buffer.
 #[derive(Clone, Copy, Debug, PartialEq, Eq)]
@@ -67,5 +68,11 @@ impl RxRead {
     {
         let (first, second) = words_from_bytes(bytes)?;
         Self::from_words(first, second)
+    }
+}
+
+impl fmt::Display for RxRead {
+    fn fmt<W: fmt::Write>(&self, f: &mut fmt::Formatter<W>) -> fmt::Result {
+        write!(f, "buffer {}", self.number)
     }
 }

@@ -3,6 +3,7 @@ ghost use Rattle.std.specs.Prelude.{◌≡◌, ◌/◌, ◌%◌, ◌^◌, ◌↔
 
 use crate::DescError;
 use crate::words::{bytes_from_words, is_set, words_from_bytes};
+use std::fmt;
 
 /// What the controller writes back where a transmit descriptor with RS was (82599 datasheet,
 /// 7.2.3.2.4): that it is done, and so is each one before it.
@@ -71,5 +72,11 @@ impl TxBack {
     {
         let (first, second) = words_from_bytes(bytes)?;
         Self::from_words(first, second)
+    }
+}
+
+impl fmt::Display for TxBack {
+    fn fmt<W: fmt::Write>(&self, f: &mut fmt::Formatter<W>) -> fmt::Result {
+        write!(f, "dd 1")
     }
 }

@@ -6,6 +6,7 @@ ghost use Rattle.descriptor.specs.declared.limits.TheConstants.{LEAST_FRAME, MOS
 use crate::address::{address_of, number_at};
 use crate::words::{bits, bytes_from_words, is_set, words_from_bytes};
 use crate::{DescError, LEAST_FRAME, MOST_DATA, MOST_FRAME};
+use std::fmt;
 
 /// A buffer with one segment of a frame, posted to transmit: an advanced data descriptor (82599
 /// datasheet, 7.2.3.2.4), DTYP 3 and DEXT 1. IFCS is set in each, and offloads are not used.
@@ -32,8 +33,31 @@ pub struct TxRead {
 
 impl TxRead {
     ghost use Rattle.descriptor.specs.Refusal.{IsLowest};
-    ghost use Rattle.descriptor.specs.Layout.{KeepsWords, KeepsBytes};
+    ghost use Rattle.descriptor.specs.Layout.{EachField, KeepsField, KeepsWords, KeepsBytes};
     ghost use Rattle.descriptor.specs.Transmit.{tx_read_form, tx_read_first, tx_read_second, tx_read_bytes};
+
+    /// A descriptor of `len` bytes in buffer `number`, of a frame of `paylen` bytes.
+    #[inline]
+    pub fn new(number: u16, len: u16, eop: bool, rs: bool, paylen: u16) -> Self
+        requires some_data { 1 ≤ len }
+        requires fits { len ≤ MOST_DATA }
+        requires reports_end { IsTrue rs → IsTrue eop }
+        requires long_enough { LEAST_FRAME ≤ paylen }
+        requires short_enough { paylen ≤ MOST_FRAME }
+        ensures number { result.number ≡ number }
+        ensures len { result.len ≡ len }
+        ensures eop { result.eop ≡ eop }
+        ensures rs { result.rs ≡ rs }
+        ensures paylen { result.paylen ≡ paylen }
+    {
+        TxRead {
+            number,
+            len,
+            eop,
+            rs,
+            paylen,
+        }
+    }
 
     /// The first word: the buffer's address.
     #[inline]
@@ -64,5 +88,99 @@ impl TxRead {
         ensures { result ≡ tx_read_bytes self.now }
     {
         bytes_from_words(self.first_word(), self.second_word())
+    }
+
+    /// The descriptor whose two words these are. Refused are `Reserved`, `Kind`, and `Size` for a
+    /// data length or PAYLEN out of range.
+    pub fn from_words(first: u64, second: u64) -> Result<Self, DescError>
+        ensures accepted { IfOk result (λ d. (first ≡ tx_read_first d) × (second ≡ tx_read_second d)) }
+        ensures reads_back { (d : TxRead) → (first ≡ tx_read_first d) × (second ≡ tx_read_second d) → result ≡ Ok d }
+        ensures refused { (e : DescError) → (result ≡ Err e) ↔ IsLowest (KeepsWords tx_read_form first second) e }
+    {
+        let Some(number) = number_at(first) else {
+            return Err(DescError::Reserved);
+        };
+        if !Self::has_fixed_bits(second) {
+            return Err(DescError::Reserved);
+        }
+        if !Self::is_data_descriptor(second) {
+            return Err(DescError::Kind);
+        }
+        if !Self::is_in_range(second) {
+            return Err(DescError::Size);
+        }
+        Ok(TxRead {
+            number,
+            len: bits(second, 0, 16) as u16,
+            eop: is_set(second, 24),
+            rs: is_set(second, 27),
+            paylen: bits(second, 46, 18) as u16,
+        })
+    }
+
+    /// The descriptor whose 16 bytes these are. Refused are `Length`, and what `from_words` refuses.
+    pub fn from_bytes(bytes: &[u8]) -> Result<Self, DescError>
+        ensures accepted { IfOk result (λ d. bytes.now ≡ tx_read_bytes d) }
+        ensures reads_back { (d : TxRead) → bytes.now ≡ tx_read_bytes d → result ≡ Ok d }
+        ensures refused { (e : DescError) → (result ≡ Err e) ↔ IsLowest (KeepsBytes tx_read_form bytes.now) e }
+    {
+        let (first, second) = words_from_bytes(bytes)?;
+        Self::from_words(first, second)
+    }
+
+    /// Whether each bit of a second word that the profile fixes is right, but for DTYP and DEXT: the
+    /// word is then what its other fields come to, and RS is not set without EOP.
+    fn has_fixed_bits(second: u64) -> bool
+        ensures { IsTrue result ↔ EachField (KeepsField DescError.Reserved second) tx_read_form.second }
+    {
+        let len = bits(second, 0, 16);
+        let kind = bits(second, 20, 4);
+        let eop = bits(second, 24, 1);
+        let rs = bits(second, 27, 1);
+        let extended = bits(second, 29, 1);
+        let paylen = bits(second, 46, 18);
+        let whole = len
+            + kind * (1 << 20)
+            + eop * (1 << 24)
+            + (1 << 25)
+            + rs * (1 << 27)
+            + extended * (1 << 29)
+            + paylen * (1 << 46);
+        rs <= eop && second == whole
+    }
+
+    /// Whether DTYP is 3 and DEXT is 1.
+    fn is_data_descriptor(second: u64) -> bool
+        ensures { IsTrue result ↔ EachField (KeepsField DescError.Kind second) tx_read_form.second }
+    {
+        bits(second, 20, 4) == 3 && bits(second, 29, 1) == 1
+    }
+
+    /// Whether the data length and PAYLEN are in range.
+    fn is_in_range(second: u64) -> bool
+        ensures { IsTrue result ↔ EachField (KeepsField DescError.Size second) tx_read_form.second }
+    {
+        let len = bits(second, 0, 16);
+        let paylen = bits(second, 46, 18);
+        1 <= len
+            && len <= u64::from(MOST_DATA)
+            && u64::from(LEAST_FRAME) <= paylen
+            && paylen <= u64::from(MOST_FRAME)
+    }
+}
+
+impl fmt::Display for TxRead {
+    fn fmt<W: fmt::Write>(&self, f: &mut fmt::Formatter<W>) -> fmt::Result {
+        let Self {
+            number,
+            len,
+            paylen,
+            ..
+        } = self;
+        let (eop, rs) = (u8::from(self.eop), u8::from(self.rs));
+        write!(
+            f,
+            "buffer {number} length {len} eop {eop} rs {rs} paylen {paylen}"
+        )
     }
 }
