@@ -14,3 +14,9 @@ pub mod TxKept
 pub mod TxStepping
 pub mod TxFixed
 pub mod TxReached
+pub mod PlaceTests
+pub mod RxFits
+pub mod RxTelling
+pub mod RxMoving
+pub mod RxRunning
+pub mod RxOwning

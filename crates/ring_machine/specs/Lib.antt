@@ -16,3 +16,6 @@ pub mod TxSchedules
 pub mod TxLawful
 pub mod TxLaws
 pub mod TxRows
+pub mod MachineErrors
+pub mod Machines
+pub mod RxMoves

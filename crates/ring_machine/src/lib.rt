@@ -1,21 +1,31 @@
-//! Receive rings of the 82599 as plain data: what a ring is, what each atomic step changes, and what every schedule of steps keeps.
+//! Receive and transmit rings of the 82599 as plain data: what a ring is, what each atomic step changes, and what every
+//! schedule of steps keeps; and the pure machine that makes the same steps with places that wrap.
 //!
-//! The definitions stand in `specs/`. The running rings of `rx_ring` and this crate cite the same ones. Three laws are
+//! The definitions stand in `specs/`. The running rings of `rx_ring` and this crate cite the same ones. The laws are
 //! contracts of public functions: every ring that a schedule gives is lawful, within an epoch a list that has ended
-//! stays as it is, and segments join to the frames that were cut.
+//! stays as it is, and segments join to the frames that were cut. A machine that agrees with a ring agrees, after any
+//! schedule, with the ring after that schedule.
 #![tactic(auto)]
 
+mod error;
 mod laws;
 mod limits;
+mod moves;
 mod notes;
+mod rx_machine;
 mod states;
 mod steps;
+mod wrap;
 
+pub use error::MachineError;
 pub use laws::{
     epochs_are_fixed, frames_are_rejoined, rings_are_lawful, tx_epochs_are_fixed,
     tx_rings_are_lawful,
 };
 pub use limits::{BUFFER_BYTES, LEAST_FRAME, LEAST_RING, MOST_FRAME, MOST_RING, MOST_SEGMENTS};
+pub use moves::SegmentLength;
 pub use notes::{FetchedSegment, Note, TakenSegment};
+pub use rx_machine::RxMachine;
 pub use states::{Completion, ControllerState, DriverState, Owner};
 pub use steps::{ControlStep, RxStep, TxStep};
+pub use wrap::is_ring_length;

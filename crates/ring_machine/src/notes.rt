@@ -6,7 +6,7 @@ pub struct TakenSegment {
     /// The buffer's number.
     pub buffer: u16,
     /// The bytes in it.
-    pub len: u16,
+    pub len: u32,
     /// Whether it ends its frame.
     pub eop: bool,
 }

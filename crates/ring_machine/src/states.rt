@@ -32,7 +32,9 @@ pub enum DriverState {
 
 impl DriverState {
     ghost use Rattle.std.specs.Prelude.{◌≡◌};
-    ghost use Rattle.ring_machine.specs.Ring.{is_live};
+    ghost use Rattle.ring_machine.specs.Ring.{is_live, is_open};
+    ghost use Rattle.ring_machine.specs.Handshakes.{is_new, is_on, learned};
+    ghost use Rattle.ring_machine.specs.Steps.{is_stopped, is_cleared, is_tailed};
 
     /// Whether the driver may look for completed work: the queue was seen enabled, and not yet seen disabled.
     #[inline]
@@ -48,6 +50,66 @@ impl DriverState {
             | DriverState::Tailed => false,
         }
     }
+
+    /// Whether the driver may post and publish: no disabling was asked in this epoch.
+    #[inline]
+    pub fn is_open(self) -> bool
+        ensures { result ≡ is_open self }
+    {
+        match self {
+            DriverState::New | DriverState::Asked | DriverState::On => true,
+            DriverState::Stopping
+            | DriverState::Stopped
+            | DriverState::Cleared
+            | DriverState::Tailed => false,
+        }
+    }
+
+    // Nothing was asked yet in this epoch.
+    pub(crate) fn is_new(self) -> bool
+        ensures { result ≡ is_new self }
+    {
+        matches!(self, DriverState::New)
+    }
+
+    // The queue was seen enabled, and no disabling asked.
+    pub(crate) fn is_on(self) -> bool
+        ensures { result ≡ is_on self }
+    {
+        matches!(self, DriverState::On)
+    }
+
+    // The disabling was seen answered, and the queue is not cleared.
+    pub(crate) fn is_stopped(self) -> bool
+        ensures { result ≡ is_stopped self }
+    {
+        matches!(self, DriverState::Stopped)
+    }
+
+    // The head is cleared, and the tail is not.
+    pub(crate) fn is_cleared(self) -> bool
+        ensures { result ≡ is_cleared self }
+    {
+        matches!(self, DriverState::Cleared)
+    }
+
+    // Head and tail are cleared.
+    pub(crate) fn is_tailed(self) -> bool
+        ensures { result ≡ is_tailed self }
+    {
+        matches!(self, DriverState::Tailed)
+    }
+
+    // What the driver knows once it has loaded this control value.
+    pub(crate) fn learned(self, control: u8) -> DriverState
+        ensures { result ≡ learned self control }
+    {
+        match self {
+            DriverState::Asked if control == 2 => DriverState::On,
+            DriverState::Stopping if control == 0 => DriverState::Stopped,
+            state => state,
+        }
+    }
 }
 
 /// How far the controller is with a queue.
@@ -59,6 +121,18 @@ pub enum ControllerState {
     Serving,
     /// It answered a disabling.
     Ended,
+}
+
+impl ControllerState {
+    ghost use Rattle.std.specs.Prelude.{◌≡◌};
+    ghost use Rattle.ring_machine.specs.Ring.{is_serving};
+
+    // It answered the enabling, and no disabling since.
+    pub(crate) fn is_serving(self) -> bool
+        ensures { result ≡ is_serving self }
+    {
+        matches!(self, ControllerState::Serving)
+    }
 }
 
 /// How a transmit queue's controller reports that frames are sent.

@@ -1,0 +1,38 @@
+//! Why a machine refuses.
+
+ghost use Rattle.std.specs.Prelude.{◌≡◌};
+
+use thiserror::Error;
+
+/// Why a machine is not made, a move is not read, or a step is not made.
+#[derive(Clone, Copy, Debug, PartialEq, Eq, Error)]
+pub enum MachineError {
+    /// The step can't happen now, or there is no such queue. The machine is as it was.
+    #[error("not enabled")]
+    NotEnabled,
+    /// The length is no power of two from 8 to 4,096, or the number of pairs is not 1 to 8.
+    #[error("ring length")]
+    RingLength,
+    /// Memory was refused.
+    #[error("memory")]
+    Memory,
+    /// The text is not that of a move.
+    #[error("move")]
+    Text,
+}
+
+impl MachineError {
+    ghost use Rattle.ring_machine.specs.MachineErrors.{number_of_error};
+
+    /// The refusal's number, from 11 to 14.
+    pub fn number(&self) -> u8
+        ensures { result ≡ number_of_error self.now }
+    {
+        match self {
+            MachineError::NotEnabled => 11,
+            MachineError::RingLength => 12,
+            MachineError::Memory => 13,
+            MachineError::Text => 14,
+        }
+    }
+}
