@@ -1,20 +1,39 @@
--- What is printed in answer to a request.
-use Rattle.std.specs.Prelude.{ℕ, List, [], ◌∷◌, ◌++◌, Result, Ok, Err}
+-- What a request does to the output, and the status that it ends with.
+use Rattle.std.specs.Prelude.{◌≡◌, ◌⊎◌, ℕ, List, [], ◌∷◌, ◌++◌, Option, Result, Ok, Err}
+use Rattle.std.specs.Io.KnownBytes.{Appends, Keeps}
 use Rattle.hex.specs.Hex.{encode_lower}
 use Rattle.ring_machine.specs.Ring.{Bytes}
 use Rattle.poll82599.specs.declared.command.Request.{Request}
 use Rattle.poll82599.specs.declared.command.Request.TheVariants.{Once}
 use Rattle.poll82599.specs.declared.refusal.Refusal.{Refusal}
+use Rattle.poll82599.specs.declared.refusal.Refusal.TheVariants.{Memory, Output}
+use Rattle.poll82599.specs.declared.run.TheConstants.{DONE, REFUSED}
 use Rattle.poll82599.specs.Frame.{frame_in}
+use Rattle.poll82599.specs.Refusals.{IsUnmade}
 
 -- the lower case digits of a frame, and LF
 abbrev pub line_of : Bytes → List ℕ
 line_of frame = encode_lower frame ++ 10 ∷ []
 
--- what is printed, but for memory, threads and the output itself, or why nothing is
+-- what there is to print, or why the request itself is refused
 abbrev pub answer_of : Request → Result (List ℕ) Refusal
 answer_of (Once digits) = printed (frame_in digits.now)
   where
     printed : Result Bytes Refusal → Result (List ℕ) Refusal
     printed (Ok frame) = Ok (line_of frame)
     printed (Err refusal) = Err refusal
+
+-- it was printed whole, where the output's bytes are known
+abbrev pub IsPrinted : Result (List ℕ) Refusal → Option (List ℕ) → Option (List ℕ) → Type 0
+IsPrinted (Ok text) old new = Appends old new text
+IsPrinted (Err refusal) old new = ⊥
+
+-- it was refused: for what is wrong with it, or for want of memory, threads or the output. Only a failed output has bytes of it
+abbrev pub IsRefused : Result (List ℕ) Refusal → Refusal → Option (List ℕ) → Option (List ℕ) → Type 0
+IsRefused (Ok text) e old new = (e ≡ Output) ⊎ ((IsUnmade e ⊎ (e ≡ Memory)) × Keeps old new)
+IsRefused (Err refusal) e old new = ((e ≡ refusal) ⊎ (e ≡ Memory)) × Keeps old new
+
+-- how `once` ends: its frame's line is printed, or nothing is done; digits that are no frame are always refused
+abbrev pub Ends : Result Bytes Refusal → ℕ → Option (List ℕ) → Option (List ℕ) → Type 0
+Ends (Ok frame) status old new = ((status ≡ DONE) × Appends old new (line_of frame)) ⊎ (status ≡ REFUSED)
+Ends (Err refusal) status old new = (status ≡ REFUSED) × Keeps old new

@@ -2,3 +2,4 @@ pub mod Refusals
 pub mod Frame
 pub mod Passing
 pub mod Answers
+pub mod CommandLine

@@ -21,7 +21,3 @@ refusal_number Output = 84
 -- no memory for the ring or its buffers, or no thread for one of its ends
 abbrev pub IsUnmade : Refusal → Type 0
 IsUnmade e = (e ≡ Ring RingMemory) ⊎ (e ≡ Stock StockMemory) ⊎ (e ≡ Thread)
-
--- no memory, no thread, or no output
-abbrev pub IsWant : Refusal → Type 0
-IsWant e = IsUnmade e ⊎ (e ≡ Memory) ⊎ (e ≡ Output)

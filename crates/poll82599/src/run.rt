@@ -1,8 +1,12 @@
 //! What a command line does to the three streams, and the status that it ends with.
-ghost use Rattle.std.specs.Prelude.{◌≡◌, ◌⊎◌, ℕ, List, Ok, IfErr, OnOk};
+ghost use Rattle.std.specs.Prelude.{◌≡◌, ◌⊎◌, ℕ, List, map, IfErr, OnOk};
+ghost use Rattle.std.specs.String.{string_bytes};
 ghost use Rattle.std.specs.Io.KnownBytes.{Appends, Keeps};
-ghost use Rattle.poll82599.specs.Answers.{answer_of, line_of};
-ghost use Rattle.poll82599.specs.Refusals.{IsWant};
+ghost use Rattle.clap.specs.Words.{kind_of};
+ghost use Rattle.clap.specs.declared.error.kind.ErrorKind.TheVariants.{OutOfMemory};
+ghost use Rattle.poll82599.specs.Answers.{answer_of, line_of, Ends, IsPrinted, IsRefused};
+ghost use Rattle.poll82599.specs.CommandLine.{SaysOnce};
+ghost use Rattle.poll82599.specs.Frame.{frame_in};
 
 use crate::command::{Request, request_of};
 use crate::frame::frame_of;
@@ -39,6 +43,8 @@ pub fn run<R: Threads + Wait + Sync, I: Read, W: Write, E: Write>(
     ensures status { (result ≡ DONE) ⊎ (result ≡ REFUSED) ⊎ (result ≡ MISUSED) }
     ensures done { result ≡ DONE → Keeps (E.contents faults.old) (E.contents faults.new) }
     ensures misused { result ≡ MISUSED → Keeps (W.contents output.old) (W.contents output.new) }
+    ensures once { (digits : List ℕ) → SaysOnce (map string_bytes words.now) digits
+        → Ends (frame_in digits) result (W.contents output.old) (W.contents output.new) }
 {
     let request = match request_of(alloc, words) {
         Ok(request) => request,
@@ -57,11 +63,9 @@ pub fn perform<R: Threads + Wait + Sync, W: Write>(
     request: Request<'_>,
     output: &mut W,
 ) -> Result<(), Refusal>
-    ensures done { OnOk result ((text : List ℕ) × (answer_of request.entry ≡ Ok text)
-        × Appends (W.contents output.old) (W.contents output.new) text) }
-    ensures refused { IfErr result (λ e. (answer_of request.entry ≡ Err e) ⊎ IsWant e) }
-    ensures quiet { IfErr result (λ e. (e ≡ Refusal.Output)
-        ⊎ Keeps (W.contents output.old) (W.contents output.new)) }
+    ensures done { OnOk result (IsPrinted (answer_of request.entry) (W.contents output.old) (W.contents output.new)) }
+    ensures refused { IfErr result (λ e.
+        IsRefused (answer_of request.entry) e (W.contents output.old) (W.contents output.new)) }
 {
     match request {
         Request::Once { digits } => {
@@ -100,6 +104,8 @@ fn tell<W: Write, E: Write>(error: &clap::Error, output: &mut W, faults: &mut E)
     ensures status { (result ≡ DONE) ⊎ (result ≡ REFUSED) ⊎ (result ≡ MISUSED) }
     ensures done { result ≡ DONE → Keeps (E.contents faults.old) (E.contents faults.new) }
     ensures misused { result ≡ MISUSED → Keeps (W.contents output.old) (W.contents output.new) }
+    ensures memory { kind_of error.now ≡ OutOfMemory
+        → (result ≡ REFUSED) × Keeps (W.contents output.old) (W.contents output.new) }
 {
     if error.kind() == ErrorKind::OutOfMemory {
         return refuse(faults, Refusal::Memory);
