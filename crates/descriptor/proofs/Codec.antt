@@ -145,16 +145,3 @@ module _ {D : Type 0} (form : Form) (numbers : D → Name → ℕ) (codec : IsCo
           (λ k. (h.refused e).1 (lowest-moved (KeepsBytes form bytes) (KeepsWords form first second) back onto e k)),
         );
       }
-
-  -- other bytes are refused
-  pub bytes-refused : (bytes : List ℕ) → ¬ (length bytes ≡ 16) → Decodes {D = D} (AreBytes bytes) (KeepsBytes form bytes) (Err Length)
-  bytes-refused bytes other =
-      Decodes-err (AreBytes bytes) (KeepsBytes form bytes) Length (record {
-        broken = other;
-        lowest = λ lower below. elim lower as (λ e. refusal_number e < 1 → KeepsBytes form bytes e) [
-          | Length ↦ λ h. absurd (omega arith)
-          | Reserved ↦ λ h. absurd (omega arith)
-          | Kind ↦ λ h. absurd (omega arith)
-          | Size ↦ λ h. absurd (omega arith)
-        ] below;
-      }) (keeps-all bytes)

@@ -8,7 +8,7 @@ use Rattle.descriptor.specs.declared.rx_back.RxBack.{RxBack}
 use Rattle.descriptor.specs.Layout.{Name, KeepsWords, KeepsBytes, HasWords, word_of, bit}
 use Rattle.descriptor.specs.Receive.{rx_back_form, rx_back_numbers, rx_back_first, rx_back_second, rx_back_bytes}
 use Rattle.descriptor.proofs.Fields.{IsWhole, IsNarrow, IsKept, AreSame, settled, word_of-settled, keeps-form}
-use Rattle.descriptor.proofs.Codec.{IsCodec, lowest-reserved, lowest-size, words-accepted, words-refused, bytes-decoded, bytes-refused}
+use Rattle.descriptor.proofs.Codec.{IsCodec, lowest-reserved, lowest-size, words-accepted, words-refused, bytes-decoded}
 use Rattle.descriptor.proofs.Refusals.{Decodes}
 use Rattle.descriptor.proofs.Bits.{bit-lt, bit-same}
 
@@ -82,16 +82,6 @@ rx_back-second_refused first second len eop h is_len is_eop other =
     let fields = settled-second second in
     other (omega arith)))
 
-pub rx_back-size_refused : (first second len : ℕ) (eop : Bool) → len ≡ second / 2 ^ 32 % 2 ^ 16 → first ≡ 0 → second ≡ 1 + 2 * bit eop + len * 2 ^ 32
-    → ¬ ((1 ≤ len) × (len ≤ MOST_DATA)) → RxBackDecodes first second (Err Size)
-rx_back-size_refused first second len eop is_len one two out =
-    let narrow = rx_back-narrow len eop (omega arith) in
-    let reserved = keeps-form rx_back_form (rx_back_numbers len eop) rx_back-whole narrow Reserved (rx_back-reserved len eop) first second one (omega arith) in
-    let kinds : KeepsWords rx_back_form first second Kind = record { in_first = search rules; in_second = search rules } in
-    words-refused rx_back_form (λ d. rx_back_numbers d.len d.eop) rx_back-codec first second Size
-    (lowest-size rx_back_form first second reserved kinds
-    (λ keeps. let range = keeps.in_second.1.1.1.1.0 in out (omega arith, omega arith)))
-
 pub rx_back-accepted : (first second : ℕ) (d : RxBack) → first ≡ 0 → second ≡ 1 + 2 * bit d.eop + d.len * 2 ^ 32 → RxBackDecodes first second (Ok d)
 rx_back-accepted first second d one two =
     words-accepted rx_back_form (λ d. rx_back_numbers d.len d.eop) rx_back-codec first second d (one, omega arith)
@@ -101,6 +91,3 @@ RxBackDecodesBytes bytes r = Decodes (λ d. bytes ≡ rx_back_bytes d) (KeepsByt
 
 pub rx_back-bytes : (bytes : List ℕ) {first second : ℕ} → HasWords bytes first second → (r : Result RxBack DescError) → RxBackDecodes first second r → RxBackDecodesBytes bytes r
 rx_back-bytes bytes words r h = bytes-decoded rx_back_form (λ d. rx_back_numbers d.len d.eop) rx_back-codec bytes words r h
-
-pub rx_back-no_bytes : (bytes : List ℕ) → ¬ (length bytes ≡ 16) → RxBackDecodesBytes bytes (Err Length)
-rx_back-no_bytes bytes other = bytes-refused rx_back_form (λ d. rx_back_numbers d.len d.eop) rx_back-codec bytes other

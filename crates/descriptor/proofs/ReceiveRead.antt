@@ -8,7 +8,7 @@ use Rattle.descriptor.specs.Address.{address_fields}
 use Rattle.descriptor.specs.Layout.{Name, KeepsField, KeepsWords, KeepsBytes, HasWords, EachField, word_of}
 use Rattle.descriptor.specs.Receive.{rx_read_form, rx_read_numbers, rx_read_first, rx_read_second, rx_read_bytes}
 use Rattle.descriptor.proofs.BufferAddress.{address-tiles}
-use Rattle.descriptor.proofs.Codec.{IsCodec, lowest-reserved, words-accepted, words-refused, bytes-decoded, bytes-refused}
+use Rattle.descriptor.proofs.Codec.{IsCodec, lowest-reserved, words-accepted, words-refused, bytes-decoded}
 use Rattle.descriptor.proofs.Fields.{IsWhole, IsNarrow, IsKept, AreSame, settled, word_of-settled}
 use Rattle.descriptor.proofs.Refusals.{Decodes}
 
@@ -55,17 +55,6 @@ rx_read-codec = record {
 abbrev pub RxReadDecodes : ℕ → ℕ → Result RxRead DescError → Type 0
 RxReadDecodes first second r = Decodes (λ d. (first ≡ rx_read_first d) × (second ≡ rx_read_second d)) (KeepsWords rx_read_form first second) r
 
-refused : (first second : ℕ) → ¬ KeepsWords rx_read_form first second Reserved → RxReadDecodes first second (Err Reserved)
-refused first second broken =
-    words-refused rx_read_form (λ d. rx_read_numbers d.number) rx_read-codec first second Reserved (lowest-reserved rx_read_form first second broken)
-
-pub rx_read-first_refused : (first second : ℕ) → ¬ EachField (KeepsField Reserved first) address_fields → RxReadDecodes first second (Err Reserved)
-rx_read-first_refused first second other = refused first second (λ keeps. other keeps.in_first)
-
-pub rx_read-second_refused : (first second : ℕ) → second < 2 ^ 64 → second ≢ 0 → RxReadDecodes first second (Err Reserved)
-rx_read-second_refused first second h other =
-    refused first second (λ keeps. other (sym (word_of-settled second h rx_read_form.second rx_read-whole.second keeps.in_second)))
-
 pub rx_read-accepted : (first second : ℕ) (d : RxRead) → first ≡ 2048 * d.number → second ≡ 0 → RxReadDecodes first second (Ok d)
 rx_read-accepted first second d one two =
     words-accepted rx_read_form (λ d. rx_read_numbers d.number) rx_read-codec first second d (omega arith, omega arith)
@@ -75,6 +64,3 @@ RxReadDecodesBytes bytes r = Decodes (λ d. bytes ≡ rx_read_bytes d) (KeepsByt
 
 pub rx_read-bytes : (bytes : List ℕ) {first second : ℕ} → HasWords bytes first second → (r : Result RxRead DescError) → RxReadDecodes first second r → RxReadDecodesBytes bytes r
 rx_read-bytes bytes words r h = bytes-decoded rx_read_form (λ d. rx_read_numbers d.number) rx_read-codec bytes words r h
-
-pub rx_read-no_bytes : (bytes : List ℕ) → ¬ (length bytes ≡ 16) → RxReadDecodesBytes bytes (Err Length)
-rx_read-no_bytes bytes other = bytes-refused rx_read_form (λ d. rx_read_numbers d.number) rx_read-codec bytes other

@@ -1,5 +1,5 @@
 -- The read format of a transmit descriptor, and its descriptors.
-use Rattle.std.proofs.Common.{◌≡◌, ◌≢◌, ℕ, ◌+◌, ◌*◌, ◌/◌, ◌%◌, ◌<◌, ◌≤◌, ◌^◌, Bool, true, false, List, length, Result, Ok, Err, refl, sym, ap, subst, ◌∙◌, arith, rules}
+use Rattle.std.proofs.Common.{◌≡◌, ◌≢◌, ℕ, ◌+◌, ◌*◌, ◌/◌, ◌%◌, ◌<◌, ◌≤◌, ◌^◌, IsTrue, Bool, true, false, List, length, Result, Ok, Err, refl, sym, ap, subst, ◌∙◌, arith, rules}
 use Rattle.std.proofs.Props.{props}
 use Rattle.descriptor.specs.declared.error.DescError.{DescError}
 use Rattle.descriptor.specs.declared.error.DescError.TheVariants.{Length, Reserved, Kind, Size}
@@ -11,7 +11,7 @@ use Rattle.descriptor.specs.Layout.{Name, KeepsField, KeepsWords, KeepsBytes, Ha
 use Rattle.descriptor.specs.Transmit.{tx_read_form, tx_read_numbers, tx_read_first, tx_read_second, tx_read_bytes}
 use Rattle.descriptor.proofs.BufferAddress.{address-tiles, address-kept}
 use Rattle.descriptor.proofs.Bits.{bit-lt, bit-same}
-use Rattle.descriptor.proofs.Codec.{IsCodec, lowest-reserved, lowest-kind, lowest-size, words-accepted, words-refused, bytes-decoded, bytes-refused}
+use Rattle.descriptor.proofs.Codec.{IsCodec, lowest-reserved, lowest-kind, lowest-size, words-accepted, words-refused, bytes-decoded}
 use Rattle.descriptor.proofs.Fields.{Tiles, IsWhole, IsNarrow, IsKept, AreSame, settled, word_of-settled}
 use Rattle.descriptor.proofs.Refusals.{Decodes}
 
@@ -64,14 +64,16 @@ tx_read-narrow d =
     }
 
 -- RS is 0 where EOP is
-reports : (d : TxRead) (w : ℕ) → w / 2 ^ 24 % 2 ^ 1 ≡ bit d.eop → w / 2 ^ 24 % 2 ≡ 0 → bit d.rs ≡ 0
-reports d w e zero = let h = d.reports_end in omega arith
+reports : (rs eop : Bool) (w : ℕ) → (IsTrue rs → IsTrue eop) → w / 2 ^ 24 % 2 ^ 1 ≡ bit eop → w / 2 ^ 24 % 2 ≡ 0 → bit rs ≡ 0
+reports false eop w h e zero = refl
+reports true true w h e zero = absurd (omega arith)
+reports true false w h e zero = absurd (let other : false ≡ true = h refl in cc)
 
 tx_read-kept : (d : TxRead) (e : DescError) → IsKept tx_read_form (tx_read_numbers d.number d.len d.eop d.rs d.paylen) e
 tx_read-kept d Length = record { first = λ w made. search rules; second = λ w made. search rules }
 tx_read-kept d Reserved = record {
   first = λ w made. search rules;
-  second = λ w made. (tt, (refl, (refl, (tt, (tt, (refl, (refl, (reports d w made.1.1.1.1.0, (refl, (tt, (refl, (refl, (refl, (refl, (refl, (refl, (tt, tt)))))))))))))))));
+  second = λ w made. (tt, (refl, (refl, (tt, (tt, (refl, (refl, (reports d.rs d.eop w d.reports_end made.1.1.1.1.0, (refl, (tt, (refl, (refl, (refl, (refl, (refl, (refl, (tt, tt)))))))))))))))));
 }
 tx_read-kept d Kind = record { first = λ w made. search rules; second = λ w made. search rules }
 tx_read-kept d Size = record {
@@ -82,7 +84,7 @@ tx_read-kept d Size = record {
   );
 }
 
-made : (number len : ℕ) (eop rs : Bool) (paylen : ℕ) → number < 2 ^ 16 → 1 ≤ len → len ≤ MOST_DATA → bit rs ≤ bit eop → LEAST_FRAME ≤ paylen → paylen ≤ MOST_FRAME → TxRead
+made : (number len : ℕ) (eop rs : Bool) (paylen : ℕ) → number < 2 ^ 16 → 1 ≤ len → len ≤ MOST_DATA → (IsTrue rs → IsTrue eop) → LEAST_FRAME ≤ paylen → paylen ≤ MOST_FRAME → TxRead
 made number len eop rs paylen a b c d e f = record {
   number = number;
   len = len;
@@ -98,36 +100,36 @@ made number len eop rs paylen a b c d e f = record {
 }
 
 -- the facts of a descriptor are no part of what it is
-same-facts : (t : TxRead) (a : t.number < 2 ^ 16) (b : 1 ≤ t.len) (c : t.len ≤ MOST_DATA) (d : bit t.rs ≤ bit t.eop) (e : LEAST_FRAME ≤ t.paylen) (f : t.paylen ≤ MOST_FRAME)
+same-facts : (t : TxRead) (a : t.number < 2 ^ 16) (b : 1 ≤ t.len) (c : t.len ≤ MOST_DATA) (d : IsTrue t.rs → IsTrue t.eop) (e : LEAST_FRAME ≤ t.paylen) (f : t.paylen ≤ MOST_FRAME)
     → t ≡ made t.number t.len t.eop t.rs t.paylen a b c d e f
 unfolding made
 same-facts t a b c d e f =
     let pa : IsProp (t.number < 2 ^ 16) = hlevel props in
     let pb : IsProp (1 ≤ t.len) = hlevel props in
     let pc : IsProp (t.len ≤ MOST_DATA) = hlevel props in
-    let pd : IsProp (bit t.rs ≤ bit t.eop) = hlevel props in
+    let pd : IsProp ((IsTrue t.rs → IsTrue t.eop)) = hlevel props in
     let pe : IsProp (LEAST_FRAME ≤ t.paylen) = hlevel props in
     let pf : IsProp (t.paylen ≤ MOST_FRAME) = hlevel props in
     ap (λ (x : t.number < 2 ^ 16). made t.number t.len t.eop t.rs t.paylen x t.some_data t.fits t.reports_end t.long_enough t.short_enough) (pa t.in_range a)
     ∙ ap (λ (x : 1 ≤ t.len). made t.number t.len t.eop t.rs t.paylen a x t.fits t.reports_end t.long_enough t.short_enough) (pb t.some_data b)
     ∙ ap (λ (x : t.len ≤ MOST_DATA). made t.number t.len t.eop t.rs t.paylen a b x t.reports_end t.long_enough t.short_enough) (pc t.fits c)
-    ∙ ap (λ (x : bit t.rs ≤ bit t.eop). made t.number t.len t.eop t.rs t.paylen a b c x t.long_enough t.short_enough) (pd t.reports_end d)
+    ∙ ap (λ (x : IsTrue t.rs → IsTrue t.eop). made t.number t.len t.eop t.rs t.paylen a b c x t.long_enough t.short_enough) (pd t.reports_end d)
     ∙ ap (λ (x : LEAST_FRAME ≤ t.paylen). made t.number t.len t.eop t.rs t.paylen a b c d x t.short_enough) (pe t.long_enough e)
     ∙ ap (λ (x : t.paylen ≤ MOST_FRAME). made t.number t.len t.eop t.rs t.paylen a b c d e x) (pf t.short_enough f)
 
 same-made : (t : TxRead) (number len : ℕ) (eop rs : Bool) (paylen : ℕ) → t.number ≡ number → t.len ≡ len → t.eop ≡ eop → t.rs ≡ rs → t.paylen ≡ paylen
-    → (a : number < 2 ^ 16) (b : 1 ≤ len) (c : len ≤ MOST_DATA) (d : bit rs ≤ bit eop) (e : LEAST_FRAME ≤ paylen) (f : paylen ≤ MOST_FRAME)
+    → (a : number < 2 ^ 16) (b : 1 ≤ len) (c : len ≤ MOST_DATA) (d : IsTrue rs → IsTrue eop) (e : LEAST_FRAME ≤ paylen) (f : paylen ≤ MOST_FRAME)
     → t ≡ made number len eop rs paylen a b c d e f
 same-made t number len eop rs paylen is_number is_len is_eop is_rs is_paylen =
-    let One : ℕ → Type 0 = λ n. (a : n < 2 ^ 16) (b : 1 ≤ t.len) (c : t.len ≤ MOST_DATA) (d : bit t.rs ≤ bit t.eop) (e : LEAST_FRAME ≤ t.paylen) (f : t.paylen ≤ MOST_FRAME)
+    let One : ℕ → Type 0 = λ n. (a : n < 2 ^ 16) (b : 1 ≤ t.len) (c : t.len ≤ MOST_DATA) (d : IsTrue t.rs → IsTrue t.eop) (e : LEAST_FRAME ≤ t.paylen) (f : t.paylen ≤ MOST_FRAME)
     → t ≡ made n t.len t.eop t.rs t.paylen a b c d e f in
-    let Two : ℕ → Type 0 = λ l. (a : number < 2 ^ 16) (b : 1 ≤ l) (c : l ≤ MOST_DATA) (d : bit t.rs ≤ bit t.eop) (e : LEAST_FRAME ≤ t.paylen) (f : t.paylen ≤ MOST_FRAME)
+    let Two : ℕ → Type 0 = λ l. (a : number < 2 ^ 16) (b : 1 ≤ l) (c : l ≤ MOST_DATA) (d : IsTrue t.rs → IsTrue t.eop) (e : LEAST_FRAME ≤ t.paylen) (f : t.paylen ≤ MOST_FRAME)
     → t ≡ made number l t.eop t.rs t.paylen a b c d e f in
-    let Three : Bool → Type 0 = λ x. (a : number < 2 ^ 16) (b : 1 ≤ len) (c : len ≤ MOST_DATA) (d : bit t.rs ≤ bit x) (e : LEAST_FRAME ≤ t.paylen) (f : t.paylen ≤ MOST_FRAME)
+    let Three : Bool → Type 0 = λ x. (a : number < 2 ^ 16) (b : 1 ≤ len) (c : len ≤ MOST_DATA) (d : IsTrue t.rs → IsTrue x) (e : LEAST_FRAME ≤ t.paylen) (f : t.paylen ≤ MOST_FRAME)
     → t ≡ made number len x t.rs t.paylen a b c d e f in
-    let Four : Bool → Type 0 = λ x. (a : number < 2 ^ 16) (b : 1 ≤ len) (c : len ≤ MOST_DATA) (d : bit x ≤ bit eop) (e : LEAST_FRAME ≤ t.paylen) (f : t.paylen ≤ MOST_FRAME)
+    let Four : Bool → Type 0 = λ x. (a : number < 2 ^ 16) (b : 1 ≤ len) (c : len ≤ MOST_DATA) (d : IsTrue x → IsTrue eop) (e : LEAST_FRAME ≤ t.paylen) (f : t.paylen ≤ MOST_FRAME)
     → t ≡ made number len eop x t.paylen a b c d e f in
-    let Five : ℕ → Type 0 = λ p. (a : number < 2 ^ 16) (b : 1 ≤ len) (c : len ≤ MOST_DATA) (d : bit rs ≤ bit eop) (e : LEAST_FRAME ≤ p) (f : p ≤ MOST_FRAME)
+    let Five : ℕ → Type 0 = λ p. (a : number < 2 ^ 16) (b : 1 ≤ len) (c : len ≤ MOST_DATA) (d : IsTrue rs → IsTrue eop) (e : LEAST_FRAME ≤ p) (f : p ≤ MOST_FRAME)
     → t ≡ made number len eop rs p a b c d e f in
     subst Five is_paylen (subst Four is_rs (subst Three is_eop (subst Two is_len (subst One is_number (same-facts t)))))
 

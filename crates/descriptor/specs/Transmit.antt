@@ -20,7 +20,7 @@ tx_read_form = record {
       ∷ field EndOfPacket 24 1 flag  -- DCMD: EOP, 24
       ∷ field InsertFcs 25 1 (fixed 1)  -- DCMD: IFCS, 25
       ∷ field Rsv 26 1 (fixed 0)  -- DCMD: RSV, 26
-      ∷ field ReportStatus 27 1 (flag_under 24)  -- DCMD: RS, 27, which only the end of a packet may have
+      ∷ field ReportStatus 27 1 (flag_under 24)  -- DCMD: RS, 27, in this profile only beside EOP
       ∷ field Rsv 28 1 (fixed 0)  -- DCMD: RSV, 28
       ∷ field DescriptorExtension 29 1 (kind 1)  -- DCMD: DEXT, 29
       ∷ field VlanEnable 30 1 (fixed 0)  -- DCMD: VLE, 30

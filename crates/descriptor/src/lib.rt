@@ -16,6 +16,8 @@ mod error;
 mod limits;
 mod rx_back;
 mod rx_read;
+#[cfg(test)]
+mod tests;
 mod tx_back;
 mod tx_read;
 mod words;

@@ -26,7 +26,7 @@ pub struct TxRead {
     pub ghost in_range: { number < 2 ^ 16 },
     pub ghost some_data: { 1 ≤ len },
     pub ghost fits: { len ≤ MOST_DATA },
-    pub ghost reports_end: { bit rs ≤ bit eop },
+    pub ghost reports_end: { IsTrue rs → IsTrue eop },
     pub ghost long_enough: { LEAST_FRAME ≤ paylen },
     pub ghost short_enough: { paylen ≤ MOST_FRAME },
 }
@@ -68,11 +68,12 @@ impl TxRead {
         address_of(self.number)
     }
 
-    /// The second word, which a ring's table keeps.
+    /// The second word, which a ring's table keeps. It does not have the bit that DD of a `TxBack` is.
     #[inline]
     pub fn second_word(&self) -> u64
         ensures layout { result ≡ tx_read_second self.now }
         ensures value { result ≡ self.now.len + 3 * 2 ^ 20 + 2 ^ 25 + 2 ^ 29 + bit self.now.eop * 2 ^ 24 + bit self.now.rs * 2 ^ 27 + self.now.paylen * 2 ^ 46 }
+        ensures not_done { result / 2 ^ 32 % 2 ≡ 0 }
     {
         u64::from(self.len)
             + 3 * (1 << 20)

@@ -1,5 +1,5 @@
 use Rattle.std.proofs.Common.{arith}
-use Rattle.descriptor.proofs.ReceiveBack.{rx_back-first_refused, rx_back-second_refused, rx_back-size_refused, rx_back-accepted}
+use Rattle.descriptor.proofs.ReceiveBack.{rx_back-first_refused, rx_back-second_refused, rx_back-accepted}
 use Rattle.descriptor.proofs.rx_back.RxBack.from_words.Goals as goal
 
 pub returns-then-first-ne0-clause-refused : goal.returns-then-first-ne0-clause-refused

@@ -3,8 +3,12 @@ use Rattle.descriptor.proofs.tx_back.TxBack.from_bytes.Goals as goal
 
 pub returns-clause-reads_back : goal.returns-clause-reads_back
 returns-clause-reads_back c =
-    (tx_back-bytes c.args.bytes.now c.in_ok-first.ensures.words c.from_words.result (record { accepted = c.from_words.ensures.accepted; reads_back = c.from_words.ensures.reads_back; refused = c.from_words.ensures.refused })).reads_back
+    let words = c.from_words.ensures in
+    (tx_back-bytes c.args.bytes.now c.in_ok-first.ensures.words c.from_words.result
+    (record { accepted = words.accepted; reads_back = words.reads_back; refused = words.refused })).reads_back
 
 pub returns-clause-refused : goal.returns-clause-refused
 returns-clause-refused c =
-    (tx_back-bytes c.args.bytes.now c.in_ok-first.ensures.words c.from_words.result (record { accepted = c.from_words.ensures.accepted; reads_back = c.from_words.ensures.reads_back; refused = c.from_words.ensures.refused })).refused
+    let words = c.from_words.ensures in
+    (tx_back-bytes c.args.bytes.now c.in_ok-first.ensures.words c.from_words.result
+    (record { accepted = words.accepted; reads_back = words.reads_back; refused = words.refused })).refused

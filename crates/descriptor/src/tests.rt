@@ -1,0 +1,158 @@
+//! Rows of descriptors in bytes, and what no clause says: the printed text.
+
+use super::*;
+use std::test::Fail;
+
+// 60 bytes that end their frame, written back.
+const RX_BACK: [u8; 16] = [0, 0, 0, 0, 0, 0, 0, 0, 3, 0, 0, 0, 60, 0, 0, 0];
+
+// Buffer 5 with a whole frame of 60 bytes, to be reported.
+const TX_READ: [u8; 16] = [
+    0, 0x28, 0, 0, 0, 0, 0, 0, 0x3c, 0, 0x30, 0x2b, 0, 0, 0x0f, 0,
+];
+
+// Buffer 65,535.
+const RX_READ: [u8; 16] = [0, 0xf8, 0xff, 7, 0, 0, 0, 0, 0, 0, 0, 0, 0, 0, 0, 0];
+
+const TX_BACK: [u8; 16] = [0, 0, 0, 0, 0, 0, 0, 0, 0, 0, 0, 0, 1, 0, 0, 0];
+
+// The number of the refusal, or 0 where the bytes were accepted.
+fn refusal<T: Drop>(answer: Result<T, DescError>) -> u8 {
+    answer.err().map_or(0, |error| error.number())
+}
+
+// The bytes with one bit of the 128 turned, the lowest bit of the first byte being 0.
+fn flipped(mut bytes: [u8; 16], bit: usize) -> [u8; 16] {
+    if let Some(byte) = bytes.get_mut(bit / 8) {
+        *byte ^= 1 << (bit % 8);
+    }
+    bytes
+}
+
+#[test]
+fn each_form_is_coded_both_ways(rt: HostRuntime) {
+    let back = RxBack::new(60, true);
+    assert_eq!(rt; back.to_bytes(), RX_BACK);
+    assert_eq!(rt; RxBack::from_bytes(&RX_BACK), Ok(back));
+    let full = [0, 0, 0, 0, 0, 0, 0, 0, 1, 0, 0, 0, 0, 8, 0, 0];
+    assert_eq!(rt; RxBack::new(2_048, false).to_bytes(), full);
+    assert_eq!(rt; RxBack::from_bytes(&full), Ok(RxBack::new(2_048, false)));
+    let posted = TxRead::new(5, 60, true, true, 60);
+    assert_eq!(rt; posted.to_bytes(), TX_READ);
+    assert_eq!(rt; TxRead::from_bytes(&TX_READ), Ok(posted));
+    assert_eq!(rt; RxRead { number: 65_535 }.to_bytes(), RX_READ);
+    assert_eq!(rt; RxRead::from_bytes(&RX_READ), Ok(RxRead { number: 65_535 }));
+    assert_eq!(rt; TxBack.to_bytes(), TX_BACK);
+    assert_eq!(rt; TxBack::from_bytes(&TX_BACK), Ok(TxBack));
+}
+
+#[test]
+fn each_flipped_bit_of_a_receive_write_back_is_judged(rt: HostRuntime) {
+    for (wanted, times) in [(0, 12), (1, 0), (2, 111), (3, 0), (4, 5)] {
+        let count = (0..128)
+            .filter(|bit| refusal(RxBack::from_bytes(&flipped(RX_BACK, *bit))) == wanted)
+            .count();
+        assert_eq!(rt; count, times, "of {wanted}");
+    }
+}
+
+#[test]
+fn each_flipped_bit_of_a_transmit_read_is_judged(rt: HostRuntime) {
+    for (wanted, times) in [(0, 42), (1, 0), (2, 72), (3, 5), (4, 9)] {
+        let count = (0..128)
+            .filter(|bit| refusal(TxRead::from_bytes(&flipped(TX_READ, *bit))) == wanted)
+            .count();
+        assert_eq!(rt; count, times, "of {wanted}");
+    }
+}
+
+#[test]
+fn each_flipped_bit_of_an_address_is_judged(rt: HostRuntime) {
+    for (wanted, times) in [(0, 16), (2, 112)] {
+        let count = (0..128)
+            .filter(|bit| refusal(RxRead::from_bytes(&flipped(RX_READ, *bit))) == wanted)
+            .count();
+        assert_eq!(rt; count, times, "of {wanted}");
+    }
+    let count = (0..128)
+        .filter(|bit| refusal(TxBack::from_bytes(&flipped(TX_BACK, *bit))) == 2)
+        .count();
+    assert_eq!(rt; count, 128);
+}
+
+#[test]
+fn other_lengths_are_refused(rt: HostRuntime) {
+    for bytes in [[].as_slice(), &RX_BACK[..15], &[0; 17], &[0; 32]] {
+        assert_eq!(rt; refusal(RxRead::from_bytes(bytes)), 1);
+        assert_eq!(rt; refusal(RxBack::from_bytes(bytes)), 1);
+        assert_eq!(rt; refusal(TxRead::from_bytes(bytes)), 1);
+        assert_eq!(rt; refusal(TxBack::from_bytes(bytes)), 1);
+    }
+}
+
+#[test]
+fn the_lowest_refusal_is_answered(rt: HostRuntime) {
+    // DTYP 2, then also a data length of 0, then also bit 26
+    let mut bytes = TX_READ;
+    bytes[10] = 0x20;
+    assert_eq!(rt; TxRead::from_bytes(&bytes), Err(DescError::Kind));
+    bytes[8] = 0;
+    assert_eq!(rt; TxRead::from_bytes(&bytes), Err(DescError::Kind));
+    bytes[11] = 0x2f;
+    assert_eq!(rt; TxRead::from_bytes(&bytes), Err(DescError::Reserved));
+    // no data, then also a VLAN tag
+    let mut bytes = RX_BACK;
+    bytes[12] = 0;
+    assert_eq!(rt; RxBack::from_bytes(&bytes), Err(DescError::Size));
+    bytes[14] = 1;
+    assert_eq!(rt; RxBack::from_bytes(&bytes), Err(DescError::Reserved));
+}
+
+#[test]
+fn status_words_are_read(rt: HostRuntime) {
+    let word = RxBack::new(2_048, true).second_word();
+    assert_eq!(rt; word, 0x800_0000_0003);
+    assert!(rt; RxBack::is_done(word) && RxBack::ends_frame(word));
+    assert_eq!(rt; RxBack::data_len(word), 2_048);
+    assert_eq!(rt;
+        RxBack::from_second_word(word),
+        Ok(RxBack::new(2_048, true))
+    );
+    assert!(rt; !RxBack::ends_frame(RxBack::new(1, false).second_word()));
+    let posted = RxRead { number: 9 };
+    assert!(rt; !RxBack::is_done(posted.second_word()));
+    assert_eq!(rt;
+        RxBack::from_second_word(posted.second_word()),
+        Err(DescError::Reserved)
+    );
+    assert!(rt; TxBack::is_done(TxBack.second_word()));
+    assert!(rt; !TxBack::is_done(TxRead::new(9, MOST_DATA, true, true, MOST_FRAME).second_word()));
+}
+
+#[test]
+fn descriptors_and_refusals_are_printed(rt: HostRuntime) -> Result<(), Fail> {
+    let alloc = rt.alloc();
+    assert_eq!(rt;
+        format!(in alloc; "{}", RxRead { number: 65_535 })?.as_str(),
+        "buffer 65535"
+    );
+    assert_eq!(rt;
+        format!(in alloc; "{}", RxBack::new(60, true))?.as_str(),
+        "dd 1 eop 1 length 60"
+    );
+    let posted = TxRead::new(5, 60, true, false, 1_500);
+    let line = "buffer 5 length 60 eop 1 rs 0 paylen 1500";
+    assert_eq!(rt; format!(in alloc; "{posted}")?.as_str(), line);
+    assert_eq!(rt; format!(in alloc; "{TxBack}")?.as_str(), "dd 1");
+    let refusals = [
+        (DescError::Length, "1 length"),
+        (DescError::Reserved, "2 reserved"),
+        (DescError::Kind, "3 type"),
+        (DescError::Size, "4 size"),
+    ];
+    for (refusal, words) in refusals {
+        let text = format!(in alloc; "{} {refusal}", refusal.number())?;
+        assert_eq!(rt; text.as_str(), words);
+    }
+    Ok(())
+}
