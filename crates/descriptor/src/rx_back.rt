@@ -7,6 +7,9 @@ use crate::words::{bits, bytes_from_words, is_set, words_from_bytes};
 use crate::{DescError, MOST_DATA};
 use std::fmt;
 
+/// The first word: no hash, no packet type and no header length.
+const FIRST_WORD: u64 = 0;
+
 /// What the controller writes back where a receive descriptor was (82599 datasheet, 7.1.6.2): that
 /// it is done, and how many bytes of the frame lie in its buffer.
 #[derive(Clone, Copy, Debug, PartialEq, Eq)]
@@ -65,7 +68,7 @@ impl RxBack {
         ensures layout { result ≡ rx_back_first self.now }
         ensures value { result ≡ 0 }
     {
-        0
+        FIRST_WORD
     }
 
     /// The second word, which a ring's table keeps.
@@ -91,7 +94,7 @@ impl RxBack {
         ensures reads_back { (d : RxBack) → (first ≡ rx_back_first d) × (second ≡ rx_back_second d) → result ≡ Ok d }
         ensures refused { (e : DescError) → (result ≡ Err e) ↔ IsLowest (KeepsWords rx_back_form first second) e }
     {
-        if first != 0 {
+        if first != FIRST_WORD {
             return Err(DescError::Reserved);
         }
         let len = bits(second, 32, 16) as u16;
@@ -102,7 +105,7 @@ impl RxBack {
         if len < 1 || len > MOST_DATA {
             return Err(DescError::Size);
         }
-        Ok(RxBack { len, eop })
+        Ok(Self { len, eop })
     }
 
     /// The descriptor whose second word this is, its first word being 0. A ring's table keeps that
@@ -113,7 +116,7 @@ impl RxBack {
         ensures reads_back { (d : RxBack) → word ≡ 1 + 2 * bit d.eop + d.len * 2 ^ 32 → result ≡ Ok d }
         ensures refused { (e : DescError) → (result ≡ Err e) ↔ IsLowest (KeepsWords rx_back_form 0 word) e }
     {
-        Self::from_words(0, word)
+        Self::from_words(FIRST_WORD, word)
     }
 
     /// The descriptor whose 16 bytes these are. Refused are `Length`, and what `from_words` refuses.

@@ -6,6 +6,9 @@ use crate::address::{address_of, number_at};
 use crate::words::{bytes_from_words, words_from_bytes};
 use std::fmt;
 
+/// The second word: no header buffer, so DD is not set either.
+const SECOND_WORD: u64 = 0;
+
 /// An empty buffer, posted to receive into (82599 datasheet, 7.1.6.1). There is no header buffer.
 #[derive(Clone, Copy, Debug, PartialEq, Eq)]
 pub struct RxRead {
@@ -35,7 +38,7 @@ impl RxRead {
         ensures layout { result ≡ rx_read_second self.now }
         ensures value { result ≡ 0 }
     {
-        0
+        SECOND_WORD
     }
 
     /// The descriptor in 16 bytes.
@@ -54,7 +57,7 @@ impl RxRead {
         let Some(number) = number_at(first) else {
             return Err(DescError::Reserved);
         };
-        if second != 0 {
+        if second != SECOND_WORD {
             return Err(DescError::Reserved);
         }
         Ok(RxRead { number })

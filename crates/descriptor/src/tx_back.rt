@@ -5,13 +5,16 @@ use crate::DescError;
 use crate::words::{bytes_from_words, is_set, words_from_bytes};
 use std::fmt;
 
+/// The first word, which is reserved.
+const FIRST_WORD: u64 = 0;
+
+/// The second word: DD alone.
+const DONE_WORD: u64 = 1 << 32;
+
 /// What the controller writes back where a transmit descriptor with RS was (82599 datasheet,
 /// 7.2.3.2.4): that it is done, and so is each one before it.
 #[derive(Clone, Copy, Debug, PartialEq, Eq)]
 pub struct TxBack;
-
-/// The second word: DD alone.
-const DONE_WORD: u64 = 1 << 32;
 
 impl TxBack {
     ghost use Rattle.descriptor.specs.Refusal.{IsLowest};
@@ -33,7 +36,7 @@ impl TxBack {
         ensures layout { result ≡ tx_back_first self.now }
         ensures value { result ≡ 0 }
     {
-        0
+        FIRST_WORD
     }
 
     /// The second word, which a ring's table keeps.
@@ -58,7 +61,7 @@ impl TxBack {
         ensures reads_back { (d : TxBack) → (first ≡ tx_back_first d) × (second ≡ tx_back_second d) → result ≡ Ok d }
         ensures refused { (e : DescError) → (result ≡ Err e) ↔ IsLowest (KeepsWords tx_back_form first second) e }
     {
-        if first != 0 || second != DONE_WORD {
+        if first != FIRST_WORD || second != DONE_WORD {
             return Err(DescError::Reserved);
         }
         Ok(TxBack)

@@ -50,7 +50,7 @@ impl TxRead {
         ensures rs { result.rs ≡ rs }
         ensures paylen { result.paylen ≡ paylen }
     {
-        TxRead {
+        Self {
             number,
             len,
             eop,
@@ -172,13 +172,8 @@ impl TxRead {
 
 impl fmt::Display for TxRead {
     fn fmt<W: fmt::Write>(&self, f: &mut fmt::Formatter<W>) -> fmt::Result {
-        let Self {
-            number,
-            len,
-            paylen,
-            ..
-        } = self;
         let (eop, rs) = (u8::from(self.eop), u8::from(self.rs));
+        let (number, len, paylen) = (self.number, self.len, self.paylen);
         write!(
             f,
             "buffer {number} length {len} eop {eop} rs {rs} paylen {paylen}"

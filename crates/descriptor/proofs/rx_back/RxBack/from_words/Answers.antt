@@ -2,9 +2,9 @@ use Rattle.std.proofs.Common.{arith}
 use Rattle.descriptor.proofs.ReceiveBack.{rx_back-first_refused, rx_back-second_refused, rx_back-accepted}
 use Rattle.descriptor.proofs.rx_back.RxBack.from_words.Goals as goal
 
-pub returns-then-first-ne0-clause-refused : goal.returns-then-first-ne0-clause-refused
-returns-then-first-ne0-clause-refused c =
-    (rx_back-first_refused c.args.first c.args.second (omega arith) c.if-first-ne0.true).refused
+pub returns-then-first-ne-FIRST_WORD-clause-refused : goal.returns-then-first-ne-FIRST_WORD-clause-refused
+returns-then-first-ne-FIRST_WORD-clause-refused c =
+    (rx_back-first_refused c.args.first c.args.second (omega arith) c.if-first-ne-FIRST_WORD.true).refused
 
 pub returns-then-second-second_word_of-clause-refused : goal.returns-then-second-second_word_of-clause-refused
 returns-then-second-second_word_of-clause-refused c =
@@ -12,4 +12,4 @@ returns-then-second-second_word_of-clause-refused c =
 
 pub returns-clause-reads_back : goal.returns-clause-reads_back
 returns-clause-reads_back c =
-    (rx_back-accepted c.args.first c.args.second _ c.if-first-ne0.false (omega arith)).reads_back
+    (rx_back-accepted c.args.first c.args.second _ c.if-first-ne-FIRST_WORD.false (omega arith)).reads_back
