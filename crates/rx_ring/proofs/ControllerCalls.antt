@@ -1,11 +1,11 @@
 -- The controller's calls, over the fields of its end: what each step asks, and what the end keeps.
-use Rattle.std.proofs.Common.{◌≡◌, ℕ, ◌+◌, ◌-◌, ◌*◌, ◌%◌, ◌<◌, ◌≤◌, Bool, true, false, List, [], ◌∷◌, ◌++◌, length, Option, Some, None, sym, refl, ap, ◌∙◌, subst, ⊎_elim, arith, if◌then◌else◌, length-append, mod-lt, mod-eq_of_lt}
+use Rattle.std.proofs.Common.{◌≡◌, ℕ, ◌+◌, ◌-◌, ◌*◌, ◌%◌, ◌^◌, ◌<◌, ◌≤◌, Bool, true, false, List, [], ◌∷◌, ◌++◌, length, Option, Some, None, sym, refl, ap, ◌∙◌, subst, ⊎_elim, arith, if◌then◌else◌, length-append, mod-lt, mod-eq_of_lt}
 use Rattle.std.specs.Prelude.{◌==◌}
 use Rattle.std.proofs.lemmas.Option.{none-some}
 use Rattle.std.proofs.lemmas.Bool.{cases_lt}
 use Rattle.std.proofs.Math.Nat.{add-mod_right}
 use mathlib.Core.Option.{none}
-use mir.Val.{bool_byte}
+use Rattle.descriptor.specs.Layout.{bit as descriptor_bit}
 use Rattle.atomic_table.specs.Table.{Allows, step, rest}
 use Rattle.atomic_table.specs.Seated.{TableId}
 use Rattle.buffer_pool.specs.Buffer.{Buffer, buffer}
@@ -30,10 +30,13 @@ use Rattle.rx_ring.proofs.Calls.{key-is, slots-are, word-within, allow-at, front
 abbrev pub side : TableId → Seated → ControllerSide
 side table me = record { table = table; events = controllers_of me.0 }
 
--- the word that the code computes is the write-back
-pub word-is : (len from : ℕ) (eop : Bool) → from ≡ bool_byte eop → 1 + 2 * from + len * 4294967296 ≡ rx_word len eop
-word-is len from true e = ap (λ (x : ℕ). 1 + 2 * x + len * 4294967296) e
-word-is len from false e = ap (λ (x : ℕ). 1 + 2 * x + len * 4294967296) e
+-- the second word of a descriptor is the write-back of its bytes
+same-word : (e : Bool) (len w : ℕ) → w ≡ 1 + 2 * descriptor_bit e + len * 2 ^ 32 → w ≡ rx_word len e
+same-word true len w h = h
+same-word false len w h = h
+
+pub word-is : (eop e : Bool) (len n : ℕ) → e ≡ eop → n ≡ len → (w : ℕ) → w ≡ 1 + 2 * descriptor_bit e + n * 2 ^ 32 → w ≡ rx_word len eop
+word-is eop e len n same count w h = same-word e n w h ∙ ap (λ (b : Bool). rx_word n b) same ∙ ap (λ (k : ℕ). rx_word k eop) count
 
 -- the free descriptors up to a tail, without division
 pub free-up : (n serve tail stored : ℕ) → serve ≡ stored % n → serve < n → tail < n → serve ≤ tail → (tail + n - stored % n) % n ≡ tail - serve

@@ -1,6 +1,7 @@
 -- What `poll` leaves and answers, over the fields of its end.
-use Rattle.std.proofs.Common.{◌≡◌, ℕ, ◌+◌, ◌-◌, ◌%◌, ◌<◌, true, List, [], ◌∷◌, ◌++◌, length, Option, Some, None, sym, refl, ap, ◌∙◌, subst, arith, if◌then◌else◌, length-append}
+use Rattle.std.proofs.Common.{◌/◌, Bool, mod-lt, ⊎_elim, false, ◌≡◌, ℕ, ◌+◌, ◌-◌, ◌%◌, ◌<◌, true, List, [], ◌∷◌, ◌++◌, length, Option, Some, None, sym, refl, ap, ◌∙◌, subst, arith, if◌then◌else◌, length-append}
 use Rattle.std.specs.Prelude.{◌==◌}
+use Rattle.std.proofs.lemmas.Bool.{cases_eq, eq-eqb, eqb-true, false≢true, false_from_ne_true}
 use mathlib.Core.Option.{none}
 use Rattle.atomic_table.specs.Table.{step, rest, turned}
 use Rattle.atomic_table.specs.Seated.{TableId}
@@ -17,6 +18,14 @@ use Rattle.rx_ring.specs.Plays.{Seated, driver_does, TakesOut}
 use Rattle.rx_ring.specs.Ends.{IsDriverEnd, DriverSide, SawNotDone, TookSegment, SamePosted, taken, posted, take_place, appended, driver_state}
 use Rattle.rx_ring.proofs.Folds.{driving-snoc, slots-take}
 use Rattle.rx_ring.proofs.DriverCalls.{driver-end, same-end, slots-are-its, big}
+
+-- what the tests of a status word say, as the definitions read it
+pub even-word : (b : Bool) (w : ℕ) → b ≡ false → (w % 2 ≡ 1 → b ≡ true) → w % 2 ≡ 0
+even-word b w clear odd = ⊎_elim (λ e. absurd (false≢true (sym clear ∙ odd e))) (λ ne. let h : w % 2 < 2 = mod-lt w (omega arith) in omega arith) (cases_eq (w % 2) 1)
+
+pub eop-word : (b : Bool) (w : ℕ) → (b ≡ true → (w / 2) % 2 ≡ 1) → ((w / 2) % 2 ≡ 1 → b ≡ true) → b ≡ eop_of w
+eop-word true w says from = sym (eq-eqb ((w / 2) % 2) 1 (says refl))
+eop-word false w says from = sym (false_from_ne_true ((w / 2) % 2 == 1) (λ e. false≢true (from (eqb-true ((w / 2) % 2) 1 e))))
 
 abbrev pub side : TableId → Seated → DriverSide
 side table me = record { table = table; events = drivers_of me.0 }

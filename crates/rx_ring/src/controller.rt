@@ -10,6 +10,7 @@ use crate::exchange::{put_in, take_out};
 use crate::plays::{FetchLoad, TailLoad, WriteBackStep};
 use crate::ring::{RxRing, RxSeat, place_after};
 use buffer_pool::Buf;
+use descriptor::RxBack;
 use ring_machine::ControllerState;
 use std::marker::Model;
 
@@ -127,7 +128,7 @@ impl RxControllerEnd {
         ensures quiet { is_quiet self.new ≡ is_quiet self.old }
     {
         let place = self.serve as usize;
-        let word = 1 + 2 * u64::from(eop) + buf.len() as u64 * (1 << 32);
+        let word = RxBack::new(buf.len() as u16, eop).second_word();
         put_in(&ring.table.shared, &mut self.seat, place, buf);
         ring.table
             .shared

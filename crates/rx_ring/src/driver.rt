@@ -10,6 +10,7 @@ use crate::exchange::{put_in, take_out};
 use crate::plays::{PostStep, PublishStep, StatusLoad};
 use crate::ring::{RxRing, RxSeat, place_after};
 use buffer_pool::Buf;
+use descriptor::RxBack;
 use ring_machine::DriverState;
 use std::marker::Model;
 
@@ -136,13 +137,13 @@ impl RxDriverEnd {
         }
         let place = self.next as usize;
         let word = ring.table.shared.load::<StatusLoad>(&mut self.seat, place);
-        if word % 2 == 0 {
+        if !RxBack::is_done(word) {
             return Poll::NotDone;
         }
         let buf = take_out(&ring.table.shared, &mut self.seat, place);
         self.seat.turn();
         self.next = place_after(self.next, self.size);
         self.out -= 1;
-        Poll::Segment(buf, word / 2 % 2 == 1)
+        Poll::Segment(buf, RxBack::ends_frame(word))
     }
 }

@@ -1,7 +1,6 @@
 -- The step keeps the rule, and the record has the segment that the buffer carries.
-use Rattle.std.proofs.Common.{◌≡◌, ℕ, ◌+◌, ◌*◌, [], ◌∷◌, ◌++◌, sym, ap, ◌∙◌, subst}
+use Rattle.std.proofs.Common.{length, ◌≡◌, ℕ, [], ◌∷◌, ◌++◌, sym, ap, ◌∙◌, subst}
 use Rattle.std.specs.Prelude.{Some}
-use Rattle.ring_machine.specs.Agreement.{rx_word}
 use Rattle.ring_machine.specs.Frames.{Follows, unfinished}
 use Rattle.rx_ring.specs.Records.{Controlled, controlling, controllers_of}
 use Rattle.rx_ring.specs.Ends.{ControllerSide, controller_size, stored, held_number, controller_state, is_quiet}
@@ -14,7 +13,7 @@ store-requires c =
     let own : i.seat.table_id ≡ c.ring.inside.table.shared.table_id = ap (λ (d : ControllerSide). d.table) c.self.view_is ∙ c.requires.own ∙ sym c.ring.view_is in
     let held : (controlling i.size (controllers_of i.seat.me.0)).held ≡ Some c.args.buf.number = subst (λ (n : ℕ). (controlling n (controllers_of i.seat.me.0)).held ≡ Some c.args.buf.number) c.self.invariant.size_is (subst (λ (s : ControllerSide). held_number s ≡ Some c.args.buf.number) (sym c.self.view_is) c.requires.held) in
     let follows : Follows i.size (unfinished (controlling i.size (controllers_of i.seat.me.0)).stored) c.args.buf.bytes c.args.eop = subst (λ (n : ℕ). Follows n (unfinished (controlling n (controllers_of i.seat.me.0)).stored) c.args.buf.bytes c.args.eop) c.self.invariant.size_is (subst (λ (s : ControllerSide). Follows (controller_size s) (unfinished (stored s)) c.args.buf.bytes c.args.eop) (sym c.self.view_is) c.requires.follows) in
-    write_back-asks i.seat.table_id i.seat.me i.size i.serve i.free i.state c.self.invariant c.args.buf c.args.eop held c.ring.inside.table.shared.table_id c.put_in.new.seat.table_id c.ring.inside.table.shared.key c.put_in.new.seat.id (1 + 2 * c.from.result + c.len.result * 4294967296) c.put_in.new.seat.me own c.ring.invariant c.put_in.ensures.same.0 c.put_in.ensures.put (word-is c.len.result c.from.result c.args.eop c.from.ensures ∙ ap (λ n. rx_word n c.args.eop) c.len.ensures.value) c.requires.real follows
+    write_back-asks i.seat.table_id i.seat.me i.size i.serve i.free i.state c.self.invariant c.args.buf c.args.eop held c.ring.inside.table.shared.table_id c.put_in.new.seat.table_id c.ring.inside.table.shared.key c.put_in.new.seat.id c.second_word-word.result c.put_in.new.seat.me own c.ring.invariant c.put_in.ensures.same.0 c.put_in.ensures.put (word-is c.args.eop c.new.result.eop (length c.args.buf.bytes) c.new.result.len c.new.ensures.eop (c.new.ensures.len ∙ c.len.ensures.value) c.second_word-word.result c.second_word-word.ensures.value) c.requires.real follows
 
 pub overflow_sub-self : goal.overflow_sub-self
 overflow_sub-self c =
@@ -26,43 +25,43 @@ pub invariant_of-self : goal.invariant_of-self
 invariant_of-self c =
     let i = c.self.inside in
     let held : (controlling i.size (controllers_of i.seat.me.0)).held ≡ Some c.args.buf.number = subst (λ (n : ℕ). (controlling n (controllers_of i.seat.me.0)).held ≡ Some c.args.buf.number) c.self.invariant.size_is (subst (λ (s : ControllerSide). held_number s ≡ Some c.args.buf.number) (sym c.self.view_is) c.requires.held) in
-    write_back-keeps i.seat.table_id i.seat.me i.size i.serve i.free i.state c.self.invariant c.args.buf c.args.eop held (1 + 2 * c.from.result + c.len.result * 4294967296) c.place_after-self-inside.result c.put_in.new.seat.me c.store.new.seat.me c.store.new.seat.table_id (word-is c.len.result c.from.result c.args.eop c.from.ensures ∙ ap (λ n. rx_word n c.args.eop) c.len.ensures.value) c.put_in.ensures.put c.store.ensures.2 (c.store.ensures.0 ∙ c.put_in.ensures.same.0) c.place_after-self-inside.ensures
+    write_back-keeps i.seat.table_id i.seat.me i.size i.serve i.free i.state c.self.invariant c.args.buf c.args.eop held c.second_word-word.result c.place_after-self-inside.result c.put_in.new.seat.me c.store.new.seat.me c.store.new.seat.table_id (word-is c.args.eop c.new.result.eop (length c.args.buf.bytes) c.new.result.len c.new.ensures.eop (c.new.ensures.len ∙ c.len.ensures.value) c.second_word-word.result c.second_word-word.ensures.value) c.put_in.ensures.put c.store.ensures.2 (c.store.ensures.0 ∙ c.put_in.ensures.same.0) c.place_after-self-inside.ensures
 
 pub returns-clause-step : goal.returns-clause-step
 returns-clause-step c =
     let i = c.self.inside in
     let held : (controlling i.size (controllers_of i.seat.me.0)).held ≡ Some c.args.buf.number = subst (λ (n : ℕ). (controlling n (controllers_of i.seat.me.0)).held ≡ Some c.args.buf.number) c.self.invariant.size_is (subst (λ (s : ControllerSide). held_number s ≡ Some c.args.buf.number) (sym c.self.view_is) c.requires.held) in
-    write_back-steps i.seat.table_id i.seat.me i.size i.serve i.free i.state c.self.invariant c.args.buf c.args.eop held c.args.self.now (1 + 2 * c.from.result + c.len.result * 4294967296) c.put_in.new.seat.me c.store.new.seat.me c.store.new.seat.table_id c.self.view_is (word-is c.len.result c.from.result c.args.eop c.from.ensures ∙ ap (λ n. rx_word n c.args.eop) c.len.ensures.value) c.put_in.ensures.put c.store.ensures.2 (c.store.ensures.0 ∙ c.put_in.ensures.same.0)
+    write_back-steps i.seat.table_id i.seat.me i.size i.serve i.free i.state c.self.invariant c.args.buf c.args.eop held c.args.self.now c.second_word-word.result c.put_in.new.seat.me c.store.new.seat.me c.store.new.seat.table_id c.self.view_is (word-is c.args.eop c.new.result.eop (length c.args.buf.bytes) c.new.result.len c.new.ensures.eop (c.new.ensures.len ∙ c.len.ensures.value) c.second_word-word.result c.second_word-word.ensures.value) c.put_in.ensures.put c.store.ensures.2 (c.store.ensures.0 ∙ c.put_in.ensures.same.0)
 
 pub returns-clause-free : goal.returns-clause-free
 returns-clause-free c =
     let i = c.self.inside in
     let held : (controlling i.size (controllers_of i.seat.me.0)).held ≡ Some c.args.buf.number = subst (λ (n : ℕ). (controlling n (controllers_of i.seat.me.0)).held ≡ Some c.args.buf.number) c.self.invariant.size_is (subst (λ (s : ControllerSide). held_number s ≡ Some c.args.buf.number) (sym c.self.view_is) c.requires.held) in
-    write_back-counts i.seat.table_id i.seat.me i.size i.serve i.free i.state c.self.invariant c.args.buf c.args.eop held c.args.self.now (1 + 2 * c.from.result + c.len.result * 4294967296) c.put_in.new.seat.me c.store.new.seat.me c.store.new.seat.table_id c.self.view_is (word-is c.len.result c.from.result c.args.eop c.from.ensures ∙ ap (λ n. rx_word n c.args.eop) c.len.ensures.value) c.put_in.ensures.put c.store.ensures.2 (c.store.ensures.0 ∙ c.put_in.ensures.same.0)
+    write_back-counts i.seat.table_id i.seat.me i.size i.serve i.free i.state c.self.invariant c.args.buf c.args.eop held c.args.self.now c.second_word-word.result c.put_in.new.seat.me c.store.new.seat.me c.store.new.seat.table_id c.self.view_is (word-is c.args.eop c.new.result.eop (length c.args.buf.bytes) c.new.result.len c.new.ensures.eop (c.new.ensures.len ∙ c.len.ensures.value) c.second_word-word.result c.second_word-word.ensures.value) c.put_in.ensures.put c.store.ensures.2 (c.store.ensures.0 ∙ c.put_in.ensures.same.0)
 
 pub returns-clause-stored : goal.returns-clause-stored
 returns-clause-stored c =
     let i = c.self.inside in
     let held : (controlling i.size (controllers_of i.seat.me.0)).held ≡ Some c.args.buf.number = subst (λ (n : ℕ). (controlling n (controllers_of i.seat.me.0)).held ≡ Some c.args.buf.number) c.self.invariant.size_is (subst (λ (s : ControllerSide). held_number s ≡ Some c.args.buf.number) (sym c.self.view_is) c.requires.held) in
-    wrote i.seat.table_id i.seat.me i.size i.serve i.free i.state c.self.invariant c.args.buf c.args.eop held (λ (y : Controlled). y.stored) (1 + 2 * c.from.result + c.len.result * 4294967296) c.put_in.new.seat.me c.store.new.seat.me c.store.new.seat.table_id (word-is c.len.result c.from.result c.args.eop c.from.ensures ∙ ap (λ n. rx_word n c.args.eop) c.len.ensures.value) c.put_in.ensures.put c.store.ensures.2 (c.store.ensures.0 ∙ c.put_in.ensures.same.0)
+    wrote i.seat.table_id i.seat.me i.size i.serve i.free i.state c.self.invariant c.args.buf c.args.eop held (λ (y : Controlled). y.stored) c.second_word-word.result c.put_in.new.seat.me c.store.new.seat.me c.store.new.seat.table_id (word-is c.args.eop c.new.result.eop (length c.args.buf.bytes) c.new.result.len c.new.ensures.eop (c.new.ensures.len ∙ c.len.ensures.value) c.second_word-word.result c.second_word-word.ensures.value) c.put_in.ensures.put c.store.ensures.2 (c.store.ensures.0 ∙ c.put_in.ensures.same.0)
     ∙ ap (λ xs. xs ++ record { number = c.args.buf.number; payload = c.args.buf.bytes; eop = c.args.eop } ∷ []) (sym (words-are i.seat.table_id i.seat.me i.size i.serve i.free i.state c.self.invariant (λ (y : Controlled). y.stored)) ∙ ap stored c.self.view_is)
 
 pub returns-clause-held : goal.returns-clause-held
 returns-clause-held c =
     let i = c.self.inside in
     let held : (controlling i.size (controllers_of i.seat.me.0)).held ≡ Some c.args.buf.number = subst (λ (n : ℕ). (controlling n (controllers_of i.seat.me.0)).held ≡ Some c.args.buf.number) c.self.invariant.size_is (subst (λ (s : ControllerSide). held_number s ≡ Some c.args.buf.number) (sym c.self.view_is) c.requires.held) in
-    wrote i.seat.table_id i.seat.me i.size i.serve i.free i.state c.self.invariant c.args.buf c.args.eop held (λ (y : Controlled). y.held) (1 + 2 * c.from.result + c.len.result * 4294967296) c.put_in.new.seat.me c.store.new.seat.me c.store.new.seat.table_id (word-is c.len.result c.from.result c.args.eop c.from.ensures ∙ ap (λ n. rx_word n c.args.eop) c.len.ensures.value) c.put_in.ensures.put c.store.ensures.2 (c.store.ensures.0 ∙ c.put_in.ensures.same.0)
+    wrote i.seat.table_id i.seat.me i.size i.serve i.free i.state c.self.invariant c.args.buf c.args.eop held (λ (y : Controlled). y.held) c.second_word-word.result c.put_in.new.seat.me c.store.new.seat.me c.store.new.seat.table_id (word-is c.args.eop c.new.result.eop (length c.args.buf.bytes) c.new.result.len c.new.ensures.eop (c.new.ensures.len ∙ c.len.ensures.value) c.second_word-word.result c.second_word-word.ensures.value) c.put_in.ensures.put c.store.ensures.2 (c.store.ensures.0 ∙ c.put_in.ensures.same.0)
 
 pub returns-clause-state : goal.returns-clause-state
 returns-clause-state c =
     let i = c.self.inside in
     let held : (controlling i.size (controllers_of i.seat.me.0)).held ≡ Some c.args.buf.number = subst (λ (n : ℕ). (controlling n (controllers_of i.seat.me.0)).held ≡ Some c.args.buf.number) c.self.invariant.size_is (subst (λ (s : ControllerSide). held_number s ≡ Some c.args.buf.number) (sym c.self.view_is) c.requires.held) in
-    wrote i.seat.table_id i.seat.me i.size i.serve i.free i.state c.self.invariant c.args.buf c.args.eop held (λ (y : Controlled). y.state) (1 + 2 * c.from.result + c.len.result * 4294967296) c.put_in.new.seat.me c.store.new.seat.me c.store.new.seat.table_id (word-is c.len.result c.from.result c.args.eop c.from.ensures ∙ ap (λ n. rx_word n c.args.eop) c.len.ensures.value) c.put_in.ensures.put c.store.ensures.2 (c.store.ensures.0 ∙ c.put_in.ensures.same.0)
+    wrote i.seat.table_id i.seat.me i.size i.serve i.free i.state c.self.invariant c.args.buf c.args.eop held (λ (y : Controlled). y.state) c.second_word-word.result c.put_in.new.seat.me c.store.new.seat.me c.store.new.seat.table_id (word-is c.args.eop c.new.result.eop (length c.args.buf.bytes) c.new.result.len c.new.ensures.eop (c.new.ensures.len ∙ c.len.ensures.value) c.second_word-word.result c.second_word-word.ensures.value) c.put_in.ensures.put c.store.ensures.2 (c.store.ensures.0 ∙ c.put_in.ensures.same.0)
     ∙ sym (words-are i.seat.table_id i.seat.me i.size i.serve i.free i.state c.self.invariant (λ (y : Controlled). y.state)) ∙ ap controller_state c.self.view_is
 
 pub returns-clause-quiet : goal.returns-clause-quiet
 returns-clause-quiet c =
     let i = c.self.inside in
     let held : (controlling i.size (controllers_of i.seat.me.0)).held ≡ Some c.args.buf.number = subst (λ (n : ℕ). (controlling n (controllers_of i.seat.me.0)).held ≡ Some c.args.buf.number) c.self.invariant.size_is (subst (λ (s : ControllerSide). held_number s ≡ Some c.args.buf.number) (sym c.self.view_is) c.requires.held) in
-    wrote i.seat.table_id i.seat.me i.size i.serve i.free i.state c.self.invariant c.args.buf c.args.eop held (λ (y : Controlled). y.still) (1 + 2 * c.from.result + c.len.result * 4294967296) c.put_in.new.seat.me c.store.new.seat.me c.store.new.seat.table_id (word-is c.len.result c.from.result c.args.eop c.from.ensures ∙ ap (λ n. rx_word n c.args.eop) c.len.ensures.value) c.put_in.ensures.put c.store.ensures.2 (c.store.ensures.0 ∙ c.put_in.ensures.same.0)
+    wrote i.seat.table_id i.seat.me i.size i.serve i.free i.state c.self.invariant c.args.buf c.args.eop held (λ (y : Controlled). y.still) c.second_word-word.result c.put_in.new.seat.me c.store.new.seat.me c.store.new.seat.table_id (word-is c.args.eop c.new.result.eop (length c.args.buf.bytes) c.new.result.len c.new.ensures.eop (c.new.ensures.len ∙ c.len.ensures.value) c.second_word-word.result c.second_word-word.ensures.value) c.put_in.ensures.put c.store.ensures.2 (c.store.ensures.0 ∙ c.put_in.ensures.same.0)
     ∙ sym (words-are i.seat.table_id i.seat.me i.size i.serve i.free i.state c.self.invariant (λ (y : Controlled). y.still)) ∙ ap is_quiet c.self.view_is
