@@ -1,4 +1,4 @@
--- A descriptor as the datasheet draws it: two words of 64 bits, each of fields that lie side by side.
+-- A descriptor as the datasheet draws it: two words of 64 bits, each of fields that lie side by side and take all of it.
 use Rattle.std.specs.Prelude.{◌≡◌, ℕ, ◌+◌, ◌*◌, ◌/◌, ◌%◌, ◌^◌, ◌≤◌, ⊤, Bool, true, false, List, [], ◌∷◌, ◌++◌, length, take, drop}
 use Rattle.byteorder.specs.Endian.{little_bytes, little_number}
 use Rattle.descriptor.specs.declared.error.DescError.{DescError}
@@ -60,7 +60,7 @@ pub record Field : Type 0 where
 abbrev pub field : Name → ℕ → ℕ → Content → Field
 field name first width content = record { name = name; first = first; width = width; content = content }
 
--- a number under an `if` has no type
+-- a flag as a number
 abbrev pub bit : Bool → ℕ
 bit true = 1
 bit false = 0
@@ -111,7 +111,7 @@ pub record HasWords (bytes : List ℕ) (first second : ℕ) : Type 0 where
 abbrev pub read : ℕ → Field → ℕ
 read word f = word / 2 ^ f.first % 2 ^ f.width
 
--- the number n in a field of a word is not what the refusal speaks of
+-- what the refusal says to be broken, kept by the number n in a field of the word. `Length` speaks of no field
 abbrev pub Keeps : DescError → ℕ → Content → ℕ → Type 0
 Keeps Reserved word (fixed m) n = n ≡ m
 Keeps Reserved word (flag_under place) n = word / 2 ^ place % 2 ≡ 0 → n ≡ 0
@@ -126,11 +126,12 @@ abbrev pub EachField : (Field → Type 0) → List Field → Type 0
 EachField P [] = ⊤
 EachField P (f ∷ fs) = P f × EachField P fs
 
--- the two words keep, in each of their fields, what the refusal e says to be broken
+-- the two words keep it in each of their fields
 pub record KeepsWords (form : Form) (first second : ℕ) (e : DescError) : Type 0 where
   pub in_first : EachField (KeepsField e first) form.first
   pub in_second : EachField (KeepsField e second) form.second
 
+-- so do bytes, and for `Length` there are 16 of them
 abbrev pub KeepsBytes : Form → List ℕ → DescError → Type 0
 KeepsBytes form bytes Length = length bytes ≡ 16
 KeepsBytes form bytes e = KeepsWords form (little_number 8 bytes) (little_number 8 (drop 8 bytes)) e

@@ -80,7 +80,7 @@ impl RxBack {
         second_word_of(self.len, self.eop)
     }
 
-    /// The descriptor in 16 bytes.
+    /// The descriptor in 16 bytes: its two words, each with its lowest byte first.
     pub fn to_bytes(&self) -> [u8; 16]
         ensures { result ≡ rx_back_bytes self.now }
     {
@@ -119,7 +119,8 @@ impl RxBack {
         Self::from_words(FIRST_WORD, word)
     }
 
-    /// The descriptor whose 16 bytes these are. Refused are `Length`, and what `from_words` refuses.
+    /// The descriptor whose 16 bytes these are, so `from_bytes` undoes `to_bytes`. Refused are `Length`,
+    /// where there are not 16, and what `from_words` refuses.
     pub fn from_bytes(bytes: &[u8]) -> Result<Self, DescError>
         ensures accepted { IfOk result (λ d. bytes.now ≡ rx_back_bytes d) }
         ensures reads_back { (d : RxBack) → bytes.now ≡ rx_back_bytes d → result ≡ Ok d }
@@ -138,6 +139,7 @@ fn second_word_of(len: u16, eop: bool) -> u64
     1 + 2 * u64::from(eop) + u64::from(len) * (1 << 32)
 }
 
+/// What a program prints of it, as `dd 1 eop 1 length 60`.
 impl fmt::Display for RxBack {
     fn fmt<W: fmt::Write>(&self, f: &mut fmt::Formatter<W>) -> fmt::Result {
         write!(f, "dd 1 eop {} length {}", u8::from(self.eop), self.len)

@@ -41,7 +41,7 @@ impl RxRead {
         SECOND_WORD
     }
 
-    /// The descriptor in 16 bytes.
+    /// The descriptor in 16 bytes: its two words, each with its lowest byte first.
     pub fn to_bytes(&self) -> [u8; 16]
         ensures { result ≡ rx_read_bytes self.now }
     {
@@ -63,7 +63,8 @@ impl RxRead {
         Ok(RxRead { number })
     }
 
-    /// The descriptor whose 16 bytes these are. Refused are `Length`, and what `from_words` refuses.
+    /// The descriptor whose 16 bytes these are, so `from_bytes` undoes `to_bytes`. Refused are `Length`,
+    /// where there are not 16, and what `from_words` refuses.
     pub fn from_bytes(bytes: &[u8]) -> Result<Self, DescError>
         ensures accepted { IfOk result (λ d. bytes.now ≡ rx_read_bytes d) }
         ensures reads_back { (d : RxRead) → bytes.now ≡ rx_read_bytes d → result ≡ Ok d }
@@ -74,6 +75,7 @@ impl RxRead {
     }
 }
 
+/// What a program prints of it, as `buffer 5`.
 impl fmt::Display for RxRead {
     fn fmt<W: fmt::Write>(&self, f: &mut fmt::Formatter<W>) -> fmt::Result {
         write!(f, "buffer {}", self.number)

@@ -48,7 +48,7 @@ impl TxBack {
         DONE_WORD
     }
 
-    /// The descriptor in 16 bytes.
+    /// The descriptor in 16 bytes: its two words, each with its lowest byte first.
     pub fn to_bytes(&self) -> [u8; 16]
         ensures { result ≡ tx_back_bytes self.now }
     {
@@ -67,7 +67,8 @@ impl TxBack {
         Ok(TxBack)
     }
 
-    /// The descriptor whose 16 bytes these are. Refused are `Length`, and what `from_words` refuses.
+    /// The descriptor whose 16 bytes these are, so `from_bytes` undoes `to_bytes`. Refused are `Length`,
+    /// where there are not 16, and what `from_words` refuses.
     pub fn from_bytes(bytes: &[u8]) -> Result<Self, DescError>
         ensures accepted { IfOk result (λ d. bytes.now ≡ tx_back_bytes d) }
         ensures reads_back { (d : TxBack) → bytes.now ≡ tx_back_bytes d → result ≡ Ok d }
@@ -78,6 +79,7 @@ impl TxBack {
     }
 }
 
+/// What a program prints of it: `dd 1`.
 impl fmt::Display for TxBack {
     fn fmt<W: fmt::Write>(&self, f: &mut fmt::Formatter<W>) -> fmt::Result {
         write!(f, "dd 1")

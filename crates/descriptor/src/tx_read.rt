@@ -72,7 +72,8 @@ impl TxRead {
     #[inline]
     pub fn second_word(&self) -> u64
         ensures layout { result ≡ tx_read_second self.now }
-        ensures value { result ≡ self.now.len + 3 * 2 ^ 20 + 2 ^ 25 + 2 ^ 29 + bit self.now.eop * 2 ^ 24 + bit self.now.rs * 2 ^ 27 + self.now.paylen * 2 ^ 46 }
+        ensures value { result ≡ self.now.len + 3 * 2 ^ 20 + 2 ^ 25 + 2 ^ 29
+            + bit self.now.eop * 2 ^ 24 + bit self.now.rs * 2 ^ 27 + self.now.paylen * 2 ^ 46 }
         ensures not_done { result / 2 ^ 32 % 2 ≡ 0 }
     {
         u64::from(self.len)
@@ -84,7 +85,7 @@ impl TxRead {
             + u64::from(self.paylen) * (1 << 46)
     }
 
-    /// The descriptor in 16 bytes.
+    /// The descriptor in 16 bytes: its two words, each with its lowest byte first.
     pub fn to_bytes(&self) -> [u8; 16]
         ensures { result ≡ tx_read_bytes self.now }
     {
@@ -119,7 +120,8 @@ impl TxRead {
         })
     }
 
-    /// The descriptor whose 16 bytes these are. Refused are `Length`, and what `from_words` refuses.
+    /// The descriptor whose 16 bytes these are, so `from_bytes` undoes `to_bytes`. Refused are `Length`,
+    /// where there are not 16, and what `from_words` refuses.
     pub fn from_bytes(bytes: &[u8]) -> Result<Self, DescError>
         ensures accepted { IfOk result (λ d. bytes.now ≡ tx_read_bytes d) }
         ensures reads_back { (d : TxRead) → bytes.now ≡ tx_read_bytes d → result ≡ Ok d }
@@ -170,6 +172,7 @@ impl TxRead {
     }
 }
 
+/// What a program prints of it, as `buffer 5 length 60 eop 1 rs 1 paylen 60`.
 impl fmt::Display for TxRead {
     fn fmt<W: fmt::Write>(&self, f: &mut fmt::Formatter<W>) -> fmt::Result {
         let (eop, rs) = (u8::from(self.eop), u8::from(self.rs));
