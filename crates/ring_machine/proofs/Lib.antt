@@ -20,3 +20,10 @@ pub mod RxTelling
 pub mod RxMoving
 pub mod RxRunning
 pub mod RxOwning
+pub mod TxFits
+pub mod TxTelling
+pub mod TxNoting
+pub mod TxMoving
+pub mod TxReporting
+pub mod TxRunning
+pub mod TxOwning

@@ -55,10 +55,10 @@ pub record Fits (p : RxParts) (r : RxRing ℕ) : Type 0 where
   pub controller : p.controller ≡ r.handshake.controller
   pub still : p.still ≡ r.still
 
-abbrev shake_of : ℕ → ℕ → DriverState → ControllerState → Handshake
+abbrev pub shake_of : ℕ → ℕ → DriverState → ControllerState → Handshake
 shake_of control seen d c = record { control = control; seen = seen; driver = d; controller = c }
 
-shakes_same : (control seen control' seen' : ℕ) (d d' : DriverState) (c c' : ControllerState) → control ≡ control' → seen ≡ seen' → d ≡ d' → c ≡ c' → shake_of control seen d c ≡ shake_of control' seen' d' c'
+pub shakes_same : (control seen control' seen' : ℕ) (d d' : DriverState) (c c' : ControllerState) → control ≡ control' → seen ≡ seen' → d ≡ d' → c ≡ c' → shake_of control seen d c ≡ shake_of control' seen' d' c'
 shakes_same control seen control' seen' d d' c c' e f g h = cc
 
 module _ (p : RxParts) (r : RxRing ℕ) (words_are : length p.words ≡ r.size) (some : 0 < r.size) where

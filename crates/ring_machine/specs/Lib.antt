@@ -19,3 +19,7 @@ pub mod TxRows
 pub mod MachineErrors
 pub mod Machines
 pub mod RxMoves
+pub mod TxAgreement
+pub mod TxMachines
+pub mod TxMoves
+pub mod Arguments

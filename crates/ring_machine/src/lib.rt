@@ -15,6 +15,7 @@ mod notes;
 mod rx_machine;
 mod states;
 mod steps;
+mod tx_machine;
 mod wrap;
 
 pub use error::MachineError;
@@ -23,9 +24,10 @@ pub use laws::{
     tx_rings_are_lawful,
 };
 pub use limits::{BUFFER_BYTES, LEAST_FRAME, LEAST_RING, MOST_FRAME, MOST_RING, MOST_SEGMENTS};
-pub use moves::SegmentLength;
+pub use moves::{Descriptor, SegmentLength};
 pub use notes::{FetchedSegment, Note, TakenSegment};
 pub use rx_machine::RxMachine;
 pub use states::{Completion, ControllerState, DriverState, Owner};
 pub use steps::{ControlStep, RxStep, TxStep};
+pub use tx_machine::TxMachine;
 pub use wrap::is_ring_length;
