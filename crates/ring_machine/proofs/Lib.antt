@@ -27,3 +27,4 @@ pub mod TxMoving
 pub mod TxReporting
 pub mod TxRunning
 pub mod TxOwning
+pub mod Apart

@@ -23,3 +23,4 @@ pub mod TxAgreement
 pub mod TxMachines
 pub mod TxMoves
 pub mod Arguments
+pub mod Worlds

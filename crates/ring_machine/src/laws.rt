@@ -11,6 +11,8 @@ ghost use Rattle.ring_machine.specs.declared.steps.TxStep.{TxStep};
 ghost use Rattle.ring_machine.specs.TxLawful.{IsLawfulTx};
 ghost use Rattle.ring_machine.specs.TxSchedules.{IsTxReachable, tx_after_all};
 ghost use Rattle.ring_machine.specs.TxLaws.{IsTxConcluded, TxLater};
+ghost use Rattle.ring_machine.specs.declared.queue_moves.Move.{Move};
+ghost use Rattle.ring_machine.specs.Worlds.{World, after_move, IsLawfulWorld, IsLeftAlone, IsReachableWorld};
 ghost use Rattle.ring_machine.specs.Frames.{cut, join_pieces, piece_of, frames, AllFollow, HasFrameLength};
 
 /// Every ring of two places or more that a schedule gives has a lawful ledger and a lawful owner map, whether its
@@ -57,4 +59,11 @@ pub fn tx_rings_are_lawful()
 pub fn tx_epochs_are_fixed()
     ensures bytes { (n : ℕ) (r : TxRing Bytes) (more : List (TxStep (Posting Bytes))) → 1 < n → IsTxReachable Bytes n r → TxLater r (tx_after_all r more) }
     ensures lengths { (n : ℕ) (r : TxRing ℕ) (more : List (TxStep (Posting ℕ))) → 1 < n → IsTxReachable ℕ n r → TxLater r (tx_after_all r more) }
+{}
+
+/// Among queues side by side, a move leaves all but its own as they were. Each queue of a world that a schedule of moves
+/// gives is one that a schedule of its own steps gives, and so it is lawful.
+pub fn queues_stand_apart()
+    ensures alone { (w : World) (m : Move) → IsLeftAlone w m (after_move w m) }
+    ensures lawful { (pairs : ℕ) (n : ℕ) (w : World) → 1 < n → IsReachableWorld pairs n w → IsLawfulWorld n w }
 {}

@@ -12,6 +12,7 @@ mod laws;
 mod limits;
 mod moves;
 mod notes;
+mod queue_moves;
 mod rx_machine;
 mod states;
 mod steps;
@@ -20,12 +21,15 @@ mod wrap;
 
 pub use error::MachineError;
 pub use laws::{
-    epochs_are_fixed, frames_are_rejoined, rings_are_lawful, tx_epochs_are_fixed,
-    tx_rings_are_lawful,
+    epochs_are_fixed, frames_are_rejoined, queues_stand_apart, rings_are_lawful,
+    tx_epochs_are_fixed, tx_rings_are_lawful,
 };
-pub use limits::{BUFFER_BYTES, LEAST_FRAME, LEAST_RING, MOST_FRAME, MOST_RING, MOST_SEGMENTS};
+pub use limits::{
+    BUFFER_BYTES, LEAST_FRAME, LEAST_RING, MOST_FRAME, MOST_PAIRS, MOST_RING, MOST_SEGMENTS,
+};
 pub use moves::{Descriptor, SegmentLength};
 pub use notes::{FetchedSegment, Note, TakenSegment};
+pub use queue_moves::{Move, QueueNumber};
 pub use rx_machine::RxMachine;
 pub use states::{Completion, ControllerState, DriverState, Owner};
 pub use steps::{ControlStep, RxStep, TxStep};

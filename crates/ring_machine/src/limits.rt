@@ -17,3 +17,6 @@ pub const MOST_FRAME: usize = 9_000;
 
 /// The most segments of a frame: `MOST_FRAME` bytes in buffers filled to 1,024.
 pub const MOST_SEGMENTS: usize = 9;
+
+/// The most queue pairs of a port.
+pub const MOST_PAIRS: usize = 8;

@@ -1,0 +1,57 @@
+//! A move: one step of one queue, with its arguments in range.
+
+ghost use Rattle.std.specs.Prelude.{◌≡◌, ◌<◌, ◌↔◌, IsSome, IfSome};
+ghost use Rattle.ring_machine.specs.declared.limits.TheConstants.{MOST_PAIRS};
+
+use crate::limits::MOST_PAIRS;
+use crate::moves::{Descriptor, SegmentLength};
+use crate::steps::{RxStep, TxStep};
+use std::marker::Model;
+
+/// The number of a queue of its kind: 0 to 7.
+#[derive(Clone, Copy, Debug, PartialEq, Eq)]
+pub struct QueueNumber {
+    number: u8,
+}
+
+impl Model for QueueNumber {
+    ghost use Rattle.std.specs.Prelude.{ℕ, ◌<◌};
+
+    ghost Value = { ℕ };
+
+    ghost view = { λ q. q.number };
+
+    ghost invariant = { λ q. q.number < 8 };
+
+    ghost inverse = { λ n. record { number = n } };
+}
+
+impl QueueNumber {
+    /// This number, if a queue may have it.
+    pub fn new(number: u8) -> Option<QueueNumber>
+        ensures lawful { IsSome result ↔ (number < MOST_PAIRS) }
+        ensures value { IfSome result (λ q. q ≡ number) }
+    {
+        if usize::from(number) < MOST_PAIRS {
+            Some(QueueNumber { number })
+        } else {
+            None
+        }
+    }
+
+    /// The number.
+    pub fn number(self) -> u8
+        ensures { result ≡ self }
+    {
+        self.number
+    }
+}
+
+/// One step of one queue. A move that can't be written can't be made.
+#[derive(Clone, Copy, Debug, PartialEq, Eq)]
+pub enum Move {
+    /// A step of a receive queue.
+    Receive(QueueNumber, RxStep<SegmentLength>),
+    /// A step of a transmit queue.
+    Transmit(QueueNumber, TxStep<Descriptor>),
+}
