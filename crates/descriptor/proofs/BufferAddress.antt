@@ -1,9 +1,9 @@
 -- A buffer's address, as a word of fields.
-use Rattle.std.proofs.Common.{◌≡◌, ◌≢◌, ℕ, ◌+◌, ◌*◌, ◌/◌, ◌%◌, ◌<◌, ◌≤◌, ◌^◌, refl, sym, arith}
+use Rattle.std.proofs.Common.{◌≡◌, ◌≢◌, ℕ, ◌*◌, ◌/◌, ◌%◌, ◌<◌, ◌^◌, refl, arith}
 use Rattle.descriptor.specs.declared.error.DescError.TheVariants.{Reserved}
 use Rattle.descriptor.specs.Address.{address_fields}
-use Rattle.descriptor.specs.Layout.{KeepsField, EachField, word_of}
-use Rattle.descriptor.proofs.Fields.{Tiles, settled, word_of-settled}
+use Rattle.descriptor.specs.Layout.{KeepsField, EachField}
+use Rattle.descriptor.proofs.Fields.{Tiles, word_of-settled}
 
 pub address-tiles : Tiles 0 address_fields
 address-tiles = (refl, (refl, (refl, refl)))

@@ -1,11 +1,11 @@
 -- What a call that decodes answers, for a form and the descriptors that have it.
-use Rattle.std.proofs.Common.{◌≡◌, ℕ, ◌+◌, ◌*◌, ◌<◌, ◌≤◌, ◌^◌, ◌↔◌, List, [], ◌∷◌, length, drop, Result, Ok, Err, IfOk, refl, sym, ap, subst, ◌∙◌, arith}
+use Rattle.std.proofs.Common.{◌≡◌, ℕ, ◌<◌, List, [], ◌∷◌, length, drop, Result, Ok, Err, IfOk, sym, ap, ◌∙◌, arith}
 use Rattle.byteorder.specs.Endian.{little_number}
 use Rattle.descriptor.specs.declared.error.DescError.{DescError}
 use Rattle.descriptor.specs.declared.error.DescError.TheVariants.{Length, Reserved, Kind, Size}
 use Rattle.descriptor.specs.Refusal.{refusal_number, IsLowest}
 use Rattle.descriptor.specs.Layout.{Name, Form, Field, Content, fixed, kind, flag, flag_under, range, Keeps, KeepsField, KeepsWords, KeepsBytes, HasWords, EachField, read, first_word, second_word, bytes_of}
-use Rattle.descriptor.proofs.Bytes.{first-read, second-read, length-bytes_of}
+use Rattle.descriptor.proofs.Bytes.{first-read, second-read}
 use Rattle.descriptor.proofs.Fields.{IsWhole, IsNarrow, IsKept, AreSame, keeps-form, words-same, first-lt, second-lt}
 use Rattle.descriptor.proofs.Refusals.{Decodes, Decodes-ok, Decodes-err}
 

@@ -1,9 +1,9 @@
 -- Words that are made of fields side by side.
-use Rattle.std.proofs.Common.{◌≡◌, ℕ, zero, suc, ◌+◌, ◌*◌, ◌/◌, ◌%◌, ◌^◌, ◌<◌, ◌≤◌, List, [], ◌∷◌, refl, sym, ap, subst, ◌∙◌, arith}
+use Rattle.std.proofs.Common.{◌≡◌, ℕ, ◌+◌, ◌*◌, ◌/◌, ◌%◌, ◌^◌, ◌<◌, List, [], ◌∷◌, refl, sym, ap, subst, ◌∙◌, arith}
 use Rattle.std.proofs.lemmas.Nat.{pow-add, shr-shr, shr_split, shr_high, mod_low}
 use Rattle.std.proofs.Math.Nat.{mul-le-mul_right}
 use Rattle.descriptor.specs.declared.error.DescError.{DescError}
-use Rattle.descriptor.specs.declared.error.DescError.TheVariants.{Length, Reserved, Kind, Size}
+use Rattle.descriptor.specs.declared.error.DescError.TheVariants.{Reserved}
 use Rattle.descriptor.specs.Layout.{Name, Form, Field, Content, fixed, kind, flag, flag_under, range, word_of, read, EachField, Keeps, KeepsField, KeepsWords, number_in, first_word, second_word}
 
 -- the fields lie side by side from bit b up to bit 63

@@ -1,14 +1,14 @@
 -- The receive write-back's form and its descriptors.
-use Rattle.std.proofs.Common.{◌≡◌, ◌≢◌, ℕ, ◌+◌, ◌*◌, ◌/◌, ◌%◌, ◌<◌, ◌≤◌, ◌^◌, Bool, List, length, Result, Ok, Err, refl, sym, ap, subst, ◌∙◌, arith, rules}
+use Rattle.std.proofs.Common.{◌≡◌, ◌≢◌, ℕ, ◌+◌, ◌*◌, ◌/◌, ◌%◌, ◌<◌, ◌≤◌, ◌^◌, Bool, List, Result, Ok, Err, refl, sym, ap, subst, ◌∙◌, arith, rules}
 use Rattle.std.proofs.Props.{props}
 use Rattle.descriptor.specs.declared.error.DescError.{DescError}
 use Rattle.descriptor.specs.declared.error.DescError.TheVariants.{Length, Reserved, Kind, Size}
 use Rattle.descriptor.specs.declared.limits.TheConstants.{MOST_DATA}
 use Rattle.descriptor.specs.declared.rx_back.RxBack.{RxBack}
-use Rattle.descriptor.specs.Layout.{Name, KeepsWords, KeepsBytes, HasWords, word_of, bit}
+use Rattle.descriptor.specs.Layout.{KeepsWords, KeepsBytes, HasWords, word_of, bit}
 use Rattle.descriptor.specs.Receive.{rx_back_form, rx_back_numbers, rx_back_first, rx_back_second, rx_back_bytes}
-use Rattle.descriptor.proofs.Fields.{IsWhole, IsNarrow, IsKept, AreSame, settled, word_of-settled, keeps-form}
-use Rattle.descriptor.proofs.Codec.{IsCodec, lowest-reserved, lowest-size, words-accepted, words-refused, bytes-decoded}
+use Rattle.descriptor.proofs.Fields.{IsWhole, IsNarrow, IsKept, AreSame, settled, word_of-settled}
+use Rattle.descriptor.proofs.Codec.{IsCodec, lowest-reserved, words-accepted, words-refused, bytes-decoded}
 use Rattle.descriptor.proofs.Refusals.{Decodes}
 use Rattle.descriptor.proofs.Bits.{bit-lt, bit-same}
 

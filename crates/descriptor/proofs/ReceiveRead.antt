@@ -1,15 +1,14 @@
 -- The read format of a receive descriptor, and its descriptors.
-use Rattle.std.proofs.Common.{◌≡◌, ◌≢◌, ℕ, ◌+◌, ◌*◌, ◌/◌, ◌%◌, ◌<◌, ◌≤◌, ◌^◌, List, length, Result, Ok, Err, refl, sym, ap, subst, arith, rules}
+use Rattle.std.proofs.Common.{◌≡◌, ℕ, ◌*◌, ◌<◌, ◌^◌, List, Result, Ok, refl, ap, subst, arith, rules}
 use Rattle.std.proofs.Props.{props}
 use Rattle.descriptor.specs.declared.error.DescError.{DescError}
 use Rattle.descriptor.specs.declared.error.DescError.TheVariants.{Length, Reserved, Kind, Size}
 use Rattle.descriptor.specs.declared.rx_read.RxRead.{RxRead}
-use Rattle.descriptor.specs.Address.{address_fields}
-use Rattle.descriptor.specs.Layout.{Name, KeepsField, KeepsWords, KeepsBytes, HasWords, EachField, word_of}
+use Rattle.descriptor.specs.Layout.{KeepsWords, KeepsBytes, HasWords}
 use Rattle.descriptor.specs.Receive.{rx_read_form, rx_read_numbers, rx_read_first, rx_read_second, rx_read_bytes}
 use Rattle.descriptor.proofs.BufferAddress.{address-tiles}
-use Rattle.descriptor.proofs.Codec.{IsCodec, lowest-reserved, words-accepted, words-refused, bytes-decoded}
-use Rattle.descriptor.proofs.Fields.{IsWhole, IsNarrow, IsKept, AreSame, settled, word_of-settled}
+use Rattle.descriptor.proofs.Codec.{IsCodec, words-accepted, bytes-decoded}
+use Rattle.descriptor.proofs.Fields.{IsWhole, IsNarrow, IsKept, AreSame}
 use Rattle.descriptor.proofs.Refusals.{Decodes}
 
 rx_read-whole : IsWhole rx_read_form

@@ -3,10 +3,10 @@ use Rattle.std.proofs.Common.{◌≡◌, ℕ, List, Result, refl, rules}
 use Rattle.descriptor.specs.declared.error.DescError.{DescError}
 use Rattle.descriptor.specs.declared.error.DescError.TheVariants.{Length, Reserved, Kind, Size}
 use Rattle.descriptor.specs.declared.tx_back.TxBack.{TxBack}
-use Rattle.descriptor.specs.Layout.{Name, KeepsWords, KeepsBytes, HasWords}
+use Rattle.descriptor.specs.Layout.{KeepsWords, KeepsBytes, HasWords}
 use Rattle.descriptor.specs.Transmit.{tx_back_form, no_numbers, tx_back_first, tx_back_second, tx_back_bytes}
 use Rattle.descriptor.proofs.Codec.{IsCodec, bytes-decoded}
-use Rattle.descriptor.proofs.Fields.{IsWhole, IsNarrow, IsKept, AreSame}
+use Rattle.descriptor.proofs.Fields.{IsKept}
 use Rattle.descriptor.proofs.Refusals.{Decodes}
 
 tx_back-kept : (e : DescError) → IsKept tx_back_form no_numbers e

@@ -1,5 +1,5 @@
 -- The read format of a transmit descriptor, and its descriptors.
-use Rattle.std.proofs.Common.{◌≡◌, ◌≢◌, ℕ, ◌+◌, ◌*◌, ◌/◌, ◌%◌, ◌<◌, ◌≤◌, ◌^◌, IsTrue, Bool, true, false, List, length, Result, Ok, Err, refl, sym, ap, subst, ◌∙◌, arith, rules}
+use Rattle.std.proofs.Common.{◌≡◌, ℕ, ◌+◌, ◌*◌, ◌/◌, ◌%◌, ◌<◌, ◌≤◌, ◌^◌, IsTrue, Bool, true, false, List, Result, Ok, Err, refl, ap, subst, ◌∙◌, arith, rules}
 use Rattle.std.proofs.Props.{props}
 use Rattle.descriptor.specs.declared.error.DescError.{DescError}
 use Rattle.descriptor.specs.declared.error.DescError.TheVariants.{Length, Reserved, Kind, Size}
@@ -7,12 +7,12 @@ use Rattle.descriptor.specs.declared.limits.TheConstants.{MOST_DATA, LEAST_FRAME
 use Rattle.descriptor.specs.declared.tx_read.TxRead.{TxRead}
 use Rattle.descriptor.specs.Address.{address_fields}
 use Rattle.descriptor.specs.Refusal.{IsLowest}
-use Rattle.descriptor.specs.Layout.{Name, KeepsField, KeepsWords, KeepsBytes, HasWords, EachField, word_of, bit}
+use Rattle.descriptor.specs.Layout.{KeepsField, KeepsWords, KeepsBytes, HasWords, EachField, bit}
 use Rattle.descriptor.specs.Transmit.{tx_read_form, tx_read_numbers, tx_read_first, tx_read_second, tx_read_bytes}
 use Rattle.descriptor.proofs.BufferAddress.{address-tiles, address-kept}
 use Rattle.descriptor.proofs.Bits.{bit-lt, bit-same}
 use Rattle.descriptor.proofs.Codec.{IsCodec, lowest-reserved, lowest-kind, lowest-size, words-accepted, words-refused, bytes-decoded}
-use Rattle.descriptor.proofs.Fields.{Tiles, IsWhole, IsNarrow, IsKept, AreSame, settled, word_of-settled}
+use Rattle.descriptor.proofs.Fields.{Tiles, IsNarrow, IsKept, AreSame, word_of-settled}
 use Rattle.descriptor.proofs.Refusals.{Decodes}
 
 tx_read-tiles : Tiles 0 tx_read_form.second

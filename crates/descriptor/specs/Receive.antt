@@ -5,7 +5,7 @@ use Rattle.descriptor.specs.declared.limits.TheConstants.{MOST_DATA}
 use Rattle.descriptor.specs.declared.rx_back.RxBack.{RxBack}
 use Rattle.descriptor.specs.declared.rx_read.RxRead.{RxRead}
 use Rattle.descriptor.specs.Address.{address_fields}
-use Rattle.descriptor.specs.Layout.{Name, BufferNumber, HeaderAddress, DescriptorDone, RssType, PacketType, RscCount, HeaderLength, SplitHeader, RssHash, EndOfPacket, ExtendedStatus, ExtendedError, PacketLength, VlanTag, fixed, flag, range, Field, field, bit, Form, first_word, second_word, bytes_of}
+use Rattle.descriptor.specs.Layout.{Name, BufferNumber, HeaderAddress, DescriptorDone, RssType, PacketType, RscCount, HeaderLength, SplitHeader, RssHash, EndOfPacket, ExtendedStatus, ExtendedError, PacketLength, VlanTag, fixed, flag, range, field, bit, Form, first_word, second_word, bytes_of}
 
 -- ---- 7.1.6.1, read format
 

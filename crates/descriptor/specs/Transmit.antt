@@ -5,7 +5,7 @@ use Rattle.descriptor.specs.declared.limits.TheConstants.{MOST_DATA, LEAST_FRAME
 use Rattle.descriptor.specs.declared.tx_back.TxBack.{TxBack}
 use Rattle.descriptor.specs.declared.tx_read.TxRead.{TxRead}
 use Rattle.descriptor.specs.Address.{address_fields}
-use Rattle.descriptor.specs.Layout.{Name, BufferNumber, DataLength, MacOptions, DescriptorType, EndOfPacket, InsertFcs, ReportStatus, DescriptorExtension, VlanEnable, SegmentationEnable, Status, ContextIndex, CheckContext, PacketOptions, PayloadLength, DescriptorDone, Rsv, fixed, kind, flag, flag_under, range, Field, field, bit, Form, first_word, second_word, bytes_of}
+use Rattle.descriptor.specs.Layout.{Name, BufferNumber, DataLength, MacOptions, DescriptorType, EndOfPacket, InsertFcs, ReportStatus, DescriptorExtension, VlanEnable, SegmentationEnable, Status, ContextIndex, CheckContext, PacketOptions, PayloadLength, DescriptorDone, Rsv, fixed, kind, flag, flag_under, range, field, bit, Form, first_word, second_word, bytes_of}
 
 -- ---- read format
 
