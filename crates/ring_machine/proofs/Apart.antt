@@ -20,14 +20,14 @@ use Rattle.ring_machine.proofs.Reached.{after-append, reachable-opening, kept, l
 use Rattle.ring_machine.proofs.TxReached.{tx_after-append, tx_reachable-opening, tx_kept, tx_lawful}
 
 module _ {X : Type 0} where
-  get_set_other : (xs : List X) (p j : ℕ) (x : X) → j ≢ p → slice_get (slice_set xs p x) j ≡ slice_get xs j
+  pub get_set_other : (xs : List X) (p j : ℕ) (x : X) → j ≢ p → slice_get (slice_set xs p x) j ≡ slice_get xs j
   get_set_other [] p j x ne = refl
   get_set_other (y ∷ ys) zero zero x ne = absurd (ne refl)
   get_set_other (y ∷ ys) zero (suc j) x ne = refl
   get_set_other (y ∷ ys) (suc p) zero x ne = refl
   get_set_other (y ∷ ys) (suc p) (suc j) x ne = get_set_other ys p j x (λ e. ne (ap suc e))
 
-  get_set_same : (xs : List X) (p : ℕ) (x y : X) → slice_get xs p ≡ Some y → slice_get (slice_set xs p x) p ≡ Some x
+  pub get_set_same : (xs : List X) (p : ℕ) (x y : X) → slice_get xs p ≡ Some y → slice_get (slice_set xs p x) p ≡ Some x
   get_set_same xs p x y e = let w = slice_set-writes xs p x (slice_get_within xs p y e) in w.here
 
   all_alike : (n p : ℕ) (x y : X) → slice_get (replicate n x) p ≡ Some y → x ≡ y

@@ -28,3 +28,5 @@ pub mod TxReporting
 pub mod TxRunning
 pub mod TxOwning
 pub mod Apart
+pub mod SideBySide
+pub mod QueuesRunning

@@ -13,6 +13,7 @@ mod limits;
 mod moves;
 mod notes;
 mod queue_moves;
+mod queues;
 mod rx_machine;
 mod states;
 mod steps;
@@ -30,6 +31,7 @@ pub use limits::{
 pub use moves::{Descriptor, SegmentLength};
 pub use notes::{FetchedSegment, Note, TakenSegment};
 pub use queue_moves::{Move, QueueNumber};
+pub use queues::Queues;
 pub use rx_machine::RxMachine;
 pub use states::{Completion, ControllerState, DriverState, Owner};
 pub use steps::{ControlStep, RxStep, TxStep};

@@ -319,7 +319,7 @@ impl RxMachine {
     }
 
     // The step, or 11 where the queue does not have it.
-    fn step_by(&mut self, step: &RxStep<SegmentLength>) -> Result<Note, MachineError>
+    pub(crate) fn step_by(&mut self, step: &RxStep<SegmentLength>) -> Result<Note, MachineError>
         ensures { RxFollows self.old step.now result self.new }
     {
         if !self.may(step) {

@@ -434,7 +434,7 @@ impl TxMachine {
     }
 
     // The step, or 11 where the queue does not have it.
-    fn step_by(&mut self, step: &TxStep<Descriptor>) -> Result<Note, MachineError>
+    pub(crate) fn step_by(&mut self, step: &TxStep<Descriptor>) -> Result<Note, MachineError>
         ensures { TxFollows self.old step.now result self.new }
     {
         if !self.may(step) {
