@@ -15,6 +15,7 @@ pub mod TxStepping
 pub mod TxFixed
 pub mod TxReached
 pub mod PlaceTests
+pub mod Snoc
 pub mod RxFits
 pub mod RxTelling
 pub mod RxMoving

@@ -1,5 +1,5 @@
 -- Each move of a receive machine takes it to the parts that agree with the ring after the step.
-use Rattle.std.proofs.Common.{◌≡◌, ◌≢◌, ℕ, zero, suc, ◌+◌, ◌-◌, ◌%◌, ◌<◌, ◌≤◌, Bool, true, false, not, ◌&&◌, List, [], ◌∷◌, ◌++◌, length, Option, Some, None, sym, refl, ap, ◌∙◌, ⊎_elim, subst, arith, if◌then◌else◌, mod-lt, length-append, mod-eq_of_lt}
+use Rattle.std.proofs.Common.{◌≡◌, ◌≢◌, ℕ, ◌+◌, ◌-◌, ◌%◌, ◌<◌, ◌≤◌, Bool, true, false, not, ◌&&◌, List, [], ◌∷◌, ◌++◌, length, Option, Some, None, sym, refl, ap, ◌∙◌, ⊎_elim, subst, arith, if◌then◌else◌, mod-lt, length-append, mod-eq_of_lt}
 use Rattle.std.specs.Prelude.{slice_get, slice_index, slice_set, ◌==◌, nat_lt}
 use Rattle.std.proofs.lemmas.Bool.{both_ways, and_parts, and_right, not-true, ltb-true, eqb-true, eq-eqb, ne_eqb, or_cases, true≢false}
 use Rattle.ring_machine.specs.declared.states.DriverState.{DriverState}
@@ -23,26 +23,8 @@ use Rattle.ring_machine.proofs.Kept.{IsKept}
 use Rattle.ring_machine.proofs.Shakes.{new_open, on_serving, stopped_answered, answered_closed, emptied_answered, cleared_emptied, tailed_emptied, answered_ended, shakes-enable, learned_open}
 use Rattle.ring_machine.proofs.Stepping.{shook, held_below, returned_stored, answered_unheld}
 use Rattle.ring_machine.proofs.RxFits.{Fits, index-front, slot-writes}
+use Rattle.ring_machine.proofs.Snoc.{snoc_end, snoc_rest, snoc_index, ends_frame-snoc}
 use Rattle.ring_machine.proofs.RxTelling.{past_end, dd_set, unbetween, fetched_slot, reclaimed_slot, live_returned, due_word, taken_slot}
-
-snoc_end : {X : Type 0} (xs : List X) (x : X) → slice_get (xs ++ x ∷ []) (length xs) ≡ Some x
-snoc_end [] x = refl
-snoc_end (y ∷ ys) x = snoc_end ys x
-
--- one more element changes no other place
-snoc_rest : {X : Type 0} (xs : List X) (x : X) (k : ℕ) → k ≢ length xs → slice_get (xs ++ x ∷ []) k ≡ slice_get xs k
-snoc_rest [] x zero ne = absurd (ne refl)
-snoc_rest [] x (suc k) ne = refl
-snoc_rest (y ∷ ys) x zero ne = refl
-snoc_rest (y ∷ ys) x (suc k) ne = snoc_rest ys x k (λ e. ne (ap suc e))
-
-snoc_index : (xs : List ℕ) (x : ℕ) → slice_index (xs ++ x ∷ []) (length xs) ≡ x
-snoc_index [] x = refl
-snoc_index (y ∷ ys) x = snoc_index ys x
-
-ends_frame-snoc : {Payload : Type 0} (whole : Bool) (ss : List (Segment Payload)) (s : Segment Payload) → ends_frame whole (ss ++ s ∷ []) ≡ s.eop
-ends_frame-snoc whole [] s = refl
-ends_frame-snoc whole (x ∷ ss) s = ends_frame-snoc x.eop ss s
 
 abbrev Lies : RxParts → RxRing ℕ → Type 0
 Lies p r = HasItems (λ len. len) (λ b. b) (λ b len. b) r.size r (slice_index p.words) (slot_of p.slots)

@@ -15,9 +15,11 @@ mod notes;
 mod queue_moves;
 mod queues;
 mod rx_machine;
+mod slots;
 mod states;
 mod steps;
 mod tx_machine;
+mod tx_words;
 mod wrap;
 
 pub use error::MachineError;

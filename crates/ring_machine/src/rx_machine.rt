@@ -12,6 +12,7 @@ ghost use Rattle.ring_machine.specs.RxMoves.{is_none, rx_begun, rx_may, rx_may_c
 use crate::error::MachineError;
 use crate::moves::SegmentLength;
 use crate::notes::{Note, TakenSegment};
+use crate::slots::is_empty;
 use crate::states::{ControllerState, DriverState, Owner};
 use crate::steps::{ControlStep, RxStep};
 use crate::wrap::{is_ring_length, place_after, places_between, written_back};
@@ -56,12 +57,6 @@ fn slot_in(slots: &[Option<u16>], place: u16) -> Option<u16>
     ensures { result ≡ slot_of slots.now place }
 {
     slots[usize::from(place)]
-}
-
-fn is_empty(slot: Option<u16>) -> bool
-    ensures { result ≡ is_none slot }
-{
-    slot.is_none()
 }
 
 impl RxMachine {

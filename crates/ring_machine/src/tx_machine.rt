@@ -17,14 +17,13 @@ ghost use Rattle.ring_machine.specs.TxMoves.{asks_report, first_asking, is_made,
 use crate::error::MachineError;
 use crate::moves::Descriptor;
 use crate::notes::{FetchedSegment, Note};
+use crate::slots::is_empty;
 use crate::states::{Completion, ControllerState, DriverState, Owner};
 use crate::steps::{ControlStep, TxStep};
-use crate::wrap::{is_ring_length, place_after, places_between};
+use crate::tx_words::{DONE, eop_in, first_asking, len_in, rs_in};
+use crate::wrap::{is_ring_length, place_after, place_before, places_between};
 use std::alloc::Global;
 use std::marker::Model;
-
-// The second word of a transmit write-back: DD.
-const DONE: u64 = 0x1_0000_0000;
 
 /// One transmit queue. It has no lists of what was posted, sent and cleaned: they are the ring's that it agrees with.
 #[derive(Debug, Drop)]
@@ -67,64 +66,6 @@ fn slot_in(slots: &[Option<u16>], place: u16) -> Option<u16>
     ensures { result ≡ slots_at slots.now place }
 {
     slots[usize::from(place)]
-}
-
-fn is_empty(slot: Option<u16>) -> bool
-    ensures { result ≡ is_none slot }
-{
-    slot.is_none()
-}
-
-// The place before this one.
-fn place_before(place: u16, size: u16) -> u16
-    requires some { 0 < size }
-    requires inside { place < size }
-    ensures value { result ≡ place_before size place }
-    ensures below { result < size }
-{
-    if place == 0 { size - 1 } else { place - 1 }
-}
-
-fn len_in(word: u64) -> u16
-    ensures { result ≡ word_len word }
-{
-    (word % 0x1_0000) as u16
-}
-
-fn eop_in(word: u64) -> bool
-    ensures { result ≡ word_eop word }
-{
-    word / 0x100_0000 % 2 == 1
-}
-
-fn rs_in(word: u64) -> bool
-    ensures { result ≡ word_rs word }
-{
-    word / 0x800_0000 % 2 == 1
-}
-
-// Whether a report was asked for here. A done word has no RS any more.
-fn asks_report(word: u64) -> bool
-    ensures { result ≡ asks_report word }
-{
-    word == DONE || rs_in(word)
-}
-
-// The first of so many places, from this one on, whose descriptor asks for a report.
-fn first_asking(words: &[u64], size: u16, from: u16, count: u16) -> Option<u16>
-    requires all { length words.now ≡ size }
-    requires inside { from < size }
-    ensures value { result ≡ first_asking words.now size from count }
-    ensures below { IfSome result (λ place. place < size) }
-{
-    let mut place = from;
-    for i in 0..count {
-        if asks_report(words[usize::from(place)]) {
-            return Some(place);
-        }
-        place = place_after(place, size);
-    }
-    None
 }
 
 fn reports_by_head(completion: Completion) -> bool

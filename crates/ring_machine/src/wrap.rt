@@ -3,6 +3,7 @@
 ghost use Rattle.std.specs.Prelude.{◌≡◌, ◌+◌, ◌-◌, ◌*◌, ◌%◌, ◌^◌, ◌<◌, ◌≤◌, ◌==◌, ◌↔◌, IsTrue, if◌then◌else◌};
 ghost use Rattle.ring_machine.specs.Agreement.{rx_word};
 ghost use Rattle.ring_machine.specs.Machines.{IsRingLength};
+ghost use Rattle.ring_machine.specs.TxMoves.{place_before};
 
 use crate::limits::{LEAST_RING, MOST_RING};
 
@@ -19,6 +20,16 @@ pub(crate) fn place_after(place: u16, size: u16) -> u16
     ensures { result ≡ (if (place + 1) == size then 0 else (place + 1)) }
 {
     if place + 1 == size { 0 } else { place + 1 }
+}
+
+/// The place before this one.
+pub(crate) fn place_before(place: u16, size: u16) -> u16
+    requires some { 0 < size }
+    requires inside { place < size }
+    ensures value { result ≡ place_before size place }
+    ensures below { result < size }
+{
+    if place == 0 { size - 1 } else { place - 1 }
 }
 
 /// How many places lie from `from` up to `to`.

@@ -4,7 +4,7 @@ use Rattle.std.specs.Prelude.{◌==◌, slice_index}
 use Rattle.std.proofs.lemmas.Bool.{eqb-false}
 use Rattle.ring_machine.specs.RxMoves.{place_next}
 use Rattle.ring_machine.specs.TxMoves.{asks_report, first_asking}
-use Rattle.ring_machine.proofs.tx_machine.first_asking.Goals as goal
+use Rattle.ring_machine.proofs.tx_words.first_asking.Goals as goal
 
 passed : (words : List ℕ) (n place after k left : ℕ) → k ≡ suc left → after ≡ place_next n place → asks_report (slice_index words place) ≡ false → first_asking words n after left ≡ first_asking words n place k
 passed words n place after k left e f no_report = rw (e, f) (rw no_report refl)
