@@ -24,3 +24,4 @@ pub mod TxMachines
 pub mod TxMoves
 pub mod Arguments
 pub mod Worlds
+pub mod MoveTexts
