@@ -10,7 +10,9 @@
 mod error;
 mod laws;
 mod limits;
+mod move_text;
 mod moves;
+mod note_text;
 mod notes;
 mod queue_moves;
 mod queues;
@@ -30,6 +32,7 @@ pub use laws::{
 pub use limits::{
     BUFFER_BYTES, LEAST_FRAME, LEAST_RING, MOST_FRAME, MOST_PAIRS, MOST_RING, MOST_SEGMENTS,
 };
+pub use move_text::MoveName;
 pub use moves::{Descriptor, SegmentLength};
 pub use notes::{FetchedSegment, Note, TakenSegment};
 pub use queue_moves::{Move, QueueNumber};
