@@ -2,3 +2,4 @@ pub mod CommandLine
 pub mod Ends
 pub mod Passed
 pub mod Unmade
+pub mod Replaying

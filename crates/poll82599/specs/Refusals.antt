@@ -1,7 +1,8 @@
 -- The numbers of refusals, and what they are for.
 use Rattle.std.specs.Prelude.{◌≡◌, ◌⊎◌, ℕ}
 use Rattle.poll82599.specs.declared.refusal.Refusal.{Refusal}
-use Rattle.poll82599.specs.declared.refusal.Refusal.TheVariants.{Ring, Stock, FrameLength, Thread, Hex, Input, Memory, Output}
+use Rattle.poll82599.specs.declared.refusal.Refusal.TheVariants.{Ring, Stock, FrameLength, Thread, Hex, Move, Machine, Input, Memory, Output}
+use Rattle.ring_machine.specs.MachineErrors.{number_of_error}
 use Rattle.rx_ring.specs.declared.error.RingError.TheVariants.{Memory as RingMemory}
 use Rattle.rx_ring.specs.Refusal.{refusal_number as ring_number}
 use Rattle.buffer_pool.specs.declared.error.PoolError.TheVariants.{Memory as StockMemory}
@@ -14,6 +15,8 @@ refusal_number (Stock error) = stock_number error
 refusal_number FrameLength = 41
 refusal_number Thread = 63
 refusal_number Hex = 81
+refusal_number (Move line) = 14
+refusal_number (Machine error) = number_of_error error
 refusal_number Input = 82
 refusal_number Memory = 83
 refusal_number Output = 84

@@ -10,6 +10,7 @@ mod command;
 mod frame;
 mod once;
 mod refusal;
+mod replay;
 mod run;
 #[cfg(test)]
 mod tests;

@@ -1,9 +1,10 @@
 //! Why a command was refused.
 ghost use Rattle.std.specs.Prelude.{◌≡◌};
 ghost use Rattle.poll82599.specs.Refusals.{refusal_number};
-ghost use Rattle.poll82599.specs.declared.refusal.Refusal.TheVariants.{Ring, Stock, Memory};
+ghost use Rattle.poll82599.specs.declared.refusal.Refusal.TheVariants.{Machine, Ring, Stock, Memory};
 
 use buffer_pool::PoolError;
+use ring_machine::MachineError;
 use rx_ring::RingError;
 use std::alloc::AllocError;
 use thiserror::Error;
@@ -26,6 +27,12 @@ pub enum Refusal {
     /// The argument is no even number of hexadecimal digits.
     #[error("hex")]
     Hex,
+    /// This line of the list of moves, counted from 1, is no move.
+    #[error("move")]
+    Move { line: u64 },
+    /// The machine refused.
+    #[error(transparent)]
+    Machine(MachineError),
     /// Standard input could not be read.
     #[error("input")]
     Input,
@@ -48,6 +55,8 @@ impl Refusal {
             Refusal::FrameLength => 41,
             Refusal::Thread => 63,
             Refusal::Hex => 81,
+            Refusal::Move { .. } => 14,
+            Refusal::Machine(error) => error.number(),
             Refusal::Input => 82,
             Refusal::Memory => 83,
             Refusal::Output => 84,
@@ -68,6 +77,14 @@ impl From<PoolError> for Refusal {
 
     fn from(error: PoolError) -> Refusal {
         Refusal::Stock(error)
+    }
+}
+
+impl From<MachineError> for Refusal {
+    ghost from_gives = { λ error refusal. refusal ≡ Machine error };
+
+    fn from(error: MachineError) -> Refusal {
+        Refusal::Machine(error)
     }
 }
 

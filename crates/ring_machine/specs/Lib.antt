@@ -26,3 +26,4 @@ pub mod Arguments
 pub mod Worlds
 pub mod Queues
 pub mod MoveTexts
+pub mod MoveFields

@@ -28,6 +28,7 @@ pub use frame::{MAX_FRAME, MIN_FRAME, PORTS, QUEUES, WireFrame};
 pub use printing::print;
 pub use reading::parse;
 pub use script::{MAX_FRAMES, Script};
+pub use split::cut;
 
 #[cfg(test)]
 mod tests;
