@@ -16,7 +16,7 @@ use Rattle.ring_machine.specs.TxRing.{Posting, TxRing}
 use Rattle.ring_machine.specs.TxSteps.{tx_can}
 use Rattle.ring_machine.specs.TxNotes.{tx_note_of}
 use Rattle.ring_machine.specs.Worlds.{World, opening_world, rx_can_at, tx_can_at, can_move, after_move, after_moves, moves_happened, IsReachableWorld}
-use Rattle.ring_machine.specs.Queues.{QueueParts, QueuesAgree, QueuesFollow, QueuesRun, rx_note_at, tx_note_at, note_in}
+use Rattle.ring_machine.specs.Queues.{QueueParts, QueuesAgree, QueuesDid, QueuesFollow, QueuesRun, rx_note_at, tx_note_at, note_in}
 
 -- a note is told exactly where the move can happen
 abbrev is_told : Option Note → Bool
@@ -59,6 +59,22 @@ counts-none : (happens : Bool) → happens ≡ false → 0 ≡ (if happens then 
 counts-none true e = let bad : ⊥ = cc e in absurd bad
 counts-none false e = refl
 
+made_note : (told : Option Note) (t : Note) → Ok t ≡ ok_or told refusal.NotEnabled → told ≡ Some t
+made_note None t e = let bad : ⊥ = cc e in absurd bad
+made_note (Some u) t e = let same : u ≡ t = cc e in ap Some same
+
+refused_note : (told : Option Note) (why : MachineError) → Err why ≡ ok_or told refusal.NotEnabled → told ≡ None
+refused_note None why e = refl
+refused_note (Some u) why e = let bad : ⊥ = cc e in absurd bad
+
+-- a note was answered: it is the world's, and the move happened
+pub did-made : (w : World) (m : Move) (t : Note) (old new : QueueParts) → QueuesDid (note_in w m) (after_move w m) (Ok t) old new → (note_in w m ≡ Some t) × (can_move w m ≡ true)
+did-made w m t old new d = (made_note (note_in w m) t d.answer, sym (told-can w m) ∙ told_ok (note_in w m) t d.answer)
+
+-- the move was refused: the world has no such step
+pub did-refused : (w : World) (m : Move) (why : MachineError) (old new : QueueParts) → QueuesDid (note_in w m) (after_move w m) (Err why) old new → (note_in w m ≡ None) × (can_move w m ≡ false)
+did-refused w m why old new d = (refused_note (note_in w m) why d.answer, sym (told-can w m) ∙ told_err (note_in w m) why d.answer)
+
 pub queues_run-one : (a b : QueueParts) (m : Move) (told : Note) → QueuesFollow a m (Ok told) b → QueuesRun a (m ∷ []) 1 b
 unfolding QueuesFollow QueuesRun
 queues_run-one a b m told follows pairs n w e g = let d = follows pairs n w e g in (d.agrees, counts-one (can_move w m) (sym (told-can w m) ∙ told_ok (note_in w m) told d.answer))
@@ -79,7 +95,7 @@ counted : (x y : ℕ) (happens : Bool) → (if happens then suc (x + y) else (x 
 counted x y true = let e : suc (x + y) ≡ suc x + y = omega arith in e
 counted x y false = refl
 
-moves_happened-append : (w : World) (ms more : List Move) → moves_happened w (ms ++ more) ≡ moves_happened w ms + moves_happened (after_moves w ms) more
+pub moves_happened-append : (w : World) (ms more : List Move) → moves_happened w (ms ++ more) ≡ moves_happened w ms + moves_happened (after_moves w ms) more
 moves_happened-append w [] more = let e : moves_happened w more ≡ 0 + moves_happened w more = omega arith in e
 moves_happened-append w (m ∷ ms) more = ap (λ (x : ℕ). if can_move w m then suc x else x) (moves_happened-append (after_move w m) ms more) ∙ counted (moves_happened (after_move w m) ms) (moves_happened (after_moves (after_move w m) ms) more) (can_move w m)
 
