@@ -28,3 +28,8 @@ pub mod TxReporting
 pub mod TxRunning
 pub mod TxOwning
 pub mod Apart
+pub mod CutLemmas
+pub mod NumberFields
+pub mod ArgumentFields
+pub mod MoveLines
+pub mod MoveQueues

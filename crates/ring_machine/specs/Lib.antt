@@ -25,3 +25,4 @@ pub mod TxMoves
 pub mod Arguments
 pub mod Worlds
 pub mod MoveTexts
+pub mod MoveFields

@@ -10,6 +10,8 @@
 mod error;
 mod laws;
 mod limits;
+mod move_fields;
+mod move_reading;
 mod move_text;
 mod moves;
 mod note_text;
@@ -38,3 +40,6 @@ pub use states::{Completion, ControllerState, DriverState, Owner};
 pub use steps::{ControlStep, RxStep, TxStep};
 pub use tx_machine::TxMachine;
 pub use wrap::is_ring_length;
+
+#[cfg(test)]
+mod text_tests;

@@ -3,8 +3,8 @@
 ghost use Rattle.std.specs.Prelude.{◌≡◌, Some};
 ghost use Rattle.ring_machine.specs.MoveTexts.{control_kind, name_of, rx_kind, text_of, tx_kind};
 
-use crate::queue_moves::Move;
 use crate::moves::{Descriptor, SegmentLength};
+use crate::queue_moves::Move;
 use crate::steps::{ControlStep, RxStep, TxStep};
 use std::fmt;
 

@@ -17,9 +17,17 @@ impl fmt::Display for Note {
             Note::Ready(count) => write!(f, "ready {count}"),
             Note::Fetched(place, buffer) => write!(f, "place {place} buffer {buffer}"),
             Note::Sending(place, segment) => {
-                let FetchedSegment { buffer, len, eop, rs } = segment;
+                let FetchedSegment {
+                    buffer,
+                    len,
+                    eop,
+                    rs,
+                } = segment;
                 let (eop, rs) = (u8::from(eop), u8::from(rs));
-                write!(f, "place {place} buffer {buffer} length {len} eop {eop} rs {rs}")
+                write!(
+                    f,
+                    "place {place} buffer {buffer} length {len} eop {eop} rs {rs}"
+                )
             }
             Note::Taken(None) | Note::Reported(None) => write!(f, "none"),
             Note::Taken(Some(segment)) => {
