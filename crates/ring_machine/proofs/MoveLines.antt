@@ -1,5 +1,5 @@
 -- A move's line and its fields.
-use Rattle.std.proofs.Common.{◌≡◌, ◌↔◌, ℕ, ◌^◌, ◌<◌, ◌≤◌, Bool, true, false, nat_eq, List, [], ◌∷◌, ◌++◌, length, map, codes, refl, sym, ap, ◌∙◌, append_assoc, arith}
+use Rattle.std.proofs.Common.{◌≡◌, ◌↔◌, ℕ, ◌^◌, ◌<◌, ◌≤◌, Bool, true, false, nat_eq, List, [], ◌∷◌, ◌++◌, length, map, codes, Bor, Option, Some, refl, sym, ap, ◌∙◌, append_assoc, arith}
 use Rattle.std.specs.Prelude.{decimal}
 use Rattle.std.specs.List.{AllByRecursion, flat_map, join_with_byte, list_all}
 use Rattle.std.specs.Char.{is_ascii_digit}
@@ -18,7 +18,7 @@ use Rattle.ring_machine.specs.declared.steps.RxStep.{RxStep}
 use Rattle.ring_machine.specs.declared.steps.RxStep.TheVariants as rx
 use Rattle.ring_machine.specs.declared.steps.TxStep.{TxStep}
 use Rattle.ring_machine.specs.declared.steps.TxStep.TheVariants as tx
-use Rattle.ring_machine.specs.MoveFields.{AreSmall, Spells, fields_in}
+use Rattle.ring_machine.specs.MoveFields.{AreSmall, Spells, fields_in, later_fields}
 use Rattle.ring_machine.specs.MoveTexts.{IsInRange, IsRxInRange, IsTxInRange, arguments_of, bit, control_kind, kind_of, queue_of, rx_arguments, rx_kind, text_of, tx_arguments, tx_kind}
 use Rattle.ring_machine.specs.TxRing.{Posting}
 use Rattle.ring_machine.proofs.NumberFields.{decimal_digits}
@@ -134,14 +134,17 @@ arguments_fit (Receive q s) r = rx_fits s r.1
 arguments_fit (Transmit q s) r = tx_fits s r.1
 
 -- a line of fields
-join_again : (f : List ℕ) (fs : List (List ℕ)) → IsPlain f → AllByRecursion IsPlain fs → fields_in (join_with_byte 32 (f ∷ fs)) ≡ f ∷ fs
+join_again : (f : List ℕ) (fs : List (List ℕ)) → IsPlain f → AllByRecursion IsPlain fs
+    → fields_in (join_with_byte 32 (f ∷ fs)) ≡ f ∷ fs
 join_again f [] p q = slice_split_none (λ b. nat_eq b 32) f (All-from_recursion (λ b. nat_eq b 32 ≡ false) f p)
 join_again f (g ∷ fs) p q =
-    slice_split_at (λ b. nat_eq b 32) f 32 (join_with_byte 32 (g ∷ fs)) (All-from_recursion (λ b. nat_eq b 32 ≡ false) f p) refl
+    let none = All-from_recursion (λ b. nat_eq b 32 ≡ false) f p in
+    slice_split_at (λ b. nat_eq b 32) f 32 (join_with_byte 32 (g ∷ fs)) none refl
     ∙ ap (λ fields. f ∷ fields) (join_again g fs q.0 q.1)
 
 -- each argument after a space
-join_said : (k : List ℕ) (ns : List ℕ) → k ++ flat_map (λ n. codes " " ++ decimal n) ns ≡ join_with_byte 32 (k ∷ map decimal ns)
+join_said : (k : List ℕ) (ns : List ℕ)
+    → k ++ flat_map (λ n. codes " " ++ decimal n) ns ≡ join_with_byte 32 (k ∷ map decimal ns)
 join_said k [] = append-nil k
 join_said k (n ∷ ns) = ap (λ rest. k ++ 32 ∷ rest) (join_said (decimal n) ns)
 
@@ -159,8 +162,9 @@ text_said m =
 
 pub fields_said : (line : List ℕ) (m : Move) → IsInRange m → line ≡ text_of m → fields_in line ≡ fields_of m
 fields_said line m r same =
+    let numbers = decimals_plain (arguments_of m) (arguments_fit m r).0 in
     ap fields_in (same ∙ text_said m)
-    ∙ join_again (queue_of m) (kind_of m ∷ map decimal (arguments_of m)) (queue_plain m r) (kind_plain m, decimals_plain (arguments_of m) (arguments_fit m r).0)
+    ∙ join_again (queue_of m) (kind_of m ∷ map decimal (arguments_of m)) (queue_plain m r) (kind_plain m, numbers)
 
 pub line_said : (line : List ℕ) (m : Move) → fields_in line ≡ fields_of m → line ≡ text_of m
 line_said line m same = sym (join_with_byte-slice_split 32 line) ∙ ap (join_with_byte 32) same ∙ sym (text_said m)
@@ -178,15 +182,24 @@ decimals_injective (m ∷ ms) (n ∷ ns) a b same =
     cc
 
 -- what a line's fields spell is the line's move
-pub spelled : (line queue name : List ℕ) (ns : List ℕ) (m : Move) → fields_in line ≡ queue ∷ name ∷ map decimal ns → AreSmall ns
+pub spelled : (line queue name : List ℕ) (ns : List ℕ) (m : Move)
+    → fields_in line ≡ queue ∷ name ∷ map decimal ns → AreSmall ns
     → Spells queue name ns m ↔ (IsInRange m × (line ≡ text_of m))
 spelled line queue name ns m cut small = (
   λ s. (s.in_range, line_said line m (cut ∙ (rw (s.queue, s.kind, s.arguments) refl))),
   λ h.
       let same : queue ∷ name ∷ map decimal ns ≡ fields_of m = sym cut ∙ fields_said line m h.0 h.1 in
       let values : map decimal ns ≡ map decimal (arguments_of m) = cc in
-      record { in_range = h.0; queue = cc; kind = cc; arguments = decimals_injective ns (arguments_of m) small (arguments_fit m h.0).0 values },
+      let numbers = decimals_injective ns (arguments_of m) small (arguments_fit m h.0).0 values in
+      record { in_range = h.0; queue = cc; kind = cc; arguments = numbers },
 )
+
+-- the first two fields and the others
+pub two_fields : (line queue name : List ℕ) (more : List (List ℕ)) (rest : Option (Bor (List ℕ))) (left : Bor (List ℕ))
+    → fields_in line ≡ queue ∷ later_fields rest → rest ≡ Some left → fields_in left.now ≡ name ∷ more
+    → fields_in line ≡ queue ∷ name ∷ more
+two_fields line queue name more rest left first is second =
+    first ∙ ap (λ fields. queue ∷ fields) (ap later_fields is ∙ second)
 
 -- fewer fields than two are no move
 pub one_field : (line queue : List ℕ) (m : Move) → fields_in line ≡ queue ∷ [] → IsInRange m → line ≡ text_of m → ⊥
@@ -194,7 +207,8 @@ one_field line queue m cut r same = cc (sym cut ∙ fields_said line m r same)
 
 -- other fields than numbers are no arguments
 pub no_arguments : (line queue name : List ℕ) (more : List (List ℕ)) (m : Move) → fields_in line ≡ queue ∷ name ∷ more
-    → ((ns : List ℕ) → AreSmall ns → length ns ≤ MOST_ARGUMENTS → more ≡ map decimal ns → ⊥) → IsInRange m → line ≡ text_of m → ⊥
+    → ((ns : List ℕ) → AreSmall ns → length ns ≤ MOST_ARGUMENTS → more ≡ map decimal ns → ⊥)
+    → IsInRange m → line ≡ text_of m → ⊥
 no_arguments line queue name more m cut none r same =
     let fields : queue ∷ name ∷ more ≡ fields_of m = sym cut ∙ fields_said line m r same in
     let later : more ≡ map decimal (arguments_of m) = cc in

@@ -36,9 +36,11 @@ number_below : (m : Move) → IsInRange m → number_of m < MOST_PAIRS
 number_below (Receive q s) r = r.0
 number_below (Transmit q s) r = r.0
 
-pub queue_said : (queue name numbers : List ℕ) (m : Move) → Spells queue name numbers m → IsQueue queue (letter_of m) (number_of m)
+pub queue_said : (queue name numbers : List ℕ) (m : Move) → Spells queue name numbers m
+    → IsQueue queue (letter_of m) (number_of m)
 queue_said queue name numbers m s =
-    subst (λ q. IsQueue q (letter_of m) (number_of m)) (sym (s.queue ∙ queue_is m s.in_range)) (of_two (letter_of m) (number_of m) (number_below m s.in_range))
+    subst (λ q. IsQueue q (letter_of m) (number_of m)) (sym (s.queue ∙ queue_is m s.in_range))
+    (of_two (letter_of m) (number_of m) (number_below m s.in_range))
 
 two_bytes : (queue : List ℕ) → length queue ≡ 2 → queue ≡ get_or queue 0 0 ∷ get_or queue 1 0 ∷ []
 two_bytes [] two = absurd (omega arith)
@@ -48,16 +50,24 @@ two_bytes (a ∷ b ∷ c ∷ more) two = absurd (omega arith)
 
 queue_again : (queue : List ℕ) (m : Move) → IsInRange m → IsQueue queue (letter_of m) (number_of m) → queue ≡ queue_of m
 queue_again queue m r is =
-    let digits : get_or queue 0 0 ∷ get_or queue 1 0 ∷ [] ≡ letter_of m ∷ (48 + number_of m) ∷ [] = cc (is.letter_is, is.digit_is) in
-    two_bytes queue is.two ∙ digits ∙ sym (queue_is m r)
+    let bytes : get_or queue 0 0 ∷ get_or queue 1 0 ∷ [] ≡ letter_of m ∷ (48 + number_of m) ∷ [] =
+    cc (is.letter_is, is.digit_is) in
+    two_bytes queue is.two ∙ bytes ∙ sym (queue_is m r)
 
 -- a receive queue with its step
-receive_spelled : (queue name numbers : List ℕ) (q : ℕ) (s : RxStep ℕ) → IsQueue queue 114 q → SpellsRx name numbers s → Spells queue name numbers (Receive q s)
+receive_spelled : (queue name numbers : List ℕ) (q : ℕ) (s : RxStep ℕ) → IsQueue queue 114 q
+    → SpellsRx name numbers s → Spells queue name numbers (Receive q s)
 receive_spelled queue name numbers q s is t =
-    record { in_range = (is.below, t.in_range); queue = queue_again queue (Receive q s) (is.below, t.in_range) is; kind = t.kind; arguments = t.arguments }
+    record {
+      in_range = (is.below, t.in_range);
+      queue = queue_again queue (Receive q s) (is.below, t.in_range) is;
+      kind = t.kind;
+      arguments = t.arguments;
+    }
 
 pub receive_exact : (queue name numbers : List ℕ) (q : ℕ) (s : RxStep ℕ) → IsQueue queue 114 q
-    → ((t : RxStep ℕ) → (Some s ≡ Some t) ↔ SpellsRx name numbers t) → (m : Move) → (Some (Receive q s) ≡ Some m) ↔ Spells queue name numbers m
+    → ((t : RxStep ℕ) → (Some s ≡ Some t) ↔ SpellsRx name numbers t)
+    → (m : Move) → (Some (Receive q s) ≡ Some m) ↔ Spells queue name numbers m
 receive_exact queue name numbers q s is exact (Receive p t) = (
   λ e.
       let same : Receive q s ≡ Receive p t = cc in
@@ -76,13 +86,19 @@ receive_exact queue name numbers q s is exact (Transmit p t) = (
 )
 
 -- a transmit queue with its step
-transmit_spelled : (queue name numbers : List ℕ) (q : ℕ) (s : TxStep (Posting ℕ)) → IsQueue queue 116 q → SpellsTx name numbers s
-    → Spells queue name numbers (Transmit q s)
+transmit_spelled : (queue name numbers : List ℕ) (q : ℕ) (s : TxStep (Posting ℕ)) → IsQueue queue 116 q
+    → SpellsTx name numbers s → Spells queue name numbers (Transmit q s)
 transmit_spelled queue name numbers q s is t =
-    record { in_range = (is.below, t.in_range); queue = queue_again queue (Transmit q s) (is.below, t.in_range) is; kind = t.kind; arguments = t.arguments }
+    record {
+      in_range = (is.below, t.in_range);
+      queue = queue_again queue (Transmit q s) (is.below, t.in_range) is;
+      kind = t.kind;
+      arguments = t.arguments;
+    }
 
 pub transmit_exact : (queue name numbers : List ℕ) (q : ℕ) (s : TxStep (Posting ℕ)) → IsQueue queue 116 q
-    → ((t : TxStep (Posting ℕ)) → (Some s ≡ Some t) ↔ SpellsTx name numbers t) → (m : Move) → (Some (Transmit q s) ≡ Some m) ↔ Spells queue name numbers m
+    → ((t : TxStep (Posting ℕ)) → (Some s ≡ Some t) ↔ SpellsTx name numbers t)
+    → (m : Move) → (Some (Transmit q s) ≡ Some m) ↔ Spells queue name numbers m
 transmit_exact queue name numbers q s is exact (Transmit p t) = (
   λ e.
       let same : Transmit q s ≡ Transmit p t = cc in

@@ -78,13 +78,15 @@ number_said field n small same = ap is_number same ∙ pass_again (decimal n) (d
 pub value_said : (field : List ℕ) → is_number field ≡ true → decimal (digits_value 10 field) ≡ field
 value_said field number =
     let p = passes field number in
-    decimal-digits_value are_numerals field p.digits p.some p.leading (omega (arith, digits_value_short are_numerals field 5 p.digits p.few))
+    let small = digits_value_short are_numerals field 5 p.digits p.few in
+    decimal-digits_value are_numerals field p.digits p.some p.leading (omega (arith, small))
 
 pub value_again : (field : List ℕ) (n : ℕ) → n < 2 ^ 16 → field ≡ decimal n → digits_value 10 field ≡ n
 value_again field n small same = ap (digits_value 10) same ∙ digits_value-decimal are_numerals n (omega arith)
 
 -- what is read of a field that passes the test
-pub number_read : {E : Type 0} (field : List ℕ) (v : ℕ) (r : Result ℕ E) (found : Option ℕ) → is_number field ≡ true → v ≡ digits_value 10 field
+pub number_read : {E : Type 0} (field : List ℕ) (v : ℕ) (r : Result ℕ E) (found : Option ℕ)
+    → is_number field ≡ true → v ≡ digits_value 10 field
     → OkIff r (v < 2 ^ 16) v → found ≡ result_ok r → (n : ℕ) → (found ≡ Some n) ↔ ((n < 2 ^ 16) × (field ≡ decimal n))
 number_read field v (Ok x) found number value fits is n = (
   λ e.

@@ -4,7 +4,8 @@
 //! The definitions stand in `specs/`. The running rings of `rx_ring` and this crate cite the same ones. The laws are
 //! contracts of public functions: every ring that a schedule gives is lawful, within an epoch a list that has ended
 //! stays as it is, and segments join to the frames that were cut. A machine that agrees with a ring agrees, after any
-//! schedule, with the ring after that schedule.
+//! schedule, with the ring after that schedule. Moves and notes have one text each, which is printed and, of a move,
+//! read back.
 #![tactic(auto)]
 
 mod error;

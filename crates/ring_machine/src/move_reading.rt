@@ -17,8 +17,8 @@ use crate::queue_moves::{Move, QueueNumber};
 use crate::steps::{ControlStep, RxStep, TxStep};
 
 impl Move {
-    /// The move of a line, which is just as `Display` prints it; an empty line and a comment are no moves.
-    /// It goes over the line once, and nothing is allocated.
+    /// The move of a line, which has to be just as `Display` prints it. Anything else is refused, an empty line and a
+    /// comment too. Nothing is allocated.
     pub fn parse(line: &[u8]) -> Result<Move, MachineError>
         ensures exact { (m : Move) → (result ≡ Ok m) ↔ (IsInRange m × (line.now ≡ text_of m)) }
         ensures error { IfErr result (λ e. e ≡ Text) }
@@ -124,7 +124,8 @@ fn tx_step(kind: &[u8], arguments: &[u16]) -> Option<TxStep<Descriptor>>
 
 // B1 with these arguments.
 fn post_of(number: u16, len: u16, eop: u16, rs: u16, paylen: u16) -> Option<TxStep<Descriptor>>
-    ensures { (s : TxStep (Posting ℕ)) → (result ≡ Some s) ↔ SpellsTx (codes "B1") (number ∷ len ∷ eop ∷ rs ∷ paylen ∷ []) s }
+    ensures { (s : TxStep (Posting ℕ)) → (result ≡ Some s)
+        ↔ SpellsTx (codes "B1") (number ∷ len ∷ eop ∷ rs ∷ paylen ∷ []) s }
 {
     let eop = bool_of(eop)?;
     let rs = bool_of(rs)?;

@@ -1,12 +1,17 @@
 //! How moves are printed.
+//!
+//! A move's line is its queue, its kind and its arguments, with one space between two fields. A queue is `r` or `t` and
+//! a digit from 0 to 7. A kind is the name that [`RxStep`] and [`TxStep`] give with each step, as `A5`. Numbers are in
+//! decimal, and EOP and RS are 0 or 1: `r0 A5 60 1` writes back 60 bytes that end their frame.
 
 ghost use Rattle.std.specs.Prelude.{◌≡◌, Some};
-ghost use Rattle.ring_machine.specs.MoveTexts.{control_kind, name_of, rx_kind, text_of, tx_kind};
+ghost use Rattle.ring_machine.specs.MoveTexts.{IsInRange, control_kind, name_of, rx_kind, text_of, tx_kind};
 
 use crate::moves::{Descriptor, SegmentLength};
 use crate::queue_moves::Move;
 use crate::steps::{ControlStep, RxStep, TxStep};
 use std::fmt;
+use std::marker::Model;
 
 /// The first two fields of a move's line, its queue and its kind, as `r0 A1`.
 #[derive(Clone, Copy, Debug, PartialEq, Eq)]
@@ -14,17 +19,28 @@ pub struct MoveName {
     named: Move,
 }
 
+impl Model for MoveName {
+    ghost use Rattle.ring_machine.specs.declared.queue_moves.Move.{Move};
+
+    ghost Value = { Move };
+
+    ghost view = { λ n. n.named };
+
+    ghost inverse = { λ m. record { named = m } };
+}
+
 impl Move {
-    /// The first two fields of the move's line.
-    pub fn name(&self) -> MoveName
-        ensures { result.named ≡ self.now }
+    /// The first two fields of the move's line. Each move is in range, so `parse` reads its line.
+    pub fn name(self) -> MoveName
+        ensures value { result ≡ self }
+        ensures in_range { IsInRange self }
     {
-        MoveName { named: *self }
+        MoveName { named: self }
     }
 }
 
 impl fmt::Display for MoveName {
-    ghost output = { λ n. Some (name_of n.named) };
+    ghost output = { λ n. Some (name_of n) };
 
     fn fmt<W: fmt::Write>(&self, f: &mut fmt::Formatter<W>) -> fmt::Result {
         match self.named {

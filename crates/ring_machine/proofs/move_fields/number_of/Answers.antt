@@ -8,7 +8,10 @@ use Rattle.ring_machine.proofs.move_fields.number_of.Goals as goal
 pub loop-digit-preserved : goal.loop-digit-preserved
 loop-digit-preserved c =
     let number : is_number c.args.field.now ≡ true = search rules in
-    let step = digits_step c.args.field.now c.loop-digit.digit-index c.loop-digit.value c.from.result number c.loop-digit-test.true c.from.ensures c.loop-digit.invariant.value c.loop-digit.invariant.bound in
+    let inside = c.loop-digit-test.true in
+    let before = c.loop-digit.invariant in
+    let step = digits_step c.args.field.now c.loop-digit.digit-index c.loop-digit.value c.from.result
+    number inside c.from.ensures before.value before.bound in
     record { value = step.0; bound = step.1 }
 
 pub returns-then-not-is_number : goal.returns-then-not-is_number
