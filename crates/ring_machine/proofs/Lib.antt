@@ -31,3 +31,8 @@ pub mod TxOwning
 pub mod Apart
 pub mod SideBySide
 pub mod QueuesRunning
+pub mod CutLemmas
+pub mod NumberFields
+pub mod ArgumentFields
+pub mod MoveLines
+pub mod MoveQueues

@@ -25,3 +25,5 @@ pub mod TxMoves
 pub mod Arguments
 pub mod Worlds
 pub mod Queues
+pub mod MoveTexts
+pub mod MoveFields

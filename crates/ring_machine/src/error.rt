@@ -1,23 +1,21 @@
 //! Why a machine refuses.
 
-ghost use Rattle.std.specs.Prelude.{◌≡◌};
+ghost use Rattle.std.specs.Prelude.{◌≡◌, Some};
+ghost use Rattle.ring_machine.specs.MachineErrors.{words_of_error};
 
+use std::fmt;
 use thiserror::Error;
 
 /// Why a machine is not made, a move is not read, or a step is not made.
 #[derive(Clone, Copy, Debug, PartialEq, Eq, Error)]
 pub enum MachineError {
     /// The step can't happen now, or there is no such queue. The machine is as it was.
-    #[error("not enabled")]
     NotEnabled,
     /// The length is no power of two from 8 to 4,096, or the number of pairs is not 1 to 8.
-    #[error("ring length")]
     RingLength,
     /// Memory was refused.
-    #[error("memory")]
     Memory,
     /// The text is not that of a move.
-    #[error("move")]
     Text,
 }
 
@@ -34,5 +32,19 @@ impl MachineError {
             MachineError::Memory => 13,
             MachineError::Text => 14,
         }
+    }
+}
+
+impl fmt::Display for MachineError {
+    ghost output = { λ e. Some (words_of_error e) };
+
+    fn fmt<W: fmt::Write>(&self, f: &mut fmt::Formatter<W>) -> fmt::Result {
+        let words = match self {
+            MachineError::NotEnabled => "not enabled",
+            MachineError::RingLength => "ring length",
+            MachineError::Memory => "memory",
+            MachineError::Text => "move",
+        };
+        f.write_str(words)
     }
 }

@@ -16,12 +16,13 @@ pub struct QueueNumber {
 
 impl Model for QueueNumber {
     ghost use Rattle.std.specs.Prelude.{ℕ, ◌<◌};
+    ghost use Rattle.ring_machine.specs.declared.limits.TheConstants.{MOST_PAIRS};
 
     ghost Value = { ℕ };
 
     ghost view = { λ q. q.number };
 
-    ghost invariant = { λ q. q.number < 8 };
+    ghost invariant = { λ q. q.number < MOST_PAIRS };
 
     ghost inverse = { λ n. record { number = n } };
 }
