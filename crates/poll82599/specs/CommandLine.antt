@@ -1,6 +1,8 @@
 -- The program's command line, as clap reads it.
-use Rattle.std.specs.Prelude.{◌≡◌, ◌≢◌, ℕ, true, List, [], ◌∷◌, codes, slice_index}
-use Rattle.clap.specs.Words.{App, Rule, Text, new_app, new_rule, with_rule, with_subcommand}
+use Rattle.std.specs.Prelude.{◌≡◌, ◌≢◌, ℕ, true, List, [], ◌∷◌, codes, slice_index, All}
+use Rattle.clap.specs.Words.{App, Kinds, Rule, Text, fault_of, new_app, new_rule, with_rule, with_subcommand}
+use Rattle.clap.specs.declared.error.kind.ErrorKind.{ErrorKind}
+use Rattle.clap.specs.declared.error.kind.ErrorKind.TheVariants.{DisplayHelp, DisplayVersion, OutOfMemory}
 use Rattle.poll82599.specs.declared.command.Request.{Request}
 use Rattle.poll82599.specs.declared.command.Request.TheVariants.{Once}
 
@@ -27,3 +29,18 @@ pub record SaysOnce (words : List Text) (digits : Text) : Type 0 where
 -- what is asked for is `once` of these digits
 abbrev pub IsOnce : Request → Text → Type 0
 IsOnce (Once given) digits = given.now ≡ digits
+
+-- a mistake in the words, which is neither a call for help nor want of memory
+pub record IsMistake (kind : ErrorKind) : Type 0 where
+  pub no_help : kind ≢ DisplayHelp
+  pub no_version : kind ≢ DisplayVersion
+  pub no_memory : kind ≢ OutOfMemory
+
+-- there is a fault, and it is a mistake
+abbrev pub AreMistakes : Kinds → Type 0
+AreMistakes [] = ⊥
+AreMistakes (kind ∷ kinds) = All IsMistake (kind ∷ kinds)
+
+-- the words are no command line of the program
+abbrev pub IsMisuse : List Text → Type 0
+IsMisuse words = AreMistakes (fault_of program_app words)

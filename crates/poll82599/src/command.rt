@@ -1,10 +1,10 @@
 //! The command line.
-ghost use Rattle.std.specs.Prelude.{◌≡◌, ℕ, List, Some, false, codes, map, option_map, IfOk, MatchResult};
+ghost use Rattle.std.specs.Prelude.{◌≡◌, ℕ, List, Some, false, codes, map, option_map, IfOk, IsErrAnd, MatchResult, ◌⊎◌};
 ghost use Rattle.std.specs.String.{string_bytes};
 ghost use Rattle.clap.specs.Words.{Row, app_of, first_of, kind_of, subcommand_rows_of};
 ghost use Rattle.clap.specs.declared.builder.command.Command.TheViews.{out-Command};
 ghost use Rattle.clap.specs.declared.error.kind.ErrorKind.TheVariants.{OutOfMemory};
-ghost use Rattle.poll82599.specs.CommandLine.{IsOnce, SaysOnce, once_app, program_app};
+ghost use Rattle.poll82599.specs.CommandLine.{IsMistake, IsMisuse, IsOnce, SaysOnce, once_app, program_app};
 
 use clap::error::ErrorKind;
 use clap::{Arg, ArgMatches, Command, Error};
@@ -23,8 +23,10 @@ const ONCE_EXAMPLE: &str =
 /// Reads the words after the program's name. What it answers in place of a request is an error of `clap`, which is
 /// also how help is asked for.
 pub fn request_of<'a>(alloc: Global, words: &'a [String]) -> Result<Request<'a>, Error>
-    ensures { (digits : List ℕ) → SaysOnce (map string_bytes words.entry.now) digits
+    ensures once { (digits : List ℕ) → SaysOnce (map string_bytes words.entry.now) digits
         → MatchResult result (λ r. IsOnce r digits) (λ e. kind_of e ≡ OutOfMemory) }
+    ensures misuse { IsMisuse (map string_bytes words.entry.now)
+        → IsErrAnd result (λ e. (kind_of e ≡ OutOfMemory) ⊎ IsMistake (kind_of e)) }
 {
     let mut program = program(alloc)?;
     let matches = program.try_get_matches_from_mut(words)?;

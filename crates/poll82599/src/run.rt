@@ -5,7 +5,7 @@ ghost use Rattle.std.specs.Io.KnownBytes.{Appends, Keeps};
 ghost use Rattle.clap.specs.Words.{kind_of};
 ghost use Rattle.clap.specs.declared.error.kind.ErrorKind.TheVariants.{OutOfMemory};
 ghost use Rattle.poll82599.specs.Answers.{answer_of, line_of, Ends, IsPrinted, IsRefused};
-ghost use Rattle.poll82599.specs.CommandLine.{SaysOnce};
+ghost use Rattle.poll82599.specs.CommandLine.{IsMistake, IsMisuse, SaysOnce};
 ghost use Rattle.poll82599.specs.Frame.{frame_in};
 
 use crate::command::{Request, request_of};
@@ -43,6 +43,8 @@ pub fn run<R: Threads + Wait + Sync, I: Read, W: Write, E: Write>(
     ensures status { (result ≡ DONE) ⊎ (result ≡ REFUSED) ⊎ (result ≡ MISUSED) }
     ensures done { result ≡ DONE → Keeps (E.contents faults.old) (E.contents faults.new) }
     ensures misused { result ≡ MISUSED → Keeps (W.contents output.old) (W.contents output.new) }
+    ensures misuse { IsMisuse (map string_bytes words.now)
+        → ((result ≡ MISUSED) ⊎ (result ≡ REFUSED)) × Keeps (W.contents output.old) (W.contents output.new) }
     ensures once { (digits : List ℕ) → SaysOnce (map string_bytes words.now) digits
         → Ends (frame_in digits) result (W.contents output.old) (W.contents output.new) }
 {
@@ -104,6 +106,7 @@ fn tell<W: Write, E: Write>(error: &clap::Error, output: &mut W, faults: &mut E)
     ensures status { (result ≡ DONE) ⊎ (result ≡ REFUSED) ⊎ (result ≡ MISUSED) }
     ensures done { result ≡ DONE → Keeps (E.contents faults.old) (E.contents faults.new) }
     ensures misused { result ≡ MISUSED → Keeps (W.contents output.old) (W.contents output.new) }
+    ensures mistake { IsMistake (kind_of error.now) → result ≡ MISUSED }
     ensures memory { kind_of error.now ≡ OutOfMemory
         → (result ≡ REFUSED) × Keeps (W.contents output.old) (W.contents output.new) }
 {
