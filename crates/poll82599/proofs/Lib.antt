@@ -1,4 +1,6 @@
 pub mod CommandLine
+pub mod DecodeWords
 pub mod Ends
+pub mod OnceWords
 pub mod Passed
 pub mod Unmade

@@ -1,6 +1,7 @@
 use crate::refusal::Refusal;
 use crate::run;
 use buffer_pool::PoolError;
+use descriptor::DescError;
 use rx_ring::RingError;
 use std::alloc::{AllocError, Global};
 use std::io;
@@ -10,6 +11,17 @@ use std::test::Fail;
 use std::thread::Threads;
 
 const FRAME: &str = "000102030405060708090a0b0c0d";
+
+// 60 bytes that end their frame, written back.
+const RX_BACK: &str = "0000000000000000030000003c000000";
+
+// Buffer 65,535.
+const RX_READ: &str = "00f8ff07000000000000000000000000";
+
+// Buffer 5 with a whole frame of 60 bytes, to be reported.
+const TX_READ: &str = "00280000000000003c00302b00000f00";
+
+const TX_BACK: &str = "00000000000000000000000001000000";
 
 /// A stream that takes so many bytes, and then fails.
 #[derive(Drop)]
@@ -131,15 +143,85 @@ fn frames_come_out_and_refusals_have_numbers(rt: HostRuntime) -> Result<(), Fail
 }
 
 #[test]
+fn descriptors_are_decoded_and_refusals_have_numbers(rt: HostRuntime) -> Result<(), Fail> {
+    let alloc = rt.alloc();
+    let short = digits_of(alloc, "00", 15)?;
+    let short = short.as_str();
+    let long = digits_of(alloc, "00", 17)?;
+    let table = [
+        ("rx", "back", RX_BACK, 0, "dd 1 eop 1 length 60\n"),
+        ("tx", "read", TX_READ, 0, "buffer 5 length 60 eop 1 rs 1 paylen 60\n"),
+        ("tx", "read", "00280000000000003C00302B00000F00", 0, "buffer 5 length 60 eop 1 rs 1 paylen 60\n"),
+        ("tx", "back", TX_BACK, 0, "dd 1\n"),
+        ("rx", "read", RX_READ, 0, "buffer 65535\n"),
+        ("rx", "read", "00F8FF07000000000000000000000000", 0, "buffer 65535\n"),
+        ("tx", "read", "00280000000000003c00202b00000f00", 1, "refused 3 type\n"),
+        ("rx", "read", RX_BACK, 1, "refused 2 reserved\n"),
+        ("rx", "back", RX_READ, 1, "refused 2 reserved\n"),
+        ("tx", "back", TX_READ, 1, "refused 2 reserved\n"),
+        ("rx", "back", "00000000000000000300000000000000", 1, "refused 4 size\n"),
+        ("rx", "read", short, 1, "refused 1 length\n"),
+        ("rx", "back", short, 1, "refused 1 length\n"),
+        ("tx", "read", short, 1, "refused 1 length\n"),
+        ("tx", "back", short, 1, "refused 1 length\n"),
+        ("tx", "back", long.as_str(), 1, "refused 1 length\n"),
+        ("rx", "back", "", 1, "refused 1 length\n"),
+        ("rx", "back", "0", 1, "refused 81 hex\n"),
+        ("rx", "back", "0000000000000000030000003c00000", 1, "refused 81 hex\n"),
+        ("tx", "read", "00280000000000003c00302b00000f0g", 1, "refused 81 hex\n"),
+        ("tx", "read", "00280000000000003c00302b00000f0G", 1, "refused 81 hex\n"),
+        ("tx", "back", "0x000000000000000000000001000000", 1, "refused 81 hex\n"),
+    ];
+    for (ring, format, digits, status, printed) in table {
+        let (mut output, mut faults) = (Vec::new(alloc), Vec::new(alloc));
+        let words = ["decode", ring, format, digits];
+        let answered = status_of(&rt, alloc, &words, &mut output, &mut faults)?;
+        assert_eq!(rt; answered, status, "at {words:?}");
+        let (written, empty) = match status {
+            0 => (output, faults),
+            _ => (faults, output),
+        };
+        assert_eq!(rt; written.as_slice(), printed.as_bytes(), "at {words:?}");
+        assert!(rt; empty.is_empty(), "at {words:?}");
+    }
+    Ok(())
+}
+
+#[test]
+fn words_of_no_form_are_told_with_those_that_are_known(rt: HostRuntime) -> Result<(), Fail> {
+    let alloc = rt.alloc();
+    let table = [
+        (["decode", "rx", "sideways", "00"], "read, back"),
+        (["decode", "sx", "read", "00"], "rx, tx"),
+    ];
+    for (words, known) in table {
+        let (mut output, mut faults) = (Vec::new(alloc), Vec::new(alloc));
+        let status = status_of(&rt, alloc, &words, &mut output, &mut faults)?;
+        assert_eq!(rt; status, 2, "at {words:?}");
+        assert!(rt; output.is_empty(), "at {words:?}");
+        let text = String::from_utf8(faults)?;
+        assert!(rt; text.as_str().contains(known), "at {words:?}");
+    }
+    Ok(())
+}
+
+#[test]
 fn faults_of_the_command_line_have_status_2(rt: HostRuntime) -> Result<(), Fail> {
     let alloc = rt.alloc();
-    let table: [&[&str]; 6] = [
+    let table: [&[&str]; 13] = [
         &[],
         &["twice"],
         &["once"],
         &["once", FRAME, FRAME],
         &["once", "--frame", FRAME],
         &["--once", FRAME],
+        &["decode"],
+        &["decode", "rx"],
+        &["decode", "rx", "read"],
+        &["decode", "rx", "sideways", "00"],
+        &["decode", "sx", "read", "00"],
+        &["decode", "RX", "read", "00"],
+        &["decode", "rx", "read", RX_READ, RX_READ],
     ];
     for words in table {
         let (mut output, mut faults) = (Vec::new(alloc), Vec::new(alloc));
@@ -182,7 +264,11 @@ fn help_goes_to_the_output_with_an_example(rt: HostRuntime) -> Result<(), Fail> 
 #[test]
 fn an_output_that_fails_is_refused(rt: HostRuntime) -> Result<(), Fail> {
     let alloc = rt.alloc();
-    let table: [&[&str]; 2] = [&["once", FRAME], &["--help"]];
+    let table: [&[&str]; 3] = [
+        &["once", FRAME],
+        &["decode", "tx", "read", TX_READ],
+        &["--help"],
+    ];
     for words in table {
         for room in [0, 1, 27, 28] {
             let mut output = Narrow::new(alloc, room);
@@ -207,7 +293,10 @@ fn an_output_that_fails_is_refused(rt: HostRuntime) -> Result<(), Fail> {
 #[test]
 fn faults_that_fail_change_no_status(rt: HostRuntime) -> Result<(), Fail> {
     let alloc = rt.alloc();
-    let table: [(&[&str], u8); 4] = [
+    let table: [(&[&str], u8); 7] = [
+        (&["decode", "rx", "back", RX_BACK], 0),
+        (&["decode", "rx", "back", "0"], 1),
+        (&["decode", "rx", "back", "00"], 1),
         (&["once", FRAME], 0),
         (&["once", "0"], 1),
         (&["once", "00"], 1),
@@ -228,6 +317,16 @@ fn faults_that_fail_change_no_status(rt: HostRuntime) -> Result<(), Fail> {
 fn refusals_have_their_words(rt: HostRuntime) -> Result<(), Fail> {
     let alloc = rt.alloc();
     let table = [
+        (
+            Refusal::Descriptor(DescError::Length),
+            "refused 1 length\n",
+        ),
+        (
+            Refusal::Descriptor(DescError::Reserved),
+            "refused 2 reserved\n",
+        ),
+        (Refusal::Descriptor(DescError::Kind), "refused 3 type\n"),
+        (Refusal::Descriptor(DescError::Size), "refused 4 size\n"),
         (
             Refusal::Ring(RingError::RingLength),
             "refused 21 ring length\n",
