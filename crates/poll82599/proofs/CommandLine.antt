@@ -3,7 +3,16 @@ use Rattle.std.proofs.Common.{◌≡◌, ◌≢◌, ◌∙◌, ap, ap₂, sym, s
 use Rattle.std.specs.Prelude.{◌⊎◌, All}
 use Rattle.std.specs.Borrow.{Bor}
 use Rattle.std.proofs.lemmas.List.Elements.{All-cons, All-head, All-nil, All-tail}
-use Rattle.clap.specs.Words.{App, IsAmong, Kinds, Row, Text, fault_of, is_simple, is_simple_and_free}
+use Rattle.std.specs.Prelude.{◌||◌, if◌then◌else◌}
+use Rattle.std.specs.Option.{option_map_or}
+use Rattle.std.specs.Str.{bytes_eq}
+use Rattle.clap.specs.Words.{first_of, first_value, rows_of}
+use Rattle.clap.specs.declared.parser.matches.Found.{Found}
+use Rattle.clap.proofs.WalkLemmas.{first_value-rows}
+use Rattle.clap.specs.Lexer.{long_of, short_of}
+use Rattle.clap.specs.Words.{App, IsAmong, Kinds, Row, Rule, Shape, Text, fault_of, is_simple, is_simple_and_free}
+use Rattle.clap.specs.Walk.{Held, idle, long_or_other, short_or_plain, trailing, value, word_met}
+use Rattle.clap.specs.Takes.{bundle_passes, flag_word_passes, word_passes}
 use Rattle.clap.specs.declared.error.kind.ErrorKind.{ErrorKind}
 use Rattle.clap.specs.declared.error.kind.ErrorKind.TheVariants.{InvalidSubcommand, InvalidValue, MissingRequiredArgument, MissingSubcommand, OutOfMemory, UnknownArgument}
 use Rattle.clap.proofs.OnLiterals.{clap_on_literals}
@@ -32,12 +41,44 @@ pub not_hyphen : (x : ℕ) (xs : List ℕ) → slice_index (x ∷ xs) 0 ≢ 45 �
 not_hyphen x xs other = grind arith
 
 -- the entries of a command, from its name and what is read in them
-pub rows_in : {V : Type 0} (read : List Row → V) (found : Option (Text × List Row)) (name : Text) (value : V)
-    → option_map (λ p. (p.0, read p.1)) found ≡ Some (name, value) → (rows : List Row) × (found ≡ Some (name, rows)) × (read rows ≡ value)
-rows_in read None name value is = cc is
-rows_in {V} read (Some p) name value is =
-    let same : (p.0, read p.1) ≡ (name, value) = ap (λ (o : Option (Text × V)). unwrap_or o (name, value)) is in
+pub rows_in : {V : Type 0} (read : List Row → V) (found : Option (Text × List Row)) (name : Text) (seen : V)
+    → option_map {U = Text × V} (λ p. (p.0, read p.1)) found ≡ Some (name, seen) → (rows : List Row) × (found ≡ Some (name, rows)) × (read rows ≡ seen)
+rows_in read None name seen is = cc is
+rows_in {V} read (Some p) name seen is =
+    let same : (p.0, read p.1) ≡ (name, seen) = ap (λ (o : Option (Text × V)). unwrap_or o (name, seen)) is in
     (p.1, ap (λ (q : Text × V). Some (q.0, p.1)) same, ap (λ (q : Text × V). q.1) same)
+
+-- an argument's value, as `get_str` gives it
+pub value_is : (found : Found) (id seen : Text) → first_of id (rows_of found) ≡ Some seen → first_value found id ≡ Some seen
+value_is found id seen is = first_value-rows found id ∙ is
+
+pub texts_equal : (a b : Text) (o : Option Text) → Some a ≡ o → o ≡ Some b → a ≡ b
+texts_equal a b o left right = ap (λ (p : Option Text). unwrap_or p a) (left ∙ right)
+
+pub none_is_none : (b : Text) (o : Option Text) → None ≡ o → o ≡ Some b → ⊥
+none_is_none b o left right = let bad : None ≡ Some b = left ∙ right in cc bad
+
+-- a word that clap takes for no option
+pub record IsPlain (word : Text) : Type 0 where
+  pub no_dashes : bytes_eq word (45 ∷ 45 ∷ []) ≡ false
+  pub no_long : long_of word ≡ None
+  pub no_short : short_of word ≡ None
+
+pub is_plain : (word : Text) → slice_index word 0 ≢ 45 → IsPlain word
+is_plain [] other = record { no_dashes = refl; no_long = refl; no_short = refl }
+is_plain (x ∷ xs) other = let plain = not_hyphen x xs other in record { no_dashes = simp plain refl; no_long = simp plain refl; no_short = simp plain refl }
+
+-- where nothing waits and no command is to come, it goes to the next positional
+pub plain_met : (rules : List Rule) (position : ℕ) (word : Text) (h : Held) → IsPlain word → word_met rules [] false idle position word h ≡ (h, value)
+plain_met rules position word h plain =
+    ap (λ b. if b then (h, trailing position) else long_or_other rules idle word (long_of word) h) plain.no_dashes
+    ∙ (ap (λ o. long_or_other rules idle word o h) plain.no_long ∙ ap (λ o. short_or_plain rules idle word o h) plain.no_short)
+
+pub plain_passes : (s : Shape) (word : Text) (h : Held) → IsPlain word → word_passes s [] false idle word h ≡ true
+plain_passes s word h plain =
+    ap (λ b. b || flag_word_passes s.rules s.args_override_self (long_of word) word h) plain.no_dashes
+    ∙ (ap (λ o. flag_word_passes s.rules s.args_override_self o word h) plain.no_long
+    ∙ ap (λ o. option_map_or (λ flags. bundle_passes s.rules s.args_override_self flags h) o true) plain.no_short)
 
 -- two choices, by where they lie
 abbrev pub two : ℕ × ℕ → ℕ × ℕ → ℕ × ℕ → Text → Text → Choices

@@ -1,5 +1,6 @@
 -- What a request does to the output, and the status that it ends with.
 use Rattle.std.specs.Prelude.{◌≡◌, ◌⊎◌, ℕ, List, [], ◌∷◌, ◌++◌, Option, Result, Ok, Err}
+use Rattle.std.specs.Result.{result_map_both}
 use Rattle.std.specs.Io.KnownBytes.{Appends, Keeps}
 use Rattle.hex.specs.Hex.{encode_lower}
 use Rattle.ring_machine.specs.Ring.{Bytes}
@@ -18,14 +19,9 @@ use Rattle.poll82599.specs.Refusals.{IsUnmade}
 abbrev pub line_of : Bytes → List ℕ
 line_of frame = encode_lower frame ++ 10 ∷ []
 
--- what there is to print, or why the request itself is refused
-abbrev pub IsAnswer : Request → Result (List ℕ) Refusal → Type 0
-IsAnswer (Once digits) answer = answer ≡ printed (frame_in digits.now)
-  where
-    printed : Result Bytes Refusal → Result (List ℕ) Refusal
-    printed (Ok frame) = Ok (line_of frame)
-    printed (Err refusal) = Err refusal
-IsAnswer (Decode form digits) answer = IsDecoded form (bytes_in digits.now) answer
+-- what `once` has to print, or why its digits are refused
+abbrev pub once_answer : List ℕ → Result (List ℕ) Refusal
+once_answer digits = result_map_both line_of (λ refusal. refusal) (frame_in digits)
 
 -- it was printed whole, where the output's bytes are known
 abbrev pub IsPrinted : Result (List ℕ) Refusal → Option (List ℕ) → Option (List ℕ) → Type 0
@@ -37,16 +33,23 @@ abbrev pub IsRefused : Result (List ℕ) Refusal → Refusal → Option (List �
 IsRefused (Ok text) e old new = (e ≡ Output) ⊎ ((IsUnmade e ⊎ (e ≡ Memory)) × Keeps old new)
 IsRefused (Err refusal) e old new = ((e ≡ refusal) ⊎ (e ≡ Memory)) × Keeps old new
 
--- the request's answer was printed, or refused
-pub record Prints (request : Request) (old new : Option (List ℕ)) : Type 0 where
-  pub answer : Result (List ℕ) Refusal
-  pub is_answer : IsAnswer request answer
-  pub printed : IsPrinted answer old new
+-- what the digits are in a form was printed, or refused. For want of memory that may not be known
+abbrev pub PrintsDecoded : Form → List ℕ → Option (List ℕ) → Option (List ℕ) → Type 0
+PrintsDecoded form digits old new = (line : List ℕ) × IsDecoded form (bytes_in digits) (Ok line) × Appends old new line
 
-pub record Refuses (request : Request) (e : Refusal) (old new : Option (List ℕ)) : Type 0 where
-  pub answer : Result (List ℕ) Refusal
-  pub is_answer : IsAnswer request answer
-  pub refused : IsRefused answer e old new
+abbrev pub RefusesDecoded : Form → List ℕ → Refusal → Option (List ℕ) → Option (List ℕ) → Type 0
+RefusesDecoded form digits e old new =
+    ((e ≡ Memory) × Keeps old new)
+    ⊎ ((answer : Result (List ℕ) Refusal) × IsDecoded form (bytes_in digits) answer × IsRefused answer e old new)
+
+-- a request was done, or refused
+abbrev pub Prints : Request → Option (List ℕ) → Option (List ℕ) → Type 0
+Prints (Once digits) old new = IsPrinted (once_answer digits.now) old new
+Prints (Decode form digits) old new = PrintsDecoded form digits.now old new
+
+abbrev pub Refuses : Request → Refusal → Option (List ℕ) → Option (List ℕ) → Type 0
+Refuses (Once digits) e old new = IsRefused (once_answer digits.now) e old new
+Refuses (Decode form digits) e old new = RefusesDecoded form digits.now e old new
 
 -- how `once` ends: its frame's line is printed, or nothing is done; digits that are no frame are always refused
 abbrev pub Ends : Result Bytes Refusal → ℕ → Option (List ℕ) → Option (List ℕ) → Type 0
@@ -58,8 +61,8 @@ abbrev pub EndsBy : Result (List ℕ) Refusal → ℕ → Option (List ℕ) → 
 EndsBy (Ok text) status old new = ((status ≡ DONE) × Appends old new text) ⊎ (status ≡ REFUSED)
 EndsBy (Err refusal) status old new = (status ≡ REFUSED) × Keeps old new
 
--- how `decode` ends: the line of the digits' descriptor is printed, or they are refused
-pub record EndsDecode (form : Form) (digits : List ℕ) (status : ℕ) (old new : Option (List ℕ)) : Type 0 where
-  pub answer : Result (List ℕ) Refusal
-  pub decoded : IsDecoded form (bytes_in digits) answer
-  pub ends : EndsBy answer status old new
+-- how `decode` ends: by what the digits are in that form, or, for want of memory, refused with nothing printed
+abbrev pub EndsDecode : Form → List ℕ → ℕ → Option (List ℕ) → Option (List ℕ) → Type 0
+EndsDecode form digits status old new =
+    ((answer : Result (List ℕ) Refusal) × IsDecoded form (bytes_in digits) answer × EndsBy answer status old new)
+    ⊎ ((status ≡ REFUSED) × Keeps old new)

@@ -1,11 +1,11 @@
 //! The command line.
 ghost use Rattle.std.specs.Prelude.{◌≡◌, ℕ, List, Some, false, codes, map, option_map, IfOk, IsErrAnd, IsSomeAnd, MatchResult, ◌⊎◌};
 ghost use Rattle.std.specs.String.{string_bytes};
-ghost use Rattle.clap.specs.Words.{Row, Text, app_of, kind_of, found_of, rows_of, subcommand_rows_of};
+ghost use Rattle.clap.specs.Words.{Row, Text, app_of, kind_of, found_of, rows_of, rule_of, subcommand_rows_of};
 ghost use Rattle.clap.specs.declared.builder.command.Command.TheViews.{out-Command};
 ghost use Rattle.clap.specs.declared.error.kind.ErrorKind.TheVariants.{OutOfMemory};
 ghost use Rattle.poll82599.specs.declared.decode.Form.{Form};
-ghost use Rattle.poll82599.specs.CommandLine.{HasDecode, HasOnce, IsDecode, IsDecodeApp, IsMistake, IsMisuse, IsOnce, IsProgram, SaysDecode, SaysOnce, once_app};
+ghost use Rattle.poll82599.specs.CommandLine.{HasDecode, HasOnce, IsDecode, IsDecodeApp, IsMistake, IsMisuse, IsOnce, IsProgram, SaysDecode, SaysOnce, choice_rule, once_app};
 
 use crate::decode::Form;
 use clap::error::ErrorKind;
@@ -115,16 +115,10 @@ fn decode<'a>(alloc: Global) -> Result<Command<'a>, AllocError>
     ensures app { IfOk result (λ c. IsDecodeApp (app_of c)) }
     ensures local { IfOk result (λ c. (out-Command c).has_globals ≡ false) }
 {
-    let ring = Arg::new(alloc, "ring")
-        .value_name("RING")
-        .help("The ring that the descriptor is on: to receive or to transmit")
-        .value_parser(RINGS.as_slice())
-        .required(true);
-    let format = Arg::new(alloc, "format")
-        .value_name("FORMAT")
-        .help("As the driver posts it, or as the controller writes it back")
-        .value_parser(FORMATS.as_slice())
-        .required(true);
+    let ring = choice(alloc, "ring", "RING", RINGS.as_slice())
+        .help("The ring that the descriptor is on: to receive or to transmit");
+    let format = choice(alloc, "format", "FORMAT", FORMATS.as_slice())
+        .help("As the driver posts it, or as the controller writes it back");
     let hex = Arg::new(alloc, "hex")
         .value_name("HEX")
         .help("The 16 bytes of a descriptor, two hex digits for each byte")
@@ -135,4 +129,15 @@ fn decode<'a>(alloc: Global) -> Result<Command<'a>, AllocError>
         .arg(ring)?
         .arg(format)?
         .arg(hex)
+}
+
+/// An argument that is one of these words.
+fn choice<'a>(alloc: Global, id: &'a str, name: &'a str, words: &'a [&'a str]) -> Arg<'a>
+    ensures rule { rule_of result ≡ choice_rule id.entry.now words.entry }
+    ensures local { result.global ≡ false }
+{
+    Arg::new(alloc, id)
+        .value_name(name)
+        .value_parser(words)
+        .required(true)
 }

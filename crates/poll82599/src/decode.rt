@@ -1,12 +1,12 @@
 //! The line of a descriptor, from the hex digits of its bytes.
 ghost use Rattle.std.specs.Prelude.{◌≡◌, ◌⊎◌, ◌↔◌, ◌∷◌, [], ◌++◌, Some, IfOk, IfErr, IfSome, string_bytes};
 ghost use Rattle.poll82599.specs.Digits.{bytes_in};
-ghost use Rattle.poll82599.specs.Decoding.{IsDecoded, ring_word, format_word};
+ghost use Rattle.poll82599.specs.Decoding.{IsDecoded, IsRead, ring_word, format_word};
 
 use crate::digits::bytes_of;
 use crate::refusal::Refusal;
-use descriptor::{RxBack, RxRead, TxBack, TxRead};
-use std::alloc::{AllocError, Global};
+use descriptor::{DescError, RxBack, RxRead, TxBack, TxRead};
+use std::alloc::Global;
 use std::fmt::Display;
 
 /// The form in which bytes are read. They do not tell it.
@@ -46,19 +46,29 @@ pub fn decode(alloc: Global, form: Form, digits: &str) -> Result<String, Refusal
     ensures err { IfErr result (λ e. (e ≡ Refusal.Memory) ⊎ IsDecoded form (bytes_in digits.now) (Err e)) }
 {
     let bytes = bytes_of(alloc, digits)?;
-    let bytes = bytes.as_slice();
-    let line = match form {
-        Form::RxRead => line_of(alloc, RxRead::from_bytes(bytes)?),
-        Form::RxBack => line_of(alloc, RxBack::from_bytes(bytes)?),
-        Form::TxRead => line_of(alloc, TxRead::from_bytes(bytes)?),
-        Form::TxBack => line_of(alloc, TxBack::from_bytes(bytes)?),
-    };
-    Ok(line?)
+    read_as(alloc, form, bytes.as_slice())
 }
 
-/// What is printed of a value, in a line of its own.
-fn line_of<D: Display + Drop>(alloc: Global, value: D) -> Result<String, AllocError>
-    ensures { IfOk result (λ line. IfSome (D.output value) (λ text. string_bytes line ≡ text ++ 10 ∷ [])) }
+/// The line of the descriptor that the bytes are in this form.
+fn read_as(alloc: Global, form: Form, bytes: &[u8]) -> Result<String, Refusal>
+    ensures ok { IfOk result (λ line. IsRead form bytes.now (Ok (string_bytes line))) }
+    ensures err { IfErr result (λ e. (e ≡ Refusal.Memory) ⊎ IsRead form bytes.now (Err e)) }
 {
-    format!(in alloc; "{value}\n")
+    match form {
+        Form::RxRead => line_of(alloc, RxRead::from_bytes(bytes)),
+        Form::RxBack => line_of(alloc, RxBack::from_bytes(bytes)),
+        Form::TxRead => line_of(alloc, TxRead::from_bytes(bytes)),
+        Form::TxBack => line_of(alloc, TxBack::from_bytes(bytes)),
+    }
+}
+
+/// What is printed of a value, in a line of its own, if there is one.
+fn line_of<D: Display + Drop>(alloc: Global, value: Result<D, DescError>) -> Result<String, Refusal>
+    ensures ok { IfOk result (λ line. (d : D) × (value ≡ Ok d)
+        × IfSome (D.output d) (λ text. string_bytes line ≡ text ++ 10 ∷ [])) }
+    ensures err { IfErr result (λ e. (e ≡ Refusal.Memory)
+        ⊎ ((refused : DescError) × (value ≡ Err refused) × (e ≡ Refusal.Descriptor refused))) }
+{
+    let value = value?;
+    Ok(format!(in alloc; "{value}\n")?)
 }

@@ -4,13 +4,13 @@ ghost use Rattle.std.specs.String.{string_bytes};
 ghost use Rattle.std.specs.Io.KnownBytes.{Appends, Keeps};
 ghost use Rattle.clap.specs.Words.{kind_of};
 ghost use Rattle.clap.specs.declared.error.kind.ErrorKind.TheVariants.{OutOfMemory};
-ghost use Rattle.poll82599.specs.Answers.{line_of, Ends, EndsDecode, Prints, Refuses};
+ghost use Rattle.poll82599.specs.Answers.{line_of, once_answer, Ends, EndsDecode, IsPrinted, IsRefused, Prints, PrintsDecoded, Refuses, RefusesDecoded};
 ghost use Rattle.poll82599.specs.CommandLine.{IsMistake, IsMisuse, SaysDecode, SaysOnce};
 ghost use Rattle.poll82599.specs.Frame.{frame_in};
 ghost use Rattle.poll82599.specs.declared.decode.Form.{Form};
 
 use crate::command::{Request, request_of};
-use crate::decode::decode;
+use crate::decode::{Form, decode};
 use crate::frame::frame_of;
 use crate::once::once;
 use crate::refusal::Refusal;
@@ -73,16 +73,40 @@ pub fn perform<R: Threads + Wait + Sync, W: Write>(
     ensures refused { IfErr result (λ e. Refuses request.entry e (W.contents output.old) (W.contents output.new)) }
 {
     match request {
-        Request::Once { digits } => {
-            let frame = frame_of(alloc, digits)?;
-            let passage = once(rt, alloc, frame.as_slice())?;
-            print_frame(alloc, passage.buf.bytes(), output)
-        }
-        Request::Decode { form, digits } => {
-            let line = decode(alloc, form, digits)?;
-            print(line.as_str(), output)
-        }
+        Request::Once { digits } => print_passed(rt, alloc, digits, output),
+        Request::Decode { form, digits } => print_decoded(alloc, form, digits, output),
     }
+}
+
+/// Passes a frame, and prints what was taken.
+fn print_passed<R: Threads + Wait + Sync, W: Write>(
+    rt: &R,
+    alloc: Global,
+    digits: &str,
+    output: &mut W,
+) -> Result<(), Refusal>
+    ensures done { OnOk result (IsPrinted (once_answer digits.now) (W.contents output.old) (W.contents output.new)) }
+    ensures refused { IfErr result (λ e.
+        IsRefused (once_answer digits.now) e (W.contents output.old) (W.contents output.new)) }
+{
+    let frame = frame_of(alloc, digits)?;
+    let passage = once(rt, alloc, frame.as_slice())?;
+    print_frame(alloc, passage.buf.bytes(), output)
+}
+
+/// Prints the line of a descriptor.
+fn print_decoded<W: Write>(
+    alloc: Global,
+    form: Form,
+    digits: &str,
+    output: &mut W,
+) -> Result<(), Refusal>
+    ensures done { OnOk result (PrintsDecoded form digits.now (W.contents output.old) (W.contents output.new)) }
+    ensures refused { IfErr result (λ e.
+        RefusesDecoded form digits.now e (W.contents output.old) (W.contents output.new)) }
+{
+    let line = decode(alloc, form, digits)?;
+    print(line.as_str(), output)
 }
 
 /// Prints a frame as lower case hex digits, in a line of its own.
