@@ -1,5 +1,6 @@
 pub mod CommandLine
 pub mod DecodeWords
+pub mod Decoded
 pub mod Ends
 pub mod OnceWords
 pub mod Passed

@@ -1,7 +1,8 @@
 use Rattle.std.proofs.Common.{rules, ◌≡◌, ◌∙◌, ap, ap₂, false, ◌||◌, codes, ◌∷◌, []}
 use Rattle.std.proofs.lemmas.Result.{IfOk-weaker}
-use Rattle.clap.specs.Words.{app_of, fields_of, new_app, rule_of, with_rule}
+use Rattle.clap.specs.Words.{app_of, new_app, rule_of, with_rule}
 use Rattle.clap.specs.declared.builder.arg.Arg.{Arg}
+use Rattle.clap.specs.declared.builder.command.Command.TheViews.{out-Command}
 use Rattle.poll82599.specs.CommandLine.{choice_rule, hex_rule}
 use Rattle.poll82599.proofs.command.decode.Goals as goal
 
@@ -26,7 +27,7 @@ returns-clause-local c =
     let ring : c.help-ring.result.global ≡ false = ap (λ (a : Arg). a.global) c.help-ring.ensures ∙ c.choice.ensures.local in
     let format : c.help-format.result.global ≡ false = ap (λ (a : Arg). a.global) c.help-format.ensures ∙ c.choice-2.ensures.local in
     let hex : c.required-hex.result.global ≡ false = search rules in
-    let new : (fields_of c.after_help.result).has_globals ≡ false = search rules in
+    let new : (out-Command c.after_help.result).has_globals ≡ false = search rules in
     let with_ring = c.in_ok-arg.ensures.globals ∙ ap₂ (λ x y. x || y) new ring in
     let with_format = c.in_ok-arg-2.ensures.globals ∙ ap₂ (λ x y. x || y) with_ring format in
     IfOk-weaker c.arg-3.result _ _ (λ r adds. adds.globals ∙ ap₂ (λ x y. x || y) with_format hex) c.arg-3.ensures
