@@ -5,7 +5,7 @@ ghost use Rattle.clap.specs.Words.{Row, Text, app_of, kind_of, found_of, rows_of
 ghost use Rattle.clap.specs.declared.builder.command.Command.TheViews.{out-Command};
 ghost use Rattle.clap.specs.declared.error.kind.ErrorKind.TheVariants.{OutOfMemory};
 ghost use Rattle.poll82599.specs.declared.decode.Form.{Form};
-ghost use Rattle.poll82599.specs.CommandLine.{HasDecode, HasOnce, IsDecode, IsDecodeApp, IsMistake, IsMisuse, IsOnce, IsProgram, SaysDecode, SaysOnce, choice_rule, once_app};
+ghost use Rattle.poll82599.specs.CommandLine.{HasDecode, HasOnce, IsDecode, IsDecodeApp, IsMistake, IsMisuse, IsOnce, IsProgram, SaysDecode, SaysOnce, choice_rule, hex_rule, once_app};
 
 use crate::decode::Form;
 use clap::error::ErrorKind;
@@ -100,10 +100,10 @@ fn once<'a>(alloc: Global) -> Result<Command<'a>, AllocError>
     ensures app { IfOk result (λ c. app_of c ≡ once_app) }
     ensures local { IfOk result (λ c. (out-Command c).has_globals ≡ false) }
 {
-    let hex = Arg::new(alloc, "hex")
-        .value_name("HEX")
-        .help("A frame of 14 to 2,048 bytes, two hex digits for each byte")
-        .required(true);
+    let hex = hex(
+        alloc,
+        "A frame of 14 to 2,048 bytes, two hex digits for each byte",
+    );
     Command::new(alloc, "once")
         .about("Passes one frame through a receive ring of 8 and prints it")
         .after_help(ONCE_EXAMPLE)
@@ -119,16 +119,27 @@ fn decode<'a>(alloc: Global) -> Result<Command<'a>, AllocError>
         .help("The ring that the descriptor is on: to receive or to transmit");
     let format = choice(alloc, "format", "FORMAT", FORMATS.as_slice())
         .help("As the driver posts it, or as the controller writes it back");
-    let hex = Arg::new(alloc, "hex")
-        .value_name("HEX")
-        .help("The 16 bytes of a descriptor, two hex digits for each byte")
-        .required(true);
+    let hex = hex(
+        alloc,
+        "The 16 bytes of a descriptor, two hex digits for each byte",
+    );
     Command::new(alloc, "decode")
         .about("Reads the bytes of a descriptor and prints what they say")
         .after_help(DECODE_EXAMPLE)
         .arg(ring)?
         .arg(format)?
         .arg(hex)
+}
+
+/// An argument of hex digits.
+fn hex<'a>(alloc: Global, help: &'a str) -> Arg<'a>
+    ensures rule { rule_of result ≡ hex_rule }
+    ensures local { result.global ≡ false }
+{
+    Arg::new(alloc, "hex")
+        .required(true)
+        .value_name("HEX")
+        .help(help)
 }
 
 /// An argument that is one of these words.

@@ -237,25 +237,26 @@ fn faults_of_the_command_line_have_status_2(rt: HostRuntime) -> Result<(), Fail>
 #[test]
 fn help_goes_to_the_output_with_an_example(rt: HostRuntime) -> Result<(), Fail> {
     let alloc = rt.alloc();
-    let table: [&[&str]; 6] = [
-        &["--help"],
-        &["-h"],
-        &["help"],
-        &["once", "--help"],
-        &["once", "-h"],
-        &["help", "once"],
+    let once = "poll82599 once 000102030405060708090a0b0c0d\n";
+    let decode = "poll82599 decode rx back 0000000000000000030000003c000000\n";
+    let table: [(&[&str], &str); 9] = [
+        (&["--help"], once),
+        (&["-h"], once),
+        (&["help"], once),
+        (&["once", "--help"], once),
+        (&["once", "-h"], once),
+        (&["help", "once"], once),
+        (&["decode", "--help"], decode),
+        (&["decode", "-h"], decode),
+        (&["help", "decode"], decode),
     ];
-    for words in table {
+    for (words, example) in table {
         let (mut output, mut faults) = (Vec::new(alloc), Vec::new(alloc));
         let status = status_of(&rt, alloc, words, &mut output, &mut faults)?;
         assert_eq!(rt; status, 0, "at {words:?}");
         assert!(rt; faults.is_empty(), "at {words:?}");
         let text = String::from_utf8(output)?;
-        assert!(rt;
-            text.as_str()
-                .contains("poll82599 once 000102030405060708090a0b0c0d\n"),
-            "at {words:?}"
-        );
+        assert!(rt; text.as_str().contains(example), "at {words:?}");
         assert!(rt; text.as_str().ends_with("\n"), "at {words:?}");
     }
     Ok(())
