@@ -72,7 +72,7 @@ takes_decode p q r s t u form digits other =
     let plain = is_plain digits other in
     takes_by p q r s t u form digits
     ∙ (ap₂ (passes rings formats form digits) (met_plain rings formats form digits plain)
-        (plain_passes (shape rings formats) digits (walk_to rings formats form).held plain)
+    (plain_passes (shape rings formats) digits (walk_to rings formats form).held plain)
     ∙ passes_plain p q r s t u form digits)
 
 -- the values of the three arguments
@@ -127,9 +127,12 @@ pub decode_found : (app : App) (words : List Text) (form : Form) (digits : Text)
 decode_found app words form digits program says =
     let same = ap (λ (a : App). subcommand_of a words) program.app_is ∙ ap (subcommand_of (program_app program.rings program.formats)) says.words_are in
     let found = rows_in values_of (subcommand_of app words) (codes "decode") (said form digits)
-        (ap values_in same ∙ values_of_decode program.rings program.formats form digits says.no_option) in
-    (found.0, found.1, record {
-      ring = ap (λ (v : Values). v.0) found.2;
-      format = ap (λ (v : Values). v.1.0) found.2;
-      hex = ap (λ (v : Values). v.1.1) found.2;
-    })
+    (ap values_in same ∙ values_of_decode program.rings program.formats form digits says.no_option) in (
+      found.0,
+      found.1,
+      record {
+        ring = ap (λ (v : Values). v.0) found.2;
+        format = ap (λ (v : Values). v.1.0) found.2;
+        hex = ap (λ (v : Values). v.1.1) found.2;
+      },
+    )

@@ -1,8 +1,7 @@
 -- From what a form's bytes are to what `decode` answers, and how it ends.
-use Rattle.std.proofs.Common.{◌≡◌, ap, refl, subst, inl, inr, ℕ, List, [], ◌∷◌, ◌++◌, Option}
+use Rattle.std.proofs.Common.{◌≡◌, refl, subst, inl, inr, ℕ, List, [], ◌∷◌, ◌++◌, Option}
 use Rattle.std.specs.Prelude.{◌⊎◌, ◌↔◌, Result, Ok, Err, IfOk}
 use Rattle.std.proofs.lemmas.Result.{IfOk-at_ok}
-use Rattle.std.specs.Io.KnownBytes.{Appends, Keeps}
 use Rattle.descriptor.specs.declared.error.DescError.{DescError}
 use Rattle.descriptor.specs.Layout.{Form, KeepsBytes}
 use Rattle.descriptor.specs.Refusal.{IsLowest}
@@ -14,7 +13,7 @@ use Rattle.poll82599.specs.declared.refusal.Refusal.TheVariants.{Descriptor, Mem
 use Rattle.poll82599.specs.declared.run.TheConstants.{DONE, REFUSED}
 use Rattle.poll82599.specs.Answers.{EndsDecode, Prints, PrintsDecoded, Refuses, RefusesDecoded}
 use Rattle.poll82599.specs.CommandLine.{IsDecode}
-use Rattle.poll82599.specs.Decoding.{IsDecoded, IsLineOf}
+use Rattle.poll82599.specs.Decoding.{IsLineOf}
 
 -- the line of a descriptor that was read
 pub line_read : {D : Type 0} (bytes_of text_of : D → List ℕ) (bytes : List ℕ) (read : Result D DescError) (line : List ℕ)

@@ -1,5 +1,5 @@
 -- What clap makes of `once` and an argument.
-use Rattle.std.proofs.Common.{◌≡◌, ◌≢◌, ◌∙◌, ap, refl, arith, ℕ, true, false, List, [], ◌∷◌, ◌==◌, codes, slice_index, Option, Some, option_map}
+use Rattle.std.proofs.Common.{◌≡◌, ◌≢◌, ◌∙◌, ap, refl, ℕ, true, false, List, [], ◌∷◌, ◌==◌, codes, slice_index, Option, Some, option_map}
 use Rattle.clap.specs.Words.{App, Row, Text, first_of, subcommand_of, takes}
 use Rattle.clap.proofs.OnLiterals.{clap_on_literals}
 use Rattle.poll82599.specs.CommandLine.{Choices, HasOnce, IsProgram, SaysOnce, program_app}

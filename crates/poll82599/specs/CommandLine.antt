@@ -1,5 +1,5 @@
 -- The program's command line, as clap reads it.
-use Rattle.std.specs.Prelude.{◌≡◌, ◌≢◌, ℕ, true, List, [], ◌∷◌, codes, map, slice_index, Some, All}
+use Rattle.std.specs.Prelude.{◌≡◌, ◌≢◌, true, List, [], ◌∷◌, codes, map, slice_index, Some, All}
 use Rattle.std.specs.Borrow.{Bor}
 use Rattle.clap.specs.Words.{App, Kinds, Row, Rule, Text, fault_of, first_of, new_app, new_rule, with_rule, with_subcommand}
 use Rattle.clap.specs.declared.builder.value_parser.ValueParser.TheVariants.{Names}
@@ -32,7 +32,9 @@ choice_rule id choices = record (new_rule id) { value_names = 1; required = true
 
 -- the command `decode`
 abbrev pub decode_app : Choices → Choices → App
-decode_app rings formats = with_rule (with_rule (with_rule (new_app (codes "decode")) (choice_rule (codes "ring") rings)) (choice_rule (codes "format") formats)) hex_rule
+decode_app rings formats =
+    let with_ring = with_rule (new_app (codes "decode")) (choice_rule (codes "ring") rings) in
+    with_rule (with_rule with_ring (choice_rule (codes "format") formats)) hex_rule
 
 abbrev pub program_app : Choices → Choices → App
 program_app rings formats = with_subcommand (with_subcommand bare_app once_app.top) (decode_app rings formats).top

@@ -1,11 +1,13 @@
 //! The command line.
-ghost use Rattle.std.specs.Prelude.{◌≡◌, ℕ, List, Some, false, codes, map, option_map, IfOk, IsErrAnd, IsSomeAnd, MatchResult, ◌⊎◌};
+ghost use Rattle.std.specs.Prelude.{◌≡◌, ◌⊎◌, ℕ, List, Some, false, codes, map};
+ghost use Rattle.std.specs.Prelude.{IfOk, IsErrAnd, IsSomeAnd, MatchResult};
 ghost use Rattle.std.specs.String.{string_bytes};
 ghost use Rattle.clap.specs.Words.{Row, Text, app_of, kind_of, found_of, rows_of, rule_of, subcommand_rows_of};
 ghost use Rattle.clap.specs.declared.builder.command.Command.TheViews.{out-Command};
 ghost use Rattle.clap.specs.declared.error.kind.ErrorKind.TheVariants.{OutOfMemory};
 ghost use Rattle.poll82599.specs.declared.decode.Form.{Form};
-ghost use Rattle.poll82599.specs.CommandLine.{HasDecode, HasOnce, IsDecode, IsDecodeApp, IsMistake, IsMisuse, IsOnce, IsProgram, SaysDecode, SaysOnce, choice_rule, hex_rule, once_app};
+ghost use Rattle.poll82599.specs.CommandLine.{IsDecodeApp, IsProgram, choice_rule, hex_rule, once_app};
+ghost use Rattle.poll82599.specs.CommandLine.{HasDecode, HasOnce, IsDecode, IsMistake, IsMisuse, IsOnce, SaysDecode, SaysOnce};
 
 use crate::decode::Form;
 use clap::error::ErrorKind;
@@ -51,9 +53,10 @@ pub fn request_of<'a>(alloc: Global, words: &'a [String]) -> Result<Request<'a>,
 
 /// The request in matches of the program's command line.
 fn request_in<'a>(matches: &ArgMatches<'a>) -> Option<Request<'a>>
-    ensures once { (rows : List Row) → (digits : Text) → subcommand_rows_of matches.now ≡ Some (codes "once", rows)
+    ensures once { (rows : List Row) (digits : Text) → subcommand_rows_of matches.now ≡ Some (codes "once", rows)
         → HasOnce rows digits → IsSomeAnd result (λ r. IsOnce r digits) }
-    ensures decode { (rows : List Row) → (form : Form) → (digits : Text) → subcommand_rows_of matches.now ≡ Some (codes "decode", rows)
+    ensures decode { (rows : List Row) (form : Form) (digits : Text)
+        → subcommand_rows_of matches.now ≡ Some (codes "decode", rows)
         → HasDecode rows form digits → IsSomeAnd result (λ r. IsDecode r form digits) }
 {
     match matches.subcommand()? {
@@ -65,7 +68,8 @@ fn request_in<'a>(matches: &ArgMatches<'a>) -> Option<Request<'a>>
 
 /// The request in matches of `once`.
 fn once_in<'a>(once: &ArgMatches<'a>) -> Option<Request<'a>>
-    ensures { (digits : Text) → HasOnce (rows_of (found_of once.now)) digits → IsSomeAnd result (λ r. IsOnce r digits) }
+    ensures { (digits : Text) → HasOnce (rows_of (found_of once.now)) digits
+        → IsSomeAnd result (λ r. IsOnce r digits) }
 {
     let digits = once.get_str("hex")?;
     Some(Request::Once { digits })
@@ -73,7 +77,7 @@ fn once_in<'a>(once: &ArgMatches<'a>) -> Option<Request<'a>>
 
 /// The request in matches of `decode`.
 fn decode_in<'a>(decode: &ArgMatches<'a>) -> Option<Request<'a>>
-    ensures { (form : Form) → (digits : Text) → HasDecode (rows_of (found_of decode.now)) form digits
+    ensures { (form : Form) (digits : Text) → HasDecode (rows_of (found_of decode.now)) form digits
         → IsSomeAnd result (λ r. IsDecode r form digits) }
 {
     let form = Form::named(decode.get_str("ring")?, decode.get_str("format")?)?;
@@ -115,10 +119,12 @@ fn decode<'a>(alloc: Global) -> Result<Command<'a>, AllocError>
     ensures app { IfOk result (λ c. IsDecodeApp (app_of c)) }
     ensures local { IfOk result (λ c. (out-Command c).has_globals ≡ false) }
 {
-    let ring = choice(alloc, "ring", "RING", RINGS.as_slice())
-        .help("The ring that the descriptor is on: to receive or to transmit");
-    let format = choice(alloc, "format", "FORMAT", FORMATS.as_slice())
-        .help("As the driver posts it, or as the controller writes it back");
+    let ring = choice(alloc, "ring", "RING", RINGS.as_slice()).help(
+        "The ring that the descriptor is on: to receive or to transmit",
+    );
+    let format = choice(alloc, "format", "FORMAT", FORMATS.as_slice()).help(
+        "As the driver posts it, or as the controller writes it back",
+    );
     let hex = hex(
         alloc,
         "The 16 bytes of a descriptor, two hex digits for each byte",

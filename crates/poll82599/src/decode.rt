@@ -1,7 +1,8 @@
 //! The line of a descriptor, from the hex digits of its bytes.
-ghost use Rattle.std.specs.Prelude.{◌≡◌, ◌⊎◌, ◌↔◌, ◌∷◌, [], ◌++◌, Some, IfOk, IfErr, IfSome, string_bytes};
+ghost use Rattle.std.specs.Prelude.{◌≡◌, ◌⊎◌, ◌↔◌, ◌∷◌, [], ◌++◌, Some, IfOk, IfErr, IfSome};
+ghost use Rattle.std.specs.String.{string_bytes};
 ghost use Rattle.poll82599.specs.Digits.{bytes_in};
-ghost use Rattle.poll82599.specs.Decoding.{IsDecoded, IsRead, ring_word, format_word};
+ghost use Rattle.poll82599.specs.Decoding.{IsDecoded, IsRead, format_word, ring_word};
 
 use crate::digits::bytes_of;
 use crate::refusal::Refusal;
@@ -25,7 +26,8 @@ pub enum Form {
 impl Form {
     /// The form on the ring `rx` or `tx`, in the format `read` or `back`.
     pub fn named(ring: &str, format: &str) -> Option<Form>
-        ensures { (form : Form) → (result ≡ Some form) ↔ (ring.now ≡ ring_word form) × (format.now ≡ format_word form) }
+        ensures { (form : Form)
+            → (result ≡ Some form) ↔ (ring.now ≡ ring_word form) × (format.now ≡ format_word form) }
     {
         match (ring, format) {
             ("rx", "read") => Some(Form::RxRead),

@@ -148,18 +148,37 @@ fn descriptors_are_decoded_and_refusals_have_numbers(rt: HostRuntime) -> Result<
     let short = digits_of(alloc, "00", 15)?;
     let short = short.as_str();
     let long = digits_of(alloc, "00", 17)?;
+    let whole = "buffer 5 length 60 eop 1 rs 1 paylen 60\n";
     let table = [
         ("rx", "back", RX_BACK, 0, "dd 1 eop 1 length 60\n"),
-        ("tx", "read", TX_READ, 0, "buffer 5 length 60 eop 1 rs 1 paylen 60\n"),
-        ("tx", "read", "00280000000000003C00302B00000F00", 0, "buffer 5 length 60 eop 1 rs 1 paylen 60\n"),
+        ("tx", "read", TX_READ, 0, whole),
+        ("tx", "read", "00280000000000003C00302B00000F00", 0, whole),
         ("tx", "back", TX_BACK, 0, "dd 1\n"),
         ("rx", "read", RX_READ, 0, "buffer 65535\n"),
-        ("rx", "read", "00F8FF07000000000000000000000000", 0, "buffer 65535\n"),
-        ("tx", "read", "00280000000000003c00202b00000f00", 1, "refused 3 type\n"),
+        (
+            "rx",
+            "read",
+            "00F8FF07000000000000000000000000",
+            0,
+            "buffer 65535\n",
+        ),
+        (
+            "tx",
+            "read",
+            "00280000000000003c00202b00000f00",
+            1,
+            "refused 3 type\n",
+        ),
         ("rx", "read", RX_BACK, 1, "refused 2 reserved\n"),
         ("rx", "back", RX_READ, 1, "refused 2 reserved\n"),
         ("tx", "back", TX_READ, 1, "refused 2 reserved\n"),
-        ("rx", "back", "00000000000000000300000000000000", 1, "refused 4 size\n"),
+        (
+            "rx",
+            "back",
+            "00000000000000000300000000000000",
+            1,
+            "refused 4 size\n",
+        ),
         ("rx", "read", short, 1, "refused 1 length\n"),
         ("rx", "back", short, 1, "refused 1 length\n"),
         ("tx", "read", short, 1, "refused 1 length\n"),
@@ -167,10 +186,34 @@ fn descriptors_are_decoded_and_refusals_have_numbers(rt: HostRuntime) -> Result<
         ("tx", "back", long.as_str(), 1, "refused 1 length\n"),
         ("rx", "back", "", 1, "refused 1 length\n"),
         ("rx", "back", "0", 1, "refused 81 hex\n"),
-        ("rx", "back", "0000000000000000030000003c00000", 1, "refused 81 hex\n"),
-        ("tx", "read", "00280000000000003c00302b00000f0g", 1, "refused 81 hex\n"),
-        ("tx", "read", "00280000000000003c00302b00000f0G", 1, "refused 81 hex\n"),
-        ("tx", "back", "0x000000000000000000000001000000", 1, "refused 81 hex\n"),
+        (
+            "rx",
+            "back",
+            "0000000000000000030000003c00000",
+            1,
+            "refused 81 hex\n",
+        ),
+        (
+            "tx",
+            "read",
+            "00280000000000003c00302b00000f0g",
+            1,
+            "refused 81 hex\n",
+        ),
+        (
+            "tx",
+            "read",
+            "00280000000000003c00302b00000f0G",
+            1,
+            "refused 81 hex\n",
+        ),
+        (
+            "tx",
+            "back",
+            "0x000000000000000000000001000000",
+            1,
+            "refused 81 hex\n",
+        ),
     ];
     for (ring, format, digits, status, printed) in table {
         let (mut output, mut faults) = (Vec::new(alloc), Vec::new(alloc));
@@ -318,10 +361,7 @@ fn faults_that_fail_change_no_status(rt: HostRuntime) -> Result<(), Fail> {
 fn refusals_have_their_words(rt: HostRuntime) -> Result<(), Fail> {
     let alloc = rt.alloc();
     let table = [
-        (
-            Refusal::Descriptor(DescError::Length),
-            "refused 1 length\n",
-        ),
+        (Refusal::Descriptor(DescError::Length), "refused 1 length\n"),
         (
             Refusal::Descriptor(DescError::Reserved),
             "refused 2 reserved\n",

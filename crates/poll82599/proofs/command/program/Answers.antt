@@ -1,7 +1,7 @@
-use Rattle.std.proofs.Common.{rules, ◌≡◌, ◌∙◌, ap, ap₂, refl}
+use Rattle.std.proofs.Common.{rules, ◌≡◌, ◌∙◌, ap, ap₂}
 use Rattle.std.proofs.lemmas.Result.{IfOk-weaker}
 use Rattle.clap.specs.Words.{App, app_of, with_subcommand}
-use Rattle.poll82599.specs.CommandLine.{bare_app, decode_app, once_app}
+use Rattle.poll82599.specs.CommandLine.{bare_app}
 use Rattle.poll82599.proofs.command.program.Goals as goal
 
 pub returns : goal.returns
