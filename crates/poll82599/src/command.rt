@@ -7,7 +7,8 @@ ghost use Rattle.clap.specs.declared.builder.command.Command.TheViews.{out-Comma
 ghost use Rattle.clap.specs.declared.error.kind.ErrorKind.TheVariants.{OutOfMemory};
 ghost use Rattle.poll82599.specs.declared.decode.Form.{Form};
 ghost use Rattle.poll82599.specs.CommandLine.{IsDecodeApp, IsProgram, choice_rule, hex_rule, once_app};
-ghost use Rattle.poll82599.specs.CommandLine.{HasDecode, HasOnce, IsDecode, IsMistake, IsMisuse, IsOnce, SaysDecode, SaysOnce};
+ghost use Rattle.poll82599.specs.CommandLine.{HasDecode, IsDecode, SaysDecode};
+ghost use Rattle.poll82599.specs.CommandLine.{HasOnce, IsMistake, IsMisuse, IsOnce, SaysOnce};
 
 use crate::decode::Form;
 use clap::error::ErrorKind;

@@ -12,6 +12,13 @@ use std::thread::Threads;
 
 const FRAME: &str = "000102030405060708090a0b0c0d";
 
+const FORMS: [(&str, &str); 4] = [
+    ("rx", "read"),
+    ("rx", "back"),
+    ("tx", "read"),
+    ("tx", "back"),
+];
+
 // 60 bytes that end their frame, written back.
 const RX_BACK: &str = "0000000000000000030000003c000000";
 
@@ -20,6 +27,15 @@ const RX_READ: &str = "00f8ff07000000000000000000000000";
 
 // Buffer 5 with a whole frame of 60 bytes, to be reported.
 const TX_READ: &str = "00280000000000003c00302b00000f00";
+
+// The same digits in upper case.
+const TX_READ_UPPER_CASE: &str = "00280000000000003C00302B00000F00";
+
+// DTYP 2, which is a context descriptor.
+const TX_CONTEXT: &str = "00280000000000003c00202b00000f00";
+
+// A write-back of no bytes.
+const RX_BACK_EMPTY: &str = "00000000000000000300000000000000";
 
 const TX_BACK: &str = "00000000000000000000000001000000";
 
@@ -142,90 +158,94 @@ fn frames_come_out_and_refusals_have_numbers(rt: HostRuntime) -> Result<(), Fail
     Ok(())
 }
 
+/// The status of `decode` with these words, and what it writes to the output and to the faults.
+fn decoded<R: Threads + Wait + Sync>(
+    rt: &R,
+    alloc: Global,
+    (ring, format): (&str, &str),
+    digits: &str,
+) -> Result<(u8, Vec<u8>, Vec<u8>), AllocError> {
+    let (mut output, mut faults) = (Vec::new(alloc), Vec::new(alloc));
+    let words = ["decode", ring, format, digits];
+    let status = status_of(rt, alloc, &words, &mut output, &mut faults)?;
+    Ok((status, output, faults))
+}
+
 #[test]
-fn descriptors_are_decoded_and_refusals_have_numbers(rt: HostRuntime) -> Result<(), Fail> {
+fn descriptors_are_decoded(rt: HostRuntime) -> Result<(), Fail> {
     let alloc = rt.alloc();
-    let short = digits_of(alloc, "00", 15)?;
-    let short = short.as_str();
-    let long = digits_of(alloc, "00", 17)?;
-    let whole = "buffer 5 length 60 eop 1 rs 1 paylen 60\n";
+    let line = "buffer 5 length 60 eop 1 rs 1 paylen 60\n";
     let table = [
-        ("rx", "back", RX_BACK, 0, "dd 1 eop 1 length 60\n"),
-        ("tx", "read", TX_READ, 0, whole),
-        ("tx", "read", "00280000000000003C00302B00000F00", 0, whole),
-        ("tx", "back", TX_BACK, 0, "dd 1\n"),
-        ("rx", "read", RX_READ, 0, "buffer 65535\n"),
-        (
-            "rx",
-            "read",
-            "00F8FF07000000000000000000000000",
-            0,
-            "buffer 65535\n",
-        ),
-        (
-            "tx",
-            "read",
-            "00280000000000003c00202b00000f00",
-            1,
-            "refused 3 type\n",
-        ),
-        ("rx", "read", RX_BACK, 1, "refused 2 reserved\n"),
-        ("rx", "back", RX_READ, 1, "refused 2 reserved\n"),
-        ("tx", "back", TX_READ, 1, "refused 2 reserved\n"),
-        (
-            "rx",
-            "back",
-            "00000000000000000300000000000000",
-            1,
-            "refused 4 size\n",
-        ),
-        ("rx", "read", short, 1, "refused 1 length\n"),
-        ("rx", "back", short, 1, "refused 1 length\n"),
-        ("tx", "read", short, 1, "refused 1 length\n"),
-        ("tx", "back", short, 1, "refused 1 length\n"),
-        ("tx", "back", long.as_str(), 1, "refused 1 length\n"),
-        ("rx", "back", "", 1, "refused 1 length\n"),
-        ("rx", "back", "0", 1, "refused 81 hex\n"),
-        (
-            "rx",
-            "back",
-            "0000000000000000030000003c00000",
-            1,
-            "refused 81 hex\n",
-        ),
-        (
-            "tx",
-            "read",
-            "00280000000000003c00302b00000f0g",
-            1,
-            "refused 81 hex\n",
-        ),
-        (
-            "tx",
-            "read",
-            "00280000000000003c00302b00000f0G",
-            1,
-            "refused 81 hex\n",
-        ),
-        (
-            "tx",
-            "back",
-            "0x000000000000000000000001000000",
-            1,
-            "refused 81 hex\n",
-        ),
+        (("rx", "back"), RX_BACK, "dd 1 eop 1 length 60\n"),
+        (("tx", "read"), TX_READ, line),
+        (("tx", "read"), TX_READ_UPPER_CASE, line),
+        (("tx", "back"), TX_BACK, "dd 1\n"),
+        (("rx", "read"), RX_READ, "buffer 65535\n"),
     ];
-    for (ring, format, digits, status, printed) in table {
-        let (mut output, mut faults) = (Vec::new(alloc), Vec::new(alloc));
-        let words = ["decode", ring, format, digits];
-        let answered = status_of(&rt, alloc, &words, &mut output, &mut faults)?;
-        assert_eq!(rt; answered, status, "at {words:?}");
-        let (written, empty) = match status {
-            0 => (output, faults),
-            _ => (faults, output),
-        };
-        assert_eq!(rt; written.as_slice(), printed.as_bytes(), "at {words:?}");
-        assert!(rt; empty.is_empty(), "at {words:?}");
+    for (form, digits, line) in table {
+        let (status, output, faults) = decoded(&rt, alloc, form, digits)?;
+        assert_eq!(rt; status, 0, "at {digits}");
+        assert_eq!(rt; output.as_slice(), line.as_bytes(), "at {digits}");
+        assert!(rt; faults.is_empty(), "at {digits}");
+    }
+    Ok(())
+}
+
+#[test]
+fn bytes_of_another_form_are_refused(rt: HostRuntime) -> Result<(), Fail> {
+    let alloc = rt.alloc();
+    let table = [
+        (("tx", "read"), TX_CONTEXT, "refused 3 type\n"),
+        (("rx", "back"), RX_BACK_EMPTY, "refused 4 size\n"),
+        (("rx", "read"), RX_BACK, "refused 2 reserved\n"),
+        (("rx", "back"), RX_READ, "refused 2 reserved\n"),
+        (("tx", "back"), TX_READ, "refused 2 reserved\n"),
+    ];
+    for (form, digits, refused) in table {
+        let (status, output, faults) = decoded(&rt, alloc, form, digits)?;
+        assert_eq!(rt; status, 1, "at {digits}");
+        assert!(rt; output.is_empty(), "at {digits}");
+        assert_eq!(rt; faults.as_slice(), refused.as_bytes(), "at {digits}");
+    }
+    Ok(())
+}
+
+/// Whether each form refuses these digits by this line, and prints nothing.
+fn each_form_refuses<R: Threads + Wait + Sync>(
+    rt: &R,
+    alloc: Global,
+    digits: &str,
+    line: &str,
+) -> Result<bool, AllocError> {
+    for form in FORMS {
+        let (status, output, faults) = decoded(rt, alloc, form, digits)?;
+        if status != 1 || !output.is_empty() || faults.as_slice() != line.as_bytes() {
+            return Ok(false);
+        }
+    }
+    Ok(true)
+}
+
+#[test]
+fn digits_of_no_descriptor_are_refused_in_each_form(rt: HostRuntime) -> Result<(), Fail> {
+    let alloc = rt.alloc();
+    let fifteen = digits_of(alloc, "00", 15)?;
+    let seventeen = digits_of(alloc, "00", 17)?;
+    let table = [
+        ("", "refused 1 length\n"),
+        (fifteen.as_str(), "refused 1 length\n"),
+        (seventeen.as_str(), "refused 1 length\n"),
+        ("0", "refused 81 hex\n"),
+        ("0000000000000000030000003c00000", "refused 81 hex\n"),
+        ("00280000000000003c00302b00000f0g", "refused 81 hex\n"),
+        ("00280000000000003c00302b00000f0G", "refused 81 hex\n"),
+        ("0x000000000000000000000001000000", "refused 81 hex\n"),
+    ];
+    for (digits, refused) in table {
+        assert!(rt;
+            each_form_refuses(&rt, alloc, digits, refused)?,
+            "at {digits}"
+        );
     }
     Ok(())
 }
