@@ -1,4 +1,7 @@
 pub mod CommandLine
+pub mod DecodeWords
+pub mod Decoded
 pub mod Ends
+pub mod OnceWords
 pub mod Passed
 pub mod Unmade

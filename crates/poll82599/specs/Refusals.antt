@@ -1,14 +1,16 @@
 -- The numbers of refusals, and what they are for.
 use Rattle.std.specs.Prelude.{◌≡◌, ◌⊎◌, ℕ}
 use Rattle.poll82599.specs.declared.refusal.Refusal.{Refusal}
-use Rattle.poll82599.specs.declared.refusal.Refusal.TheVariants.{Ring, Stock, FrameLength, Thread, Hex, Input, Memory, Output}
+use Rattle.poll82599.specs.declared.refusal.Refusal.TheVariants.{Descriptor, Ring, Stock, FrameLength, Thread, Hex, Input, Memory, Output}
+use Rattle.descriptor.specs.Refusal.{refusal_number as descriptor_number}
 use Rattle.rx_ring.specs.declared.error.RingError.TheVariants.{Memory as RingMemory}
 use Rattle.rx_ring.specs.Refusal.{refusal_number as ring_number}
 use Rattle.buffer_pool.specs.declared.error.PoolError.TheVariants.{Memory as StockMemory}
 use Rattle.buffer_pool.specs.Refusal.{refusal_number as stock_number}
 
--- a ring and a stock have numbers of their own
+-- a descriptor, a ring and a stock have numbers of their own
 abbrev pub refusal_number : Refusal → ℕ
+refusal_number (Descriptor error) = descriptor_number error
 refusal_number (Ring error) = ring_number error
 refusal_number (Stock error) = stock_number error
 refusal_number FrameLength = 41

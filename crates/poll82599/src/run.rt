@@ -4,11 +4,14 @@ ghost use Rattle.std.specs.String.{string_bytes};
 ghost use Rattle.std.specs.Io.KnownBytes.{Appends, Keeps};
 ghost use Rattle.clap.specs.Words.{kind_of};
 ghost use Rattle.clap.specs.declared.error.kind.ErrorKind.TheVariants.{OutOfMemory};
-ghost use Rattle.poll82599.specs.Answers.{answer_of, line_of, Ends, IsPrinted, IsRefused};
-ghost use Rattle.poll82599.specs.CommandLine.{SaysOnce};
+ghost use Rattle.poll82599.specs.Answers.{line_of, once_answer, Ends, EndsDecode, IsPrinted, IsRefused};
+ghost use Rattle.poll82599.specs.Answers.{Prints, PrintsDecoded, Refuses, RefusesDecoded};
+ghost use Rattle.poll82599.specs.CommandLine.{IsMistake, IsMisuse, SaysDecode, SaysOnce};
 ghost use Rattle.poll82599.specs.Frame.{frame_in};
+ghost use Rattle.poll82599.specs.declared.decode.Form.{Form};
 
 use crate::command::{Request, request_of};
+use crate::decode::{Form, decode};
 use crate::frame::frame_of;
 use crate::once::once;
 use crate::refusal::Refusal;
@@ -43,8 +46,12 @@ pub fn run<R: Threads + Wait + Sync, I: Read, W: Write, E: Write>(
     ensures status { (result ≡ DONE) ⊎ (result ≡ REFUSED) ⊎ (result ≡ MISUSED) }
     ensures done { result ≡ DONE → Keeps (E.contents faults.old) (E.contents faults.new) }
     ensures misused { result ≡ MISUSED → Keeps (W.contents output.old) (W.contents output.new) }
+    ensures misuse { IsMisuse (map string_bytes words.now)
+        → ((result ≡ MISUSED) ⊎ (result ≡ REFUSED)) × Keeps (W.contents output.old) (W.contents output.new) }
     ensures once { (digits : List ℕ) → SaysOnce (map string_bytes words.now) digits
         → Ends (frame_in digits) result (W.contents output.old) (W.contents output.new) }
+    ensures decode { (form : Form) (digits : List ℕ) → SaysDecode (map string_bytes words.now) form digits
+        → EndsDecode form digits result (W.contents output.old) (W.contents output.new) }
 {
     let request = match request_of(alloc, words) {
         Ok(request) => request,
@@ -63,17 +70,44 @@ pub fn perform<R: Threads + Wait + Sync, W: Write>(
     request: Request<'_>,
     output: &mut W,
 ) -> Result<(), Refusal>
-    ensures done { OnOk result (IsPrinted (answer_of request.entry) (W.contents output.old) (W.contents output.new)) }
-    ensures refused { IfErr result (λ e.
-        IsRefused (answer_of request.entry) e (W.contents output.old) (W.contents output.new)) }
+    ensures done { OnOk result (Prints request.entry (W.contents output.old) (W.contents output.new)) }
+    ensures refused { IfErr result (λ e. Refuses request.entry e (W.contents output.old) (W.contents output.new)) }
 {
     match request {
-        Request::Once { digits } => {
-            let frame = frame_of(alloc, digits)?;
-            let passage = once(rt, alloc, frame.as_slice())?;
-            print_frame(alloc, passage.buf.bytes(), output)
-        }
+        Request::Once { digits } => print_passed(rt, alloc, digits, output),
+        Request::Decode { form, digits } => print_decoded(alloc, form, digits, output),
     }
+}
+
+/// Passes a frame, and prints what was taken.
+fn print_passed<R: Threads + Wait + Sync, W: Write>(
+    rt: &R,
+    alloc: Global,
+    digits: &str,
+    output: &mut W,
+) -> Result<(), Refusal>
+    ensures done { OnOk result (IsPrinted (once_answer digits.now) (W.contents output.old) (W.contents output.new)) }
+    ensures refused { IfErr result (λ e.
+        IsRefused (once_answer digits.now) e (W.contents output.old) (W.contents output.new)) }
+{
+    let frame = frame_of(alloc, digits)?;
+    let passage = once(rt, alloc, frame.as_slice())?;
+    print_frame(alloc, passage.buf.bytes(), output)
+}
+
+/// Prints the line of a descriptor.
+fn print_decoded<W: Write>(
+    alloc: Global,
+    form: Form,
+    digits: &str,
+    output: &mut W,
+) -> Result<(), Refusal>
+    ensures done { OnOk result (PrintsDecoded form digits.now (W.contents output.old) (W.contents output.new)) }
+    ensures refused { IfErr result (λ e.
+        RefusesDecoded form digits.now e (W.contents output.old) (W.contents output.new)) }
+{
+    let line = decode(alloc, form, digits)?;
+    print(line.as_str(), output)
 }
 
 /// Prints a frame as lower case hex digits, in a line of its own.
@@ -84,8 +118,16 @@ fn print_frame<W: Write>(alloc: Global, frame: &[u8], output: &mut W) -> Result<
 {
     let mut line = hex::encode(alloc, frame)?;
     line.push('\n')?;
+    print(line.as_str(), output)
+}
+
+/// Prints a text.
+fn print<W: Write>(text: &str, output: &mut W) -> Result<(), Refusal>
+    ensures done { OnOk result (Appends (W.contents output.old) (W.contents output.new) text.now) }
+    ensures refused { IfErr result (λ e. e ≡ Refusal.Output) }
+{
     output
-        .write_all(line.as_str().as_bytes())
+        .write_all(text.as_bytes())
         .map_err(|_| Refusal::Output)?;
     output.flush().map_err(|_| Refusal::Output)
 }
@@ -104,6 +146,7 @@ fn tell<W: Write, E: Write>(error: &clap::Error, output: &mut W, faults: &mut E)
     ensures status { (result ≡ DONE) ⊎ (result ≡ REFUSED) ⊎ (result ≡ MISUSED) }
     ensures done { result ≡ DONE → Keeps (E.contents faults.old) (E.contents faults.new) }
     ensures misused { result ≡ MISUSED → Keeps (W.contents output.old) (W.contents output.new) }
+    ensures mistake { IsMistake (kind_of error.now) → result ≡ MISUSED }
     ensures memory { kind_of error.now ≡ OutOfMemory
         → (result ≡ REFUSED) × Keeps (W.contents output.old) (W.contents output.new) }
 {
