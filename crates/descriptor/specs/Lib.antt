@@ -2,4 +2,5 @@ pub mod Address
 pub mod Layout
 pub mod Receive
 pub mod Refusal
+pub mod Texts
 pub mod Transmit

@@ -141,6 +141,11 @@ fn second_word_of(len: u16, eop: bool) -> u64
 
 /// What a program prints of it, as `dd 1 eop 1 length 60`.
 impl fmt::Display for RxBack {
+    ghost use Rattle.std.specs.Prelude.{Some};
+    ghost use Rattle.descriptor.specs.Texts.{rx_back_text};
+
+    ghost output = { λ d. Some (rx_back_text d) };
+
     fn fmt<W: fmt::Write>(&self, f: &mut fmt::Formatter<W>) -> fmt::Result {
         write!(f, "dd 1 eop {} length {}", u8::from(self.eop), self.len)
     }

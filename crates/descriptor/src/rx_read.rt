@@ -77,6 +77,11 @@ impl RxRead {
 
 /// What a program prints of it, as `buffer 5`.
 impl fmt::Display for RxRead {
+    ghost use Rattle.std.specs.Prelude.{Some};
+    ghost use Rattle.descriptor.specs.Texts.{rx_read_text};
+
+    ghost output = { λ d. Some (rx_read_text d) };
+
     fn fmt<W: fmt::Write>(&self, f: &mut fmt::Formatter<W>) -> fmt::Result {
         write!(f, "buffer {}", self.number)
     }

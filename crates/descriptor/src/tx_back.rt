@@ -81,6 +81,11 @@ impl TxBack {
 
 /// What a program prints of it: `dd 1`.
 impl fmt::Display for TxBack {
+    ghost use Rattle.std.specs.Prelude.{Some};
+    ghost use Rattle.descriptor.specs.Texts.{tx_back_text};
+
+    ghost output = { λ d. Some (tx_back_text d) };
+
     fn fmt<W: fmt::Write>(&self, f: &mut fmt::Formatter<W>) -> fmt::Result {
         write!(f, "dd 1")
     }

@@ -174,6 +174,11 @@ impl TxRead {
 
 /// What a program prints of it, as `buffer 5 length 60 eop 1 rs 1 paylen 60`.
 impl fmt::Display for TxRead {
+    ghost use Rattle.std.specs.Prelude.{Some};
+    ghost use Rattle.descriptor.specs.Texts.{tx_read_text};
+
+    ghost output = { λ d. Some (tx_read_text d) };
+
     fn fmt<W: fmt::Write>(&self, f: &mut fmt::Formatter<W>) -> fmt::Result {
         let (eop, rs) = (u8::from(self.eop), u8::from(self.rs));
         let (number, len, paylen) = (self.number, self.len, self.paylen);

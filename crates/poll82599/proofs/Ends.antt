@@ -1,5 +1,5 @@
 -- What the records of the two ends amount to, from their making on.
-use Rattle.std.proofs.Common.{◌≡◌, ◌∙◌, ℕ, ◌+◌, ◌<◌, List, [], ◌∷◌, ◌++◌, length, ap, true, None, refl, arith}
+use Rattle.std.proofs.Common.{◌≡◌, ◌∙◌, ℕ, List, [], ◌∷◌, ◌++◌, length, ap}
 use Rattle.atomic_table.specs.Seated.{TableId}
 use Rattle.ring_machine.specs.declared.states.DriverState.TheVariants.{On}
 use Rattle.ring_machine.specs.Ring.{Bytes, Segment, is_serving}

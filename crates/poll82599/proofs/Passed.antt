@@ -5,7 +5,7 @@ use Rattle.buffer_pool.specs.Buffer.{Buffer}
 use Rattle.ring_machine.specs.Lists.{IsBeginning}
 use Rattle.ring_machine.specs.Ring.{Bytes, Segment}
 use Rattle.ring_machine.specs.Lawful.{IsLawfulRxLedger}
-use Rattle.rx_ring.specs.Ends.{DriverSide, ControllerSide, driver_size, taken, stored, ledger_of}
+use Rattle.rx_ring.specs.Ends.{DriverSide, ControllerSide, driver_size, stored, ledger_of}
 use Rattle.poll82599.specs.Passing.{whole, TookOne, StoredOnly, HasPassed}
 
 no_more : {X : Type 0} (xs rest : List X) → xs ++ rest ≡ [] → xs ≡ []

@@ -1,7 +1,6 @@
 -- Why a ring of eight and a stock of sixteen are refused: for memory alone.
-use Rattle.std.proofs.Common.{◌≡◌, ap, refl, inl, inr, arith}
+use Rattle.std.proofs.Common.{◌≡◌, refl, inl, inr, arith}
 use lib.Count.{ones}
-use Rattle.std.specs.Prelude.{IsTrue, ◌⊎◌, ◌<◌, ◌+◌}
 use Rattle.buffer_pool.specs.declared.error.PoolError.{PoolError}
 use Rattle.buffer_pool.specs.declared.error.PoolError.TheVariants as pool
 use Rattle.rx_ring.specs.declared.error.RingError.{RingError}

@@ -1,8 +1,14 @@
 -- The program's command line, as clap reads it.
-use Rattle.std.specs.Prelude.{◌≡◌, ◌≢◌, ℕ, true, List, [], ◌∷◌, codes, slice_index}
-use Rattle.clap.specs.Words.{App, Rule, Text, new_app, new_rule, with_rule, with_subcommand}
+use Rattle.std.specs.Prelude.{◌≡◌, ◌≢◌, true, List, [], ◌∷◌, codes, map, slice_index, Some, All}
+use Rattle.std.specs.Borrow.{Bor}
+use Rattle.clap.specs.Words.{App, Kinds, Row, Rule, Text, fault_of, first_of, new_app, new_rule, with_rule, with_subcommand}
+use Rattle.clap.specs.declared.builder.value_parser.ValueParser.TheVariants.{Names}
+use Rattle.clap.specs.declared.error.kind.ErrorKind.{ErrorKind}
+use Rattle.clap.specs.declared.error.kind.ErrorKind.TheVariants.{DisplayHelp, DisplayVersion, OutOfMemory}
 use Rattle.poll82599.specs.declared.command.Request.{Request}
-use Rattle.poll82599.specs.declared.command.Request.TheVariants.{Once}
+use Rattle.poll82599.specs.declared.command.Request.TheVariants.{Once, Decode}
+use Rattle.poll82599.specs.declared.decode.Form.{Form}
+use Rattle.poll82599.specs.Decoding.{ring_word, format_word}
 
 -- the argument of `once`
 abbrev pub hex_rule : Rule
@@ -16,14 +22,77 @@ once_app = with_rule (new_app (codes "once")) hex_rule
 abbrev pub bare_app : App
 bare_app = let new = new_app (codes "poll82599") in record new { top = record new.top { no_binary_name = true; subcommand_required = true } }
 
-abbrev pub program_app : App
-program_app = with_subcommand bare_app once_app.top
+-- a list of the words that an argument may be
+abbrev pub Choices : Type 0
+Choices = Bor (List (Bor Text))
+
+-- an argument that is one of them
+abbrev pub choice_rule : Text → Choices → Rule
+choice_rule id choices = record (new_rule id) { value_names = 1; required = true; parser = Some (Names choices) }
+
+-- the command `decode`
+abbrev pub decode_app : Choices → Choices → App
+decode_app rings formats =
+    let with_ring = with_rule (new_app (codes "decode")) (choice_rule (codes "ring") rings) in
+    with_rule (with_rule with_ring (choice_rule (codes "format") formats)) hex_rule
+
+abbrev pub program_app : Choices → Choices → App
+program_app rings formats = with_subcommand (with_subcommand bare_app once_app.top) (decode_app rings formats).top
+
+-- the command line is this one. clap keeps a list of choices by its address too, which is any
+pub record HasChoices (with_choices : Choices → Choices → App) (app : App) : Type 0 where
+  pub rings : Choices
+  pub formats : Choices
+  pub rings_are : map (λ word. word.now) rings.now ≡ codes "rx" ∷ codes "tx" ∷ []
+  pub formats_are : map (λ word. word.now) formats.now ≡ codes "read" ∷ codes "back" ∷ []
+  pub app_is : app ≡ with_choices rings formats
+
+abbrev pub IsDecodeApp : App → Type 0
+IsDecodeApp = HasChoices decode_app
+
+abbrev pub IsProgram : App → Type 0
+IsProgram = HasChoices program_app
 
 -- the words are `once` and its argument, which does not begin with a hyphen, as an option does
 pub record SaysOnce (words : List Text) (digits : Text) : Type 0 where
   pub words_are : words ≡ codes "once" ∷ digits ∷ []
   pub no_option : slice_index digits 0 ≢ 45
 
+-- the words are `decode`, those of a form, and digits that do not begin with a hyphen
+pub record SaysDecode (words : List Text) (form : Form) (digits : Text) : Type 0 where
+  pub words_are : words ≡ codes "decode" ∷ ring_word form ∷ format_word form ∷ digits ∷ []
+  pub no_option : slice_index digits 0 ≢ 45
+
+-- the values of the arguments
+abbrev pub HasOnce : List Row → Text → Type 0
+HasOnce rows digits = first_of (codes "hex") rows ≡ Some digits
+
+pub record HasDecode (rows : List Row) (form : Form) (digits : Text) : Type 0 where
+  pub ring : first_of (codes "ring") rows ≡ Some (ring_word form)
+  pub format : first_of (codes "format") rows ≡ Some (format_word form)
+  pub hex : first_of (codes "hex") rows ≡ Some digits
+
 -- what is asked for is `once` of these digits
 abbrev pub IsOnce : Request → Text → Type 0
 IsOnce (Once given) digits = given.now ≡ digits
+IsOnce request digits = ⊥
+
+-- it is `decode` of these digits in this form
+abbrev pub IsDecode : Request → Form → Text → Type 0
+IsDecode (Decode named given) form digits = (named ≡ form) × (given.now ≡ digits)
+IsDecode request form digits = ⊥
+
+-- a mistake in the words, which is neither a call for help nor want of memory
+pub record IsMistake (kind : ErrorKind) : Type 0 where
+  pub no_help : kind ≢ DisplayHelp
+  pub no_version : kind ≢ DisplayVersion
+  pub no_memory : kind ≢ OutOfMemory
+
+-- there is a fault, and it is a mistake
+abbrev pub AreMistakes : Kinds → Type 0
+AreMistakes [] = ⊥
+AreMistakes (kind ∷ kinds) = All IsMistake (kind ∷ kinds)
+
+-- the words are no command line of the program
+abbrev pub IsMisuse : List Text → Type 0
+IsMisuse words = (app : App) → IsProgram app → AreMistakes (fault_of app words)

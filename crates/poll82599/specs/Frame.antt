@@ -1,10 +1,9 @@
 -- The frame that an argument of hex digits says.
 use Rattle.std.specs.Prelude.{ℕ, ◌≤◌, ◌&&◌, nat_le, if◌then◌else◌, List, length, Result, Ok, Err}
-use Rattle.hex.specs.Hex.{decode_of}
-use Rattle.hex.specs.declared.error.FromHexError.{FromHexError}
 use Rattle.ring_machine.specs.declared.limits.TheConstants.{BUFFER_BYTES, LEAST_FRAME}
 use Rattle.poll82599.specs.declared.refusal.Refusal.{Refusal}
-use Rattle.poll82599.specs.declared.refusal.Refusal.TheVariants.{FrameLength, Hex}
+use Rattle.poll82599.specs.declared.refusal.Refusal.TheVariants.{FrameLength}
+use Rattle.poll82599.specs.Digits.{bytes_in}
 
 -- at least an Ethernet header, and no more than a buffer has room for
 abbrev pub IsFrameLength : ℕ → Type 0
@@ -16,8 +15,8 @@ framed bytes = if nat_le LEAST_FRAME (length bytes) && nat_le (length bytes) BUF
 
 -- what the digits say, but for memory: the frame of pairs of digits of either case, or why there is none
 abbrev pub frame_in : List ℕ → Result (List ℕ) Refusal
-frame_in digits = read (decode_of digits)
+frame_in digits = read (bytes_in digits)
   where
-    read : Result (List ℕ) FromHexError → Result (List ℕ) Refusal
+    read : Result (List ℕ) Refusal → Result (List ℕ) Refusal
     read (Ok bytes) = framed bytes
-    read (Err error) = Err Hex
+    read (Err refusal) = Err refusal

@@ -5,7 +5,9 @@ use Rattle.buffer_pool.specs.Buffer.{Buffer}
 use Rattle.ring_machine.specs.Lists.{IsBeginning}
 use Rattle.ring_machine.specs.Ring.{Bytes, Segment, is_serving}
 use Rattle.ring_machine.specs.Lawful.{IsLawfulRxLedger}
-use Rattle.rx_ring.specs.Ends.{DriverSide, ControllerSide, driver_size, taken, stored, held_number, controller_state, is_quiet, ledger_of}
+use Rattle.rx_ring.specs.Rule.{IsRingLength}
+use Rattle.rx_ring.specs.Ends.{DriverSide, ControllerSide, IsFreshDriver, IsFreshController, driver_size, taken, stored, held_number, controller_state, is_quiet, ledger_of}
+use Rattle.poll82599.specs.Frame.{IsFrameLength}
 
 -- a stock has a buffer for each place of a ring of n
 abbrev pub HasBuffers : ℕ → List ℕ → Type 0
@@ -14,6 +16,14 @@ HasBuffers n numbers = n ≤ length numbers
 -- the segment that is a whole frame, in the buffer with this number
 abbrev pub whole : ℕ → Bytes → Segment Bytes
 whole number frame = record { number = number; payload = frame; eop = true }
+
+-- two ends of the ring have done nothing yet, and there are buffers and a frame for them
+pub record CanPass (ring : TableId) (driver : DriverSide) (controller : ControllerSide) (numbers : List ℕ) (frame : Bytes) : Type 0 where
+  pub size : IsRingLength ring.slots
+  pub fresh_driver : IsFreshDriver ring driver
+  pub fresh_controller : IsFreshController ring controller
+  pub buffers : HasBuffers ring.slots numbers
+  pub frame_length : IsFrameLength (length frame)
 
 -- the driver took one segment at the ring, and its bytes are in the buffer
 pub record TookOne (ring : TableId) (driver : DriverSide) (buf : Buffer) : Type 0 where

@@ -2,8 +2,8 @@
 ghost use Rattle.std.specs.Prelude.{◌≡◌, ◌⊎◌, IfOk, IfErr};
 ghost use Rattle.poll82599.specs.Frame.{frame_in};
 
+use crate::digits::bytes_of;
 use crate::refusal::Refusal;
-use hex::FromHexError;
 use ring_machine::{BUFFER_BYTES, LEAST_FRAME};
 use std::alloc::Global;
 
@@ -15,11 +15,7 @@ pub fn frame_of(alloc: Global, digits: &str) -> Result<Vec<u8>, Refusal>
     ensures ok { IfOk result (λ frame. frame_in digits.now ≡ Ok frame.items) }
     ensures err { IfErr result (λ e. (e ≡ Refusal.Memory) ⊎ (frame_in digits.now ≡ Err e)) }
 {
-    let frame = match hex::decode(alloc, digits) {
-        Ok(frame) => frame,
-        Err(FromHexError::OutOfMemory) => return Err(Refusal::Memory),
-        Err(_) => return Err(Refusal::Hex),
-    };
+    let frame = bytes_of(alloc, digits)?;
     if frame.len() < LEAST_FRAME || BUFFER_BYTES < frame.len() {
         return Err(Refusal::FrameLength);
     }

@@ -1,12 +1,14 @@
 //! The program `poll82599`: both sides of the 82599's descriptor rings, in one process.
 //!
 //! `main` gives the command line and the three standard streams to `run`, and ends with the status that it answers.
-//! All else stands in modules that know their runtime by its bounds alone: `command` reads the command line, `frame`
-//! an argument of hex digits, `once` passes a frame through a receive ring between two threads, and `run` prints what
-//! came of it.
+//! All else stands in modules that know their runtime by its bounds alone: `command` reads the command line, `digits`
+//! and `frame` an argument of hex digits, `once` passes a frame through a receive ring between two threads, `decode`
+//! makes the line of a descriptor, and `run` prints what came of it.
 #![tactic(auto)]
 
 mod command;
+mod decode;
+mod digits;
 mod frame;
 mod once;
 mod refusal;

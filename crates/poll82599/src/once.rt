@@ -1,11 +1,11 @@
 //! One frame through a receive ring, whose two ends are in threads of their own.
-ghost use Rattle.std.specs.Prelude.{◌≡◌, ◌+◌, ◌<◌, ◌≤◌, true, [], ◌∷◌, ◌++◌, length, Bool, IfOk, IfErr};
-ghost use Rattle.ring_machine.specs.Ring.{is_live, is_open, is_serving};
+ghost use Rattle.std.specs.Prelude.{◌≡◌, ◌+◌, ◌<◌, true, [], ◌∷◌, ◌++◌, length, Bool, IfOk, IfErr};
+ghost use Rattle.ring_machine.specs.Ring.{is_live};
 ghost use Rattle.rx_ring.specs.Rule.{IsRingLength};
-ghost use Rattle.rx_ring.specs.Ends.{controller_size, controller_state, driver_size, driver_state, held_number, known_free, posted, stored, taken, IsFreshController, IsFreshDriver};
+ghost use Rattle.rx_ring.specs.Ends.{driver_state, known_free, posted, taken, IsFreshController, IsFreshDriver};
 ghost use Rattle.poll82599.specs.Frame.{IsFrameLength};
 ghost use Rattle.poll82599.specs.Refusals.{IsUnmade};
-ghost use Rattle.poll82599.specs.Passing.{CanServe, HasBuffers, HasPassed, StoredOnly, TookOne};
+ghost use Rattle.poll82599.specs.Passing.{CanPass, CanServe, HasBuffers, HasPassed, StoredOnly, TookOne};
 
 use crate::refusal::Refusal;
 use buffer_pool::{Buf, Stock};
@@ -84,11 +84,7 @@ fn in_threads<R: Threads + Wait + Sync>(
     stock: Stock,
     frame: &[u8],
 ) -> Result<(Reception, RxControllerEnd), Refusal>
-    requires size { IsRingLength ring.now.slots }
-    requires driver { IsFreshDriver ring.now driver }
-    requires controller { IsFreshController ring.now controller }
-    requires stock { HasBuffers ring.now.slots stock.numbers }
-    requires frame { IsFrameLength (length frame.now) }
+    requires { CanPass ring.now driver controller stock.numbers frame.now }
     ensures driver { IfOk result (λ ends. TookOne ring.now ends.0.driver ends.0.buf) }
     ensures controller { IfOk result (λ ends. StoredOnly ring.now frame.now ends.1) }
     ensures refused { IfErr result (λ e. e ≡ Refusal.Thread) }
@@ -99,11 +95,7 @@ fn in_threads<R: Threads + Wait + Sync>(
         thread::scope_env(),
         rt,
         move |scope| -> Result<(Reception, RxControllerEnd), Refusal>
-            requires size { IsRingLength ring.now.slots }
-            requires driver { IsFreshDriver ring.now driver }
-            requires controller { IsFreshController ring.now controller }
-            requires stock { HasBuffers ring.now.slots stock.numbers }
-            requires frame { IsFrameLength (length frame.now) }
+            requires { CanPass ring.now driver controller stock.numbers frame.now }
             ensures driver { IfOk result (λ ends. TookOne ring.entry.now ends.0.driver ends.0.buf) }
             ensures controller { IfOk result (λ ends. StoredOnly ring.entry.now frame.entry.now ends.1) }
             ensures refused { IfErr result (λ e. e ≡ Refusal.Thread) }

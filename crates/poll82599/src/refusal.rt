@@ -1,9 +1,10 @@
 //! Why a command was refused.
 ghost use Rattle.std.specs.Prelude.{◌≡◌};
-ghost use Rattle.poll82599.specs.Refusals.{refusal_number};
-ghost use Rattle.poll82599.specs.declared.refusal.Refusal.TheVariants.{Machine, Ring, Stock, Memory};
+ghost use Rattle.poll82599.specs.Refusals.{refusal_number, refused_line};
+ghost use Rattle.poll82599.specs.declared.refusal.Refusal.TheVariants.{Descriptor, Machine, Ring, Stock, Memory};
 
 use buffer_pool::PoolError;
+use descriptor::DescError;
 use ring_machine::MachineError;
 use rx_ring::RingError;
 use std::alloc::AllocError;
@@ -12,6 +13,9 @@ use thiserror::Error;
 /// Why a command was refused. It is printed as `refused`, its number and its words.
 #[derive(Clone, Copy, Debug, PartialEq, Eq, Error)]
 pub enum Refusal {
+    /// The bytes are not the form of a descriptor.
+    #[error(transparent)]
+    Descriptor(DescError),
     /// The ring refused.
     #[error(transparent)]
     Ring(RingError),
@@ -45,11 +49,12 @@ pub enum Refusal {
 }
 
 impl Refusal {
-    /// The number of the refusal. Those of a ring and of a stock are their own.
+    /// The number of the refusal. Those of a descriptor, a ring and a stock are their own.
     pub fn number(&self) -> u8
         ensures { result ≡ refusal_number self.now }
     {
         match self {
+            Refusal::Descriptor(error) => error.number(),
             Refusal::Ring(error) => error.number(),
             Refusal::Stock(error) => error.number(),
             Refusal::FrameLength => 41,
@@ -61,6 +66,26 @@ impl Refusal {
             Refusal::Memory => 83,
             Refusal::Output => 84,
         }
+    }
+}
+
+impl Refusal {
+    /// The line of the input that is refused, counted from 1, if one is.
+    pub fn line(&self) -> Option<u64>
+        ensures { result ≡ refused_line self.now }
+    {
+        match self {
+            Refusal::Move { line } => Some(*line),
+            _ => None,
+        }
+    }
+}
+
+impl From<DescError> for Refusal {
+    ghost from_gives = { λ error refusal. refusal ≡ Descriptor error };
+
+    fn from(error: DescError) -> Refusal {
+        Refusal::Descriptor(error)
     }
 }
 

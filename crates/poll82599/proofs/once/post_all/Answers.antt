@@ -1,4 +1,4 @@
-use Rattle.std.proofs.Common.{rules, arith}
+use Rattle.std.proofs.Common.{arith}
 use Rattle.poll82599.proofs.Ends.{fresh_posts}
 use Rattle.poll82599.proofs.once.post_all.Goals as goal
 

@@ -1,7 +1,5 @@
-use Rattle.std.proofs.Common.{◌≡◌, ◌∙◌, ap, ◌++◌, ◌∷◌, [], true}
-use Rattle.ring_machine.specs.Ring.{Segment, Bytes}
+use Rattle.std.proofs.Common.{◌∙◌, ap, ◌++◌, ◌∷◌, [], true}
 use Rattle.rx_ring.specs.Ends.{stored}
-use Rattle.poll82599.specs.Passing.{whole}
 use Rattle.poll82599.proofs.Ends.{stored_one}
 use Rattle.poll82599.proofs.once.store.Goals as goal
 
