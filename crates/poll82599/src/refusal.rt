@@ -67,9 +67,7 @@ impl Refusal {
             Refusal::Output => 84,
         }
     }
-}
 
-impl Refusal {
     /// The line of the input that is refused, counted from 1, if one is.
     pub fn line(&self) -> Option<u64>
         ensures { result ≡ refused_line self.now }
