@@ -6,7 +6,7 @@ use Rattle.descriptor.specs.declared.error.DescError.{DescError}
 use Rattle.descriptor.specs.Layout.{Form, KeepsBytes}
 use Rattle.descriptor.specs.Refusal.{IsLowest}
 use Rattle.poll82599.specs.declared.command.Request.{Request}
-use Rattle.poll82599.specs.declared.command.Request.TheVariants.{Once, Decode}
+use Rattle.poll82599.specs.declared.command.Request.TheVariants.{Once, Decode, Replay}
 use Rattle.poll82599.specs.declared.decode.Form as program
 use Rattle.poll82599.specs.declared.refusal.Refusal.{Refusal}
 use Rattle.poll82599.specs.declared.refusal.Refusal.TheVariants.{Descriptor, Memory}
@@ -38,14 +38,16 @@ refuses_ends form digits e old new (inr (Ok line, decoded, refused)) = inl (Ok l
 refuses_ends form digits e old new (inr (Err refusal, decoded, refused)) = inl (Err refusal, decoded, (refl, refused.1))
 
 -- a request that is `decode`, done or refused
-pub decode_done : (request : Request) (form : program.Form) (digits : List ℕ) (old new : Option (List ℕ)) → IsDecode request form digits
-    → Prints request old new → EndsDecode form digits DONE old new
-decode_done (Once given) form digits old new is prints = absurd is
-decode_done (Decode named given) form digits old new is prints =
+pub decode_done : (request : Request) (form : program.Form) (digits : List ℕ) (input old new : Option (List ℕ)) → IsDecode request form digits
+    → Prints request input old new → EndsDecode form digits DONE old new
+decode_done (Once given) form digits input old new is prints = absurd is
+decode_done (Replay plan) form digits input old new is prints = absurd is
+decode_done (Decode named given) form digits input old new is prints =
     subst (λ f. EndsDecode f digits DONE old new) is.0 (subst (λ ds. EndsDecode named ds DONE old new) is.1 (prints_ends named given.now old new prints))
 
-pub decode_refused : (request : Request) (form : program.Form) (digits : List ℕ) (e : Refusal) (old new : Option (List ℕ)) → IsDecode request form digits
-    → Refuses request e old new → EndsDecode form digits REFUSED old new
-decode_refused (Once given) form digits e old new is refuses = absurd is
-decode_refused (Decode named given) form digits e old new is refuses =
+pub decode_refused : (request : Request) (form : program.Form) (digits : List ℕ) (e : Refusal) (input old new : Option (List ℕ)) → IsDecode request form digits
+    → Refuses request input e old new → EndsDecode form digits REFUSED old new
+decode_refused (Once given) form digits e input old new is refuses = absurd is
+decode_refused (Replay plan) form digits e input old new is refuses = absurd is
+decode_refused (Decode named given) form digits e input old new is refuses =
     subst (λ f. EndsDecode f digits REFUSED old new) is.0 (subst (λ ds. EndsDecode named ds REFUSED old new) is.1 (refuses_ends named given.now e old new refuses))

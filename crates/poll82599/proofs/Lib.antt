@@ -6,3 +6,4 @@ pub mod OnceWords
 pub mod Passed
 pub mod Unmade
 pub mod Replaying
+pub mod ReplayEnds

@@ -1,20 +1,26 @@
 -- A list of moves, line after line.
-use Rattle.std.proofs.Common.{◌≡◌, ◌≢◌, ◌⊎◌, inl, inr, ℕ, suc, ◌+◌, ◌≤◌, Bool, true, false, List, [], ◌∷◌, ◌++◌, length, map, Option, Some, None, Result, Ok, Err, sym, refl, ap, ap₂, ◌∙◌, subst, arith, append_assoc, length-append, if◌then◌else◌}
+use Rattle.std.proofs.Common.{◌≡◌, ◌≢◌, ◌⊎◌, ⊎_elim, inl, inr, ◌<◌, ℕ, suc, ◌+◌, ◌≤◌, Bool, true, false, List, [], ◌∷◌, ◌++◌, length, map, Option, Some, None, Result, Ok, Err, sym, refl, ap, ap₂, ◌∙◌, subst, arith, append_assoc, length-append, if◌then◌else◌}
 use Rattle.std.specs.Prelude.{◌↔◌, codes, decimal, All}
 use Rattle.std.specs.List.{filter}
+use Rattle.std.specs.Int.{is_power_of_two}
+use Rattle.std.specs.Io.KnownBytes.{Appends, Keeps}
+use Rattle.std.proofs.lemmas.Bool.{cases_lt}
 use Rattle.std.specs.Option.{ok_or}
-use Rattle.std.specs.Result.{is_ok}
+use Rattle.std.specs.Result.{OnOk, is_ok}
 use Rattle.std.proofs.lemmas.List.{append-nil, map-append}
 use Rattle.std.proofs.lemmas.List.Elements.{All-append, All-cons, All-head, All-nil, All-tail, filter-append}
 use Rattle.ring_machine.specs.declared.queue_moves.Move.{Move}
 use Rattle.ring_machine.specs.declared.notes.Note.{Note}
 use Rattle.ring_machine.specs.declared.error.MachineError.{MachineError}
 use Rattle.ring_machine.specs.declared.error.MachineError.TheVariants as machine
-use Rattle.ring_machine.specs.Worlds.{World, after_move, after_moves, can_move, moves_happened, IsReachableWorld}
-use Rattle.ring_machine.specs.Queues.{QueueParts, QueuesAgree, QueuesDid, QueuesFollow, note_in}
+use Rattle.ring_machine.specs.declared.limits.TheConstants.{LEAST_RING, MOST_PAIRS, MOST_RING}
+use Rattle.ring_machine.specs.declared.states.Completion.{Completion}
+use Rattle.ring_machine.specs.Worlds.{World, opening_world, after_move, after_moves, can_move, moves_happened, IsReachableWorld}
+use Rattle.ring_machine.specs.Queues.{AreQueues, QueueParts, QueuesAgree, QueuesDid, QueuesFollow, note_in}
 use Rattle.ring_machine.specs.MoveTexts.{IsInRange, name_of, note_text, text_of}
 use Rattle.ring_machine.proofs.QueuesRunning.{after_moves-append, did-made, did-refused, moves_happened-append, reached_world}
-use Rattle.poll82599.specs.Replay.{count_line, is_move_line, line_in, lines_in, lines_of, replayed, told_text, IsFaulty, IsMoveList, IsNoMove, IsPageOf, Reads, Says, WroteMove}
+use Rattle.poll82599.specs.declared.replay.QueuePlan.{QueuePlan}
+use Rattle.poll82599.specs.Replay.{count_line, is_move_line, line_in, lines_in, lines_of, replayed, told_text, world_of, HasReplayed, IsFaulty, IsMoveList, IsNoMove, IsPageOf, IsReplay, Reads, Says, WroteMove}
 
 -- what reading a line answers, in words of lists
 pub read-line : (line : List ℕ) (result : Result Move MachineError) → ((m : Move) → (result ≡ Ok m) ↔ (IsInRange m × (line ≡ text_of m))) → is_ok result ≡ true → Reads line
@@ -216,3 +222,37 @@ page-last w pairs n text page whole made read first now reached agrees e p = let
   says = subst (λ (lines : List (List ℕ)). Says lines p.moves) (sym (append-nil p.before) ∙ p.split) p.says;
   printed = e ∙ ap₂ (λ (x y : List ℕ). x ++ y) f.text (ap₂ (λ (x y : ℕ). count_line x y) f.counted p.count);
 }
+
+stable-le : (a b : ℕ) → ((a ≤ b → ⊥) → ⊥) → a ≤ b
+stable-le a b nn = ⊎_elim (λ lt. absurd (nn (λ le. let bad : ⊥ = omega arith in bad))) (λ le. le) (cases_lt b a)
+
+stable-true : (b : Bool) → ((b ≡ true → ⊥) → ⊥) → b ≡ true
+stable-true true nn = refl
+stable-true false nn = absurd (nn (λ e. let bad : ⊥ = cc e in bad))
+
+-- where they were not refused, there can be such queues
+pub are-queues : (pairs n : ℕ) → ((AreQueues pairs n → ⊥) → ⊥) → AreQueues pairs n
+are-queues pairs n nn = (
+    stable-le 1 pairs (λ no. nn (λ a. no a.0)),
+    stable-le pairs MOST_PAIRS (λ no. nn (λ a. no a.1)),
+    (stable-le LEAST_RING n (λ no. nn (λ a. no a.2.0)), stable-le n MOST_RING (λ no. nn (λ a. no a.2.1)), stable-true (is_power_of_two n) (λ no. nn (λ a. no a.2.2))))
+
+opening-reached : (pairs n : ℕ) (enabled : Bool) (completion : Completion) → IsReachableWorld pairs n (opening_world pairs n enabled completion)
+opening-reached pairs n enabled completion = record { enabled = enabled; completion = completion; schedule = []; made = refl }
+
+pub on_ok-map : {X E P Q : Type 0} (result : Result X E) → (P → Q) → OnOk result P → OnOk result Q
+on_ok-map (Ok x) f p = f p
+on_ok-map (Err e) f p = tt
+
+-- the page of the plan's queues, as they are made, was printed
+pub has-replayed : (plan : QueuePlan) (text page : List ℕ) (queues : QueueParts) (old new : Option (List ℕ)) → ((AreQueues plan.pairs plan.ring → ⊥) → ⊥) → QueuesAgree queues (world_of plan)
+    → ((pairs n : ℕ) (w : World) → IsReachableWorld pairs n w → QueuesAgree queues w → IsPageOf w text page) → Appends old new page → HasReplayed plan text old new
+has-replayed plan text page queues old new able agrees is_page printed = let p = is_page plan.pairs plan.ring (world_of plan) (opening-reached plan.pairs plan.ring plan.enabled plan.completion) agrees in record {
+  moves = p.moves;
+  replay = record { says = p.says; queues = are-queues plan.pairs plan.ring able };
+  printed = subst (λ (t : List ℕ). Appends old new t) p.printed printed;
+}
+
+-- the page was not printed whole
+pub is-replay : (plan : QueuePlan) (text : List ℕ) → ((AreQueues plan.pairs plan.ring → ⊥) → ⊥) → IsMoveList text → (moves : List Move) × IsReplay plan text moves
+is-replay plan text able (ms, says) = (ms, record { says = says; queues = are-queues plan.pairs plan.ring able })

@@ -5,7 +5,7 @@ use Rattle.std.specs.Io.KnownBytes.{Appends, Keeps}
 use Rattle.hex.specs.Hex.{encode_lower}
 use Rattle.ring_machine.specs.Ring.{Bytes}
 use Rattle.poll82599.specs.declared.command.Request.{Request}
-use Rattle.poll82599.specs.declared.command.Request.TheVariants.{Once, Decode}
+use Rattle.poll82599.specs.declared.command.Request.TheVariants.{Once, Decode, Replay}
 use Rattle.poll82599.specs.declared.refusal.Refusal.{Refusal}
 use Rattle.poll82599.specs.declared.refusal.Refusal.TheVariants.{Memory, Output}
 use Rattle.poll82599.specs.declared.run.TheConstants.{DONE, REFUSED}
@@ -13,6 +13,7 @@ use Rattle.poll82599.specs.declared.decode.Form.{Form}
 use Rattle.poll82599.specs.Digits.{bytes_in}
 use Rattle.poll82599.specs.Frame.{frame_in}
 use Rattle.poll82599.specs.Decoding.{IsDecoded}
+use Rattle.poll82599.specs.Replay.{PrintsReplay, RefusesReplay}
 use Rattle.poll82599.specs.Refusals.{IsUnmade}
 
 -- the lower case digits of a frame, and LF
@@ -42,14 +43,16 @@ RefusesDecoded form digits e old new =
     ((e ≡ Memory) × Keeps old new)
     ⊎ ((answer : Result (List ℕ) Refusal) × IsDecoded form (bytes_in digits) answer × IsRefused answer e old new)
 
--- a request was done, or refused
-abbrev pub Prints : Request → Option (List ℕ) → Option (List ℕ) → Type 0
-Prints (Once digits) old new = IsPrinted (once_answer digits.now) old new
-Prints (Decode form digits) old new = PrintsDecoded form digits.now old new
+-- a request was done with this input, or refused
+abbrev pub Prints : Request → Option (List ℕ) → Option (List ℕ) → Option (List ℕ) → Type 0
+Prints (Once digits) input old new = IsPrinted (once_answer digits.now) old new
+Prints (Decode form digits) input old new = PrintsDecoded form digits.now old new
+Prints (Replay plan) input old new = PrintsReplay plan input old new
 
-abbrev pub Refuses : Request → Refusal → Option (List ℕ) → Option (List ℕ) → Type 0
-Refuses (Once digits) e old new = IsRefused (once_answer digits.now) e old new
-Refuses (Decode form digits) e old new = RefusesDecoded form digits.now e old new
+abbrev pub Refuses : Request → Option (List ℕ) → Refusal → Option (List ℕ) → Option (List ℕ) → Type 0
+Refuses (Once digits) input e old new = IsRefused (once_answer digits.now) e old new
+Refuses (Decode form digits) input e old new = RefusesDecoded form digits.now e old new
+Refuses (Replay plan) input e old new = RefusesReplay plan input e old new
 
 -- how `once` ends: its frame's line is printed, or nothing is done; digits that are no frame are always refused
 abbrev pub Ends : Result Bytes Refusal → ℕ → Option (List ℕ) → Option (List ℕ) → Type 0

@@ -1,5 +1,5 @@
 -- What `replay` reads and prints: a list of moves, one a line, and what each of them tells.
-use Rattle.std.specs.Prelude.{◌≡◌, ◌≢◌, ◌⊎◌, ℕ, ◌+◌, Bool, true, false, not, ◌==◌, List, [], ◌∷◌, ◌++◌, codes, decimal, length, map, Option, Some, None, All, if◌then◌else◌}
+use Rattle.std.specs.Prelude.{◌≡◌, ◌≢◌, ◌⊎◌, ℕ, ◌+◌, Bool, true, false, not, ◌==◌, List, [], ◌∷◌, ◌++◌, codes, decimal, length, map, Option, Some, None, IfSome, All, if◌then◌else◌}
 use Rattle.std.specs.List.{filter}
 use Rattle.std.specs.Io.KnownBytes.{Appends, Keeps}
 use Rattle.wire_script.specs.Line.{parts}
@@ -10,6 +10,7 @@ use Rattle.ring_machine.specs.Worlds.{World, opening_world, after_move, can_move
 use Rattle.ring_machine.specs.Queues.{AreQueues, QueueParts, QueuesAgree, note_in}
 use Rattle.ring_machine.specs.MoveTexts.{IsInRange, name_of, note_text, text_of}
 use Rattle.poll82599.specs.declared.replay.QueuePlan.{QueuePlan}
+use Rattle.poll82599.specs.declared.run.TheConstants.{DONE, REFUSED}
 use Rattle.poll82599.specs.declared.refusal.Refusal.{Refusal}
 use Rattle.poll82599.specs.declared.refusal.Refusal.TheVariants as refusal
 
@@ -98,6 +99,24 @@ ReplayRefused plan text (refusal.Machine MachineMemory) old new = Keeps old new
 ReplayRefused plan text refusal.Memory old new = Keeps old new
 ReplayRefused plan text refusal.Output old new = (moves : List Move) × IsReplay plan text moves
 ReplayRefused plan text e old new = ⊥
+
+-- a text was read, which is the input's where that is known, and its moves were answered
+abbrev pub PrintsReplay : QueuePlan → Option (List ℕ) → Option (List ℕ) → Option (List ℕ) → Type 0
+PrintsReplay plan input old new = (text : List ℕ) × IfSome input (λ known. text ≡ known) × HasReplayed plan text old new
+
+-- or nothing was read, or its text was refused
+abbrev pub RefusesReplay : QueuePlan → Option (List ℕ) → Refusal → Option (List ℕ) → Option (List ℕ) → Type 0
+RefusesReplay plan input e old new =
+    (((e ≡ refusal.Input) ⊎ (e ≡ refusal.Memory)) × Keeps old new)
+    ⊎ ((text : List ℕ) × IfSome input (λ known. text ≡ known) × ReplayRefused plan text e old new)
+
+-- how `replay` of this text ends: its moves are answered, or it is refused. A faulty text, and a plan of queues that
+-- there can't be, are always refused, with nothing printed
+pub record EndsReplay (plan : QueuePlan) (text : List ℕ) (status : ℕ) (old new : Option (List ℕ)) : Type 0 where
+  pub done : status ≡ DONE → HasReplayed plan text old new
+  pub either : (status ≡ DONE) ⊎ (status ≡ REFUSED)
+  pub faulty : (k : ℕ) → IsFaulty (lines_of text) k → (status ≡ REFUSED) × Keeps old new
+  pub no_queues : ¬ (AreQueues plan.pairs plan.ring) → (status ≡ REFUSED) × Keeps old new
 
 -- one move's line was written, and the queues are those of the world after it
 pub record WroteMove (w : World) (m : Move) (made : ℕ) (old new : List ℕ) (queues : QueueParts) : Type 0 where

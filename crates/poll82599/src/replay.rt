@@ -5,10 +5,11 @@ ghost use Rattle.std.specs.String.{string_bytes};
 ghost use Rattle.std.specs.Io.KnownBytes.{Appends, Keeps};
 ghost use Rattle.ring_machine.specs.Worlds.{World, after_move, can_move, IsReachableWorld};
 ghost use Rattle.ring_machine.specs.Queues.{QueuesAgree};
-ghost use Rattle.poll82599.specs.Replay.{is_move_line, lines_of, HasReplayed, IsFaulty, IsMoveList, IsNoMove, IsPageOf, Reads, ReplayRefused, WroteMove};
+ghost use Rattle.poll82599.specs.Replay.{is_move_line, lines_of, HasReplayed, IsFaulty, IsMoveList, IsNoMove, IsPageOf, PrintsReplay, Reads, RefusesReplay, ReplayRefused, WroteMove};
 ghost use Rattle.poll82599.specs.declared.refusal.Refusal.TheVariants as refusal;
 
 use crate::refusal::Refusal;
+use crate::run::print;
 use ring_machine::{Completion, Move, Queues};
 use std::alloc::{AllocError, Global};
 use std::io::{ErrorKind, Read, Write};
@@ -31,7 +32,11 @@ pub fn replay<I: Read, W: Write>(
     plan: QueuePlan,
     input: &mut I,
     output: &mut W,
-) -> Result<(), Refusal> {
+) -> Result<(), Refusal>
+    ensures done { OnOk result (PrintsReplay plan (I.remaining input.old) (W.contents output.old) (W.contents output.new)) }
+    ensures refused { IfErr result (λ e.
+        RefusesReplay plan (I.remaining input.old) e (W.contents output.old) (W.contents output.new)) }
+{
     let text = read_text(alloc, input)?;
     answer(alloc, plan, text.as_slice(), output)
 }
@@ -65,10 +70,7 @@ fn answer<W: Write>(
     let (pairs, ring) = (plan.pairs as usize, plan.ring as usize);
     let mut queues = Queues::new_with(alloc, pairs, ring, plan.enabled, plan.completion)?;
     let page = page_of(alloc, &mut queues, text)?;
-    output
-        .write_all(page.as_str().as_bytes())
-        .map_err(|_| Refusal::Output)?;
-    output.flush().map_err(|_| Refusal::Output)
+    print(page.as_str(), output)
 }
 
 /// Whether a line is to be read: it is not empty, and does not begin with `#`.

@@ -6,6 +6,8 @@ ghost use Rattle.clap.specs.Words.{kind_of};
 ghost use Rattle.clap.specs.declared.error.kind.ErrorKind.TheVariants.{OutOfMemory};
 ghost use Rattle.poll82599.specs.Answers.{line_of, once_answer, Ends, EndsDecode, IsPrinted, IsRefused};
 ghost use Rattle.poll82599.specs.Answers.{Prints, PrintsDecoded, Refuses, RefusesDecoded};
+ghost use Rattle.poll82599.specs.Replay.{EndsReplay};
+ghost use Rattle.poll82599.specs.declared.replay.QueuePlan.{QueuePlan};
 ghost use Rattle.poll82599.specs.CommandLine.{IsMistake, IsMisuse, SaysDecode, SaysOnce};
 ghost use Rattle.poll82599.specs.Frame.{frame_in};
 ghost use Rattle.poll82599.specs.declared.decode.Form.{Form};
@@ -72,8 +74,9 @@ pub fn perform<R: Threads + Wait + Sync, I: Read, W: Write>(
     input: &mut I,
     output: &mut W,
 ) -> Result<(), Refusal>
-    ensures done { OnOk result (Prints request.entry (W.contents output.old) (W.contents output.new)) }
-    ensures refused { IfErr result (λ e. Refuses request.entry e (W.contents output.old) (W.contents output.new)) }
+    ensures done { OnOk result (Prints request.entry (I.remaining input.old) (W.contents output.old) (W.contents output.new)) }
+    ensures refused { IfErr result (λ e.
+        Refuses request.entry (I.remaining input.old) e (W.contents output.old) (W.contents output.new)) }
 {
     match request {
         Request::Once { digits } => print_passed(rt, alloc, digits, output),
@@ -125,7 +128,7 @@ fn print_frame<W: Write>(alloc: Global, frame: &[u8], output: &mut W) -> Result<
 }
 
 /// Prints a text.
-fn print<W: Write>(text: &str, output: &mut W) -> Result<(), Refusal>
+pub fn print<W: Write>(text: &str, output: &mut W) -> Result<(), Refusal>
     ensures done { OnOk result (Appends (W.contents output.old) (W.contents output.new) text.now) }
     ensures refused { IfErr result (λ e. e ≡ Refusal.Output) }
 {

@@ -1,0 +1,65 @@
+-- How `replay` ends, by what its text and its plan are.
+use Rattle.std.proofs.Common.{◌≡◌, ◌≢◌, ◌⊎◌, inl, inr, ℕ, List, Option, Some, refl, sym, subst}
+use Rattle.std.specs.Io.KnownBytes.{Keeps}
+use Rattle.ring_machine.specs.declared.error.MachineError.TheVariants as machine
+use Rattle.ring_machine.specs.Queues.{AreQueues}
+use Rattle.poll82599.specs.declared.replay.QueuePlan.{QueuePlan}
+use Rattle.poll82599.specs.declared.refusal.Refusal.{Refusal}
+use Rattle.poll82599.specs.declared.refusal.Refusal.TheVariants as refusal
+use Rattle.poll82599.specs.declared.run.TheConstants.{DONE, REFUSED}
+use Rattle.poll82599.specs.Replay.{lines_of, EndsReplay, HasReplayed, IsFaulty, PrintsReplay, RefusesReplay, ReplayRefused}
+use Rattle.poll82599.proofs.Replaying.{faulty-unsaid}
+
+pub replay-done : (plan : QueuePlan) (text : List ℕ) (old new : Option (List ℕ)) → PrintsReplay plan (Some text) old new → EndsReplay plan text DONE old new
+replay-done plan text old new (read, same, had) = subst (λ (t : List ℕ). EndsReplay plan t DONE old new) same (record {
+  done = λ e. had;
+  either = inl refl;
+  faulty = λ k f. absurd (faulty-unsaid (lines_of read) k had.moves f had.replay.says);
+  no_queues = λ no. absurd (no had.replay.queues);
+})
+
+-- whatever was refused of a text that is faulty, or on queues that can't be, nothing was printed
+kept-faulty : (plan : QueuePlan) (text : List ℕ) (e : Refusal) (old new : Option (List ℕ)) (k : ℕ) → IsFaulty (lines_of text) k → ReplayRefused plan text e old new → Keeps old new
+kept-faulty plan text (refusal.Move line) old new k f r = r.1
+kept-faulty plan text (refusal.Machine machine.RingLength) old new k f r = r.1
+kept-faulty plan text (refusal.Machine machine.Memory) old new k f r = r
+kept-faulty plan text (refusal.Machine machine.NotEnabled) old new k f r = absurd r
+kept-faulty plan text (refusal.Machine machine.Text) old new k f r = absurd r
+kept-faulty plan text refusal.Memory old new k f r = r
+kept-faulty plan text refusal.Output old new k f r = absurd (faulty-unsaid (lines_of text) k r.0 f r.1.says)
+kept-faulty plan text (refusal.Descriptor x) old new k f r = absurd r
+kept-faulty plan text (refusal.Ring x) old new k f r = absurd r
+kept-faulty plan text (refusal.Stock x) old new k f r = absurd r
+kept-faulty plan text refusal.FrameLength old new k f r = absurd r
+kept-faulty plan text refusal.Thread old new k f r = absurd r
+kept-faulty plan text refusal.Hex old new k f r = absurd r
+kept-faulty plan text refusal.Input old new k f r = absurd r
+
+kept-no_queues : (plan : QueuePlan) (text : List ℕ) (e : Refusal) (old new : Option (List ℕ)) → (AreQueues plan.pairs plan.ring → ⊥) → ReplayRefused plan text e old new → Keeps old new
+kept-no_queues plan text (refusal.Move line) old new no r = r.1
+kept-no_queues plan text (refusal.Machine machine.RingLength) old new no r = r.1
+kept-no_queues plan text (refusal.Machine machine.Memory) old new no r = r
+kept-no_queues plan text (refusal.Machine machine.NotEnabled) old new no r = absurd r
+kept-no_queues plan text (refusal.Machine machine.Text) old new no r = absurd r
+kept-no_queues plan text refusal.Memory old new no r = r
+kept-no_queues plan text refusal.Output old new no r = absurd (no r.1.queues)
+kept-no_queues plan text (refusal.Descriptor x) old new no r = absurd r
+kept-no_queues plan text (refusal.Ring x) old new no r = absurd r
+kept-no_queues plan text (refusal.Stock x) old new no r = absurd r
+kept-no_queues plan text refusal.FrameLength old new no r = absurd r
+kept-no_queues plan text refusal.Thread old new no r = absurd r
+kept-no_queues plan text refusal.Hex old new no r = absurd r
+kept-no_queues plan text refusal.Input old new no r = absurd r
+
+-- refused is not done
+undone : (plan : QueuePlan) (text : List ℕ) (old new : Option (List ℕ)) → REFUSED ≡ DONE → HasReplayed plan text old new
+undone plan text old new e = let bad : ⊥ = cc e in absurd bad
+
+pub replay-refused : (plan : QueuePlan) (text : List ℕ) (e : Refusal) (old new : Option (List ℕ)) → RefusesReplay plan (Some text) e old new → EndsReplay plan text REFUSED old new
+replay-refused plan text e old new (inl kept) = record { done = undone plan text old new; either = inr refl; faulty = λ k f. (refl, kept.1); no_queues = λ no. (refl, kept.1) }
+replay-refused plan text e old new (inr (read, same, why)) = subst (λ (t : List ℕ). EndsReplay plan t REFUSED old new) same (record {
+  done = undone plan read old new;
+  either = inr refl;
+  faulty = λ k f. (refl, kept-faulty plan read e old new k f why);
+  no_queues = λ no. (refl, kept-no_queues plan read e old new no why);
+})
