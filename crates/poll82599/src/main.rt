@@ -13,6 +13,10 @@ mod frame;
 mod once;
 mod refusal;
 mod replay;
+#[cfg(test)]
+mod replay_rows;
+#[cfg(test)]
+mod replay_tests;
 mod run;
 #[cfg(test)]
 mod tests;
