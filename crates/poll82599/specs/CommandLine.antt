@@ -1,8 +1,9 @@
 -- The program's command line, as clap reads it.
-use Rattle.std.specs.Prelude.{◌≡◌, ◌≢◌, true, List, [], ◌∷◌, codes, map, slice_index, Some, All}
+use Rattle.std.specs.Prelude.{◌≡◌, ◌≢◌, true, pos, List, [], ◌∷◌, codes, map, slice_index, Some, All}
 use Rattle.std.specs.Borrow.{Bor}
 use Rattle.clap.specs.Words.{App, Kinds, Row, Rule, Text, fault_of, first_of, new_app, new_rule, with_rule, with_subcommand}
-use Rattle.clap.specs.declared.builder.value_parser.ValueParser.TheVariants.{Names}
+use Rattle.clap.specs.declared.builder.action.ArgAction.TheVariants.{SetTrue}
+use Rattle.clap.specs.declared.builder.value_parser.ValueParser.TheVariants.{Names, Signed}
 use Rattle.clap.specs.declared.error.kind.ErrorKind.{ErrorKind}
 use Rattle.clap.specs.declared.error.kind.ErrorKind.TheVariants.{DisplayHelp, DisplayVersion, OutOfMemory}
 use Rattle.poll82599.specs.declared.command.Request.{Request}
@@ -36,8 +37,23 @@ decode_app rings formats =
     let with_ring = with_rule (new_app (codes "decode")) (choice_rule (codes "ring") rings) in
     with_rule (with_rule with_ring (choice_rule (codes "format") formats)) hex_rule
 
+-- an option with a number of `u32`, which has this one where it is left out
+abbrev pub number_rule : Text → Text → Rule
+number_rule id default = record (new_rule id) { long = Some id; value_names = 1; parser = Some (Signed (pos 0) (pos 4294967295)); defaults = default ∷ [] }
+
+-- an option without a value
+abbrev pub flag_rule : Text → Rule
+flag_rule id = record (new_rule id) { long = Some id; action = Some SetTrue }
+
+-- the command `replay`
+abbrev pub replay_app : App
+replay_app =
+    let with_ring = with_rule (new_app (codes "replay")) (number_rule (codes "ring") (codes "8")) in
+    let with_pairs = with_rule with_ring (number_rule (codes "pairs") (codes "1")) in
+    with_rule (with_rule with_pairs (flag_rule (codes "off"))) (flag_rule (codes "head"))
+
 abbrev pub program_app : Choices → Choices → App
-program_app rings formats = with_subcommand (with_subcommand bare_app once_app.top) (decode_app rings formats).top
+program_app rings formats = with_subcommand (with_subcommand (with_subcommand bare_app once_app.top) (decode_app rings formats).top) replay_app.top
 
 -- the command line is this one. clap keeps a list of choices by its address too, which is any
 pub record HasChoices (with_choices : Choices → Choices → App) (app : App) : Type 0 where

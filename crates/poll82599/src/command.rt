@@ -7,6 +7,7 @@ ghost use Rattle.clap.specs.declared.builder.command.Command.TheViews.{out-Comma
 ghost use Rattle.clap.specs.declared.error.kind.ErrorKind.TheVariants.{OutOfMemory};
 ghost use Rattle.poll82599.specs.declared.decode.Form.{Form};
 ghost use Rattle.poll82599.specs.CommandLine.{IsDecodeApp, IsProgram, choice_rule, hex_rule, once_app};
+ghost use Rattle.poll82599.specs.CommandLine.{flag_rule, number_rule, replay_app};
 ghost use Rattle.poll82599.specs.CommandLine.{HasDecode, IsDecode, SaysDecode};
 ghost use Rattle.poll82599.specs.CommandLine.{HasOnce, IsMistake, IsMisuse, IsOnce, SaysOnce};
 
@@ -167,7 +168,10 @@ fn decode<'a>(alloc: Global) -> Result<Command<'a>, AllocError>
 }
 
 /// The command `replay`.
-fn replay<'a>(alloc: Global) -> Result<Command<'a>, AllocError> {
+fn replay<'a>(alloc: Global) -> Result<Command<'a>, AllocError>
+    ensures app { IfOk result (λ c. app_of c ≡ replay_app) }
+    ensures local { IfOk result (λ c. (out-Command c).has_globals ≡ false) }
+{
     let ring = number(
         alloc,
         "ring",
@@ -192,7 +196,10 @@ fn replay<'a>(alloc: Global) -> Result<Command<'a>, AllocError> {
 }
 
 /// An option with a number, which has this one where it is left out.
-fn number<'a>(alloc: Global, id: &'a str, default: &'a str, help: &'a str) -> Arg<'a> {
+fn number<'a>(alloc: Global, id: &'a str, default: &'a str, help: &'a str) -> Arg<'a>
+    ensures rule { rule_of result ≡ number_rule id.entry.now default.entry.now }
+    ensures local { result.global ≡ false }
+{
     Arg::new(alloc, id)
         .long(id)
         .value_name("N")
@@ -202,7 +209,10 @@ fn number<'a>(alloc: Global, id: &'a str, default: &'a str, help: &'a str) -> Ar
 }
 
 /// An option without a value.
-fn flag<'a>(alloc: Global, id: &'a str, help: &'a str) -> Arg<'a> {
+fn flag<'a>(alloc: Global, id: &'a str, help: &'a str) -> Arg<'a>
+    ensures rule { rule_of result ≡ flag_rule id.entry.now }
+    ensures local { result.global ≡ false }
+{
     Arg::new(alloc, id)
         .long(id)
         .action(ArgAction::SetTrue)
