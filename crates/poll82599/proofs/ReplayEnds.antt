@@ -15,7 +15,7 @@ replay-done plan text old new (read, same, had) = subst (λ (t : List ℕ). Ends
   done = λ e. had;
   either = inl refl;
   faulty = λ k f. absurd (faulty-unsaid (lines_of read) k had.moves f had.replay.says);
-  no_queues = λ no. absurd (no had.replay.queues);
+  no_queues = λ cannot. absurd (cannot had.replay.queues);
 })
 
 -- whatever was refused of a text that is faulty, or on queues that can't be, nothing was printed
@@ -36,30 +36,30 @@ kept-faulty plan text refusal.Hex old new k f r = absurd r
 kept-faulty plan text refusal.Input old new k f r = absurd r
 
 kept-no_queues : (plan : QueuePlan) (text : List ℕ) (e : Refusal) (old new : Option (List ℕ)) → (AreQueues plan.pairs plan.ring → ⊥) → ReplayRefused plan text e old new → Keeps old new
-kept-no_queues plan text (refusal.Move line) old new no r = r.1
-kept-no_queues plan text (refusal.Machine machine.RingLength) old new no r = r.1
-kept-no_queues plan text (refusal.Machine machine.Memory) old new no r = r
-kept-no_queues plan text (refusal.Machine machine.NotEnabled) old new no r = absurd r
-kept-no_queues plan text (refusal.Machine machine.Text) old new no r = absurd r
-kept-no_queues plan text refusal.Memory old new no r = r
-kept-no_queues plan text refusal.Output old new no r = absurd (no r.1.queues)
-kept-no_queues plan text (refusal.Descriptor x) old new no r = absurd r
-kept-no_queues plan text (refusal.Ring x) old new no r = absurd r
-kept-no_queues plan text (refusal.Stock x) old new no r = absurd r
-kept-no_queues plan text refusal.FrameLength old new no r = absurd r
-kept-no_queues plan text refusal.Thread old new no r = absurd r
-kept-no_queues plan text refusal.Hex old new no r = absurd r
-kept-no_queues plan text refusal.Input old new no r = absurd r
+kept-no_queues plan text (refusal.Move line) old new cannot r = r.1
+kept-no_queues plan text (refusal.Machine machine.RingLength) old new cannot r = r.1
+kept-no_queues plan text (refusal.Machine machine.Memory) old new cannot r = r
+kept-no_queues plan text (refusal.Machine machine.NotEnabled) old new cannot r = absurd r
+kept-no_queues plan text (refusal.Machine machine.Text) old new cannot r = absurd r
+kept-no_queues plan text refusal.Memory old new cannot r = r
+kept-no_queues plan text refusal.Output old new cannot r = absurd (cannot r.1.queues)
+kept-no_queues plan text (refusal.Descriptor x) old new cannot r = absurd r
+kept-no_queues plan text (refusal.Ring x) old new cannot r = absurd r
+kept-no_queues plan text (refusal.Stock x) old new cannot r = absurd r
+kept-no_queues plan text refusal.FrameLength old new cannot r = absurd r
+kept-no_queues plan text refusal.Thread old new cannot r = absurd r
+kept-no_queues plan text refusal.Hex old new cannot r = absurd r
+kept-no_queues plan text refusal.Input old new cannot r = absurd r
 
 -- refused is not done
 undone : (plan : QueuePlan) (text : List ℕ) (old new : Option (List ℕ)) → REFUSED ≡ DONE → HasReplayed plan text old new
 undone plan text old new e = let bad : ⊥ = cc e in absurd bad
 
 pub replay-refused : (plan : QueuePlan) (text : List ℕ) (e : Refusal) (old new : Option (List ℕ)) → RefusesReplay plan (Some text) e old new → EndsReplay plan text REFUSED old new
-replay-refused plan text e old new (inl kept) = record { done = undone plan text old new; either = inr refl; faulty = λ k f. (refl, kept.1); no_queues = λ no. (refl, kept.1) }
+replay-refused plan text e old new (inl kept) = record { done = undone plan text old new; either = inr refl; faulty = λ k f. (refl, kept.1); no_queues = λ cannot. (refl, kept.1) }
 replay-refused plan text e old new (inr (read, same, why)) = subst (λ (t : List ℕ). EndsReplay plan t REFUSED old new) same (record {
   done = undone plan read old new;
   either = inr refl;
   faulty = λ k f. (refl, kept-faulty plan read e old new k f why);
-  no_queues = λ no. (refl, kept-no_queues plan read e old new no why);
+  no_queues = λ cannot. (refl, kept-no_queues plan read e old new cannot why);
 })
