@@ -1,7 +1,6 @@
-use Rattle.std.proofs.Common.{◌≡◌, ◌∙◌, ap, sym, true, false, ℕ, Bool, codes, Option, Some, None, unwrap_or}
+use Rattle.std.proofs.Common.{◌≡◌, ◌∙◌, ap, sym, ℕ, codes, Option, Some, None, unwrap_or}
 use Rattle.std.specs.Prelude.{decimal, not}
 use Rattle.clap.specs.Words.{found_of}
-use Rattle.ring_machine.specs.declared.states.Completion.{Completion}
 use Rattle.poll82599.specs.CommandLine.{is_head}
 use Rattle.poll82599.proofs.CommandLine.{reads_flag, reads_number, text_is}
 use Rattle.poll82599.proofs.ReplayWords.{begins_as, by_head, by_status, plan_is}
