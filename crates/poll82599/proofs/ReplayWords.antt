@@ -245,6 +245,7 @@ options_pass r p o e numbers more =
     ∙ (flag_passes off o h (flag_in head e) (off_reacts r p o numbers more)
     ∙ (ap (walk_passes shape [] (walk_from (after_flag off o h))) (no_more e)
     ∙ (flag_passes head e (after_flag off o h) [] (head_reacts r p o e numbers more) ∙ nothing_left (with_options r p o e)))))
+
 valid : (h : Held) → (list_all default_passes rules && is_valid shape (finished rules h) false) ≡ true
 valid h = refl
 
@@ -417,9 +418,9 @@ replay_found app words plan program says =
     let values = values_are r.said p.said o e in (
       finished rules (with_options r.said p.said o e),
       ap (λ (a : App). subcommand_of a words) program.app_is
-      ∙ (ap (subcommand_of (program_app program.rings program.formats)) (words_of words plan says r p)
-      ∙ (found_replay program.rings program.formats (option_words r.said p.said o e)
-      ∙ ap (λ (w : Walk). Some (codes "replay", finished rules w.held)) (options_walked r.said p.said o e r.numbers p.numbers))),
+          ∙ (ap (subcommand_of (program_app program.rings program.formats)) (words_of words plan says r p)
+          ∙ (found_replay program.rings program.formats (option_words r.said p.said o e)
+          ∙ ap (λ (w : Walk). Some (codes "replay", finished rules w.held)) (options_walked r.said p.said o e r.numbers p.numbers))),
       record {
         ring = ap (λ (v : Values). v.0.0) values ∙ ap (λ (t : Text). Some t) r.value;
         pairs = ap (λ (v : Values). v.0.1) values ∙ ap (λ (t : Text). Some t) p.value;

@@ -37,7 +37,8 @@ const ONCE_EXAMPLE: &str =
 const DECODE_EXAMPLE: &str =
     "Example:\n  poll82599 decode rx back 0000000000000000030000003c000000\n  prints dd 1 eop 1 length 60";
 
-const REPLAY_EXAMPLE: &str = "Example:\n  echo 'r0 A1 5' | poll82599 replay --ring 16\n  prints r0 A1 place 0\n  and moves 1 of 1";
+const REPLAY_EXAMPLE: &str =
+    "Example:\n  echo 'r0 A1 5' | poll82599 replay --ring 16\n  prints r0 A1 place 0\n  and moves 1 of 1";
 
 static RINGS: [&str; 2] = ["rx", "tx"];
 
