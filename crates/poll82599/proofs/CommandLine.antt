@@ -1,21 +1,28 @@
 -- What clap makes of the program's words: the program as a whole, and words that are no command line.
-use Rattle.std.proofs.Common.{◌≡◌, ◌≢◌, ◌∙◌, ap, ap₂, sym, subst, refl, inl, inr, arith, ℕ, true, false, List, [], ◌∷◌, ◌==◌, codes, map, drop, slice_index, slice_index_or, Option, Some, None, option_map, unwrap_or}
-use Rattle.std.specs.Prelude.{◌⊎◌, All}
+use Rattle.std.proofs.Common.{◌≡◌, ◌≢◌, ◌∙◌, ap, ap₂, sym, subst, refl, inl, inr, arith, ℕ, pos, Bool, true, false, List, [], ◌∷◌, ◌==◌, codes, map, drop, slice_index, slice_index_or, Option, Some, None, option_map, unwrap_or}
+use Rattle.std.specs.Prelude.{◌⊎◌, ◌<◌, ◌^◌, ◌||◌, if◌then◌else◌, All, cond, decimal, neg_ℤ, Result, Ok, Err}
 use Rattle.std.specs.Borrow.{Bor}
-use Rattle.std.proofs.lemmas.List.Elements.{All-head, All-tail}
-use Rattle.std.specs.Prelude.{◌||◌, if◌then◌else◌}
 use Rattle.std.specs.Option.{option_map_or}
 use Rattle.std.specs.Str.{bytes_eq}
-use Rattle.clap.specs.Words.{first_of, first_value, rows_of}
-use Rattle.clap.specs.declared.parser.matches.Found.{Found}
-use Rattle.clap.proofs.WalkLemmas.{first_value-rows}
+use Rattle.std.specs.Str.Parse.{ExplainsUnsignedError, HasUnsignedDigitsIfOk, IsNumeral, ParsesUnsigned, digits_value, signed_digits_value, without_leading_plus, without_leading_sign}
+use Rattle.std.proofs.lemmas.Bool.{eq-eqb, ne_eqb}
+use Rattle.std.proofs.lemmas.Fmt.{decimal_is_IsNumeral, parse-decimal}
+use Rattle.std.proofs.lemmas.Int.{ints}
+use Rattle.std.proofs.lemmas.List.Elements.{All-head, All-tail}
+use Rattle.std.proofs.lemmas.Str.Parse.{digit_at}
 use Rattle.clap.specs.Lexer.{long_of, short_of}
-use Rattle.clap.specs.Words.{App, IsAmong, Kinds, Row, Rule, Shape, Text, fault_of, is_simple, is_simple_and_free}
-use Rattle.clap.specs.Walk.{Held, idle, long_or_other, short_or_plain, trailing, value, word_met}
 use Rattle.clap.specs.Takes.{bundle_passes, flag_word_passes, word_passes}
+use Rattle.clap.specs.Values.{bool_text}
+use Rattle.clap.specs.ValueTests.{accepts}
+use Rattle.clap.specs.Walk.{Held, idle, long_or_other, short_or_plain, trailing, value, word_met}
+use Rattle.clap.specs.Words.{Accepts, App, IsAmong, Kinds, ReadsOne, Row, Rule, Shape, Text, fault_of, first_of, first_value, is_simple, is_simple_and_free, one_of, one_text, rows_of, without_minus}
+use Rattle.clap.specs.declared.builder.value_parser.ValueParser.TheVariants.{Signed}
 use Rattle.clap.specs.declared.error.kind.ErrorKind.{ErrorKind}
-use Rattle.clap.specs.declared.error.kind.ErrorKind.TheVariants.{InvalidSubcommand, InvalidValue, MissingRequiredArgument, MissingSubcommand, OutOfMemory, UnknownArgument}
+use Rattle.clap.specs.declared.error.kind.ErrorKind.TheVariants.{InvalidSubcommand, InvalidValue, MissingRequiredArgument, MissingSubcommand, OutOfMemory, UnknownArgument, ValueValidation}
+use Rattle.clap.specs.declared.parser.matches.Found.{Found}
 use Rattle.clap.proofs.OnLiterals.{clap_on_literals}
+use Rattle.clap.proofs.ValueTestLemmas.{Accepts-accepts}
+use Rattle.clap.proofs.WalkLemmas.{first_value-rows, one_text-rows}
 use Rattle.poll82599.specs.CommandLine.{AreMistakes, Choices, IsMistake, IsMisuse, IsProgram, program_app}
 
 -- ---- the program
@@ -52,6 +59,10 @@ rows_in {V} read (Some p) name seen is =
 pub value_is : (found : Found) (id seen : Text) → first_of id (rows_of found) ≡ Some seen → first_value found id ≡ Some seen
 value_is found id seen is = first_value-rows found id ∙ is
 
+-- and as `get_one` and `get_flag` do
+pub text_is : (found : Found) (id seen : Text) → one_of id (rows_of found) ≡ Some seen → one_text found id ≡ Some seen
+text_is found id seen is = one_text-rows found id ∙ is
+
 pub texts_equal : (a b : Text) (o : Option Text) → Some a ≡ o → o ≡ Some b → a ≡ b
 texts_equal a b o left right = ap (λ (p : Option Text). unwrap_or p a) (left ∙ right)
 
@@ -79,6 +90,83 @@ plain_passes s word h plain =
     ap (λ b. b || flag_word_passes s.rules s.args_override_self (long_of word) word h) plain.no_dashes
     ∙ (ap (λ o. flag_word_passes s.rules s.args_override_self o word h) plain.no_long
     ∙ ap (λ o. option_map_or (λ flags. bundle_passes s.rules s.args_override_self flags h) o true) plain.no_short)
+
+-- ---- numbers and flags
+
+-- a text that clap takes for a number
+pub record IsNumber (word : Text) : Type 0 where
+  pub plain : IsPlain word
+  pub accepted : accepts false (Signed (pos 0) (pos 4294967295)) word ≡ true
+
+-- a numeral has no sign
+numeral_unsigned : (ds : List ℕ) → (slice_index ds 0 == 45) ≡ false → (slice_index ds 0 == 43) ≡ false → without_leading_sign ds ≡ ds
+numeral_unsigned ds minus plus =
+    ap (λ b. cond b (drop 1 ds) (without_leading_plus ds)) minus ∙ ap (λ b. drop (cond b 1 0) ds) plus
+
+numeral_value : (ds : List ℕ) → (slice_index ds 0 == 45) ≡ false → (slice_index ds 0 == 43) ≡ false → signed_digits_value 10 ds ≡ pos (digits_value 10 ds)
+numeral_value ds minus plus =
+    ap (λ b. cond b (neg_ℤ (pos (digits_value 10 (without_leading_sign ds)))) (pos (digits_value 10 (without_leading_sign ds)))) minus
+    ∙ ap (λ l. pos (digits_value 10 l)) (numeral_unsigned ds minus plus)
+
+pub strips_none : (ds : List ℕ) → (slice_index ds 0 == 45) ≡ false → without_minus ds ≡ ds
+strips_none [] minus = refl
+strips_none (d ∷ ds) minus = ap (λ b. unwrap_or (if b then Some ds else None) (d ∷ ds)) minus
+
+-- what the lemmas below take of the digits of a number
+pub record IsNumeralOf (ds : List ℕ) (n : ℕ) : Type 0 where
+  pub numeral : IsNumeral 10 ds
+  pub value : digits_value 10 ds ≡ n
+  pub no_minus : (slice_index ds 0 == 45) ≡ false
+  pub no_plus : (slice_index ds 0 == 43) ≡ false
+
+pub numeral_of : (n : ℕ) → n < 2 ^ 32 → IsNumeralOf (decimal n) n
+numeral_of n fits =
+    let is = decimal_is_IsNumeral n (omega arith) in
+    let first = digit_at (decimal n) 0 is.0.1 is.0.0 in
+    record {
+      numeral = is.0;
+      value = is.1;
+      no_minus = ne_eqb _ _ (λ e. omega (arith, first));
+      no_plus = ne_eqb _ _ (λ e. omega (arith, first));
+    }
+
+numeral_accepted : (ds : List ℕ) (n : ℕ) → n < 2 ^ 32 → IsNumeralOf ds n → Accepts false (Signed (pos 0) (pos 4294967295)) ds
+numeral_accepted ds n fits is =
+    let value : signed_digits_value 10 ds ≡ pos n = numeral_value ds is.no_minus is.no_plus ∙ ap pos is.value in
+    rw (value, numeral_unsigned ds is.no_minus is.no_plus) (is.numeral, record { sfits = omega arith }, omega (arith, ints), omega (arith, ints))
+
+not_45 : (ds : List ℕ) → (slice_index ds 0 == 45) ≡ false → slice_index ds 0 ≢ 45
+not_45 ds minus e = let bad : (slice_index ds 0 == 45) ≡ true = eq-eqb _ _ e in cc
+
+pub is_number : (n : ℕ) → n < 2 ^ 32 → IsNumber (decimal n)
+is_number n fits =
+    let is = numeral_of n fits in
+    record {
+      plain = is_plain (decimal n) (not_45 (decimal n) is.no_minus);
+      accepted = Accepts-accepts false (Signed (pos 0) (pos 4294967295)) (decimal n) (numeral_accepted (decimal n) n fits is);
+    }
+
+reads_by : {E : Type 0} (G : List ℕ → Result ℕ E → Type 0) (n : ℕ) (r : Option ℕ) → n < 2 ^ 32
+    → ((u : List ℕ) (x : Result ℕ E) → G u x → ParsesUnsigned 32 10 u x) → ReadsOne G (decimal n) r → r ≡ Some n
+reads_by {E} G n (Some v) fits parses reads =
+    let same : ◌≡◌ {A = Result ℕ E} (Ok v) (Ok n) = parse-decimal 32 n (decimal n) (Ok v) (omega arith) (omega arith) refl (parses (decimal n) (Ok v) reads) in cc
+reads_by {E} G n None fits parses reads =
+    let same : ◌≡◌ {A = Result ℕ E} (Err reads.0) (Ok n) =
+    parse-decimal 32 n (decimal n) (Err reads.0) (omega arith) (omega arith) refl (parses (decimal n) (Err reads.0) reads.1) in cc
+
+-- what `get_one` reads of a number
+pub reads_number : (n : ℕ) (r : Option ℕ) → n < 2 ^ 32
+    → ReadsOne (λ bs x. ParsesUnsigned 32 10 bs x × ExplainsUnsignedError 10 bs x × HasUnsignedDigitsIfOk bs x) (decimal n) r → r ≡ Some n
+reads_number n r fits reads =
+    reads_by (λ bs x. ParsesUnsigned 32 10 bs x × ExplainsUnsignedError 10 bs x × HasUnsignedDigitsIfOk bs x) n r fits (λ u x g. g.0) reads
+
+-- and what `get_flag` does of a flag
+pub reads_flag : (b read : Bool) (o : Option Text) → (o ≡ Some (codes "true") → read ≡ true) → (o ≡ Some (codes "false") → read ≡ false)
+    → o ≡ Some (bool_text b) → read ≡ b
+reads_flag true read o as_true as_false is = as_true is
+reads_flag false read o as_true as_false is = as_false is
+
+-- ---- choices
 
 -- two choices, by where they lie
 abbrev pub two : ℕ × ℕ → ℕ × ℕ → ℕ × ℕ → Text → Text → Choices
@@ -123,7 +211,7 @@ misuse_fails app words kind program misuse has = mistake_among (fault_of app wor
 pub misuse_not_taken : (app : App) (words : List Text) → IsProgram app → IsMisuse words → fault_of app words ≡ [] → ⊥
 misuse_not_taken app words program misuse none = subst AreMistakes none (misuse app program)
 
--- no command, an unknown one, a missing argument, and a word that is no choice
+-- no command, an unknown one, a missing argument, a word that is no choice, and one that is no number
 no_command : (rings formats : Choices) → fault_of (program_app rings formats) [] ≡ MissingSubcommand ∷ []
 unfolding clap_on_literals
 no_command rings formats = refl
@@ -140,3 +228,7 @@ no_choice : (list first second : ℕ × ℕ) (formats : Choices)
     → fault_of (program_app (two list first second (codes "rx") (codes "tx")) formats) (codes "decode" ∷ codes "sx" ∷ codes "read" ∷ codes "00" ∷ []) ≡ InvalidValue ∷ []
 unfolding clap_on_literals
 no_choice list first second formats = refl
+
+no_number : (rings formats : Choices) → fault_of (program_app rings formats) (codes "replay" ∷ codes "--ring" ∷ codes "eight" ∷ []) ≡ ValueValidation ∷ []
+unfolding clap_on_literals
+no_number rings formats = refl

@@ -4,6 +4,7 @@ pub mod Decoded
 pub mod Ends
 pub mod OnceWords
 pub mod Passed
+pub mod ReplayWords
 pub mod Unmade
 pub mod Replaying
 pub mod ReplayEnds

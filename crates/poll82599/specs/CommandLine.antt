@@ -1,14 +1,18 @@
 -- The program's command line, as clap reads it.
-use Rattle.std.specs.Prelude.{◌≡◌, ◌≢◌, true, pos, List, [], ◌∷◌, codes, map, slice_index, Some, All}
+use Rattle.std.specs.Prelude.{◌≡◌, ◌≢◌, ◌⊎◌, ℕ, ◌^◌, ◌<◌, Bool, true, false, not, if◌then◌else◌, pos, List, [], ◌∷◌, ◌++◌, codes, decimal, map, slice_index, Some, All}
 use Rattle.std.specs.Borrow.{Bor}
-use Rattle.clap.specs.Words.{App, Kinds, Row, Rule, Text, fault_of, first_of, new_app, new_rule, with_rule, with_subcommand}
+use Rattle.clap.specs.Words.{App, Kinds, Row, Rule, Text, fault_of, first_of, new_app, new_rule, one_of, with_rule, with_subcommand}
+use Rattle.clap.specs.Values.{bool_text}
 use Rattle.clap.specs.declared.builder.action.ArgAction.TheVariants.{SetTrue}
 use Rattle.clap.specs.declared.builder.value_parser.ValueParser.TheVariants.{Names, Signed}
 use Rattle.clap.specs.declared.error.kind.ErrorKind.{ErrorKind}
 use Rattle.clap.specs.declared.error.kind.ErrorKind.TheVariants.{DisplayHelp, DisplayVersion, OutOfMemory}
 use Rattle.poll82599.specs.declared.command.Request.{Request}
-use Rattle.poll82599.specs.declared.command.Request.TheVariants.{Once, Decode}
+use Rattle.poll82599.specs.declared.command.Request.TheVariants.{Once, Decode, Replay}
 use Rattle.poll82599.specs.declared.decode.Form.{Form}
+use Rattle.poll82599.specs.declared.replay.QueuePlan.{QueuePlan}
+use Rattle.ring_machine.specs.declared.states.Completion.{Completion}
+use Rattle.ring_machine.specs.declared.states.Completion.TheVariants.{Head, Status}
 use Rattle.poll82599.specs.Decoding.{ring_word, format_word}
 
 -- the argument of `once`
@@ -79,6 +83,28 @@ pub record SaysDecode (words : List Text) (form : Form) (digits : Text) : Type 0
   pub words_are : words ≡ codes "decode" ∷ ring_word form ∷ format_word form ∷ digits ∷ []
   pub no_option : slice_index digits 0 ≢ 45
 
+-- an option stands with a number, or is left out where the number is its default
+abbrev pub SaysNumber : Text → ℕ → List Text → ℕ → Type 0
+SaysNumber option default words n = ((words ≡ option ∷ decimal n ∷ []) × (n < 2 ^ 32)) ⊎ ((words ≡ []) × (n ≡ default))
+
+-- an option without a value stands, or does not
+abbrev pub flag_words : Text → Bool → List Text
+flag_words option stands = if stands then option ∷ [] else []
+
+abbrev pub is_head : Completion → Bool
+is_head Head = true
+is_head Status = false
+
+-- the words are `replay` and its options in this order: `--off` stands where the queues begin disabled, and `--head`
+-- where they report by a head word
+pub record SaysReplay (words : List Text) (plan : QueuePlan) : Type 0 where
+  pub ring : List Text
+  pub pairs : List Text
+  pub says_ring : SaysNumber (codes "--ring") 8 ring plan.ring
+  pub says_pairs : SaysNumber (codes "--pairs") 1 pairs plan.pairs
+  pub words_are : words ≡ codes "replay" ∷ (ring ++ (pairs
+      ++ (flag_words (codes "--off") (not plan.enabled) ++ flag_words (codes "--head") (is_head plan.completion))))
+
 -- the values of the arguments
 abbrev pub HasOnce : List Row → Text → Type 0
 HasOnce rows digits = first_of (codes "hex") rows ≡ Some digits
@@ -87,6 +113,14 @@ pub record HasDecode (rows : List Row) (form : Form) (digits : Text) : Type 0 wh
   pub ring : first_of (codes "ring") rows ≡ Some (ring_word form)
   pub format : first_of (codes "format") rows ≡ Some (format_word form)
   pub hex : first_of (codes "hex") rows ≡ Some digits
+
+pub record HasReplay (rows : List Row) (plan : QueuePlan) : Type 0 where
+  pub ring : one_of (codes "ring") rows ≡ Some (decimal plan.ring)
+  pub pairs : one_of (codes "pairs") rows ≡ Some (decimal plan.pairs)
+  pub off : one_of (codes "off") rows ≡ Some (bool_text (not plan.enabled))
+  pub head : one_of (codes "head") rows ≡ Some (bool_text (is_head plan.completion))
+  pub ring_fits : plan.ring < 2 ^ 32
+  pub pairs_fits : plan.pairs < 2 ^ 32
 
 -- what is asked for is `once` of these digits
 abbrev pub IsOnce : Request → Text → Type 0
@@ -97,6 +131,11 @@ IsOnce request digits = ⊥
 abbrev pub IsDecode : Request → Form → Text → Type 0
 IsDecode (Decode named given) form digits = (named ≡ form) × (given.now ≡ digits)
 IsDecode request form digits = ⊥
+
+-- it is `replay` on queues of this plan
+abbrev pub IsReplayOf : Request → QueuePlan → Type 0
+IsReplayOf (Replay given) plan = given ≡ plan
+IsReplayOf request plan = ⊥
 
 -- a mistake in the words, which is neither a call for help nor want of memory
 pub record IsMistake (kind : ErrorKind) : Type 0 where

@@ -8,7 +8,9 @@ ghost use Rattle.clap.specs.declared.error.kind.ErrorKind.TheVariants.{OutOfMemo
 ghost use Rattle.poll82599.specs.declared.decode.Form.{Form};
 ghost use Rattle.poll82599.specs.CommandLine.{IsDecodeApp, IsProgram, choice_rule, hex_rule, once_app};
 ghost use Rattle.poll82599.specs.CommandLine.{flag_rule, number_rule, replay_app};
+ghost use Rattle.poll82599.specs.declared.replay.QueuePlan.{QueuePlan};
 ghost use Rattle.poll82599.specs.CommandLine.{HasDecode, IsDecode, SaysDecode};
+ghost use Rattle.poll82599.specs.CommandLine.{HasReplay, IsReplayOf, SaysReplay};
 ghost use Rattle.poll82599.specs.CommandLine.{HasOnce, IsMistake, IsMisuse, IsOnce, SaysOnce};
 
 use crate::decode::Form;
@@ -35,7 +37,8 @@ const ONCE_EXAMPLE: &str =
 const DECODE_EXAMPLE: &str =
     "Example:\n  poll82599 decode rx back 0000000000000000030000003c000000\n  prints dd 1 eop 1 length 60";
 
-const REPLAY_EXAMPLE: &str = "Example:\n  echo 'r0 A1 5' | poll82599 replay --ring 16\n  prints r0 A1 place 0\n  and moves 1 of 1";
+const REPLAY_EXAMPLE: &str =
+    "Example:\n  echo 'r0 A1 5' | poll82599 replay --ring 16\n  prints r0 A1 place 0\n  and moves 1 of 1";
 
 static RINGS: [&str; 2] = ["rx", "tx"];
 
@@ -48,6 +51,8 @@ pub fn request_of<'a>(alloc: Global, words: &'a [String]) -> Result<Request<'a>,
         → MatchResult result (λ r. IsOnce r digits) (λ e. kind_of e ≡ OutOfMemory) }
     ensures decode { (form : Form) (digits : List ℕ) → SaysDecode (map string_bytes words.entry.now) form digits
         → MatchResult result (λ r. IsDecode r form digits) (λ e. kind_of e ≡ OutOfMemory) }
+    ensures replay { (plan : QueuePlan) → SaysReplay (map string_bytes words.entry.now) plan
+        → MatchResult result (λ r. IsReplayOf r plan) (λ e. kind_of e ≡ OutOfMemory) }
     ensures misuse { IsMisuse (map string_bytes words.entry.now)
         → IsErrAnd result (λ e. (kind_of e ≡ OutOfMemory) ⊎ IsMistake (kind_of e)) }
 {
@@ -66,6 +71,8 @@ fn request_in<'a>(matches: &ArgMatches<'a>) -> Option<Request<'a>>
     ensures decode { (rows : List Row) (form : Form) (digits : Text)
         → subcommand_rows_of matches.now ≡ Some (codes "decode", rows)
         → HasDecode rows form digits → IsSomeAnd result (λ r. IsDecode r form digits) }
+    ensures replay { (rows : List Row) (plan : QueuePlan) → subcommand_rows_of matches.now ≡ Some (codes "replay", rows)
+        → HasReplay rows plan → IsSomeAnd result (λ r. IsReplayOf r plan) }
 {
     match matches.subcommand()? {
         ("once", once) => once_in(once),
@@ -95,7 +102,10 @@ fn decode_in<'a>(decode: &ArgMatches<'a>) -> Option<Request<'a>>
 }
 
 /// The request in matches of `replay`.
-fn replay_in<'a>(replay: &ArgMatches<'a>) -> Option<Request<'a>> {
+fn replay_in<'a>(replay: &ArgMatches<'a>) -> Option<Request<'a>>
+    ensures { (plan : QueuePlan) → HasReplay (rows_of (found_of replay.now)) plan
+        → IsSomeAnd result (λ r. IsReplayOf r plan) }
+{
     let ring = replay.get_one("ring")?;
     let pairs = replay.get_one("pairs")?;
     let enabled = !replay.get_flag("off");
