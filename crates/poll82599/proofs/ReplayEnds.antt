@@ -1,12 +1,16 @@
 -- How `replay` ends, by what its text and its plan are.
-use Rattle.std.proofs.Common.{◌≡◌, ◌≢◌, ◌⊎◌, inl, inr, ℕ, List, Option, Some, refl, sym, subst}
+use Rattle.std.proofs.Common.{◌≡◌, inl, inr, ℕ, List, Option, Some, refl, subst}
 use Rattle.std.specs.Io.KnownBytes.{Keeps}
 use Rattle.ring_machine.specs.declared.error.MachineError.TheVariants as machine
 use Rattle.ring_machine.specs.Queues.{AreQueues}
 use Rattle.poll82599.specs.declared.replay.QueuePlan.{QueuePlan}
 use Rattle.poll82599.specs.declared.refusal.Refusal.{Refusal}
 use Rattle.poll82599.specs.declared.refusal.Refusal.TheVariants as refusal
+use Rattle.poll82599.specs.declared.command.Request.{Request}
+use Rattle.poll82599.specs.declared.command.Request.TheVariants.{Once, Decode, Replay}
 use Rattle.poll82599.specs.declared.run.TheConstants.{DONE, REFUSED}
+use Rattle.poll82599.specs.Answers.{Prints, Refuses}
+use Rattle.poll82599.specs.CommandLine.{IsReplayOf}
 use Rattle.poll82599.specs.Replay.{lines_of, EndsReplay, HasReplayed, IsFaulty, PrintsReplay, RefusesReplay, ReplayRefused}
 use Rattle.poll82599.proofs.Replaying.{faulty-unsaid}
 
@@ -63,3 +67,18 @@ replay-refused plan text e old new (inr (read, same, why)) = subst (λ (t : List
   faulty = λ k f. (refl, kept-faulty plan read e old new k f why);
   no_queues = λ cannot. (refl, kept-no_queues plan read e old new cannot why);
 })
+
+-- whatever the text is, a refusal that prints nothing ends it
+pub replay-kept : (plan : QueuePlan) (text : List ℕ) (old new : Option (List ℕ)) → Keeps old new → EndsReplay plan text REFUSED old new
+replay-kept plan text old new kept = record { done = undone plan text old new; either = inr refl; faulty = λ k f. (refl, kept); no_queues = λ no. (refl, kept) }
+
+-- a request that is `replay`, done or refused
+pub replay_done : (request : Request) (plan : QueuePlan) (text : List ℕ) (input old new : Option (List ℕ)) → input ≡ Some text → IsReplayOf request plan → Prints request input old new → EndsReplay plan text DONE old new
+replay_done (Once given) plan text input old new known is prints = absurd is
+replay_done (Decode named given) plan text input old new known is prints = absurd is
+replay_done (Replay given) plan text input old new known is prints = subst (λ (p : QueuePlan). EndsReplay p text DONE old new) is (replay-done given text old new (subst (λ (i : Option (List ℕ)). PrintsReplay given i old new) known prints))
+
+pub replay_refused : (request : Request) (plan : QueuePlan) (text : List ℕ) (e : Refusal) (input old new : Option (List ℕ)) → input ≡ Some text → IsReplayOf request plan → Refuses request input e old new → EndsReplay plan text REFUSED old new
+replay_refused (Once given) plan text e input old new known is refuses = absurd is
+replay_refused (Decode named given) plan text e input old new known is refuses = absurd is
+replay_refused (Replay given) plan text e input old new known is refuses = subst (λ (p : QueuePlan). EndsReplay p text REFUSED old new) is (replay-refused given text e old new (subst (λ (i : Option (List ℕ)). RefusesReplay given i e old new) known refuses))

@@ -1,26 +1,24 @@
 -- A list of moves, line after line.
-use Rattle.std.proofs.Common.{◌≡◌, ◌≢◌, ◌⊎◌, ⊎_elim, inl, inr, ◌<◌, ℕ, suc, ◌+◌, ◌≤◌, Bool, true, false, List, [], ◌∷◌, ◌++◌, length, map, Option, Some, None, Result, Ok, Err, sym, refl, ap, ap₂, ◌∙◌, subst, arith, append_assoc, length-append, if◌then◌else◌}
-use Rattle.std.specs.Prelude.{◌↔◌, codes, decimal, All}
+use Rattle.std.proofs.Common.{◌≡◌, ◌⊎◌, ⊎_elim, inl, inr, ℕ, suc, ◌+◌, ◌≤◌, Bool, true, false, List, [], ◌∷◌, ◌++◌, length, map, Option, Result, Ok, Err, sym, refl, ap, ap₂, ◌∙◌, subst, arith, append_assoc, length-append, if◌then◌else◌}
+use Rattle.std.specs.Prelude.{◌↔◌, codes, All}
 use Rattle.std.specs.List.{filter}
 use Rattle.std.specs.Int.{is_power_of_two}
-use Rattle.std.specs.Io.KnownBytes.{Appends, Keeps}
+use Rattle.std.specs.Io.KnownBytes.{Appends}
 use Rattle.std.proofs.lemmas.Bool.{cases_lt}
-use Rattle.std.specs.Option.{ok_or}
 use Rattle.std.specs.Result.{OnOk, is_ok}
 use Rattle.std.proofs.lemmas.List.{append-nil, map-append}
 use Rattle.std.proofs.lemmas.List.Elements.{All-append, All-cons, All-head, All-nil, All-tail, filter-append}
 use Rattle.ring_machine.specs.declared.queue_moves.Move.{Move}
 use Rattle.ring_machine.specs.declared.notes.Note.{Note}
 use Rattle.ring_machine.specs.declared.error.MachineError.{MachineError}
-use Rattle.ring_machine.specs.declared.error.MachineError.TheVariants as machine
 use Rattle.ring_machine.specs.declared.limits.TheConstants.{LEAST_RING, MOST_PAIRS, MOST_RING}
 use Rattle.ring_machine.specs.declared.states.Completion.{Completion}
 use Rattle.ring_machine.specs.Worlds.{World, opening_world, after_move, after_moves, can_move, moves_happened, IsReachableWorld}
-use Rattle.ring_machine.specs.Queues.{AreQueues, QueueParts, QueuesAgree, QueuesDid, QueuesFollow, note_in}
+use Rattle.ring_machine.specs.Queues.{AreQueues, QueueParts, QueuesAgree, QueuesDid, note_in}
 use Rattle.ring_machine.specs.MoveTexts.{IsInRange, name_of, note_text, text_of}
 use Rattle.ring_machine.proofs.QueuesRunning.{after_moves-append, did-made, did-refused, moves_happened-append, reached_world}
 use Rattle.poll82599.specs.declared.replay.QueuePlan.{QueuePlan}
-use Rattle.poll82599.specs.Replay.{count_line, is_move_line, line_in, lines_in, lines_of, replayed, told_text, world_of, HasReplayed, IsFaulty, IsMoveList, IsNoMove, IsPageOf, IsReplay, Reads, Says, WroteMove}
+use Rattle.poll82599.specs.Replay.{count_line, is_move_line, line_in, lines_in, lines_of, told_text, world_of, HasReplayed, IsFaulty, IsMoveList, IsNoMove, IsPageOf, IsReplay, Reads, Says, WroteMove}
 
 -- what reading a line answers, in words of lists
 pub read-line : (line : List ℕ) (result : Result Move MachineError) → ((m : Move) → (result ≡ Ok m) ↔ (IsInRange m × (line ≡ text_of m))) → is_ok result ≡ true → Reads line
@@ -193,6 +191,7 @@ unsaid-after b rest ms true h never range e = said ms range (sym (kept h) ∙ e)
   where
     kept : is_move_line b ≡ true → filter is_move_line (b ∷ rest) ≡ b ∷ filter is_move_line rest
     kept h = rw h refl
+
     said : (xs : List Move) → All IsInRange xs → b ∷ filter is_move_line rest ≡ map text_of xs → ⊥
     said [] all f = let bad : ⊥ = cc f in bad
     said (x ∷ xs) all f = let same : filter is_move_line rest ≡ map text_of xs = cc f in never xs (All-tail IsInRange x xs all) same
@@ -203,6 +202,7 @@ unsaid [] later line ms none range e = first ms range (sym (skip none.is_move) �
   where
     skip : is_move_line line ≡ true → filter is_move_line (line ∷ later) ≡ line ∷ filter is_move_line later
     skip h = rw h refl
+
     first : (xs : List Move) → All IsInRange xs → line ∷ filter is_move_line later ≡ map text_of xs → ⊥
     first [] all f = let bad : ⊥ = cc f in bad
     first (x ∷ xs) all f = let same : line ≡ text_of x = cc f in none.no_text x (All-head IsInRange x xs all) same
@@ -233,9 +233,10 @@ stable-true false nn = absurd (nn (λ e. let bad : ⊥ = cc e in bad))
 -- where they were not refused, there can be such queues
 pub are-queues : (pairs n : ℕ) → ((AreQueues pairs n → ⊥) → ⊥) → AreQueues pairs n
 are-queues pairs n nn = (
-    stable-le 1 pairs (λ no. nn (λ a. no a.0)),
-    stable-le pairs MOST_PAIRS (λ no. nn (λ a. no a.1)),
-    (stable-le LEAST_RING n (λ no. nn (λ a. no a.2.0)), stable-le n MOST_RING (λ no. nn (λ a. no a.2.1)), stable-true (is_power_of_two n) (λ no. nn (λ a. no a.2.2))))
+  stable-le 1 pairs (λ no. nn (λ a. no a.0)),
+  stable-le pairs MOST_PAIRS (λ no. nn (λ a. no a.1)),
+  (stable-le LEAST_RING n (λ no. nn (λ a. no a.2.0)), stable-le n MOST_RING (λ no. nn (λ a. no a.2.1)), stable-true (is_power_of_two n) (λ no. nn (λ a. no a.2.2))),
+)
 
 opening-reached : (pairs n : ℕ) (enabled : Bool) (completion : Completion) → IsReachableWorld pairs n (opening_world pairs n enabled completion)
 opening-reached pairs n enabled completion = record { enabled = enabled; completion = completion; schedule = []; made = refl }

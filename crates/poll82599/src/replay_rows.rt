@@ -27,7 +27,7 @@ pub const ROWS: [Row; 15] = [
          r0 A5 place 0\n\
          r0 A6 buffer 5 length 60 eop 1\n\
          moves 6 of 6\n",
-        },
+    },
     Row {
         name: "a descriptor that is not written back yields nothing",
         words: &["replay"],
@@ -48,13 +48,13 @@ pub const ROWS: [Row; 15] = [
          r0 A6 buffer 5 length 60 eop 1\n\
          r0 A6 not enabled\n\
          moves 7 of 8\n",
-        },
+    },
     Row {
         name: "no line",
         words: &["replay"],
         text: "",
         printed: "moves 0 of 0\n",
-        },
+    },
     Row {
         name: "a ring takes one less than its places",
         words: &["replay"],
@@ -75,21 +75,21 @@ pub const ROWS: [Row; 15] = [
          r0 A1 place 6\n\
          r0 A1 not enabled\n\
          moves 7 of 8\n",
-        },
+    },
     Row {
         name: "a queue that is not there",
         words: &["replay"],
         text: "r1 A2\n",
         printed: "r1 A2 not enabled\n\
          moves 0 of 1\n",
-        },
+    },
     Row {
         name: "a head alone",
         words: &["replay"],
         text: "r0 A7\n",
         printed: "r0 A7 head 0\n\
          moves 1 of 1\n",
-        },
+    },
     Row {
         name: "one report covers two descriptors",
         words: &["replay"],
@@ -120,7 +120,7 @@ pub const ROWS: [Row; 15] = [
          t0 B8 buffer 2\n\
          t0 B8 not enabled\n\
          moves 12 of 13\n",
-        },
+    },
     Row {
         name: "one report covers two descriptors, by a head word",
         words: &["replay", "--head"],
@@ -151,7 +151,7 @@ pub const ROWS: [Row; 15] = [
          t0 B8 buffer 2\n\
          t0 B8 not enabled\n\
          moves 12 of 13\n",
-        },
+    },
     Row {
         name: "one frame is sent",
         words: &["replay"],
@@ -176,7 +176,7 @@ pub const ROWS: [Row; 15] = [
          t0 B7 reported 0\n\
          t0 B8 buffer 7\n\
          moves 10 of 10\n",
-        },
+    },
     Row {
         name: "one frame is sent, by a head word",
         words: &["replay", "--head"],
@@ -201,7 +201,7 @@ pub const ROWS: [Row; 15] = [
          t0 B7 reported 0\n\
          t0 B8 buffer 7\n\
          moves 10 of 10\n",
-        },
+    },
     Row {
         name: "a disabling is asked in the middle of a frame",
         words: &["replay"],
@@ -246,7 +246,7 @@ pub const ROWS: [Row; 15] = [
          r0 C6 buffer 2\n\
          r0 C6 not enabled\n\
          moves 16 of 20\n",
-        },
+    },
     Row {
         name: "a queue is enabled and disabled",
         words: &["replay", "--off"],
@@ -269,7 +269,7 @@ pub const ROWS: [Row; 15] = [
          r0 C4 control 0\n\
          r0 C1 not enabled\n\
          moves 8 of 9\n",
-        },
+    },
     Row {
         name: "a queue is renewed",
         words: &["replay"],
@@ -340,7 +340,7 @@ pub const ROWS: [Row; 15] = [
          r0 A5 place 0\n\
          r0 A6 buffer 9 length 60 eop 1\n\
          moves 29 of 33\n",
-        },
+    },
     Row {
         name: "the last queue of eight pairs, of the greatest ring",
         words: &["replay", "--pairs", "8", "--ring", "4096"],
@@ -353,12 +353,12 @@ pub const ROWS: [Row; 15] = [
          r7 C7 quiet 1\n\
          r7 C8 quiet 1\n\
          moves 4 of 4\n",
-        },
+    },
     Row {
         name: "clearing the report word needs one",
         words: &["replay", "--off"],
         text: "t0 C12\n",
         printed: "t0 C12 not enabled\n\
          moves 0 of 1\n",
-        },
+    },
 ];

@@ -119,9 +119,19 @@ fn empty_lines_and_comments_are_passed_over(rt: HostRuntime) -> Result<(), Fail>
     let alloc = rt.alloc();
     let (mut output, mut faults) = (Vec::new(alloc), Vec::new(alloc));
     let mut input = "# a list\n\n#\nr0 A2\n\nr0 A7".as_bytes();
-    let status = status_of(&rt, alloc, &["replay"], &mut input, &mut output, &mut faults)?;
+    let status = status_of(
+        &rt,
+        alloc,
+        &["replay"],
+        &mut input,
+        &mut output,
+        &mut faults,
+    )?;
     let printed = String::from_utf8(output)?;
-    assert_eq!(rt; printed.as_str(), "r0 A2 tail 0\nr0 A7 head 0\nmoves 2 of 2\n");
+    assert_eq!(rt;
+        printed.as_str(),
+        "r0 A2 tail 0\nr0 A7 head 0\nmoves 2 of 2\n"
+    );
     assert_eq!(rt; status, 0);
     Ok(())
 }
@@ -130,9 +140,29 @@ fn empty_lines_and_comments_are_passed_over(rt: HostRuntime) -> Result<(), Fail>
 fn a_disabling_at_every_step_makes_as_many_moves(rt: HostRuntime) -> Result<(), Fail> {
     let alloc = rt.alloc();
     let moves = [
-        "A1 1", "A1 2", "A2", "A3", "A4", "A5 1024 0", "A7", "C2", "C3", "A4", "A5 10 1", "C3", "A7", "C3", "C4", "A6", "C6", "C6", "C6",
+        "A1 1",
+        "A1 2",
+        "A2",
+        "A3",
+        "A4",
+        "A5 1024 0",
+        "A7",
+        "C2",
+        "C3",
+        "A4",
+        "A5 10 1",
+        "C3",
+        "A7",
+        "C3",
+        "C4",
+        "A6",
+        "C6",
+        "C6",
+        "C6",
     ];
-    let made = [6, 8, 10, 16, 16, 16, 16, 16, 14, 14, 14, 14, 14, 14, 14, 14, 14, 14, 14, 14];
+    let made = [
+        6, 8, 10, 16, 16, 16, 16, 16, 14, 14, 14, 14, 14, 14, 14, 14, 14, 14, 14, 14,
+    ];
     for at in 0..20 {
         let mut text = String::new(alloc);
         for (index, action) in moves.into_iter().enumerate() {
@@ -146,10 +176,20 @@ fn a_disabling_at_every_step_makes_as_many_moves(rt: HostRuntime) -> Result<(), 
         }
         let (mut output, mut faults) = (Vec::new(alloc), Vec::new(alloc));
         let mut input = text.as_str().as_bytes();
-        let status = status_of(&rt, alloc, &["replay"], &mut input, &mut output, &mut faults)?;
+        let status = status_of(
+            &rt,
+            alloc,
+            &["replay"],
+            &mut input,
+            &mut output,
+            &mut faults,
+        )?;
         let printed = String::from_utf8(output)?;
         let last = format!(in alloc; "\nmoves {} of 20\n", made[at])?;
-        assert!(rt; printed.as_str().ends_with(last.as_str()), "with C5 at {at}");
+        assert!(rt;
+            printed.as_str().ends_with(last.as_str()),
+            "with C5 at {at}"
+        );
         assert_eq!(rt; status, 0, "with C5 at {at}");
     }
     Ok(())
@@ -175,7 +215,10 @@ fn queues_that_cannot_be_are_refused(rt: HostRuntime) -> Result<(), Fail> {
         let status = status_of(&rt, alloc, words, &mut input, &mut output, &mut faults)?;
         assert_eq!(rt; status, wanted, "at {words:?}");
         assert!(rt; output.is_empty(), "at {words:?}");
-        assert!(rt; faults.as_slice().starts_with(told.as_bytes()), "at {words:?}");
+        assert!(rt;
+            faults.as_slice().starts_with(told.as_bytes()),
+            "at {words:?}"
+        );
     }
     Ok(())
 }
@@ -187,14 +230,27 @@ fn streams_that_fail_in_mid_stream_are_refused(rt: HostRuntime) -> Result<(), Fa
     let mut broken = Broken {
         left: "r0 A2\nr0 A9\n".as_bytes(),
     };
-    let status = status_of(&rt, alloc, &["replay"], &mut broken, &mut output, &mut faults)?;
-    assert_eq!(rt; (status, faults.as_slice()), (1, b"refused 82 input\n".as_slice()));
+    let status = status_of(
+        &rt,
+        alloc,
+        &["replay"],
+        &mut broken,
+        &mut output,
+        &mut faults,
+    )?;
+    assert_eq!(rt;
+        (status, faults.as_slice()),
+        (1, b"refused 82 input\n".as_slice())
+    );
     assert!(rt; output.is_empty());
     let mut told = Vec::new(alloc);
     let mut short = Short { room: 5 };
     let mut input = "r0 A2\n".as_bytes();
     let status = status_of(&rt, alloc, &["replay"], &mut input, &mut short, &mut told)?;
-    assert_eq!(rt; (status, told.as_slice()), (1, b"refused 84 output\n".as_slice()));
+    assert_eq!(rt;
+        (status, told.as_slice()),
+        (1, b"refused 84 output\n".as_slice())
+    );
     Ok(())
 }
 
@@ -203,7 +259,14 @@ fn want_of_memory(rt: HostRuntime) -> Result<(), Fail> {
     let alloc = rt.alloc();
     let (mut output, mut faults) = (Vec::new(alloc), Vec::new(alloc));
     let mut input = "r0 A1 5\nt0 B2\n".as_bytes();
-    let Ok(status) = status_of(&rt, alloc, &["replay"], &mut input, &mut output, &mut faults) else {
+    let Ok(status) = status_of(
+        &rt,
+        alloc,
+        &["replay"],
+        &mut input,
+        &mut output,
+        &mut faults,
+    ) else {
         return Ok(());
     };
     if status == 0 {

@@ -1,5 +1,5 @@
 //! What a command line does to the three streams, and the status that it ends with.
-ghost use Rattle.std.specs.Prelude.{◌≡◌, ◌⊎◌, ℕ, List, map, IfErr, OnOk};
+ghost use Rattle.std.specs.Prelude.{◌≡◌, ◌⊎◌, ℕ, List, Some, map, IfErr, OnOk};
 ghost use Rattle.std.specs.String.{string_bytes};
 ghost use Rattle.std.specs.Io.KnownBytes.{Appends, Keeps};
 ghost use Rattle.clap.specs.Words.{kind_of};
@@ -8,7 +8,7 @@ ghost use Rattle.poll82599.specs.Answers.{line_of, once_answer, Ends, EndsDecode
 ghost use Rattle.poll82599.specs.Answers.{Prints, PrintsDecoded, Refuses, RefusesDecoded};
 ghost use Rattle.poll82599.specs.Replay.{EndsReplay};
 ghost use Rattle.poll82599.specs.declared.replay.QueuePlan.{QueuePlan};
-ghost use Rattle.poll82599.specs.CommandLine.{IsMistake, IsMisuse, SaysDecode, SaysOnce};
+ghost use Rattle.poll82599.specs.CommandLine.{IsMistake, IsMisuse, SaysDecode, SaysOnce, SaysReplay};
 ghost use Rattle.poll82599.specs.Frame.{frame_in};
 ghost use Rattle.poll82599.specs.declared.decode.Form.{Form};
 
@@ -55,6 +55,8 @@ pub fn run<R: Threads + Wait + Sync, I: Read, W: Write, E: Write>(
         → Ends (frame_in digits) result (W.contents output.old) (W.contents output.new) }
     ensures decode { (form : Form) (digits : List ℕ) → SaysDecode (map string_bytes words.now) form digits
         → EndsDecode form digits result (W.contents output.old) (W.contents output.new) }
+    ensures replay { (plan : QueuePlan) (text : List ℕ) → SaysReplay (map string_bytes words.now) plan
+        → I.remaining input.old ≡ Some text → EndsReplay plan text result (W.contents output.old) (W.contents output.new) }
 {
     let request = match request_of(alloc, words) {
         Ok(request) => request,

@@ -2,7 +2,7 @@
 use Rattle.std.proofs.Common.{◌+◌, ◌≤◌, length, List, ℕ, ap, subst, refl, ◌∙◌, arith}
 use Rattle.wire_script.specs.Split.{later_parts}
 use Rattle.wire_script.proofs.Steps.{left_len, line_counted}
-use Rattle.poll82599.proofs.Replaying.{GoodSoFar, good-faulty, good-first, good-last, good-next}
+use Rattle.poll82599.proofs.Replaying.{GoodSoFar, good-first, good-next}
 use Rattle.poll82599.proofs.replay.faulty_line.Goals as goal
 
 pub loop-rest-init : goal.loop-rest-init

@@ -1,10 +1,9 @@
 -- Each line that is to be read is a move's, and adds that move's line to the page.
-use Rattle.std.proofs.Common.{◌≡◌, ◌+◌, ◌≤◌, length, List, ℕ, refl, sym, ap, subst, ◌∙◌, arith}
+use Rattle.std.proofs.Common.{◌+◌, ◌≤◌, length, List, ℕ, refl, sym, ap, subst, ◌∙◌, arith}
 use Rattle.std.specs.Result.{is_ok}
 use Rattle.std.specs.String.{string_bytes}
 use Rattle.wire_script.specs.Split.{later_parts}
 use Rattle.wire_script.proofs.Steps.{left_len, line_counted}
-use Rattle.poll82599.specs.Replay.{is_move_line}
 use Rattle.poll82599.proofs.Replaying.{PageSoFar, page-first, page-last, page-more, page-skipped, read-said, unread-line}
 use Rattle.poll82599.proofs.replay.page_of.Goals as goal
 
