@@ -47,4 +47,6 @@ pub use tx_machine::TxMachine;
 pub use wrap::is_ring_length;
 
 #[cfg(test)]
+mod machine_tests;
+#[cfg(test)]
 mod text_tests;

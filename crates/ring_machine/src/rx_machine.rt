@@ -352,7 +352,14 @@ impl RxMachine {
         made
     }
 
-    /// Who has this place, which is below the length.
+    /// How many places the ring has, and so descriptors.
+    pub fn size(&self) -> u16
+        ensures { result ≡ self.now.size }
+    {
+        self.size
+    }
+
+    /// Who has this place, which is below the size.
     pub fn owner(&self, place: u16) -> Owner
         requires { place < self.now.size }
         ensures { RxOwns self.now place result }

@@ -413,7 +413,14 @@ impl TxMachine {
         made
     }
 
-    /// Who has this place, which is below the length.
+    /// How many places the ring has, and so descriptors.
+    pub fn size(&self) -> u16
+        ensures { result ≡ self.now.size }
+    {
+        self.size
+    }
+
+    /// Who has this place, which is below the size.
     pub fn owner(&self, place: u16) -> Owner
         requires { place < self.now.size }
         ensures { TxOwns self.now place result }
