@@ -11,20 +11,38 @@ fn machines_and_queues_are_made_or_refused(rt: HostRuntime) {
         assert!(rt; RxMachine::new(alloc, n, true).is_ok(), "receive, {n}");
         assert!(rt; TxMachine::new(alloc, n, false).is_ok(), "transmit, {n}");
         for completion in [Completion::Status, Completion::Head] {
-            assert!(rt; TxMachine::new_with(alloc, n, true, completion).is_ok(), "{n}");
+            assert!(rt;
+                TxMachine::new_with(alloc, n, true, completion).is_ok(),
+                "{n}"
+            );
         }
     }
     for n in [0, 4, 12, 8_192] {
         let refused = Some(MachineError::RingLength);
-        assert_eq!(rt; RxMachine::new(alloc, n, true).err(), refused, "receive, {n}");
-        assert_eq!(rt; TxMachine::new(alloc, n, true).err(), refused, "transmit, {n}");
+        assert_eq!(rt;
+            RxMachine::new(alloc, n, true).err(),
+            refused,
+            "receive, {n}"
+        );
+        assert_eq!(rt;
+            TxMachine::new(alloc, n, true).err(),
+            refused,
+            "transmit, {n}"
+        );
     }
     for (pairs, n) in [(0, 8), (9, 8), (1, 12), (8, 12)] {
         let refused = Queues::new(alloc, pairs, n, true).err();
-        assert_eq!(rt; refused, Some(MachineError::RingLength), "{pairs} pairs of {n}");
+        assert_eq!(rt;
+            refused,
+            Some(MachineError::RingLength),
+            "{pairs} pairs of {n}"
+        );
     }
     for pairs in [1, 8] {
-        assert!(rt; Queues::new(alloc, pairs, 8, false).is_ok(), "{pairs} pairs");
+        assert!(rt;
+            Queues::new(alloc, pairs, 8, false).is_ok(),
+            "{pairs} pairs"
+        );
     }
 }
 
@@ -179,7 +197,10 @@ fn a_place_is_with_one_side(rt: HostRuntime) -> Result<(), Fail> {
     ];
     for (line, receive, transmit) in rows {
         let made = is_made(&mut queues, line);
-        assert!(rt; made && sides(&queues) == Some((receive, transmit)), "after {line:?}");
+        assert!(rt;
+            made && sides(&queues) == Some((receive, transmit)),
+            "after {line:?}"
+        );
     }
     if let Some(second) = QueueNumber::new(1) {
         assert!(rt; queues.receive(second).is_none() && queues.transmit(second).is_none());

@@ -166,17 +166,7 @@ fn lines_of_no_transmit_move_are_refused(rt: HostRuntime) {
 #[test]
 fn lines_of_no_queue_are_refused(rt: HostRuntime) {
     let table = [
-        "r8 A2",
-        "",
-        "#",
-        "# r0 A2",
-        "r0",
-        " r0 A2",
-        "r A2",
-        "r00 A2",
-        "r/ A2",
-        "x0 A2",
-        "R0 A2",
+        "r8 A2", "", "#", "# r0 A2", "r0", " r0 A2", "r A2", "r00 A2", "r/ A2", "x0 A2", "R0 A2",
         "r0\tA2",
     ];
     for line in table {
