@@ -362,3 +362,32 @@ pub const ROWS: [Row; 15] = [
          moves 0 of 1\n",
     },
 ];
+
+/// The list of a disabling in the middle of a frame, without the asking of the disabling.
+pub const MIDDLE: [&str; 19] = [
+    "A1 1",
+    "A1 2",
+    "A2",
+    "A3",
+    "A4",
+    "A5 1024 0",
+    "A7",
+    "C2",
+    "C3",
+    "A4",
+    "A5 10 1",
+    "C3",
+    "A7",
+    "C3",
+    "C4",
+    "A6",
+    "C6",
+    "C6",
+    "C6",
+];
+
+/// How many moves are made of that list where the disabling is asked before its first move, its second, and so on to
+/// its end.
+pub const MADE: [usize; 20] = [
+    6, 8, 10, 16, 16, 16, 16, 16, 14, 14, 14, 14, 14, 14, 14, 14, 14, 14, 14, 14,
+];

@@ -1,6 +1,6 @@
 //! The command `replay`, row after row.
 
-use crate::replay_rows::ROWS;
+use crate::replay_rows::{MADE, MIDDLE, ROWS};
 use crate::run;
 use std::alloc::{AllocError, Global};
 use std::io;
@@ -139,33 +139,9 @@ fn empty_lines_and_comments_are_passed_over(rt: HostRuntime) -> Result<(), Fail>
 #[test]
 fn a_disabling_at_every_step_makes_as_many_moves(rt: HostRuntime) -> Result<(), Fail> {
     let alloc = rt.alloc();
-    let moves = [
-        "A1 1",
-        "A1 2",
-        "A2",
-        "A3",
-        "A4",
-        "A5 1024 0",
-        "A7",
-        "C2",
-        "C3",
-        "A4",
-        "A5 10 1",
-        "C3",
-        "A7",
-        "C3",
-        "C4",
-        "A6",
-        "C6",
-        "C6",
-        "C6",
-    ];
-    let made = [
-        6, 8, 10, 16, 16, 16, 16, 16, 14, 14, 14, 14, 14, 14, 14, 14, 14, 14, 14, 14,
-    ];
     for at in 0..20 {
         let mut text = String::new(alloc);
-        for (index, action) in moves.into_iter().enumerate() {
+        for (index, action) in MIDDLE.into_iter().enumerate() {
             if index == at {
                 text.push_str("r0 C5\n")?;
             }
@@ -185,7 +161,7 @@ fn a_disabling_at_every_step_makes_as_many_moves(rt: HostRuntime) -> Result<(), 
             &mut faults,
         )?;
         let printed = String::from_utf8(output)?;
-        let last = format!(in alloc; "\nmoves {} of 20\n", made[at])?;
+        let last = format!(in alloc; "\nmoves {} of 20\n", MADE[at])?;
         assert!(rt;
             printed.as_str().ends_with(last.as_str()),
             "with C5 at {at}"
