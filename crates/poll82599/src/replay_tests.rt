@@ -11,11 +11,11 @@ use std::thread::Threads;
 
 /// A stream that gives these bytes, and then fails.
 #[derive(Drop)]
-struct Broken<'a> {
-    left: &'a [u8],
+struct Broken {
+    left: &'static [u8],
 }
 
-impl<'a> Read for Broken<'a> {
+impl Read for Broken {
     fn read(&mut self, buf: &mut [u8]) -> io::Result<usize> {
         let count = buf.len().min(self.left.len());
         if count == 0 && !buf.is_empty() {
@@ -119,14 +119,8 @@ fn empty_lines_and_comments_are_passed_over(rt: HostRuntime) -> Result<(), Fail>
     let alloc = rt.alloc();
     let (mut output, mut faults) = (Vec::new(alloc), Vec::new(alloc));
     let mut input = "# a list\n\n#\nr0 A2\n\nr0 A7".as_bytes();
-    let status = status_of(
-        &rt,
-        alloc,
-        &["replay"],
-        &mut input,
-        &mut output,
-        &mut faults,
-    )?;
+    let words = ["replay"];
+    let status = status_of(&rt, alloc, &words, &mut input, &mut output, &mut faults)?;
     let printed = String::from_utf8(output)?;
     assert_eq!(rt;
         printed.as_str(),
@@ -152,14 +146,8 @@ fn a_disabling_at_every_step_makes_as_many_moves(rt: HostRuntime) -> Result<(), 
         }
         let (mut output, mut faults) = (Vec::new(alloc), Vec::new(alloc));
         let mut input = text.as_str().as_bytes();
-        let status = status_of(
-            &rt,
-            alloc,
-            &["replay"],
-            &mut input,
-            &mut output,
-            &mut faults,
-        )?;
+        let words = ["replay"];
+        let status = status_of(&rt, alloc, &words, &mut input, &mut output, &mut faults)?;
         let printed = String::from_utf8(output)?;
         let last = format!(in alloc; "\nmoves {} of 20\n", MADE[at])?;
         assert!(rt;
@@ -200,33 +188,30 @@ fn queues_that_cannot_be_are_refused(rt: HostRuntime) -> Result<(), Fail> {
 }
 
 #[test]
-fn streams_that_fail_in_mid_stream_are_refused(rt: HostRuntime) -> Result<(), Fail> {
+fn an_input_that_fails_in_mid_stream_is_refused(rt: HostRuntime) -> Result<(), Fail> {
     let alloc = rt.alloc();
     let (mut output, mut faults) = (Vec::new(alloc), Vec::new(alloc));
-    let mut broken = Broken {
-        left: "r0 A2\nr0 A9\n".as_bytes(),
+    let mut input = Broken {
+        left: b"r0 A2\nr0 A9\n".as_slice(),
     };
-    let status = status_of(
-        &rt,
-        alloc,
-        &["replay"],
-        &mut broken,
-        &mut output,
-        &mut faults,
-    )?;
-    assert_eq!(rt;
-        (status, faults.as_slice()),
-        (1, b"refused 82 input\n".as_slice())
-    );
+    let words = ["replay"];
+    let status = status_of(&rt, alloc, &words, &mut input, &mut output, &mut faults)?;
+    assert_eq!(rt; status, 1);
     assert!(rt; output.is_empty());
-    let mut told = Vec::new(alloc);
-    let mut short = Short { room: 5 };
+    assert_eq!(rt; String::from_utf8(faults)?.as_str(), "refused 82 input\n");
+    Ok(())
+}
+
+#[test]
+fn an_output_that_fails_in_mid_stream_is_refused(rt: HostRuntime) -> Result<(), Fail> {
+    let alloc = rt.alloc();
+    let mut faults = Vec::new(alloc);
+    let mut output = Short { room: 5 };
     let mut input = "r0 A2\n".as_bytes();
-    let status = status_of(&rt, alloc, &["replay"], &mut input, &mut short, &mut told)?;
-    assert_eq!(rt;
-        (status, told.as_slice()),
-        (1, b"refused 84 output\n".as_slice())
-    );
+    let words = ["replay"];
+    let status = status_of(&rt, alloc, &words, &mut input, &mut output, &mut faults)?;
+    assert_eq!(rt; status, 1);
+    assert_eq!(rt; String::from_utf8(faults)?.as_str(), "refused 84 output\n");
     Ok(())
 }
 
@@ -235,14 +220,9 @@ fn want_of_memory(rt: HostRuntime) -> Result<(), Fail> {
     let alloc = rt.alloc();
     let (mut output, mut faults) = (Vec::new(alloc), Vec::new(alloc));
     let mut input = "r0 A1 5\nt0 B2\n".as_bytes();
-    let Ok(status) = status_of(
-        &rt,
-        alloc,
-        &["replay"],
-        &mut input,
-        &mut output,
-        &mut faults,
-    ) else {
+    let words = ["replay"];
+    let ended = status_of(&rt, alloc, &words, &mut input, &mut output, &mut faults);
+    let Ok(status) = ended else {
         return Ok(());
     };
     if status == 0 {
