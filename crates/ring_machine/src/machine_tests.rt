@@ -117,7 +117,8 @@ fn transmit_moves_print_their_notes(rt: HostRuntime) -> Result<(), Fail> {
     Ok(())
 }
 
-// The moves of one frame each way, with one that can't be made at the end of each way, and one of a queue that is not there.
+// The moves of one frame each way, with one that can't be made at the end of each way, and one of a queue that is not
+// there.
 #[test]
 fn run_answers_how_many_moves_it_made(rt: HostRuntime) -> Result<(), Fail> {
     let (Some(first), Some(second)) = (QueueNumber::new(0), QueueNumber::new(1)) else {
