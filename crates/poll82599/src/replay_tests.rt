@@ -1,7 +1,10 @@
 //! The command `replay`, row after row.
 
+use crate::refusal::Refusal;
+use crate::replay::{QueuePlan, replay};
 use crate::replay_rows::{MADE, MIDDLE, ROWS};
 use crate::run;
+use ring_machine::{Completion, MachineError};
 use std::alloc::{AllocError, Global};
 use std::io;
 use std::io::{ErrorKind, Read, Write};
@@ -217,23 +220,21 @@ fn an_output_that_fails_in_mid_stream_is_refused(rt: HostRuntime) -> Result<(), 
 
 #[test]
 fn want_of_memory(rt: HostRuntime) -> Result<(), Fail> {
-    let alloc = rt.alloc();
-    let (mut output, mut faults) = (Vec::new(alloc), Vec::new(alloc));
-    let mut input = "r0 A1 5\nt0 B2\n".as_bytes();
-    let words = ["replay"];
-    let ended = status_of(&rt, alloc, &words, &mut input, &mut output, &mut faults);
-    let Ok(status) = ended else {
-        return Ok(());
+    let plan = QueuePlan {
+        pairs: 1,
+        ring: 8,
+        enabled: true,
+        completion: Completion::Status,
     };
-    if status == 0 {
-        assert!(rt; output.as_slice().ends_with(b"moves 2 of 2\n"));
-        return Ok(());
+    let mut input = "r0 A1 5\nt0 B2\n".as_bytes();
+    let mut output = Short { room: 100 };
+    match replay(rt.alloc(), plan, &mut input, &mut output) {
+        Ok(()) => assert_eq!(rt; output.room, 100 - 40),
+        Err(refusal) => {
+            let own = refusal == Refusal::Memory;
+            assert!(rt; own || refusal == Refusal::Machine(MachineError::Memory));
+            assert_eq!(rt; output.room, 100);
+        }
     }
-    assert_eq!(rt; status, 1);
-    let told = faults.as_slice();
-    let own = told == b"refused 83 memory\n".as_slice();
-    let machine = told == b"refused 13 memory\n".as_slice();
-    let output_full = told == b"refused 84 output\n".as_slice();
-    assert!(rt; own || machine || output_full || !told.ends_with(b"\n"));
     Ok(())
 }
