@@ -11,7 +11,7 @@
 //!
 //! [`parse`] answers the frames that the text says, or its first fault with the number of its line.
 //! [`print`] writes frames as lines of the first form, in lower case, and `parse` reads from them
-//! the same frames.
+//! the same frames. [`cut`] is how a text is cut into lines, for other texts whose lines end likewise.
 #![tactic(auto)]
 
 mod error;
