@@ -1,0 +1,3 @@
+pub mod Places
+pub mod Beginnings
+pub mod Kept

@@ -1,0 +1,29 @@
+-- What every step of a transmit ring keeps.
+use Rattle.std.proofs.Common.{◌≡◌, ℕ, ◌+◌, ◌-◌, ◌<◌, ◌≤◌, Bool, true, false, List, map, length, take, Some}
+use Rattle.std.specs.Prelude.{slice_get}
+use Rattle.ring_model.specs.shared.Lists.{IsBeginning}
+use Rattle.ring_model.specs.shared.Handshakes.{is_serving}
+use Rattle.ring_model.specs.shared.Queue.{given_count}
+use Rattle.ring_model.specs.transmit.Ring.{Posting, TxLedger, TxRing, are_whole, ends_posting, number_of_posting}
+use Rattle.ring_model.specs.transmit.Steps.{asks_report}
+use Rattle.ring_model.specs.transmit.Lawful.{IsLawfulTxLedger}
+use Rattle.ring_model.proofs.shared.Kept.{IsKept}
+
+-- the counts of reports, in their order. Of those that were sent and not reported, only the last may have asked for a report, and then one is owed
+pub record InReports {Payload : Type 0} (sent : List (Posting Payload)) (given seen reported : ℕ) (held owed serving : Bool) : Type 0 where
+  pub given_seen : given ≤ seen
+  pub seen_reported : seen ≤ reported
+  pub reported_sent : reported ≤ length sent
+  pub owed_unheld : owed ≡ true → held ≡ false
+  pub owed_serving : owed ≡ true → serving ≡ true
+  pub owed_last : owed ≡ true → reported < length sent
+  pub asked : owed ≡ true → asks_report (slice_get sent (length sent - 1)) ≡ true
+  pub silent : (k : ℕ) → reported ≤ k → k < length sent → (owed ≡ true → k + 1 < length sent) → asks_report (slice_get sent k) ≡ false
+
+pub record IsTxKept (Payload : Type 0) (n : ℕ) (r : TxRing Payload) : Type 0 where
+  pub queue : IsKept n ends_posting r.queue
+  pub reports : InReports r.ledger.served (given_count r.queue) r.seen_reported r.reported r.held r.owed (is_serving r.handshake.controller)
+  pub sent : IsBeginning r.ledger.served r.ledger.posted
+  pub cleaned : IsBeginning r.ledger.given (map number_of_posting r.ledger.served)
+  pub past : (k : ℕ) (l : TxLedger Payload) → slice_get r.past k ≡ Some l → IsLawfulTxLedger Payload n l
+  pub published : are_whole (take r.published r.ledger.posted) ≡ true

@@ -1,0 +1,5 @@
+pub mod shared
+pub mod receive
+pub mod transmit
+pub mod NoteTexts
+pub mod Worlds

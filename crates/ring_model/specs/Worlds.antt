@@ -1,0 +1,84 @@
+-- Several queues side by side: each move names its queue, and leaves all others alone.
+use Rattle.std.specs.Prelude.{◌≡◌, ◌≢◌, ℕ, Bool, false, List, length, replicate, Option, Some, None, slice_get, slice_set, if◌then◌else◌}
+use Rattle.ring_model.specs.declared.steps.RxStep.{RxStep}
+use Rattle.ring_model.specs.declared.steps.TxStep.{TxStep}
+use Rattle.ring_model.specs.declared.notes.Note.{Note}
+use Rattle.ring_model.specs.shared.Schedules.{after_all, happened, IsReached}
+use Rattle.ring_model.specs.receive.Ring.{RxRing, rx_opening}
+use Rattle.ring_model.specs.receive.Steps.{rx_can, rx_next, rx_note_of, IsRxReachable}
+use Rattle.ring_model.specs.receive.Lawful.{IsLawfulRx}
+use Rattle.ring_model.specs.receive.Laws.{RxLater}
+use Rattle.ring_model.specs.transmit.Ring.{Posting, TxBeginning, TxRing, tx_opening}
+use Rattle.ring_model.specs.transmit.Steps.{tx_can, tx_next, tx_note_of, IsTxReachable}
+use Rattle.ring_model.specs.transmit.Lawful.{IsLawfulTx}
+use Rattle.ring_model.specs.transmit.Laws.{TxLater}
+
+pub record World : Type 0 where
+  pub receive : List (RxRing ℕ)
+  pub transmit : List (TxRing ℕ)
+
+-- a step of the queue with this number
+pub data QueueMove : Type 0 where
+  Receive : ℕ → RxStep ℕ → QueueMove
+  Transmit : ℕ → TxStep (Posting ℕ) → QueueMove
+
+-- so many pairs of queues as they are made
+abbrev pub opening_world : ℕ → ℕ → TxBeginning → World
+opening_world pairs n b = record { receive = replicate pairs (rx_opening n b.enabled); transmit = replicate pairs (tx_opening n b) }
+
+-- Of queues of one direction: a queue that is not there has no step
+module _ {Ring Step : Type 0} where
+  abbrev pub can_at : (Ring → Step → Bool) → Option Ring → Step → Bool
+  can_at can None s = false
+  can_at can (Some r) s = can r s
+
+  abbrev pub put_next : (Ring → Step → Ring) → List Ring → ℕ → Step → Option Ring → List Ring
+  put_next next rs q s None = rs
+  put_next next rs q s (Some r) = slice_set rs q (next r s)
+
+  abbrev pub note_at : (Ring → Step → Bool) → (Ring → Step → Note) → Option Ring → Step → Option Note
+  note_at can tells None s = None
+  note_at can tells (Some r) s = if can r s then Some (tells r s) else None
+
+abbrev pub can_move : World → QueueMove → Bool
+can_move w (Receive q s) = can_at rx_can (slice_get w.receive q) s
+can_move w (Transmit q s) = can_at tx_can (slice_get w.transmit q) s
+
+-- the move's own queue makes the step, if it has it
+abbrev pub after_move : World → QueueMove → World
+after_move w (Receive q s) = record w { receive = put_next rx_next w.receive q s (slice_get w.receive q) }
+after_move w (Transmit q s) = record w { transmit = put_next tx_next w.transmit q s (slice_get w.transmit q) }
+
+-- what the move tells; nothing where it can't happen, or its queue is not there
+abbrev pub note_in : World → QueueMove → Option Note
+note_in w (Receive q s) = note_at rx_can rx_note_of (slice_get w.receive q) s
+note_in w (Transmit q s) = note_at tx_can tx_note_of (slice_get w.transmit q) s
+
+abbrev pub after_moves : World → List QueueMove → World
+after_moves = after_all can_move after_move
+
+abbrev pub moves_happened : World → List QueueMove → ℕ
+moves_happened = happened can_move after_move
+
+-- some schedule of moves makes the world out of queues of n places as they were made
+abbrev pub IsReachableWorld : ℕ → ℕ → World → Type 0
+IsReachableWorld pairs n w = IsReached can_move after_move (opening_world pairs n) w
+
+-- all other queues are as they were
+abbrev pub IsLeftAlone : World → QueueMove → World → Type 0
+IsLeftAlone w (Receive q s) later = (later.transmit ≡ w.transmit) × ((k : ℕ) → k ≢ q → slice_get later.receive k ≡ slice_get w.receive k)
+IsLeftAlone w (Transmit q s) later = (later.receive ≡ w.receive) × ((k : ℕ) → k ≢ q → slice_get later.transmit k ≡ slice_get w.transmit k)
+
+-- every queue of the world is a ring that a schedule of its own steps gives, and so it is lawful
+pub record IsLawfulWorld (n : ℕ) (w : World) : Type 0 where
+  pub receive_reached : (q : ℕ) (r : RxRing ℕ) → slice_get w.receive q ≡ Some r → IsRxReachable ℕ n r
+  pub transmit_reached : (q : ℕ) (r : TxRing ℕ) → slice_get w.transmit q ≡ Some r → IsTxReachable ℕ n r
+  pub receive : (q : ℕ) (r : RxRing ℕ) → slice_get w.receive q ≡ Some r → IsLawfulRx ℕ r
+  pub transmit : (q : ℕ) (r : TxRing ℕ) → slice_get w.transmit q ≡ Some r → IsLawfulTx ℕ r
+
+-- there are as many queues as before, and each goes on from what it was
+pub record WorldLater (w later : World) : Type 0 where
+  pub receive_count : length later.receive ≡ length w.receive
+  pub transmit_count : length later.transmit ≡ length w.transmit
+  pub receive : (q : ℕ) (r after : RxRing ℕ) → slice_get w.receive q ≡ Some r → slice_get later.receive q ≡ Some after → RxLater r after
+  pub transmit : (q : ℕ) (r after : TxRing ℕ) → slice_get w.transmit q ≡ Some r → slice_get later.transmit q ≡ Some after → TxLater r after

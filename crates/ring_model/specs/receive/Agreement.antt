@@ -1,0 +1,24 @@
+-- What a receive ring's words and slots have.
+use Rattle.std.specs.Prelude.{ℕ, ◌+◌, ◌*◌, ◌^◌, Bool, Option, Some, None}
+use Rattle.ring_model.specs.shared.Agreement.{Registers, bit, registers_of}
+use Rattle.ring_model.specs.receive.Ring.{Segment, RxRing}
+
+-- the second word of a write-back (82599 datasheet, 7.1.6.2): DD in bit 0, EOP in bit 1, the length in bits 47:32
+abbrev pub rx_word : ℕ → Bool → ℕ
+rx_word len eop = 1 + 2 * bit eop + len * 2 ^ 32
+
+abbrev pub rx_registers_of : {Payload : Type 0} → RxRing Payload → Registers
+rx_registers_of r = registers_of r.queue r.quiet
+
+-- `size` counts a payload's bytes, `fresh` is the posted buffer with a number, and `filled` that buffer with a payload
+module _ {Payload Buffer : Type 0} (size : Payload → ℕ) (fresh : ℕ → Buffer) (filled : ℕ → Payload → Buffer) where
+  -- the word at the place of an item: 0 as it was posted, else the write-back of the segment
+  abbrev pub rx_says : ℕ → Option ℕ → Option (Segment Payload) → ℕ
+  rx_says k posted None = 0
+  rx_says k posted (Some s) = rx_word (size s.payload) s.eop
+
+  -- its buffer, with the payload once it is stored
+  abbrev pub rx_lies : Option ℕ → Option (Segment Payload) → Option Buffer
+  rx_lies None served = None
+  rx_lies (Some b) None = Some (fresh b)
+  rx_lies (Some b) (Some s) = Some (filled s.number s.payload)

@@ -1,0 +1,21 @@
+-- What is settled in a receive ring, and what goes on for ever.
+use Rattle.std.specs.Prelude.{◌≡◌, ◌≤◌, Bool, true, ◌&&◌, ◌||◌}
+use Rattle.ring_model.specs.shared.Handshakes.{has_ended, is_serving}
+use Rattle.ring_model.specs.shared.Laws.{IsConcluded, IsOrdered, Later}
+use Rattle.ring_model.specs.receive.Ring.{RxRing, is_whole}
+
+module _ {Payload : Type 0} where
+  -- the controller stores no more in this epoch: it answered the disabling, or it said that it is quiet
+  abbrev pub rx_over : RxRing Payload → Bool
+  rx_over r = has_ended r.handshake || (is_serving r.handshake.controller && r.still)
+
+  -- where the controller is over, no frame is left unfinished; and it is over wherever the quiet word of this epoch is 1
+  pub record IsRxConcluded (r : RxRing Payload) : Type 0 where
+    pub order : IsOrdered r.queue
+    pub queue : IsConcluded r.queue
+    pub whole : rx_over r ≡ true → is_whole r ≡ true
+    pub bit : r.quiet ≤ 1
+    pub quiet : r.quiet ≡ 1 → rx_over r ≡ true
+
+  abbrev pub RxLater : RxRing Payload → RxRing Payload → Type 0
+  RxLater r later = Later r.queue (rx_over r) later.queue (rx_over later)

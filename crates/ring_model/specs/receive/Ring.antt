@@ -1,0 +1,50 @@
+-- A receive ring: a queue of buffers' numbers, filled to segments that the driver takes.
+use Rattle.std.specs.Prelude.{ℕ, Bool, true, false, Option, slice_get, slice_index}
+use Rattle.ring_model.specs.shared.Frames.{Bytes, Piece, ends_frame}
+use Rattle.ring_model.specs.shared.Queue.{Ledger, Queue, opening, given_count, served_count}
+
+-- What one descriptor carries: the buffer's number, its payload, and whether it ends its frame
+pub record Segment (Payload : Type 0) : Type 0 where
+  pub number : ℕ
+  pub payload : Payload
+  pub eop : Bool
+
+-- what a segment carries, whatever its buffer
+abbrev pub piece_of : Segment Bytes → Piece
+piece_of s = record { bytes = s.payload; eop = s.eop }
+
+abbrev pub ends_segment : {Payload : Type 0} → Segment Payload → Bool
+ends_segment s = s.eop
+
+abbrev pub number_of_segment : {Payload : Type 0} → Segment Payload → ℕ
+number_of_segment s = s.number
+
+-- The numbers of posted buffers, the segments that the controller stored, and those that the driver took
+abbrev pub RxLedger : Type 0 → Type 0
+RxLedger Payload = Ledger ℕ (Segment Payload) (Segment Payload)
+
+abbrev pub RxQueue : Type 0 → Type 0
+RxQueue Payload = Queue ℕ (Segment Payload) (Segment Payload)
+
+pub record RxRing (Payload : Type 0) : Type 0 where
+  pub queue : RxQueue Payload
+  pub open queue use *
+  pub quiet : ℕ  -- the quiet word
+  pub still : Bool  -- the controller said that it stores no more
+
+-- a ring of n places as it is made
+abbrev pub rx_opening : {Payload : Type 0} → ℕ → Bool → RxRing Payload
+rx_opening n enabled = record { queue = opening n enabled; quiet = 0; still = false }
+
+module _ {Payload : Type 0} where
+  -- whether the last stored segment ends a frame, or whether there is none
+  abbrev pub is_whole : RxRing Payload → Bool
+  is_whole r = ends_frame ends_segment true r.ledger.served
+
+  -- what would be stored next: a segment in the buffer that was posted as the next in order
+  abbrev pub next_segment : RxRing Payload → Payload → Bool → Segment Payload
+  next_segment r x eop = record { number = slice_index r.ledger.posted (served_count r.queue); payload = x; eop = eop }
+
+  -- the next segment to take, if it is stored yet
+  abbrev pub due : RxRing Payload → Option (Segment Payload)
+  due r = slice_get r.ledger.served (given_count r.queue)

@@ -1,0 +1,9 @@
+pub mod Lists
+pub mod Frames
+pub mod Handshakes
+pub mod QueueSteps
+pub mod Queue
+pub mod Schedules
+pub mod Lawful
+pub mod Laws
+pub mod Agreement

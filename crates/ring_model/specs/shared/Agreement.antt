@@ -1,0 +1,79 @@
+-- How a queue whose places wrap, with words and slots, agrees with the unbounded one.
+use Rattle.std.specs.Prelude.{◌≡◌, ℕ, ◌+◌, ◌%◌, Bool, true, false, ◌&&◌, ◌==◌, List, Option, Some, None, slice_get, slice_index, if◌then◌else◌}
+use Rattle.ring_model.specs.declared.states.Owner.TheVariants.{Driver}
+use Rattle.ring_model.specs.declared.handshake.Handshake.{Handshake}
+use Rattle.ring_model.specs.shared.Lists.{EachItem, slot_at}
+use Rattle.ring_model.specs.shared.Frames.{ends_frame}
+use Rattle.ring_model.specs.shared.Handshakes.{is_between}
+use Rattle.ring_model.specs.shared.Queue.{Queue, posted_count, served_count, returned_count, next_head}
+
+-- a number under an `if` has no type
+abbrev pub bit : Bool → ℕ
+bit true = 1
+bit false = 0
+
+-- The words of a queue's table that are no descriptor: head at n, tail at n + 1, control at n + 2, quiet at n + 3
+pub record Registers : Type 0 where
+  pub head : ℕ
+  pub tail : ℕ
+  pub control : ℕ
+  pub quiet : ℕ
+
+abbrev pub registers_of : {Posted Served Given : Type 0} → Queue Posted Served Given → ℕ → Registers
+registers_of q quiet = record { head = q.head; tail = q.published % q.size; control = q.handshake.control; quiet = quiet }
+
+pub record HasRegisters (n : ℕ) (g : Registers) (words : List ℕ) : Type 0 where
+  pub head : slice_index words n ≡ g.head
+  pub tail : slice_index words (n + 1) ≡ g.tail
+  pub control : slice_index words (n + 2) ≡ g.control
+  pub quiet : slice_index words (n + 3) ≡ g.quiet
+
+-- `says` is the word of item k, of what was posted and what was served there; `lies` the buffer
+module _ {Posted Served Given Buffer : Type 0} (says : ℕ → Option Posted → Option Served → ℕ) (lies : Option Posted → Option Served → Option Buffer) where
+  abbrev pub wanted_word : Queue Posted Served Given → ℕ → ℕ
+  wanted_word q k = says k (slice_get q.ledger.posted k) (slice_get q.ledger.served k)
+
+  -- the slot at the place of item k: its buffer, but for the one that the controller holds
+  abbrev pub wanted_slot : Queue Posted Served Given → ℕ → Option Buffer
+  wanted_slot q k = if q.held && (k == served_count q) then None else lies (slice_get q.ledger.posted k) (slice_get q.ledger.served k)
+
+  -- each item that is out has its word and its buffer. Places of the driver may have anything
+  pub record HasItems (n : ℕ) (q : Queue Posted Served Given) (word : ℕ → ℕ) (slot : ℕ → Option Buffer) : Type 0 where
+    pub words : EachItem n (returned_count q) (posted_count q) word (wanted_word q)
+    pub slots : EachItem n (returned_count q) (posted_count q) slot (wanted_slot q)
+
+  -- the buffer that the controller has fetched, if it has
+  abbrev pub held_buffer : Queue Posted Served Given → Option Buffer
+  held_buffer q = if q.held then lies (slice_get q.ledger.posted (served_count q)) None else None
+
+-- A queue as the two sides have it: places below n, one word a descriptor, and what each side keeps for itself
+pub record Wrapped (Buffer : Type 0) : Type 0 where
+  pub size : ℕ
+  pub words : List ℕ
+  pub head : ℕ
+  pub tail : ℕ
+  pub slots : List (Option Buffer)
+  pub fill : ℕ  -- the driver's next place to post, and the next to take or clean
+  pub next : ℕ
+  pub serve : ℕ  -- the controller's next place to fetch, and the last tail that it loaded
+  pub known : ℕ
+  pub held : Option Buffer
+  pub whole : Bool
+  pub handshake : Handshake
+
+-- `ends` says of what was served whether it ends a frame
+module _ {Posted Served Given Buffer : Type 0} (ends : Served → Bool) (says : ℕ → Option Posted → Option Served → ℕ) (lies : Option Posted → Option Served → Option Buffer) where
+  -- Each item that is out has its word and its buffer, and the driver's slots are empty. Between a renewal and the answer to it, the controller still has its places of the epoch before
+  pub record Agrees (w : Wrapped Buffer) (q : Queue Posted Served Given) : Type 0 where
+    pub size_is : w.size ≡ q.size
+    pub head : w.head ≡ q.head
+    pub tail : w.tail ≡ q.published % q.size
+    pub items : HasItems {Given = Given} says lies q.size q (slice_index w.words) (slot_at w.slots)
+    pub empty : (place : ℕ) → slice_get q.owners place ≡ Some Driver → slot_at w.slots place ≡ None
+    pub fill : w.fill ≡ posted_count q % q.size
+    pub next : w.next ≡ returned_count q % q.size
+    pub serve : is_between q.handshake ≡ false → w.serve ≡ next_head q
+    pub known : is_between q.handshake ≡ false → w.known ≡ q.known % q.size
+    pub held : w.held ≡ held_buffer {Given = Given} says lies q
+    pub whole : w.whole ≡ ends_frame ends true q.ledger.served
+    pub handshake : w.handshake ≡ q.handshake

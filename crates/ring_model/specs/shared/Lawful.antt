@@ -1,0 +1,26 @@
+-- Who has which place: the lawful owner map.
+use Rattle.std.specs.Prelude.{◌≡◌, ◌≢◌, ℕ, ◌%◌, ◌<◌, ◌≤◌, Bool, ◌&&◌, ◌==◌, List, length, Some, slice_get, if◌then◌else◌}
+use Rattle.ring_model.specs.declared.states.Owner.{Owner}
+use Rattle.ring_model.specs.declared.states.Owner.TheVariants.{Driver, Ring, Controller}
+use Rattle.ring_model.specs.shared.Queue.{Queue, posted_count, served_count, returned_count}
+
+-- Which items are out: from `first` up to `past`. The one at `serving` may be held by the controller
+pub record Window : Type 0 where
+  pub size : ℕ
+  pub first : ℕ
+  pub serving : ℕ
+  pub past : ℕ
+  pub held : Bool
+
+abbrev pub window : {Posted Served Given : Type 0} → Queue Posted Served Given → Window
+window q = record { size = q.size; first = returned_count q; serving = served_count q; past = posted_count q; held = q.held }
+
+-- who has the place of an item that is out
+abbrev pub holder : Window → ℕ → Owner
+holder w k = if w.held && (k == w.serving) then Controller else Ring
+
+-- Every place is with exactly one of the three: the places of items that are out with Ring, but that of a fetched one with Controller, and all others with Driver
+pub record IsLawfulMap (w : Window) (owners : List Owner) : Type 0 where
+  pub places : length owners ≡ w.size
+  pub out : (k : ℕ) → w.first ≤ k → k < w.past → slice_get owners (k % w.size) ≡ Some (holder w k)
+  pub home : (place : ℕ) → place < w.size → ((k : ℕ) → w.first ≤ k → k < w.past → (k % w.size) ≢ place) → slice_get owners place ≡ Some Driver

@@ -1,0 +1,18 @@
+-- Words on lists, and on items that lie round a ring: item k lies at the place k % n.
+use Rattle.std.specs.Prelude.{◌≡◌, ℕ, ◌%◌, ◌<◌, ◌≤◌, List, ◌++◌, Option, Some, None, slice_get}
+
+-- ys is xs followed by something, perhaps by nothing
+abbrev pub IsBeginning : {X : Type 0} → List X → List X → Type 0
+IsBeginning {X} xs ys = (rest : List X) × (xs ++ rest ≡ ys)
+
+-- what lies at the place of each item from `first` up to `past`
+abbrev pub EachItem : {X : Type 0} → ℕ → ℕ → ℕ → (ℕ → X) → (ℕ → X) → Type 0
+EachItem n first past lies wanted = (k : ℕ) → first ≤ k → k < past → lies (k % n) ≡ wanted k
+
+-- what lies in the slot at a place, if the place is there and the slot isn't empty
+abbrev pub slot_at : {X : Type 0} → List (Option X) → ℕ → Option X
+slot_at slots place = within (slice_get slots place)
+  where
+    within : {Y : Type 0} → Option (Option Y) → Option Y
+    within None = None
+    within (Some x) = x

@@ -1,0 +1,6 @@
+pub mod Ring
+pub mod Steps
+pub mod Frames
+pub mod Lawful
+pub mod Laws
+pub mod Agreement

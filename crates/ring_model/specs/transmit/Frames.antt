@@ -1,0 +1,16 @@
+-- Which posting may follow an unfinished frame: its bytes may, and PAYLEN is the whole frame's length in each descriptor of the frame.
+use Rattle.std.specs.Prelude.{◌≡◌, ℕ, ◌+◌, ◌≤◌, true, List, Some, length, slice_get, take}
+use Rattle.ring_model.specs.shared.Frames.{Bytes, Follows, join, unfinished}
+use Rattle.ring_model.specs.transmit.Ring.{Posting, carried}
+
+-- In a ring of n places this posting may follow the unfinished frame `before`
+pub record MayFollow (n : ℕ) (before : List (Posting Bytes)) (p : Posting Bytes) : Type 0 where
+  pub follows : Follows carried n before p.payload p.eop
+  pub asks_at_end : p.rs ≡ true → p.eop ≡ true
+  pub same_frame : (k : ℕ) (q : Posting Bytes) → slice_get before k ≡ Some q → q.paylen ≡ p.paylen
+  pub within : length (join carried before) + length p.payload ≤ p.paylen
+  pub whole : p.eop ≡ true → length (join carried before) + length p.payload ≡ p.paylen
+
+-- each posting may follow the unfinished frame of those before it
+abbrev pub AllMayFollow : ℕ → List (Posting Bytes) → Type 0
+AllMayFollow n ps = (k : ℕ) (p : Posting Bytes) → slice_get ps k ≡ Some p → MayFollow n (unfinished carried (take k ps)) p

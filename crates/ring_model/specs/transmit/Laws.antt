@@ -1,0 +1,31 @@
+-- What is settled in a transmit ring, and what goes on for ever.
+use Rattle.std.specs.Prelude.{◌≡◌, ◌≤◌, Bool, true, false, length, map, take}
+use Rattle.ring_model.specs.shared.Handshakes.{has_ended}
+use Rattle.ring_model.specs.shared.Queue.{posted_count, served_count, given_count}
+use Rattle.ring_model.specs.shared.Laws.{IsConcluded, IsOrdered, Later}
+use Rattle.ring_model.specs.transmit.Ring.{TxRing, are_whole, number_of_posting}
+
+module _ {Payload : Type 0} where
+  -- the controller sends no more in this epoch: it answered the disabling
+  abbrev pub tx_over : TxRing Payload → Bool
+  tx_over r = has_ended r.handshake
+
+  -- what is cleaned was seen reported, what was seen reported was reported, and what was reported was sent
+  pub record IsTxOrdered (r : TxRing Payload) : Type 0 where
+    pub queue : IsOrdered r.queue
+    pub cleaned_seen : given_count r.queue ≤ r.seen_reported
+    pub seen_reported : r.seen_reported ≤ r.reported
+    pub reported_sent : r.reported ≤ served_count r.queue
+
+  -- what is published ends with a whole frame; where the controller is over no frame is left unfinished and no report owed; and where all that was posted is cleaned, all was sent
+  pub record IsTxConcluded (r : TxRing Payload) : Type 0 where
+    pub order : IsTxOrdered r
+    pub queue : IsConcluded r.queue
+    pub published : are_whole (take r.published r.ledger.posted) ≡ true
+    pub whole : tx_over r ≡ true → are_whole r.ledger.served ≡ true
+    pub paid : tx_over r ≡ true → r.owed ≡ false
+    pub all_sent : posted_count r.queue ≤ given_count r.queue → r.ledger.served ≡ r.ledger.posted
+    pub all_cleaned : posted_count r.queue ≤ given_count r.queue → r.ledger.given ≡ map number_of_posting r.ledger.posted
+
+  abbrev pub TxLater : TxRing Payload → TxRing Payload → Type 0
+  TxLater r later = Later r.queue (tx_over r) later.queue (tx_over later)

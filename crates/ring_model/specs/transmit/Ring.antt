@@ -1,0 +1,60 @@
+-- A transmit ring: a queue of postings that the controller sends, and whose buffers the driver takes back.
+use Rattle.std.specs.Prelude.{ℕ, Bool, true, false, List, Option, slice_get}
+use Rattle.ring_model.specs.declared.states.Completion.{Completion}
+use Rattle.ring_model.specs.shared.Frames.{Bytes, Piece, ends_frame}
+use Rattle.ring_model.specs.shared.Queue.{Ledger, Queue, opening, given_count, served_count}
+
+-- What the driver posts: the buffer's number, its payload, whether it ends its frame, whether a report is asked for, and the length of the whole frame
+pub record Posting (Payload : Type 0) : Type 0 where
+  pub number : ℕ
+  pub payload : Payload
+  pub eop : Bool
+  pub rs : Bool
+  pub paylen : ℕ
+
+-- what a posting carries, whatever its buffer
+abbrev pub carried : Posting Bytes → Piece
+carried p = record { bytes = p.payload; eop = p.eop }
+
+abbrev pub ends_posting : {Payload : Type 0} → Posting Payload → Bool
+ends_posting p = p.eop
+
+abbrev pub number_of_posting : {Payload : Type 0} → Posting Payload → ℕ
+number_of_posting p = p.number
+
+-- What the driver posted, what of it the controller sent, and the numbers of the buffers that the driver took back
+abbrev pub TxLedger : Type 0 → Type 0
+TxLedger Payload = Ledger (Posting Payload) (Posting Payload) ℕ
+
+abbrev pub TxQueue : Type 0 → Type 0
+TxQueue Payload = Queue (Posting Payload) (Posting Payload) ℕ
+
+pub record TxRing (Payload : Type 0) : Type 0 where
+  pub queue : TxQueue Payload
+  pub open queue use *
+  pub completion : Completion
+  pub reported : ℕ  -- counts of items
+  pub seen_reported : ℕ
+  pub owed : Bool  -- a report, of the last that was sent
+
+-- how a transmit ring begins
+pub record TxBeginning : Type 0 where
+  pub enabled : Bool
+  pub completion : Completion
+
+-- a ring of n places as it is made
+abbrev pub tx_opening : {Payload : Type 0} → ℕ → TxBeginning → TxRing Payload
+tx_opening n b = record { queue = opening n b.enabled; completion = b.completion; reported = 0; seen_reported = 0; owed = false }
+
+module _ {Payload : Type 0} where
+  -- whether the last of these ends a frame, or whether there is none
+  abbrev pub are_whole : List (Posting Payload) → Bool
+  are_whole ps = ends_frame ends_posting true ps
+
+  -- what is to be sent next: the posting that comes next in order
+  abbrev pub next_posting : TxRing Payload → Option (Posting Payload)
+  next_posting r = slice_get r.ledger.posted (served_count r.queue)
+
+  -- what is to be cleaned next
+  abbrev pub next_sent : TxRing Payload → Option (Posting Payload)
+  next_sent r = slice_get r.ledger.served (given_count r.queue)

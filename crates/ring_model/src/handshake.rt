@@ -1,0 +1,133 @@
+//! The handshake over the control word (82599 datasheet, RXDCTL.ENABLE and TXDCTL.ENABLE), the same for both directions.
+
+ghost use Rattle.std.specs.Prelude.{◌≡◌, if◌then◌else◌};
+
+use crate::states::{ControllerState, DriverState};
+use crate::steps::ControlStep;
+
+/// The control word, the last control value that the controller loaded or answered, and how far each side is.
+///
+/// Control is 0 disabled, 1 enabling asked, 2 enabled, 3 disabling asked.
+#[derive(Clone, Copy)]
+pub struct Handshake {
+    /// The control word.
+    pub control: u8,
+    /// What the controller loaded last, or answered since.
+    pub seen: u8,
+    /// How far the driver is.
+    pub driver: DriverState,
+    /// How far the controller is.
+    pub controller: ControllerState,
+}
+
+impl Handshake {
+    ghost use Rattle.ring_model.specs.shared.Handshakes.{can_enable, control_value, disable, enable, first_handshake, may_shake, shaken};
+
+    /// How a queue begins: enabled and seen enabled on both sides, or never enabled.
+    pub fn first(enabled: bool) -> Handshake
+        ensures { result ≡ first_handshake enabled }
+    {
+        if enabled {
+            Handshake {
+                control: 2,
+                seen: 2,
+                driver: DriverState::On,
+                controller: ControllerState::Serving,
+            }
+        } else {
+            Handshake {
+                control: 0,
+                seen: 0,
+                driver: DriverState::New,
+                controller: ControllerState::Off,
+            }
+        }
+    }
+
+    /// Whether the controller's answer (C3) enables the queue.
+    pub fn can_enable(self) -> bool
+        ensures { result ≡ can_enable self }
+    {
+        self.seen == 1 && !self.controller.is_serving()
+    }
+
+    /// Whether this step can happen; `settled` says whether a disabling may be answered now.
+    pub fn may_shake(self, step: ControlStep, settled: bool) -> bool
+        ensures { result ≡ may_shake self step settled }
+    {
+        match step {
+            ControlStep::AskEnable => self.driver.is_new(),
+            ControlStep::LookAsked | ControlStep::LookAnswered => true,
+            ControlStep::Answer => {
+                self.can_enable() || (self.seen == 3 && self.controller.is_serving() && settled)
+            }
+            ControlStep::AskDisable => self.driver.is_on(),
+        }
+    }
+
+    /// The control value that this step stores or loads.
+    pub fn control_value(self, step: ControlStep) -> u8
+        ensures { result ≡ control_value self step }
+    {
+        match step {
+            ControlStep::AskEnable => 1,
+            ControlStep::LookAsked | ControlStep::LookAnswered => self.control,
+            ControlStep::Answer => {
+                if self.can_enable() {
+                    2
+                } else {
+                    0
+                }
+            }
+            ControlStep::AskDisable => 3,
+        }
+    }
+
+    /// The handshake after this step, which can happen.
+    pub fn shaken(self, step: ControlStep) -> Handshake
+        ensures { result ≡ shaken self step }
+    {
+        match step {
+            ControlStep::AskEnable => Handshake {
+                control: 1,
+                driver: DriverState::Asked,
+                ..self
+            },
+            ControlStep::LookAsked => Handshake {
+                seen: self.control,
+                ..self
+            },
+            ControlStep::Answer => self.answered(),
+            ControlStep::LookAnswered => Handshake {
+                driver: self.driver.learned(self.control),
+                ..self
+            },
+            ControlStep::AskDisable => Handshake {
+                control: 3,
+                driver: DriverState::Stopping,
+                ..self
+            },
+        }
+    }
+
+    // The handshake after the controller's answer.
+    fn answered(self) -> Handshake
+        ensures { result ≡ (if can_enable self then enable self else disable self) }
+    {
+        if self.can_enable() {
+            Handshake {
+                control: 2,
+                seen: 2,
+                controller: ControllerState::Serving,
+                ..self
+            }
+        } else {
+            Handshake {
+                control: 0,
+                seen: 0,
+                controller: ControllerState::Ended,
+                ..self
+            }
+        }
+    }
+}

@@ -1,0 +1,5 @@
+//! Worked rows: what schedules tell, computed from the definitions alone.
+
+/// The rows.
+pub fn worked_rows()
+{}
