@@ -5,3 +5,6 @@ pub mod Shakes
 pub mod Orders
 pub mod Owners
 pub mod Stepping
+pub mod Fixed
+pub mod Reaching
+pub mod Reached
