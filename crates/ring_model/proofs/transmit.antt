@@ -1,2 +1,4 @@
 pub mod Kept
+pub mod Reports
+pub mod Stepping
 pub mod Reached
