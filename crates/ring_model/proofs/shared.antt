@@ -1,3 +1,6 @@
 pub mod Places
 pub mod Beginnings
 pub mod Kept
+pub mod FrameLaws
+pub mod Cuts
+pub mod Following
