@@ -3,7 +3,7 @@ use Rattle.std.proofs.Common.{◌≡◌, ℕ, zero, suc, ◌+◌, ◌-◌, ◌*�
 use Rattle.std.specs.Prelude.{slice_get}
 use Rattle.std.proofs.lemmas.Option.{none-some, same_Some}
 use Rattle.std.proofs.Math.Nat.{lt-div-mul-add}
-use Rattle.ring_model.specs.shared.Frames.{Bytes, Piece, pieces, piece_count, cut, itself, join, unfinished_from, unfinished, chains_from, chains, frames, IsCutBy}
+use Rattle.ring_model.specs.shared.Frames.{Bytes, Piece, pieces, piece_count, cut, itself, join, unfinished_from, unfinished, chains_from, frames, IsCutBy}
 use Rattle.ring_model.proofs.shared.Beginnings.{same_head, same_tail}
 use Rattle.ring_model.proofs.shared.FrameLaws.{join-append}
 

@@ -1,5 +1,5 @@
 -- The pieces of a frame follow one another: each may be stored or posted behind those before it. And where nothing is unfinished, the last ends a frame.
-use Rattle.std.proofs.Common.{◌≡◌, ℕ, zero, suc, ◌+◌, ◌-◌, ◌*◌, ◌<◌, ◌≤◌, Bool, true, false, List, [], ◌∷◌, ◌++◌, map, length, take, drop, min, Some, sym, refl, ap, ◌∙◌, subst, arith, if◌then◌else◌, append_assoc, append-nil, suc-mul, length-take, length-drop, length-append, zero-mul}
+use Rattle.std.proofs.Common.{◌≡◌, ℕ, zero, suc, ◌+◌, ◌<◌, ◌≤◌, Bool, true, false, List, [], ◌∷◌, ◌++◌, map, length, take, drop, Some, sym, refl, ap, ◌∙◌, subst, arith, if◌then◌else◌, append_assoc, append-nil, suc-mul, length-take, length-drop, length-append, zero-mul}
 use Rattle.std.specs.Prelude.{slice_get}
 use Rattle.std.proofs.lemmas.Bool.{false≢true}
 use Rattle.std.proofs.lemmas.Option.{none-some, same_Some}
@@ -83,14 +83,14 @@ module _ {X : Type 0} (carries : X → Piece) where
 
   -- how many pieces are left of a frame that is cut
   starts : (n b len k : ℕ) → CanCut n b len → piece_count b len ≡ suc k → Left n b k 0 0 len
-  starts n b len k c e = let least = c.least in let few = c.segments in let out = c.descriptors in record {
+  starts n b len k c e = let least = c.least in let most = c.most in let few = c.segments in let out = c.descriptors in record {
     some_room = c.some_room;
     room = c.room;
     count = needs b len k c.some_room (omega arith) e;
     segments_fit = omega arith;
     descriptors = omega arith;
-    most = c.most;
-    least = c.least;
+    most = omega arith;
+    least = omega arith;
   }
 
   follows_counted : (n b count : ℕ) (f : Bytes) (rest : List X) (j : ℕ) (p : Piece) → CanCut n b (length f) → piece_count b (length f) ≡ count
@@ -102,9 +102,6 @@ module _ {X : Type 0} (carries : X → Piece) where
   pub follows-cut : (n b : ℕ) (f : Bytes) (rest : List X) (j : ℕ) (p : Piece) → CanCut n b (length f)
       → map carries rest ≡ take j (cut b f) → slice_get (cut b f) j ≡ Some p → Follows carries n rest p.bytes p.eop
   follows-cut n b f rest j p c m e = follows_counted n b (piece_count b (length f)) f rest j p c refl m e
-
-  ends_piece : X → Bool
-  ends_piece x = (carries x).eop
 
   -- whether anything is unfinished is whether the last of them ends a frame
   pub record Finished (rest xs : List X) (whole : Bool) : Type 0 where

@@ -5,7 +5,7 @@ use Rattle.std.proofs.lemmas.Option.{none-some, same_Some, slice_get_within}
 use Rattle.std.proofs.lemmas.List.{map-append, take-append-le}
 use Rattle.std.proofs.Math.Seq.{take-append_seam}
 use Rattle.ring_model.specs.shared.Lists.{IsBeginning}
-use Rattle.ring_model.specs.shared.Frames.{Bytes, Piece, join, unfinished_from, unfinished, chains_from, chains, frames, Follows, AllFollow, HasFrameLength, ends_frame}
+use Rattle.ring_model.specs.shared.Frames.{Bytes, Piece, join, unfinished_from, unfinished, chains_from, chains, frames, Follows, AllFollow, HasFrameLength}
 use Rattle.ring_model.proofs.shared.Beginnings.{slice_get-snoc, beginning_at}
 
 module _ {X : Type 0} (carries : X → Piece) where

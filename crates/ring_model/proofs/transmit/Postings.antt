@@ -1,5 +1,5 @@
 -- Postings that may follow one another: what a beginning and one more keep, and what holds of their chains.
-use Rattle.std.proofs.Common.{◌≡◌, ℕ, ◌+◌, ◌≤◌, true, List, [], ◌∷◌, ◌++◌, length, Some, sym, ◌∙◌, ⊎_elim, subst, ap}
+use Rattle.std.proofs.Common.{◌≡◌, ℕ, true, List, [], ◌∷◌, ◌++◌, length, Some, sym, ◌∙◌, ⊎_elim, ap}
 use Rattle.std.specs.Prelude.{slice_get}
 use Rattle.ring_model.specs.shared.Lists.{IsBeginning}
 use Rattle.ring_model.specs.shared.Frames.{Bytes, join, unfinished, chains, frames, AllFollow, HasFrameLength}
