@@ -4,3 +4,4 @@ pub mod Kept
 pub mod FrameLaws
 pub mod Cuts
 pub mod Following
+pub mod Schedules
