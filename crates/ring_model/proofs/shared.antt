@@ -8,3 +8,6 @@ pub mod Stepping
 pub mod Fixed
 pub mod Reaching
 pub mod Reached
+pub mod FrameLaws
+pub mod Cuts
+pub mod Following

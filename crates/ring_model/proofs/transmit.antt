@@ -2,3 +2,4 @@ pub mod Kept
 pub mod Reports
 pub mod Stepping
 pub mod Reached
+pub mod Postings

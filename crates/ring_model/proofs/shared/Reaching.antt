@@ -20,6 +20,9 @@ module _ {State Step : Type 0} (can : State → Step → Bool) (changed : State 
   pub reached-opening : {Beginning : Type 0} (opening : Beginning → State) (b : Beginning) → IsReached can changed opening (opening b)
   reached-opening opening b = record { beginning = b; schedule = []; made = refl }
 
+  pub reached-next : {Beginning : Type 0} (opening : Beginning → State) (r : State) (s : Step) → IsReached can changed opening r → IsReached can changed opening (next can changed r s)
+  reached-next opening r s e = reached-more opening r (s ∷ []) e
+
   pub reached-changed : {Beginning : Type 0} (opening : Beginning → State) (r : State) (s : Step) → can r s ≡ true → IsReached can changed opening r → IsReached can changed opening (changed r s)
   reached-changed opening r s may e = subst (λ (q : State). IsReached can changed opening q) (next-happens r s may) (reached-more opening r (s ∷ []) e)
 
