@@ -1,9 +1,9 @@
 -- The read format of a transmit descriptor, and its descriptors.
 use Rattle.std.proofs.Common.{◌≡◌, ℕ, ◌+◌, ◌*◌, ◌/◌, ◌%◌, ◌<◌, ◌≤◌, ◌^◌, IsTrue, Bool, true, false, List, Result, Ok, Err, refl, ap, subst, ◌∙◌, arith, rules}
 use Rattle.std.proofs.Props.{props}
+use Rattle.limits.specs.declared.profile.TheConstants.{BUFFER_BYTES, LEAST_FRAME, MOST_FRAME}
 use Rattle.descriptor.specs.declared.error.DescError.{DescError}
 use Rattle.descriptor.specs.declared.error.DescError.TheVariants.{Length, Reserved, Kind, Size}
-use Rattle.limits.specs.declared.profile.TheConstants.{BUFFER_BYTES, LEAST_FRAME, MOST_FRAME}
 use Rattle.descriptor.specs.declared.tx_read.TxRead.{TxRead}
 use Rattle.descriptor.specs.Address.{address_fields}
 use Rattle.descriptor.specs.Refusal.{IsLowest}

@@ -1,7 +1,7 @@
 //! The receive write-back (82599 datasheet, 7.1.6.2).
 ghost use Rattle.std.specs.Prelude.{◌≡◌, ℕ, ◌+◌, ◌*◌, ◌/◌, ◌%◌, ◌^◌, ◌<◌, ◌≤◌, ◌↔◌, IsTrue, IfOk, IfErr};
-ghost use Rattle.descriptor.specs.Layout.{bit};
 ghost use Rattle.limits.specs.declared.profile.TheConstants.{BUFFER_BYTES};
+ghost use Rattle.descriptor.specs.Layout.{bit};
 
 use crate::DescError;
 use crate::words::{bits, bytes_from_words, is_set, words_from_bytes};

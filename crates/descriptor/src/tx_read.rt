@@ -1,7 +1,7 @@
 //! The transmit descriptor as the driver posts it (82599 datasheet, 7.2.3.2.4).
 ghost use Rattle.std.specs.Prelude.{◌≡◌, ◌+◌, ◌*◌, ◌/◌, ◌%◌, ◌^◌, ◌<◌, ◌≤◌, ◌↔◌, IsTrue, IfOk};
-ghost use Rattle.descriptor.specs.Layout.{bit};
 ghost use Rattle.limits.specs.declared.profile.TheConstants.{BUFFER_BYTES, LEAST_FRAME, MOST_FRAME};
+ghost use Rattle.descriptor.specs.Layout.{bit};
 
 use crate::DescError;
 use crate::address::{address_of, number_at};
