@@ -5,3 +5,4 @@ pub mod FrameLaws
 pub mod Cuts
 pub mod Following
 pub mod Schedules
+pub mod Shapes
