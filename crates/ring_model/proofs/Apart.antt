@@ -103,7 +103,7 @@ module _ {Ring Step : Type 0} (can : Ring → Step → Bool) (changed : Ring →
   put-all Stays on rs q s None e all k r h = all k r h
   put-all Stays on rs q s (Some x) e all k r h = ⊎_elim
       (λ same. let it = same_Some (next can changed x s) r (sym (get_set_same rs q (next can changed x s) x e) ∙ ap (λ (j : ℕ). slice_get (slice_set rs q (next can changed x s)) j) (sym same) ∙ h) in
-          subst Stays it (on x s (all q x e)))
+      subst Stays it (on x s (all q x e)))
       (λ ne. all k r (sym (get_set_other rs q k (next can changed x s) ne) ∙ h))
       (cases_eq k q)
 
