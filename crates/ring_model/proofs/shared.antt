@@ -11,3 +11,4 @@ pub mod Reached
 pub mod FrameLaws
 pub mod Cuts
 pub mod Following
+pub mod Shapes
