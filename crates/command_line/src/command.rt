@@ -32,7 +32,8 @@ const REPLAY_EXAMPLE: &str =
     "Example:\n  echo 'r0 A1 5' | poll82599 replay --ring 16\n  prints r0 A1 place 0\n  and moves 1 of 1";
 
 /// One example of each command.
-const EXAMPLES: &str = "Examples:\n  poll82599 once 000102030405060708090a0b0c0d\n  poll82599 decode rx back 0000000000000000030000003c000000\n  echo 'r0 A1 5' | poll82599 replay --ring 16";
+const EXAMPLES: &str =
+    "Examples:\n  poll82599 once 000102030405060708090a0b0c0d\n  poll82599 decode rx back 0000000000000000030000003c000000\n  echo 'r0 A1 5' | poll82599 replay --ring 16";
 
 static RINGS: [&str; 2] = ["rx", "tx"];
 

@@ -5,6 +5,7 @@ use Rattle.std.specs.Result.{result_map_both}
 use Rattle.std.specs.Io.KnownBytes.{Appends, Keeps}
 use Rattle.ring_machine.specs.declared.error.MachineError.TheVariants as machine
 use Rattle.ring_machine.specs.Queues.{AreQueues}
+use Rattle.text_lines.specs.Parts.{lines_of}
 use Rattle.commands.specs.declared.answering.TheConstants.{DONE, REFUSED}
 use Rattle.commands.specs.declared.decode.Form.{Form}
 use Rattle.commands.specs.declared.refusal.Refusal.{Refusal}
@@ -16,7 +17,7 @@ use Rattle.commands.specs.Answers.{line_of, once_answer, Ends, EndsAs, EndsDecod
 use Rattle.commands.specs.Digits.{bytes_in}
 use Rattle.commands.specs.Frame.{frame_in}
 use Rattle.commands.specs.Decoding.{IsDecoded}
-use Rattle.commands.specs.Replay.{lines_of, EndsReplay, HasReplayed, IsFaulty, IsReplayed, RefusesReplay, ReplayRefused}
+use Rattle.commands.specs.Replay.{EndsReplay, HasReplayed, IsFaulty, IsReplayed, RefusesReplay, ReplayRefused}
 use Rattle.commands.proofs.Replaying.{faulty-unsaid}
 
 -- ---- once

@@ -11,21 +11,22 @@ use Rattle.std.proofs.lemmas.List.Elements.{All-append, All-cons, All-head, All-
 use Rattle.ring_machine.specs.declared.queue_moves.Move.{Move}
 use Rattle.ring_machine.specs.declared.notes.Note.{Note}
 use Rattle.ring_machine.specs.declared.error.MachineError.{MachineError}
-use Rattle.ring_machine.specs.declared.limits.TheConstants.{LEAST_RING, MOST_PAIRS, MOST_RING}
+use Rattle.limits.specs.declared.profile.TheConstants.{LEAST_RING, MOST_PAIRS, MOST_RING}
 use Rattle.ring_machine.specs.declared.states.Completion.{Completion}
 use Rattle.ring_machine.specs.Worlds.{World, opening_world, after_move, after_moves, can_move, moves_happened, IsReachableWorld}
 use Rattle.ring_machine.specs.Queues.{AreQueues, QueueParts, QueuesAgree, QueuesDid, note_in}
 use Rattle.ring_machine.specs.MoveTexts.{IsInRange, name_of, note_text, text_of}
 use Rattle.ring_machine.proofs.QueuesRunning.{after_moves-append, did-made, did-refused, moves_happened-append, reached_world}
+use Rattle.text_lines.specs.Parts.{lines_of, says_something}
 use Rattle.commands.specs.declared.replay.QueuePlan.{QueuePlan}
-use Rattle.commands.specs.Replay.{count_line, is_move_line, line_in, lines_in, lines_of, told_text, world_of, HasPage, IsFaulty, IsMoveList, IsNoMove, IsPageOf, IsReplay, Reads, Says, WroteMove}
+use Rattle.commands.specs.Replay.{count_line, line_in, lines_in, told_text, world_of, HasPage, IsFaulty, IsMoveList, IsNoMove, IsPageOf, IsReplay, Reads, Says, WroteMove}
 
 -- what reading a line answers, in words of lists
 pub read-line : (line : List ℕ) (result : Result Move MachineError) → ((m : Move) → (result ≡ Ok m) ↔ (IsInRange m × (line ≡ text_of m))) → is_ok result ≡ true → Reads line
 read-line line (Ok m) exact ok = let e = (exact m).0 refl in inr (m, e.0, e.1)
 read-line line (Err e) exact ok = absurd (let bad : ⊥ = cc ok in bad)
 
-pub unread-line : (line : List ℕ) (result : Result Move MachineError) → ((m : Move) → (result ≡ Ok m) ↔ (IsInRange m × (line ≡ text_of m))) → is_move_line line ≡ true → is_ok result ≡ false → IsNoMove line
+pub unread-line : (line : List ℕ) (result : Result Move MachineError) → ((m : Move) → (result ≡ Ok m) ↔ (IsInRange m × (line ≡ text_of m))) → says_something line ≡ true → is_ok result ≡ false → IsNoMove line
 unread-line line (Ok m) exact move bad = absurd (let never : ⊥ = cc bad in never)
 unread-line line (Err e) exact move bad = record { is_move = move; no_text = λ m range text. let ok = (exact m).1 (range, text) in absurd (let never : ⊥ = cc ok in never) }
 
@@ -33,23 +34,23 @@ says-none : Says [] []
 says-none = record { texts = refl; in_range = All-nil IsInRange }
 
 -- a line that is passed over says no more
-says-skipped : (before : List (List ℕ)) (line : List ℕ) (ms : List Move) → is_move_line line ≡ false → Says before ms → Says (before ++ line ∷ []) ms
+says-skipped : (before : List (List ℕ)) (line : List ℕ) (ms : List Move) → says_something line ≡ false → Says before ms → Says (before ++ line ∷ []) ms
 says-skipped before line ms e s = record {
-  texts = filter-append is_move_line before (line ∷ []) ∙ ap (λ (x : List (List ℕ)). filter is_move_line before ++ x) (none_of e) ∙ append-nil (filter is_move_line before) ∙ s.texts;
+  texts = filter-append says_something before (line ∷ []) ∙ ap (λ (x : List (List ℕ)). filter says_something before ++ x) (none_of e) ∙ append-nil (filter says_something before) ∙ s.texts;
   in_range = s.in_range;
 }
   where
-    none_of : is_move_line line ≡ false → filter is_move_line (line ∷ []) ≡ []
+    none_of : says_something line ≡ false → filter says_something (line ∷ []) ≡ []
     none_of h = rw h refl
 
 -- a line that is a move's text says that move
-says-more : (before : List (List ℕ)) (line : List ℕ) (ms : List Move) (m : Move) → is_move_line line ≡ true → IsInRange m → line ≡ text_of m → Says before ms → Says (before ++ line ∷ []) (ms ++ m ∷ [])
+says-more : (before : List (List ℕ)) (line : List ℕ) (ms : List Move) (m : Move) → says_something line ≡ true → IsInRange m → line ≡ text_of m → Says before ms → Says (before ++ line ∷ []) (ms ++ m ∷ [])
 says-more before line ms m e range text s = record {
-  texts = filter-append is_move_line before (line ∷ []) ∙ ap₂ (λ (x y : List (List ℕ)). x ++ y) s.texts (one_of e) ∙ ap (λ (t : List ℕ). map text_of ms ++ t ∷ []) text ∙ sym (map-append text_of ms (m ∷ []));
+  texts = filter-append says_something before (line ∷ []) ∙ ap₂ (λ (x y : List (List ℕ)). x ++ y) s.texts (one_of e) ∙ ap (λ (t : List ℕ). map text_of ms ++ t ∷ []) text ∙ sym (map-append text_of ms (m ∷ []));
   in_range = All-append IsInRange ms (m ∷ []) s.in_range (All-cons IsInRange m [] range (All-nil IsInRange));
 }
   where
-    one_of : is_move_line line ≡ true → filter is_move_line (line ∷ []) ≡ line ∷ []
+    one_of : says_something line ≡ true → filter says_something (line ∷ []) ≡ line ∷ []
     one_of h = rw h refl
 
 -- a move that was made: its line has its note
@@ -97,9 +98,9 @@ good-next text number line later (inl skipped) g = record {
   moves = g.moves;
   says = says-skipped g.before line g.moves skipped g.says;
 }
-good-next text number line later (inr (m, range, is)) g = by_case (move-line-cases (is_move_line line))
+good-next text number line later (inr (m, range, is)) g = by_case (move-line-cases (says_something line))
   where
-    by_case : (is_move_line line ≡ true) ⊎ (is_move_line line ≡ false) → GoodSoFar text (number + 1) later
+    by_case : (says_something line ≡ true) ⊎ (says_something line ≡ false) → GoodSoFar text (number + 1) later
     by_case (inl e) = record {
       before = g.before ++ line ∷ [];
       split = one-on g.before later (lines_of text) line g.split;
@@ -147,7 +148,7 @@ pub record PageSoFar (text page : List ℕ) (made read : ℕ) (rest : List (List
 pub page-first : (text page : List ℕ) (queues : QueueParts) → page ≡ [] → PageSoFar text page 0 0 (lines_of text) queues queues
 page-first text page queues e = record { before = []; split = refl; moves = []; says = says-none; count = refl; follows = λ pairs n w reached agrees. record { text = e; agrees = agrees; counted = refl } }
 
-pub page-skipped : (text page : List ℕ) (made read : ℕ) (line : List ℕ) (later : List (List ℕ)) (first now : QueueParts) → is_move_line line ≡ false → PageSoFar text page made read (line ∷ later) first now → PageSoFar text page made read later first now
+pub page-skipped : (text page : List ℕ) (made read : ℕ) (line : List ℕ) (later : List (List ℕ)) (first now : QueueParts) → says_something line ≡ false → PageSoFar text page made read (line ∷ later) first now → PageSoFar text page made read later first now
 page-skipped text page made read line later first now e p = record {
   before = p.before ++ line ∷ [];
   split = one-on p.before later (lines_of text) line p.split;
@@ -169,7 +170,7 @@ pub one-at_most : (b : Bool) (n : ℕ) → n ≡ from_bool b → n ≤ 1
 one-at_most true n e = omega (arith, e)
 one-at_most false n e = omega (arith, e)
 
-pub page-more : (text page later_page : List ℕ) (made added read : ℕ) (more : Bool) (line : List ℕ) (later : List (List ℕ)) (first now after : QueueParts) (m : Move) → is_move_line line ≡ true → IsInRange m → line ≡ text_of m
+pub page-more : (text page later_page : List ℕ) (made added read : ℕ) (more : Bool) (line : List ℕ) (later : List (List ℕ)) (first now after : QueueParts) (m : Move) → says_something line ≡ true → IsInRange m → line ≡ text_of m
     → ((pairs n : ℕ) (w : World) → IsReachableWorld pairs n w → QueuesAgree now w → WroteMove w m more page later_page after)
     → added ≡ from_bool more → PageSoFar text page made read (line ∷ later) first now → PageSoFar text later_page (made + added) (read + 1) later first after
 page-more text page later_page made added read more line later first now after m e range is wrote adds p = record {
@@ -186,38 +187,38 @@ page-more text page later_page made added read more line later first now after m
 }
 
 -- what the later lines never say is not said after one more line before them
-unsaid-after : (b : List ℕ) (rest : List (List ℕ)) (ms : List Move) (keep : Bool) → is_move_line b ≡ keep → ((xs : List Move) → All IsInRange xs → filter is_move_line rest ≡ map text_of xs → ⊥) → All IsInRange ms → filter is_move_line (b ∷ rest) ≡ map text_of ms → ⊥
+unsaid-after : (b : List ℕ) (rest : List (List ℕ)) (ms : List Move) (keep : Bool) → says_something b ≡ keep → ((xs : List Move) → All IsInRange xs → filter says_something rest ≡ map text_of xs → ⊥) → All IsInRange ms → filter says_something (b ∷ rest) ≡ map text_of ms → ⊥
 unsaid-after b rest ms false h never range e = never ms range (sym (dropped h) ∙ e)
   where
-    dropped : is_move_line b ≡ false → filter is_move_line (b ∷ rest) ≡ filter is_move_line rest
+    dropped : says_something b ≡ false → filter says_something (b ∷ rest) ≡ filter says_something rest
     dropped h = rw h refl
 unsaid-after b rest ms true h never range e = said ms range (sym (kept h) ∙ e)
   where
-    kept : is_move_line b ≡ true → filter is_move_line (b ∷ rest) ≡ b ∷ filter is_move_line rest
+    kept : says_something b ≡ true → filter says_something (b ∷ rest) ≡ b ∷ filter says_something rest
     kept h = rw h refl
 
-    said : (xs : List Move) → All IsInRange xs → b ∷ filter is_move_line rest ≡ map text_of xs → ⊥
+    said : (xs : List Move) → All IsInRange xs → b ∷ filter says_something rest ≡ map text_of xs → ⊥
     said [] all f = let bad : ⊥ = cc f in bad
-    said (x ∷ xs) all f = let same : filter is_move_line rest ≡ map text_of xs = cc f in never xs (All-tail IsInRange x xs all) same
+    said (x ∷ xs) all f = let same : filter says_something rest ≡ map text_of xs = cc f in never xs (All-tail IsInRange x xs all) same
 
 -- a line that is no move's text stands in no list of moves
-unsaid : (before later : List (List ℕ)) (line : List ℕ) (ms : List Move) → IsNoMove line → All IsInRange ms → filter is_move_line (before ++ line ∷ later) ≡ map text_of ms → ⊥
+unsaid : (before later : List (List ℕ)) (line : List ℕ) (ms : List Move) → IsNoMove line → All IsInRange ms → filter says_something (before ++ line ∷ later) ≡ map text_of ms → ⊥
 unsaid [] later line ms none range e = first ms range (sym (skip none.is_move) ∙ e)
   where
-    skip : is_move_line line ≡ true → filter is_move_line (line ∷ later) ≡ line ∷ filter is_move_line later
+    skip : says_something line ≡ true → filter says_something (line ∷ later) ≡ line ∷ filter says_something later
     skip h = rw h refl
 
-    first : (xs : List Move) → All IsInRange xs → line ∷ filter is_move_line later ≡ map text_of xs → ⊥
+    first : (xs : List Move) → All IsInRange xs → line ∷ filter says_something later ≡ map text_of xs → ⊥
     first [] all f = let bad : ⊥ = cc f in bad
     first (x ∷ xs) all f = let same : line ≡ text_of x = cc f in none.no_text x (All-head IsInRange x xs all) same
-unsaid (b ∷ before) later line ms none range e = unsaid-after b (before ++ line ∷ later) ms (is_move_line b) refl (λ xs all f. unsaid before later line xs none all f) range e
+unsaid (b ∷ before) later line ms none range e = unsaid-after b (before ++ line ∷ later) ms (says_something b) refl (λ xs all f. unsaid before later line xs none all f) range e
 
 pub faulty-unsaid : (lines : List (List ℕ)) (k : ℕ) (ms : List Move) → IsFaulty lines k → Says lines ms → ⊥
-faulty-unsaid lines k ms f s = unsaid f.before f.later f.line ms f.no_move s.in_range (ap (filter is_move_line) f.split ∙ s.texts)
+faulty-unsaid lines k ms f s = unsaid f.before f.later f.line ms f.no_move s.in_range (ap (filter says_something) f.split ∙ s.texts)
 
 -- so a line of a list of moves that is to be read is read
 pub read-said : (text page : List ℕ) (made read : ℕ) (line : List ℕ) (later : List (List ℕ)) (first now : QueueParts) → IsMoveList text → IsNoMove line → PageSoFar text page made read (line ∷ later) first now → ⊥
-read-said text page made read line later first now (ms, says) none p = unsaid p.before later line ms none says.in_range (ap (filter is_move_line) p.split ∙ says.texts)
+read-said text page made read line later first now (ms, says) none p = unsaid p.before later line ms none says.in_range (ap (filter says_something) p.split ∙ says.texts)
 
 -- when no line is left, the page lacks the count alone
 pub page-last : (w : World) (pairs n : ℕ) (text page whole : List ℕ) (made read : ℕ) (first now : QueueParts) → IsReachableWorld pairs n w → QueuesAgree first w → whole ≡ page ++ count_line made read → PageSoFar text page made read [] first now → IsPageOf w text whole

@@ -1,6 +1,6 @@
 -- The frame that an argument of hex digits says.
 use Rattle.std.specs.Prelude.{ℕ, ◌≤◌, ◌&&◌, nat_le, if◌then◌else◌, List, length, Result, Ok, Err}
-use Rattle.ring_machine.specs.declared.limits.TheConstants.{BUFFER_BYTES, LEAST_FRAME}
+use Rattle.limits.specs.declared.profile.TheConstants.{BUFFER_BYTES, LEAST_FRAME}
 use Rattle.commands.specs.declared.refusal.Refusal.{Refusal}
 use Rattle.commands.specs.declared.refusal.Refusal.TheVariants.{FrameLength}
 use Rattle.commands.specs.Digits.{bytes_in}

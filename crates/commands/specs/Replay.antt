@@ -2,7 +2,7 @@
 use Rattle.std.specs.Prelude.{◌≡◌, ◌≢◌, ◌⊎◌, ℕ, ◌+◌, Bool, true, false, not, ◌==◌, List, [], ◌∷◌, ◌++◌, codes, decimal, length, map, Option, Some, None, IfSome, All}
 use Rattle.std.specs.List.{filter}
 use Rattle.std.specs.Io.KnownBytes.{Appends, Keeps}
-use Rattle.wire_script.specs.Line.{parts}
+use Rattle.text_lines.specs.Parts.{lines_of, says_something}
 use Rattle.ring_machine.specs.declared.queue_moves.Move.{Move}
 use Rattle.ring_machine.specs.declared.notes.Note.{Note}
 use Rattle.ring_machine.specs.declared.error.MachineError.TheVariants.{RingLength, Memory as MachineMemory}
@@ -14,18 +14,9 @@ use Rattle.commands.specs.declared.answering.TheConstants.{DONE, REFUSED}
 use Rattle.commands.specs.declared.refusal.Refusal.{Refusal}
 use Rattle.commands.specs.declared.refusal.Refusal.TheVariants as refusal
 
--- a line ends with LF; the last may lack it
-abbrev pub lines_of : List ℕ → List (List ℕ)
-lines_of text = parts 10 text
-
--- an empty line, and one that begins with `#`, are passed over
-abbrev pub is_move_line : List ℕ → Bool
-is_move_line [] = false
-is_move_line (first ∷ rest) = not (first == 35)
-
 -- the lines that are not passed over are the texts of these moves, in order
 pub record Says (lines : List (List ℕ)) (moves : List Move) : Type 0 where
-  pub texts : filter is_move_line lines ≡ map text_of moves
+  pub texts : filter says_something lines ≡ map text_of moves
   pub in_range : All IsInRange moves
 
 abbrev pub IsMoveList : List ℕ → Type 0
@@ -33,11 +24,11 @@ IsMoveList text = (moves : List Move) × Says (lines_of text) moves
 
 -- the line is passed over, or the text of a move
 abbrev pub Reads : List ℕ → Type 0
-Reads line = (is_move_line line ≡ false) ⊎ ((m : Move) × IsInRange m × (line ≡ text_of m))
+Reads line = (says_something line ≡ false) ⊎ ((m : Move) × IsInRange m × (line ≡ text_of m))
 
 -- it is to be read, and no move's text
 pub record IsNoMove (line : List ℕ) : Type 0 where
-  pub is_move : is_move_line line ≡ true
+  pub is_move : says_something line ≡ true
   pub no_text : (m : Move) → IsInRange m → line ≢ text_of m
 
 -- line k, counted from 1, is no move's text, and the lines before it say moves

@@ -4,7 +4,7 @@ ghost use Rattle.commands.specs.Frame.{frame_in};
 
 use crate::digits::bytes_of;
 use crate::refusal::Refusal;
-use ring_machine::{BUFFER_BYTES, LEAST_FRAME};
+use limits::{BUFFER_BYTES, LEAST_FRAME};
 use std::alloc::Global;
 
 /// The bytes of pairs of hex digits, of either case, if a receive buffer can carry them as a frame.

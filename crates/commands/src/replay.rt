@@ -4,14 +4,15 @@ ghost use Rattle.std.specs.Prelude.{◌≡◌, ◌⊎◌, ℕ, false, IfErr, IfN
 ghost use Rattle.std.specs.String.{string_bytes};
 ghost use Rattle.ring_machine.specs.Worlds.{World, IsReachableWorld};
 ghost use Rattle.ring_machine.specs.Queues.{QueuesAgree};
-ghost use Rattle.commands.specs.Replay.{is_move_line, lines_of, HasPage, IsFaulty, IsMoveList, IsNoMove, IsPageOf, IsReplayed, Reads, RefusesReplay, ReplayRefused, WroteMove};
+ghost use Rattle.text_lines.specs.Parts.{lines_of, says_something};
+ghost use Rattle.commands.specs.Replay.{HasPage, IsFaulty, IsMoveList, IsNoMove, IsPageOf, IsReplayed, Reads, RefusesReplay, ReplayRefused, WroteMove};
 ghost use Rattle.commands.specs.declared.refusal.Refusal.TheVariants as refusal;
 
 use crate::refusal::Refusal;
 use ring_machine::{Completion, Move, Queues};
 use std::alloc::{AllocError, Global};
 use std::io::{ErrorKind, Read};
-use wire_script::cut;
+use text_lines::{cut, says_something};
 
 /// Which queues the moves are made on: how many pairs, of how many descriptors each, whether they begin enabled, and
 /// how the transmit queues report.
@@ -62,22 +63,12 @@ fn page_for(alloc: Global, plan: QueuePlan, text: &[u8]) -> Result<String, Refus
     Ok(page_of(alloc, &mut queues, text)?)
 }
 
-/// Whether a line is to be read: it is not empty, and does not begin with `#`.
-fn is_move_line(line: &[u8]) -> bool
-    ensures { result ≡ is_move_line line.now }
-{
-    match line {
-        [] => false,
-        [first, ..] => *first != b'#',
-    }
-}
-
 /// Whether a line is a move's text, or passed over.
 fn is_good(line: &[u8]) -> bool
     ensures read { IsTrue result → Reads line.now }
     ensures faulty { result ≡ false → IsNoMove line.now }
 {
-    !is_move_line(line) || Move::parse(line).is_ok()
+    !says_something(line) || Move::parse(line).is_ok()
 }
 
 /// The number of the first line that is to be read and is no move, if there is one.
@@ -111,7 +102,7 @@ fn page_of(alloc: Global, queues: &mut Queues, text: &[u8]) -> Result<String, Al
     while let Some(left) = rest {
         let (line, after) = cut(left, b'\n');
         rest = after;
-        if !is_move_line(line) {
+        if !says_something(line) {
             continue;
         }
         if let Ok(action) = Move::parse(line) {

@@ -1,7 +1,7 @@
 -- A good line is passed, and the first that is not is the answer.
 use Rattle.std.proofs.Common.{◌+◌, ◌≤◌, length, List, ℕ, ap, subst, refl, ◌∙◌, arith}
-use Rattle.wire_script.specs.Split.{later_parts}
-use Rattle.wire_script.proofs.Steps.{left_len, line_counted}
+use Rattle.text_lines.specs.Parts.{later_parts}
+use Rattle.text_lines.proofs.Cuts.{left_len, part_counted}
 use Rattle.commands.proofs.Replaying.{GoodSoFar, good-first, good-next}
 use Rattle.commands.proofs.replay.faulty_line.Goals as goal
 
@@ -15,5 +15,5 @@ loop-rest-preserved c =
     let so_far = subst (λ rest. c.loop-rest.number + left_len rest ≤ length c.args.text.now + 1) c.in-Some.is c.loop-rest.invariant.lines in
     record {
       good = good-next c.args.text.now c.loop-rest.number c.cut.result.0.now (later_parts 10 c.cut.result.1) (c.if-not-is_good.ensures.read refl) before;
-      lines = line_counted c.loop-rest.number (length c.in-Some.left.now) (length c.args.text.now + 1) c.cut.result.1 c.cut.ensures.shorter so_far;
+      lines = part_counted c.loop-rest.number (length c.in-Some.left.now) (length c.args.text.now + 1) c.cut.result.1 c.cut.ensures.shorter so_far;
     }

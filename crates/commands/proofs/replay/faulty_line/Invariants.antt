@@ -1,7 +1,7 @@
 -- So many lines are good, and these are left.
 use Rattle.std.proofs.Common.{◌+◌, ◌≤◌, length}
-use Rattle.wire_script.specs.Split.{later_parts}
-use Rattle.wire_script.proofs.Steps.{left_len}
+use Rattle.text_lines.specs.Parts.{later_parts}
+use Rattle.text_lines.proofs.Cuts.{left_len}
 use Rattle.commands.proofs.Replaying.{GoodSoFar}
 use Rattle.commands.proofs.replay.faulty_line.Given as goal
 

@@ -1,8 +1,8 @@
 -- So many moves are written, and these lines are left.
 use Rattle.std.proofs.Common.{◌+◌, ◌≤◌, length}
 use Rattle.std.specs.String.{string_bytes}
-use Rattle.wire_script.specs.Split.{later_parts}
-use Rattle.wire_script.proofs.Steps.{left_len}
+use Rattle.text_lines.specs.Parts.{later_parts}
+use Rattle.text_lines.proofs.Cuts.{left_len}
 use Rattle.commands.proofs.Replaying.{PageSoFar}
 use Rattle.commands.proofs.replay.page_of.Given as goal
 
