@@ -1,7 +1,7 @@
 -- What the threads at the two ends of a ring keep while frames are passed, and what was passed at the end.
 use Rattle.std.specs.Prelude.{◌≡◌, ℕ, ◌+◌, ◌≤◌, true, false, [], All, length, replicate, None}
 use Rattle.atomic_table.specs.Seated.{TableId}
-use Rattle.ring_machine.specs.declared.limits.TheConstants.{BUFFER_BYTES, LEAST_FRAME}
+use Rattle.limits.specs.declared.profile.TheConstants.{BUFFER_BYTES, LEAST_FRAME}
 use Rattle.ring_machine.specs.declared.states.DriverState.TheVariants.{On}
 use Rattle.ring_machine.specs.Ring.{Bytes, Segment, is_serving}
 use Rattle.ring_machine.specs.Frames.{frames, unfinished}
