@@ -16,24 +16,11 @@ use Rattle.ring_model.specs.transmit.Lawful.{IsLawfulTx}
 use Rattle.ring_model.specs.transmit.Laws.{TxLater}
 use Rattle.ring_model.specs.Worlds.{QueueMove, Receive, Transmit, World, WorldLater, opening_world, put_next, can_move, after_move, after_moves, IsReachableWorld, IsLeftAlone, IsLawfulWorld}
 use Rattle.ring_model.proofs.shared.Places.{slice_set-writes}
-use Rattle.ring_model.proofs.shared.Schedules.{after-append, reached-opening, reached-more, reached-next}
+use Rattle.ring_model.proofs.shared.Reaching.{after-append, reached-opening, reached-more, reached-next}
 use Rattle.ring_model.proofs.receive.Kept.{IsRxKept}
-use Rattle.ring_model.proofs.receive.Reached.{rx_kept}
+use Rattle.ring_model.proofs.receive.Reached.{rx_kept, rx_lawful, rx_later-all}
 use Rattle.ring_model.proofs.transmit.Kept.{IsTxKept}
-use Rattle.ring_model.proofs.transmit.Reached.{tx_kept}
-
--- wanted of Reached
-rx_lawful : (n : ℕ) (r : RxRing ℕ) → IsRxKept ℕ n r → IsLawfulRx ℕ r
-rx_lawful n r k = ?
-
-tx_lawful : (n : ℕ) (r : TxRing ℕ) → IsTxKept ℕ n r → IsLawfulTx ℕ r
-tx_lawful n r k = ?
-
-rx_later-all : (n : ℕ) (r : RxRing ℕ) (more : List (RxStep ℕ)) → IsRxKept ℕ n r → RxLater r (rx_after_all r more)
-rx_later-all n r more k = ?
-
-tx_later-all : (n : ℕ) (r : TxRing ℕ) (more : List (TxStep (Posting ℕ))) → IsTxKept ℕ n r → TxLater r (tx_after_all r more)
-tx_later-all n r more k = ?
+use Rattle.ring_model.proofs.transmit.Reached.{tx_kept, tx_lawful, tx_later-all}
 
 module _ {X : Type 0} where
   get_set_other : (xs : List X) (p j : ℕ) (x : X) → j ≢ p → slice_get (slice_set xs p x) j ≡ slice_get xs j

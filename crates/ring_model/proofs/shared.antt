@@ -1,8 +1,14 @@
 pub mod Places
 pub mod Beginnings
 pub mod Kept
+pub mod Shakes
+pub mod Orders
+pub mod Owners
+pub mod Stepping
+pub mod Fixed
+pub mod Reaching
+pub mod Reached
 pub mod FrameLaws
 pub mod Cuts
 pub mod Following
-pub mod Schedules
 pub mod Shapes
