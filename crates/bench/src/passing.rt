@@ -1,6 +1,6 @@
 //! A ring is made, its two ends run in threads of their own, and the time is taken.
 ghost use Rattle.std.specs.Prelude.{◌≡◌, ◌+◌, ◌≤◌, [], length, replicate, IfOk};
-ghost use Rattle.rx_ring.specs.Rule.{IsRingLength};
+ghost use Rattle.limits.specs.RingLength.{IsRingLength};
 ghost use Rattle.rx_ring.specs.Ends.{taken, IsFreshController, IsFreshDriver};
 ghost use Rattle.bench.specs.Passing.{CanTake, HasPassed, IsFrameLength, StoredOnly, TookAll};
 

@@ -12,8 +12,8 @@ use Rattle.clap.specs.Values.{bool_text}
 use Rattle.clap.specs.Walk.{Held, Names, Step, Walk, after_step, finished, long_or_other, nothing_held, option, plain_word, reacted, settled, short_or_plain, trailing, walk, walk_from, walked, word_met}
 use Rattle.clap.specs.Words.{App, Row, Rule, Shape, Text, built, new_rule, one_of, subcommand_of, takes, without_minus}
 use Rattle.clap.proofs.OnLiterals.{clap_on_literals}
-use Rattle.ring_machine.specs.declared.states.Completion.{Completion}
-use Rattle.ring_machine.specs.declared.states.Completion.TheVariants.{Head, Status}
+use Rattle.ring_model.specs.declared.states.Completion.{Completion}
+use Rattle.ring_model.specs.declared.states.Completion.TheVariants.{Head, Status}
 use Rattle.commands.specs.declared.replay.QueuePlan.{QueuePlan}
 use Rattle.command_line.specs.CommandLine.{Choices, HasReplay, IsProgram, SaysNumber, SaysReplay, flag_words, is_head, program_app}
 use Rattle.command_line.proofs.CommandLine.{IsNumber, IsPlain, is_number, numeral_of, strips_none}

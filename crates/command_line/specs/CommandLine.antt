@@ -11,8 +11,8 @@ use Rattle.commands.specs.declared.request.Request.{Request}
 use Rattle.commands.specs.declared.request.Request.TheVariants.{Once, Decode, Replay}
 use Rattle.commands.specs.declared.decode.Form.{Form}
 use Rattle.commands.specs.declared.replay.QueuePlan.{QueuePlan}
-use Rattle.ring_machine.specs.declared.states.Completion.{Completion}
-use Rattle.ring_machine.specs.declared.states.Completion.TheVariants.{Head, Status}
+use Rattle.ring_model.specs.declared.states.Completion.{Completion}
+use Rattle.ring_model.specs.declared.states.Completion.TheVariants.{Head, Status}
 use Rattle.commands.specs.Decoding.{ring_word, format_word}
 
 -- the argument of `once`

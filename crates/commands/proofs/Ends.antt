@@ -1,8 +1,10 @@
 -- What the records of the two ends amount to, from their making on.
 use Rattle.std.proofs.Common.{◌≡◌, ◌∙◌, ℕ, List, [], ◌∷◌, ◌++◌, length, ap}
 use Rattle.atomic_table.specs.Seated.{TableId}
-use Rattle.ring_machine.specs.declared.states.DriverState.TheVariants.{On}
-use Rattle.ring_machine.specs.Ring.{Bytes, Segment, is_serving}
+use Rattle.ring_model.specs.declared.states.DriverState.TheVariants.{On}
+use Rattle.ring_model.specs.shared.Frames.{Bytes}
+use Rattle.ring_model.specs.receive.Ring.{Segment}
+use Rattle.ring_model.specs.shared.Handshakes.{is_serving}
 use Rattle.rx_ring.specs.Records.{driving, controlling}
 use Rattle.rx_ring.specs.Ends.{DriverSide, ControllerSide, posted, taken, driver_state, stored, IsFreshDriver, IsFreshController}
 use Rattle.commands.specs.Passing.{CanServe, StoredOnly, whole}

@@ -2,9 +2,10 @@
 use Rattle.std.proofs.Common.{◌≡◌, ◌∙◌, sym, ap, subst, refl, Bool, List, [], ◌∷◌, ◌++◌, drop, slice_index_or}
 use Rattle.atomic_table.specs.Seated.{TableId}
 use Rattle.buffer_pool.specs.Buffer.{Buffer}
-use Rattle.ring_machine.specs.Lists.{IsBeginning}
-use Rattle.ring_machine.specs.Ring.{Bytes, Segment}
-use Rattle.ring_machine.specs.Lawful.{IsLawfulRxLedger}
+use Rattle.ring_model.specs.shared.Lists.{IsBeginning}
+use Rattle.ring_model.specs.shared.Frames.{Bytes}
+use Rattle.ring_model.specs.receive.Ring.{Segment}
+use Rattle.ring_model.specs.receive.Lawful.{IsLawfulRxLedger}
 use Rattle.rx_ring.specs.Ends.{DriverSide, ControllerSide, driver_size, stored, ledger_of}
 use Rattle.commands.specs.Passing.{whole, TookOne, StoredOnly, HasPassed}
 

@@ -9,11 +9,11 @@ use Rattle.std.specs.Result.{is_ok}
 use Rattle.std.proofs.lemmas.List.{append-nil, map-append}
 use Rattle.std.proofs.lemmas.List.Elements.{All-append, All-cons, All-head, All-nil, All-tail, filter-append}
 use Rattle.ring_machine.specs.declared.queue_moves.Move.{Move}
-use Rattle.ring_machine.specs.declared.notes.Note.{Note}
+use Rattle.ring_model.specs.declared.notes.Note.{Note}
 use Rattle.ring_machine.specs.declared.error.MachineError.{MachineError}
 use Rattle.limits.specs.declared.profile.TheConstants.{LEAST_RING, MOST_PAIRS, MOST_RING}
-use Rattle.ring_machine.specs.declared.states.Completion.{Completion}
-use Rattle.ring_machine.specs.Worlds.{World, opening_world, after_move, after_moves, can_move, moves_happened, IsReachableWorld}
+use Rattle.ring_model.specs.declared.states.Completion.{Completion}
+use Rattle.ring_model.specs.Worlds.{World, opening_world, after_move, after_moves, can_move, moves_happened, IsReachableWorld}
 use Rattle.ring_machine.specs.Queues.{AreQueues, QueueParts, QueuesAgree, QueuesDid, note_in}
 use Rattle.ring_machine.specs.MoveTexts.{IsInRange, name_of, note_text, text_of}
 use Rattle.ring_machine.proofs.QueuesRunning.{after_moves-append, did-made, did-refused, moves_happened-append, reached_world}

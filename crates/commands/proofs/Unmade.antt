@@ -5,7 +5,7 @@ use Rattle.buffer_pool.specs.declared.error.PoolError.{PoolError}
 use Rattle.buffer_pool.specs.declared.error.PoolError.TheVariants as pool
 use Rattle.rx_ring.specs.declared.error.RingError.{RingError}
 use Rattle.rx_ring.specs.declared.error.RingError.TheVariants as ring
-use Rattle.rx_ring.specs.Rule.{IsRingLength}
+use Rattle.limits.specs.RingLength.{IsRingLength}
 use Rattle.commands.specs.declared.refusal.Refusal.TheVariants.{Ring, Stock}
 use Rattle.commands.specs.Refusals.{IsUnmade}
 

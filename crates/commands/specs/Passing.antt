@@ -2,10 +2,12 @@
 use Rattle.std.specs.Prelude.{◌≡◌, ℕ, ◌≤◌, Bool, true, false, List, [], ◌∷◌, length, None}
 use Rattle.atomic_table.specs.Seated.{TableId}
 use Rattle.buffer_pool.specs.Buffer.{Buffer}
-use Rattle.ring_machine.specs.Lists.{IsBeginning}
-use Rattle.ring_machine.specs.Ring.{Bytes, Segment, is_serving}
-use Rattle.ring_machine.specs.Lawful.{IsLawfulRxLedger}
-use Rattle.rx_ring.specs.Rule.{IsRingLength}
+use Rattle.ring_model.specs.shared.Lists.{IsBeginning}
+use Rattle.ring_model.specs.shared.Frames.{Bytes}
+use Rattle.ring_model.specs.receive.Ring.{Segment}
+use Rattle.ring_model.specs.shared.Handshakes.{is_serving}
+use Rattle.ring_model.specs.receive.Lawful.{IsLawfulRxLedger}
+use Rattle.limits.specs.RingLength.{IsRingLength}
 use Rattle.rx_ring.specs.Ends.{DriverSide, ControllerSide, IsFreshDriver, IsFreshController, driver_size, taken, stored, held_number, controller_state, is_quiet, ledger_of}
 use Rattle.commands.specs.Frame.{IsFrameLength}
 

@@ -4,9 +4,9 @@ use Rattle.std.specs.List.{filter}
 use Rattle.std.specs.Io.KnownBytes.{Appends, Keeps}
 use Rattle.text_lines.specs.Parts.{lines_of, says_something}
 use Rattle.ring_machine.specs.declared.queue_moves.Move.{Move}
-use Rattle.ring_machine.specs.declared.notes.Note.{Note}
+use Rattle.ring_model.specs.declared.notes.Note.{Note}
 use Rattle.ring_machine.specs.declared.error.MachineError.TheVariants.{RingLength, Memory as MachineMemory}
-use Rattle.ring_machine.specs.Worlds.{World, opening_world, after_move, can_move, moves_happened}
+use Rattle.ring_model.specs.Worlds.{World, opening_world, after_move, can_move, moves_happened}
 use Rattle.ring_machine.specs.Queues.{AreQueues, QueueParts, QueuesAgree, note_in}
 use Rattle.ring_machine.specs.MoveTexts.{IsInRange, name_of, note_text, text_of}
 use Rattle.commands.specs.declared.replay.QueuePlan.{QueuePlan}

@@ -1,7 +1,7 @@
 //! One frame through a receive ring, whose two ends are in threads of their own.
 ghost use Rattle.std.specs.Prelude.{◌≡◌, ◌+◌, ◌<◌, true, [], ◌∷◌, ◌++◌, length, Bool, IfOk, IfErr};
-ghost use Rattle.ring_machine.specs.Ring.{is_live};
-ghost use Rattle.rx_ring.specs.Rule.{IsRingLength};
+ghost use Rattle.ring_model.specs.shared.Handshakes.{is_live};
+ghost use Rattle.limits.specs.RingLength.{IsRingLength};
 ghost use Rattle.rx_ring.specs.Ends.{driver_state, known_free, posted, published, taken, IsFreshController, IsFreshDriver};
 ghost use Rattle.commands.specs.Frame.{IsFrameLength};
 ghost use Rattle.commands.specs.Refusals.{IsUnmade};

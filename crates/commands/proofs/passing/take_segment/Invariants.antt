@@ -1,5 +1,5 @@
 use Rattle.std.proofs.Common.{◌≡◌, ◌<◌, true, length}
-use Rattle.ring_machine.specs.Ring.{is_live}
+use Rattle.ring_model.specs.shared.Handshakes.{is_live}
 use Rattle.rx_ring.specs.Ends.{driver_state, posted, taken}
 use Rattle.commands.proofs.passing.take_segment.Given as goal
 
