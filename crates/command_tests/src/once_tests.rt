@@ -45,19 +45,23 @@ fn digits_of_no_frame_are_refused(rt: HostRuntime) -> Result<(), Fail> {
 
 #[test]
 fn the_longest_frame_has_2_048_bytes(rt: HostRuntime) -> Result<(), Fail> {
-    let mut digits = times(rt.alloc(), "ab", 2048)?;
+    let most = times(rt.alloc(), "ab", 2048)?;
     let mut line = times(rt.alloc(), "ab", 2048)?;
     line.push_str("\n")?;
-    let words = ["once", digits.as_str()];
+    let words = ["once", most.as_str()];
     comes_to(
         &rt,
         rt.alloc(),
         words.as_slice(),
         "",
         (0, line.as_str(), ""),
-    )?;
-    digits.push_str("ab")?;
-    let words = ["once", digits.as_str()];
-    let faults = "refused 41 frame length\n";
-    comes_to(&rt, rt.alloc(), words.as_slice(), "", (1, "", faults))
+    )
+}
+
+#[test]
+fn a_frame_of_2_049_bytes_is_refused(rt: HostRuntime) -> Result<(), Fail> {
+    let more = times(rt.alloc(), "ab", 2049)?;
+    let words = ["once", more.as_str()];
+    let wanted = (1, "", "refused 41 frame length\n");
+    comes_to(&rt, rt.alloc(), words.as_slice(), "", wanted)
 }
