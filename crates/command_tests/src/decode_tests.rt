@@ -1,6 +1,6 @@
 //! The command `decode`, row after row.
 
-use crate::told::{comes_to, times};
+use crate::told::comes_to;
 use std::test::Fail;
 
 const FORMS: [[&str; 2]; 4] = [
@@ -69,8 +69,10 @@ const REFUSED: [([&str; 2], &str, &str); 5] = [
 ];
 
 /// Digits that are no descriptor in any form, and why.
-const NEVER: [(&str, &str); 6] = [
+const NEVER: [(&str, &str); 8] = [
     ("", "refused 1 length\n"),
+    ("000000000000000000000000000000", "refused 1 length\n"),
+    ("0000000000000000000000000000000000", "refused 1 length\n"),
     ("0", "refused 81 hex\n"),
     ("0000000000000000030000003c00000", "refused 81 hex\n"),
     ("00280000000000003c00302b00000f0g", "refused 81 hex\n"),
@@ -98,13 +100,7 @@ fn bytes_of_another_form_are_refused(rt: HostRuntime) -> Result<(), Fail> {
 
 #[test]
 fn digits_of_no_descriptor_are_refused_in_each_form(rt: HostRuntime) -> Result<(), Fail> {
-    let fifteen = times(rt.alloc(), "00", 15)?;
-    let seventeen = times(rt.alloc(), "00", 17)?;
-    let lengths = [
-        (fifteen.as_str(), "refused 1 length\n"),
-        (seventeen.as_str(), "refused 1 length\n"),
-    ];
-    for (digits, faults) in NEVER.into_iter().chain(lengths) {
+    for (digits, faults) in NEVER {
         for [ring, format] in FORMS {
             let words = ["decode", ring, format, digits];
             comes_to(&rt, rt.alloc(), words.as_slice(), "", (1, "", faults))?;

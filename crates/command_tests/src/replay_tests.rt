@@ -1,8 +1,8 @@
 //! The command `replay`, row after row.
 
-use crate::replay_rows::{MADE, MIDDLE, ROWS};
+use crate::replay_rows::{ENDS, MIDDLE, ROWS};
 use crate::told::{comes_to, outcome_of, times};
-use std::alloc::Global;
+use std::alloc::{AllocError, Global};
 use std::process::Abort;
 use std::sync::Wait;
 use std::test::Fail;
@@ -39,30 +39,65 @@ const NO_QUEUES: [&[&str]; 7] = [
     &["replay", "--ring", "4", "--pairs", "9"],
 ];
 
-/// Each lawful length, how many buffers there is room for, and one more.
-const RINGS: [(&str, usize, usize); 10] = [
-    ("8", 7, 8),
-    ("16", 15, 16),
-    ("32", 31, 32),
-    ("64", 63, 64),
-    ("128", 127, 128),
-    ("256", 255, 256),
-    ("512", 511, 512),
-    ("1024", 1023, 1024),
-    ("2048", 2047, 2048),
-    ("4096", 4095, 4096),
+/// Each lawful length, and how a list of as many posts ends: the last has no room.
+const RINGS: [(&str, usize, &str); 10] = [
+    ("8", 8, " A1 not enabled\nmoves 7 of 8\n"),
+    ("16", 16, " A1 not enabled\nmoves 15 of 16\n"),
+    ("32", 32, " A1 not enabled\nmoves 31 of 32\n"),
+    ("64", 64, " A1 not enabled\nmoves 63 of 64\n"),
+    ("128", 128, " A1 not enabled\nmoves 127 of 128\n"),
+    ("256", 256, " A1 not enabled\nmoves 255 of 256\n"),
+    ("512", 512, " A1 not enabled\nmoves 511 of 512\n"),
+    ("1024", 1024, " A1 not enabled\nmoves 1023 of 1024\n"),
+    ("2048", 2048, " A1 not enabled\nmoves 2047 of 2048\n"),
+    ("4096", 4096, " A1 not enabled\nmoves 4095 of 4096\n"),
 ];
 
-/// The number of the last queue, and how many pairs there are.
-const PAIRS: [(&str, &str); 8] = [
-    ("0", "1"),
-    ("1", "2"),
-    ("2", "3"),
-    ("3", "4"),
-    ("4", "5"),
-    ("5", "6"),
-    ("6", "7"),
-    ("7", "8"),
+/// Each number of pairs, a post on the last of them, and a move on the next with what is told of it.
+const PAIRS: [(&str, &str, &str, &str); 8] = [
+    (
+        "1",
+        "r0 A1 5\n",
+        "r1 A2\n",
+        "r1 A2 not enabled\nmoves 0 of 1\n",
+    ),
+    (
+        "2",
+        "r1 A1 5\n",
+        "r2 A2\n",
+        "r2 A2 not enabled\nmoves 0 of 1\n",
+    ),
+    (
+        "3",
+        "r2 A1 5\n",
+        "r3 A2\n",
+        "r3 A2 not enabled\nmoves 0 of 1\n",
+    ),
+    (
+        "4",
+        "r3 A1 5\n",
+        "r4 A2\n",
+        "r4 A2 not enabled\nmoves 0 of 1\n",
+    ),
+    (
+        "5",
+        "r4 A1 5\n",
+        "r5 A2\n",
+        "r5 A2 not enabled\nmoves 0 of 1\n",
+    ),
+    (
+        "6",
+        "r5 A1 5\n",
+        "r6 A2\n",
+        "r6 A2 not enabled\nmoves 0 of 1\n",
+    ),
+    (
+        "7",
+        "r6 A1 5\n",
+        "r7 A2\n",
+        "r7 A2 not enabled\nmoves 0 of 1\n",
+    ),
+    ("8", "r7 A1 5\n", "r8 A2\n", ""),
 ];
 
 #[test]
@@ -105,71 +140,43 @@ fn queues_that_cannot_be_are_refused_after_a_faulty_line(rt: HostRuntime) -> Res
 }
 
 /// The list of a disabling in the middle of a frame, with the asking before its move at this index, or at its end.
-fn asked_at(alloc: Global, at: usize) -> Result<String, Fail> {
+fn asked_at(alloc: Global, at: usize) -> Result<String, AllocError> {
     let mut text = String::new(alloc);
-    for (index, action) in MIDDLE.into_iter().enumerate() {
-        if index == at {
-            text.push_str("r0 C5\n")?;
-        }
-        writeln!(text, "r0 {action}")?;
+    for line in MIDDLE.iter().take(at) {
+        text.push_str(line)?;
     }
-    if at == MIDDLE.len() {
-        text.push_str("r0 C5\n")?;
+    text.push_str("r0 C5\n")?;
+    for line in MIDDLE.iter().skip(at) {
+        text.push_str(line)?;
     }
     Ok(text)
 }
 
 #[test]
 fn a_disabling_at_every_step_makes_as_many_moves(rt: HostRuntime) -> Result<(), Fail> {
-    for (at, made) in MADE.into_iter().enumerate() {
+    for (at, end) in ENDS {
         let text = asked_at(rt.alloc(), at)?;
         let told = outcome_of(&rt, rt.alloc(), &["replay"], text.as_str())?;
-        let last = format!(in rt.alloc(); "\nmoves {made} of 20\n")?;
-        assert!(rt;
-            told.output.as_str().ends_with(last.as_str()),
-            "with C5 at {at}"
-        );
+        assert!(rt; told.output.as_str().ends_with(end), "with C5 at {at}");
         assert_eq!(rt; told.status, 0, "with C5 at {at}");
     }
     Ok(())
 }
 
-/// Such queues are made: the last of them takes as many posts as it has room for, and the next is not there.
+/// Such queues are made: the last of them takes one post less than its length, and the next is not there.
 fn are_made<R: Abort + Threads + Wait + Sync>(
     rt: &R,
     alloc: Global,
-    (last, pairs): (&'static str, &'static str),
-    (ring, room, read): (&'static str, usize, usize),
+    (pairs, post, beyond, told): (&'static str, &str, &str, &str),
+    (ring, posts, end): (&'static str, usize, &str),
 ) -> Result<(), Fail> {
-    let post = format!(in alloc; "r{last} A1 5\n")?;
-    let mut text = times(alloc, post.as_str(), room)?;
-    writeln!(text, "r{last} A1 5")?;
     let words = ["replay", "--pairs", pairs, "--ring", ring];
-    let told = outcome_of(rt, alloc, words.as_slice(), text.as_str())?;
-    let end = format!(in alloc; "r{last} A1 not enabled\nmoves {room} of {read}\n")?;
-    assert!(rt;
-        told.output.as_str().ends_with(end.as_str()),
-        "{pairs} of {ring}"
-    );
-    assert_eq!(rt; told.status, 0, "{pairs} of {ring}");
-    let beyond = format!(in alloc; "r{pairs} A2\n")?;
-    if last == "7" {
-        return comes_to(
-            rt,
-            alloc,
-            words.as_slice(),
-            beyond.as_str(),
-            (1, "", "line 1: refused 14 move\n"),
-        );
-    }
-    let output = format!(in alloc; "r{pairs} A2 not enabled\nmoves 0 of 1\n")?;
-    comes_to(
-        rt,
-        alloc,
-        words.as_slice(),
-        beyond.as_str(),
-        (0, output.as_str(), ""),
-    )
+    let text = times(alloc, post, posts)?;
+    let posted = outcome_of(rt, alloc, words.as_slice(), text.as_str())?;
+    assert!(rt; posted.output.as_str().ends_with(end), "{pairs} of {ring}");
+    let next = outcome_of(rt, alloc, words.as_slice(), beyond)?;
+    assert!(rt; next.output.as_str() == told, "{pairs} of {ring}");
+    Ok(())
 }
 
 #[test]
@@ -185,14 +192,9 @@ fn every_lawful_length_and_number_of_pairs_is_made(rt: HostRuntime) -> Result<()
 #[test]
 fn a_list_of_100_000_moves_is_answered(rt: HostRuntime) -> Result<(), Fail> {
     let input = times(rt.alloc(), "r0 A7\n", 100_000)?;
-    let lines = times(rt.alloc(), "r0 A7 head 0\n", 100_000)?;
-    let output = format!(in rt.alloc(); "{lines}moves 100000 of 100000\n")?;
+    let mut output = times(rt.alloc(), "r0 A7 head 0\n", 100_000)?;
+    output.push_str("moves 100000 of 100000\n")?;
     let words = ["replay"];
-    comes_to(
-        &rt,
-        rt.alloc(),
-        words.as_slice(),
-        input.as_str(),
-        (0, output.as_str(), ""),
-    )
+    let wanted = (0, output.as_str(), "");
+    comes_to(&rt, rt.alloc(), words.as_slice(), input.as_str(), wanted)
 }

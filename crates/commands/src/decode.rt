@@ -11,7 +11,7 @@ use std::alloc::Global;
 use std::fmt::Display;
 
 /// The form in which bytes are read. They do not tell it.
-#[derive(Clone, Copy, Debug, PartialEq, Eq)]
+#[derive(Clone, Copy)]
 pub enum Form {
     /// A receive descriptor as the driver posts it.
     RxRead,

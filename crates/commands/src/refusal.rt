@@ -11,7 +11,7 @@ use std::alloc::AllocError;
 use thiserror::Error;
 
 /// Why a command was refused. It is printed as `refused`, its number and its words.
-#[derive(Clone, Copy, Debug, PartialEq, Eq, Error)]
+#[derive(Clone, Copy, Debug, Error)]
 pub enum Refusal {
     /// The bytes are not the form of a descriptor.
     #[error(transparent)]

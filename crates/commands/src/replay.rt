@@ -16,7 +16,7 @@ use text_lines::{cut, says_something};
 
 /// Which queues the moves are made on: how many pairs, of how many descriptors each, whether they begin enabled, and
 /// how the transmit queues report.
-#[derive(Clone, Copy, Debug)]
+#[derive(Clone, Copy)]
 pub struct QueuePlan {
     pub pairs: u32,
     pub ring: u32,

@@ -3,7 +3,7 @@
 use crate::decode::Form;
 use crate::replay::QueuePlan;
 
-/// What is asked for.
+/// A request, with what it needs.
 #[derive(Clone, Copy)]
 pub enum Request<'a> {
     /// To pass the frame of these hex digits through a receive ring.
