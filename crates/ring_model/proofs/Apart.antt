@@ -3,23 +3,17 @@ use Rattle.std.proofs.Common.{◌≡◌, ◌≢◌, ℕ, zero, suc, ◌<◌, Boo
 use Rattle.std.specs.Prelude.{slice_get, slice_set}
 use Rattle.std.proofs.lemmas.Bool.{cases_eq}
 use Rattle.std.proofs.lemmas.Option.{same_Some, none-some, slice_get_within}
-use Rattle.ring_model.specs.declared.steps.RxStep.{RxStep}
-use Rattle.ring_model.specs.declared.steps.TxStep.{TxStep}
 use Rattle.ring_model.specs.shared.Schedules.{next, after_all}
 use Rattle.ring_model.specs.receive.Ring.{RxRing, rx_opening}
-use Rattle.ring_model.specs.receive.Steps.{IsRxReachable, rx_can, rx_changed, rx_next, rx_after_all}
-use Rattle.ring_model.specs.receive.Lawful.{IsLawfulRx}
+use Rattle.ring_model.specs.receive.Steps.{IsRxReachable, rx_can, rx_changed}
 use Rattle.ring_model.specs.receive.Laws.{RxLater}
-use Rattle.ring_model.specs.transmit.Ring.{Posting, TxBeginning, TxRing, tx_opening}
-use Rattle.ring_model.specs.transmit.Steps.{IsTxReachable, tx_can, tx_changed, tx_next, tx_after_all}
-use Rattle.ring_model.specs.transmit.Lawful.{IsLawfulTx}
+use Rattle.ring_model.specs.transmit.Ring.{TxBeginning, TxRing, tx_opening}
+use Rattle.ring_model.specs.transmit.Steps.{IsTxReachable, tx_can, tx_changed}
 use Rattle.ring_model.specs.transmit.Laws.{TxLater}
 use Rattle.ring_model.specs.Worlds.{QueueMove, Receive, Transmit, World, WorldLater, opening_world, put_next, can_move, after_move, after_moves, IsReachableWorld, IsLeftAlone, IsLawfulWorld}
 use Rattle.ring_model.proofs.shared.Places.{slice_set-writes}
 use Rattle.ring_model.proofs.shared.Reaching.{after-append, reached-opening, reached-more, reached-next}
-use Rattle.ring_model.proofs.receive.Kept.{IsRxKept}
 use Rattle.ring_model.proofs.receive.Reached.{rx_kept, rx_lawful, rx_later-all}
-use Rattle.ring_model.proofs.transmit.Kept.{IsTxKept}
 use Rattle.ring_model.proofs.transmit.Reached.{tx_kept, tx_lawful, tx_later-all}
 
 module _ {X : Type 0} where

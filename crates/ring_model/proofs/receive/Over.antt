@@ -1,6 +1,6 @@
 -- When a receive ring's controller is over: it has ended, or it serves and said that it is quiet.
-use Rattle.std.proofs.Common.{◌≡◌, ◌⊎◌, inl, inr, ⊎_elim, ℕ, Bool, true, false, not, ◌&&◌, ◌||◌, refl, ap, ◌∙◌, sym, if◌then◌else◌}
-use Rattle.std.proofs.lemmas.Bool.{cases_Bool, both_ways, and_parts, and_from, or_cases, or_left, or_right, not-true, not_from_false, false≢true}
+use Rattle.std.proofs.Common.{◌≡◌, ◌⊎◌, inl, inr, ⊎_elim, ℕ, Bool, true, false, not, ◌&&◌, ◌||◌, ap, ◌∙◌}
+use Rattle.std.proofs.lemmas.Bool.{cases_Bool, both_ways, and_parts, and_from, or_cases, or_left, or_right, not_from_false}
 use Rattle.ring_model.specs.declared.handshake.Handshake.{Handshake}
 use Rattle.ring_model.specs.declared.steps.ControlStep.{ControlStep}
 use Rattle.ring_model.specs.shared.Handshakes.{is_ended, is_open, is_serving, has_ended, may_shake, shaken, enables}

@@ -1,15 +1,14 @@
 -- Every receive ring that a schedule gives is kept, so it is lawful and concluded; and whatever schedule goes on from it, the ring after is later.
-use Rattle.std.proofs.Common.{◌≡◌, ℕ, ◌-◌, ◌<◌, inr, ⊎_elim, Bool, true, false, not, ◌&&◌, List, Option, Some, None, refl, sym, subst, arith}
+use Rattle.std.proofs.Common.{◌≡◌, ℕ, ◌<◌, inr, ⊎_elim, true, not, ◌&&◌, List, Option, Some, None, refl, sym, subst}
 use Rattle.std.specs.Prelude.{nat_lt}
-use Rattle.std.proofs.lemmas.Bool.{and_parts, and_from, lt-ltb, not_from_false}
+use Rattle.std.proofs.lemmas.Bool.{and_parts, and_from, lt-ltb}
 use Rattle.std.proofs.lemmas.Option.{slice_get_within}
-use Rattle.ring_model.specs.declared.handshake.Handshake.{Handshake}
 use Rattle.ring_model.specs.declared.states.DriverState.TheVariants.{Cleared, Tailed}
 use Rattle.ring_model.specs.declared.steps.RxStep.{RxStep}
 use Rattle.ring_model.specs.declared.steps.RxStep.TheVariants as rx
 use Rattle.ring_model.specs.shared.Handshakes.{is_live, is_serving}
 use Rattle.ring_model.specs.shared.QueueSteps.{Post, Publish, Look, Fetch, Serve, Head, Give, Shake, Reclaim, ClearHead, ClearTail, Renew}
-use Rattle.ring_model.specs.shared.Queue.{posted_count, served_count, given_count, may, by}
+use Rattle.ring_model.specs.shared.Queue.{posted_count, served_count, given_count, may}
 use Rattle.ring_model.specs.receive.Ring.{Segment, RxRing, rx_opening, due, is_whole, next_segment}
 use Rattle.ring_model.specs.receive.Steps.{IsRxReachable, rx_after_all, rx_can, rx_changed, rx_settled, took}
 use Rattle.ring_model.specs.receive.Lawful.{IsLawfulRx, IsLawfulRxLedger}
@@ -18,7 +17,7 @@ use Rattle.ring_model.proofs.shared.Fixed.{later-refl, later-trans, later-by, sa
 use Rattle.ring_model.proofs.shared.Reached.{ordered, concluded}
 use Rattle.ring_model.proofs.shared.Reaching.{kept-reached, later-all}
 use Rattle.ring_model.proofs.receive.Kept.{IsRxKept}
-use Rattle.ring_model.proofs.receive.Over.{over-ended, over-parts, over-quiet, over-close, over-shake, held-unover}
+use Rattle.ring_model.proofs.receive.Over.{over-parts, over-quiet, over-close, over-shake, held-unover}
 use Rattle.ring_model.proofs.receive.Stepping.{rx_kept-opening, rx_kept-changed, rx_ledger}
 
 module _ {Payload : Type 0} where

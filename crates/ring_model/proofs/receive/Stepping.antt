@@ -1,10 +1,10 @@
 -- What every step of a receive ring keeps.
-use Rattle.std.proofs.Common.{◌≡◌, ℕ, ◌+◌, ◌<◌, ◌≤◌, Bool, true, false, not, ◌&&◌, ◌||◌, [], ◌∷◌, ◌++◌, map, Option, Some, None, refl, ap, ◌∙◌, sym, subst, ⊎_elim, arith, if◌then◌else◌}
-use Rattle.std.specs.Prelude.{◌==◌, nat_lt, slice_get}
+use Rattle.std.proofs.Common.{◌≡◌, ℕ, ◌<◌, Bool, true, false, not, ◌&&◌, [], ◌∷◌, ◌++◌, map, Option, Some, None, refl, subst, ⊎_elim, arith, if◌then◌else◌}
+use Rattle.std.specs.Prelude.{nat_lt, slice_get}
 use Rattle.std.proofs.lemmas.Bool.{both_ways, and_parts, and_from, not-true, lt-ltb, false≢true}
 use Rattle.std.proofs.lemmas.Option.{none-some, slice_get_within}
 use Rattle.ring_model.specs.declared.handshake.Handshake.{Handshake}
-use Rattle.ring_model.specs.declared.states.DriverState.TheVariants.{New, Cleared, Tailed}
+use Rattle.ring_model.specs.declared.states.DriverState.TheVariants.{Cleared, Tailed}
 use Rattle.ring_model.specs.declared.steps.ControlStep.{ControlStep}
 use Rattle.ring_model.specs.declared.steps.ControlStep.TheVariants.{AskEnable, LookAsked, Answer, LookAnswered, AskDisable}
 use Rattle.ring_model.specs.declared.steps.RxStep.{RxStep}

@@ -1,17 +1,15 @@
 -- What goes on for ever: each step leaves the lists that have ended, or begins a new epoch.
-use Rattle.std.proofs.Common.{◌≡◌, ℕ, ◌-◌, ◌⊎◌, inl, inr, ⊎_elim, Bool, true, false, not, ◌&&◌, ◌||◌, [], ◌∷◌, ◌++◌, sym, refl, ap, ◌∙◌, subst, if◌then◌else◌, append_assoc}
+use Rattle.std.proofs.Common.{◌≡◌, ℕ, ◌-◌, ◌⊎◌, inl, inr, ⊎_elim, Bool, true, false, not, ◌&&◌, [], ◌∷◌, ◌++◌, sym, refl, ap, ◌∙◌, subst, if◌then◌else◌, append_assoc}
 use Rattle.std.specs.Prelude.{◌==◌, nat_lt}
-use Rattle.std.proofs.lemmas.Bool.{both_ways, and_parts, and_from, or_cases, not-true, not_from_false, eqb-true}
-use Rattle.ring_model.specs.declared.handshake.Handshake.{Handshake}
-use Rattle.ring_model.specs.declared.states.DriverState.TheVariants.{Cleared, Tailed}
+use Rattle.std.proofs.lemmas.Bool.{both_ways, and_parts, or_cases, not_from_false, eqb-true}
 use Rattle.ring_model.specs.declared.steps.ControlStep.{ControlStep}
 use Rattle.ring_model.specs.declared.steps.ControlStep.TheVariants.{AskEnable, LookAsked, Answer, LookAnswered, AskDisable}
-use Rattle.ring_model.specs.shared.Handshakes.{is_open, is_live, is_answered, is_serving, is_ended, is_new, is_on, is_stopped, ask_enable, look_asked, can_enable, enable, can_disable, disable, look_answered, ask_disable, may_shake, shaken, enables, has_ended}
+use Rattle.ring_model.specs.shared.Handshakes.{is_open, is_live, is_answered, is_serving, can_enable, enable, can_disable, disable, may_shake, shaken, enables, has_ended}
 use Rattle.ring_model.specs.shared.QueueSteps.{QueueStep, Post, Publish, Look, Fetch, Serve, Head, Give, Shake, Reclaim, ClearHead, ClearTail, Renew}
 use Rattle.ring_model.specs.shared.Queue.{Ledger, Queue, posted_count, served_count, given_count, may, by}
-use Rattle.ring_model.specs.shared.Laws.{IsGrown, NewEpoch, SameEpoch, Later}
+use Rattle.ring_model.specs.shared.Laws.{IsGrown, SameEpoch, Later}
 use Rattle.ring_model.proofs.shared.Kept.{IsKept}
-use Rattle.ring_model.proofs.shared.Shakes.{new_open, on_open, live_unanswered, open_unanswered, shakes-enable, shakes-disable, learned_open, learned_answered, serving_unended}
+use Rattle.ring_model.proofs.shared.Shakes.{new_open, on_open, live_unanswered, open_unanswered, shakes-enable, shakes-disable, learned_open, learned_answered}
 use Rattle.ring_model.proofs.shared.Beginnings.{beginning-refl, beginning-trans, beginning-append}
 use Rattle.ring_model.proofs.shared.Stepping.{shook, unended, open_unended}
 

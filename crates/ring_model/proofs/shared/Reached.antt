@@ -1,6 +1,6 @@
 -- What a kept queue is: its counts stand in their order, and where the controller has ended, the head tells how many were served.
-use Rattle.std.proofs.Common.{◌≡◌, ℕ, Bool, true, false}
-use Rattle.ring_model.specs.shared.Queue.{Queue, posted_count, served_count, given_count}
+use Rattle.std.proofs.Common.{ℕ, Bool}
+use Rattle.ring_model.specs.shared.Queue.{Queue}
 use Rattle.ring_model.specs.shared.Laws.{IsConcluded, IsOrdered}
 use Rattle.ring_model.proofs.shared.Kept.{IsKept}
 use Rattle.ring_model.proofs.shared.Shakes.{ended_full}

@@ -1,5 +1,5 @@
 -- What holds at the beginning and is kept by each step holds of all that schedules give; and what each step leads to follows from what went before.
-use Rattle.std.proofs.Common.{◌≡◌, ℕ, Bool, true, false, List, [], ◌∷◌, ◌++◌, refl, sym, ap, ◌∙◌, subst, if◌then◌else◌}
+use Rattle.std.proofs.Common.{◌≡◌, Bool, true, false, List, [], ◌∷◌, ◌++◌, refl, ap, ◌∙◌, subst, if◌then◌else◌}
 use Rattle.ring_model.specs.shared.Schedules.{next, after_all, IsReached}
 
 module _ {State Step : Type 0} (can : State → Step → Bool) (changed : State → Step → State) where

@@ -1,26 +1,25 @@
 -- Every transmit ring that a schedule gives is kept, so it is lawful and concluded; and whatever schedule goes on from it, the ring after is later.
-use Rattle.std.proofs.Common.{◌≡◌, ◌⊎◌, ℕ, ◌+◌, ◌-◌, ◌<◌, ◌≤◌, ⊎_elim, inr, Bool, true, false, not, ◌&&◌, List, [], ◌∷◌, ◌++◌, map, length, Option, Some, None, refl, sym, ap, ◌∙◌, subst, arith, if◌then◌else◌, append-nil, length-append}
+use Rattle.std.proofs.Common.{◌≡◌, ℕ, ◌+◌, ◌<◌, ◌≤◌, ⊎_elim, Bool, true, false, not, List, [], ◌∷◌, ◌++◌, map, length, Option, Some, None, refl, sym, ap, ◌∙◌, subst, arith, if◌then◌else◌, append-nil, length-append}
 use Rattle.std.specs.Prelude.{nat_lt}
-use Rattle.std.proofs.lemmas.Bool.{and_parts, and_from, cases_Bool, both_ways, ltb-true, not_from_false}
+use Rattle.std.proofs.lemmas.Bool.{and_parts, and_from, cases_Bool, ltb-true, not_from_false}
 use Rattle.std.proofs.lemmas.List.{length-map}
 use Rattle.ring_model.specs.declared.handshake.Handshake.{Handshake}
 use Rattle.ring_model.specs.declared.steps.TxStep.{TxStep}
 use Rattle.ring_model.specs.declared.steps.TxStep.TheVariants as tx
 use Rattle.ring_model.specs.shared.Lists.{IsBeginning}
-use Rattle.ring_model.specs.shared.Handshakes.{is_ended, is_live, is_open, is_serving, has_ended, shaken}
+use Rattle.ring_model.specs.shared.Handshakes.{is_ended, is_live, is_open, is_serving, has_ended}
 use Rattle.ring_model.specs.shared.QueueSteps.{Post, Publish, Look, Fetch, Serve, Head, Give, Shake, Reclaim, ClearHead, ClearTail, Renew}
-use Rattle.ring_model.specs.shared.Queue.{posted_count, served_count, given_count, may, by}
+use Rattle.ring_model.specs.shared.Queue.{posted_count, given_count, may, by}
 use Rattle.ring_model.specs.transmit.Ring.{Posting, TxRing, tx_opening, are_whole, ends_posting, next_posting, next_sent, number_of_posting}
-use Rattle.ring_model.specs.transmit.Steps.{IsTxReachable, by_head, oldest_report, cleaned_one, loaded_report, sent_one, tx_after_all, tx_can, tx_changed, tx_cleared, tx_renewed, tx_settled}
+use Rattle.ring_model.specs.transmit.Steps.{IsTxReachable, by_head, oldest_report, cleaned_one, loaded_report, sent_one, tx_after_all, tx_can, tx_changed, tx_cleared, tx_settled}
 use Rattle.ring_model.specs.transmit.Lawful.{IsLawfulTx, IsLawfulTxLedger}
 use Rattle.ring_model.specs.transmit.Laws.{IsTxConcluded, IsTxOrdered, TxLater, tx_over}
-use Rattle.ring_model.proofs.shared.Shakes.{serving_unended}
 use Rattle.ring_model.proofs.shared.Stepping.{unended}
 use Rattle.ring_model.proofs.shared.Fixed.{ended-shake, later-refl, later-trans, later-by}
 use Rattle.ring_model.proofs.shared.Reached.{ordered, concluded}
 use Rattle.ring_model.proofs.shared.Reaching.{kept-reached, later-all}
 use Rattle.ring_model.proofs.transmit.Kept.{IsTxKept}
-use Rattle.ring_model.proofs.transmit.Stepping.{tx_kept-opening, tx_kept-changed, tx_ledger, may_clean, idle_paid}
+use Rattle.ring_model.proofs.transmit.Stepping.{tx_kept-opening, tx_kept-changed, tx_ledger, may_clean}
 
 nothing_more : {X : Type 0} (xs rest : List X) → length (xs ++ rest) ≤ length xs → xs ++ rest ≡ xs
 nothing_more xs [] h = append-nil xs

@@ -1,23 +1,22 @@
 -- What every step of a transmit ring keeps.
-use Rattle.std.proofs.Common.{◌≡◌, ℕ, zero, suc, ◌+◌, ◌-◌, ◌<◌, ◌≤◌, Bool, true, false, not, ◌&&◌, ◌||◌, List, [], ◌∷◌, ◌++◌, map, take, length, Option, Some, None, option_map, refl, ap, ◌∙◌, sym, subst, ⊎_elim, arith, if◌then◌else◌, length-append}
+use Rattle.std.proofs.Common.{◌≡◌, ℕ, zero, suc, ◌+◌, ◌-◌, ◌<◌, ◌≤◌, Bool, true, false, not, ◌&&◌, List, [], ◌∷◌, ◌++◌, map, take, Option, Some, None, option_map, refl, ap, ◌∙◌, subst, ⊎_elim, arith, if◌then◌else◌, length-append}
 use Rattle.std.specs.Prelude.{◌==◌, nat_lt, slice_get}
-use Rattle.std.proofs.lemmas.Bool.{both_ways, and_parts, and_from, or_cases, not-true, lt-ltb, ltb-true}
-use Rattle.std.proofs.lemmas.Option.{none-some, same_Some, slice_get_within, slice_get-map}
+use Rattle.std.proofs.lemmas.Bool.{and_parts, and_from, or_cases, not-true, lt-ltb, ltb-true}
+use Rattle.std.proofs.lemmas.Option.{none-some, same_Some, slice_get-map}
 use Rattle.std.proofs.lemmas.List.{map-append, take-append-le}
 use Rattle.std.proofs.Math.Seq.{take-length}
-use Rattle.ring_model.specs.declared.handshake.Handshake.{Handshake}
 use Rattle.ring_model.specs.declared.steps.ControlStep.{ControlStep}
 use Rattle.ring_model.specs.declared.steps.ControlStep.TheVariants.{AskEnable, LookAsked, Answer, LookAnswered, AskDisable}
 use Rattle.ring_model.specs.declared.steps.TxStep.{TxStep}
 use Rattle.ring_model.specs.declared.steps.TxStep.TheVariants as tx
-use Rattle.ring_model.specs.shared.Handshakes.{first_handshake, is_live, is_answered, is_serving, can_enable, enable, can_disable, disable, may_shake, shaken, enables}
+use Rattle.ring_model.specs.shared.Handshakes.{first_handshake, is_live, is_serving, can_enable, can_disable, shaken, enables}
 use Rattle.ring_model.specs.shared.QueueSteps.{QueueStep, Post, Publish, Look, Fetch, Serve, Head, Give, Shake, Reclaim, ClearHead, ClearTail, Renew}
 use Rattle.ring_model.specs.shared.Queue.{posted_count, served_count, given_count, is_settled, may, by}
 use Rattle.ring_model.specs.transmit.Ring.{Posting, TxBeginning, TxLedger, TxRing, tx_opening, are_whole, ends_posting, next_posting, next_sent, number_of_posting}
-use Rattle.ring_model.specs.transmit.Steps.{by_head, asks_report, first_report, oldest_report, is_there, tx_settled, sent_one, loaded_report, cleaned_one, tx_renewed, tx_cleared, tx_can, tx_changed}
+use Rattle.ring_model.specs.transmit.Steps.{by_head, asks_report, first_report, oldest_report, tx_settled, sent_one, loaded_report, cleaned_one, tx_renewed, tx_cleared, tx_can, tx_changed}
 use Rattle.ring_model.specs.transmit.Lawful.{IsLawfulTxLedger}
 use Rattle.ring_model.proofs.shared.Kept.{IsKept}
-use Rattle.ring_model.proofs.shared.Shakes.{cleared_emptied, tailed_emptied, emptied_answered}
+use Rattle.ring_model.proofs.shared.Shakes.{tailed_emptied, emptied_answered}
 use Rattle.ring_model.proofs.shared.Beginnings.{beginning-append, beginning-snoc, slice_get-snoc}
 use Rattle.ring_model.proofs.shared.Stepping.{kept-opening, kept-by, answered_idle}
 use Rattle.ring_model.proofs.transmit.Kept.{InReports, IsTxKept}
