@@ -1,9 +1,7 @@
 -- The controller's calls, over the fields of its end: what each step asks, and what the end keeps.
-use Rattle.std.proofs.Common.{◌≡◌, ℕ, ◌+◌, ◌-◌, ◌*◌, ◌%◌, ◌^◌, ◌<◌, ◌≤◌, Bool, true, false, List, [], ◌∷◌, ◌++◌, length, Option, Some, None, sym, refl, ap, ◌∙◌, subst, ⊎_elim, arith, if◌then◌else◌, length-append, mod-lt, mod-eq_of_lt}
+use Rattle.std.proofs.Common.{◌≡◌, ℕ, ◌+◌, ◌-◌, ◌*◌, ◌%◌, ◌^◌, ◌<◌, ◌≤◌, Bool, true, false, List, [], ◌∷◌, ◌++◌, length, Option, Some, None, sym, refl, ap, ◌∙◌, subst, arith, if◌then◌else◌, length-append, mod-lt}
 use Rattle.std.specs.Prelude.{◌==◌}
 use Rattle.std.proofs.lemmas.Option.{none-some}
-use Rattle.std.proofs.lemmas.Bool.{cases_lt}
-use Rattle.std.proofs.Math.Nat.{add-mod_right}
 use mathlib.Core.Option.{none}
 use Rattle.descriptor.specs.Layout.{bit as descriptor_bit}
 use Rattle.atomic_table.specs.Table.{Allows, step, rest}
@@ -27,7 +25,7 @@ use Rattle.rx_ring.specs.Ends.{IsControllerEnd, ControllerSide}
 use Rattle.rx_ring.proofs.Folds.{controlling-snoc}
 use Rattle.rx_ring.proofs.Moving.{eop_of-rx_word}
 use Rattle.rx_ring.proofs.Serving.{allow-look, allow-fetch, allow-write_back}
-use Rattle.rx_ring.proofs.Calls.{key-is, slots-are, word-within, allow-at, front-is}
+use Rattle.rx_ring.proofs.Calls.{some-places, key-is, slots-are, word-within, allow-at, front-is}
 
 abbrev pub side : TableId → Seated → ControllerSide
 side table me = record { table = table; events = controllers_of me.0 }
@@ -66,8 +64,8 @@ module _ (table : TableId) (me : Seated) (size serve free : ℕ) (state : Contro
   abbrev s : ℕ
   s = length x.stored
 
-  big : 8 ≤ size
-  big = inv.lawful.0
+  big : 1 < size
+  big = some-places inv.lawful
 
   view-is : me.0 ≡ Controller (controllers_of me.0)
   view-is = ap (λ (m : Seated). m.0) inv.me_is

@@ -1,5 +1,5 @@
 -- The step keeps the rule; the tail is below the length, and the code counts how far it is ahead.
-use Rattle.std.proofs.Common.{◌≡◌, ℕ, ◌+◌, ◌-◌, ◌%◌, true, length, sym, ap, ◌∙◌, subst, arith}
+use Rattle.std.proofs.Common.{◌≡◌, ℕ, true, sym, ap, ◌∙◌, subst}
 use Rattle.ring_model.specs.shared.Handshakes.{is_serving}
 use Rattle.rx_ring.specs.declared.view.ControllerEvent.TheVariants as event
 use Rattle.rx_ring.specs.Records.{Controlled, controlling, controllers_of}
