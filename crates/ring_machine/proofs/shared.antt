@@ -1,0 +1,6 @@
+pub mod Snoc
+pub mod PlaceTests
+pub mod Slots
+pub mod Telling
+pub mod Fitting
+pub mod Shaking
