@@ -1,6 +1,6 @@
 -- What a contract sees of a `Buf`.
 use Rattle.std.specs.Prelude.{ℕ, List, []}
-use Rattle.buffer_pool.specs.declared.buf.TheConstants.{BUFFER_BYTES}
+use Rattle.limits.specs.declared.profile.TheConstants.{BUFFER_BYTES}
 
 -- its number, the bytes in it, and how many it has room for
 pub record Buffer : Type 0 where

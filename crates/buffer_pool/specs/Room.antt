@@ -1,20 +1,16 @@
--- The room of a `Buf`, which lies on the heap or is not there.
-use Rattle.std.specs.Prelude.{◌≡◌, ℕ, ◌≤◌, List, [], length, Option, Some, None}
+-- What a `Buf` has on the heap, if it has.
+use Rattle.std.specs.Prelude.{◌≡◌, ◌≤◌, length, take, Option, Some, None}
 use Rattle.std.specs.Global.{Box}
-use Rattle.arrayvec.specs.ArrayVec.{ArrayVec}
-use Rattle.buffer_pool.specs.declared.buf.TheConstants.{BUFFER_BYTES}
+use Rattle.limits.specs.declared.profile.TheConstants.{BUFFER_BYTES}
+use Rattle.buffer_pool.specs.declared.buf.Room.{Room}
+use Rattle.buffer_pool.specs.Buffer.{Buffer, blank, buffer}
 
--- the bytes of the room, of which the buffer's are the first
-abbrev pub room_bytes : Option (Box (ArrayVec ℕ)) → List ℕ
-room_bytes None = []
-room_bytes (Some room) = room.value.items
-
--- how many bytes fit
-abbrev pub room_capacity : Option (Box (ArrayVec ℕ)) → ℕ
-room_capacity None = 0
-room_capacity (Some _) = BUFFER_BYTES
+-- the buffer that callers see: a blank has no room
+abbrev pub seen : Option (Box Room) → Buffer
+seen None = blank
+seen (Some room) = buffer room.value.number (take room.value.len room.value.bytes)
 
 -- each byte of the room is there, and len of them are the buffer's
-pub record IsRoom (len : ℕ) (room : Option (Box (ArrayVec ℕ))) : Type 0 where
-  pub whole : length (room_bytes room) ≡ room_capacity room
-  pub fits : len ≤ room_capacity room
+abbrev pub IsWhole : Option (Box Room) → Type 0
+IsWhole None = Unit {0}
+IsWhole (Some room) = (length room.value.bytes ≡ BUFFER_BYTES) × (room.value.len ≤ BUFFER_BYTES)

@@ -1,35 +1,40 @@
 //! One buffer.
-ghost use Rattle.std.specs.Prelude.{◌≡◌, ◌≤◌, ◌↔◌, ◌⊎◌, [], ◌++◌, length, drop, IsTrue, IfOk};
+ghost use Rattle.std.specs.Prelude.{◌≡◌, ◌≤◌, ◌↔◌, ◌⊎◌, [], ◌++◌, length, drop, replicate, IsTrue, IfOk};
 ghost use Rattle.buffer_pool.specs.Buffer.{buffer, blank};
 
-use arrayvec::ArrayVec;
+use limits::BUFFER_BYTES;
 use std::alloc::{AllocError, Global};
 use std::marker::Model;
 
-/// How many bytes a buffer has room for: the reset value of SRRCTL.BSIZEPACKET, 2 KB.
-pub const BUFFER_BYTES: usize = 2048;
-
 /// A buffer: its number, and the bytes of one segment in it.
 ///
-/// The bytes lie on the heap, so moving a buffer does not move them. The default buffer is a
-/// blank, for a place that has to hold some buffer: it has number 0 and no room.
+/// Both lie on the heap, so a buffer itself takes 16 bytes, and moving it moves no more. The default
+/// buffer is a blank, for a place where no buffer is: it has number 0 and no room, and nothing on
+/// the heap.
 #[derive(Drop)]
 pub struct Buf {
+    room: Option<Box<Room>>,
+}
+
+const _: () = prove!(size_of::<Buf>() == 16);
+
+/// What a buffer has on the heap.
+#[derive(Drop)]
+struct Room {
     number: u16,
     len: u16,
-    room: Option<Box<ArrayVec<u8, BUFFER_BYTES>>>,
+    bytes: [u8; BUFFER_BYTES],
 }
 
 impl Model for Buf {
-    ghost use Rattle.std.specs.Prelude.{take};
     ghost use Rattle.buffer_pool.specs.Buffer.{Buffer};
-    ghost use Rattle.buffer_pool.specs.Room.{room_bytes, room_capacity, IsRoom};
+    ghost use Rattle.buffer_pool.specs.Room.{IsWhole, seen};
 
     ghost Value = { Buffer };
 
-    ghost view = { λ b. record { number = b.number; bytes = take b.len (room_bytes b.room); capacity = room_capacity b.room } };
+    ghost view = { λ b. seen b.room };
 
-    ghost invariant = { λ b. IsRoom b.len b.room };
+    ghost invariant = { λ b. IsWhole b.room };
 }
 
 impl Buf {
@@ -37,20 +42,36 @@ impl Buf {
     pub(crate) fn new(alloc: Global, number: u16) -> Result<Self, AllocError>
         ensures { IfOk result (λ b. b ≡ buffer number []) }
     {
-        let room = Box::new(alloc, ArrayVec::from_array_in((), [0; BUFFER_BYTES]))?;
-        Ok(Buf {
+        let room = Room {
             number,
             len: 0,
-            room: Some(room),
+            bytes: [0; BUFFER_BYTES],
+        };
+        Ok(Buf {
+            room: Some(Box::new(alloc, room)?),
         })
     }
 
-    /// The buffer's number, which no call changes.
+    /// So many blanks, for places that have no buffer yet.
+    pub fn blanks(alloc: Global, count: usize) -> Result<Vec<Buf>, AllocError>
+        ensures { IfOk result (λ blanks. blanks.items ≡ replicate count blank) }
+    {
+        let mut blanks = Vec::with_capacity(alloc, count)?;
+        while blanks.len() < count {
+            blanks.push_reserved(Buf::default());
+        }
+        Ok(blanks)
+    }
+
+    /// The buffer's number, which no call changes. A blank has 0.
     #[inline]
     pub fn number(&self) -> u16
         ensures { result ≡ self.now.number }
     {
-        self.number
+        match &self.room {
+            Some(room) => room.number,
+            None => 0,
+        }
     }
 
     /// The bytes in the buffer.
@@ -60,7 +81,7 @@ impl Buf {
         ensures fits { length result.now ≤ self.now.capacity }
     {
         match &self.room {
-            Some(room) => &room.as_slice()[..usize::from(self.len)],
+            Some(room) => &room.bytes[..usize::from(room.len)],
             None => &[],
         }
     }
@@ -71,7 +92,7 @@ impl Buf {
         ensures value { result ≡ length self.now.bytes }
         ensures fits { result ≤ self.now.capacity }
     {
-        usize::from(self.len)
+        self.bytes().len()
     }
 
     /// Whether no byte is in the buffer.
@@ -79,7 +100,7 @@ impl Buf {
     pub fn is_empty(&self) -> bool
         ensures { IsTrue result ↔ (self.now.bytes ≡ []) }
     {
-        self.len == 0
+        self.len() == 0
     }
 
     /// How many bytes fit: `BUFFER_BYTES`, or none into a blank.
@@ -88,10 +109,7 @@ impl Buf {
         ensures value { result ≡ self.now.capacity }
         ensures all_or_none { (result ≡ BUFFER_BYTES) ⊎ (result ≡ 0) }
     {
-        match &self.room {
-            Some(_) => BUFFER_BYTES,
-            None => 0,
-        }
+        if self.room.is_some() { BUFFER_BYTES } else { 0 }
     }
 
     /// Puts `bytes` into the buffer, in place of those that were there. It writes no other byte.
@@ -101,8 +119,8 @@ impl Buf {
         ensures { self.new ≡ record self.old { bytes = bytes.now } }
     {
         if let Some(room) = &mut self.room {
-            overwrite(room.as_mut_slice(), bytes);
-            self.len = bytes.len() as u16;
+            overwrite(&mut room.bytes, bytes);
+            room.len = bytes.len() as u16;
         }
     }
 
@@ -111,7 +129,9 @@ impl Buf {
     pub fn clear(&mut self)
         ensures { self.new ≡ record self.old { bytes = [] } }
     {
-        self.len = 0;
+        if let Some(room) = &mut self.room {
+            room.len = 0;
+        }
     }
 }
 
@@ -119,11 +139,7 @@ impl Default for Buf {
     ghost is_default = { λ b. b ≡ blank };
 
     fn default() -> Buf {
-        Buf {
-            number: 0,
-            len: 0,
-            room: None,
-        }
+        Buf { room: None }
     }
 }
 

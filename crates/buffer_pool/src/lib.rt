@@ -14,6 +14,6 @@ mod stock;
 #[cfg(test)]
 mod tests;
 
-pub use buf::{BUFFER_BYTES, Buf};
+pub use buf::Buf;
 pub use error::PoolError;
-pub use stock::{FEWEST_BUFFERS, MOST_BUFFERS, Stock};
+pub use stock::Stock;

@@ -5,15 +5,10 @@ ghost use Rattle.buffer_pool.specs.Buffer.{buffer};
 ghost use Rattle.buffer_pool.specs.Shelf.{numbers_of, AllReady};
 ghost use Rattle.buffer_pool.specs.Stocked.{full_stock, with_number, IsStock, IsOut, Shares};
 
-use crate::{BUFFER_BYTES, Buf, PoolError};
+use crate::{Buf, PoolError};
+use limits::{BUFFER_BYTES, FEWEST_BUFFERS, MOST_BUFFERS};
 use std::alloc::{AllocError, Global};
 use std::marker::Model;
-
-/// The fewest buffers of a stock.
-pub const FEWEST_BUFFERS: u32 = 16;
-
-/// The most buffers of a stock, and one more than the greatest number of a buffer.
-pub const MOST_BUFFERS: u32 = 65536;
 
 /// The buffers with the numbers of one range, as far as they are not out.
 ///

@@ -1,4 +1,4 @@
-use crate::{BUFFER_BYTES, Buf, PoolError, Stock};
+use crate::{Buf, PoolError, Stock};
 use std::test::Fail;
 
 #[test]
@@ -6,11 +6,12 @@ fn a_buffer_has_the_bytes_of_the_last_fill(rt: HostRuntime) -> Result<(), Fail> 
     let mut stock = Stock::new(rt.alloc(), 100, 16)?;
     let mut buf = stock.take().ok_or("no buffer")?;
     assert_eq!(rt; buf.number(), 100);
-    assert_eq!(rt; buf.capacity(), BUFFER_BYTES);
+    assert_eq!(rt; buf.capacity(), 2_048);
     assert!(rt; buf.is_empty());
-    buf.fill(&[0xab; BUFFER_BYTES]);
-    assert_eq!(rt; buf.len(), BUFFER_BYTES);
+    buf.fill(&[0xab; 2_048]);
+    assert_eq!(rt; buf.bytes(), [0xab; 2_048].as_slice());
     buf.fill(&[1, 2, 3]);
+    assert_eq!(rt; buf.len(), 3);
     assert_eq!(rt; buf.bytes(), [1, 2, 3].as_slice());
     buf.clear();
     assert_eq!(rt; buf.bytes(), [].as_slice());
@@ -18,11 +19,16 @@ fn a_buffer_has_the_bytes_of_the_last_fill(rt: HostRuntime) -> Result<(), Fail> 
 }
 
 #[test]
-fn the_default_buffer_is_a_blank(rt: HostRuntime) {
-    let blank = Buf::default();
-    assert_eq!(rt; blank.number(), 0);
-    assert_eq!(rt; blank.capacity(), 0);
-    assert_eq!(rt; blank.bytes(), [].as_slice());
+fn the_default_buffer_is_a_blank(rt: HostRuntime) -> Result<(), Fail> {
+    let mut blanks = Buf::blanks(rt.alloc(), 4_095)?;
+    blanks.push(Buf::default())?;
+    assert_eq!(rt; blanks.len(), 4_096);
+    for blank in &blanks {
+        assert_eq!(rt; blank.number(), 0);
+        assert_eq!(rt; blank.capacity(), 0);
+        assert_eq!(rt; blank.bytes(), [].as_slice());
+    }
+    Ok(())
 }
 
 #[test]
@@ -62,6 +68,9 @@ fn only_lawful_counts_are_made(rt: HostRuntime) {
         (16, u32::MAX, Some(34)),
         (0, 65_537, Some(34)),
         (1, 65_536, Some(34)),
+        (0, 4_096, None),
+        (61_440, 4_096, None),
+        (61_441, 4_096, Some(34)),
         (0, 65_536, None),
     ] {
         let refusal = Stock::new(rt.alloc(), first, count).err();

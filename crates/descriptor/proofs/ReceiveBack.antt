@@ -1,9 +1,9 @@
 -- The receive write-back's form and its descriptors.
 use Rattle.std.proofs.Common.{◌≡◌, ◌≢◌, ℕ, ◌+◌, ◌*◌, ◌/◌, ◌%◌, ◌<◌, ◌≤◌, ◌^◌, Bool, List, Result, Ok, Err, refl, sym, ap, subst, ◌∙◌, arith, rules}
 use Rattle.std.proofs.Props.{props}
+use Rattle.limits.specs.declared.profile.TheConstants.{BUFFER_BYTES}
 use Rattle.descriptor.specs.declared.error.DescError.{DescError}
 use Rattle.descriptor.specs.declared.error.DescError.TheVariants.{Length, Reserved, Kind, Size}
-use Rattle.descriptor.specs.declared.limits.TheConstants.{MOST_DATA}
 use Rattle.descriptor.specs.declared.rx_back.RxBack.{RxBack}
 use Rattle.descriptor.specs.Layout.{KeepsWords, KeepsBytes, HasWords, word_of, bit}
 use Rattle.descriptor.specs.Receive.{rx_back_form, rx_back_numbers, rx_back_first, rx_back_second, rx_back_bytes}
@@ -30,17 +30,17 @@ rx_back-kept d Reserved = rx_back-reserved d.len d.eop
 rx_back-kept d Kind = record { first = λ w made. search rules; second = λ w made. search rules }
 rx_back-kept d Size = record { first = λ w made. search rules; second = λ w made. search rules }
 
-made : (len : ℕ) (eop : Bool) → 1 ≤ len → len ≤ MOST_DATA → RxBack
+made : (len : ℕ) (eop : Bool) → 1 ≤ len → len ≤ BUFFER_BYTES → RxBack
 made len eop low high = record { len = len; eop = eop; some_data = low; fits = high }
 
-same-made : (d : RxBack) (len : ℕ) → d.len ≡ len → (eop : Bool) → d.eop ≡ eop → (low : 1 ≤ len) (high : len ≤ MOST_DATA) → d ≡ made len eop low high
+same-made : (d : RxBack) (len : ℕ) → d.len ≡ len → (eop : Bool) → d.eop ≡ eop → (low : 1 ≤ len) (high : len ≤ BUFFER_BYTES) → d ≡ made len eop low high
 unfolding made
 same-made d len e eop e' low high =
     let one : IsProp (1 ≤ d.len) = hlevel props in
-    let two : IsProp (d.len ≤ MOST_DATA) = hlevel props in
-    let here : (l : 1 ≤ d.len) (h : d.len ≤ MOST_DATA) → d ≡ made d.len d.eop l h = λ l h.
-    ap (λ (x : 1 ≤ d.len). made d.len d.eop x d.fits) (one d.some_data l) ∙ ap (λ (y : d.len ≤ MOST_DATA). made d.len d.eop l y) (two d.fits h) in
-    let P : ℕ → Type 0 = λ n. (l : 1 ≤ n) (h : n ≤ MOST_DATA) → d ≡ made n d.eop l h in
+    let two : IsProp (d.len ≤ BUFFER_BYTES) = hlevel props in
+    let here : (l : 1 ≤ d.len) (h : d.len ≤ BUFFER_BYTES) → d ≡ made d.len d.eop l h = λ l h.
+    ap (λ (x : 1 ≤ d.len). made d.len d.eop x d.fits) (one d.some_data l) ∙ ap (λ (y : d.len ≤ BUFFER_BYTES). made d.len d.eop l y) (two d.fits h) in
+    let P : ℕ → Type 0 = λ n. (l : 1 ≤ n) (h : n ≤ BUFFER_BYTES) → d ≡ made n d.eop l h in
     let Q : Bool → Type 0 = λ b. d ≡ made len b low high in
     subst Q e' (subst P e here low high)
 

@@ -1,9 +1,9 @@
 -- The read format of a transmit descriptor, and its descriptors.
 use Rattle.std.proofs.Common.{◌≡◌, ℕ, ◌+◌, ◌*◌, ◌/◌, ◌%◌, ◌<◌, ◌≤◌, ◌^◌, IsTrue, Bool, true, false, List, Result, Ok, Err, refl, ap, subst, ◌∙◌, arith, rules}
 use Rattle.std.proofs.Props.{props}
+use Rattle.limits.specs.declared.profile.TheConstants.{BUFFER_BYTES, LEAST_FRAME, MOST_FRAME}
 use Rattle.descriptor.specs.declared.error.DescError.{DescError}
 use Rattle.descriptor.specs.declared.error.DescError.TheVariants.{Length, Reserved, Kind, Size}
-use Rattle.descriptor.specs.declared.limits.TheConstants.{MOST_DATA, LEAST_FRAME, MOST_FRAME}
 use Rattle.descriptor.specs.declared.tx_read.TxRead.{TxRead}
 use Rattle.descriptor.specs.Address.{address_fields}
 use Rattle.descriptor.specs.Refusal.{IsLowest}
@@ -84,7 +84,7 @@ tx_read-kept d Size = record {
   );
 }
 
-made : (number len : ℕ) (eop rs : Bool) (paylen : ℕ) → number < 2 ^ 16 → 1 ≤ len → len ≤ MOST_DATA → (IsTrue rs → IsTrue eop) → LEAST_FRAME ≤ paylen → paylen ≤ MOST_FRAME → TxRead
+made : (number len : ℕ) (eop rs : Bool) (paylen : ℕ) → number < 2 ^ 16 → 1 ≤ len → len ≤ BUFFER_BYTES → (IsTrue rs → IsTrue eop) → LEAST_FRAME ≤ paylen → paylen ≤ MOST_FRAME → TxRead
 made number len eop rs paylen a b c d e f = record {
   number = number;
   len = len;
@@ -100,36 +100,36 @@ made number len eop rs paylen a b c d e f = record {
 }
 
 -- the facts of a descriptor are no part of what it is
-same-facts : (t : TxRead) (a : t.number < 2 ^ 16) (b : 1 ≤ t.len) (c : t.len ≤ MOST_DATA) (d : IsTrue t.rs → IsTrue t.eop) (e : LEAST_FRAME ≤ t.paylen) (f : t.paylen ≤ MOST_FRAME)
+same-facts : (t : TxRead) (a : t.number < 2 ^ 16) (b : 1 ≤ t.len) (c : t.len ≤ BUFFER_BYTES) (d : IsTrue t.rs → IsTrue t.eop) (e : LEAST_FRAME ≤ t.paylen) (f : t.paylen ≤ MOST_FRAME)
     → t ≡ made t.number t.len t.eop t.rs t.paylen a b c d e f
 unfolding made
 same-facts t a b c d e f =
     let pa : IsProp (t.number < 2 ^ 16) = hlevel props in
     let pb : IsProp (1 ≤ t.len) = hlevel props in
-    let pc : IsProp (t.len ≤ MOST_DATA) = hlevel props in
+    let pc : IsProp (t.len ≤ BUFFER_BYTES) = hlevel props in
     let pd : IsProp ((IsTrue t.rs → IsTrue t.eop)) = hlevel props in
     let pe : IsProp (LEAST_FRAME ≤ t.paylen) = hlevel props in
     let pf : IsProp (t.paylen ≤ MOST_FRAME) = hlevel props in
     ap (λ (x : t.number < 2 ^ 16). made t.number t.len t.eop t.rs t.paylen x t.some_data t.fits t.reports_end t.long_enough t.short_enough) (pa t.in_range a)
     ∙ ap (λ (x : 1 ≤ t.len). made t.number t.len t.eop t.rs t.paylen a x t.fits t.reports_end t.long_enough t.short_enough) (pb t.some_data b)
-    ∙ ap (λ (x : t.len ≤ MOST_DATA). made t.number t.len t.eop t.rs t.paylen a b x t.reports_end t.long_enough t.short_enough) (pc t.fits c)
+    ∙ ap (λ (x : t.len ≤ BUFFER_BYTES). made t.number t.len t.eop t.rs t.paylen a b x t.reports_end t.long_enough t.short_enough) (pc t.fits c)
     ∙ ap (λ (x : IsTrue t.rs → IsTrue t.eop). made t.number t.len t.eop t.rs t.paylen a b c x t.long_enough t.short_enough) (pd t.reports_end d)
     ∙ ap (λ (x : LEAST_FRAME ≤ t.paylen). made t.number t.len t.eop t.rs t.paylen a b c d x t.short_enough) (pe t.long_enough e)
     ∙ ap (λ (x : t.paylen ≤ MOST_FRAME). made t.number t.len t.eop t.rs t.paylen a b c d e x) (pf t.short_enough f)
 
 same-made : (t : TxRead) (number len : ℕ) (eop rs : Bool) (paylen : ℕ) → t.number ≡ number → t.len ≡ len → t.eop ≡ eop → t.rs ≡ rs → t.paylen ≡ paylen
-    → (a : number < 2 ^ 16) (b : 1 ≤ len) (c : len ≤ MOST_DATA) (d : IsTrue rs → IsTrue eop) (e : LEAST_FRAME ≤ paylen) (f : paylen ≤ MOST_FRAME)
+    → (a : number < 2 ^ 16) (b : 1 ≤ len) (c : len ≤ BUFFER_BYTES) (d : IsTrue rs → IsTrue eop) (e : LEAST_FRAME ≤ paylen) (f : paylen ≤ MOST_FRAME)
     → t ≡ made number len eop rs paylen a b c d e f
 same-made t number len eop rs paylen is_number is_len is_eop is_rs is_paylen =
-    let One : ℕ → Type 0 = λ n. (a : n < 2 ^ 16) (b : 1 ≤ t.len) (c : t.len ≤ MOST_DATA) (d : IsTrue t.rs → IsTrue t.eop) (e : LEAST_FRAME ≤ t.paylen) (f : t.paylen ≤ MOST_FRAME)
+    let One : ℕ → Type 0 = λ n. (a : n < 2 ^ 16) (b : 1 ≤ t.len) (c : t.len ≤ BUFFER_BYTES) (d : IsTrue t.rs → IsTrue t.eop) (e : LEAST_FRAME ≤ t.paylen) (f : t.paylen ≤ MOST_FRAME)
     → t ≡ made n t.len t.eop t.rs t.paylen a b c d e f in
-    let Two : ℕ → Type 0 = λ l. (a : number < 2 ^ 16) (b : 1 ≤ l) (c : l ≤ MOST_DATA) (d : IsTrue t.rs → IsTrue t.eop) (e : LEAST_FRAME ≤ t.paylen) (f : t.paylen ≤ MOST_FRAME)
+    let Two : ℕ → Type 0 = λ l. (a : number < 2 ^ 16) (b : 1 ≤ l) (c : l ≤ BUFFER_BYTES) (d : IsTrue t.rs → IsTrue t.eop) (e : LEAST_FRAME ≤ t.paylen) (f : t.paylen ≤ MOST_FRAME)
     → t ≡ made number l t.eop t.rs t.paylen a b c d e f in
-    let Three : Bool → Type 0 = λ x. (a : number < 2 ^ 16) (b : 1 ≤ len) (c : len ≤ MOST_DATA) (d : IsTrue t.rs → IsTrue x) (e : LEAST_FRAME ≤ t.paylen) (f : t.paylen ≤ MOST_FRAME)
+    let Three : Bool → Type 0 = λ x. (a : number < 2 ^ 16) (b : 1 ≤ len) (c : len ≤ BUFFER_BYTES) (d : IsTrue t.rs → IsTrue x) (e : LEAST_FRAME ≤ t.paylen) (f : t.paylen ≤ MOST_FRAME)
     → t ≡ made number len x t.rs t.paylen a b c d e f in
-    let Four : Bool → Type 0 = λ x. (a : number < 2 ^ 16) (b : 1 ≤ len) (c : len ≤ MOST_DATA) (d : IsTrue x → IsTrue eop) (e : LEAST_FRAME ≤ t.paylen) (f : t.paylen ≤ MOST_FRAME)
+    let Four : Bool → Type 0 = λ x. (a : number < 2 ^ 16) (b : 1 ≤ len) (c : len ≤ BUFFER_BYTES) (d : IsTrue x → IsTrue eop) (e : LEAST_FRAME ≤ t.paylen) (f : t.paylen ≤ MOST_FRAME)
     → t ≡ made number len eop x t.paylen a b c d e f in
-    let Five : ℕ → Type 0 = λ p. (a : number < 2 ^ 16) (b : 1 ≤ len) (c : len ≤ MOST_DATA) (d : IsTrue rs → IsTrue eop) (e : LEAST_FRAME ≤ p) (f : p ≤ MOST_FRAME)
+    let Five : ℕ → Type 0 = λ p. (a : number < 2 ^ 16) (b : 1 ≤ len) (c : len ≤ BUFFER_BYTES) (d : IsTrue rs → IsTrue eop) (e : LEAST_FRAME ≤ p) (f : p ≤ MOST_FRAME)
     → t ≡ made number len eop rs p a b c d e f in
     subst Five is_paylen (subst Four is_rs (subst Three is_eop (subst Two is_len (subst One is_number (same-facts t)))))
 

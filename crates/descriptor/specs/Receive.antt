@@ -1,7 +1,7 @@
 -- The two forms of a receive descriptor (82599 datasheet, 7.1.6 Advanced Receive Descriptors).
 -- Beside each field stand the datasheet's name for it and its bits, the highest first.
 use Rattle.std.specs.Prelude.{ℕ, Bool, List, [], ◌∷◌}
-use Rattle.descriptor.specs.declared.limits.TheConstants.{MOST_DATA}
+use Rattle.limits.specs.declared.profile.TheConstants.{BUFFER_BYTES}
 use Rattle.descriptor.specs.declared.rx_back.RxBack.{RxBack}
 use Rattle.descriptor.specs.declared.rx_read.RxRead.{RxRead}
 use Rattle.descriptor.specs.Address.{address_fields}
@@ -49,7 +49,7 @@ rx_back_form = record {
       ∷ field EndOfPacket 1 1 flag  -- Extended Status: EOP, 1
       ∷ field ExtendedStatus 2 18 (fixed 0)  -- Extended Status: all others, 19:2
       ∷ field ExtendedError 20 12 (fixed 0)  -- Extended Error, 31:20
-      ∷ field PacketLength 32 16 (range 1 MOST_DATA)  -- PKT_LEN, 47:32
+      ∷ field PacketLength 32 16 (range 1 BUFFER_BYTES)  -- PKT_LEN, 47:32
       ∷ field VlanTag 48 16 (fixed 0)  -- VLAN Tag, 63:48
       ∷ [];
 }

@@ -1,7 +1,7 @@
 -- The two forms of a transmit descriptor (82599 datasheet, 7.2.3.2.4 Advanced Transmit Data Descriptor).
 -- Beside each field stand the datasheet's name for it and its bits, the highest first.
 use Rattle.std.specs.Prelude.{ℕ, Bool, List, [], ◌∷◌}
-use Rattle.descriptor.specs.declared.limits.TheConstants.{MOST_DATA, LEAST_FRAME, MOST_FRAME}
+use Rattle.limits.specs.declared.profile.TheConstants.{BUFFER_BYTES, LEAST_FRAME, MOST_FRAME}
 use Rattle.descriptor.specs.declared.tx_back.TxBack.{TxBack}
 use Rattle.descriptor.specs.declared.tx_read.TxRead.{TxRead}
 use Rattle.descriptor.specs.Address.{address_fields}
@@ -13,7 +13,7 @@ abbrev pub tx_read_form : Form
 tx_read_form = record {
   first = address_fields;  -- Address, 63:0
   second =
-      field DataLength 0 16 (range 1 MOST_DATA)  -- DTALEN, 15:0
+      field DataLength 0 16 (range 1 BUFFER_BYTES)  -- DTALEN, 15:0
       ∷ field Rsv 16 2 (fixed 0)  -- RSV, 17:16
       ∷ field MacOptions 18 2 (fixed 0)  -- MAC, 19:18
       ∷ field DescriptorType 20 4 (kind 3)  -- DTYP, 23:20

@@ -3,15 +3,16 @@ ghost use Rattle.std.specs.Prelude.{◌≡◌, ◌*◌, IfSome, IfNone};
 ghost use Rattle.descriptor.specs.Address.{address_fields};
 ghost use Rattle.descriptor.specs.Layout.{EachField, KeepsField};
 
+use crate::DescError;
 use crate::words::bits;
-use crate::{DescError, MOST_DATA};
+use limits::BUFFER_BYTES;
 
 /// The address of the buffer with this number.
 #[inline]
 pub(crate) fn address_of(number: u16) -> u64
     ensures { result ≡ 2048 * number }
 {
-    u64::from(MOST_DATA) * u64::from(number)
+    BUFFER_BYTES as u64 * u64::from(number)
 }
 
 /// The number of the buffer that has this address, if one has it.

@@ -13,7 +13,6 @@
 
 mod address;
 mod error;
-mod limits;
 mod rx_back;
 mod rx_read;
 #[cfg(test)]
@@ -23,7 +22,6 @@ mod tx_read;
 mod words;
 
 pub use error::DescError;
-pub use limits::{LEAST_FRAME, MOST_DATA, MOST_FRAME};
 pub use rx_back::RxBack;
 pub use rx_read::RxRead;
 pub use tx_back::TxBack;

@@ -1,10 +1,11 @@
 //! The receive write-back (82599 datasheet, 7.1.6.2).
 ghost use Rattle.std.specs.Prelude.{◌≡◌, ℕ, ◌+◌, ◌*◌, ◌/◌, ◌%◌, ◌^◌, ◌<◌, ◌≤◌, ◌↔◌, IsTrue, IfOk, IfErr};
+ghost use Rattle.limits.specs.declared.profile.TheConstants.{BUFFER_BYTES};
 ghost use Rattle.descriptor.specs.Layout.{bit};
-ghost use Rattle.descriptor.specs.declared.limits.TheConstants.{MOST_DATA};
 
+use crate::DescError;
 use crate::words::{bits, bytes_from_words, is_set, words_from_bytes};
-use crate::{DescError, MOST_DATA};
+use limits::BUFFER_BYTES;
 use std::fmt;
 
 /// The first word: no hash, no packet type and no header length.
@@ -14,12 +15,12 @@ const FIRST_WORD: u64 = 0;
 /// it is done, and how many bytes of the frame lie in its buffer.
 #[derive(Clone, Copy, Debug, PartialEq, Eq)]
 pub struct RxBack {
-    /// How many bytes lie in the buffer, 1 to `MOST_DATA`.
+    /// How many bytes lie in the buffer, 1 to `BUFFER_BYTES`.
     pub len: u16,
     /// EOP: whether they end their frame.
     pub eop: bool,
     pub ghost some_data: { 1 ≤ len },
-    pub ghost fits: { len ≤ MOST_DATA },
+    pub ghost fits: { len ≤ BUFFER_BYTES },
 }
 
 impl RxBack {
@@ -27,11 +28,11 @@ impl RxBack {
     ghost use Rattle.descriptor.specs.Layout.{KeepsWords, KeepsBytes};
     ghost use Rattle.descriptor.specs.Receive.{rx_back_form, rx_back_first, rx_back_second, rx_back_bytes};
 
-    /// A write-back of `len` bytes, 1 to `MOST_DATA`.
+    /// A write-back of `len` bytes, 1 to `BUFFER_BYTES`.
     #[inline]
     pub fn new(len: u16, eop: bool) -> Self
         requires some_data { 1 ≤ len }
-        requires fits { len ≤ MOST_DATA }
+        requires fits { len ≤ BUFFER_BYTES }
         ensures len { result.len ≡ len }
         ensures eop { result.eop ≡ eop }
     {
@@ -88,7 +89,7 @@ impl RxBack {
     }
 
     /// The descriptor whose two words these are. Refused are `Reserved`, and `Size` for a length
-    /// that is 0 or above `MOST_DATA`.
+    /// that is 0 or above `BUFFER_BYTES`.
     pub fn from_words(first: u64, second: u64) -> Result<Self, DescError>
         ensures accepted { IfOk result (λ d. (first ≡ rx_back_first d) × (second ≡ rx_back_second d)) }
         ensures reads_back { (d : RxBack) → (first ≡ rx_back_first d) × (second ≡ rx_back_second d) → result ≡ Ok d }
@@ -102,7 +103,7 @@ impl RxBack {
         if second != second_word_of(len, eop) {
             return Err(DescError::Reserved);
         }
-        if len < 1 || len > MOST_DATA {
+        if len < 1 || usize::from(len) > BUFFER_BYTES {
             return Err(DescError::Size);
         }
         Ok(Self { len, eop })

@@ -40,6 +40,12 @@ fn each_form_is_coded_both_ways(rt: HostRuntime) {
     let posted = TxRead::new(5, 60, true, true, 60);
     assert_eq!(rt; posted.to_bytes(), TX_READ);
     assert_eq!(rt; TxRead::from_bytes(&TX_READ), Ok(posted));
+    let greatest = [
+        0, 0xf8, 0xff, 7, 0, 0, 0, 0, 0, 8, 0x30, 0x2b, 0, 0, 0xa6, 0x0e,
+    ];
+    let posted = TxRead::new(65_535, 2_048, true, true, 15_000);
+    assert_eq!(rt; posted.to_bytes(), greatest);
+    assert_eq!(rt; TxRead::from_bytes(&greatest), Ok(posted));
     assert_eq!(rt; RxRead { number: 65_535 }.to_bytes(), RX_READ);
     assert_eq!(rt; RxRead::from_bytes(&RX_READ), Ok(RxRead { number: 65_535 }));
     assert_eq!(rt; TxBack.to_bytes(), TX_BACK);
@@ -109,6 +115,30 @@ fn the_lowest_refusal_is_answered(rt: HostRuntime) {
 }
 
 #[test]
+fn lengths_are_judged_at_their_limits(rt: HostRuntime) {
+    let buffer: u64 = 2_048 * 65_535;
+    for (len, paylen, wanted) in [
+        (0u16, 60u16, 4),
+        (1, 60, 0),
+        (2_048, 60, 0),
+        (2_049, 60, 4),
+        (1, 13, 4),
+        (1, 14, 0),
+        (2_048, 15_000, 0),
+        (2_048, 15_001, 4),
+    ] {
+        let posted = 0x2b30_0000 + u64::from(len) + u64::from(paylen) * (1 << 46);
+        let answer = TxRead::from_words(buffer, posted);
+        assert_eq!(rt; refusal(answer), wanted, "{len} of {paylen}");
+    }
+    for (len, wanted) in [(0u16, 4), (1, 0), (2_048, 0), (2_049, 4)] {
+        let back = 3 + u64::from(len) * (1 << 32);
+        let answer = RxBack::from_second_word(back);
+        assert_eq!(rt; refusal(answer), wanted, "{len}");
+    }
+}
+
+#[test]
 fn status_words_are_read(rt: HostRuntime) {
     let word = RxBack::new(2_048, true).second_word();
     assert_eq!(rt; word, 0x800_0000_0003);
@@ -126,7 +156,7 @@ fn status_words_are_read(rt: HostRuntime) {
         Err(DescError::Reserved)
     );
     assert!(rt; TxBack::is_done(TxBack.second_word()));
-    assert!(rt; !TxBack::is_done(TxRead::new(9, MOST_DATA, true, true, MOST_FRAME).second_word()));
+    assert!(rt; !TxBack::is_done(TxRead::new(9, 2_048, true, true, 15_000).second_word()));
 }
 
 #[test]

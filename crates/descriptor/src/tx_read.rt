@@ -1,11 +1,12 @@
 //! The transmit descriptor as the driver posts it (82599 datasheet, 7.2.3.2.4).
 ghost use Rattle.std.specs.Prelude.{◌≡◌, ◌+◌, ◌*◌, ◌/◌, ◌%◌, ◌^◌, ◌<◌, ◌≤◌, ◌↔◌, IsTrue, IfOk};
+ghost use Rattle.limits.specs.declared.profile.TheConstants.{BUFFER_BYTES, LEAST_FRAME, MOST_FRAME};
 ghost use Rattle.descriptor.specs.Layout.{bit};
-ghost use Rattle.descriptor.specs.declared.limits.TheConstants.{LEAST_FRAME, MOST_DATA, MOST_FRAME};
 
+use crate::DescError;
 use crate::address::{address_of, number_at};
 use crate::words::{bits, bytes_from_words, is_set, words_from_bytes};
-use crate::{DescError, LEAST_FRAME, MOST_DATA, MOST_FRAME};
+use limits::{BUFFER_BYTES, LEAST_FRAME, MOST_FRAME};
 use std::fmt;
 
 /// A buffer with one segment of a frame, posted to transmit: an advanced data descriptor (82599
@@ -14,7 +15,7 @@ use std::fmt;
 pub struct TxRead {
     /// The buffer's number. Its address is 2,048 times that.
     pub number: u16,
-    /// DTALEN: how many bytes of the frame lie in the buffer, 1 to `MOST_DATA`.
+    /// DTALEN: how many bytes of the frame lie in the buffer, 1 to `BUFFER_BYTES`.
     pub len: u16,
     /// EOP: whether they end their frame.
     pub eop: bool,
@@ -25,7 +26,7 @@ pub struct TxRead {
     // in a clause that speaks of each `TxRead`, its number is any number but for this
     pub ghost in_range: { number < 2 ^ 16 },
     pub ghost some_data: { 1 ≤ len },
-    pub ghost fits: { len ≤ MOST_DATA },
+    pub ghost fits: { len ≤ BUFFER_BYTES },
     pub ghost reports_end: { IsTrue rs → IsTrue eop },
     pub ghost long_enough: { LEAST_FRAME ≤ paylen },
     pub ghost short_enough: { paylen ≤ MOST_FRAME },
@@ -40,7 +41,7 @@ impl TxRead {
     #[inline]
     pub fn new(number: u16, len: u16, eop: bool, rs: bool, paylen: u16) -> Self
         requires some_data { 1 ≤ len }
-        requires fits { len ≤ MOST_DATA }
+        requires fits { len ≤ BUFFER_BYTES }
         requires reports_end { IsTrue rs → IsTrue eop }
         requires long_enough { LEAST_FRAME ≤ paylen }
         requires short_enough { paylen ≤ MOST_FRAME }
@@ -166,9 +167,9 @@ impl TxRead {
         let len = bits(second, 0, 16);
         let paylen = bits(second, 46, 18);
         1 <= len
-            && len <= u64::from(MOST_DATA)
-            && u64::from(LEAST_FRAME) <= paylen
-            && paylen <= u64::from(MOST_FRAME)
+            && len <= BUFFER_BYTES as u64
+            && LEAST_FRAME as u64 <= paylen
+            && paylen <= MOST_FRAME as u64
     }
 }
 

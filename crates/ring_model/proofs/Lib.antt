@@ -1,3 +1,4 @@
 pub mod shared
 pub mod receive
 pub mod transmit
+pub mod Apart

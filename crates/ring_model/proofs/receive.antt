@@ -1,2 +1,4 @@
 pub mod Kept
+pub mod Over
+pub mod Stepping
 pub mod Reached

@@ -5,3 +5,10 @@ pub mod Shakes
 pub mod Orders
 pub mod Owners
 pub mod Stepping
+pub mod Fixed
+pub mod Reaching
+pub mod Reached
+pub mod FrameLaws
+pub mod Cuts
+pub mod Following
+pub mod Shapes

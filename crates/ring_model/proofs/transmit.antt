@@ -1,2 +1,5 @@
 pub mod Kept
+pub mod Reports
+pub mod Stepping
 pub mod Reached
+pub mod Postings

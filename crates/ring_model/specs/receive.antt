@@ -3,3 +3,4 @@ pub mod Steps
 pub mod Lawful
 pub mod Laws
 pub mod Agreement
+pub mod Rows

@@ -4,3 +4,4 @@ pub mod Frames
 pub mod Lawful
 pub mod Laws
 pub mod Agreement
+pub mod Rows

@@ -72,13 +72,7 @@ impl Handshake {
         match step {
             ControlStep::AskEnable => 1,
             ControlStep::LookAsked | ControlStep::LookAnswered => self.control,
-            ControlStep::Answer => {
-                if self.can_enable() {
-                    2
-                } else {
-                    0
-                }
-            }
+            ControlStep::Answer => { if self.can_enable() { 2 } else { 0 } }
             ControlStep::AskDisable => 3,
         }
     }

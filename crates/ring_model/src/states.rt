@@ -39,7 +39,10 @@ impl DriverState {
     pub fn is_open(self) -> bool
         ensures { result ≡ is_open self }
     {
-        matches!(self, DriverState::New | DriverState::Asked | DriverState::On)
+        matches!(
+            self,
+            DriverState::New | DriverState::Asked | DriverState::On
+        )
     }
 
     /// Whether the driver may look for completed work: the queue was seen enabled, and not yet seen disabled.

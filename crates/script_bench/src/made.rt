@@ -1,8 +1,9 @@
 //! The script that is measured.
 
 use anyhow::{Result, bail};
+use limits::{MOST_PAIRS, PORTS};
 use std::alloc::Global;
-use wire_script::{PORTS, QUEUES, WireFrame, print};
+use wire_script::{WireFrame, print};
 
 /// The length of each frame, in bytes.
 pub const LENGTH: usize = 60;
@@ -22,8 +23,8 @@ fn frame(alloc: Global, number: usize) -> Result<WireFrame> {
         state = next(state);
         *byte = ((state >> 33) & 0xff) as u8;
     }
-    let port = (number % usize::from(PORTS)) as u8;
-    let queue = (number / usize::from(PORTS) % usize::from(QUEUES)) as u8;
+    let port = (number % PORTS) as u8;
+    let queue = (number / PORTS % MOST_PAIRS) as u8;
     Ok(WireFrame::new(port, queue, bytes))
 }
 

@@ -10,10 +10,10 @@ mod made;
 mod measured;
 
 use anyhow::{Context, Result, bail};
+use limits::MOST_SCRIPT_FRAMES;
 use std::env;
 use std::rt::{Env, Files};
 use std::time::CpuClock;
-use wire_script::MAX_FRAMES;
 
 /// How often and on what a measuring runs.
 #[derive(Clone, Copy)]
@@ -39,8 +39,8 @@ fn asked_plan<R: Env + AllocGlobal>(rt: &R) -> Result<Option<Plan>> {
         .parse::<u32>()
         .context("reading the number of rounds")?;
     let frames = frames as usize;
-    if frames == 0 || frames > MAX_FRAMES || rounds == 0 {
-        bail!("frames are 1 to {MAX_FRAMES}, and rounds at least 1");
+    if frames == 0 || frames > MOST_SCRIPT_FRAMES || rounds == 0 {
+        bail!("frames are 1 to {MOST_SCRIPT_FRAMES}, and rounds at least 1");
     }
     Ok(Some(Plan { frames, rounds }))
 }

@@ -1,21 +1,18 @@
 -- A line with `fill` reads as the frame that it says.
-use Rattle.std.proofs.Common.{◌≡◌, ℕ, zero, suc, ◌+◌, ◌%◌, ◌<◌, ◌^◌, true, false, not, nat_eq, List, [], ◌∷◌, ◌++◌, length, get_or, codes, Result, Ok, Some, refl, sym, ap, subst, ◌∙◌, arith, lit<}
+use Rattle.std.proofs.Common.{◌≡◌, ℕ, zero, suc, ◌+◌, ◌%◌, ◌<◌, ◌^◌, false, nat_eq, List, [], ◌∷◌, ◌++◌, length, codes, Result, Ok, Some, refl, sym, ap, subst, ◌∙◌, arith, lit<}
 use Rattle.std.specs.Prelude.{All, decimal, replicate}
-use Rattle.std.specs.Char.{is_ascii_digit}
-use Rattle.std.specs.List.{list_all}
-use Rattle.std.proofs.Math.Bool.{or-true}
-use Rattle.std.proofs.lemmas.Bool.{eq-eqb, le-leb, ne_eqb, not_from_false}
-use Rattle.std.proofs.lemmas.Bool.Decides.{nat_tests}
-use Rattle.std.proofs.lemmas.Fmt.{decimal_by_steps, decimal_is_IsNumeral, decimal_nonempty, first_decimal, length-decimal-le}
+use Rattle.std.proofs.lemmas.Bool.{eq-eqb, le-leb, ne_eqb}
+use Rattle.std.proofs.lemmas.Fmt.{decimal_by_steps, decimal_nonempty}
 use Rattle.std.proofs.lemmas.List.Elements.{All-append, All-cons, All-nil, All-push}
 use Rattle.std.proofs.lemmas.List.Splits.{slice_split_at, slice_split_none}
-use Rattle.std.proofs.lemmas.List.Sums.{list_all-from_AllPass}
 use Rattle.hex.specs.Hex.{IsBytes, encode_lower, lower_digits}
 use Rattle.hex.proofs.HexLemmas.{decode_sized-encode_lower, length-encode_with}
+use Rattle.limits.specs.declared.profile.TheConstants.{LEAST_FRAME, MOST_FRAME}
+use Rattle.text_lines.proofs.Decimals.{number_in-decimal}
+use Rattle.text_lines.specs.Parts.{parts}
 use Rattle.wire_script.specs.declared.error.ScriptError.{ScriptError}
-use Rattle.wire_script.specs.declared.frame.TheConstants.{MAX_FRAME, MIN_FRAME}
 use Rattle.wire_script.specs.Frame.{Frame, InRange}
-use Rattle.wire_script.specs.Line.{byte_in, fields_say, fill_in, frame_with, is_number, len_in, line_says, parts, sized}
+use Rattle.wire_script.specs.Line.{byte_in, fields_say, fill_in, frame_with, len_in, line_says, sized}
 use Rattle.wire_script.specs.Script.{and_then, fill_line, lines_say, script_of}
 use Rattle.wire_script.specs.ScriptError.{Answers}
 use Rattle.wire_script.proofs.RoundTrip.{port_again, queue_again, without}
@@ -28,20 +25,9 @@ decimal_all P each n small =
     (λ m ds large before. All-push P ds (48 + m % 10) before (each (m % 10) (omega arith))) n small
 
 -- a length in decimal
-decimal_number : (n : ℕ) → 0 < n → n < 10 ^ 5 → is_number (decimal n) ≡ true
-decimal_number n some small =
-    let fits : n < 2 ^ 64 = omega arith in
-    let digits : list_all is_ascii_digit (decimal n) ≡ true =
-    list_all-from_AllPass is_ascii_digit (decimal n) (decimal_all (λ c. is_ascii_digit c ≡ true) (λ d below. grind (arith, nat_tests)) n fits) in
-    let first = first_decimal n some fits in
-    let other : not (nat_eq (get_or (decimal n) 0 0) 48) ≡ true = not_from_false (nat_eq (get_or (decimal n) 0 0) 48) (ne_eqb (get_or (decimal n) 0 0) 48 (λ same. omega arith)) in
-    rw (le-leb 1 (length (decimal n)) (decimal_nonempty n fits), le-leb (length (decimal n)) 5 (length-decimal-le 5 n (omega arith) small fits), other, or-true (nat_eq (length (decimal n)) 1), digits) refl
-
-len_again : (k n : ℕ) → 0 < n → n < 10 ^ 5 → len_in k (decimal n) ≡ Ok n
+len_again : (k n : ℕ) → n < 10 ^ 5 → len_in k (decimal n) ≡ Ok n
 unfolding len_in
-len_again k n some small =
-    let value = (decimal_is_IsNumeral n (omega arith)).1 in
-    rw (decimal_number n some small, value) refl
+len_again k n small = rw (number_in-decimal n small) refl
 
 one_byte : (b : ℕ) → b < 256 → IsBytes (b ∷ [])
 one_byte b small zero = small
@@ -56,7 +42,7 @@ fill_again : (k : ℕ) (f : Frame) (b : ℕ) → InRange f → b < 256 → f.byt
 unfolding fill_in sized
 fill_again k f b wire small same =
     let n : ℕ = length f.bytes in
-    rw (len_again k n (omega (arith, wire.least)) (omega (arith, wire.greatest)), byte_again k b small, sym same, le-leb MIN_FRAME n wire.least, le-leb n MAX_FRAME wire.greatest) refl
+    rw (len_again k n (omega (arith, wire.greatest)), byte_again k b small, sym same, le-leb LEAST_FRAME n wire.least, le-leb n MOST_FRAME wire.greatest) refl
 
 -- what stands before a separator is a part
 cut_at : (s : ℕ) (xs ys : List ℕ) → All (λ x. nat_eq x s ≡ false) xs → parts s (xs ++ s ∷ ys) ≡ xs ∷ parts s ys

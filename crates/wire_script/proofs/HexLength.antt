@@ -6,8 +6,8 @@ use Rattle.std.proofs.lemmas.List.Sums.{AllPass-from_list_all, list_all-from_All
 use Rattle.hex.specs.Hex.{decode_of, is_hex_digit}
 use Rattle.hex.specs.declared.error.FromHexError.{FromHexError}
 use Rattle.hex.proofs.HexLemmas.{decode_of-digits, decode_of-ok}
+use Rattle.limits.specs.declared.profile.TheConstants.{LEAST_FRAME, MOST_FRAME}
 use Rattle.wire_script.specs.declared.error.ScriptError.TheVariants.{Bytes, FrameLength}
-use Rattle.wire_script.specs.declared.frame.TheConstants.{MAX_FRAME, MIN_FRAME}
 use Rattle.wire_script.specs.Line.{hex_in, sized}
 
 -- a value or an error
@@ -16,15 +16,15 @@ either (Ok bytes) = inl (bytes, refl)
 either (Err e) = inr (e, refl)
 
 -- pairs of digits
-pub long_digits : (k : ℕ) (field : List ℕ) → 2 * MAX_FRAME < length field → length field % 2 ≡ 0 → list_all is_hex_digit field ≡ true
+pub long_digits : (k : ℕ) (field : List ℕ) → 2 * MOST_FRAME < length field → length field % 2 ≡ 0 → list_all is_hex_digit field ≡ true
     → hex_in k field ≡ Err (FrameLength k)
 unfolding hex_in sized
 long_digits k field long even all =
     let digits = AllPass-from_list_all is_hex_digit field all in
     let read = decode_of-digits field even digits in
     let whole = decode_of-ok field read.0 read.1 in
-    let above : MAX_FRAME < length read.0 = omega (arith, whole.2) in
-    rw (read.1, lt-leb (length read.0) MAX_FRAME above, and_right (nat_le MIN_FRAME (length read.0)) false refl) refl
+    let above : MOST_FRAME < length read.0 = omega (arith, whole.2) in
+    rw (read.1, lt-leb (length read.0) MOST_FRAME above, and_right (nat_le LEAST_FRAME (length read.0)) false refl) refl
 
 -- anything else
 pub no_digits : (k : ℕ) (field : List ℕ) → (length field % 2 ≡ 0 → list_all is_hex_digit field ≡ false) → hex_in k field ≡ Err (Bytes k)

@@ -1,5 +1,4 @@
 pub mod FieldLemmas
-pub mod CutLemmas
 pub mod SplitLemmas
 pub mod Steps
 pub mod RoundTrip

@@ -4,11 +4,12 @@ use Rattle.std.specs.Prelude.{All, IsSome, IfErr, IfOk}
 use Rattle.std.specs.List.{enumerate_from}
 use Rattle.std.proofs.lemmas.Bool.{eqb-true, eqb-false}
 use Rattle.std.proofs.lemmas.List.Elements.{All-cons, All-nil}
+use Rattle.limits.specs.declared.profile.TheConstants.{MOST_SCRIPT_FRAMES}
+use Rattle.text_lines.specs.Parts.{parts}
 use Rattle.wire_script.specs.declared.error.ScriptError.{ScriptError}
 use Rattle.wire_script.specs.declared.error.ScriptError.TheVariants as errors
-use Rattle.wire_script.specs.declared.script.TheConstants.{MAX_FRAMES}
 use Rattle.wire_script.specs.Frame.{Frame}
-use Rattle.wire_script.specs.Line.{line_says, parts}
+use Rattle.wire_script.specs.Line.{line_says}
 use Rattle.wire_script.specs.Script.{IsGood, Refuses, Says, and_then, frames_in, lines_say, said_frame, script_of}
 use Rattle.wire_script.specs.ScriptError.{◌>>=◌, Answers}
 
@@ -29,15 +30,15 @@ gain_err false d f (Err x) e h = inr (refl, h)
 record SaysFrom (k n : ℕ) (lines : List (List ℕ)) (frames : List Frame) : Type 0 where
   good : All IsGood (enumerate_from k lines)
   same : frames ≡ frames_in (enumerate_from k lines)
-  room : n + length frames ≤ MAX_FRAMES
+  room : n + length frames ≤ MOST_SCRIPT_FRAMES
 
 -- a line that has no fault, before lines that have none
 good_line : (k : ℕ) (line : List ℕ) (lines : List (ℕ × List ℕ)) (said : Option Frame) → line_says k line ≡ Ok said → All IsGood lines → All IsGood ((k, line) ∷ lines)
 good_line k line lines said is good = All-cons IsGood (k, line) lines (rw is refl) good
 
 says_more : (k n : ℕ) (line : List ℕ) (lines : List (List ℕ)) (frames : List Frame) (r : Result (Option Frame) ScriptError)
-    → n ≤ MAX_FRAMES → line_says k line ≡ r → and_then k n r (λ m. lines_say (k + 1) m lines) ≡ Ok frames
-    → ((m : ℕ) (fs : List Frame) → m ≤ MAX_FRAMES → lines_say (k + 1) m lines ≡ Ok fs → SaysFrom (k + 1) m lines fs)
+    → n ≤ MOST_SCRIPT_FRAMES → line_says k line ≡ r → and_then k n r (λ m. lines_say (k + 1) m lines) ≡ Ok frames
+    → ((m : ℕ) (fs : List Frame) → m ≤ MOST_SCRIPT_FRAMES → lines_say (k + 1) m lines ≡ Ok fs → SaysFrom (k + 1) m lines fs)
     → SaysFrom k n (line ∷ lines) frames
 unfolding and_then
 says_more k n line lines frames (Err e) room is h later = cc
@@ -49,8 +50,8 @@ says_more k n line lines frames (Ok None) room is h later =
       room = rest.room;
     }
 says_more k n line lines frames (Ok (Some f)) room is h later =
-    let gain = gain_ok (nat_eq n MAX_FRAMES) (errors.TooMany k) f (lines_say (k + 1) (n + 1) lines) frames h in
-    let other = eqb-false n MAX_FRAMES gain.0 in
+    let gain = gain_ok (nat_eq n MOST_SCRIPT_FRAMES) (errors.TooMany k) f (lines_say (k + 1) (n + 1) lines) frames h in
+    let other = eqb-false n MOST_SCRIPT_FRAMES gain.0 in
     let rest = later (n + 1) gain.1 (omega arith) gain.2 in
     record {
       good = good_line k line (enumerate_from (k + 1) lines) (Some f) is rest.good;
@@ -58,7 +59,7 @@ says_more k n line lines frames (Ok (Some f)) room is h later =
       room = omega (arith, ap length gain.3, rest.room);
     }
 
-says_from : (k n : ℕ) (lines : List (List ℕ)) (frames : List Frame) → n ≤ MAX_FRAMES → lines_say k n lines ≡ Ok frames → SaysFrom k n lines frames
+says_from : (k n : ℕ) (lines : List (List ℕ)) (frames : List Frame) → n ≤ MOST_SCRIPT_FRAMES → lines_say k n lines ≡ Ok frames → SaysFrom k n lines frames
 unfolding lines_say
 says_from k n [] frames room h =
     let none : frames ≡ [] = cc in
@@ -75,11 +76,11 @@ record RefusesFrom (k n : ℕ) (lines : List (List ℕ)) (e : ScriptError) : Typ
   cut : enumerate_from k lines ≡ before ++ (number, line) ∷ after
   good : All IsGood before
   fault : (line_says number line ≡ Err e)
-      ⊎ ((n + length (frames_in before) ≡ MAX_FRAMES) × IsSome (said_frame (line_says number line)) × (e ≡ errors.TooMany number))
+      ⊎ ((n + length (frames_in before) ≡ MOST_SCRIPT_FRAMES) × IsSome (said_frame (line_says number line)) × (e ≡ errors.TooMany number))
 
 refuses_more : (k n : ℕ) (line : List ℕ) (lines : List (List ℕ)) (e : ScriptError) (r : Result (Option Frame) ScriptError)
-    → n ≤ MAX_FRAMES → line_says k line ≡ r → and_then k n r (λ m. lines_say (k + 1) m lines) ≡ Err e
-    → ((m : ℕ) → m ≤ MAX_FRAMES → lines_say (k + 1) m lines ≡ Err e → RefusesFrom (k + 1) m lines e)
+    → n ≤ MOST_SCRIPT_FRAMES → line_says k line ≡ r → and_then k n r (λ m. lines_say (k + 1) m lines) ≡ Err e
+    → ((m : ℕ) → m ≤ MOST_SCRIPT_FRAMES → lines_say (k + 1) m lines ≡ Err e → RefusesFrom (k + 1) m lines e)
     → RefusesFrom k n (line ∷ lines) e
 unfolding and_then
 refuses_more k n line lines e (Err d) room is h later =
@@ -97,12 +98,12 @@ refuses_more k n line lines e (Ok None) room is h later =
       fault = rw is rest.fault;
     }
 refuses_more k n line lines e (Ok (Some f)) room is h later =
-    elim (gain_err (nat_eq n MAX_FRAMES) (errors.TooMany k) f (lines_say (k + 1) (n + 1) lines) e h) [
+    elim (gain_err (nat_eq n MOST_SCRIPT_FRAMES) (errors.TooMany k) f (lines_say (k + 1) (n + 1) lines) e h) [
       | inl full ↦
-          let all : n ≡ MAX_FRAMES = eqb-true n MAX_FRAMES full.0 in
+          let all : n ≡ MOST_SCRIPT_FRAMES = eqb-true n MOST_SCRIPT_FRAMES full.0 in
           record { before = []; number = k; line = line; after = enumerate_from (k + 1) lines; cut = refl; good = All-nil IsGood; fault = inr (omega arith, rw is refl, full.1) }
       | inr stop ↦
-          let other = eqb-false n MAX_FRAMES stop.0 in
+          let other = eqb-false n MOST_SCRIPT_FRAMES stop.0 in
           let rest = later (n + 1) (omega arith) stop.1 in
           record {
             before = (k, line) ∷ rest.before;
@@ -115,7 +116,7 @@ refuses_more k n line lines e (Ok (Some f)) room is h later =
           }
     ]
 
-refuses_from : (k n : ℕ) (lines : List (List ℕ)) (e : ScriptError) → n ≤ MAX_FRAMES → lines_say k n lines ≡ Err e → RefusesFrom k n lines e
+refuses_from : (k n : ℕ) (lines : List (List ℕ)) (e : ScriptError) → n ≤ MOST_SCRIPT_FRAMES → lines_say k n lines ≡ Err e → RefusesFrom k n lines e
 unfolding lines_say
 refuses_from k n [] e room h = cc
 refuses_from k n (line ∷ lines) e room h =

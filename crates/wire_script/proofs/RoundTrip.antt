@@ -8,10 +8,10 @@ use Rattle.std.proofs.lemmas.List.Elements.{All-cons, All-get_or, All-nil}
 use Rattle.std.proofs.lemmas.List.Splits.{slice_split_at, slice_split_none}
 use Rattle.hex.specs.Hex.{IsBytes, encode_lower, encode_with, hex_digit_value, lower_digits}
 use Rattle.hex.proofs.HexLemmas.{IsDigits-lower_digits, decode_of-encode_lower, length-encode_with}
-use Rattle.wire_script.specs.declared.frame.TheConstants.{MAX_FRAME, MIN_FRAME, PORTS, QUEUES}
-use Rattle.wire_script.specs.declared.script.TheConstants.{MAX_FRAMES}
+use Rattle.limits.specs.declared.profile.TheConstants.{LEAST_FRAME, MOST_FRAME, MOST_PAIRS, MOST_SCRIPT_FRAMES, PORTS}
+use Rattle.text_lines.specs.Parts.{parts}
 use Rattle.wire_script.specs.Frame.{Frame, InRange}
-use Rattle.wire_script.specs.Line.{digit_below, fields_say, frame_with, hex_in, line_says, parts, port_in, queue_in, sized}
+use Rattle.wire_script.specs.Line.{digit_below, fields_say, frame_with, hex_in, line_says, port_in, queue_in, sized}
 use Rattle.wire_script.specs.Script.{and_then, line_for, lines_say, script_of, text_for}
 use Rattle.wire_script.proofs.SplitLemmas.{three_fields}
 
@@ -74,16 +74,16 @@ port_again k port below =
     let same : 48 + port - 48 ≡ port = omega arith in
     rw (le-leb 48 (48 + port) (omega arith), same, lt-ltb port PORTS below) refl
 
-pub queue_again : (k queue : ℕ) → queue < QUEUES → queue_in k ((48 + queue) ∷ []) ≡ Ok queue
+pub queue_again : (k queue : ℕ) → queue < MOST_PAIRS → queue_in k ((48 + queue) ∷ []) ≡ Ok queue
 unfolding digit_below
 queue_again k queue below =
     let same : 48 + queue - 48 ≡ queue = omega arith in
-    rw (le-leb 48 (48 + queue) (omega arith), same, lt-ltb queue QUEUES below) refl
+    rw (le-leb 48 (48 + queue) (omega arith), same, lt-ltb queue MOST_PAIRS below) refl
 
 hex_again : (k : ℕ) (f : Frame) → InRange f → hex_in k (encode_lower f.bytes) ≡ Ok f.bytes
 unfolding hex_in sized
 hex_again k f wire =
-    rw (decode_of-encode_lower f.bytes (frame_bytes f wire), le-leb MIN_FRAME (length f.bytes) wire.least, le-leb (length f.bytes) MAX_FRAME wire.greatest) refl
+    rw (decode_of-encode_lower f.bytes (frame_bytes f wire), le-leb LEAST_FRAME (length f.bytes) wire.least, le-leb (length f.bytes) MOST_FRAME wire.greatest) refl
 
 frame_again : (k : ℕ) (f : Frame) → InRange f → frame_with k ((48 + f.port) ∷ []) ((48 + f.queue) ∷ []) (hex_in k (encode_lower f.bytes)) ≡ Ok f
 unfolding frame_with
@@ -99,13 +99,13 @@ line_again k f wire =
     rw (ne_eqb (48 + f.port) 35 (λ same. omega arith), fields) refl
 
 -- from any line and number of frames on
-lines_again : (k n : ℕ) (fs : List Frame) → AllByRecursion InRange fs → n + length fs ≤ MAX_FRAMES → lines_say k n (parts 10 (text_for fs)) ≡ Ok fs
+lines_again : (k n : ℕ) (fs : List Frame) → AllByRecursion InRange fs → n + length fs ≤ MOST_SCRIPT_FRAMES → lines_say k n (parts 10 (text_for fs)) ≡ Ok fs
 unfolding lines_say and_then line_says
 lines_again k n [] wire room = refl
 lines_again k n (f ∷ fs) wire room =
-    let spare : nat_eq n MAX_FRAMES ≡ false = ne_eqb n MAX_FRAMES (λ full. omega arith) in
+    let spare : nat_eq n MOST_SCRIPT_FRAMES ≡ false = ne_eqb n MOST_SCRIPT_FRAMES (λ full. omega arith) in
     let later = lines_again (k + 1) (n + 1) fs wire.1 (omega arith) in
     ap (lines_say k n) (text_parts f fs wire.0) ∙ (rw (line_again k f wire.0, spare, later) refl)
 
-pub read_back : (fs : List Frame) → AllByRecursion InRange fs → length fs ≤ MAX_FRAMES → script_of (text_for fs) ≡ Ok fs
+pub read_back : (fs : List Frame) → AllByRecursion InRange fs → length fs ≤ MOST_SCRIPT_FRAMES → script_of (text_for fs) ≡ Ok fs
 read_back fs wire room = lines_again 1 0 fs wire (omega arith)

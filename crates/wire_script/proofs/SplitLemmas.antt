@@ -4,11 +4,12 @@ use Rattle.std.proofs.Math.Bool.{or-true}
 use Rattle.std.proofs.lemmas.Bool.{eqb-true, ne_eqb, not-false}
 use Rattle.std.specs.List.{onto_first}
 use Rattle.std.specs.Str.{bytes_eq}
+use Rattle.text_lines.specs.Parts.{later_parts, parts}
 use Rattle.wire_script.specs.declared.error.ScriptError.{ScriptError}
 use Rattle.wire_script.specs.declared.error.ScriptError.TheVariants.{Fields}
 use Rattle.wire_script.specs.Frame.{Frame}
-use Rattle.wire_script.specs.Line.{fields_say, fill_in, frame_in, frame_with, has_empty, hex_in, parts}
-use Rattle.wire_script.specs.Split.{begins_inner, is_last, later_parts}
+use Rattle.wire_script.specs.Line.{fields_say, fill_in, frame_in, frame_with, has_empty, hex_in}
+use Rattle.wire_script.specs.Split.{begins_inner, is_last}
 
 -- a first part is never missing
 pub record Filled (fields : List (List ℕ)) : Type 0 where

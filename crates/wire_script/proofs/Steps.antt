@@ -1,11 +1,11 @@
 -- Reading one line after the other, as the loop does.
-use Rattle.std.proofs.Common.{◌≡◌, ◌≢◌, ◌⊎◌, inl, inr, ℕ, ◌+◌, ◌<◌, ◌≤◌, List, [], ◌∷◌, ◌++◌, length, Bor, Option, Some, None, Result, Ok, Err, refl, sym, ap, ◌∙◌, append_assoc, arith, length-append}
-use Rattle.std.specs.Prelude.{IfSome, IsSome, option_to_list}
+use Rattle.std.proofs.Common.{◌≡◌, ◌≢◌, ◌⊎◌, inl, inr, ℕ, ◌+◌, ◌≤◌, List, [], ◌∷◌, ◌++◌, length, Option, Some, None, Result, Ok, Err, refl, sym, ap, ◌∙◌, append_assoc, arith, length-append}
+use Rattle.std.specs.Prelude.{IsSome, option_to_list}
 use Rattle.std.proofs.lemmas.Bool.{eq-eqb, ne_eqb}
 use Rattle.std.proofs.lemmas.List.{append-nil}
+use Rattle.limits.specs.declared.profile.TheConstants.{MOST_SCRIPT_FRAMES}
 use Rattle.wire_script.specs.declared.error.ScriptError.{ScriptError}
 use Rattle.wire_script.specs.declared.error.ScriptError.TheVariants as errors
-use Rattle.wire_script.specs.declared.script.TheConstants.{MAX_FRAMES}
 use Rattle.wire_script.specs.Frame.{Frame}
 use Rattle.wire_script.specs.Line.{line_says}
 use Rattle.wire_script.specs.Script.{and_then, lines_say}
@@ -15,15 +15,10 @@ use Rattle.wire_script.specs.ScriptError.{◌>>=◌, Fails}
 abbrev pub with_front : List Frame → Result (List Frame) ScriptError → Result (List Frame) ScriptError
 with_front front later = later >>= λ frames. Ok (front ++ frames)
 
--- how much is left, with one for the line that begins there
-abbrev pub left_len : Option (Bor (List ℕ)) → ℕ
-left_len None = 0
-left_len (Some rest) = length rest.now + 1
-
 -- what is left says, after these frames and lines, what the whole text says
 pub record Reads (frames : List Frame) (k : ℕ) (lines : List (List ℕ)) (total : Result (List Frame) ScriptError) : Type 0 where
   pub said : with_front frames (lines_say k (length frames) lines) ≡ total
-  pub room : length frames ≤ MAX_FRAMES
+  pub room : length frames ≤ MOST_SCRIPT_FRAMES
 
 with_front-cons : (front : List Frame) (frame : Frame) (later : Result (List Frame) ScriptError)
     → with_front front (later >>= λ frames. Ok (frame ∷ frames)) ≡ with_front (front ++ frame ∷ []) later
@@ -50,15 +45,15 @@ stops_at errors.Memory front k line lines total bad before = tt
 
 -- one frame too many
 too_many : (front : List Frame) (k : ℕ) (line : List ℕ) (lines : List (List ℕ)) (frame : Frame) (total : Result (List Frame) ScriptError)
-    → line_says k line ≡ Ok (Some frame) → length front ≡ MAX_FRAMES → Reads front k (line ∷ lines) total → total ≡ Err (errors.TooMany k)
+    → line_says k line ≡ Ok (Some frame) → length front ≡ MOST_SCRIPT_FRAMES → Reads front k (line ∷ lines) total → total ≡ Err (errors.TooMany k)
 unfolding lines_say and_then
 too_many front k line lines frame total good full before =
-    let one : with_front front (lines_say k (length front) (line ∷ lines)) ≡ Err (errors.TooMany k) = rw (good, eq-eqb (length front) MAX_FRAMES full) refl in
+    let one : with_front front (lines_say k (length front) (line ∷ lines)) ≡ Err (errors.TooMany k) = rw (good, eq-eqb (length front) MOST_SCRIPT_FRAMES full) refl in
     sym before.said ∙ one
 
 -- a line that was not added
 pub stops_full : (e : ScriptError) (front : List Frame) (k : ℕ) (line : List ℕ) (lines : List (List ℕ)) (said : Option Frame) (total : Result (List Frame) ScriptError)
-    → line_says k line ≡ Ok said → (e ≡ errors.Memory) ⊎ ((e ≡ errors.TooMany k) × IsSome said × (length front ≡ MAX_FRAMES))
+    → line_says k line ≡ Ok said → (e ≡ errors.Memory) ⊎ ((e ≡ errors.TooMany k) × IsSome said × (length front ≡ MOST_SCRIPT_FRAMES))
     → Reads front k (line ∷ lines) total → Fails e total
 stops_full e front k line lines said total good (inl memory) before = rw memory tt
 stops_full e front k line lines (Some frame) total good (inr full) before = rw full.0 (too_many front k line lines frame total good full.2 before)
@@ -74,12 +69,12 @@ passes front k line lines total good before =
 
 -- a line that says a frame
 gains : (front : List Frame) (k : ℕ) (line : List ℕ) (lines : List (List ℕ)) (frame : Frame) (total : Result (List Frame) ScriptError)
-    → line_says k line ≡ Ok (Some frame) → length front ≢ MAX_FRAMES → Reads front k (line ∷ lines) total → Reads (front ++ frame ∷ []) (k + 1) lines total
+    → line_says k line ≡ Ok (Some frame) → length front ≢ MOST_SCRIPT_FRAMES → Reads front k (line ∷ lines) total → Reads (front ++ frame ∷ []) (k + 1) lines total
 unfolding lines_say and_then
 gains front k line lines frame total good spare before =
     let later : Result (List Frame) ScriptError = lines_say (k + 1) (length front + 1) lines in
     let one : with_front front (lines_say k (length front) (line ∷ lines)) ≡ with_front front (later >>= λ frames. Ok (frame ∷ frames)) =
-    rw (good, ne_eqb (length front) MAX_FRAMES spare) refl in
+    rw (good, ne_eqb (length front) MOST_SCRIPT_FRAMES spare) refl in
     let more : length (front ++ frame ∷ []) ≡ length front + 1 = omega (arith, length-append front (frame ∷ [])) in
     record {
       said = ap (λ n. with_front (front ++ frame ∷ []) (lines_say (k + 1) n lines)) more ∙ sym (with_front-cons front frame later) ∙ sym one ∙ before.said;
@@ -87,7 +82,7 @@ gains front k line lines frame total good spare before =
     }
 
 pub goes_on : (front : List Frame) (k : ℕ) (line : List ℕ) (lines : List (List ℕ)) (said : Option Frame) (total : Result (List Frame) ScriptError)
-    → line_says k line ≡ Ok said → (IsSome said → length front ≢ MAX_FRAMES) → Reads front k (line ∷ lines) total
+    → line_says k line ≡ Ok said → (IsSome said → length front ≢ MOST_SCRIPT_FRAMES) → Reads front k (line ∷ lines) total
     → Reads (front ++ option_to_list said) (k + 1) lines total
 goes_on front k line lines None total good spare before = rw (append-nil front) (passes front k line lines total good before)
 goes_on front k line lines (Some frame) total good spare before = gains front k line lines frame total good (spare refl) before
@@ -96,9 +91,3 @@ goes_on front k line lines (Some frame) total good spare before = gains front k 
 pub is_read : (front : List Frame) (k : ℕ) (total : Result (List Frame) ScriptError) → Reads front k [] total → total ≡ Ok front
 unfolding lines_say
 is_read front k total before = sym before.said ∙ ap Ok (append-nil front)
-
--- a line takes at least a byte of what is left, or ends it
-pub line_counted : (n len bound : ℕ) (after : Option (Bor (List ℕ))) → IfSome after (λ rest. length rest.now < len)
-    → n + (len + 1) ≤ bound → n + 1 + left_len after ≤ bound
-line_counted n len bound None shorter so_far = omega arith
-line_counted n len bound (Some rest) shorter so_far = omega arith

@@ -1,6 +1,6 @@
 -- What a frame of the wire is, apart from where it lies in memory.
 use Rattle.std.specs.Prelude.{ℕ, ◌<◌, ◌≤◌, List, length, All}
-use Rattle.wire_script.specs.declared.frame.TheConstants.{MAX_FRAME, MIN_FRAME, PORTS, QUEUES}
+use Rattle.limits.specs.declared.profile.TheConstants.{LEAST_FRAME, MOST_FRAME, MOST_PAIRS, PORTS}
 
 -- a frame, with the port and the queue at which it comes in or goes out
 pub record Frame : Type 0 where
@@ -11,7 +11,7 @@ pub record Frame : Type 0 where
 -- the frame is one that a wire may have
 pub record InRange (f : Frame) : Type 0 where
   pub port : f.port < PORTS
-  pub queue : f.queue < QUEUES
-  pub least : MIN_FRAME ≤ length f.bytes
-  pub greatest : length f.bytes ≤ MAX_FRAME
+  pub queue : f.queue < MOST_PAIRS
+  pub least : LEAST_FRAME ≤ length f.bytes
+  pub greatest : length f.bytes ≤ MOST_FRAME
   pub bytes : All (λ b. b < 256) f.bytes

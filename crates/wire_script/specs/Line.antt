@@ -1,21 +1,17 @@
 -- What one line of a script says.
-use Rattle.std.specs.Prelude.{ℕ, ◌-◌, ◌==◌, nat_le, nat_lt, Bool, not, ◌&&◌, ◌||◌, if◌then◌else◌, List, [], ◌∷◌, length, slice_index, codes, replicate, Option, Some, None, Result, Ok, Err}
-use Rattle.std.specs.List.{list_all, list_any, slice_split}
-use Rattle.std.specs.Char.{is_ascii_digit}
+use Rattle.std.specs.Prelude.{ℕ, ◌-◌, ◌==◌, nat_le, nat_lt, Bool, ◌&&◌, if◌then◌else◌, List, [], ◌∷◌, length, slice_index, codes, replicate, Option, Some, None, Result, Ok, Err}
+use Rattle.std.specs.List.{list_any}
 use Rattle.std.specs.Option.{ok_or}
 use Rattle.std.specs.Str.{bytes_eq}
-use Rattle.std.specs.Str.Parse.{digits_value}
 use Rattle.hex.specs.Hex.{decode_of, decode_sized}
 use Rattle.hex.specs.declared.error.FromHexError.{FromHexError}
+use Rattle.limits.specs.declared.profile.TheConstants.{LEAST_FRAME, MOST_FRAME, MOST_PAIRS, PORTS}
+use Rattle.text_lines.specs.Numbers.{number_in}
+use Rattle.text_lines.specs.Parts.{parts, says_something}
 use Rattle.wire_script.specs.declared.error.ScriptError.{ScriptError}
 use Rattle.wire_script.specs.declared.error.ScriptError.TheVariants.{Fields, Port, Queue, Bytes, FrameLength}
-use Rattle.wire_script.specs.declared.frame.TheConstants.{MAX_FRAME, MIN_FRAME, PORTS, QUEUES}
 use Rattle.wire_script.specs.Frame.{Frame}
 use Rattle.wire_script.specs.ScriptError.{◌>>=◌}
-
--- what stands before, between and after the bytes that are the separator
-abbrev pub parts : ℕ → List ℕ → List (List ℕ)
-parts separator bytes = slice_split (λ b. b == separator) bytes
 
 -- one digit, below a number
 unfoldable pub digit_below : ℕ → List ℕ → Option ℕ
@@ -28,7 +24,7 @@ port_in k field = ok_or (digit_below PORTS field) (Port k)
 
 -- a queue is one digit from `0` to `7`
 abbrev pub queue_in : ℕ → List ℕ → Result ℕ ScriptError
-queue_in k field = ok_or (digit_below QUEUES field) (Queue k)
+queue_in k field = ok_or (digit_below MOST_PAIRS field) (Queue k)
 
 -- what hex digits of either case decode to
 abbrev pub decoded : ℕ → Result (List ℕ) FromHexError → Result (List ℕ) ScriptError
@@ -37,22 +33,15 @@ decoded k (Err e) = Err (Bytes k)
 
 -- the bytes of a frame, if they are as many as a frame may have
 unfoldable pub sized : ℕ → List ℕ → Result (List ℕ) ScriptError
-sized k bytes = if nat_le MIN_FRAME (length bytes) && nat_le (length bytes) MAX_FRAME then Ok bytes else Err (FrameLength k)
+sized k bytes = if nat_le LEAST_FRAME (length bytes) && nat_le (length bytes) MOST_FRAME then Ok bytes else Err (FrameLength k)
 
 -- a frame in hex
 unfoldable pub hex_in : ℕ → List ℕ → Result (List ℕ) ScriptError
 hex_in k field = decoded k (decode_of field) >>= sized k
 
--- 1 to 5 decimal digits, the first of more than one not `0`
-abbrev pub is_number : List ℕ → Bool
-is_number field =
-    nat_le 1 (length field) && nat_le (length field) 5
-    && (length field == 1 || not (slice_index field 0 == 48))
-    && list_all is_ascii_digit field
-
 -- a length, in decimal
 unfoldable pub len_in : ℕ → List ℕ → Result ℕ ScriptError
-len_in k field = if is_number field then Ok (digits_value 10 field) else Err (Bytes k)
+len_in k field = ok_or (number_in field) (Bytes k)
 
 -- one byte, in two hex digits
 unfoldable pub byte_in : ℕ → List ℕ → Result ℕ ScriptError
@@ -93,7 +82,5 @@ fields_say k fields = if has_empty fields then Err (Fields k) else frame_in k fi
 -- What the line k says: nothing if it is empty or begins with `#`, else a frame between its spaces,
 -- or its lowest fault.
 unfoldable pub line_says : ℕ → List ℕ → Result (Option Frame) ScriptError
-line_says k [] = Ok None
-line_says k (first ∷ rest) =
-    if first == 35 then Ok None
-    else fields_say k (parts 32 (first ∷ rest)) >>= λ frame. Ok (Some frame)
+line_says k line =
+    if says_something line then (fields_say k (parts 32 line) >>= λ frame. Ok (Some frame)) else Ok None

@@ -2,11 +2,12 @@
 use Rattle.std.specs.Prelude.{◌≡◌, ◌⊎◌, ℕ, ◌+◌, ◌≤◌, ◌==◌, if◌then◌else◌, List, [], ◌∷◌, ◌++◌, length, codes, decimal, All, Option, Some, None, IsSome, Result, Ok, Err, IsOk}
 use Rattle.std.specs.List.{enumerate_from, filter_map, flat_map}
 use Rattle.hex.specs.Hex.{encode_lower}
+use Rattle.limits.specs.declared.profile.TheConstants.{MOST_SCRIPT_FRAMES}
+use Rattle.text_lines.specs.Parts.{lines_of}
 use Rattle.wire_script.specs.declared.error.ScriptError.{ScriptError}
 use Rattle.wire_script.specs.declared.error.ScriptError.TheVariants.{TooMany}
-use Rattle.wire_script.specs.declared.script.TheConstants.{MAX_FRAMES}
 use Rattle.wire_script.specs.Frame.{Frame}
-use Rattle.wire_script.specs.Line.{line_says, parts}
+use Rattle.wire_script.specs.Line.{line_says}
 use Rattle.wire_script.specs.ScriptError.{◌>>=◌}
 
 -- What line k and those after it say, where the line alone says this and so many frames stand before
@@ -15,7 +16,7 @@ unfoldable pub and_then : ℕ → ℕ → Result (Option Frame) ScriptError → 
 and_then k earlier (Err e) later = Err e
 and_then k earlier (Ok None) later = later earlier
 and_then k earlier (Ok (Some frame)) later =
-    if earlier == MAX_FRAMES then Err (TooMany k) else later (earlier + 1) >>= λ frames. Ok (frame ∷ frames)
+    if earlier == MOST_SCRIPT_FRAMES then Err (TooMany k) else later (earlier + 1) >>= λ frames. Ok (frame ∷ frames)
 
 -- the frames that the lines from number k on say, or the first fault
 unfoldable pub lines_say : ℕ → ℕ → List (List ℕ) → Result (List Frame) ScriptError
@@ -24,11 +25,11 @@ lines_say k earlier (line ∷ lines) = and_then k earlier (line_says k line) (λ
 
 -- the frames that a text says, or its first fault
 abbrev pub script_of : List ℕ → Result (List Frame) ScriptError
-script_of text = lines_say 1 0 (parts 10 text)
+script_of text = lines_say 1 0 (lines_of text)
 
 -- a text's lines with their numbers
 abbrev pub numbered_lines : List ℕ → List (ℕ × List ℕ)
-numbered_lines text = enumerate_from 1 (parts 10 text)
+numbered_lines text = enumerate_from 1 (lines_of text)
 
 -- the line of this number has no fault
 abbrev pub IsGood : ℕ × List ℕ → Type 0
@@ -47,13 +48,13 @@ frames_in lines = filter_map (λ line. said_frame (line_says line.0 line.1)) lin
 pub record Says (text : List ℕ) (frames : List Frame) : Type 0 where
   pub good : All IsGood (numbered_lines text)
   pub same : frames ≡ frames_in (numbered_lines text)
-  pub room : length frames ≤ MAX_FRAMES
+  pub room : length frames ≤ MOST_SCRIPT_FRAMES
 
 -- these lines have no fault, and the line k after them has this one, or it says one frame too many
 pub record StopsAt (before : List (ℕ × List ℕ)) (k : ℕ) (line : List ℕ) (e : ScriptError) : Type 0 where
   pub good : All IsGood before
   pub fault : (line_says k line ≡ Err e)
-      ⊎ ((length (frames_in before) ≡ MAX_FRAMES) × IsSome (said_frame (line_says k line)) × (e ≡ TooMany k))
+      ⊎ ((length (frames_in before) ≡ MOST_SCRIPT_FRAMES) × IsSome (said_frame (line_says k line)) × (e ≡ TooMany k))
 
 -- this is the text's first fault
 abbrev pub Refuses : List ℕ → ScriptError → Type 0

@@ -1,18 +1,12 @@
 -- A line's fields as the code holds them.
 use Rattle.std.specs.Prelude.{ℕ, ◌==◌, Bool, false, not, List, [], ◌∷◌, length, Option, Some, None, Result, Err}
-use Rattle.std.specs.Borrow.{Bor}
 use Rattle.wire_script.specs.declared.error.ScriptError.{ScriptError}
 use Rattle.wire_script.specs.declared.error.ScriptError.TheVariants.{Fields}
 use Rattle.wire_script.specs.declared.split.Split.{Split}
 use Rattle.wire_script.specs.declared.split.Payload.{Payload}
 use Rattle.wire_script.specs.declared.split.Payload.TheVariants.{Hex, Fill}
 use Rattle.wire_script.specs.Frame.{Frame}
-use Rattle.wire_script.specs.Line.{fill_in, frame_with, hex_in, parts}
-
--- the parts after a separator, if there was one
-abbrev pub later_parts : ℕ → Option (Bor (List ℕ)) → List (List ℕ)
-later_parts separator None = []
-later_parts separator (Some rest) = parts separator rest.now
+use Rattle.wire_script.specs.Line.{fill_in, frame_with, hex_in}
 
 -- whether the fields begin with one that is not empty and that another follows
 abbrev pub begins_inner : List (List ℕ) → Bool

@@ -20,11 +20,11 @@ pub enum ScriptError {
     /// of 1 to 5 digits without leading zero, or its byte is not two hex digits.
     #[error("bytes")]
     Bytes { line: u64 },
-    /// The frame's length is outside [`MIN_FRAME`](crate::MIN_FRAME) to
-    /// [`MAX_FRAME`](crate::MAX_FRAME).
+    /// The frame's length is outside [`LEAST_FRAME`](limits::LEAST_FRAME) to
+    /// [`MOST_FRAME`](limits::MOST_FRAME).
     #[error("frame length")]
     FrameLength { line: u64 },
-    /// The line says a frame after [`MAX_FRAMES`](crate::MAX_FRAMES) others.
+    /// The line says a frame after [`MOST_SCRIPT_FRAMES`](limits::MOST_SCRIPT_FRAMES) others.
     #[error("too many")]
     TooMany { line: u64 },
     /// Memory was refused.

@@ -1,27 +1,27 @@
 //! The fields of a line, each read alone. A refusal names the line that it is given.
 
 ghost use Rattle.std.specs.Prelude.{◌≡◌, ◌*◌, ◌<◌, ◌≤◌, IfOk, IfSome, length, vec_len};
-ghost use Rattle.std.specs.Char.{is_ascii_digit};
 ghost use Rattle.std.specs.List.{list_all};
 ghost use Rattle.hex.specs.Hex.{is_hex_digit};
-ghost use Rattle.wire_script.specs.Line.{byte_in, digit_below, fill_in, hex_in, is_number, len_in, port_in, queue_in};
+ghost use Rattle.limits.specs.declared.profile.TheConstants.{LEAST_FRAME, MOST_FRAME, MOST_PAIRS, PORTS};
+ghost use Rattle.wire_script.specs.Line.{byte_in, digit_below, fill_in, hex_in, len_in, port_in, queue_in};
 ghost use Rattle.wire_script.specs.ScriptError.{AnswersAs};
-ghost use Rattle.wire_script.specs.declared.frame.TheConstants.{MAX_FRAME, MIN_FRAME, PORTS, QUEUES};
 
 use crate::error::ScriptError;
-use crate::frame::{MAX_FRAME, MIN_FRAME, PORTS, QUEUES};
 use hex::{FromHex, FromHexError};
+use limits::{LEAST_FRAME, MOST_FRAME, MOST_PAIRS, PORTS};
 use std::alloc::Global;
+use text_lines::number_in;
 
 // The value of a field that is one digit, below this number.
-fn digit_below(field: &[u8], count: u8) -> Option<u8>
+fn digit_below(field: &[u8], count: usize) -> Option<u8>
     ensures value { result ≡ digit_below count field.now }
     ensures below { IfSome result (λ digit. digit < count) }
 {
     let [byte] = field else {
         return None;
     };
-    if *byte < b'0' || *byte - b'0' >= count {
+    if *byte < b'0' || usize::from(*byte - b'0') >= count {
         return None;
     }
     Some(*byte - b'0')
@@ -38,9 +38,9 @@ pub fn port_of(field: &[u8], line: u64) -> Result<u8, ScriptError>
 /// The queue.
 pub fn queue_of(field: &[u8], line: u64) -> Result<u8, ScriptError>
     ensures value { result ≡ queue_in line field.now }
-    ensures in_range { IfOk result (λ queue. queue < QUEUES) }
+    ensures in_range { IfOk result (λ queue. queue < MOST_PAIRS) }
 {
-    digit_below(field, QUEUES).ok_or(ScriptError::Queue { line })
+    digit_below(field, MOST_PAIRS).ok_or(ScriptError::Queue { line })
 }
 
 fn is_hex_digit(byte: u8) -> bool
@@ -58,7 +58,7 @@ fn are_hex_digits(field: &[u8]) -> bool
 // What is wrong with more digits than a frame has, found without room for their bytes.
 #[tactic(auto, using(crate::proofs::HexLength::long_digits, crate::proofs::HexLength::no_digits))]
 fn long_fault(field: &[u8], line: u64) -> ScriptError
-    requires { 2 * MAX_FRAME < length field.now }
+    requires { 2 * MOST_FRAME < length field.now }
     ensures { hex_in line field.now ≡ Err result }
 {
     if field.len() % 2 != 0 {
@@ -75,10 +75,10 @@ fn long_fault(field: &[u8], line: u64) -> ScriptError
 #[tactic(auto, unfolding(crate::specs::Line::hex_in, crate::specs::Line::sized))]
 pub fn hex_of(alloc: Global, field: &[u8], line: u64) -> Result<Vec<u8>, ScriptError>
     ensures value { AnswersAs (λ bytes. bytes.items) result (hex_in line field.now) }
-    ensures least { IfOk result (λ bytes. MIN_FRAME ≤ vec_len bytes) }
-    ensures greatest { IfOk result (λ bytes. vec_len bytes ≤ MAX_FRAME) }
+    ensures least { IfOk result (λ bytes. LEAST_FRAME ≤ vec_len bytes) }
+    ensures greatest { IfOk result (λ bytes. vec_len bytes ≤ MOST_FRAME) }
 {
-    if field.len() > 2 * MAX_FRAME {
+    if field.len() > 2 * MOST_FRAME {
         return Err(long_fault(field, line));
     }
     let bytes = match hex::decode(alloc, field) {
@@ -86,23 +86,10 @@ pub fn hex_of(alloc: Global, field: &[u8], line: u64) -> Result<Vec<u8>, ScriptE
         Err(FromHexError::OutOfMemory) => return Err(ScriptError::Memory),
         Err(_) => return Err(ScriptError::Bytes { line }),
     };
-    if bytes.len() < MIN_FRAME || bytes.len() > MAX_FRAME {
+    if bytes.len() < LEAST_FRAME || bytes.len() > MOST_FRAME {
         return Err(ScriptError::FrameLength { line });
     }
     Ok(bytes)
-}
-
-fn are_digits(field: &[u8]) -> bool
-    ensures { result ≡ list_all is_ascii_digit field.now }
-{
-    field.iter().all(|byte| byte.is_ascii_digit())
-}
-
-// Whether a length is written as it may be.
-fn is_number(field: &[u8]) -> bool
-    ensures { result ≡ is_number field.now }
-{
-    (1..=5).contains(&field.len()) && (field.len() == 1 || field[0] != b'0') && are_digits(field)
 }
 
 /// The length that stands after `fill`, from 0 to 99,999.
@@ -110,14 +97,10 @@ fn is_number(field: &[u8]) -> bool
 pub fn len_of(field: &[u8], line: u64) -> Result<usize, ScriptError>
     ensures { result ≡ len_in line field.now }
 {
-    if !is_number(field) {
-        return Err(ScriptError::Bytes { line });
+    match number_in(field) {
+        Some(len) => Ok(len as usize),
+        None => Err(ScriptError::Bytes { line }),
     }
-    let mut value: usize = 0;
-    for digit in field {
-        value = 10 * value + usize::from(*digit - b'0');
-    }
-    Ok(value)
 }
 
 /// The byte that stands after the length.
@@ -135,12 +118,12 @@ pub fn byte_of(field: &[u8], line: u64) -> Result<u8, ScriptError>
 #[tactic(auto, unfolding(crate::specs::Line::fill_in, crate::specs::Line::sized))]
 pub fn fill_of(alloc: Global, len: &[u8], byte: &[u8], line: u64) -> Result<Vec<u8>, ScriptError>
     ensures value { AnswersAs (λ bytes. bytes.items) result (fill_in line len.now byte.now) }
-    ensures least { IfOk result (λ bytes. MIN_FRAME ≤ vec_len bytes) }
-    ensures greatest { IfOk result (λ bytes. vec_len bytes ≤ MAX_FRAME) }
+    ensures least { IfOk result (λ bytes. LEAST_FRAME ≤ vec_len bytes) }
+    ensures greatest { IfOk result (λ bytes. vec_len bytes ≤ MOST_FRAME) }
 {
     let len = len_of(len, line)?;
     let byte = byte_of(byte, line)?;
-    if len < MIN_FRAME || len > MAX_FRAME {
+    if len < LEAST_FRAME || len > MOST_FRAME {
         return Err(ScriptError::FrameLength { line });
     }
     Vec::from_elem(alloc, byte, len).map_err(|_| ScriptError::Memory)

@@ -1,22 +1,10 @@
 //! A frame with the port and the queue at which it comes in or goes out.
 
 ghost use Rattle.std.specs.Prelude.{◌≡◌, ◌<◌, ◌≤◌, length, vec_len};
+ghost use Rattle.limits.specs.declared.profile.TheConstants.{LEAST_FRAME, MOST_FRAME, MOST_PAIRS, PORTS};
 ghost use Rattle.wire_script.specs.Frame.{Frame, InRange};
-ghost use Rattle.wire_script.specs.declared.frame.TheConstants.{MAX_FRAME, MIN_FRAME, PORTS, QUEUES};
 
 use std::marker::Model;
-
-/// How many ports there are, numbered from 0.
-pub const PORTS: u8 = 2;
-
-/// How many queues a port may have, numbered from 0.
-pub const QUEUES: u8 = 8;
-
-/// The least length of a frame, in bytes, without CRC.
-pub const MIN_FRAME: usize = 14;
-
-/// The greatest length of a frame, in bytes, without CRC.
-pub const MAX_FRAME: usize = 9_000;
 
 /// A frame of the wire: its port, its queue and its bytes, each in its range.
 #[derive(Debug, Drop)]
@@ -38,9 +26,9 @@ impl WireFrame {
     /// The frame of these bytes, which are kept and not copied.
     pub fn new(port: u8, queue: u8, bytes: Vec<u8>) -> Self
         requires port { port < PORTS }
-        requires queue { queue < QUEUES }
-        requires least { MIN_FRAME ≤ vec_len bytes }
-        requires greatest { vec_len bytes ≤ MAX_FRAME }
+        requires queue { queue < MOST_PAIRS }
+        requires least { LEAST_FRAME ≤ vec_len bytes }
+        requires greatest { vec_len bytes ≤ MOST_FRAME }
         ensures { result ≡ record { port = port; queue = queue; bytes = bytes.items } }
     {
         WireFrame { port, queue, bytes }
@@ -57,7 +45,7 @@ impl WireFrame {
     /// The queue, 0 to 7.
     pub fn queue(&self) -> u8
         ensures value { result ≡ self.now.queue }
-        ensures in_range { result < QUEUES }
+        ensures in_range { result < MOST_PAIRS }
     {
         self.queue
     }

@@ -11,7 +11,7 @@
 //!
 //! [`parse`] answers the frames that the text says, or its first fault with the number of its line.
 //! [`print`] writes frames as lines of the first form, in lower case, and `parse` reads from them
-//! the same frames. [`cut`] is how a text is cut into lines, for other texts whose lines end likewise.
+//! the same frames.
 #![tactic(auto)]
 
 mod error;
@@ -24,11 +24,10 @@ mod script;
 mod split;
 
 pub use error::ScriptError;
-pub use frame::{MAX_FRAME, MIN_FRAME, PORTS, QUEUES, WireFrame};
+pub use frame::WireFrame;
 pub use printing::print;
 pub use reading::parse;
-pub use script::{MAX_FRAMES, Script};
-pub use split::cut;
+pub use script::Script;
 
 #[cfg(test)]
 mod tests;

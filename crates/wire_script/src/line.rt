@@ -10,6 +10,7 @@ use crate::field::{fill_of, hex_of, port_of, queue_of};
 use crate::frame::WireFrame;
 use crate::split::{Payload, Split, split_of};
 use std::alloc::Global;
+use text_lines::says_something;
 
 // The frame that the fields of a line say.
 #[tactic(auto, unfolding(crate::specs::Line::frame_with))]
@@ -30,7 +31,7 @@ fn frame_of(alloc: Global, fields: Split<'_>, line: u64) -> Result<WireFrame, Sc
 pub fn line_of(alloc: Global, bytes: &[u8], line: u64) -> Result<Option<WireFrame>, ScriptError>
     ensures { Answers result (line_says line bytes.now) }
 {
-    if bytes.is_empty() || bytes[0] == b'#' {
+    if !says_something(bytes) {
         return Ok(None);
     }
     let Some(fields) = split_of(bytes) else {

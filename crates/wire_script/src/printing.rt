@@ -2,10 +2,10 @@
 
 ghost use Rattle.std.specs.Prelude.{◌≡◌, ◌++◌, ◌≤◌, length, IfErr, IfOk, Ok, OnOk};
 ghost use Rattle.std.specs.String.{string_bytes};
+ghost use Rattle.limits.specs.declared.profile.TheConstants.{MOST_SCRIPT_FRAMES};
 ghost use Rattle.wire_script.specs.Frame.{InRange};
 ghost use Rattle.wire_script.specs.Script.{line_for, script_of, text_for};
 ghost use Rattle.wire_script.specs.declared.error.ScriptError.TheVariants.{Memory};
-ghost use Rattle.wire_script.specs.declared.script.TheConstants.{MAX_FRAMES};
 
 use crate::error::ScriptError;
 use crate::frame::WireFrame;
@@ -14,10 +14,10 @@ use std::alloc::{AllocError, Global};
 /// One line `<port> <queue> <hex>` a frame, in lower case, each ended by LF.
 ///
 /// Any number of frames is written; [`parse`](crate::parse) reads back up to
-/// [`MAX_FRAMES`](crate::MAX_FRAMES) of them.
+/// [`MOST_SCRIPT_FRAMES`](limits::MOST_SCRIPT_FRAMES) of them.
 pub fn print(alloc: Global, frames: &[WireFrame]) -> Result<String, ScriptError>
     ensures text { IfOk result (λ text. string_bytes text ≡ text_for frames.now) }
-    ensures read_back { IfOk result (λ text. length frames.now ≤ MAX_FRAMES → script_of (string_bytes text) ≡ Ok frames.now) }
+    ensures read_back { IfOk result (λ text. length frames.now ≤ MOST_SCRIPT_FRAMES → script_of (string_bytes text) ≡ Ok frames.now) }
     ensures err { IfErr result (λ e. e ≡ Memory) }
 {
     let mut text = String::new(alloc);

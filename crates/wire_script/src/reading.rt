@@ -1,18 +1,19 @@
 //! Reading a script.
 
 ghost use Rattle.std.specs.Prelude.{◌≡◌, ◌≢◌, ◌<◌, [], ◌∷◌, ◌++◌, ◌⊎◌, ℕ, length, replicate, Ok, IfErr, IfOk, IsSome, OnOk, option_to_list};
+ghost use Rattle.limits.specs.declared.profile.TheConstants.{MOST_SCRIPT_FRAMES};
 ghost use Rattle.wire_script.specs.Frame.{Frame, InRange};
 ghost use Rattle.wire_script.specs.Script.{Refuses, Says, fill_line, script_of};
 ghost use Rattle.wire_script.specs.ScriptError.{Answers};
 ghost use Rattle.wire_script.specs.declared.error.ScriptError.TheVariants.{Memory, TooMany};
-ghost use Rattle.wire_script.specs.declared.script.TheConstants.{MAX_FRAMES};
 
 use crate::error::ScriptError;
 use crate::frame::WireFrame;
 use crate::line::line_of;
-use crate::script::{MAX_FRAMES, Script};
-use crate::split::cut;
+use crate::script::Script;
+use limits::MOST_SCRIPT_FRAMES;
 use std::alloc::Global;
+use text_lines::cut;
 
 /// The frames that a text says, or its first fault: the first faulty line, and in it the fault of
 /// the lowest number (71 to 76, see [`ScriptError`]). Where memory is refused before either is
@@ -55,13 +56,13 @@ fn read(alloc: Global, text: &[u8]) -> Result<Script, ScriptError>
 // Adds the frame that this line says, if it says one and there may be one more.
 fn add(frames: &mut Vec<WireFrame>, said: Option<WireFrame>, line: u64) -> Result<(), ScriptError>
     ensures added { OnOk result (frames.new.items ≡ frames.old.items ++ option_to_list said) }
-    ensures room { OnOk result (IsSome said → length frames.old.items ≢ MAX_FRAMES) }
-    ensures err { IfErr result (λ e. (e ≡ Memory) ⊎ ((e ≡ TooMany line) × IsSome said × (length frames.old.items ≡ MAX_FRAMES))) }
+    ensures room { OnOk result (IsSome said → length frames.old.items ≢ MOST_SCRIPT_FRAMES) }
+    ensures err { IfErr result (λ e. (e ≡ Memory) ⊎ ((e ≡ TooMany line) × IsSome said × (length frames.old.items ≡ MOST_SCRIPT_FRAMES))) }
 {
     let Some(frame) = said else {
         return Ok(());
     };
-    if frames.len() == MAX_FRAMES {
+    if frames.len() == MOST_SCRIPT_FRAMES {
         return Err(ScriptError::TooMany { line });
     }
     frames.push(frame).map_err(|_| ScriptError::Memory)

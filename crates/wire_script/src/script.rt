@@ -1,16 +1,13 @@
 //! The frames of a script.
 
 ghost use Rattle.std.specs.Prelude.{◌≡◌, ◌≤◌, List, length, vec_len};
+ghost use Rattle.limits.specs.declared.profile.TheConstants.{MOST_SCRIPT_FRAMES};
 ghost use Rattle.wire_script.specs.Frame.{Frame};
-ghost use Rattle.wire_script.specs.declared.script.TheConstants.{MAX_FRAMES};
 
 use crate::frame::WireFrame;
 use std::marker::Model;
 
-/// How many frames a script may have.
-pub const MAX_FRAMES: usize = 1_000_000;
-
-/// The frames of a script in their order, at most [`MAX_FRAMES`] of them.
+/// The frames of a script in their order, at most [`MOST_SCRIPT_FRAMES`](limits::MOST_SCRIPT_FRAMES) of them.
 #[derive(Debug, Drop)]
 pub struct Script {
     frames: Vec<WireFrame>,
@@ -21,13 +18,13 @@ impl Model for Script {
 
     ghost view = { λ s. s.frames.items };
 
-    ghost invariant = { λ s. length s.frames.items ≤ MAX_FRAMES };
+    ghost invariant = { λ s. length s.frames.items ≤ MOST_SCRIPT_FRAMES };
 }
 
 impl Script {
     /// The script of these frames, which are kept and not copied.
     pub fn new(frames: Vec<WireFrame>) -> Self
-        requires { vec_len frames ≤ MAX_FRAMES }
+        requires { vec_len frames ≤ MOST_SCRIPT_FRAMES }
         ensures { result ≡ frames.items }
     {
         Script { frames }
@@ -36,7 +33,7 @@ impl Script {
     /// The frames in their order.
     pub fn frames(&self) -> &[WireFrame]
         ensures value { result.now ≡ self.now }
-        ensures most { length result.now ≤ MAX_FRAMES }
+        ensures most { length result.now ≤ MOST_SCRIPT_FRAMES }
     {
         &self.frames
     }

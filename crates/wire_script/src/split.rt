@@ -1,10 +1,13 @@
-//! Cutting a text into lines, and a line into fields.
+//! Cutting a line into fields.
 
-ghost use Rattle.std.specs.Prelude.{◌≡◌, ◌∷◌, ◌<◌, ◌+◌, codes, ◌==◌, ℕ, List, [], false, length, IfNone, IfSome, position};
+ghost use Rattle.std.specs.Prelude.{◌≡◌, ◌∷◌, ◌<◌, codes, ℕ, List, [], false, length, IfNone, IfSome};
 ghost use Rattle.std.specs.Str.{bytes_eq};
-ghost use Rattle.wire_script.specs.Line.{fields_say, parts};
-ghost use Rattle.wire_script.specs.Split.{begins_inner, frame_of_payload, frame_of_split, is_last, later_parts};
+ghost use Rattle.text_lines.specs.Parts.{parts};
+ghost use Rattle.wire_script.specs.Line.{fields_say};
+ghost use Rattle.wire_script.specs.Split.{begins_inner, frame_of_payload, frame_of_split, is_last};
 ghost use Rattle.wire_script.specs.declared.split.TheConstants.{SPACE};
+
+use text_lines::cut;
 
 const SPACE: u8 = b' ';
 
@@ -21,24 +24,6 @@ pub struct Split<'a> {
     pub port: &'a [u8],
     pub queue: &'a [u8],
     pub payload: Payload<'a>,
-}
-
-// Where the first byte of this value stands.
-fn place_of(bytes: &[u8], wanted: u8) -> Option<usize>
-    ensures { result ≡ position (λ b. b == wanted) bytes.now }
-{
-    bytes.iter().position(|b| *b == wanted)
-}
-
-/// The bytes before the first `separator`, and those after it if there is one.
-pub fn cut(bytes: &[u8], separator: u8) -> (&[u8], Option<&[u8]>)
-    ensures parts { parts separator bytes.now ≡ result.0.now ∷ later_parts separator result.1 }
-    ensures shorter { IfSome result.1 (λ rest. length rest.now < length bytes.now) }
-{
-    match place_of(bytes, separator) {
-        None => (bytes, None),
-        Some(at) => (&bytes[..at], Some(&bytes[at + 1..])),
-    }
 }
 
 // A field that is not empty and that another follows, and what begins with that other.

@@ -40,7 +40,7 @@ fn lines_are_refused(rt: HostRuntime) {
         ("0 0 fill 60 00 00", 71),
         ("0 0 000102030405060708090a0b0c0d ", 71),
         ("0 0 000102030405060708090a0b0c0d\r", 74),
-        ("0 0 fill 9001 00", 75),
+        ("0 0 fill 15001 00", 75),
         ("0 0 fill 100000 00", 74),
         ("0 0 fill 6x 00", 74),
         ("0 0 fill 60 0", 74),
@@ -108,25 +108,70 @@ fn frames_are_read_and_printed(rt: HostRuntime) -> Result<(), Fail> {
 }
 
 #[test]
-fn a_frame_has_at_most_9000_bytes(rt: HostRuntime) -> Result<(), Fail> {
-    for (times, number) in [(9_000, None), (9_001, Some(75)), (20_000, Some(75))] {
+fn a_frame_has_14_to_15000_bytes(rt: HostRuntime) -> Result<(), Fail> {
+    for (times, number) in [
+        (13, Some(75)),
+        (14, None),
+        (15_000, None),
+        (15_001, Some(75)),
+        (40_000, Some(75)),
+    ] {
         let line = hex_line(rt.alloc(), "a5", times)?;
         let found = refusal(rt.alloc(), line.as_str()).map(|x| x.0);
         assert_eq!(rt; found, number, "at {times} bytes");
     }
-    let line = hex_line(rt.alloc(), "a5-", 9_001)?;
-    assert_eq!(rt; refusal(rt.alloc(), line.as_str()), Some((74, Some(1))));
-    let script = parse(rt.alloc(), b"1 2 fill 9000 a5")?;
-    for frame in script.frames() {
-        assert_eq!(rt; (frame.port(), frame.queue()), (1, 2));
-        assert_eq!(rt; frame.bytes().len(), 9_000);
+    for times in [15_001, 15_002] {
+        let line = hex_line(rt.alloc(), "a5-", times)?;
+        assert_eq!(rt; refusal(rt.alloc(), line.as_str()), Some((74, Some(1))));
     }
+    for (text, len) in [
+        (b"1 7 fill 14 a5".as_slice(), 14),
+        (b"1 7 fill 15000 a5", 15_000),
+    ] {
+        let script = parse(rt.alloc(), text)?;
+        assert_eq!(rt; script.frames().len(), 1);
+        for frame in script.frames() {
+            assert_eq!(rt; (frame.port(), frame.queue()), (1, 7));
+            assert_eq!(rt; frame.bytes().len(), len);
+        }
+    }
+    Ok(())
+}
+
+// The same line over and over.
+fn lines(alloc: Global, line: &str, times: usize) -> Result<String, AllocError> {
+    let mut text = String::new(alloc);
+    for _ in 0..times {
+        text.push_str(line)?;
+    }
+    Ok(text)
+}
+
+#[test]
+fn a_thousand_frames_are_read_and_printed(rt: HostRuntime) -> Result<(), Fail> {
+    let line = "1 7 000102030405060708090a0b0c0d0e\n";
+    let text = lines(rt.alloc(), line, 1_000)?;
+    let script = parse(rt.alloc(), text.as_bytes())?;
+    assert_eq!(rt; script.frames().len(), 1_000);
+    let printed = print(rt.alloc(), script.frames())?;
+    assert!(rt; printed.as_str() == text.as_str());
+    Ok(())
+}
+
+#[test]
+fn a_script_has_at_most_a_million_frames(rt: HostRuntime) -> Result<(), Fail> {
+    let mut text = lines(rt.alloc(), "0 0 fill 14 00\n", 1_000_000)?;
+    let script = parse(rt.alloc(), text.as_bytes())?;
+    assert_eq!(rt; script.frames().len(), 1_000_000);
+    text.push_str("#\n0 0 fill 14 00\n")?;
+    let refused = Some((76, Some(1_000_002)));
+    assert_eq!(rt; refusal(rt.alloc(), text.as_str()), refused);
     Ok(())
 }
 
 #[test]
 fn each_beginning_is_read_or_refused_at_its_last_line(rt: HostRuntime) -> Result<(), Fail> {
-    let text = b"0 0 fill 60 01\n1 7 000102030405060708090a0b0c0d\n0 3 fill 9000 ff\n";
+    let text = b"0 0 fill 60 01\n1 7 000102030405060708090a0b0c0d\n0 3 fill 15000 ff\n";
     for length in 0..=text.len() {
         let front = &text[..length];
         let whole = front.iter().filter(|byte| **byte == b'\n').count();

@@ -1,5 +1,5 @@
 -- What every step of a queue keeps: one lemma a step, and then any step.
-use Rattle.std.proofs.Common.{◌≡◌, ℕ, ◌+◌, ◌-◌, ◌%◌, ◌<◌, ◌≤◌, Bool, true, false, not, ◌&&◌, ◌||◌, [], ◌∷◌, sym, refl, ap, ◌∙◌, ⊎_elim, arith, if◌then◌else◌, length-append}
+use Rattle.std.proofs.Common.{◌≡◌, ℕ, ◌+◌, ◌-◌, ◌<◌, ◌≤◌, Bool, true, false, not, ◌&&◌, ◌||◌, [], ◌∷◌, sym, refl, ap, ◌∙◌, ⊎_elim, arith, if◌then◌else◌, length-append}
 use Rattle.std.specs.Prelude.{◌==◌, nat_lt}
 use Rattle.std.proofs.lemmas.Bool.{cases_Bool, both_ways, and_parts, or_cases, not-true, ltb-true, eqb-true, false≢true, true≢false}
 use Rattle.ring_model.specs.declared.states.Owner.TheVariants.{Ring, Controller}
@@ -8,7 +8,7 @@ use Rattle.ring_model.specs.declared.handshake.Handshake.{Handshake}
 use Rattle.ring_model.specs.declared.steps.ControlStep.{ControlStep}
 use Rattle.ring_model.specs.declared.steps.ControlStep.TheVariants.{AskEnable, LookAsked, Answer, LookAnswered, AskDisable}
 use Rattle.ring_model.specs.shared.Frames.{ends_frame}
-use Rattle.ring_model.specs.shared.Handshakes.{is_open, is_live, is_answered, is_serving, is_ended, is_new, is_on, is_stopped, is_cleared, is_tailed, first_handshake, ask_enable, look_asked, can_enable, enable, can_disable, disable, look_answered, ask_disable, may_shake, has_ended}
+use Rattle.ring_model.specs.shared.Handshakes.{is_open, is_live, is_answered, is_serving, is_ended, is_new, is_on, is_stopped, is_tailed, first_handshake, ask_enable, look_asked, can_enable, enable, can_disable, disable, look_answered, ask_disable, may_shake, has_ended}
 use Rattle.ring_model.specs.shared.QueueSteps.{QueueStep, Post, Publish, Look, Fetch, Serve, Head, Give, Shake, Reclaim, ClearHead, ClearTail, Renew}
 use Rattle.ring_model.specs.shared.Queue.{Queue, opening, posted_count, served_count, given_count, returned_count, next_head, is_settled, may, by}
 use Rattle.ring_model.proofs.shared.Kept.{ShakesAs, is_emptied, IsShaken, InOrder, IsKept}

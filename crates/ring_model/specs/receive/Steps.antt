@@ -1,5 +1,5 @@
 -- The steps of a receive ring: where each can happen, what it changes, and what it tells.
-use Rattle.std.specs.Prelude.{◌≡◌, ℕ, ◌-◌, ◌%◌, Bool, true, false, not, ◌&&◌, nat_lt, List, Option, Some, None, slice_index, if◌then◌else◌}
+use Rattle.std.specs.Prelude.{ℕ, ◌-◌, ◌%◌, Bool, true, not, ◌&&◌, nat_lt, List, Option, Some, None, slice_index, if◌then◌else◌}
 use Rattle.ring_model.specs.declared.steps.RxStep.{RxStep}
 use Rattle.ring_model.specs.declared.steps.RxStep.TheVariants.{Post, Publish, Look, Fetch, Store, Take, Head, Control, Reclaim, StoreQuiet, LoadQuiet, ClearHead, ClearTail, ClearQuiet}
 use Rattle.ring_model.specs.declared.notes.TakenSegment.{TakenSegment}

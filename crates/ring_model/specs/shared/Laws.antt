@@ -1,5 +1,5 @@
 -- What is settled, and what goes on for ever: the counts of an epoch in their order; its lists only grow, a list that has ended stays as it is, and so do the epochs that ended.
-use Rattle.std.specs.Prelude.{◌≡◌, ◌+◌, ◌<◌, ◌≤◌, ◌⊎◌, Bool, true, false, ◌||◌, List, ◌∷◌, ◌++◌}
+use Rattle.std.specs.Prelude.{◌≡◌, ◌<◌, ◌≤◌, ◌⊎◌, Bool, true, false, ◌||◌, List, ◌∷◌, ◌++◌}
 use Rattle.ring_model.specs.shared.Lists.{IsBeginning}
 use Rattle.ring_model.specs.shared.Handshakes.{is_answered, is_ended, is_live, is_open, is_serving, is_stopped}
 use Rattle.ring_model.specs.shared.Queue.{Ledger, Queue, posted_count, served_count, given_count, returned_count, next_head}

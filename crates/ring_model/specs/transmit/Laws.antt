@@ -1,5 +1,5 @@
 -- What is settled in a transmit ring, and what goes on for ever.
-use Rattle.std.specs.Prelude.{◌≡◌, ◌≤◌, Bool, true, false, length, map, take}
+use Rattle.std.specs.Prelude.{◌≡◌, ◌≤◌, Bool, true, false, map, take}
 use Rattle.ring_model.specs.shared.Handshakes.{has_ended}
 use Rattle.ring_model.specs.shared.Queue.{posted_count, served_count, given_count}
 use Rattle.ring_model.specs.shared.Laws.{IsConcluded, IsOrdered, Later}

@@ -1,5 +1,5 @@
 -- The steps of a transmit ring: where each can happen, what it changes, and what it tells.
-use Rattle.std.specs.Prelude.{◌≡◌, ℕ, zero, suc, ◌+◌, ◌-◌, ◌%◌, Bool, true, false, not, ◌&&◌, nat_lt, List, Option, Some, None, slice_get, if◌then◌else◌}
+use Rattle.std.specs.Prelude.{ℕ, zero, suc, ◌+◌, ◌-◌, ◌%◌, Bool, true, false, not, ◌&&◌, nat_lt, List, Option, Some, None, slice_get, if◌then◌else◌}
 use Rattle.ring_model.specs.declared.states.Completion.{Completion}
 use Rattle.ring_model.specs.declared.states.Completion.TheVariants as completion
 use Rattle.ring_model.specs.declared.steps.TxStep.{TxStep}
@@ -11,7 +11,7 @@ use Rattle.ring_model.specs.shared.Handshakes.{is_live, control_value, enables}
 use Rattle.ring_model.specs.shared.Queue.{posted_count, served_count, given_count, returned_count, next_head, is_settled, may, by}
 use Rattle.ring_model.specs.shared.QueueSteps as queue
 use Rattle.ring_model.specs.shared.Schedules.{after_all, happened, next, told_by, IsReached}
-use Rattle.ring_model.specs.transmit.Ring.{Posting, TxRing, TxBeginning, tx_opening, are_whole, ends_posting, next_posting, next_sent}
+use Rattle.ring_model.specs.transmit.Ring.{Posting, TxRing, tx_opening, are_whole, ends_posting, next_posting, next_sent}
 
 -- the controller reports by a head word
 abbrev pub by_head : Completion → Bool

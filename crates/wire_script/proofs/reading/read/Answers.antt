@@ -1,8 +1,9 @@
 use Rattle.std.proofs.Common.{◌+◌, ◌≤◌, length, Ok, sym, ap, subst, ◌∙◌}
 use Rattle.std.proofs.lemmas.Result.{err_from_is_err_and}
+use Rattle.text_lines.proofs.Cuts.{left_len, part_counted}
+use Rattle.text_lines.specs.Parts.{later_parts}
 use Rattle.wire_script.specs.Script.{script_of}
-use Rattle.wire_script.specs.Split.{later_parts}
-use Rattle.wire_script.proofs.Steps.{Reads, goes_on, is_read, left_len, line_counted, stops_at, stops_full}
+use Rattle.wire_script.proofs.Steps.{Reads, goes_on, is_read, stops_at, stops_full}
 use Rattle.wire_script.proofs.reading.read.Goals as goal
 
 pub returns-in_err-line_of : goal.returns-in_err-line_of
@@ -27,7 +28,7 @@ loop-rest-preserved c =
     record {
       reads = subst (λ frames. Reads frames (c.loop-rest.line + 1 + 1) (later_parts 10 c.cut.result.1) (script_of c.args.text.now)) (sym c.in_ok-add.ensures.added)
           (goes_on c.loop-rest.frames.items (c.loop-rest.line + 1) c.cut.result.0.now (later_parts 10 c.cut.result.1) c.in_ok-line_of.field-0 (script_of c.args.text.now) c.in_ok-line_of.ensures c.in_ok-add.ensures.room before);
-      lines = line_counted c.loop-rest.line (length c.in-Some.left.now) (length c.args.text.now + 1) c.cut.result.1 c.cut.ensures.shorter so_far;
+      lines = part_counted c.loop-rest.line (length c.in-Some.left.now) (length c.args.text.now + 1) c.cut.result.1 c.cut.ensures.shorter so_far;
     }
 
 pub returns : goal.returns

@@ -1,7 +1,8 @@
 use Rattle.std.proofs.Common.{◌+◌, ◌≤◌, length}
+use Rattle.text_lines.proofs.Cuts.{left_len}
+use Rattle.text_lines.specs.Parts.{later_parts}
 use Rattle.wire_script.specs.Script.{script_of}
-use Rattle.wire_script.specs.Split.{later_parts}
-use Rattle.wire_script.proofs.Steps.{Reads, left_len}
+use Rattle.wire_script.proofs.Steps.{Reads}
 use Rattle.wire_script.proofs.reading.read.Given as goal
 
 abbrev pub invariant-loop-rest : goal.invariant-loop-rest

@@ -1,8 +1,9 @@
 use Rattle.std.proofs.Common.{◌≡◌, ℕ, false, true, List, ◌∷◌, codes, None, Result, rules, sym, ap, ◌∙◌}
 use Rattle.std.specs.Str.{bytes_eq}
+use Rattle.text_lines.specs.Parts.{parts}
 use Rattle.wire_script.specs.declared.error.ScriptError.{ScriptError}
 use Rattle.wire_script.specs.Frame.{Frame}
-use Rattle.wire_script.specs.Line.{fields_say, parts}
+use Rattle.wire_script.specs.Line.{fields_say}
 use Rattle.wire_script.specs.Split.{frame_of_payload}
 use Rattle.wire_script.proofs.SplitLemmas.{five_fields, no_byte, no_len, no_payload, other_word, parts-filled, three_fields}
 use Rattle.wire_script.proofs.split.payload_of.Goals as goal

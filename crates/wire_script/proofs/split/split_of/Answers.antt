@@ -1,5 +1,6 @@
 use Rattle.std.proofs.Common.{◌≡◌, ℕ, List, None, rules, sym, ap, ◌∙◌}
-use Rattle.wire_script.specs.Line.{fields_say, parts}
+use Rattle.text_lines.specs.Parts.{parts}
+use Rattle.wire_script.specs.Line.{fields_say}
 use Rattle.wire_script.specs.Split.{frame_of_split}
 use Rattle.wire_script.proofs.SplitLemmas.{no_port, no_queue}
 use Rattle.wire_script.proofs.split.split_of.Goals as goal

@@ -1,6 +1,6 @@
 -- What is cut off before the first separator, and what is left.
-use Rattle.std.proofs.Common.{◌≡◌, ℕ, ◌+◌, Bool, true, false, cond, nat_lt, List, [], ◌∷◌, length, take, drop, None, Some, refl, arith, ltb-true, ltb-false}
-use Rattle.std.specs.Prelude.{position}
+use Rattle.std.proofs.Common.{◌≡◌, ℕ, ◌+◌, ◌<◌, ◌≤◌, Bool, true, false, cond, nat_lt, List, [], ◌∷◌, length, take, drop, Bor, Option, None, Some, refl, arith, ltb-true, ltb-false}
+use Rattle.std.specs.Prelude.{IfSome, position}
 use Rattle.std.specs.List.{position_or_len, slice_split}
 use Rattle.std.proofs.lemmas.Option.{cond_some}
 use Rattle.std.proofs.lemmas.List.Splits.{slice_split_first, slice_split_none}
@@ -25,3 +25,21 @@ split_nowhere p xs none =
     let no = not_some (nat_lt (position_or_len p xs) (length xs)) (position_or_len p xs) none in
     let end = ltb-false (position_or_len p xs) (length xs) no in
     slice_split_none p xs (All-from_get_or (λ x. p x ≡ false) xs 0 (λ k below. fails_before_first p xs k 0 (omega arith)))
+
+-- ---- a text that is cut part after part
+
+-- how much is left, with one for the part that begins there
+abbrev pub left_len : Option (Bor (List ℕ)) → ℕ
+left_len None = 0
+left_len (Some rest) = length rest.now + 1
+
+-- a part takes at least a byte of what is left, or ends it
+pub less_left : (len : ℕ) (after : Option (Bor (List ℕ))) → IfSome after (λ rest. length rest.now < len)
+    → left_len after < len + 1
+less_left len None shorter = omega arith
+less_left len (Some rest) shorter = omega arith
+
+-- so there are no more parts than bytes and one
+pub part_counted : (n len bound : ℕ) (after : Option (Bor (List ℕ))) → IfSome after (λ rest. length rest.now < len)
+    → n + (len + 1) ≤ bound → n + 1 + left_len after ≤ bound
+part_counted n len bound after shorter so_far = omega (arith, less_left len after shorter)

@@ -1,7 +1,7 @@
 use Rattle.std.proofs.Common.{◌==◌, ◌+◌, ◌-◌, List, ℕ, arith, drop, length, length-drop, sym}
 use Rattle.std.proofs.lemmas.List.{take_all}
-use Rattle.wire_script.proofs.CutLemmas.{split_at_place, split_nowhere}
-use Rattle.wire_script.proofs.split.cut.Goals as goal
+use Rattle.text_lines.proofs.Cuts.{split_at_place, split_nowhere}
+use Rattle.text_lines.proofs.cutting.cut.Goals as goal
 
 pub returns-in-None-clause-parts : goal.returns-in-None-clause-parts
 returns-in-None-clause-parts c = split_nowhere (λ b. b == c.args.separator) c.args.bytes.now (sym c.in-None.ensures)

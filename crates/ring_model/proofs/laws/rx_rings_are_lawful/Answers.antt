@@ -1,0 +1,15 @@
+-- What a schedule gives is kept, and what is kept is lawful and concluded.
+use Rattle.ring_model.proofs.receive.Reached.{rx_kept, rx_lawful, rx_concluded}
+use Rattle.ring_model.proofs.laws.rx_rings_are_lawful.Goals as goal
+
+pub returns-clause-bytes : goal.returns-clause-bytes
+returns-clause-bytes c = λ n r h e. rx_lawful n r (rx_kept n r h e)
+
+pub returns-clause-lengths : goal.returns-clause-lengths
+returns-clause-lengths c = λ n r h e. rx_lawful n r (rx_kept n r h e)
+
+pub returns-clause-concluded_bytes : goal.returns-clause-concluded_bytes
+returns-clause-concluded_bytes c = λ n r h e. rx_concluded n r (rx_kept n r h e)
+
+pub returns-clause-concluded_lengths : goal.returns-clause-concluded_lengths
+returns-clause-concluded_lengths c = λ n r h e. rx_concluded n r (rx_kept n r h e)

@@ -1,0 +1,52 @@
+-- When a receive ring's controller is over: it has ended, or it serves and said that it is quiet.
+use Rattle.std.proofs.Common.{◌≡◌, ◌⊎◌, inl, inr, ⊎_elim, ℕ, Bool, true, false, not, ◌&&◌, ◌||◌, ap, ◌∙◌}
+use Rattle.std.proofs.lemmas.Bool.{cases_Bool, both_ways, and_parts, and_from, or_cases, or_left, or_right, not_from_false}
+use Rattle.ring_model.specs.declared.handshake.Handshake.{Handshake}
+use Rattle.ring_model.specs.declared.steps.ControlStep.{ControlStep}
+use Rattle.ring_model.specs.shared.Handshakes.{is_ended, is_open, is_serving, has_ended, may_shake, shaken, enables}
+use Rattle.ring_model.specs.receive.Ring.{RxRing, ends_segment}
+use Rattle.ring_model.specs.receive.Steps.{rx_settled}
+use Rattle.ring_model.specs.receive.Laws.{rx_over}
+use Rattle.ring_model.proofs.shared.Stepping.{unended}
+use Rattle.ring_model.proofs.shared.Fixed.{ended-shake, serving-shake}
+use Rattle.ring_model.proofs.receive.Kept.{IsRxKept}
+
+abbrev pub over : Handshake → Bool → Bool
+over h still = has_ended h || (is_serving h.controller && still)
+
+pub over-parts : (h : Handshake) (still : Bool) → over h still ≡ true → (has_ended h ≡ true) ⊎ ((is_serving h.controller ≡ true) × (still ≡ true))
+over-parts h still e = ⊎_elim (λ a. inl a) (λ b. let t = and_parts (is_serving h.controller) still b in inr (t.0, t.1)) (or_cases (has_ended h) (is_serving h.controller && still) e)
+
+pub over-ended : (h : Handshake) (still : Bool) → has_ended h ≡ true → over h still ≡ true
+over-ended h still e = or_left (has_ended h) (is_serving h.controller && still) e
+
+pub over-quiet : (h : Handshake) (still : Bool) → is_serving h.controller ≡ true → still ≡ true → over h still ≡ true
+over-quiet h still serving e = or_right (has_ended h) (is_serving h.controller && still) (and_from (is_serving h.controller) still serving e)
+
+-- a driver that posts no more leaves over what was over
+pub over-close : (h g : Handshake) (still : Bool) → g.controller ≡ h.controller → is_open g.driver ≡ false → over h still ≡ true → over g still ≡ true
+over-close h g still same closed e = ⊎_elim
+    (λ a. let t = and_parts (is_ended h.controller) (not (is_open h.driver)) a in over-ended g still (and_from (is_ended g.controller) (not (is_open g.driver)) (ap is_ended same ∙ t.0) (not_from_false (is_open g.driver) closed)))
+    (λ b. over-quiet g still (ap is_serving same ∙ b.0) b.1)
+    (over-parts h still e)
+
+module _ {Payload : Type 0} (n : ℕ) (r : RxRing Payload) (k : IsRxKept Payload n r) where
+  -- while a buffer is held, the controller is not over
+  pub held-unover : r.held ≡ true → rx_over r ≡ false
+  held-unover held = let q = k.queue in let o = q.order in ⊎_elim
+      (λ e. absurd (⊎_elim (λ a. unended r.handshake (o.held_serving held) a) (λ b. both_ways r.held (k.at_rest b.1) held) (over-parts r.handshake r.still e)))
+      (λ e. e)
+      (cases_Bool (rx_over r))
+
+  still_stays : (enabling : Bool) → enabling ≡ false → r.still ≡ true → (not enabling && r.still) ≡ true
+  still_stays enabling none e = and_from (not enabling) r.still (not_from_false enabling none) e
+
+  -- the handshake leaves over what was over
+  pub over-shake : (c : ControlStep) → may_shake r.handshake c (rx_settled r) ≡ true → rx_over r ≡ true → over (shaken r.handshake c) (not (enables r.handshake c) && r.still) ≡ true
+  over-shake c may e = ⊎_elim
+      (λ a. over-ended (shaken r.handshake c) (not (enables r.handshake c) && r.still) (ended-shake n ends_segment r.queue k.queue c (rx_settled r) may a))
+      (λ b. ⊎_elim
+      (λ s. over-quiet (shaken r.handshake c) (not (enables r.handshake c) && r.still) s.0 (still_stays (enables r.handshake c) s.1 b.1))
+      (λ f. over-ended (shaken r.handshake c) (not (enables r.handshake c) && r.still) f)
+      (serving-shake n ends_segment r.queue k.queue c (rx_settled r) may b.0))
+      (over-parts r.handshake r.still e)

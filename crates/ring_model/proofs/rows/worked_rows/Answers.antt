@@ -1,0 +1,70 @@
+-- Each row is computed.
+use Rattle.std.proofs.Common.{refl}
+use Rattle.ring_model.proofs.shared.Shapes.{shapes-cut}
+use Rattle.ring_model.proofs.rows.worked_rows.Goals as goal
+
+pub returns-clause-cut : goal.returns-clause-cut
+returns-clause-cut c = record {
+  no_bytes = λ f e. shapes-cut 1024 f _ e;
+  one_byte = λ f e. shapes-cut 1024 f _ e;
+  one_full = λ f e. shapes-cut 1024 f _ e;
+  one_more = λ f e. shapes-cut 1024 f _ e;
+  two_full = λ f e. shapes-cut 1024 f _ e;
+  three = λ f e. shapes-cut 1024 f _ e;
+  nine = λ f e. shapes-cut 1024 f _ e;
+  by_2048 = λ f e. shapes-cut 2048 f _ e;
+  fifteen = λ f e. shapes-cut 1024 f _ e;
+}
+
+pub returns-clause-receive : goal.returns-clause-receive
+returns-clause-receive c = record {
+  one_frame = refl;
+  early_and_late_loads = refl;
+  seven_places = refl;
+  seven_fit = refl;
+  twenty_one = refl;
+  twenty_first = refl;
+  twenty_one_head = refl;
+  head_alone = refl;
+  looks = refl;
+  never_enabled = refl;
+  disabling_in_a_frame = refl;
+  renewed = refl;
+  renewal_steps = refl;
+  renewal_count = refl;
+  second_disabled = refl;
+  two_epochs = refl;
+  asked_at_every_step = refl;
+  on_and_off = refl;
+  asked_too_early = refl;
+  answered_once = refl;
+  cleared_once = refl;
+  head_before_clearing = refl;
+  head_after_clearing = refl;
+  quiet_between_frames = refl;
+  quiet_and_renewed = refl;
+}
+
+pub returns-clause-transmit : goal.returns-clause-transmit
+returns-clause-transmit c = record {
+  one_frame_by_status = refl;
+  one_frame_by_head = refl;
+  two_frames_by_status = refl;
+  two_frames_by_head = refl;
+  two_frames_count = refl;
+  two_frames_count_by_head = refl;
+  two_reports_by_status = refl;
+  two_reports_by_head = refl;
+  in_turn = refl;
+  seven_places = refl;
+  seven_fit = refl;
+  looks = refl;
+  enabled_late = refl;
+  wrapped_report = refl;
+  disabled_by_status = refl;
+  renewed_by_status = refl;
+  renewed_by_head = refl;
+  second_disabled_by_status = refl;
+  second_disabled_by_head = refl;
+  two_epochs = refl;
+}

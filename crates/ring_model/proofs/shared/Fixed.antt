@@ -1,0 +1,179 @@
+-- What goes on for ever: each step leaves the lists that have ended, or begins a new epoch.
+use Rattle.std.proofs.Common.{◌≡◌, ℕ, ◌-◌, ◌⊎◌, inl, inr, ⊎_elim, Bool, true, false, not, ◌&&◌, [], ◌∷◌, ◌++◌, sym, refl, ap, ◌∙◌, subst, if◌then◌else◌, append_assoc}
+use Rattle.std.specs.Prelude.{◌==◌, nat_lt}
+use Rattle.std.proofs.lemmas.Bool.{both_ways, and_parts, or_cases, not_from_false, eqb-true}
+use Rattle.ring_model.specs.declared.steps.ControlStep.{ControlStep}
+use Rattle.ring_model.specs.declared.steps.ControlStep.TheVariants.{AskEnable, LookAsked, Answer, LookAnswered, AskDisable}
+use Rattle.ring_model.specs.shared.Handshakes.{is_open, is_live, is_answered, is_serving, can_enable, enable, can_disable, disable, may_shake, shaken, enables, has_ended}
+use Rattle.ring_model.specs.shared.QueueSteps.{QueueStep, Post, Publish, Look, Fetch, Serve, Head, Give, Shake, Reclaim, ClearHead, ClearTail, Renew}
+use Rattle.ring_model.specs.shared.Queue.{Ledger, Queue, posted_count, served_count, given_count, may, by}
+use Rattle.ring_model.specs.shared.Laws.{IsGrown, SameEpoch, Later}
+use Rattle.ring_model.proofs.shared.Kept.{IsKept}
+use Rattle.ring_model.proofs.shared.Shakes.{new_open, on_open, live_unanswered, open_unanswered, shakes-enable, shakes-disable, learned_open, learned_answered}
+use Rattle.ring_model.proofs.shared.Beginnings.{beginning-refl, beginning-trans, beginning-append}
+use Rattle.ring_model.proofs.shared.Stepping.{shook, unended, open_unended}
+
+-- an epoch that has ended stays so, whatever the handshake does
+module _ {Posted Served Given : Type 0} (n : ℕ) (ends : Served → Bool) (q : Queue Posted Served Given) (k : IsKept n ends q) where
+  enable_open : can_enable q.handshake ≡ true → is_open q.handshake.driver ≡ true
+  enable_open e = let h = q.handshake in let t = and_parts (h.seen == 1) (not (is_serving h.controller)) e in
+      let s = shakes-enable h.driver h.controller h.control h.seen (eqb-true h.seen 1 t.0) (shook n ends q k) in s.1
+
+  disable_closed : can_disable q.handshake ≡ true → is_open q.handshake.driver ≡ false
+  disable_closed e = let h = q.handshake in let t = and_parts (h.seen == 3) (is_serving h.controller) e in
+      let s = shakes-disable h.driver h.controller h.control h.seen (eqb-true h.seen 3 t.0) t.1 (shook n ends q k) in s.1
+
+  -- an answer enables an open queue, or ends one that the driver left
+  answers : (settled : Bool) → may_shake q.handshake Answer settled ≡ true → (can_enable q.handshake ≡ true) ⊎ (can_disable q.handshake ≡ true)
+  answers settled e = ⊎_elim (λ a. inl a) (λ b. let t = and_parts (can_disable q.handshake) settled b in inr t.0) (or_cases (can_enable q.handshake) (can_disable q.handshake && settled) e)
+
+  -- the answer to a disabling, whichever way it is computed
+  ended_now : (on : Bool) → on ≡ false → is_open q.handshake.driver ≡ false → has_ended (if on then enable q.handshake else disable q.handshake) ≡ true
+  ended_now true e shut = absurd (both_ways true e refl)
+  ended_now false e shut = not_from_false (is_open q.handshake.driver) shut
+
+  -- a serving controller enables nothing
+  serving_enables : is_serving q.handshake.controller ≡ true → can_enable q.handshake ≡ false
+  serving_enables serving = ap (λ (b : Bool). (q.handshake.seen == 1) && not b) serving ∙ never (q.handshake.seen == 1)
+    where
+      never : (b : Bool) → (b && false) ≡ false
+      never true = refl
+      never false = refl
+
+  pub ended-shake : (c : ControlStep) (settled : Bool) → may_shake q.handshake c settled ≡ true → has_ended q.handshake ≡ true → has_ended (shaken q.handshake c) ≡ true
+  ended-shake AskEnable settled e over = absurd (open_unended q.handshake (new_open q.handshake.driver e) over)
+  ended-shake LookAsked settled e over = over
+  ended-shake Answer settled e over = ⊎_elim (λ a. absurd (open_unended q.handshake (enable_open a) over))
+      (λ b. let t = and_parts (q.handshake.seen == 3) (is_serving q.handshake.controller) b in absurd (unended q.handshake t.1 over)) (answers settled e)
+  ended-shake LookAnswered settled e over = rw (learned_open q.handshake.driver q.handshake.control) over
+  ended-shake AskDisable settled e over = absurd (open_unended q.handshake (on_open q.handshake.driver e) over)
+
+  -- a controller that serves goes on serving, or has ended
+  pub serving-shake : (c : ControlStep) (settled : Bool) → may_shake q.handshake c settled ≡ true → is_serving q.handshake.controller ≡ true
+      → ((is_serving (shaken q.handshake c).controller ≡ true) × (enables q.handshake c ≡ false)) ⊎ (has_ended (shaken q.handshake c) ≡ true)
+  serving-shake AskEnable settled e serving = inl (serving, refl)
+  serving-shake LookAsked settled e serving = inl (serving, refl)
+  serving-shake Answer settled e serving = let no = serving_enables serving in
+      inr (ended_now (can_enable q.handshake) no (⊎_elim (λ a. absurd (both_ways (can_enable q.handshake) no a)) disable_closed (answers settled e)))
+  serving-shake LookAnswered settled e serving = inl (serving, refl)
+  serving-shake AskDisable settled e serving = inl (serving, refl)
+
+module _ {Posted Served Given : Type 0} where
+  pub grown-refl : (l : Ledger Posted Served Given) → IsGrown l l
+  grown-refl l = record { posted = beginning-refl l.posted; served = beginning-refl l.served; given = beginning-refl l.given }
+
+  grown-trans : (a b c : Ledger Posted Served Given) → IsGrown a b → IsGrown b c → IsGrown a c
+  grown-trans a b c g h = record {
+    posted = beginning-trans a.posted b.posted c.posted g.posted h.posted;
+    served = beginning-trans a.served b.served c.served g.served h.served;
+    given = beginning-trans a.given b.given c.given g.given h.given;
+  }
+
+  -- a step that leaves the lists
+  pub same-lists : (q later : Queue Posted Served Given) (over still_over : Bool) → later.past ≡ q.past → later.ledger ≡ q.ledger → (is_open q.handshake.driver ≡ false → is_open later.handshake.driver ≡ false) → (over ≡ true → still_over ≡ true)
+      → (is_answered q.handshake.driver ≡ true → is_answered later.handshake.driver ≡ true) → SameEpoch q over later still_over
+  same-lists q later over still_over p l a b c = record {
+    past = p;
+    grown = subst (λ (m : Ledger Posted Served Given). IsGrown q.ledger m) (sym l) (grown-refl q.ledger);
+    posted = λ e. (ap (λ m. m.posted) l, a e);
+    served = λ e. (ap (λ m. m.served) l, b e);
+    given = λ e. (ap (λ m. m.given) l, c e);
+  }
+
+  pub later-refl : (q : Queue Posted Served Given) (over : Bool) → Later q over q over
+  later-refl q over = inr (same-lists q q over over refl refl (λ e. e) (λ e. e) (λ e. e))
+
+  then_same : (a b c : Queue Posted Served Given) (oa ob oc : Bool) → SameEpoch a oa b ob → SameEpoch b ob c oc → SameEpoch a oa c oc
+  then_same a b c oa ob oc s t = record {
+    past = t.past ∙ s.past;
+    grown = grown-trans a.ledger b.ledger c.ledger s.grown t.grown;
+    posted = λ e. let p = s.posted e in let u = t.posted p.1 in (u.0 ∙ p.0, u.1);
+    served = λ e. let p = s.served e in let u = t.served p.1 in (u.0 ∙ p.0, u.1);
+    given = λ e. let p = s.given e in let u = t.given p.1 in (u.0 ∙ p.0, u.1);
+  }
+
+  pub later-trans : (a b c : Queue Posted Served Given) (oa ob oc : Bool) → Later a oa b ob → Later b ob c oc → Later a oa c oc
+  later-trans a b c oa ob oc (inl x) (inl y) = inl (record {
+    ended = x.ended;
+    more = x.more ++ y.ended ∷ y.more;
+    past = sym (append_assoc a.past (x.ended ∷ x.more) (y.ended ∷ y.more)) ∙ ap (λ p. p ++ y.ended ∷ y.more) x.past ∙ y.past;
+    grown = x.grown;
+    posted = x.posted;
+    served = x.served;
+    given = x.given;
+  })
+  later-trans a b c oa ob oc (inl x) (inr t) = inl (record { ended = x.ended; more = x.more; past = x.past ∙ sym t.past; grown = x.grown; posted = x.posted; served = x.served; given = x.given })
+  later-trans a b c oa ob oc (inr s) (inl y) = inl (record {
+    ended = y.ended;
+    more = y.more;
+    past = ap (λ p. p ++ y.ended ∷ y.more) (sym s.past) ∙ y.past;
+    grown = grown-trans a.ledger b.ledger y.ended s.grown y.grown;
+    posted = λ e. let p = s.posted e in y.posted p.1 ∙ p.0;
+    served = λ e. let p = s.served e in y.served p.1 ∙ p.0;
+    given = λ e. let p = s.given e in y.given p.1 ∙ p.0;
+  })
+  later-trans a b c oa ob oc (inr s) (inr t) = inr (then_same a b c oa ob oc s t)
+
+  -- what a ring has to know of its own sign that its controller is over
+  abbrev pub Stays : QueueStep Posted Served Given → Bool → Bool → Type 0
+  Stays (Serve x) over still_over = over ≡ false
+  Stays Renew over still_over = Unit {0}
+  Stays _ over still_over = over ≡ true → still_over ≡ true
+
+  module _ (q : Queue Posted Served Given) (over still_over : Bool) where
+    same-post : (x : Posted) → may q (Post x) ≡ true → (over ≡ true → still_over ≡ true) → SameEpoch q over (by q (Post x)) still_over
+    same-post x e stays = let t = and_parts (is_open q.handshake.driver) (nat_lt (posted_count q - given_count q) (q.size - 1)) e in record {
+      past = refl;
+      grown = record { posted = beginning-append q.ledger.posted q.ledger.posted (x ∷ []) (beginning-refl q.ledger.posted); served = beginning-refl q.ledger.served; given = beginning-refl q.ledger.given };
+      posted = λ f. absurd (both_ways (is_open q.handshake.driver) f t.0);
+      served = λ f. (refl, stays f);
+      given = λ f. (refl, f);
+    }
+
+    same-serve : (x : Served) → over ≡ false → SameEpoch q over (by q (Serve x)) still_over
+    same-serve x none = record {
+      past = refl;
+      grown = record { posted = beginning-refl q.ledger.posted; served = beginning-append q.ledger.served q.ledger.served (x ∷ []) (beginning-refl q.ledger.served); given = beginning-refl q.ledger.given };
+      posted = λ f. (refl, f);
+      served = λ f. absurd (both_ways over none f);
+      given = λ f. (refl, f);
+    }
+
+    same-give : (x : Given) → may q (Give x) ≡ true → (over ≡ true → still_over ≡ true) → SameEpoch q over (by q (Give x)) still_over
+    same-give x e stays = let t = and_parts (is_live q.handshake.driver) (nat_lt (given_count q) (served_count q)) e in record {
+      past = refl;
+      grown = record { posted = beginning-refl q.ledger.posted; served = beginning-refl q.ledger.served; given = beginning-append q.ledger.given q.ledger.given (x ∷ []) (beginning-refl q.ledger.given) };
+      posted = λ f. (refl, f);
+      served = λ f. (refl, stays f);
+      given = λ f. absurd (both_ways (is_answered q.handshake.driver) (live_unanswered q.handshake.driver t.0) f);
+    }
+
+    -- the answer leaves the driver's state
+    answered_driver : (on : Bool) → (if on then enable q.handshake else disable q.handshake).driver ≡ q.handshake.driver
+    answered_driver true = refl
+    answered_driver false = refl
+
+    same-shake : (c : ControlStep) (settled : Bool) → may_shake q.handshake c settled ≡ true → (over ≡ true → still_over ≡ true) → SameEpoch q over (by q (Shake c settled)) still_over
+    same-shake AskEnable settled e stays = let h = q.handshake in let opens = new_open h.driver e in
+        same-lists q (by q (Shake AskEnable settled)) over still_over refl refl (λ f. absurd (both_ways (is_open h.driver) f opens)) stays (λ f. absurd (both_ways (is_answered h.driver) (open_unanswered h.driver opens) f))
+    same-shake LookAsked settled e stays = same-lists q (by q (Shake LookAsked settled)) over still_over refl refl (λ f. f) stays (λ f. f)
+    same-shake Answer settled e stays = let d = answered_driver (can_enable q.handshake) in
+        same-lists q (by q (Shake Answer settled)) over still_over refl refl (λ f. ap is_open d ∙ f) stays (λ f. ap is_answered d ∙ f)
+    same-shake LookAnswered settled e stays = let h = q.handshake in
+        same-lists q (by q (Shake LookAnswered settled)) over still_over refl refl (λ f. learned_open h.driver h.control ∙ f) stays (learned_answered h.driver h.control)
+    same-shake AskDisable settled e stays = let h = q.handshake in
+        same-lists q (by q (Shake AskDisable settled)) over still_over refl refl (λ f. refl) stays (λ f. absurd (both_ways (is_answered h.driver) (open_unanswered h.driver (on_open h.driver e)) f))
+
+    pub later-by : (s : QueueStep Posted Served Given) → may q s ≡ true → Stays s over still_over → Later q over (by q s) still_over
+    later-by (Post x) e stays = inr (same-post x e stays)
+    later-by Publish e stays = inr (same-lists q (by q Publish) over still_over refl refl (λ f. f) stays (λ f. f))
+    later-by Look e stays = inr (same-lists q (by q Look) over still_over refl refl (λ f. f) stays (λ f. f))
+    later-by Fetch e stays = inr (same-lists q (by q Fetch) over still_over refl refl (λ f. f) stays (λ f. f))
+    later-by (Serve x) e none = inr (same-serve x none)
+    later-by Head e stays = inr (same-lists q (by q Head) over still_over refl refl (λ f. f) stays (λ f. f))
+    later-by (Give x) e stays = inr (same-give x e stays)
+    later-by (Shake c settled) e stays = inr (same-shake c settled e stays)
+    later-by Reclaim e stays = inr (same-lists q (by q Reclaim) over still_over refl refl (λ f. f) stays (λ f. f))
+    later-by ClearHead e stays = inr (same-lists q (by q ClearHead) over still_over refl refl (λ f. refl) stays (λ f. refl))
+    later-by ClearTail e stays = inr (same-lists q (by q ClearTail) over still_over refl refl (λ f. refl) stays (λ f. refl))
+    later-by Renew e stays = inl (record { ended = q.ledger; more = []; past = refl; grown = grown-refl q.ledger; posted = λ f. refl; served = λ f. refl; given = λ f. refl })

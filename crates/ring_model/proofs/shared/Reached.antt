@@ -1,0 +1,27 @@
+-- What a kept queue is: its counts stand in their order, and where the controller has ended, the head tells how many were served.
+use Rattle.std.proofs.Common.{ℕ, Bool}
+use Rattle.ring_model.specs.shared.Queue.{Queue}
+use Rattle.ring_model.specs.shared.Laws.{IsConcluded, IsOrdered}
+use Rattle.ring_model.proofs.shared.Kept.{IsKept}
+use Rattle.ring_model.proofs.shared.Shakes.{ended_full}
+use Rattle.ring_model.proofs.shared.Stepping.{answered_over}
+
+module _ {Posted Served Given : Type 0} (n : ℕ) {ends : Served → Bool} (q : Queue Posted Served Given) (k : IsKept n ends q) where
+  pub ordered : IsOrdered q
+  ordered = let o = k.order in record {
+    given_served = o.given_served;
+    served_posted = o.served_posted;
+    returned_posted = o.returned_posted;
+    published_posted = o.published_posted;
+    known_published = o.known_published;
+    served_known = o.served_known;
+    held_known = o.held_known;
+    held_serving = o.held_serving;
+    not_reclaimed = o.not_reclaimed;
+  }
+
+  pub concluded : IsConcluded q
+  concluded = let h = q.handshake in let s = k.shaken in record {
+    ended = answered_over n ends q k;
+    head = λ e l. let t = ended_full h.driver h.controller h.control h.seen e l s.shakes in k.told e t.0 t.1;
+  }
