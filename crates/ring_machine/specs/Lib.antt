@@ -1,2 +1,4 @@
 pub mod MachineErrors
+pub mod Arguments
 pub mod shared
+pub mod receive

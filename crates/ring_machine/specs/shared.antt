@@ -1,3 +1,4 @@
 pub mod Machine
 pub mod Moves
 pub mod Following
+

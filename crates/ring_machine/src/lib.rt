@@ -3,5 +3,8 @@
 
 mod error;
 mod machine;
+mod moves;
 
 pub use error::MachineError;
+pub use machine::RxMachine;
+pub use moves::arguments::{Descriptor, SegmentLength};

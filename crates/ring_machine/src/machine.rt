@@ -1,4 +1,7 @@
 //! One queue as a machine, in either direction.
 
-pub(crate) mod places;
-pub(crate) mod queue;
+mod places;
+mod queue;
+mod receive;
+
+pub use receive::RxMachine;

@@ -1,0 +1,3 @@
+//! Moves: steps of queues, with their arguments in range, and their text.
+
+pub(crate) mod arguments;
