@@ -4,3 +4,5 @@ pub mod Slots
 pub mod Telling
 pub mod Fitting
 pub mod Shaking
+pub mod Running
+pub mod Owning

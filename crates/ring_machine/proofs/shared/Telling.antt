@@ -1,13 +1,14 @@
 -- What a machine tells from its places is what its queue tells, whichever its direction.
-use Rattle.std.proofs.Common.{◌≡◌, ℕ, ◌+◌, ◌-◌, ◌%◌, ◌<◌, ◌≤◌, Bool, true, false, not, ◌&&◌, Option, Some, None, sym, refl, ap, ◌∙◌, arith, if◌then◌else◌}
+use Rattle.std.proofs.Common.{◌≡◌, ℕ, ◌+◌, ◌-◌, ◌%◌, ◌<◌, ◌≤◌, Bool, true, false, not, ◌&&◌, ◌||◌, Option, Some, None, sym, refl, ap, ◌∙◌, arith, if◌then◌else◌}
 use Rattle.std.specs.Prelude.{is_none, slice_get, ◌==◌, nat_lt}
 use Rattle.std.proofs.lemmas.Bool.{and_parts, and_left, not-true, ltb-true}
 use Rattle.std.proofs.lemmas.Option.{slice_get_within}
 use Rattle.ring_model.specs.declared.steps.ControlStep.{ControlStep}
+use Rattle.ring_model.specs.declared.steps.ControlStep.TheVariants.{AskEnable, LookAsked, Answer, LookAnswered, AskDisable}
 use Rattle.ring_model.specs.declared.handshake.Handshake.{Handshake}
 use Rattle.ring_model.specs.shared.Lists.{slot_at}
 use Rattle.ring_model.specs.shared.Frames.{ends_frame}
-use Rattle.ring_model.specs.shared.Handshakes.{is_open, is_live, is_serving, is_ended, is_stopped, is_between, may_shake}
+use Rattle.ring_model.specs.shared.Handshakes.{is_open, is_live, is_serving, is_ended, is_stopped, is_new, is_on, is_between, can_enable, can_disable, may_shake}
 use Rattle.ring_model.specs.shared.QueueSteps as queue
 use Rattle.ring_model.specs.shared.Queue.{Queue, posted_count, served_count, given_count, returned_count, next_head, is_settled, may}
 use Rattle.ring_model.specs.shared.Agreement.{Agrees, Wrapped}
@@ -67,6 +68,15 @@ module _ {Posted Served Given : Type 0} (ends : Served → Bool) (says : ℕ →
 
     pub clear_head-is : (is_stopped w.handshake.driver && are_all_back w) ≡ may q queue.ClearHead
     clear_head-is = and_same (is_stopped w.handshake.driver) (is_stopped q.handshake.driver) (are_all_back w) (returned_count q == posted_count q) (ap (λ (h : Handshake). is_stopped h.driver) a.handshake) (λ e. all_back_is)
+
+    -- whether a disabling may be answered matters only while the controller serves
+    pub shake-is : (c : ControlStep) (looks settled : Bool) → (is_serving q.handshake.controller ≡ true → looks ≡ settled) → may_shake w.handshake c looks ≡ may q (queue.Shake c settled)
+    shake-is AskEnable looks settled e = ap (λ (h : Handshake). is_new h.driver) a.handshake
+    shake-is LookAsked looks settled e = refl
+    shake-is Answer looks settled e = ap (λ (h : Handshake). can_enable h || (can_disable h && looks)) a.handshake
+        ∙ ap (λ (b : Bool). can_enable q.handshake || b) (and_same (can_disable q.handshake) (can_disable q.handshake) looks settled refl (λ d. let t = and_parts (q.handshake.seen == 3) (is_serving q.handshake.controller) d in e t.1))
+    shake-is LookAnswered looks settled e = refl
+    shake-is AskDisable looks settled e = ap (λ (h : Handshake). is_on h.driver) a.handshake
 
     module _ (named : AreNamed q) where
       pub held_is : (x : Posted) → q.held ≡ true → slice_get q.ledger.posted (served_count q) ≡ Some x → w.held ≡ Some (number x)

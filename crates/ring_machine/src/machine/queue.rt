@@ -350,6 +350,7 @@ impl QueueMachine {
         ensures refused { (result ≡ Err RingLength) ↔ ¬ (IsRingLength n) }
         ensures error { IfErr result (λ e. (e ≡ RingLength) ⊎ (e ≡ Memory)) }
         ensures made { IfOk result (λ q. q ≡ begun n enabled) }
+        ensures places { IfOk result (λ q. 1 < n) }
     {
         if !is_ring_length(n) {
             return Err(MachineError::RingLength);

@@ -7,6 +7,7 @@ ghost use Rattle.ring_model.specs.receive.Agreement.{rx_word};
 ghost use Rattle.ring_model.specs.receive.Ring.{rx_opening};
 ghost use Rattle.ring_machine.specs.declared.error.MachineError.TheVariants.{Memory, NotEnabled, RingLength};
 ghost use Rattle.ring_machine.specs.shared.Machine.{IsSound};
+ghost use Rattle.ring_machine.specs.shared.Moves.{told_owner};
 ghost use Rattle.ring_machine.specs.receive.Machine.{RxAgrees, RxFollows, RxOwns, RxRuns};
 ghost use Rattle.ring_machine.specs.receive.Moves.{has_dd, has_eop, rx_begun, rx_may, rx_moved, rx_told};
 
@@ -233,6 +234,13 @@ impl RxMachine {
     pub fn owner(&self, place: u16) -> Owner
         requires { place < self.now.queue.size }
         ensures { RxOwns self.now place result }
+    {
+        self.owner_at(place)
+    }
+
+    fn owner_at(&self, place: u16) -> Owner
+        ensures told { result ≡ told_owner self.now.queue place }
+        ensures sound { IsSound self.now.queue }
     {
         self.queue.owner(place)
     }
