@@ -1,2 +1,3 @@
 pub mod shared
 pub mod receive
+pub mod transmit

@@ -6,5 +6,5 @@ mod machine;
 mod moves;
 
 pub use error::MachineError;
-pub use machine::RxMachine;
+pub use machine::{RxMachine, TxMachine};
 pub use moves::arguments::{Descriptor, SegmentLength};

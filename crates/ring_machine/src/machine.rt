@@ -3,5 +3,8 @@
 mod places;
 mod queue;
 mod receive;
+mod transmit;
+mod words;
 
 pub use receive::RxMachine;
+pub use transmit::TxMachine;

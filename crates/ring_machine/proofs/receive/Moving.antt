@@ -67,7 +67,7 @@ module _ (p : RxParts) (r : RxRing ℕ) (k : IsRxKept ℕ r.size r) (a : RxAgree
   rx_fits-moved Fetch e = moves-fetch e
   rx_fits-moved (Store x eop) e = moves-store x eop e
   rx_fits-moved Take e = moves-due (due r) refl e
-  rx_fits-moved Head e = rests (rx_moved p Head).queue (by r.queue queue.Head) (fit.fits-head ends_segment says_rx lies_rx p.queue r.queue k.queue a.queue sound e)
+  rx_fits-moved Head e = rests (rx_moved p Head).queue (by r.queue queue.Head) (shake.fits-head ends_segment says_rx lies_rx p.queue r.queue k.queue a.queue e)
   rx_fits-moved (Control c) e = moves-control c e
   rx_fits-moved Reclaim e = rests (rx_moved p Reclaim).queue (by r.queue queue.Reclaim) (fit.fits-reclaim ends_segment says_rx lies_rx p.queue r.queue k.queue a.queue sound (Some 0) (slice_index r.ledger.posted (returned_count r.queue)) e (reclaimed_slot p r k a e))
   rx_fits-moved StoreQuiet e = record { queue = a.queue; quiet = refl; still = refl }

@@ -26,10 +26,10 @@ use Rattle.ring_machine.proofs.shared.Slots.{slot-writes, put-writes, put-here, 
 
 module _ {Posted Served Given : Type 0} (ends : Served → Bool) (says : ℕ → Option Posted → Option Served → ℕ) (lies : Option Posted → Option Served → Option ℕ) where
   module _ (w : Wrapped ℕ) (q : Queue Posted Served Given) (k : IsKept q.size ends q) (a : Agrees {Given = Given} ends says lies w q) (sound : IsSound w) where
-    pos : 0 < q.size
+    pub pos : 0 < q.size
     pos = let some = k.places in omega arith
 
-    within : posted_count q ≤ returned_count q + q.size
+    pub within : posted_count q ≤ returned_count q + q.size
     within = let o = k.order in let h = o.room in omega arith
 
     words_are : length w.words ≡ q.size
@@ -38,7 +38,7 @@ module _ {Posted Served Given : Type 0} (ends : Served → Bool) (says : ℕ →
     slots_are : length w.slots ≡ q.size
     slots_are = sound.slots ∙ a.size_is
 
-    word-writes : (i place x : ℕ) (word : Option ℕ) → place ≡ i % q.size → slice_index (word_put w.words place word) place ≡ x → Writes q.size (slice_index w.words) (slice_index (word_put w.words place word)) (i % q.size) x
+    pub word-writes : (i place x : ℕ) (word : Option ℕ) → place ≡ i % q.size → slice_index (word_put w.words place word) place ≡ x → Writes q.size (slice_index w.words) (slice_index (word_put w.words place word)) (i % q.size) x
     word-writes i place x word e is = subst (λ (j : ℕ). Writes q.size (slice_index w.words) (slice_index (word_put w.words place word)) j x) e
         (put-writes w.words q.size place x word words_are (let below = mod-lt i pos in omega arith) is)
 
@@ -180,7 +180,7 @@ module _ {Posted Served Given : Type 0} (ends : Served → Bool) (says : ℕ →
     serve_rest : (x : Served) (j : ℕ) → j ≢ served_count q → wanted_slot {Given = Given} says lies (by q (Serve x)) j ≡ wanted_slot {Given = Given} says lies q j
     serve_rest x j ne = let other = and_right q.held (j == served_count q) (ne_eqb j (served_count q) ne) in rw other (rw (snoc_rest q.ledger.served x j ne) refl)
 
-    fits-served : (x : Served) (word : Option ℕ) (eop : Bool) (b : ℕ) → q.held ≡ true → ends x ≡ eop → slice_index (word_put w.words w.serve word) w.serve ≡ says (served_count q) (slice_get q.ledger.posted (served_count q)) (Some x)
+    pub fits-served : (x : Served) (word : Option ℕ) (eop : Bool) (b : ℕ) → q.held ≡ true → ends x ≡ eop → slice_index (word_put w.words w.serve word) w.serve ≡ says (served_count q) (slice_get q.ledger.posted (served_count q)) (Some x)
         → lies (slice_get q.ledger.posted (served_count q)) (Some x) ≡ Some b → Agrees {Given = Given} ends says lies (after_serve w word eop (Some b)) (by q (Serve x))
     fits-served x word eop b may ends_it says_it lies_it = let o = k.order in let serving = o.held_serving may in let serve_at = serve_is serving in let i = a.items in let below = held_below q.size ends q k may in
         let back = returned_served q.size ends q k serving in let last = snoc_end q.ledger.served x in
@@ -210,22 +210,6 @@ module _ {Posted Served Given : Type 0} (ends : Served → Bool) (says : ℕ →
     pub fits-serve : (x : Served) (word : Option ℕ) (eop : Bool) (b : ℕ) → q.held ≡ true → w.held ≡ Some b → ends x ≡ eop → slice_index (word_put w.words w.serve word) w.serve ≡ says (served_count q) (slice_get q.ledger.posted (served_count q)) (Some x)
         → lies (slice_get q.ledger.posted (served_count q)) (Some x) ≡ Some b → Agrees {Given = Given} ends says lies (after_serve w word eop w.held) (by q (Serve x))
     fits-serve x word eop b may held ends_it says_it lies_it = subst (λ (o : Option ℕ). Agrees {Given = Given} ends says lies (after_serve w word eop o) (by q (Serve x))) (sym held) (fits-served x word eop b may ends_it says_it lies_it)
-
-    pub fits-head : may q Head ≡ true → Agrees {Given = Given} ends says lies (after_head w) (by q Head)
-    fits-head may = let t = and_parts (is_serving q.handshake.controller) (not q.held) may in let i = a.items in record {
-      size_is = a.size_is;
-      head = serve_is t.0;
-      tail = a.tail;
-      items = record { words = i.words; slots = i.slots };
-      empty = a.empty;
-      fill = a.fill;
-      next = a.next;
-      serve = a.serve;
-      known = a.known;
-      held = a.held;
-      whole = a.whole;
-      handshake = a.handshake;
-    }
 
     -- the first item that is out comes out
     out-words : (word : Option ℕ) → returned_count q < posted_count q → EachItem q.size (returned_count q + 1) (posted_count q) (slice_index (word_put w.words w.next word)) (wanted_word {Given = Given} says lies q)

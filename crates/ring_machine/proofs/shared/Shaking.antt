@@ -1,4 +1,4 @@
--- The handshake, clearing and renewal take a machine's queue to one that agrees with the queue after the step; and so does the making.
+-- The head, the handshake, clearing and renewal take a machine's queue to one that agrees with the queue after the step; and so does the making.
 use Rattle.std.proofs.Common.{◌≡◌, ℕ, ◌+◌, ◌%◌, ◌<◌, ◌≤◌, Bool, true, false, not, ◌&&◌, ◌||◌, List, [], ◌∷◌, Option, Some, None, sym, refl, ap, ◌∙◌, ⊎_elim, subst, arith, if◌then◌else◌, mod-eq_of_lt}
 use Rattle.std.specs.Prelude.{slice_get, ◌==◌, nat_lt}
 use Rattle.std.proofs.lemmas.Bool.{both_ways, and_parts, and_from, and_left, and_right, not-true, not_from_false, eqb-true, or_cases, true≢false}
@@ -7,13 +7,13 @@ use Rattle.ring_model.specs.declared.handshake.Handshake.{Handshake}
 use Rattle.ring_model.specs.declared.steps.ControlStep.{ControlStep}
 use Rattle.ring_model.specs.declared.steps.ControlStep.TheVariants.{AskEnable, LookAsked, Answer, LookAnswered, AskDisable}
 use Rattle.ring_model.specs.shared.Handshakes.{is_open, is_serving, is_ended, is_stopped, is_cleared, is_tailed, is_between, first_handshake, ask_enable, look_asked, look_answered, ask_disable, can_enable, can_disable, enable, disable, enables, may_shake, shaken}
-use Rattle.ring_model.specs.shared.QueueSteps.{Shake, ClearHead, ClearTail, Renew}
+use Rattle.ring_model.specs.shared.QueueSteps.{Head, Shake, ClearHead, ClearTail, Renew}
 use Rattle.ring_model.specs.shared.Queue.{Queue, opening, posted_count, served_count, returned_count, may, by}
 use Rattle.ring_model.specs.shared.Agreement.{Agrees, Wrapped}
 use Rattle.ring_model.proofs.shared.Kept.{IsKept}
 use Rattle.ring_model.proofs.shared.Shakes.{new_open, on_serving, stopped_answered, answered_closed, emptied_answered, cleared_emptied, tailed_emptied, shakes-enable, learned_open, serving_unended}
 use Rattle.ring_model.proofs.shared.Stepping.{shook, answered_unheld, answered_over}
-use Rattle.ring_machine.specs.shared.Moves.{after_shake, after_clear_head, after_clear_tail, after_renew, begun}
+use Rattle.ring_machine.specs.shared.Moves.{after_shake, after_clear_head, after_clear_tail, after_head, after_renew, begun}
 use Rattle.ring_machine.proofs.shared.Slots.{empty-begun}
 
 module _ {Posted Served Given : Type 0} (ends : Served → Bool) (says : ℕ → Option Posted → Option Served → ℕ) (lies : Option Posted → Option Served → Option ℕ) where
@@ -45,6 +45,22 @@ module _ {Posted Served Given : Type 0} (ends : Served → Bool) (says : ℕ →
 
     unbetween : is_serving q.handshake.controller ≡ true → is_between q.handshake ≡ false
     unbetween serving = and_left (is_ended q.handshake.controller) (is_open q.handshake.driver) (serving_unended q.handshake.controller serving)
+
+    pub fits-head : may q Head ≡ true → Agrees {Given = Given} ends says lies (after_head w) (by q Head)
+    fits-head may = let t = and_parts (is_serving q.handshake.controller) (not q.held) may in let i = a.items in record {
+      size_is = a.size_is;
+      head = a.serve (unbetween t.0);
+      tail = a.tail;
+      items = record { words = i.words; slots = i.slots };
+      empty = a.empty;
+      fill = a.fill;
+      next = a.next;
+      serve = a.serve;
+      known = a.known;
+      held = a.held;
+      whole = a.whole;
+      handshake = a.handshake;
+    }
 
     fits-answered : (on settled : Bool) → can_enable q.handshake ≡ on → (can_enable q.handshake || (can_disable q.handshake && settled)) ≡ true
         → Agrees {Given = Given} ends says lies (record w { serve = if on then 0 else w.serve; known = if on then 0 else w.known; handshake = if on then enable q.handshake else disable q.handshake })

@@ -1,6 +1,6 @@
 //! The arguments of moves, whose types keep their ranges.
 
-ghost use Rattle.std.specs.Prelude.{◌≡◌, ℕ, ◌<◌, ◌≤◌, ◌↔◌, IsSome, IfSome};
+ghost use Rattle.std.specs.Prelude.{◌≡◌, ◌^◌, ℕ, ◌<◌, ◌≤◌, ◌↔◌, IsSome, IfSome};
 ghost use Rattle.limits.specs.declared.profile.TheConstants.{BUFFER_BYTES, LEAST_FRAME, MOST_FRAME};
 
 use limits::{BUFFER_BYTES, LEAST_FRAME, MOST_FRAME};
@@ -135,7 +135,8 @@ impl Descriptor {
 
     // The second word of the descriptor (82599 datasheet, 7.2.3.2.4).
     pub(crate) fn word(&self) -> u64
-        ensures { result ≡ tx_word self.now.payload self.now.eop self.now.rs self.now.paylen }
+        ensures value { result ≡ tx_word self.now.payload self.now.eop self.now.rs self.now.paylen }
+        ensures short { self.now.payload < 2 ^ 16 }
     {
         let fixed = u64::from(self.len) + 0x30_0000 + 0x200_0000 + 0x2000_0000;
         let end = if self.eop { 0x100_0000 } else { 0 };
