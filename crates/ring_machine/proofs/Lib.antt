@@ -1,3 +1,6 @@
 pub mod shared
 pub mod receive
 pub mod transmit
+pub mod SideBySide
+pub mod QueuesRunning
+pub mod text

@@ -1,5 +1,6 @@
 pub mod MachineErrors
-pub mod Arguments
 pub mod shared
 pub mod receive
 pub mod transmit
+pub mod Queues
+pub mod text

@@ -1,10 +1,23 @@
-//! Queues as machines.
+//! Receive and transmit queues of the 82599 as pure machines: words and slots by place, and places that wrap.
+//!
+//! What a ring is, what each atomic step changes, and what every schedule of steps keeps stands in `ring_model`, whose
+//! types are passed on from here. A machine that agrees with a ring agrees, after any schedule, with the ring after that
+//! schedule; and so do queues side by side with their world. One core of places, words and slots serves both
+//! directions. Moves have one text each, which is printed and read back.
 #![tactic(auto)]
 
 mod error;
 mod machine;
 mod moves;
+mod queues;
 
 pub use error::MachineError;
+pub use limits::is_ring_length;
 pub use machine::{RxMachine, TxMachine};
 pub use moves::arguments::{Descriptor, SegmentLength};
+pub use moves::{Move, MoveName, QueueNumber};
+pub use queues::Queues;
+pub use ring_model::{
+    Completion, ControlStep, ControllerState, DriverState, FetchedSegment, Note, Owner, RxStep,
+    TakenSegment, TxStep,
+};

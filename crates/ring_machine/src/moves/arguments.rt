@@ -7,7 +7,7 @@ use limits::{BUFFER_BYTES, LEAST_FRAME, MOST_FRAME};
 use std::marker::Model;
 
 /// How many bytes a segment has: 1 to 2,048.
-#[derive(Clone, Copy, Debug, PartialEq, Eq)]
+#[derive(Clone, Copy, PartialEq, Eq)]
 pub struct SegmentLength {
     bytes: u16,
 }
@@ -47,7 +47,7 @@ impl SegmentLength {
 
 /// What a transmit descriptor is posted with: the buffer's number, 1 to 2,048 bytes, whether they end the frame,
 /// whether a report is asked for, at the end of a frame alone, and the frame's length, 14 to 15,000.
-#[derive(Clone, Copy, Debug, PartialEq, Eq)]
+#[derive(Clone, Copy, PartialEq, Eq)]
 pub struct Descriptor {
     number: u16,
     len: u16,
@@ -64,7 +64,7 @@ impl Model for Descriptor {
 
     ghost view = { λ d. record { number = d.number; payload = d.len; eop = d.eop; rs = d.rs; paylen = d.paylen } };
 
-    ghost use Rattle.ring_machine.specs.Arguments.{IsDescriptor};
+    ghost use Rattle.ring_machine.specs.text.Arguments.{IsDescriptor};
 
     ghost invariant = { λ d. IsDescriptor d.len d.eop d.rs d.paylen };
 
@@ -72,7 +72,7 @@ impl Model for Descriptor {
 }
 
 impl Descriptor {
-    ghost use Rattle.ring_machine.specs.Arguments.{IsDescriptor};
+    ghost use Rattle.ring_machine.specs.text.Arguments.{IsDescriptor};
     ghost use Rattle.ring_model.specs.transmit.Agreement.{tx_word};
 
     /// These values, if a descriptor may have them.

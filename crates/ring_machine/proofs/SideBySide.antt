@@ -1,0 +1,171 @@
+-- One machine of several makes a step: it goes on agreeing with its ring, and all others stay as they are.
+use Rattle.std.proofs.Common.{◌≡◌, ◌≢◌, ℕ, zero, suc, ◌+◌, ◌<◌, ◌≤◌, Bool, true, false, List, [], ◌∷◌, ◌++◌, length, replicate, Option, Some, None, sym, refl, ap, ◌∙◌, ⊎_elim, subst, arith, if◌then◌else◌, length-set}
+use Rattle.std.specs.Prelude.{Result, Ok, Err, IfErr, slice_get, slice_set}
+use Rattle.std.specs.Result.{is_err, is_ok}
+use Rattle.std.proofs.lemmas.Bool.{cases_eq, cases_lt}
+use Rattle.std.proofs.lemmas.Option.{none-some, same_Some, slice_get_within}
+use Rattle.ring_model.specs.declared.steps.RxStep.{RxStep}
+use Rattle.ring_model.specs.declared.steps.TxStep.{TxStep}
+use Rattle.ring_model.specs.declared.notes.Note.{Note}
+use Rattle.ring_model.specs.shared.Schedules.{next}
+use Rattle.ring_model.specs.receive.Ring.{RxRing}
+use Rattle.ring_model.specs.receive.Steps.{rx_can, rx_changed, rx_next, rx_note_of}
+use Rattle.ring_model.specs.transmit.Ring.{Posting, TxRing}
+use Rattle.ring_model.specs.transmit.Steps.{tx_can, tx_changed, tx_next, tx_note_of}
+use Rattle.ring_model.specs.Worlds.{World, can_at, note_at, put_next}
+use Rattle.ring_model.proofs.shared.Places.{slice_set-writes}
+use Rattle.ring_model.proofs.Apart.{reaches}
+use Rattle.ring_machine.specs.declared.error.MachineError.{MachineError}
+use Rattle.ring_machine.specs.declared.error.MachineError.TheVariants as refusal
+use Rattle.ring_machine.specs.declared.moves.Move.TheVariants.{Receive, Transmit}
+use Rattle.ring_machine.specs.shared.Following.{Did}
+use Rattle.ring_machine.specs.receive.Machine.{RxAgrees, RxFollows, RxParts}
+use Rattle.ring_machine.specs.transmit.Machine.{TxAgrees, TxFollows, TxParts}
+use Rattle.ring_machine.specs.Queues.{AllAgree, QueueParts, QueuesAgree, QueuesFollow}
+
+module _ {X : Type 0} where
+  -- to store what is there changes nothing
+  pub set_same : (xs : List X) (q : ℕ) (x : X) → slice_get xs q ≡ Some x → slice_set xs q x ≡ xs
+  set_same [] q x e = refl
+  set_same (y ∷ ys) zero x e = ap (λ z. z ∷ ys) (sym (same_Some y x e))
+  set_same (y ∷ ys) (suc q) x e = ap (λ zs. y ∷ zs) (set_same ys q x e)
+
+  get_set_other : (xs : List X) (p j : ℕ) (x : X) → j ≢ p → slice_get (slice_set xs p x) j ≡ slice_get xs j
+  get_set_other [] p j x ne = refl
+  get_set_other (y ∷ ys) zero zero x ne = absurd (ne refl)
+  get_set_other (y ∷ ys) zero (suc j) x ne = refl
+  get_set_other (y ∷ ys) (suc p) zero x ne = refl
+  get_set_other (y ∷ ys) (suc p) (suc j) x ne = get_set_other ys p j x (λ e. ne (ap suc e))
+
+  -- what lies where something was stored is that
+  stored_is : (xs : List X) (q : ℕ) (x y : X) → slice_get (slice_set xs q x) q ≡ Some y → x ≡ y
+  stored_is [] q x y e = absurd (none-some y e)
+  stored_is (z ∷ zs) zero x y e = same_Some x y e
+  stored_is (z ∷ zs) (suc q) x y e = stored_is zs q x y e
+
+  -- within the list something is found
+  found-within : (xs : List X) (q : ℕ) → q < length xs → slice_get xs q ≢ None
+  found-within [] q h e = absurd (omega arith)
+  found-within (x ∷ xs) zero h e = none-some x (sym e)
+  found-within (x ∷ xs) (suc q) h e = found-within xs q (omega arith) e
+
+-- what is not within the list is past its end
+pub past-end : (i len : ℕ) → (i < len → false ≡ true) → len ≤ i
+past-end i len no_way = ⊎_elim (λ lt. let bad = no_way lt in absurd (let never : ⊥ = cc bad in never)) (λ le. le) (cases_lt i len)
+
+module _ {A B : Type 0} (Agree : A → B → Type 0) where
+  pub none-agree : AllAgree Agree [] []
+  none-agree = record { lengths = refl; each = λ q x y e f. absurd (none-some x e) }
+
+  -- one pair more, at the front
+  front-agrees : (x : A) (y : B) (xs : List A) (ys : List B) → Agree x y → AllAgree Agree xs ys → AllAgree Agree (x ∷ xs) (y ∷ ys)
+  front-agrees x y xs ys h a = record { lengths = ap suc a.lengths; each = each }
+    where
+      each : (q : ℕ) (u : A) (v : B) → slice_get (x ∷ xs) q ≡ Some u → slice_get (y ∷ ys) q ≡ Some v → Agree u v
+      each zero u v e f = subst (λ z. Agree z v) (same_Some x u e) (subst (λ z. Agree x z) (same_Some y v f) h)
+      each (suc q) u v e f = a.each q u v e f
+
+  tail-agrees : (x : A) (y : B) (xs : List A) (ys : List B) → AllAgree Agree (x ∷ xs) (y ∷ ys) → AllAgree Agree xs ys
+  tail-agrees x y xs ys a = record { lengths = let e = a.lengths in omega arith; each = λ q u v e f. a.each (suc q) u v e f }
+
+  -- one machine more, beside as many as there are
+  one_more-agrees : (xs : List A) (y : B) (n : ℕ) (x : A) → AllAgree Agree xs (replicate n y) → Agree x y → AllAgree Agree (xs ++ x ∷ []) (replicate (suc n) y)
+  one_more-agrees [] y zero x a h = front-agrees x y [] [] h none-agree
+  one_more-agrees [] y (suc n) x a h = absurd (let e = a.lengths in let bad : ⊥ = cc e in bad)
+  one_more-agrees (z ∷ zs) y zero x a h = absurd (let e = a.lengths in let bad : ⊥ = cc e in bad)
+  one_more-agrees (z ∷ zs) y (suc n) x a h = front-agrees z y (zs ++ x ∷ []) (replicate (suc n) y) (a.each 0 z y refl refl) (one_more-agrees zs y n x (tail-agrees z y zs (replicate n y) a) h)
+
+  pub pushed-agrees : {Given Refused : Type 0} (xs : List A) (y : B) (n : ℕ) (x : A) (after : List A) (result : Result Given Refused) → after ≡ (if is_ok result then xs ++ x ∷ [] else xs) → false ≡ is_err result
+      → AllAgree Agree xs (replicate n y) → Agree x y → AllAgree Agree after (replicate (n + 1) y)
+  pushed-agrees xs y n x after (Ok given) e told a h = let longer : suc n ≡ n + 1 = omega arith in
+      subst (λ k. AllAgree Agree after (replicate k y)) longer (subst (λ zs. AllAgree Agree zs (replicate (suc n) y)) (sym e) (one_more-agrees xs y n x a h))
+  pushed-agrees xs y n x after (Err refused) e told a h = let bad : ⊥ = cc told in absurd bad
+
+  -- where one pair changes and still agrees
+  set-agrees : (xs : List A) (ys : List B) (q : ℕ) (x : A) (y : B) → AllAgree Agree xs ys → Agree x y → AllAgree Agree (slice_set xs q x) (slice_set ys q y)
+  set-agrees xs ys q x y a h = record {
+    lengths = length-set xs q x ∙ a.lengths ∙ sym (length-set ys q y);
+    each = λ k u v e f. ⊎_elim
+        (λ same. subst (λ z. Agree z v) (stored_is xs q x u (subst (λ j. slice_get (slice_set xs q x) j ≡ Some u) same e)) (subst (λ z. Agree x z) (stored_is ys q y v (subst (λ j. slice_get (slice_set ys q y) j ≡ Some v) same f)) h))
+        (λ ne. a.each k u v (sym (get_set_other xs q k x ne) ∙ e) (sym (get_set_other ys q k y ne) ∙ f))
+        (cases_eq k q);
+  }
+
+  -- a refusal leaves the list of machines as it was
+  kept-set : (xs : List A) (q : ℕ) (x y : A) → slice_get xs q ≡ Some x → y ≡ x → slice_set xs q y ≡ xs
+  kept-set xs q x y here e = ap (λ z. slice_set xs q z) e ∙ set_same xs q x here
+
+-- the receive queues with one stepped, beside the world with that ring stepped
+stepped-receive : (old : QueueParts) (w : World) (q : ℕ) (s : RxStep ℕ) (x y : RxParts) (r : RxRing ℕ) (result : Result Note MachineError) (happens : Bool) → rx_can r s ≡ happens → slice_get old.receive q ≡ Some x → QueuesAgree old w
+    → Did RxAgrees (if happens then Some (rx_note_of r s) else None) (if happens then rx_changed r s else r) result x y
+    → Did QueuesAgree (if happens then Some (rx_note_of r s) else None) (if happens then record w { receive = slice_set w.receive q (rx_next r s) } else w) result old (record old { receive = slice_set old.receive q y })
+stepped-receive old w q s x y r result true e here a d = record {
+  answer = d.answer;
+  agrees = record { receive = rw e (set-agrees RxAgrees old.receive w.receive q y (rx_changed r s) a.receive d.agrees); transmit = a.transmit };
+  kept = λ none. absurd (none-some (rx_note_of r s) (sym none));
+}
+stepped-receive old w q s x y r result false e here a d = let same = kept-set RxAgrees old.receive q x y here (d.kept refl) in record {
+  answer = d.answer;
+  agrees = rw same (record { receive = a.receive; transmit = a.transmit });
+  kept = λ none. ap (λ (xs : List RxParts). record old { receive = xs }) same;
+}
+
+put-receive : (old : QueueParts) (w : World) (q : ℕ) (s : RxStep ℕ) (x y : RxParts) (result : Result Note MachineError) (found : Option (RxRing ℕ)) → slice_get w.receive q ≡ found → slice_get old.receive q ≡ Some x → QueuesAgree old w
+    → ((r : RxRing ℕ) → found ≡ Some r → Did RxAgrees (if rx_can r s then Some (rx_note_of r s) else None) (rx_next r s) result x y)
+    → Did QueuesAgree (note_at rx_can rx_note_of found s) (if can_at rx_can found s then record w { receive = put_next rx_next w.receive q s found } else w) result old (record old { receive = slice_set old.receive q y })
+put-receive old w q s x y result None e here a did = let inside = slice_get_within old.receive q x here in let b = a.receive in let l = b.lengths in absurd (found-within w.receive q (omega arith) e)
+put-receive old w q s x y result (Some r) e here a did = stepped-receive old w q s x y r result (rx_can r s) refl here a (did r refl)
+
+pub receive-follows : (old : QueueParts) (q : ℕ) (s : RxStep ℕ) (x y : RxParts) (result : Result Note MachineError) → slice_get old.receive q ≡ Some x → RxFollows x s result y
+    → QueuesFollow old (Receive q s) result (record old { receive = slice_set old.receive q y })
+unfolding RxFollows QueuesFollow
+receive-follows old q s x y result here follows pairs n w e a = let b = a.receive in put-receive old w q s x y result (slice_get w.receive q) refl here a
+    (λ r at. follows n r ((reaches pairs n w e).receive q r at) (b.each q x r here at))
+
+-- a queue that is not there has no step
+no-receive : (old : QueueParts) (w : World) (q : ℕ) (s : RxStep ℕ) (found : Option (RxRing ℕ)) → slice_get w.receive q ≡ found → length old.receive ≤ q → QueuesAgree old w
+    → Did QueuesAgree (note_at rx_can rx_note_of found s) (if can_at rx_can found s then record w { receive = put_next rx_next w.receive q s found } else w) (Err refusal.NotEnabled) old old
+no-receive old w q s None e past a = record { answer = refl; agrees = a; kept = λ none. refl }
+no-receive old w q s (Some r) e past a = let inside = slice_get_within w.receive q r e in let b = a.receive in let l = b.lengths in absurd (omega arith)
+
+pub receive-missing : (old : QueueParts) (q : ℕ) (s : RxStep ℕ) → length old.receive ≤ q → QueuesFollow old (Receive q s) (Err refusal.NotEnabled) old
+unfolding QueuesFollow
+receive-missing old q s past pairs n w e a = no-receive old w q s (slice_get w.receive q) refl past a
+
+
+-- the transmit queues with one stepped, beside the world with that ring stepped
+stepped-transmit : (old : QueueParts) (w : World) (q : ℕ) (s : TxStep (Posting ℕ)) (x y : TxParts) (r : TxRing ℕ) (result : Result Note MachineError) (happens : Bool) → tx_can r s ≡ happens → slice_get old.transmit q ≡ Some x → QueuesAgree old w
+    → Did TxAgrees (if happens then Some (tx_note_of r s) else None) (if happens then tx_changed r s else r) result x y
+    → Did QueuesAgree (if happens then Some (tx_note_of r s) else None) (if happens then record w { transmit = slice_set w.transmit q (tx_next r s) } else w) result old (record old { transmit = slice_set old.transmit q y })
+stepped-transmit old w q s x y r result true e here a d = record {
+  answer = d.answer;
+  agrees = record { receive = a.receive; transmit = rw e (set-agrees TxAgrees old.transmit w.transmit q y (tx_changed r s) a.transmit d.agrees) };
+  kept = λ none. absurd (none-some (tx_note_of r s) (sym none));
+}
+stepped-transmit old w q s x y r result false e here a d = let same = kept-set TxAgrees old.transmit q x y here (d.kept refl) in record {
+  answer = d.answer;
+  agrees = rw same (record { receive = a.receive; transmit = a.transmit });
+  kept = λ none. ap (λ (xs : List TxParts). record old { transmit = xs }) same;
+}
+
+put-transmit : (old : QueueParts) (w : World) (q : ℕ) (s : TxStep (Posting ℕ)) (x y : TxParts) (result : Result Note MachineError) (found : Option (TxRing ℕ)) → slice_get w.transmit q ≡ found → slice_get old.transmit q ≡ Some x → QueuesAgree old w
+    → ((r : TxRing ℕ) → found ≡ Some r → Did TxAgrees (if tx_can r s then Some (tx_note_of r s) else None) (tx_next r s) result x y)
+    → Did QueuesAgree (note_at tx_can tx_note_of found s) (if can_at tx_can found s then record w { transmit = put_next tx_next w.transmit q s found } else w) result old (record old { transmit = slice_set old.transmit q y })
+put-transmit old w q s x y result None e here a did = let inside = slice_get_within old.transmit q x here in let b = a.transmit in let l = b.lengths in absurd (found-within w.transmit q (omega arith) e)
+put-transmit old w q s x y result (Some r) e here a did = stepped-transmit old w q s x y r result (tx_can r s) refl here a (did r refl)
+
+pub transmit-follows : (old : QueueParts) (q : ℕ) (s : TxStep (Posting ℕ)) (x y : TxParts) (result : Result Note MachineError) → slice_get old.transmit q ≡ Some x → TxFollows x s result y
+    → QueuesFollow old (Transmit q s) result (record old { transmit = slice_set old.transmit q y })
+unfolding TxFollows QueuesFollow
+transmit-follows old q s x y result here follows pairs n w e a = let b = a.transmit in put-transmit old w q s x y result (slice_get w.transmit q) refl here a
+    (λ r at. follows n r ((reaches pairs n w e).transmit q r at) (b.each q x r here at))
+
+-- a queue that is not there has no step
+no-transmit : (old : QueueParts) (w : World) (q : ℕ) (s : TxStep (Posting ℕ)) (found : Option (TxRing ℕ)) → slice_get w.transmit q ≡ found → length old.transmit ≤ q → QueuesAgree old w
+    → Did QueuesAgree (note_at tx_can tx_note_of found s) (if can_at tx_can found s then record w { transmit = put_next tx_next w.transmit q s found } else w) (Err refusal.NotEnabled) old old
+no-transmit old w q s None e past a = record { answer = refl; agrees = a; kept = λ none. refl }
+no-transmit old w q s (Some r) e past a = let inside = slice_get_within w.transmit q r e in let b = a.transmit in let l = b.lengths in absurd (omega arith)
+
+pub transmit-missing : (old : QueueParts) (q : ℕ) (s : TxStep (Posting ℕ)) → length old.transmit ≤ q → QueuesFollow old (Transmit q s) (Err refusal.NotEnabled) old
+unfolding QueuesFollow
+transmit-missing old q s past pairs n w e a = no-transmit old w q s (slice_get w.transmit q) refl past a

@@ -1,0 +1,199 @@
+//! Several queues side by side: the receive and the transmit queues of one port.
+
+ghost use Rattle.std.specs.Prelude.{◌≡◌, ◌≤◌, ◌↔◌, ◌⊎◌, [], ◌∷◌, IfOk, IfErr, option_map, replicate, slice_get};
+ghost use Rattle.ring_machine.specs.declared.error.MachineError.TheVariants.{Memory, NotEnabled, RingLength};
+ghost use Rattle.ring_machine.specs.declared.moves.Move.TheVariants as queue_move;
+ghost use Rattle.limits.specs.RingLength.{IsRingLength};
+ghost use Rattle.ring_model.specs.declared.states.Completion.TheVariants as by;
+ghost use Rattle.ring_model.specs.Worlds.{opening_world};
+ghost use Rattle.ring_model.specs.receive.Ring.{rx_opening};
+ghost use Rattle.ring_model.specs.transmit.Ring.{tx_opening};
+ghost use Rattle.ring_machine.specs.receive.Machine.{RxAgrees};
+ghost use Rattle.ring_machine.specs.transmit.Machine.{TxAgrees};
+ghost use Rattle.ring_machine.specs.Queues.{AllAgree, AreQueues, QueuesAgree, QueuesFollow, QueuesRun};
+
+use crate::error::MachineError;
+use crate::machine::{RxMachine, TxMachine};
+use crate::moves::arguments::{Descriptor, SegmentLength};
+use crate::moves::{Move, QueueNumber};
+use limits::{MOST_PAIRS, is_ring_length};
+use ring_model::{Completion, Note, RxStep, TxStep};
+use std::alloc::Global;
+use std::marker::Model;
+
+/// Receive and transmit queues, each numbered from 0. A move names one of them and leaves all others alone.
+#[derive(Drop)]
+pub struct Queues {
+    receive: Vec<RxMachine>,
+    transmit: Vec<TxMachine>,
+}
+
+impl Model for Queues {
+    ghost use Rattle.ring_machine.specs.Queues.{queue_parts_of, QueueParts};
+
+    ghost Value = { QueueParts };
+
+    ghost view = { queue_parts_of };
+}
+
+// So many receive queues as they are made.
+fn receive_queues(
+    alloc: Global,
+    pairs: usize,
+    n: usize,
+    enabled: bool,
+) -> Result<Vec<RxMachine>, MachineError>
+    requires { IsRingLength n }
+    ensures error { IfErr result (λ e. e ≡ Memory) }
+    ensures made { IfOk result (λ made. AllAgree RxAgrees made.items (replicate pairs (rx_opening n enabled))) }
+{
+    let mut queues = Vec::new(alloc);
+    for _ in 0..pairs {
+        let queue = RxMachine::new(alloc, n, enabled)?;
+        if queues.push(queue).is_err() {
+            return Err(MachineError::Memory);
+        }
+    }
+    Ok(queues)
+}
+
+// So many transmit queues as they are made.
+fn transmit_queues(
+    alloc: Global,
+    pairs: usize,
+    n: usize,
+    enabled: bool,
+    completion: Completion,
+) -> Result<Vec<TxMachine>, MachineError>
+    requires { IsRingLength n }
+    ensures error { IfErr result (λ e. e ≡ Memory) }
+    ensures made { IfOk result (λ made. AllAgree TxAgrees made.items (replicate pairs (tx_opening n (record { enabled = enabled; completion = completion })))) }
+{
+    let mut queues = Vec::new(alloc);
+    for _ in 0..pairs {
+        let queue = TxMachine::new_with(alloc, n, enabled, completion)?;
+        if queues.push(queue).is_err() {
+            return Err(MachineError::Memory);
+        }
+    }
+    Ok(queues)
+}
+
+impl Queues {
+    /// So many pairs of a receive and a transmit queue, 1 to 8, each of `n` descriptors, with nothing posted, enabled
+    /// and seen enabled or never enabled; the transmit queues report by their descriptors. It answers `RingLength`
+    /// where there may not be so many or `n` is no power of two from 8 to 4,096, and `Memory` only where memory was
+    /// refused.
+    pub fn new(alloc: Global, pairs: usize, n: usize, enabled: bool) -> Result<Queues, MachineError>
+        ensures refused { (result ≡ Err RingLength) ↔ ¬ (AreQueues pairs n) }
+        ensures error { IfErr result (λ e. (e ≡ RingLength) ⊎ (e ≡ Memory)) }
+        ensures made { IfOk result (λ q. QueuesAgree q (opening_world pairs n (record { enabled = enabled; completion = by.Status }))) }
+    {
+        Queues::new_with(alloc, pairs, n, enabled, Completion::Status)
+    }
+
+    /// The same queues, whose transmit queues report as they are told.
+    pub fn new_with(
+        alloc: Global,
+        pairs: usize,
+        n: usize,
+        enabled: bool,
+        completion: Completion,
+    ) -> Result<Queues, MachineError>
+        ensures refused { (result ≡ Err RingLength) ↔ ¬ (AreQueues pairs n) }
+        ensures error { IfErr result (λ e. (e ≡ RingLength) ⊎ (e ≡ Memory)) }
+        ensures made { IfOk result (λ q. QueuesAgree q (opening_world pairs n (record { enabled = enabled; completion = completion }))) }
+    {
+        if pairs < 1 || pairs > MOST_PAIRS || !is_ring_length(n) {
+            return Err(MachineError::RingLength);
+        }
+        let receive = receive_queues(alloc, pairs, n, enabled)?;
+        let transmit = transmit_queues(alloc, pairs, n, enabled, completion)?;
+        Ok(Queues { receive, transmit })
+    }
+
+    /// The receive queue of this number, if it is there.
+    pub fn receive(&self, queue: QueueNumber) -> Option<&RxMachine>
+        ensures { option_map (λ m. m.now) result ≡ slice_get self.now.receive queue }
+    {
+        self.receive.get(usize::from(queue.number()))
+    }
+
+    /// The transmit queue of this number, if it is there.
+    pub fn transmit(&self, queue: QueueNumber) -> Option<&TxMachine>
+        ensures { option_map (λ m. m.now) result ≡ slice_get self.now.transmit queue }
+    {
+        self.transmit.get(usize::from(queue.number()))
+    }
+
+    // The step of a receive queue, or 11 where it does not have it or is not there.
+    fn receive_step(
+        &mut self,
+        queue: QueueNumber,
+        step: &RxStep<SegmentLength>,
+    ) -> Result<Note, MachineError>
+        ensures follows { QueuesFollow self.old (queue_move.Receive queue step.now) result self.new }
+        ensures refused { IfErr result (λ e. (e ≡ NotEnabled) × (self.new ≡ self.old)) }
+    {
+        let Some(machine) = self.receive.get_mut(usize::from(queue.number())) else {
+            return Err(MachineError::NotEnabled);
+        };
+        machine.step_by(step)
+    }
+
+    // The step of a transmit queue, or 11 where it does not have it or is not there.
+    fn transmit_step(
+        &mut self,
+        queue: QueueNumber,
+        step: &TxStep<Descriptor>,
+    ) -> Result<Note, MachineError>
+        ensures follows { QueuesFollow self.old (queue_move.Transmit queue step.now) result self.new }
+        ensures refused { IfErr result (λ e. (e ≡ NotEnabled) × (self.new ≡ self.old)) }
+    {
+        let Some(machine) = self.transmit.get_mut(usize::from(queue.number())) else {
+            return Err(MachineError::NotEnabled);
+        };
+        machine.step_by(step)
+    }
+
+    fn step_by(&mut self, action: &Move) -> Result<Note, MachineError>
+        ensures follows { QueuesFollow self.old action.now result self.new }
+        ensures refused { IfErr result (λ e. (e ≡ NotEnabled) × (self.new ≡ self.old)) }
+    {
+        match action {
+            Move::Receive(queue, step) => self.receive_step(*queue, step),
+            Move::Transmit(queue, step) => self.transmit_step(*queue, step),
+        }
+    }
+
+    // How many moves of this one are made: one or none.
+    fn tried(&mut self, action: &Move) -> usize
+        ensures runs { QueuesRun self.old (action.now ∷ []) result self.new }
+        ensures one { result ≤ 1 }
+    {
+        match self.step_by(action) {
+            Ok(_) => 1,
+            Err(_) => 0,
+        }
+    }
+
+    /// Makes one move. Where its queue has no such step, or is not there, it answers `NotEnabled`. An `Err` leaves the
+    /// queues as they were.
+    pub fn step(&mut self, action: Move) -> Result<Note, MachineError>
+        ensures follows { QueuesFollow self.old action result self.new }
+        ensures refused { IfErr result (λ e. (e ≡ NotEnabled) × (self.new ≡ self.old)) }
+    {
+        self.step_by(&action)
+    }
+
+    /// Makes each move that its queue has when its turn comes, passes over the others, and answers how many it made.
+    pub fn run(&mut self, moves: &[Move]) -> usize
+        ensures { QueuesRun self.old moves.now result self.new }
+    {
+        let mut made = 0;
+        for action in moves {
+            made += self.tried(action);
+        }
+        made
+    }
+}
