@@ -1,19 +1,17 @@
 -- One machine of several makes a step: it goes on agreeing with its ring, and all others stay as they are.
 use Rattle.std.proofs.Common.{◌≡◌, ◌≢◌, ℕ, zero, suc, ◌+◌, ◌<◌, ◌≤◌, Bool, true, false, List, [], ◌∷◌, ◌++◌, length, replicate, Option, Some, None, sym, refl, ap, ◌∙◌, ⊎_elim, subst, arith, if◌then◌else◌, length-set}
-use Rattle.std.specs.Prelude.{Result, Ok, Err, IfErr, slice_get, slice_set}
+use Rattle.std.specs.Prelude.{Result, Ok, Err, slice_get, slice_set}
 use Rattle.std.specs.Result.{is_err, is_ok}
 use Rattle.std.proofs.lemmas.Bool.{cases_eq, cases_lt}
 use Rattle.std.proofs.lemmas.Option.{none-some, same_Some, slice_get_within}
 use Rattle.ring_model.specs.declared.steps.RxStep.{RxStep}
 use Rattle.ring_model.specs.declared.steps.TxStep.{TxStep}
 use Rattle.ring_model.specs.declared.notes.Note.{Note}
-use Rattle.ring_model.specs.shared.Schedules.{next}
 use Rattle.ring_model.specs.receive.Ring.{RxRing}
 use Rattle.ring_model.specs.receive.Steps.{rx_can, rx_changed, rx_next, rx_note_of}
 use Rattle.ring_model.specs.transmit.Ring.{Posting, TxRing}
 use Rattle.ring_model.specs.transmit.Steps.{tx_can, tx_changed, tx_next, tx_note_of}
 use Rattle.ring_model.specs.Worlds.{World, can_at, note_at, put_next}
-use Rattle.ring_model.proofs.shared.Places.{slice_set-writes}
 use Rattle.ring_model.proofs.Apart.{reaches}
 use Rattle.ring_machine.specs.declared.error.MachineError.{MachineError}
 use Rattle.ring_machine.specs.declared.error.MachineError.TheVariants as refusal
@@ -131,7 +129,6 @@ no-receive old w q s (Some r) e past a = let inside = slice_get_within w.receive
 pub receive-missing : (old : QueueParts) (q : ℕ) (s : RxStep ℕ) → length old.receive ≤ q → QueuesFollow old (Receive q s) (Err refusal.NotEnabled) old
 unfolding QueuesFollow
 receive-missing old q s past pairs n w e a = no-receive old w q s (slice_get w.receive q) refl past a
-
 
 -- the transmit queues with one stepped, beside the world with that ring stepped
 stepped-transmit : (old : QueueParts) (w : World) (q : ℕ) (s : TxStep (Posting ℕ)) (x y : TxParts) (r : TxRing ℕ) (result : Result Note MachineError) (happens : Bool) → tx_can r s ≡ happens → slice_get old.transmit q ≡ Some x → QueuesAgree old w

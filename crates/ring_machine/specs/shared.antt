@@ -1,4 +1,3 @@
 pub mod Machine
 pub mod Moves
 pub mod Following
-

@@ -8,10 +8,9 @@ mod fields;
 mod printing;
 mod reading;
 
-pub use printing::MoveName;
-
 use arguments::{Descriptor, SegmentLength};
 use limits::MOST_PAIRS;
+pub use printing::MoveName;
 use ring_model::{RxStep, TxStep};
 use std::marker::Model;
 

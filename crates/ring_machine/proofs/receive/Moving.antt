@@ -1,7 +1,7 @@
 -- Each move of a receive machine takes it to what agrees with the ring after the step.
-use Rattle.std.proofs.Common.{◌≡◌, ℕ, ◌%◌, ◌<◌, Bool, true, false, not, ◌&&◌, length, Option, Some, None, sym, refl, ap, ◌∙◌, subst, arith, mod-lt}
-use Rattle.std.specs.Prelude.{slice_get, slice_index, nat_lt}
-use Rattle.std.proofs.lemmas.Bool.{and_parts, ltb-true, lt-ltb, and_from}
+use Rattle.std.proofs.Common.{◌≡◌, ℕ, ◌<◌, Bool, true, not, ◌&&◌, length, Option, Some, None, refl, ap, ◌∙◌, arith}
+use Rattle.std.specs.Prelude.{slice_index, nat_lt}
+use Rattle.std.proofs.lemmas.Bool.{and_parts, lt-ltb, and_from}
 use Rattle.std.proofs.lemmas.Option.{slice_get_within}
 use Rattle.ring_model.specs.declared.handshake.Handshake.{Handshake}
 use Rattle.ring_model.specs.declared.steps.ControlStep.{ControlStep}
@@ -9,7 +9,7 @@ use Rattle.ring_model.specs.declared.steps.RxStep.{RxStep}
 use Rattle.ring_model.specs.declared.steps.RxStep.TheVariants.{Post, Publish, Look, Fetch, Store, Take, Head, Control, Reclaim, StoreQuiet, LoadQuiet, ClearHead, ClearTail, ClearQuiet}
 use Rattle.ring_model.specs.shared.Handshakes.{enables, is_live}
 use Rattle.ring_model.specs.shared.QueueSteps as queue
-use Rattle.ring_model.specs.shared.Queue.{Queue, served_count, given_count, posted_count, returned_count, may, by}
+use Rattle.ring_model.specs.shared.Queue.{served_count, given_count, posted_count, returned_count, may, by}
 use Rattle.ring_model.specs.shared.Agreement.{Agrees, Wrapped}
 use Rattle.ring_model.specs.receive.Ring.{Segment, RxRing, RxQueue, due, ends_segment, next_segment}
 use Rattle.ring_model.specs.receive.Steps.{rx_can, rx_changed, rx_settled, took}
@@ -18,12 +18,12 @@ use Rattle.ring_model.proofs.receive.Kept.{IsRxKept}
 use Rattle.ring_machine.specs.shared.Machine.{IsSound}
 use Rattle.ring_machine.specs.shared.Moves.{after_out}
 use Rattle.ring_machine.specs.receive.Machine.{RxAgrees, RxParts, lies_rx, says_rx}
-use Rattle.ring_machine.specs.receive.Moves.{next_slot, next_word, has_dd, rx_moved}
+use Rattle.ring_machine.specs.receive.Moves.{next_slot, rx_moved}
 use Rattle.ring_machine.proofs.shared.Snoc.{found}
 use Rattle.ring_machine.proofs.shared.Slots.{put-here}
 use Rattle.ring_machine.proofs.shared.Fitting as fit
 use Rattle.ring_machine.proofs.shared.Shaking as shake
-use Rattle.ring_machine.proofs.receive.Telling.{dd_set, due_word, fetched_slot, held_is, itself, named, reclaimed_slot, taken_slot}
+use Rattle.ring_machine.proofs.receive.Telling.{dd_set, due_word, fetched_slot, held_is, reclaimed_slot, taken_slot}
 use Rattle.ring_model.proofs.shared.Stepping.{held_below}
 
 module _ (p : RxParts) (r : RxRing ℕ) (k : IsRxKept ℕ r.size r) (a : RxAgrees p r) (sound : IsSound p.queue) where

@@ -1,12 +1,11 @@
 -- A receive machine follows its ring, step by step and through every schedule.
-use Rattle.std.proofs.Common.{◌≡◌, ℕ, ◌+◌, ◌<◌, Bool, true, false, List, [], ◌∷◌, ◌++◌, Option, Some, None, sym, refl, ap, ◌∙◌, subst, arith, if◌then◌else◌}
+use Rattle.std.proofs.Common.{◌≡◌, ℕ, ◌+◌, ◌<◌, Bool, true, false, List, [], ◌∷◌, ◌++◌, Option, Some, None, sym, refl, ◌∙◌, subst, arith}
 use Rattle.std.specs.Prelude.{Ok, Err}
 use Rattle.ring_model.specs.declared.steps.RxStep.{RxStep}
 use Rattle.ring_model.specs.declared.steps.RxStep.TheVariants.{Post, Publish, Look, Fetch, Store, Take, Head, Control, Reclaim, StoreQuiet, LoadQuiet, ClearHead, ClearTail, ClearQuiet}
 use Rattle.ring_model.specs.declared.notes.Note.{Note}
-use Rattle.ring_model.specs.shared.QueueSteps as queue
-use Rattle.ring_model.specs.receive.Ring.{Segment, RxRing, due, ends_segment, next_segment, rx_opening}
-use Rattle.ring_model.specs.receive.Steps.{IsRxReachable, rx_after_all, rx_can, rx_changed, rx_note_of, rx_settled, took}
+use Rattle.ring_model.specs.receive.Ring.{Segment, RxRing, due, ends_segment, rx_opening}
+use Rattle.ring_model.specs.receive.Steps.{IsRxReachable, rx_can, rx_changed, rx_note_of, took}
 use Rattle.ring_model.proofs.shared.Reaching.{kept-reached, reached-more}
 use Rattle.ring_model.proofs.receive.Kept.{IsRxKept}
 use Rattle.ring_model.proofs.receive.Reached.{rx_kept}
@@ -16,8 +15,7 @@ use Rattle.ring_machine.specs.shared.Machine.{IsSound}
 use Rattle.ring_machine.specs.shared.Moves.{told_owner}
 use Rattle.ring_machine.specs.receive.Machine.{RxAgrees, RxFollows, RxOwns, RxParts, RxRuns, lies_rx, says_rx}
 use Rattle.ring_machine.specs.receive.Moves.{rx_begun, rx_may, rx_moved, rx_told}
-
-use Rattle.ring_machine.proofs.shared.Running.{by-size, did-made, did-refused, runs-append, runs-nil, runs-none, runs-one}
+use Rattle.ring_machine.proofs.shared.Running.{did-made, did-refused, runs-append, runs-nil, runs-none, runs-one}
 use Rattle.ring_machine.proofs.shared.Shaking.{fits-begun}
 use Rattle.ring_machine.proofs.shared.Owning.{owns}
 use Rattle.ring_machine.proofs.receive.Telling.{itself, named, rx_may_is, rx_told_is}

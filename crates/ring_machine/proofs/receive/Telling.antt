@@ -1,5 +1,5 @@
 -- What a receive machine tells from its places and words is what its ring tells: whether a step can happen, and the note.
-use Rattle.std.proofs.Common.{◌≡◌, ℕ, ◌+◌, ◌/◌, ◌%◌, ◌^◌, ◌<◌, ◌≤◌, Bool, true, false, not, ◌&&◌, Option, Some, None, sym, refl, ap, ◌∙◌, arith}
+use Rattle.std.proofs.Common.{◌≡◌, ℕ, ◌/◌, ◌%◌, ◌^◌, ◌<◌, Bool, true, false, not, ◌&&◌, Option, Some, None, sym, refl, ap, ◌∙◌, arith}
 use Rattle.std.specs.Prelude.{slice_get, slice_index, ◌==◌, nat_lt, Ok}
 use Rattle.std.proofs.lemmas.Bool.{and_parts, and_right, ltb-true, eq-eqb, ne_eqb}
 use Rattle.std.proofs.lemmas.Option.{slice_get_within, get_or_from_slice_get}

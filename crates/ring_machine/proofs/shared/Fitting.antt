@@ -1,28 +1,23 @@
 -- Each step that both directions share takes a machine's queue to one that agrees with the queue after the step.
-use Rattle.std.proofs.Common.{◌≡◌, ◌≢◌, ℕ, ◌+◌, ◌-◌, ◌%◌, ◌<◌, ◌≤◌, Bool, true, false, not, ◌&&◌, ◌||◌, List, [], ◌∷◌, ◌++◌, length, replicate, Option, Some, None, sym, refl, ap, ◌∙◌, ⊎_elim, subst, arith, if◌then◌else◌, mod-lt, length-append, mod-eq_of_lt}
+use Rattle.std.proofs.Common.{◌≡◌, ◌≢◌, ℕ, ◌+◌, ◌-◌, ◌%◌, ◌<◌, ◌≤◌, Bool, true, false, not, ◌&&◌, [], ◌∷◌, ◌++◌, length, Option, Some, None, sym, refl, ap, ◌∙◌, subst, arith, if◌then◌else◌, mod-lt, length-append}
 use Rattle.std.specs.Prelude.{slice_get, slice_index, slice_set, ◌==◌, nat_lt}
-use Rattle.std.proofs.lemmas.Bool.{both_ways, and_parts, and_left, and_right, not-true, ltb-true, eqb-true, eq-eqb, ne_eqb, true≢false}
+use Rattle.std.proofs.lemmas.Bool.{and_parts, and_left, and_right, not-true, ltb-true, eq-eqb, ne_eqb}
 use Rattle.ring_model.specs.declared.states.Owner.{Owner}
 use Rattle.ring_model.specs.declared.states.Owner.TheVariants.{Driver, Ring, Controller}
-use Rattle.ring_model.specs.declared.states.DriverState.TheVariants.{New, Cleared, Tailed}
-use Rattle.ring_model.specs.declared.handshake.Handshake.{Handshake}
-use Rattle.ring_model.specs.declared.steps.ControlStep.{ControlStep}
-use Rattle.ring_model.specs.declared.steps.ControlStep.TheVariants.{AskEnable, LookAsked, Answer, LookAnswered, AskDisable}
 use Rattle.ring_model.specs.shared.Lists.{EachItem, slot_at}
-use Rattle.ring_model.specs.shared.Frames.{ends_frame}
-use Rattle.ring_model.specs.shared.Handshakes.{is_open, is_live, is_serving, is_ended, is_new, is_on, is_stopped, is_cleared, is_tailed, is_between, can_enable, can_disable, enable, disable, enables, may_shake, shaken, has_ended}
-use Rattle.ring_model.specs.shared.QueueSteps.{Post, Publish, Look, Fetch, Serve, Head, Give, Shake, Reclaim, ClearHead, ClearTail, Renew}
-use Rattle.ring_model.specs.shared.Queue.{Queue, opening, posted_count, served_count, given_count, returned_count, may, by}
-use Rattle.ring_model.specs.shared.Agreement.{Agrees, HasItems, Wrapped, held_buffer, wanted_slot, wanted_word}
+use Rattle.ring_model.specs.shared.Handshakes.{is_open, is_live, is_serving, is_ended, is_stopped}
+use Rattle.ring_model.specs.shared.QueueSteps.{Post, Publish, Look, Fetch, Serve, Give, Reclaim}
+use Rattle.ring_model.specs.shared.Queue.{Queue, posted_count, served_count, given_count, returned_count, may, by}
+use Rattle.ring_model.specs.shared.Agreement.{Agrees, HasItems, Wrapped, wanted_slot, wanted_word}
 use Rattle.ring_model.proofs.shared.Beginnings.{slice_get-front}
 use Rattle.ring_model.proofs.shared.Places.{Writes, next_place, each_item-set, each_item-push, each_item-drop}
 use Rattle.ring_model.proofs.shared.Kept.{IsKept}
-use Rattle.ring_model.proofs.shared.Shakes.{new_open, on_serving, stopped_answered, answered_closed, emptied_answered, cleared_emptied, tailed_emptied, answered_ended, shakes-enable, learned_open, live_unanswered, serving_unended}
-use Rattle.ring_model.proofs.shared.Stepping.{shook, held_below, answered_unheld, answered_over, returned_served}
+use Rattle.ring_model.proofs.shared.Shakes.{live_unanswered, serving_unended}
+use Rattle.ring_model.proofs.shared.Stepping.{held_below, returned_served}
 use Rattle.ring_machine.specs.shared.Machine.{IsSound}
-use Rattle.ring_machine.specs.shared.Moves.{place_next, word_put, after_post, after_publish, after_look, after_fetch, after_serve, after_head, after_out, after_shake, after_clear_head, after_clear_tail, after_renew, begun}
+use Rattle.ring_machine.specs.shared.Moves.{place_next, word_put, after_post, after_publish, after_look, after_fetch, after_serve, after_out}
 use Rattle.ring_machine.proofs.shared.Snoc.{snoc_end, snoc_rest, past_end, ends_frame-snoc}
-use Rattle.ring_machine.proofs.shared.Slots.{slot-writes, put-writes, put-here, empty-write, empty-begun, none_to-ring, none_to-controller}
+use Rattle.ring_machine.proofs.shared.Slots.{slot-writes, put-writes, put-here, empty-write, none_to-ring}
 
 module _ {Posted Served Given : Type 0} (ends : Served → Bool) (says : ℕ → Option Posted → Option Served → ℕ) (lies : Option Posted → Option Served → Option ℕ) where
   module _ (w : Wrapped ℕ) (q : Queue Posted Served Given) (k : IsKept q.size ends q) (a : Agrees {Given = Given} ends says lies w q) (sound : IsSound w) where

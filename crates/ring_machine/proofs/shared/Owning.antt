@@ -11,8 +11,7 @@ use Rattle.ring_model.specs.shared.Agreement.{Agrees, Wrapped}
 use Rattle.ring_model.proofs.shared.Places.{ahead}
 use Rattle.ring_model.proofs.shared.Kept.{IsKept}
 use Rattle.ring_model.proofs.shared.Stepping.{held_below, returned_served}
-use Rattle.ring_machine.specs.shared.Machine.{IsSound}
-use Rattle.ring_machine.specs.shared.Moves.{between_places, told_owner}
+use Rattle.ring_machine.specs.shared.Moves.{told_owner}
 use Rattle.ring_machine.proofs.shared.PlaceTests.{and_same}
 use Rattle.ring_machine.proofs.shared.Telling.{AreNamed, held_serve_is, held_told, not_not}
 

@@ -1,12 +1,12 @@
 -- The head, the handshake, clearing and renewal take a machine's queue to one that agrees with the queue after the step; and so does the making.
-use Rattle.std.proofs.Common.{◌≡◌, ℕ, ◌+◌, ◌%◌, ◌<◌, ◌≤◌, Bool, true, false, not, ◌&&◌, ◌||◌, List, [], ◌∷◌, Option, Some, None, sym, refl, ap, ◌∙◌, ⊎_elim, subst, arith, if◌then◌else◌, mod-eq_of_lt}
-use Rattle.std.specs.Prelude.{slice_get, ◌==◌, nat_lt}
+use Rattle.std.proofs.Common.{◌≡◌, ℕ, ◌%◌, ◌<◌, Bool, true, false, not, ◌&&◌, ◌||◌, [], Option, None, sym, refl, ap, ◌∙◌, ⊎_elim, subst, arith, if◌then◌else◌, mod-eq_of_lt}
+use Rattle.std.specs.Prelude.{slice_get, ◌==◌}
 use Rattle.std.proofs.lemmas.Bool.{both_ways, and_parts, and_from, and_left, and_right, not-true, not_from_false, eqb-true, or_cases, true≢false}
 use Rattle.ring_model.specs.declared.states.DriverState.TheVariants.{New, Cleared, Tailed}
 use Rattle.ring_model.specs.declared.handshake.Handshake.{Handshake}
 use Rattle.ring_model.specs.declared.steps.ControlStep.{ControlStep}
 use Rattle.ring_model.specs.declared.steps.ControlStep.TheVariants.{AskEnable, LookAsked, Answer, LookAnswered, AskDisable}
-use Rattle.ring_model.specs.shared.Handshakes.{is_open, is_serving, is_ended, is_stopped, is_cleared, is_tailed, is_between, first_handshake, ask_enable, look_asked, look_answered, ask_disable, can_enable, can_disable, enable, disable, enables, may_shake, shaken}
+use Rattle.ring_model.specs.shared.Handshakes.{is_open, is_serving, is_ended, is_stopped, is_between, ask_enable, look_asked, look_answered, ask_disable, can_enable, can_disable, enable, disable, enables, may_shake, shaken}
 use Rattle.ring_model.specs.shared.QueueSteps.{Head, Shake, ClearHead, ClearTail, Renew}
 use Rattle.ring_model.specs.shared.Queue.{Queue, opening, posted_count, served_count, returned_count, may, by}
 use Rattle.ring_model.specs.shared.Agreement.{Agrees, Wrapped}
@@ -64,7 +64,7 @@ module _ {Posted Served Given : Type 0} (ends : Served → Bool) (says : ℕ →
 
     fits-answered : (on settled : Bool) → can_enable q.handshake ≡ on → (can_enable q.handshake || (can_disable q.handshake && settled)) ≡ true
         → Agrees {Given = Given} ends says lies (record w { serve = if on then 0 else w.serve; known = if on then 0 else w.known; handshake = if on then enable q.handshake else disable q.handshake })
-            (record q { known = if on then 0 else q.known; handshake = if on then enable q.handshake else disable q.handshake })
+        (record q { known = if on then 0 else q.known; handshake = if on then enable q.handshake else disable q.handshake })
     fits-answered true settled e may = let h = q.handshake in let t = and_parts (h.seen == 1) (not (is_serving h.controller)) e in let o = k.order in
         let s = shakes-enable h.driver h.controller h.control h.seen (eqb-true h.seen 1 t.0) (shook q.size ends q k) in let none = o.none_served (not-true (is_serving h.controller) t.1) s.1 in
         fits-shaken 0 0 0 (enable h) (enable h) refl (λ e. sym (ap (λ (j : ℕ). j % q.size) none ∙ mod-eq_of_lt pos)) (λ e. sym (mod-eq_of_lt pos))

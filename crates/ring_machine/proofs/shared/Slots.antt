@@ -42,7 +42,7 @@ pub empty-write : (owners : List Owner) (slots : List (Option ℕ)) (n i : ℕ) 
 empty-write owners slots n i who b ho hs below none empty place mine = let o = slice_set-writes owners i who (omega arith) in let s = slot-writes slots n i b hs below in
     let inside = slice_get_within (slice_set owners i who) place Driver mine in let len = length-set owners i who in ⊎_elim
     (λ same. let it : who ≡ Driver = same_Some who Driver (sym o.here ∙ ap (λ (j : ℕ). slice_get (slice_set owners i who) j) (sym same) ∙ mine) in
-        ap (λ (j : ℕ). slot_at (slice_set slots i b) j) same ∙ s.here ∙ none it)
+    ap (λ (j : ℕ). slot_at (slice_set slots i b) j) same ∙ s.here ∙ none it)
     (λ ne. s.rest place (omega arith) ne ∙ empty place (sym (o.rest place (omega arith) ne) ∙ mine))
     (cases_eq place i)
 

@@ -1,5 +1,5 @@
 -- What the words of transmit descriptors tell of what was posted.
-use Rattle.std.proofs.Common.{◌≡◌, ℕ, zero, suc, ◌+◌, ◌-◌, ◌/◌, ◌%◌, ◌^◌, ◌<◌, ◌≤◌, Bool, true, false, ◌&&◌, ◌||◌, List, Option, Some, None, sym, refl, ap, ◌∙◌, arith, if◌then◌else◌, mod-lt}
+use Rattle.std.proofs.Common.{◌≡◌, ℕ, zero, suc, ◌+◌, ◌-◌, ◌/◌, ◌%◌, ◌^◌, ◌<◌, Bool, true, false, ◌&&◌, ◌||◌, List, Option, Some, None, sym, refl, ap, ◌∙◌, arith, if◌then◌else◌, mod-lt}
 use Rattle.std.specs.Prelude.{slice_get, ◌==◌}
 use Rattle.std.proofs.lemmas.Bool.{and_parts, eqb-true, eq-eqb, ne_eqb, or_left}
 use Rattle.std.proofs.lemmas.Option.{same_Some, none-some}

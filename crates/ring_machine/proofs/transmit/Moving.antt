@@ -9,7 +9,7 @@ use Rattle.ring_model.specs.declared.steps.TxStep.{TxStep}
 use Rattle.ring_model.specs.declared.steps.TxStep.TheVariants.{Post, Publish, Look, Fetch, Send, Report, LoadReport, Clean, Control, Reclaim, ClearHead, ClearTail, ClearReport}
 use Rattle.ring_model.specs.shared.Handshakes.{enables, is_live, is_serving, is_tailed}
 use Rattle.ring_model.specs.shared.QueueSteps as queue
-use Rattle.ring_model.specs.shared.Queue.{Queue, served_count, given_count, posted_count, returned_count, may, by}
+use Rattle.ring_model.specs.shared.Queue.{served_count, posted_count, returned_count, by}
 use Rattle.ring_model.specs.shared.Agreement.{Agrees, Wrapped, wanted_word}
 use Rattle.ring_model.specs.transmit.Ring.{Posting, TxQueue, TxRing, ends_posting, next_posting, next_sent}
 use Rattle.ring_model.specs.transmit.Steps.{asks_report, by_head, cleaned_one, is_there, loaded_report, oldest_report, sent_one, tx_can, tx_changed, tx_cleared, tx_renewed, tx_settled}
@@ -23,7 +23,7 @@ use Rattle.ring_model.proofs.transmit.Kept.{IsTxKept}
 use Rattle.ring_machine.specs.shared.Moves.{after_clear_tail, after_serve, place_next}
 use Rattle.ring_machine.specs.transmit.Machine.{IsTxSound, StepFits, TxAgrees, TxParts, lies_tx, says_tx}
 use Rattle.ring_machine.specs.transmit.Words.{place_before, word_eop, word_rs}
-use Rattle.ring_machine.specs.transmit.Moves.{after_load, after_report, after_send, next_slot, serve_word, tx_after_clear, tx_after_renew, tx_moved}
+use Rattle.ring_machine.specs.transmit.Moves.{after_load, after_report, after_send, serve_word, tx_after_clear, tx_after_renew, tx_moved}
 use Rattle.ring_machine.proofs.shared.Snoc.{ends_frame-snoc, found, snoc_end}
 use Rattle.ring_machine.proofs.shared.Slots.{put-here}
 use Rattle.ring_machine.proofs.shared.Fitting as fit

@@ -1,5 +1,5 @@
 -- The text of moves.
-use Rattle.std.specs.Prelude.{ℕ, ◌<◌, ◌≤◌, ◌^◌, Bool, true, false, List, [], ◌∷◌, ◌++◌, codes, decimal}
+use Rattle.std.specs.Prelude.{ℕ, ◌<◌, ◌≤◌, ◌^◌, List, [], ◌∷◌, ◌++◌, codes, decimal}
 use Rattle.std.specs.List.{flat_map}
 use Rattle.limits.specs.declared.profile.TheConstants.{BUFFER_BYTES, MOST_PAIRS}
 use Rattle.ring_machine.specs.declared.moves.Move.{Move}

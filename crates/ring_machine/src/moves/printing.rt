@@ -7,8 +7,8 @@
 ghost use Rattle.std.specs.Prelude.{◌≡◌, Some};
 ghost use Rattle.ring_machine.specs.text.Moves.{IsInRange, control_kind, name_of, rx_kind, text_of, tx_kind};
 
-use crate::moves::arguments::{Descriptor, SegmentLength};
 use crate::moves::Move;
+use crate::moves::arguments::{Descriptor, SegmentLength};
 use ring_model::{ControlStep, RxStep, TxStep};
 use std::fmt;
 use std::marker::Model;

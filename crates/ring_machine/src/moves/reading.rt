@@ -12,8 +12,8 @@ ghost use Rattle.ring_model.specs.declared.steps.RxStep.{RxStep};
 ghost use Rattle.ring_model.specs.declared.steps.TxStep.{TxStep};
 
 use crate::error::MachineError;
-use crate::moves::fields::{arguments_in, cut};
 use crate::moves::arguments::{Descriptor, SegmentLength};
+use crate::moves::fields::{arguments_in, cut};
 use crate::moves::{Move, QueueNumber};
 use ring_model::{ControlStep, RxStep, TxStep};
 

@@ -1,5 +1,5 @@
 -- A place that asks for no report is passed over.
-use Rattle.std.proofs.Common.{◌≡◌, ℕ, suc, ◌+◌, ◌-◌, Bool, false, List, refl, sym, ap, ◌∙◌, arith}
+use Rattle.std.proofs.Common.{◌≡◌, ℕ, suc, ◌+◌, ◌-◌, false, List, refl, sym, ap, ◌∙◌, arith}
 use Rattle.std.specs.Prelude.{slice_index}
 use Rattle.ring_machine.specs.shared.Moves.{place_next}
 use Rattle.ring_machine.specs.transmit.Words.{first_asking, word_asks}

@@ -1,5 +1,5 @@
 -- What is made agrees with the opening ring.
-use Rattle.std.proofs.Common.{◌<◌, refl, arith}
+use Rattle.std.proofs.Common.{arith}
 use Rattle.ring_machine.proofs.receive.Running.{rx_begun-agrees}
 use Rattle.ring_machine.proofs.machine.receive.RxMachine.new.Goals as goal
 

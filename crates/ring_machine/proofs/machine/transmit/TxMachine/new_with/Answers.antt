@@ -1,5 +1,5 @@
 -- What is made agrees with the opening ring.
-use Rattle.std.proofs.Common.{◌<◌, arith}
+use Rattle.std.proofs.Common.{arith}
 use Rattle.ring_machine.proofs.transmit.Running.{tx_begun-agrees}
 use Rattle.ring_machine.proofs.machine.transmit.TxMachine.new_with.Goals as goal
 
