@@ -1,38 +1,39 @@
 -- One machine of several makes a step: it goes on agreeing with its ring, and all others stay as they are.
 use Rattle.std.proofs.Common.{◌≡◌, ◌≢◌, ℕ, zero, suc, ◌+◌, ◌<◌, ◌≤◌, Bool, true, false, List, [], ◌∷◌, ◌++◌, length, replicate, Option, Some, None, sym, refl, ap, ◌∙◌, ⊎_elim, subst, arith, if◌then◌else◌, length-set}
 use Rattle.std.specs.Prelude.{Result, Ok, Err, slice_get, slice_set}
-use Rattle.std.specs.Option.{ok_or}
 use Rattle.std.specs.Result.{is_err, is_ok}
 use Rattle.std.proofs.lemmas.Bool.{cases_eq, cases_lt}
 use Rattle.std.proofs.lemmas.Option.{none-some, same_Some, slice_get_within}
-use Rattle.ring_machine.specs.declared.queue_moves.Move.TheVariants.{Receive, Transmit}
-use Rattle.ring_machine.specs.declared.steps.RxStep.{RxStep}
-use Rattle.ring_machine.specs.declared.steps.TxStep.{TxStep}
-use Rattle.ring_machine.specs.declared.notes.Note.{Note}
+use Rattle.ring_model.specs.declared.steps.RxStep.{RxStep}
+use Rattle.ring_model.specs.declared.steps.TxStep.{TxStep}
+use Rattle.ring_model.specs.declared.notes.Note.{Note}
+use Rattle.ring_model.specs.receive.Ring.{RxRing}
+use Rattle.ring_model.specs.receive.Steps.{rx_can, rx_changed, rx_next, rx_note_of}
+use Rattle.ring_model.specs.transmit.Ring.{Posting, TxRing}
+use Rattle.ring_model.specs.transmit.Steps.{tx_can, tx_changed, tx_next, tx_note_of}
+use Rattle.ring_model.specs.Worlds.{World, can_at, note_at, put_next}
+use Rattle.ring_model.proofs.Apart.{reaches}
 use Rattle.ring_machine.specs.declared.error.MachineError.{MachineError}
 use Rattle.ring_machine.specs.declared.error.MachineError.TheVariants as refusal
-use Rattle.ring_machine.specs.Ring.{RxRing}
-use Rattle.ring_machine.specs.Steps.{can, changed, next}
-use Rattle.ring_machine.specs.Notes.{note_of}
-use Rattle.ring_machine.specs.TxRing.{Posting, TxRing}
-use Rattle.ring_machine.specs.TxSteps.{tx_can, tx_changed, tx_next}
-use Rattle.ring_machine.specs.TxNotes.{tx_note_of}
-use Rattle.ring_machine.specs.Schedules.{IsReachable}
-use Rattle.ring_machine.specs.TxSchedules.{IsTxReachable}
-use Rattle.ring_machine.specs.Worlds.{World, rx_put, tx_put}
-use Rattle.ring_machine.specs.Machines.{RxParts, RxAgrees, RxFollows, RxOutcome}
-use Rattle.ring_machine.specs.TxMachines.{TxParts, TxAgrees, TxFollows, TxOutcome}
-use Rattle.ring_machine.specs.Queues.{AllAgree, QueueParts, QueuesAgree, QueuesDid, QueuesFollow, rx_note_at, tx_note_at}
-use Rattle.ring_machine.proofs.Apart.{get_set_other, reaches}
-use Rattle.ring_machine.proofs.RxRunning.{reached-size}
-use Rattle.ring_machine.proofs.TxRunning.{tx_reached-size}
+use Rattle.ring_machine.specs.declared.moves.Move.TheVariants.{Receive, Transmit}
+use Rattle.ring_machine.specs.shared.Following.{Did}
+use Rattle.ring_machine.specs.receive.Machine.{RxAgrees, RxFollows, RxParts}
+use Rattle.ring_machine.specs.transmit.Machine.{TxAgrees, TxFollows, TxParts}
+use Rattle.ring_machine.specs.Queues.{AllAgree, QueueParts, QueuesAgree, QueuesFollow}
 
 module _ {X : Type 0} where
   -- to store what is there changes nothing
-  set_same : (xs : List X) (q : ℕ) (x : X) → slice_get xs q ≡ Some x → slice_set xs q x ≡ xs
+  pub set_same : (xs : List X) (q : ℕ) (x : X) → slice_get xs q ≡ Some x → slice_set xs q x ≡ xs
   set_same [] q x e = refl
   set_same (y ∷ ys) zero x e = ap (λ z. z ∷ ys) (sym (same_Some y x e))
   set_same (y ∷ ys) (suc q) x e = ap (λ zs. y ∷ zs) (set_same ys q x e)
+
+  get_set_other : (xs : List X) (p j : ℕ) (x : X) → j ≢ p → slice_get (slice_set xs p x) j ≡ slice_get xs j
+  get_set_other [] p j x ne = refl
+  get_set_other (y ∷ ys) zero zero x ne = absurd (ne refl)
+  get_set_other (y ∷ ys) zero (suc j) x ne = refl
+  get_set_other (y ∷ ys) (suc p) zero x ne = refl
+  get_set_other (y ∷ ys) (suc p) (suc j) x ne = get_set_other ys p j x (λ e. ne (ap suc e))
 
   -- what lies where something was stored is that
   stored_is : (xs : List X) (q : ℕ) (x y : X) → slice_get (slice_set xs q x) q ≡ Some y → x ≡ y
@@ -88,76 +89,79 @@ module _ {A B : Type 0} (Agree : A → B → Type 0) where
         (cases_eq k q);
   }
 
--- what a step of a machine is, whether it happened or not
-record RxDid (r : RxRing ℕ) (s : RxStep ℕ) (told : Option Note) (result : Result Note MachineError) (old new : RxParts) : Type 0 where
-  answer : result ≡ ok_or told refusal.NotEnabled
-  agrees : RxAgrees new (next r s)
-  kept : told ≡ None → new ≡ old
-
-rx_did : (r : RxRing ℕ) (s : RxStep ℕ) (result : Result Note MachineError) (old new : RxParts) (happens : Bool) → can r s ≡ happens → RxAgrees old r
-    → RxOutcome (if happens then Some (changed r s, note_of r s) else None) result old new → RxDid r s (if happens then Some (note_of r s) else None) result old new
-rx_did r s result old new true e a o = record { answer = o.0; agrees = rw e o.1; kept = λ none. absurd (none-some (note_of r s) (sym none)) }
-rx_did r s result old new false e a o = record { answer = o.0; agrees = rw e (subst (λ p. RxAgrees p r) (sym o.1) a); kept = λ none. o.1 }
+  -- a refusal leaves the list of machines as it was
+  kept-set : (xs : List A) (q : ℕ) (x y : A) → slice_get xs q ≡ Some x → y ≡ x → slice_set xs q y ≡ xs
+  kept-set xs q x y here e = ap (λ z. slice_set xs q z) e ∙ set_same xs q x here
 
 -- the receive queues with one stepped, beside the world with that ring stepped
-put-receive : (old : QueueParts) (w : World) (q : ℕ) (s : RxStep ℕ) (x y : RxParts) (result : Result Note MachineError) (found : Option (RxRing ℕ)) → slice_get w.receive q ≡ found → slice_get old.receive q ≡ Some x → QueuesAgree old w
-    → ((r : RxRing ℕ) → found ≡ Some r → RxDid r s (if can r s then Some (note_of r s) else None) result x y)
-    → QueuesDid (rx_note_at found s) (record w { receive = rx_put w.receive q s found }) result old (record old { receive = slice_set old.receive q y })
-put-receive old w q s x y result None e here a did = let inside = slice_get_within old.receive q x here in let l = a.receive.lengths in absurd (found-within w.receive q (omega arith) e)
-put-receive old w q s x y result (Some r) e here a did = let d = did r refl in record {
+stepped-receive : (old : QueueParts) (w : World) (q : ℕ) (s : RxStep ℕ) (x y : RxParts) (r : RxRing ℕ) (result : Result Note MachineError) (happens : Bool) → rx_can r s ≡ happens → slice_get old.receive q ≡ Some x → QueuesAgree old w
+    → Did RxAgrees (if happens then Some (rx_note_of r s) else None) (if happens then rx_changed r s else r) result x y
+    → Did QueuesAgree (if happens then Some (rx_note_of r s) else None) (if happens then record w { receive = slice_set w.receive q (rx_next r s) } else w) result old (record old { receive = slice_set old.receive q y })
+stepped-receive old w q s x y r result true e here a d = record {
   answer = d.answer;
-  agrees = record { receive = set-agrees RxAgrees old.receive w.receive q y (next r s) a.receive d.agrees; transmit = a.transmit };
-  kept = λ none. ap (λ xs. record old { receive = xs }) (ap (λ z. slice_set old.receive q z) (d.kept none) ∙ set_same old.receive q x here);
+  agrees = record { receive = rw e (set-agrees RxAgrees old.receive w.receive q y (rx_changed r s) a.receive d.agrees); transmit = a.transmit };
+  kept = λ none. absurd (none-some (rx_note_of r s) (sym none));
 }
+stepped-receive old w q s x y r result false e here a d = let same = kept-set RxAgrees old.receive q x y here (d.kept refl) in record {
+  answer = d.answer;
+  agrees = rw same (record { receive = a.receive; transmit = a.transmit });
+  kept = λ none. ap (λ (xs : List RxParts). record old { receive = xs }) same;
+}
+
+put-receive : (old : QueueParts) (w : World) (q : ℕ) (s : RxStep ℕ) (x y : RxParts) (result : Result Note MachineError) (found : Option (RxRing ℕ)) → slice_get w.receive q ≡ found → slice_get old.receive q ≡ Some x → QueuesAgree old w
+    → ((r : RxRing ℕ) → found ≡ Some r → Did RxAgrees (if rx_can r s then Some (rx_note_of r s) else None) (rx_next r s) result x y)
+    → Did QueuesAgree (note_at rx_can rx_note_of found s) (if can_at rx_can found s then record w { receive = put_next rx_next w.receive q s found } else w) result old (record old { receive = slice_set old.receive q y })
+put-receive old w q s x y result None e here a did = let inside = slice_get_within old.receive q x here in let b = a.receive in let l = b.lengths in absurd (found-within w.receive q (omega arith) e)
+put-receive old w q s x y result (Some r) e here a did = stepped-receive old w q s x y r result (rx_can r s) refl here a (did r refl)
 
 pub receive-follows : (old : QueueParts) (q : ℕ) (s : RxStep ℕ) (x y : RxParts) (result : Result Note MachineError) → slice_get old.receive q ≡ Some x → RxFollows x s result y
     → QueuesFollow old (Receive q s) result (record old { receive = slice_set old.receive q y })
 unfolding RxFollows QueuesFollow
-receive-follows old q s x y result here follows pairs n w e a = put-receive old w q s x y result (slice_get w.receive q) refl here a
-    (λ r at. let reached = (reaches pairs n w e).receive q r at in let agrees = a.receive.each q x r here at in let size = reached-size n r reached in
-    rx_did r s result x y (can r s) refl agrees (follows r (subst (λ m. IsReachable ℕ m r) (sym (agrees.size_is ∙ size)) reached) agrees))
+receive-follows old q s x y result here follows pairs n w e a = let b = a.receive in put-receive old w q s x y result (slice_get w.receive q) refl here a
+    (λ r at. follows n r ((reaches pairs n w e).receive q r at) (b.each q x r here at))
 
 -- a queue that is not there has no step
 no-receive : (old : QueueParts) (w : World) (q : ℕ) (s : RxStep ℕ) (found : Option (RxRing ℕ)) → slice_get w.receive q ≡ found → length old.receive ≤ q → QueuesAgree old w
-    → QueuesDid (rx_note_at found s) (record w { receive = rx_put w.receive q s found }) (Err refusal.NotEnabled) old old
-no-receive old w q s None e past a = record { answer = refl; agrees = record { receive = a.receive; transmit = a.transmit }; kept = λ none. refl }
-no-receive old w q s (Some r) e past a = let inside = slice_get_within w.receive q r e in let l = a.receive.lengths in absurd (omega arith)
+    → Did QueuesAgree (note_at rx_can rx_note_of found s) (if can_at rx_can found s then record w { receive = put_next rx_next w.receive q s found } else w) (Err refusal.NotEnabled) old old
+no-receive old w q s None e past a = record { answer = refl; agrees = a; kept = λ none. refl }
+no-receive old w q s (Some r) e past a = let inside = slice_get_within w.receive q r e in let b = a.receive in let l = b.lengths in absurd (omega arith)
 
 pub receive-missing : (old : QueueParts) (q : ℕ) (s : RxStep ℕ) → length old.receive ≤ q → QueuesFollow old (Receive q s) (Err refusal.NotEnabled) old
 unfolding QueuesFollow
 receive-missing old q s past pairs n w e a = no-receive old w q s (slice_get w.receive q) refl past a
 
-record TxDid (r : TxRing ℕ) (s : TxStep (Posting ℕ)) (told : Option Note) (result : Result Note MachineError) (old new : TxParts) : Type 0 where
-  answer : result ≡ ok_or told refusal.NotEnabled
-  agrees : TxAgrees new (tx_next r s)
-  kept : told ≡ None → new ≡ old
-
-tx_did : (r : TxRing ℕ) (s : TxStep (Posting ℕ)) (result : Result Note MachineError) (old new : TxParts) (happens : Bool) → tx_can r s ≡ happens → TxAgrees old r
-    → TxOutcome (if happens then Some (tx_changed r s, tx_note_of r s) else None) result old new → TxDid r s (if happens then Some (tx_note_of r s) else None) result old new
-tx_did r s result old new true e a o = record { answer = o.0; agrees = rw e o.1; kept = λ none. absurd (none-some (tx_note_of r s) (sym none)) }
-tx_did r s result old new false e a o = record { answer = o.0; agrees = rw e (subst (λ p. TxAgrees p r) (sym o.1) a); kept = λ none. o.1 }
+-- the transmit queues with one stepped, beside the world with that ring stepped
+stepped-transmit : (old : QueueParts) (w : World) (q : ℕ) (s : TxStep (Posting ℕ)) (x y : TxParts) (r : TxRing ℕ) (result : Result Note MachineError) (happens : Bool) → tx_can r s ≡ happens → slice_get old.transmit q ≡ Some x → QueuesAgree old w
+    → Did TxAgrees (if happens then Some (tx_note_of r s) else None) (if happens then tx_changed r s else r) result x y
+    → Did QueuesAgree (if happens then Some (tx_note_of r s) else None) (if happens then record w { transmit = slice_set w.transmit q (tx_next r s) } else w) result old (record old { transmit = slice_set old.transmit q y })
+stepped-transmit old w q s x y r result true e here a d = record {
+  answer = d.answer;
+  agrees = record { receive = a.receive; transmit = rw e (set-agrees TxAgrees old.transmit w.transmit q y (tx_changed r s) a.transmit d.agrees) };
+  kept = λ none. absurd (none-some (tx_note_of r s) (sym none));
+}
+stepped-transmit old w q s x y r result false e here a d = let same = kept-set TxAgrees old.transmit q x y here (d.kept refl) in record {
+  answer = d.answer;
+  agrees = rw same (record { receive = a.receive; transmit = a.transmit });
+  kept = λ none. ap (λ (xs : List TxParts). record old { transmit = xs }) same;
+}
 
 put-transmit : (old : QueueParts) (w : World) (q : ℕ) (s : TxStep (Posting ℕ)) (x y : TxParts) (result : Result Note MachineError) (found : Option (TxRing ℕ)) → slice_get w.transmit q ≡ found → slice_get old.transmit q ≡ Some x → QueuesAgree old w
-    → ((r : TxRing ℕ) → found ≡ Some r → TxDid r s (if tx_can r s then Some (tx_note_of r s) else None) result x y)
-    → QueuesDid (tx_note_at found s) (record w { transmit = tx_put w.transmit q s found }) result old (record old { transmit = slice_set old.transmit q y })
-put-transmit old w q s x y result None e here a did = let inside = slice_get_within old.transmit q x here in let l = a.transmit.lengths in absurd (found-within w.transmit q (omega arith) e)
-put-transmit old w q s x y result (Some r) e here a did = let d = did r refl in record {
-  answer = d.answer;
-  agrees = record { receive = a.receive; transmit = set-agrees TxAgrees old.transmit w.transmit q y (tx_next r s) a.transmit d.agrees };
-  kept = λ none. ap (λ xs. record old { transmit = xs }) (ap (λ z. slice_set old.transmit q z) (d.kept none) ∙ set_same old.transmit q x here);
-}
+    → ((r : TxRing ℕ) → found ≡ Some r → Did TxAgrees (if tx_can r s then Some (tx_note_of r s) else None) (tx_next r s) result x y)
+    → Did QueuesAgree (note_at tx_can tx_note_of found s) (if can_at tx_can found s then record w { transmit = put_next tx_next w.transmit q s found } else w) result old (record old { transmit = slice_set old.transmit q y })
+put-transmit old w q s x y result None e here a did = let inside = slice_get_within old.transmit q x here in let b = a.transmit in let l = b.lengths in absurd (found-within w.transmit q (omega arith) e)
+put-transmit old w q s x y result (Some r) e here a did = stepped-transmit old w q s x y r result (tx_can r s) refl here a (did r refl)
 
 pub transmit-follows : (old : QueueParts) (q : ℕ) (s : TxStep (Posting ℕ)) (x y : TxParts) (result : Result Note MachineError) → slice_get old.transmit q ≡ Some x → TxFollows x s result y
     → QueuesFollow old (Transmit q s) result (record old { transmit = slice_set old.transmit q y })
 unfolding TxFollows QueuesFollow
-transmit-follows old q s x y result here follows pairs n w e a = put-transmit old w q s x y result (slice_get w.transmit q) refl here a
-    (λ r at. let reached = (reaches pairs n w e).transmit q r at in let agrees = a.transmit.each q x r here at in let size = tx_reached-size n r reached in
-    tx_did r s result x y (tx_can r s) refl agrees (follows r (subst (λ m. IsTxReachable ℕ m r) (sym (agrees.size_is ∙ size)) reached) agrees))
+transmit-follows old q s x y result here follows pairs n w e a = let b = a.transmit in put-transmit old w q s x y result (slice_get w.transmit q) refl here a
+    (λ r at. follows n r ((reaches pairs n w e).transmit q r at) (b.each q x r here at))
 
+-- a queue that is not there has no step
 no-transmit : (old : QueueParts) (w : World) (q : ℕ) (s : TxStep (Posting ℕ)) (found : Option (TxRing ℕ)) → slice_get w.transmit q ≡ found → length old.transmit ≤ q → QueuesAgree old w
-    → QueuesDid (tx_note_at found s) (record w { transmit = tx_put w.transmit q s found }) (Err refusal.NotEnabled) old old
-no-transmit old w q s None e past a = record { answer = refl; agrees = record { receive = a.receive; transmit = a.transmit }; kept = λ none. refl }
-no-transmit old w q s (Some r) e past a = let inside = slice_get_within w.transmit q r e in let l = a.transmit.lengths in absurd (omega arith)
+    → Did QueuesAgree (note_at tx_can tx_note_of found s) (if can_at tx_can found s then record w { transmit = put_next tx_next w.transmit q s found } else w) (Err refusal.NotEnabled) old old
+no-transmit old w q s None e past a = record { answer = refl; agrees = a; kept = λ none. refl }
+no-transmit old w q s (Some r) e past a = let inside = slice_get_within w.transmit q r e in let b = a.transmit in let l = b.lengths in absurd (omega arith)
 
 pub transmit-missing : (old : QueueParts) (q : ℕ) (s : TxStep (Posting ℕ)) → length old.transmit ≤ q → QueuesFollow old (Transmit q s) (Err refusal.NotEnabled) old
 unfolding QueuesFollow

@@ -1,42 +1,39 @@
 //! Several queues side by side: the receive and the transmit queues of one port.
 
 ghost use Rattle.std.specs.Prelude.{◌≡◌, ◌≤◌, ◌↔◌, ◌⊎◌, [], ◌∷◌, IfOk, IfErr, option_map, replicate, slice_get};
-ghost use Rattle.ring_machine.specs.declared.error.MachineError.TheVariants.{RingLength, Memory};
-ghost use Rattle.ring_machine.specs.declared.states.Completion.TheVariants as by;
-ghost use Rattle.ring_machine.specs.declared.queue_moves.Move.TheVariants as queue_move;
-ghost use Rattle.ring_machine.specs.Ring.{opening};
-ghost use Rattle.ring_machine.specs.TxRing.{tx_opening};
-ghost use Rattle.ring_machine.specs.Worlds.{opening_world};
-ghost use Rattle.ring_machine.specs.Machines.{IsRingLength, RxAgrees};
-ghost use Rattle.ring_machine.specs.TxMachines.{TxAgrees};
+ghost use Rattle.ring_machine.specs.declared.error.MachineError.TheVariants.{Memory, NotEnabled, RingLength};
+ghost use Rattle.ring_machine.specs.declared.moves.Move.TheVariants as queue_move;
+ghost use Rattle.limits.specs.RingLength.{IsRingLength};
+ghost use Rattle.ring_model.specs.declared.states.Completion.TheVariants as by;
+ghost use Rattle.ring_model.specs.Worlds.{opening_world};
+ghost use Rattle.ring_model.specs.receive.Ring.{rx_opening};
+ghost use Rattle.ring_model.specs.transmit.Ring.{tx_opening};
+ghost use Rattle.ring_machine.specs.receive.Machine.{RxAgrees};
+ghost use Rattle.ring_machine.specs.transmit.Machine.{TxAgrees};
 ghost use Rattle.ring_machine.specs.Queues.{AllAgree, AreQueues, QueuesAgree, QueuesFollow, QueuesRun};
 
 use crate::error::MachineError;
-use crate::limits::MOST_PAIRS;
-use crate::moves::{Descriptor, SegmentLength};
-use crate::notes::Note;
-use crate::queue_moves::{Move, QueueNumber};
-use crate::rx_machine::RxMachine;
-use crate::states::Completion;
-use crate::steps::{RxStep, TxStep};
-use crate::tx_machine::TxMachine;
-use crate::wrap::is_ring_length;
+use crate::machine::{RxMachine, TxMachine};
+use crate::moves::arguments::{Descriptor, SegmentLength};
+use crate::moves::{Move, QueueNumber};
+use limits::{MOST_PAIRS, is_ring_length};
+use ring_model::{Completion, Note, RxStep, TxStep};
 use std::alloc::Global;
 use std::marker::Model;
 
 /// Receive and transmit queues, each numbered from 0. A move names one of them and leaves all others alone.
-#[derive(Debug, Drop)]
+#[derive(Drop)]
 pub struct Queues {
     receive: Vec<RxMachine>,
     transmit: Vec<TxMachine>,
 }
 
 impl Model for Queues {
-    ghost use Rattle.ring_machine.specs.Queues.{QueueParts};
+    ghost use Rattle.ring_machine.specs.Queues.{queue_parts_of, QueueParts};
 
     ghost Value = { QueueParts };
 
-    ghost view = { λ q. record { receive = q.receive.items; transmit = q.transmit.items } };
+    ghost view = { queue_parts_of };
 }
 
 // So many receive queues as they are made.
@@ -48,7 +45,7 @@ fn receive_queues(
 ) -> Result<Vec<RxMachine>, MachineError>
     requires { IsRingLength n }
     ensures error { IfErr result (λ e. e ≡ Memory) }
-    ensures made { IfOk result (λ made. AllAgree RxAgrees made.items (replicate pairs (opening n enabled))) }
+    ensures made { IfOk result (λ made. AllAgree RxAgrees made.items (replicate pairs (rx_opening n enabled))) }
 {
     let mut queues = Vec::new(alloc);
     for _ in 0..pairs {
@@ -70,7 +67,7 @@ fn transmit_queues(
 ) -> Result<Vec<TxMachine>, MachineError>
     requires { IsRingLength n }
     ensures error { IfErr result (λ e. e ≡ Memory) }
-    ensures made { IfOk result (λ made. AllAgree TxAgrees made.items (replicate pairs (tx_opening n enabled completion))) }
+    ensures made { IfOk result (λ made. AllAgree TxAgrees made.items (replicate pairs (tx_opening n (record { enabled = enabled; completion = completion })))) }
 {
     let mut queues = Vec::new(alloc);
     for _ in 0..pairs {
@@ -90,7 +87,7 @@ impl Queues {
     pub fn new(alloc: Global, pairs: usize, n: usize, enabled: bool) -> Result<Queues, MachineError>
         ensures refused { (result ≡ Err RingLength) ↔ ¬ (AreQueues pairs n) }
         ensures error { IfErr result (λ e. (e ≡ RingLength) ⊎ (e ≡ Memory)) }
-        ensures made { IfOk result (λ q. QueuesAgree q (opening_world pairs n enabled by.Status)) }
+        ensures made { IfOk result (λ q. QueuesAgree q (opening_world pairs n (record { enabled = enabled; completion = by.Status }))) }
     {
         Queues::new_with(alloc, pairs, n, enabled, Completion::Status)
     }
@@ -105,7 +102,7 @@ impl Queues {
     ) -> Result<Queues, MachineError>
         ensures refused { (result ≡ Err RingLength) ↔ ¬ (AreQueues pairs n) }
         ensures error { IfErr result (λ e. (e ≡ RingLength) ⊎ (e ≡ Memory)) }
-        ensures made { IfOk result (λ q. QueuesAgree q (opening_world pairs n enabled completion)) }
+        ensures made { IfOk result (λ q. QueuesAgree q (opening_world pairs n (record { enabled = enabled; completion = completion }))) }
     {
         if pairs < 1 || pairs > MOST_PAIRS || !is_ring_length(n) {
             return Err(MachineError::RingLength);
@@ -135,7 +132,8 @@ impl Queues {
         queue: QueueNumber,
         step: &RxStep<SegmentLength>,
     ) -> Result<Note, MachineError>
-        ensures { QueuesFollow self.old (queue_move.Receive queue step.now) result self.new }
+        ensures follows { QueuesFollow self.old (queue_move.Receive queue step.now) result self.new }
+        ensures refused { IfErr result (λ e. (e ≡ NotEnabled) × (self.new ≡ self.old)) }
     {
         let Some(machine) = self.receive.get_mut(usize::from(queue.number())) else {
             return Err(MachineError::NotEnabled);
@@ -149,7 +147,8 @@ impl Queues {
         queue: QueueNumber,
         step: &TxStep<Descriptor>,
     ) -> Result<Note, MachineError>
-        ensures { QueuesFollow self.old (queue_move.Transmit queue step.now) result self.new }
+        ensures follows { QueuesFollow self.old (queue_move.Transmit queue step.now) result self.new }
+        ensures refused { IfErr result (λ e. (e ≡ NotEnabled) × (self.new ≡ self.old)) }
     {
         let Some(machine) = self.transmit.get_mut(usize::from(queue.number())) else {
             return Err(MachineError::NotEnabled);
@@ -158,7 +157,8 @@ impl Queues {
     }
 
     fn step_by(&mut self, action: &Move) -> Result<Note, MachineError>
-        ensures { QueuesFollow self.old action.now result self.new }
+        ensures follows { QueuesFollow self.old action.now result self.new }
+        ensures refused { IfErr result (λ e. (e ≡ NotEnabled) × (self.new ≡ self.old)) }
     {
         match action {
             Move::Receive(queue, step) => self.receive_step(*queue, step),
@@ -177,10 +177,11 @@ impl Queues {
         }
     }
 
-    /// Makes one move. Where its queue has no such step, or is not there, it answers `NotEnabled` and leaves the queues
-    /// as they were.
+    /// Makes one move. Where its queue has no such step, or is not there, it answers `NotEnabled`. An `Err` leaves the
+    /// queues as they were.
     pub fn step(&mut self, action: Move) -> Result<Note, MachineError>
-        ensures { QueuesFollow self.old action result self.new }
+        ensures follows { QueuesFollow self.old action result self.new }
+        ensures refused { IfErr result (λ e. (e ≡ NotEnabled) × (self.new ≡ self.old)) }
     {
         self.step_by(&action)
     }

@@ -93,9 +93,9 @@ left_alone w (Receive q s) = (refl, λ k ne. others rx_can rx_changed w.receive 
 left_alone w (Transmit q s) = (refl, λ k ne. others tx_can tx_changed w.transmit q s (slice_get w.transmit q) k ne)
 
 -- every queue is reached by steps of its own
-record Reaches (n : ℕ) (w : World) : Type 0 where
-  receive : (q : ℕ) (r : RxRing ℕ) → slice_get w.receive q ≡ Some r → IsRxReachable ℕ n r
-  transmit : (q : ℕ) (r : TxRing ℕ) → slice_get w.transmit q ≡ Some r → IsTxReachable ℕ n r
+pub record Reaches (n : ℕ) (w : World) : Type 0 where
+  pub receive : (q : ℕ) (r : RxRing ℕ) → slice_get w.receive q ≡ Some r → IsRxReachable ℕ n r
+  pub transmit : (q : ℕ) (r : TxRing ℕ) → slice_get w.transmit q ≡ Some r → IsTxReachable ℕ n r
 
 reaches-move : (n : ℕ) (w : World) (m : QueueMove) → Reaches n w → Reaches n (after_move w m)
 reaches-move n w (Receive q s) a = record {
@@ -122,7 +122,7 @@ reaches-opening pairs n b = record {
   transmit = λ q r e. subst (IsTxReachable ℕ n) (all_alike pairs q (tx_opening n b) r e) (reached-opening tx_can tx_changed (tx_opening n) b);
 }
 
-reaches : (pairs n : ℕ) (w : World) → IsReachableWorld pairs n w → Reaches n w
+pub reaches : (pairs n : ℕ) (w : World) → IsReachableWorld pairs n w → Reaches n w
 reaches pairs n w e = subst (Reaches n) e.made (reaches-all n (opening_world pairs n e.beginning) e.schedule (reaches-opening pairs n e.beginning))
 
 pub lawful_world : (pairs n : ℕ) (w : World) → 1 < n → IsReachableWorld pairs n w → IsLawfulWorld n w

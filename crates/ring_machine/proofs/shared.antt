@@ -1,0 +1,8 @@
+pub mod Snoc
+pub mod PlaceTests
+pub mod Slots
+pub mod Telling
+pub mod Fitting
+pub mod Shaking
+pub mod Running
+pub mod Owning

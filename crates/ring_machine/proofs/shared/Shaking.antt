@@ -1,0 +1,160 @@
+-- The head, the handshake, clearing and renewal take a machine's queue to one that agrees with the queue after the step; and so does the making.
+use Rattle.std.proofs.Common.{◌≡◌, ℕ, ◌%◌, ◌<◌, Bool, true, false, not, ◌&&◌, ◌||◌, [], Option, None, sym, refl, ap, ◌∙◌, ⊎_elim, subst, arith, if◌then◌else◌, mod-eq_of_lt}
+use Rattle.std.specs.Prelude.{slice_get, ◌==◌}
+use Rattle.std.proofs.lemmas.Bool.{both_ways, and_parts, and_from, and_left, and_right, not-true, not_from_false, eqb-true, or_cases, true≢false}
+use Rattle.ring_model.specs.declared.states.DriverState.TheVariants.{New, Cleared, Tailed}
+use Rattle.ring_model.specs.declared.handshake.Handshake.{Handshake}
+use Rattle.ring_model.specs.declared.steps.ControlStep.{ControlStep}
+use Rattle.ring_model.specs.declared.steps.ControlStep.TheVariants.{AskEnable, LookAsked, Answer, LookAnswered, AskDisable}
+use Rattle.ring_model.specs.shared.Handshakes.{is_open, is_serving, is_ended, is_stopped, is_between, ask_enable, look_asked, look_answered, ask_disable, can_enable, can_disable, enable, disable, enables, may_shake, shaken}
+use Rattle.ring_model.specs.shared.QueueSteps.{Head, Shake, ClearHead, ClearTail, Renew}
+use Rattle.ring_model.specs.shared.Queue.{Queue, opening, posted_count, served_count, returned_count, may, by}
+use Rattle.ring_model.specs.shared.Agreement.{Agrees, Wrapped}
+use Rattle.ring_model.proofs.shared.Kept.{IsKept}
+use Rattle.ring_model.proofs.shared.Shakes.{new_open, on_serving, stopped_answered, answered_closed, emptied_answered, cleared_emptied, tailed_emptied, shakes-enable, learned_open, serving_unended}
+use Rattle.ring_model.proofs.shared.Stepping.{shook, answered_unheld, answered_over}
+use Rattle.ring_machine.specs.shared.Moves.{after_shake, after_clear_head, after_clear_tail, after_head, after_renew, begun}
+use Rattle.ring_machine.proofs.shared.Slots.{empty-begun}
+
+module _ {Posted Served Given : Type 0} (ends : Served → Bool) (says : ℕ → Option Posted → Option Served → ℕ) (lies : Option Posted → Option Served → Option ℕ) where
+  module _ (w : Wrapped ℕ) (q : Queue Posted Served Given) (k : IsKept q.size ends q) (a : Agrees {Given = Given} ends says lies w q) where
+    pos : 0 < q.size
+    pos = let some = k.places in omega arith
+
+    -- a step of the handshake leaves words and slots
+    fits-shaken : (serve known last : ℕ) (h g : Handshake) → h ≡ g → (is_between g ≡ false → serve ≡ served_count q % q.size) → (is_between g ≡ false → known ≡ last % q.size)
+        → Agrees {Given = Given} ends says lies (record w { serve = serve; known = known; handshake = h }) (record q { known = last; handshake = g })
+    fits-shaken serve known last h g e serves knows = let i = a.items in record {
+      size_is = a.size_is;
+      head = a.head;
+      tail = a.tail;
+      items = record { words = i.words; slots = i.slots };
+      empty = a.empty;
+      fill = a.fill;
+      next = a.next;
+      serve = serves;
+      known = knows;
+      held = a.held;
+      whole = a.whole;
+      handshake = e;
+    }
+
+    -- the places stay where both sides agreed on them before
+    fits-changed : (g : Handshake) → (is_between g ≡ false → is_between q.handshake ≡ false) → Agrees {Given = Given} ends says lies (record w { handshake = g }) (record q { handshake = g })
+    fits-changed g off = fits-shaken w.serve w.known q.known g g refl (λ e. a.serve (off e)) (λ e. a.known (off e))
+
+    unbetween : is_serving q.handshake.controller ≡ true → is_between q.handshake ≡ false
+    unbetween serving = and_left (is_ended q.handshake.controller) (is_open q.handshake.driver) (serving_unended q.handshake.controller serving)
+
+    pub fits-head : may q Head ≡ true → Agrees {Given = Given} ends says lies (after_head w) (by q Head)
+    fits-head may = let t = and_parts (is_serving q.handshake.controller) (not q.held) may in let i = a.items in record {
+      size_is = a.size_is;
+      head = a.serve (unbetween t.0);
+      tail = a.tail;
+      items = record { words = i.words; slots = i.slots };
+      empty = a.empty;
+      fill = a.fill;
+      next = a.next;
+      serve = a.serve;
+      known = a.known;
+      held = a.held;
+      whole = a.whole;
+      handshake = a.handshake;
+    }
+
+    fits-answered : (on settled : Bool) → can_enable q.handshake ≡ on → (can_enable q.handshake || (can_disable q.handshake && settled)) ≡ true
+        → Agrees {Given = Given} ends says lies (record w { serve = if on then 0 else w.serve; known = if on then 0 else w.known; handshake = if on then enable q.handshake else disable q.handshake })
+        (record q { known = if on then 0 else q.known; handshake = if on then enable q.handshake else disable q.handshake })
+    fits-answered true settled e may = let h = q.handshake in let t = and_parts (h.seen == 1) (not (is_serving h.controller)) e in let o = k.order in
+        let s = shakes-enable h.driver h.controller h.control h.seen (eqb-true h.seen 1 t.0) (shook q.size ends q k) in let none = o.none_served (not-true (is_serving h.controller) t.1) s.1 in
+        fits-shaken 0 0 0 (enable h) (enable h) refl (λ e. sym (ap (λ (j : ℕ). j % q.size) none ∙ mod-eq_of_lt pos)) (λ e. sym (mod-eq_of_lt pos))
+    fits-answered false settled e may = let h = q.handshake in
+        let t = ⊎_elim (λ t. absurd (both_ways (can_enable h) e t)) (λ t. t) (or_cases (can_enable h) (can_disable h && settled) may) in
+        let u = and_parts (can_disable h) settled t in let v = and_parts (h.seen == 3) (is_serving h.controller) u.0 in
+        fits-changed (disable h) (λ e. unbetween v.1)
+
+    fits-control : (c : ControlStep) (settled : Bool) → may_shake q.handshake c settled ≡ true
+        → Agrees {Given = Given} ends says lies (record w { serve = if enables q.handshake c then 0 else w.serve; known = if enables q.handshake c then 0 else w.known; handshake = shaken q.handshake c }) (by q (Shake c settled))
+    fits-control AskEnable settled may = let h = q.handshake in fits-changed (ask_enable h) (λ e. rw (new_open h.driver may) e)
+    fits-control LookAsked settled may = fits-changed (look_asked q.handshake) (λ e. e)
+    fits-control Answer settled may = fits-answered (can_enable q.handshake) settled refl may
+    fits-control LookAnswered settled may = let h = q.handshake in fits-changed (look_answered h) (λ e. rw (sym (learned_open h.driver h.control)) e)
+    fits-control AskDisable settled may = let h = q.handshake in fits-changed (ask_disable h) (λ e. unbetween (on_serving h.driver h.controller h.control h.seen may (shook q.size ends q k)))
+
+    pub fits-shake : (c : ControlStep) (settled : Bool) → may_shake q.handshake c settled ≡ true → Agrees {Given = Given} ends says lies (after_shake w c) (by q (Shake c settled))
+    fits-shake c settled may = subst (λ (h : Handshake). Agrees {Given = Given} ends says lies (record w { serve = if enables h c then 0 else w.serve; known = if enables h c then 0 else w.known; handshake = shaken h c }) (by q (Shake c settled)))
+        (sym a.handshake) (fits-control c settled may)
+
+    pub fits-clear_head : may q ClearHead ≡ true → Agrees {Given = Given} ends says lies (after_clear_head w) (by q ClearHead)
+    fits-clear_head may = let h = q.handshake in let t = and_parts (is_stopped h.driver) (returned_count q == posted_count q) may in let i = a.items in
+        let off = and_right (is_ended h.controller) (is_open h.driver) (answered_closed h.driver (stopped_answered h.driver t.0)) in record {
+          size_is = a.size_is;
+          head = refl;
+          tail = a.tail;
+          items = record { words = i.words; slots = i.slots };
+          empty = a.empty;
+          fill = a.fill;
+          next = a.next;
+          serve = λ e. a.serve off;
+          known = λ e. a.known off;
+          held = a.held;
+          whole = a.whole;
+          handshake = ap (λ (g : Handshake). record g { driver = Cleared }) a.handshake;
+        }
+
+    pub fits-clear_tail : may q ClearTail ≡ true → Agrees {Given = Given} ends says lies (after_clear_tail w) (by q ClearTail)
+    fits-clear_tail may = let h = q.handshake in let i = a.items in
+        let off = and_right (is_ended h.controller) (is_open h.driver) (answered_closed h.driver (emptied_answered h.driver (cleared_emptied h.driver may))) in record {
+          size_is = a.size_is;
+          head = a.head;
+          tail = sym (mod-eq_of_lt pos);
+          items = record { words = i.words; slots = i.slots };
+          empty = a.empty;
+          fill = a.fill;
+          next = a.next;
+          serve = λ e. a.serve off;
+          known = λ e. a.known off;
+          held = a.held;
+          whole = a.whole;
+          handshake = ap (λ (g : Handshake). record g { driver = Tailed }) a.handshake;
+        }
+
+    held_anew : (holds : Bool) (o p : Option ℕ) → holds ≡ false → (if holds then o else None) ≡ (if holds then p else None)
+    held_anew true o p e = absurd (true≢false e)
+    held_anew false o p e = refl
+
+    -- with no item out, any words do: those of the next epoch
+    pub fits-renew : (saying : ℕ → Option Posted → Option Served → ℕ) → may q Renew ≡ true → Agrees {Given = Given} ends saying lies (after_renew w) (by q Renew)
+    fits-renew saying may = let h = q.handshake in let answered = emptied_answered h.driver (tailed_emptied h.driver may) in let over = answered_over q.size ends q k answered in
+        let between : (is_ended h.controller && true) ≡ true = and_from (is_ended h.controller) true over refl in
+        let ended = and_from (is_ended h.controller) (not (is_open h.driver)) over (not_from_false (is_open h.driver) (answered_closed h.driver answered)) in record {
+          size_is = a.size_is;
+          head = a.head;
+          tail = a.tail;
+          items = record { words = λ j x y. absurd (omega arith); slots = λ j x y. absurd (omega arith) };
+          empty = a.empty;
+          fill = sym (mod-eq_of_lt pos);
+          next = sym (mod-eq_of_lt pos);
+          serve = λ e. absurd (both_ways (is_ended h.controller && true) e between);
+          known = λ e. absurd (both_ways (is_ended h.controller && true) e between);
+          held = a.held ∙ held_anew q.held (lies (slice_get q.ledger.posted (served_count q)) None) (lies (slice_get [] 0) None) (answered_unheld q.size ends q k answered);
+          whole = a.whole ∙ k.whole ended;
+          handshake = ap (λ (g : Handshake). record g { driver = New }) a.handshake;
+        }
+
+  -- a machine as it is made agrees with the opening queue
+  pub fits-begun : (n : ℕ) (enabled : Bool) → 0 < n → Agrees {Given = Given} ends says lies (begun n enabled) (opening n enabled)
+  fits-begun n enabled some = record {
+    size_is = refl;
+    head = refl;
+    tail = sym (mod-eq_of_lt some);
+    items = record { words = λ j x y. absurd (omega arith); slots = λ j x y. absurd (omega arith) };
+    empty = λ place mine. empty-begun n place;
+    fill = sym (mod-eq_of_lt some);
+    next = sym (mod-eq_of_lt some);
+    serve = λ e. sym (mod-eq_of_lt some);
+    known = λ e. sym (mod-eq_of_lt some);
+    held = refl;
+    whole = refl;
+    handshake = refl;
+  }

@@ -1,0 +1,4 @@
+pub mod Bits
+pub mod Telling
+pub mod Moving
+pub mod Running

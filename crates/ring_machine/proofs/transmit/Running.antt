@@ -1,0 +1,109 @@
+-- A transmit machine follows its ring, step by step and through every schedule.
+use Rattle.std.proofs.Common.{◌≡◌, ℕ, ◌+◌, ◌<◌, Bool, true, false, List, [], ◌∷◌, ◌++◌, Option, Some, None, sym, refl, ◌∙◌, subst, arith, if◌then◌else◌, mod-eq_of_lt}
+use Rattle.std.specs.Prelude.{nat_lt, Ok, Err}
+use Rattle.std.proofs.lemmas.Option.{none-some}
+use Rattle.ring_model.specs.declared.steps.TxStep.{TxStep}
+use Rattle.ring_model.specs.declared.steps.TxStep.TheVariants.{Post, Publish, Look, Fetch, Send, Report, LoadReport, Clean, Control, Reclaim, ClearHead, ClearTail, ClearReport}
+use Rattle.ring_model.specs.declared.notes.Note.{Note}
+use Rattle.ring_model.specs.transmit.Ring.{Posting, TxBeginning, TxRing, ends_posting, next_posting, next_sent, number_of_posting, tx_opening}
+use Rattle.ring_model.specs.transmit.Steps.{IsTxReachable, by_head, cleaned_one, loaded_report, oldest_report, sent_one, tx_can, tx_changed, tx_cleared, tx_note_of}
+use Rattle.ring_model.specs.transmit.Agreement.{is_told}
+use Rattle.ring_model.proofs.shared.Reaching.{kept-reached, reached-more}
+use Rattle.ring_model.proofs.transmit.Kept.{IsTxKept}
+use Rattle.ring_model.proofs.transmit.Reached.{tx_kept}
+use Rattle.ring_machine.specs.declared.error.MachineError.{MachineError}
+use Rattle.ring_machine.specs.declared.error.MachineError.TheVariants as refusal
+use Rattle.ring_machine.specs.shared.Moves.{told_owner}
+use Rattle.ring_machine.specs.transmit.Machine.{IsTxSound, StepFits, TxAgrees, TxFollows, TxOwns, TxParts, TxRuns, lies_tx, says_tx}
+use Rattle.ring_machine.specs.transmit.Moves.{tx_begun, tx_may, tx_moved, tx_told}
+use Rattle.ring_machine.proofs.shared.Running.{did-made, did-refused, runs-append, runs-nil, runs-none, runs-one}
+use Rattle.ring_machine.proofs.shared.Shaking.{fits-begun}
+use Rattle.ring_machine.proofs.shared.Owning.{owns}
+use Rattle.ring_machine.proofs.transmit.Telling.{named, tx_may_is, tx_told_is}
+use Rattle.ring_machine.proofs.transmit.Moving.{tx_fits-moved}
+
+sent-size : (r : TxRing ℕ) (o : Option (Posting ℕ)) → (sent_one r o).size ≡ r.size
+sent-size r None = refl
+sent-size r (Some q) = refl
+
+seen-size : (r : TxRing ℕ) (j : ℕ) (seen : Bool) → (if seen then record r { seen_reported = j + 1 } else r).size ≡ r.size
+seen-size r j true = refl
+seen-size r j false = refl
+
+loaded-size : (r : TxRing ℕ) (o : Option ℕ) → (loaded_report r o).size ≡ r.size
+loaded-size r None = refl
+loaded-size r (Some j) = seen-size r j (nat_lt j r.reported)
+
+cleaned-size : (r : TxRing ℕ) (o : Option (Posting ℕ)) → (cleaned_one r o).size ≡ r.size
+cleaned-size r None = refl
+cleaned-size r (Some q) = refl
+
+cleared-size : (r : TxRing ℕ) (head : Bool) → (tx_cleared r head).size ≡ r.size
+cleared-size r true = refl
+cleared-size r false = refl
+
+changed-size : (r : TxRing ℕ) (s : TxStep (Posting ℕ)) → (tx_changed r s).size ≡ r.size
+changed-size r (Post b) = refl
+changed-size r Publish = refl
+changed-size r Look = refl
+changed-size r Fetch = refl
+changed-size r Send = sent-size r (next_posting r)
+changed-size r Report = refl
+changed-size r LoadReport = loaded-size r (oldest_report r)
+changed-size r Clean = cleaned-size r (next_sent r)
+changed-size r (Control c) = refl
+changed-size r Reclaim = refl
+changed-size r ClearHead = refl
+changed-size r ClearTail = cleared-size r (by_head r.completion)
+changed-size r ClearReport = refl
+
+-- a ring has as many places as the one that its schedule began with
+pub tx_reached-size : (n : ℕ) (r : TxRing ℕ) → IsTxReachable ℕ n r → r.size ≡ n
+tx_reached-size n r e = kept-reached tx_can tx_changed (λ (q : TxRing ℕ). q.size ≡ n) (λ q s same may. changed-size q s ∙ same) (tx_opening n) (λ b. refl) r e
+
+-- a ring that a schedule gave and that a machine agrees with is kept
+tx_meets : (p : TxParts) (n : ℕ) (r : TxRing ℕ) → IsTxSound p → IsTxReachable ℕ n r → TxAgrees p r → IsTxKept ℕ r.size r
+tx_meets p n r sound e a = let q = a.queue in let same = tx_reached-size n r e in let s = sound.queue in let some = s.some_places in let size = q.size_is in
+    subst (λ (m : ℕ). IsTxKept ℕ m r) (sym same) (tx_kept n r (omega arith) e)
+
+pub tx_moves-on : (p : TxParts) (s : TxStep (Posting ℕ)) → IsTxSound p → StepFits s → tx_may p s ≡ true → TxFollows p s (tx_told p s) (tx_moved p s)
+unfolding TxFollows
+tx_moves-on p s sound short may n r e a = let k = tx_meets p n r sound e a in let happens : tx_can r s ≡ true = sym (tx_may_is p r k a s) ∙ may in
+    rw (tx_told_is p r k a s happens) (did-made TxAgrees (IsTxReachable ℕ) tx_can tx_changed tx_note_of p (tx_moved p s) r s happens (tx_fits-moved p r k a sound s short happens))
+
+pub tx_refuses : (p : TxParts) (s : TxStep (Posting ℕ)) → IsTxSound p → tx_may p s ≡ false → TxFollows p s (Err refusal.NotEnabled) p
+unfolding TxFollows
+tx_refuses p s sound may n r e a = let k = tx_meets p n r sound e a in did-refused TxAgrees (IsTxReachable ℕ) tx_can tx_changed tx_note_of p r s (sym (tx_may_is p r k a s) ∙ may) a
+
+-- a machine as it is made agrees with the opening ring
+pub tx_begun-agrees : (n : ℕ) (b : TxBeginning) → 0 < n → TxAgrees (tx_begun n b) (tx_opening n b)
+tx_begun-agrees n b some = record {
+  queue = fits-begun ends_posting (says_tx (is_told {Payload = ℕ} (tx_opening n b))) lies_tx n b.enabled some;
+  completion = refl;
+  report = λ e. sym (mod-eq_of_lt some);
+  rep = sym (mod-eq_of_lt some);
+  ends = refl;
+  owed = refl;
+  lengths = λ j q x e. absurd (none-some q e);
+}
+
+pub tx_runs-one : (a b : TxParts) (s : TxStep (Posting ℕ)) (told : Note) → TxFollows a s (Ok told) b → TxRuns a (s ∷ []) 1 b
+unfolding TxFollows TxRuns
+tx_runs-one a b s told follows = runs-one TxAgrees (IsTxReachable ℕ) tx_can tx_changed tx_note_of a b s told follows
+
+pub tx_runs-none : (a b : TxParts) (s : TxStep (Posting ℕ)) (why : MachineError) → TxFollows a s (Err why) b → TxRuns a (s ∷ []) 0 b
+unfolding TxFollows TxRuns
+tx_runs-none a b s why follows = runs-none TxAgrees (IsTxReachable ℕ) tx_can tx_changed tx_note_of a b s why follows
+
+pub tx_runs-nil : (a : TxParts) → TxRuns a [] 0 a
+unfolding TxRuns
+tx_runs-nil a = runs-nil TxAgrees (IsTxReachable ℕ) tx_can tx_changed tx_note_of a
+
+-- one schedule after another
+pub tx_runs-append : (a b c : TxParts) (ss more : List (TxStep (Posting ℕ))) (x y : ℕ) → TxRuns a ss x b → TxRuns b more y c → TxRuns a (ss ++ more) (x + y) c
+unfolding TxRuns
+tx_runs-append a b c ss more x y f g = runs-append TxAgrees (IsTxReachable ℕ) tx_can tx_changed tx_note_of (λ n r ss e. reached-more tx_can tx_changed (tx_opening n) r ss e) a b c ss more x y f g
+
+pub tx_owns : (p : TxParts) (place : ℕ) → IsTxSound p → place < p.queue.size → TxOwns p place (told_owner p.queue place)
+unfolding TxOwns
+tx_owns p place sound below n r e a = let k = tx_meets p n r sound e a in owns ends_posting (says_tx (is_told r)) lies_tx number_of_posting p.queue r.queue k.queue a.queue (named p r k a) place below

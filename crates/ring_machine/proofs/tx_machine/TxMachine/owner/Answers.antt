@@ -1,6 +1,0 @@
--- The owner is the map's.
-use Rattle.ring_machine.proofs.TxOwning.{tx_owns}
-use Rattle.ring_machine.proofs.tx_machine.TxMachine.owner.Goals as goal
-
-pub returns : goal.returns
-returns c = rw c.owner_at.ensures.told (tx_owns c.args.self.now c.args.place c.owner_at.ensures.sound c.requires)

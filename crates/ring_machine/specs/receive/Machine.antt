@@ -1,0 +1,43 @@
+-- A receive queue's machine: what it has, and what is promised of its steps by the ring that it agrees with.
+use Rattle.std.specs.Prelude.{◌≡◌, ℕ, Bool, List, Option, Some, Result, slice_get}
+use Rattle.ring_model.specs.declared.states.Owner.{Owner}
+use Rattle.ring_model.specs.declared.steps.RxStep.{RxStep}
+use Rattle.ring_model.specs.declared.notes.Note.{Note}
+use Rattle.ring_model.specs.shared.Agreement.{Agrees, Wrapped}
+use Rattle.ring_model.specs.receive.Ring.{Segment, RxRing, ends_segment}
+use Rattle.ring_model.specs.receive.Steps.{rx_can, rx_changed, rx_note_of, IsRxReachable}
+use Rattle.ring_model.specs.receive.Agreement.{rx_lies, rx_says}
+use Rattle.ring_machine.specs.declared.error.MachineError.{MachineError}
+use Rattle.ring_machine.specs.declared.machine.receive.RxMachine.TheInside.{Inside}
+use Rattle.ring_machine.specs.shared.Following.{Follows, Runs}
+
+-- what both directions have, the quiet word, and whether the controller said that it stores no more
+pub record RxParts : Type 0 where
+  pub queue : Wrapped ℕ
+  pub quiet : ℕ
+  pub still : Bool
+
+abbrev pub rx_parts_of : Inside → RxParts
+rx_parts_of m = record { queue = m.queue; quiet = m.quiet; still = m.still }
+
+-- a payload is the number of its bytes, and a buffer its number
+abbrev pub says_rx : ℕ → Option ℕ → Option (Segment ℕ) → ℕ
+says_rx = rx_says {Payload = ℕ} {Buffer = ℕ} (λ len. len) (λ b. b) (λ b len. b)
+
+abbrev pub lies_rx : Option ℕ → Option (Segment ℕ) → Option ℕ
+lies_rx = rx_lies {Payload = ℕ} {Buffer = ℕ} (λ len. len) (λ b. b) (λ b len. b)
+
+pub record RxAgrees (p : RxParts) (r : RxRing ℕ) : Type 0 where
+  pub queue : Agrees {Given = Segment ℕ} ends_segment says_rx lies_rx p.queue r.queue
+  pub quiet : p.quiet ≡ r.quiet
+  pub still : p.still ≡ r.still
+
+unfoldable pub RxFollows : RxParts → RxStep ℕ → Result Note MachineError → RxParts → Type 0
+RxFollows = Follows RxAgrees (IsRxReachable ℕ) rx_can rx_changed rx_note_of
+
+unfoldable pub RxRuns : RxParts → List (RxStep ℕ) → ℕ → RxParts → Type 0
+RxRuns = Runs RxAgrees (IsRxReachable ℕ) rx_can rx_changed rx_note_of
+
+-- the machine's answer is the owner that the ring's map has
+unfoldable pub RxOwns : RxParts → ℕ → Owner → Type 0
+RxOwns p place owner = (n : ℕ) (r : RxRing ℕ) → IsRxReachable ℕ n r → RxAgrees p r → slice_get r.owners place ≡ Some owner

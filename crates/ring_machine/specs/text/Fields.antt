@@ -1,0 +1,48 @@
+-- The fields of a move's line as the reader has them.
+use Rattle.std.specs.Prelude.{◌≡◌, ◌==◌, ◌<◌, ◌^◌, nat_le, ℕ, Bool, not, ◌&&◌, ◌||◌, List, [], length, slice_index, Option, Some, None}
+use Rattle.std.specs.Borrow.{Bor}
+use Rattle.std.specs.Char.{is_ascii_digit}
+use Rattle.std.specs.List.{AllByRecursion, list_all, slice_split}
+use Rattle.ring_machine.specs.declared.moves.Move.{Move}
+use Rattle.ring_model.specs.declared.steps.RxStep.{RxStep}
+use Rattle.ring_model.specs.declared.steps.TxStep.{TxStep}
+use Rattle.ring_model.specs.transmit.Ring.{Posting}
+use Rattle.ring_machine.specs.text.Moves.{IsInRange, IsRxInRange, IsTxInRange, arguments_of, kind_of, queue_of, rx_arguments, rx_kind, tx_arguments, tx_kind}
+
+-- what stands between spaces
+abbrev pub fields_in : List ℕ → List (List ℕ)
+fields_in line = slice_split (λ b. b == 32) line
+
+-- the fields after a space, if there was one
+abbrev pub later_fields : Option (Bor (List ℕ)) → List (List ℕ)
+later_fields None = []
+later_fields (Some rest) = fields_in rest.now
+
+-- the step is in range, and these are the name of its kind and its arguments
+pub record SpellsRx (name numbers : List ℕ) (s : RxStep ℕ) : Type 0 where
+  pub in_range : IsRxInRange s
+  pub kind : name ≡ rx_kind s
+  pub arguments : numbers ≡ rx_arguments s
+
+pub record SpellsTx (name numbers : List ℕ) (s : TxStep (Posting ℕ)) : Type 0 where
+  pub in_range : IsTxInRange s
+  pub kind : name ≡ tx_kind s
+  pub arguments : numbers ≡ tx_arguments s
+
+-- the same of a move, with its queue
+pub record Spells (first name numbers : List ℕ) (m : Move) : Type 0 where
+  pub in_range : IsInRange m
+  pub queue : first ≡ queue_of m
+  pub kind : name ≡ kind_of m
+  pub arguments : numbers ≡ arguments_of m
+
+-- 1 to 5 decimal digits, the first of more than one not `0`
+abbrev pub is_number : List ℕ → Bool
+is_number field =
+    nat_le 1 (length field) && nat_le (length field) 5
+    && (length field == 1 || not (slice_index field 0 == 48))
+    && list_all is_ascii_digit field
+
+-- numbers that fit 16 bits
+abbrev pub AreSmall : List ℕ → Type 0
+AreSmall ns = AllByRecursion (λ n. n < 2 ^ 16) ns

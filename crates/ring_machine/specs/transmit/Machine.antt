@@ -1,0 +1,65 @@
+-- A transmit queue's machine: what it has, and what is promised of its steps by the ring that it agrees with.
+use Rattle.std.specs.Prelude.{◌≡◌, ℕ, ◌%◌, ◌^◌, ◌<◌, ◌≤◌, Bool, true, List, Option, Some, Result, slice_get}
+use Rattle.ring_model.specs.declared.states.Completion.{Completion}
+use Rattle.ring_model.specs.declared.states.Owner.{Owner}
+use Rattle.ring_model.specs.declared.steps.TxStep.{TxStep}
+use Rattle.ring_model.specs.declared.steps.TxStep.TheVariants.{Post}
+use Rattle.ring_model.specs.declared.notes.Note.{Note}
+use Rattle.ring_model.specs.shared.Queue.{returned_count}
+use Rattle.ring_model.specs.shared.Agreement.{Agrees, Wrapped}
+use Rattle.ring_model.specs.transmit.Ring.{Posting, TxRing, are_whole, ends_posting}
+use Rattle.ring_model.specs.transmit.Steps.{by_head, tx_can, tx_changed, tx_note_of, IsTxReachable}
+use Rattle.ring_model.specs.transmit.Agreement.{is_told, tx_lies, tx_says}
+use Rattle.ring_machine.specs.declared.error.MachineError.{MachineError}
+use Rattle.ring_machine.specs.declared.machine.transmit.TxMachine.TheInside.{Inside}
+use Rattle.ring_machine.specs.shared.Machine.{IsSound}
+use Rattle.ring_machine.specs.shared.Following.{Follows, Runs}
+
+-- what both directions have, and how the queue reports
+pub record TxParts : Type 0 where
+  pub queue : Wrapped ℕ
+  pub completion : Completion
+  pub report : ℕ  -- the head word of reports
+  pub rep : ℕ  -- the place after the highest report that the driver has seen
+  pub ends : Bool  -- whether the last posted segment ends a frame
+  pub owed : Bool  -- a report, for the place before the next to fetch
+
+abbrev pub tx_parts_of : Inside → TxParts
+tx_parts_of m = record { queue = m.queue; completion = m.completion; report = m.report; rep = m.rep; ends = m.ends; owed = m.owed }
+
+-- the place of reports is one of the ring's too
+pub record IsTxSound (p : TxParts) : Type 0 where
+  pub queue : IsSound p.queue
+  pub rep : p.rep < p.queue.size
+
+-- a payload is the number of its bytes, and a buffer its number; `told` says whether the report of an item stands in its descriptor
+abbrev pub says_tx : (ℕ → Bool) → ℕ → Option (Posting ℕ) → Option (Posting ℕ) → ℕ
+says_tx = tx_says {Payload = ℕ} {Buffer = ℕ} (λ len. len) (λ b. b.number)
+
+abbrev pub lies_tx : Option (Posting ℕ) → Option (Posting ℕ) → Option ℕ
+lies_tx = tx_lies {Payload = ℕ} {Buffer = ℕ} (λ len. len) (λ b. b.number)
+
+pub record TxAgrees (p : TxParts) (r : TxRing ℕ) : Type 0 where
+  pub queue : Agrees {Given = ℕ} ends_posting (says_tx (is_told r)) lies_tx p.queue r.queue
+  pub completion : p.completion ≡ r.completion
+  pub report : by_head r.completion ≡ true → p.report ≡ r.reported % r.size
+  pub rep : p.rep ≡ r.seen_reported % r.size
+  pub ends : p.ends ≡ are_whole r.ledger.posted
+  pub owed : p.owed ≡ r.owed
+  -- the length of each item that is out fits the descriptor's bits
+  pub lengths : (k : ℕ) (q : Posting ℕ) → returned_count r.queue ≤ k → slice_get r.ledger.posted k ≡ Some q → q.payload < 2 ^ 16
+
+-- the length of what is posted fits the descriptor's bits
+abbrev pub StepFits : TxStep (Posting ℕ) → Type 0
+StepFits (Post p) = p.payload < 2 ^ 16
+StepFits _ = Unit {0}
+
+unfoldable pub TxFollows : TxParts → TxStep (Posting ℕ) → Result Note MachineError → TxParts → Type 0
+TxFollows = Follows TxAgrees (IsTxReachable ℕ) tx_can tx_changed tx_note_of
+
+unfoldable pub TxRuns : TxParts → List (TxStep (Posting ℕ)) → ℕ → TxParts → Type 0
+TxRuns = Runs TxAgrees (IsTxReachable ℕ) tx_can tx_changed tx_note_of
+
+-- the machine's answer is the owner that the ring's map has
+unfoldable pub TxOwns : TxParts → ℕ → Owner → Type 0
+TxOwns p place owner = (n : ℕ) (r : TxRing ℕ) → IsTxReachable ℕ n r → TxAgrees p r → slice_get r.owners place ≡ Some owner

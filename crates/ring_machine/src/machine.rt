@@ -1,0 +1,10 @@
+//! One queue as a machine, in either direction.
+
+mod places;
+mod queue;
+mod receive;
+mod transmit;
+mod words;
+
+pub use receive::RxMachine;
+pub use transmit::TxMachine;

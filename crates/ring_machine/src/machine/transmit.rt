@@ -1,0 +1,346 @@
+//! One transmit queue as a machine: what both directions have, and how it reports.
+
+ghost use Rattle.std.specs.Prelude.{◌≡◌, ◌^◌, ◌<◌, ◌≤◌, ◌↔◌, ◌⊎◌, [], ◌∷◌, IfErr, IfOk, IfSome};
+ghost use Rattle.limits.specs.RingLength.{IsRingLength};
+ghost use Rattle.ring_model.specs.declared.states.Completion.TheVariants as by;
+ghost use Rattle.ring_model.specs.declared.steps.TxStep.TheVariants as step;
+ghost use Rattle.ring_model.specs.transmit.Ring.{tx_opening};
+ghost use Rattle.ring_machine.specs.declared.error.MachineError.TheVariants.{Memory, NotEnabled, RingLength};
+ghost use Rattle.ring_machine.specs.shared.Moves.{told_owner};
+ghost use Rattle.ring_machine.specs.transmit.Machine.{IsTxSound, StepFits, TxAgrees, TxFollows, TxOwns, TxRuns};
+ghost use Rattle.ring_machine.specs.transmit.Moves.{is_made, oldest_place, tx_after_renew, tx_may, tx_moved, tx_told};
+
+use crate::error::MachineError;
+use crate::machine::places::{place_after, places_between};
+use crate::machine::queue::QueueMachine;
+use crate::machine::words::{DONE, eop_in, first_asking, len_in, place_before, rs_in};
+use crate::moves::arguments::Descriptor;
+use ring_model::{Completion, ControlStep, FetchedSegment, Note, Owner, TxStep};
+use std::alloc::Global;
+use std::marker::Model;
+
+/// One transmit queue. It has no lists of what was posted, sent and cleaned: they are the ring's that it agrees with.
+#[derive(Drop)]
+pub struct TxMachine {
+    queue: QueueMachine,
+    completion: Completion,
+    report: u16,
+    rep: u16,
+    ends: bool,
+    owed: bool,
+}
+
+impl Model for TxMachine {
+    ghost use Rattle.ring_machine.specs.transmit.Machine.{tx_parts_of, IsTxSound, TxParts};
+
+    ghost Value = { TxParts };
+
+    ghost view = { tx_parts_of };
+
+    ghost invariant = { λ m. IsTxSound (tx_parts_of m) };
+}
+
+// What it tells.
+impl TxMachine {
+    // The place of the oldest report that was asked for and not seen.
+    fn oldest_report(&self) -> Option<u16>
+        ensures value { result ≡ oldest_place self.now }
+        ensures below { IfSome result (λ place. place < self.now.queue.size) }
+    {
+        let size = self.queue.size();
+        let count = places_between(self.rep, self.queue.fill(), size);
+        first_asking(self.queue.words(), size, self.rep, count)
+    }
+
+    // Whether the report of this place is made: by the word of its descriptor, or by the head word.
+    fn is_made(&self, place: u16) -> bool
+        requires { place < self.now.queue.size }
+        ensures { result ≡ is_made self.now place }
+    {
+        if !self.completion.is_by_head() {
+            return self.queue.word(place) == DONE;
+        }
+        let size = self.queue.size();
+        let reported = places_between(self.rep, self.report, size);
+        places_between(self.rep, place_after(place, size), size) <= reported
+    }
+
+    // Whether the queue has the step, as far as words and places tell.
+    fn may(&self, step: &TxStep<Descriptor>) -> bool
+        ensures told { result ≡ tx_may self.now step.now }
+        ensures sound { IsTxSound self.now }
+    {
+        let handshake = self.queue.handshake();
+        match step {
+            TxStep::Post(_) => self.queue.can_post(),
+            TxStep::Publish => handshake.driver.is_open() && self.ends,
+            TxStep::Look => handshake.controller.is_serving(),
+            TxStep::Fetch => self.queue.can_fetch() && !self.owed,
+            TxStep::Send => self.queue.is_holding(),
+            TxStep::Report => self.owed,
+            TxStep::LoadReport => handshake.driver.is_live() && self.oldest_report().is_some(),
+            TxStep::Clean => handshake.driver.is_live() && self.queue.next() != self.rep,
+            TxStep::Control(control) => {
+                handshake.may_shake(*control, self.queue.is_settled() && !self.owed)
+            }
+            TxStep::Reclaim => handshake.driver.is_stopped() && !self.queue.are_all_back(),
+            TxStep::ClearHead => handshake.driver.is_stopped() && self.queue.are_all_back(),
+            TxStep::ClearTail => handshake.driver.is_cleared(),
+            TxStep::ClearReport => self.completion.is_by_head() && handshake.driver.is_tailed(),
+        }
+    }
+
+    /// How many places the ring has, and so descriptors.
+    pub fn size(&self) -> u16
+        ensures { result ≡ self.now.queue.size }
+    {
+        self.queue.size()
+    }
+
+    /// Who has this place, which is below the size.
+    pub fn owner(&self, place: u16) -> Owner
+        requires { place < self.now.queue.size }
+        ensures { TxOwns self.now place result }
+    {
+        self.owner_at(place)
+    }
+
+    fn owner_at(&self, place: u16) -> Owner
+        ensures told { result ≡ told_owner self.now.queue place }
+        ensures sound { IsTxSound self.now }
+    {
+        self.queue.owner(place)
+    }
+}
+
+// What each step does.
+impl TxMachine {
+    fn post(&mut self, posted: &Descriptor) -> Note
+        ensures told { Ok result ≡ tx_told self.old (step.Post posted.now) }
+        ensures moved { self.new ≡ tx_moved self.old (step.Post posted.now) }
+        ensures short { posted.now.payload < 2 ^ 16 }
+    {
+        self.ends = posted.eop();
+        Note::Place(self.queue.post(posted.number(), posted.word()))
+    }
+
+    fn fetch(&mut self) -> Result<Note, MachineError>
+        ensures told { result ≡ tx_told self.old step.Fetch }
+        ensures moved { self.new ≡ tx_moved self.old step.Fetch }
+    {
+        let place = self.queue.serve_place();
+        let word = self.queue.word(place);
+        let Some(buffer) = self.queue.fetch() else {
+            return Err(MachineError::NotEnabled);
+        };
+        let (len, eop, rs) = (len_in(word), eop_in(word), rs_in(word));
+        Ok(Note::Sending(
+            place,
+            FetchedSegment {
+                buffer,
+                len,
+                eop,
+                rs,
+            },
+        ))
+    }
+
+    // The word is still the one that was fetched: nothing but a report changes it.
+    fn send(&mut self) -> Result<Note, MachineError>
+        ensures told { result ≡ tx_told self.old step.Send }
+        ensures moved { self.new ≡ tx_moved self.old step.Send }
+    {
+        let word = self.queue.word(self.queue.serve_place());
+        if self.queue.serve(None, eop_in(word)).is_none() {
+            return Err(MachineError::NotEnabled);
+        }
+        self.owed = rs_in(word);
+        Ok(Note::Head(self.queue.store_head()))
+    }
+
+    fn report(&mut self) -> Note
+        ensures told { Ok result ≡ tx_told self.old step.Report }
+        ensures moved { self.new ≡ tx_moved self.old step.Report }
+    {
+        let serve = self.queue.serve_place();
+        self.owed = false;
+        if self.completion.is_by_head() {
+            self.report = serve;
+            Note::Head(serve)
+        } else {
+            let place = place_before(serve, self.queue.size());
+            self.queue.write(place, Some(DONE));
+            Note::Place(place)
+        }
+    }
+
+    fn load_report(&mut self) -> Note
+        ensures told { Ok result ≡ tx_told self.old step.LoadReport }
+        ensures moved { self.new ≡ tx_moved self.old step.LoadReport }
+    {
+        let Some(place) = self.oldest_report() else {
+            return Note::Reported(None);
+        };
+        if !self.is_made(place) {
+            return Note::Reported(None);
+        }
+        self.rep = place_after(place, self.queue.size());
+        Note::Reported(Some(place))
+    }
+
+    // Cleaning and reclaiming alike.
+    fn take_out(&mut self) -> Result<Note, MachineError>
+        ensures told { result ≡ tx_told self.old step.Clean }
+        ensures moved { self.new ≡ tx_moved self.old step.Clean }
+    {
+        match self.queue.take_out(Some(0)) {
+            Some(buffer) => Ok(Note::Buffer(buffer)),
+            None => Err(MachineError::NotEnabled),
+        }
+    }
+
+    fn shake(&mut self, control: ControlStep) -> Note
+        ensures told { Ok result ≡ tx_told self.old (step.Control control) }
+        ensures moved { self.new ≡ tx_moved self.old (step.Control control) }
+    {
+        if self.queue.enables(control) {
+            self.owed = false;
+        }
+        Note::Control(self.queue.shake(control))
+    }
+
+    fn clear_head(&mut self) -> Note
+        ensures told { Ok result ≡ tx_told self.old step.ClearHead }
+        ensures moved { self.new ≡ tx_moved self.old step.ClearHead }
+    {
+        self.queue.clear_head();
+        Note::Head(0)
+    }
+
+    fn renew(&mut self)
+        ensures { self.new ≡ tx_after_renew self.old }
+    {
+        self.queue.renew();
+        self.report = 0;
+        self.rep = 0;
+        self.ends = true;
+    }
+
+    fn clear_tail(&mut self) -> Note
+        ensures told { Ok result ≡ tx_told self.old step.ClearTail }
+        ensures moved { self.new ≡ tx_moved self.old step.ClearTail }
+    {
+        self.queue.clear_tail();
+        if !self.completion.is_by_head() {
+            self.renew();
+        }
+        Note::Tail(0)
+    }
+
+    fn clear_report(&mut self) -> Note
+        ensures told { Ok result ≡ tx_told self.old step.ClearReport }
+        ensures moved { self.new ≡ tx_moved self.old step.ClearReport }
+    {
+        self.renew();
+        Note::Head(0)
+    }
+
+    // The step, where the queue has it.
+    fn make(&mut self, step: &TxStep<Descriptor>) -> Result<Note, MachineError>
+        ensures told { result ≡ tx_told self.old step.now }
+        ensures moved { self.new ≡ tx_moved self.old step.now }
+        ensures short { StepFits step.now }
+    {
+        match step {
+            TxStep::Post(posted) => Ok(self.post(posted)),
+            TxStep::Publish => Ok(Note::Tail(self.queue.publish())),
+            TxStep::Look => Ok(Note::Ready(self.queue.look())),
+            TxStep::Fetch => self.fetch(),
+            TxStep::Send => self.send(),
+            TxStep::Report => Ok(self.report()),
+            TxStep::LoadReport => Ok(self.load_report()),
+            TxStep::Clean | TxStep::Reclaim => self.take_out(),
+            TxStep::Control(control) => Ok(self.shake(*control)),
+            TxStep::ClearHead => Ok(self.clear_head()),
+            TxStep::ClearTail => Ok(self.clear_tail()),
+            TxStep::ClearReport => Ok(self.clear_report()),
+        }
+    }
+
+    // The step, or 11 where the queue does not have it.
+    pub(crate) fn step_by(&mut self, step: &TxStep<Descriptor>) -> Result<Note, MachineError>
+        ensures follows { TxFollows self.old step.now result self.new }
+        ensures refused { IfErr result (λ e. (e ≡ NotEnabled) × (self.new ≡ self.old)) }
+    {
+        if !self.may(step) {
+            return Err(MachineError::NotEnabled);
+        }
+        self.make(step)
+    }
+
+    // How many steps of this one are made: one or none.
+    fn tried(&mut self, step: &TxStep<Descriptor>) -> usize
+        ensures runs { TxRuns self.old (step.now ∷ []) result self.new }
+        ensures one { result ≤ 1 }
+    {
+        match self.step_by(step) {
+            Ok(_) => 1,
+            Err(_) => 0,
+        }
+    }
+
+    /// Makes one step. Where the queue has no such step, it answers `NotEnabled`. An `Err` leaves the machine as it was.
+    pub fn step(&mut self, step: TxStep<Descriptor>) -> Result<Note, MachineError>
+        ensures follows { TxFollows self.old step result self.new }
+        ensures refused { IfErr result (λ e. (e ≡ NotEnabled) × (self.new ≡ self.old)) }
+    {
+        self.step_by(&step)
+    }
+
+    /// Makes each step that the queue has when its turn comes, passes over the others, and answers how many it made.
+    pub fn run(&mut self, steps: &[TxStep<Descriptor>]) -> usize
+        ensures { TxRuns self.old steps.now result self.new }
+    {
+        let mut made = 0;
+        for step in steps {
+            made += self.tried(step);
+        }
+        made
+    }
+}
+
+// How it is made.
+impl TxMachine {
+    /// A transmit queue of `n` descriptors with nothing posted, enabled and seen enabled or never enabled, that reports
+    /// by its descriptors. It answers `RingLength` where `n` is no power of two from 8 to 4,096, and `Memory` only where
+    /// memory was refused.
+    pub fn new(alloc: Global, n: usize, enabled: bool) -> Result<TxMachine, MachineError>
+        ensures refused { (result ≡ Err RingLength) ↔ ¬ (IsRingLength n) }
+        ensures error { IfErr result (λ e. (e ≡ RingLength) ⊎ (e ≡ Memory)) }
+        ensures made { IfOk result (λ m. TxAgrees m (tx_opening n (record { enabled = enabled; completion = by.Status }))) }
+    {
+        TxMachine::new_with(alloc, n, enabled, Completion::Status)
+    }
+
+    /// The same queue, which reports as it is told.
+    pub fn new_with(
+        alloc: Global,
+        n: usize,
+        enabled: bool,
+        completion: Completion,
+    ) -> Result<TxMachine, MachineError>
+        ensures refused { (result ≡ Err RingLength) ↔ ¬ (IsRingLength n) }
+        ensures error { IfErr result (λ e. (e ≡ RingLength) ⊎ (e ≡ Memory)) }
+        ensures made { IfOk result (λ m. TxAgrees m (tx_opening n (record { enabled = enabled; completion = completion }))) }
+    {
+        let queue = QueueMachine::new(alloc, n, enabled)?;
+        Ok(TxMachine {
+            queue,
+            completion,
+            report: 0,
+            rep: 0,
+            ends: true,
+            owed: false,
+        })
+    }
+}
