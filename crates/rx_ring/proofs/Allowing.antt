@@ -1,5 +1,5 @@
 -- Each step of an end keeps the rule, whatever the table is when it happens, and tells what its play says.
-use Rattle.std.proofs.Common.{◌≡◌, ◌≢◌, ℕ, zero, suc, ◌<◌, List, [], ◌∷◌, ◌++◌, Option, sym, subst, ⊎_elim, inr}
+use Rattle.std.proofs.Common.{◌≡◌, ◌≢◌, ℕ, zero, suc, ◌<◌, List, [], ◌∷◌, ◌++◌, sym, subst, ⊎_elim, inr}
 use Rattle.std.specs.Prelude.{slice_index, slice_set}
 use mathlib.Core.Option as maybe
 use mathlib.Core.Option.{some, none, some-injective, some-ne-none}
@@ -28,16 +28,16 @@ pub running : (n : ℕ) (s : Table) (id : ℕ) (v : RxView) → IsRuled n s → 
 running n s id v ruled at ne = ⊎_elim (λ b. absurd (ne (no_record s.views id v b.views at))) (λ r. r) ruled.1
 
 -- What a step of the driver does where words and slots lie as the ring q has them
-pub record DriverGoes (n : ℕ) (es : List DriverEvent) (carried : List (ℕ × Option Buffer)) (i : ℕ) (f : ℕ → ℕ) (tells : ℕ → Seated → Type 0) (cs : List ControllerEvent) (words : List ℕ) (homes : List (maybe.Option (Option Buffer))) : Type 0 where
+pub record DriverGoes (n : ℕ) (es : List DriverEvent) (carried : List (ℕ × Buffer)) (i : ℕ) (f : ℕ → ℕ) (tells : ℕ → Seated → Type 0) (cs : List ControllerEvent) (words : List ℕ) (homes : List (maybe.Option Buffer)) : Type 0 where
   pub event : DriverEvent
-  pub act : Act (Option Buffer)
+  pub act : Act Buffer
   pub valid : Valid homes carried act
   pub later : RxRing Bytes
   pub lies : LiesAs n later (es ++ event ∷ []) cs (slice_set words i (f (slice_index words i))) (homes_after homes carried act)
   pub told : tells (slice_index words i) (Driver (es ++ event ∷ []), carried_after carried act)
 
-pub allow_driver : (n id : ℕ) (es : List DriverEvent) (carried : List (ℕ × Option Buffer)) (i : ℕ) (f : ℕ → ℕ) (tells : ℕ → Seated → Type 0)
-    → ((q : RxRing Bytes) (cs : List ControllerEvent) (words : List ℕ) (homes : List (maybe.Option (Option Buffer))) → 1 < n → LiesAs n q es cs words homes → DriverGoes n es carried i f tells cs words homes)
+pub allow_driver : (n id : ℕ) (es : List DriverEvent) (carried : List (ℕ × Buffer)) (i : ℕ) (f : ℕ → ℕ) (tells : ℕ → Seated → Type 0)
+    → ((q : RxRing Bytes) (cs : List ControllerEvent) (words : List ℕ) (homes : List (maybe.Option Buffer)) → 1 < n → LiesAs n q es cs words homes → DriverGoes n es carried i f tells cs words homes)
     → Allows (IsRuled n) n id (Driver es, carried) i f tells
 allow_driver n id es carried i f tells goes s ruled count at small =
     let r = running n s id (Driver es) ruled at (λ e. cc) in
@@ -50,16 +50,16 @@ allow_driver n id es carried i f tells goes s ruled count at small =
       g.told,
     )
 
-pub record ControllerGoes (n : ℕ) (es : List ControllerEvent) (carried : List (ℕ × Option Buffer)) (i : ℕ) (f : ℕ → ℕ) (tells : ℕ → Seated → Type 0) (ds : List DriverEvent) (words : List ℕ) (homes : List (maybe.Option (Option Buffer))) : Type 0 where
+pub record ControllerGoes (n : ℕ) (es : List ControllerEvent) (carried : List (ℕ × Buffer)) (i : ℕ) (f : ℕ → ℕ) (tells : ℕ → Seated → Type 0) (ds : List DriverEvent) (words : List ℕ) (homes : List (maybe.Option Buffer)) : Type 0 where
   pub event : ControllerEvent
-  pub act : Act (Option Buffer)
+  pub act : Act Buffer
   pub valid : Valid homes carried act
   pub later : RxRing Bytes
   pub lies : LiesAs n later ds (es ++ event ∷ []) (slice_set words i (f (slice_index words i))) (homes_after homes carried act)
   pub told : tells (slice_index words i) (Controller (es ++ event ∷ []), carried_after carried act)
 
-pub allow_controller : (n id : ℕ) (es : List ControllerEvent) (carried : List (ℕ × Option Buffer)) (i : ℕ) (f : ℕ → ℕ) (tells : ℕ → Seated → Type 0)
-    → ((q : RxRing Bytes) (ds : List DriverEvent) (words : List ℕ) (homes : List (maybe.Option (Option Buffer))) → 1 < n → LiesAs n q ds es words homes → ControllerGoes n es carried i f tells ds words homes)
+pub allow_controller : (n id : ℕ) (es : List ControllerEvent) (carried : List (ℕ × Buffer)) (i : ℕ) (f : ℕ → ℕ) (tells : ℕ → Seated → Type 0)
+    → ((q : RxRing Bytes) (ds : List DriverEvent) (words : List ℕ) (homes : List (maybe.Option Buffer)) → 1 < n → LiesAs n q ds es words homes → ControllerGoes n es carried i f tells ds words homes)
     → Allows (IsRuled n) n id (Controller es, carried) i f tells
 allow_controller n id es carried i f tells goes s ruled count at small =
     let r = running n s id (Controller es) ruled at (λ e. cc) in

@@ -1,5 +1,5 @@
 -- What the calls of both ends share: a call's table is the end's own, and what is said of one seat is said of an equal one.
-use Rattle.std.proofs.Common.{◌≡◌, ℕ, ◌+◌, ◌<◌, List, ◌∷◌, Option, sym, refl, ap, ◌∙◌, subst, arith}
+use Rattle.std.proofs.Common.{◌≡◌, ℕ, ◌+◌, ◌<◌, List, ◌∷◌, sym, refl, ap, ◌∙◌, subst, arith}
 use Rattle.atomic_table.specs.Table.{Allows, rest}
 use Rattle.atomic_table.specs.Seated.{TableId}
 use Rattle.buffer_pool.specs.Buffer.{Buffer}
@@ -24,8 +24,8 @@ allow-at T n key slots id i f me me' k s m a =
     (subst (λ (x : Seated). Allows (IsRuled n) n id x i f (T n x)) (sym m) a))
 
 -- the front slot is what the list says
-pub front-is : (xs ys : List (ℕ × Option Buffer)) (x : ℕ × Option Buffer) → xs ≡ x ∷ ys → xs ≡ x ∷ rest xs
-front-is xs ys x e = subst (λ (zs : List (ℕ × Option Buffer)). zs ≡ x ∷ rest zs) (sym e) refl
+pub front-is : (xs ys : List (ℕ × Buffer)) (x : ℕ × Buffer) → xs ≡ x ∷ ys → xs ≡ x ∷ rest xs
+front-is xs ys x e = subst (λ (zs : List (ℕ × Buffer)). zs ≡ x ∷ rest zs) (sym e) refl
 
 -- a ring has two places or more
 pub some-places : {n : ℕ} → IsRingLength n → 1 < n

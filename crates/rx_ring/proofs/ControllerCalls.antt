@@ -1,12 +1,12 @@
 -- The controller's calls, over the fields of its end: what each step asks, and what the end keeps.
-use Rattle.std.proofs.Common.{◌≡◌, ℕ, ◌+◌, ◌-◌, ◌*◌, ◌%◌, ◌^◌, ◌<◌, ◌≤◌, Bool, true, false, List, [], ◌∷◌, ◌++◌, length, Option, Some, None, sym, refl, ap, ◌∙◌, subst, arith, if◌then◌else◌, length-append, mod-lt}
+use Rattle.std.proofs.Common.{◌≡◌, ℕ, ◌+◌, ◌-◌, ◌*◌, ◌%◌, ◌^◌, ◌<◌, ◌≤◌, Bool, true, false, List, [], ◌∷◌, ◌++◌, length, Some, None, sym, refl, ap, ◌∙◌, subst, arith, if◌then◌else◌, length-append, mod-lt}
 use Rattle.std.specs.Prelude.{◌==◌}
 use Rattle.std.proofs.lemmas.Option.{none-some}
 use mathlib.Core.Option.{none}
 use Rattle.descriptor.specs.Layout.{bit as descriptor_bit}
 use Rattle.atomic_table.specs.Table.{Allows, step, rest}
 use Rattle.atomic_table.specs.Seated.{TableId}
-use Rattle.buffer_pool.specs.Buffer.{Buffer, buffer}
+use Rattle.buffer_pool.specs.Buffer.{blank, Buffer, buffer}
 use Rattle.ring_model.specs.declared.states.ControllerState.{ControllerState}
 use Rattle.ring_model.specs.receive.Agreement.{rx_word}
 use Rattle.ring_model.specs.receive.Ring.{Segment, piece_of}
@@ -39,14 +39,14 @@ pub word-is : (eop e : Bool) (len n : ℕ) → e ≡ eop → n ≡ len → (w : 
 word-is eop e len n same count w h = same-word e n w h ∙ ap (λ (b : Bool). rx_word n b) same ∙ ap (λ (k : ℕ). rx_word k eop) count
 
 -- an end whose record amounts to x
-pub controller-end : (table : TableId) (es : List ControllerEvent) (slots : List (ℕ × Option Buffer)) (size serve free : ℕ) (state : ControllerState) (x : Controlled) → controlling size es ≡ x
+pub controller-end : (table : TableId) (es : List ControllerEvent) (slots : List (ℕ × Buffer)) (size serve free : ℕ) (state : ControllerState) (x : Controlled) → controlling size es ≡ x
     → table.slots ≡ size → table.words ≡ size + 4 → IsRingLength size → slots ≡ controller_slots size x → serve ≡ length x.stored % size → free + length x.stored ≡ x.known → free < size → ((b : ℕ) → x.held ≡ Some b → 0 < free) → state ≡ x.state
     → IsControllerEnd table (Controller es, slots) size serve free state
 controller-end table es slots size serve free state x e size_is words lawful slots_are serve_is free_is free_below held_free state_is = record {
   size_is = size_is;
   words = words;
   lawful = lawful;
-  me_is = ap (λ (xs : List (ℕ × Option Buffer)). let m : Seated = (Controller es, xs) in m) (slots_are ∙ ap (controller_slots size) (sym e));
+  me_is = ap (λ (xs : List (ℕ × Buffer)). let m : Seated = (Controller es, xs) in m) (slots_are ∙ ap (controller_slots size) (sym e));
   serve_is = serve_is ∙ ap (λ (y : Controlled). length y.stored % size) (sym e);
   free_is = subst (λ (y : Controlled). free + length y.stored ≡ y.known) (sym e) free_is;
   free_below = free_below;
@@ -153,19 +153,19 @@ module _ (table : TableId) (me : Seated) (size serve free : ℕ) (state : Contro
   no-slots e = slots-are-its ∙ ap (slots_while (s % size)) e
 
   -- the seat after the load and the exchange
-  pub fetch-seat : (r : ℕ) (b : Buffer) (me1 me2 : Seated) → me1 ≡ (controller_does me (Fetched serve r b), (serve, Some b) ∷ me.1) → me2 ≡ (me1.0, (serve, None) ∷ rest me1.1)
-      → me2 ≡ (Controller (controllers_of me.0 ++ Fetched serve r b ∷ []), (serve, None) ∷ me.1)
-  fetch-seat r b me1 me2 fetched left = left ∙ ap (λ (m : Seated). let y : Seated = (m.0, (serve, None) ∷ rest m.1) in y) fetched
+  pub fetch-seat : (r : ℕ) (b : Buffer) (me1 me2 : Seated) → me1 ≡ (controller_does me (Fetched serve r b), (serve, b) ∷ me.1) → me2 ≡ (me1.0, (serve, blank) ∷ rest me1.1)
+      → me2 ≡ (Controller (controllers_of me.0 ++ Fetched serve r b ∷ []), (serve, blank) ∷ me.1)
+  fetch-seat r b me1 me2 fetched left = left ∙ ap (λ (m : Seated). let y : Seated = (m.0, (serve, blank) ∷ rest m.1) in y) fetched
 
-  pub fetch-keeps : (r : ℕ) (b : Buffer) (me1 me2 : Seated) (table' : TableId) → me1 ≡ (controller_does me (Fetched serve r b), (serve, Some b) ∷ me.1) → me2 ≡ (me1.0, (serve, None) ∷ rest me1.1) → table' ≡ table → x.held ≡ None → 0 < free
+  pub fetch-keeps : (r : ℕ) (b : Buffer) (me1 me2 : Seated) (table' : TableId) → me1 ≡ (controller_does me (Fetched serve r b), (serve, b) ∷ me.1) → me2 ≡ (me1.0, (serve, blank) ∷ rest me1.1) → table' ≡ table → x.held ≡ None → 0 < free
       → IsControllerEnd table' me2 size serve free state
   fetch-keeps r b me1 me2 table' fetched left same unheld some_free =
-      same-end table table' (Controller (controllers_of me.0 ++ Fetched serve r b ∷ []), (serve, None) ∷ me.1) me2 size serve free state same (fetch-seat r b me1 me2 fetched left)
-      (controller-end table (controllers_of me.0 ++ Fetched serve r b ∷ []) ((serve, None) ∷ me.1) size serve free state (control size x (Fetched serve r b)) (controlling-snoc size (controllers_of me.0) (Fetched serve r b)) inv.size_is inv.words inv.lawful
-      (ap (λ (xs : List (ℕ × Option Buffer)). (serve, None) ∷ xs) (no-slots unheld) ∙ ap (λ (j : ℕ). (j, None) ∷ []) inv.serve_is)
+      same-end table table' (Controller (controllers_of me.0 ++ Fetched serve r b ∷ []), (serve, blank) ∷ me.1) me2 size serve free state same (fetch-seat r b me1 me2 fetched left)
+      (controller-end table (controllers_of me.0 ++ Fetched serve r b ∷ []) ((serve, blank) ∷ me.1) size serve free state (control size x (Fetched serve r b)) (controlling-snoc size (controllers_of me.0) (Fetched serve r b)) inv.size_is inv.words inv.lawful
+      (ap (λ (xs : List (ℕ × Buffer)). (serve, blank) ∷ xs) (no-slots unheld) ∙ ap (λ (j : ℕ). (j, blank) ∷ []) inv.serve_is)
       inv.serve_is inv.free_is inv.free_below (λ c h. some_free) inv.state_is)
 
-  pub fetch-steps : (now : ControllerSide) (r : ℕ) (b c : Buffer) (me1 me2 : Seated) (table' : TableId) → side table me ≡ now → me1 ≡ (controller_does me (Fetched serve r b), (serve, Some b) ∷ me.1) → me2 ≡ (me1.0, (serve, None) ∷ rest me1.1) → table' ≡ table → c ≡ b
+  pub fetch-steps : (now : ControllerSide) (r : ℕ) (b c : Buffer) (me1 me2 : Seated) (table' : TableId) → side table me ≡ now → me1 ≡ (controller_does me (Fetched serve r b), (serve, b) ∷ me.1) → me2 ≡ (me1.0, (serve, blank) ∷ rest me1.1) → table' ≡ table → c ≡ b
       → ends.Fetched now c (side table' me2)
   fetch-steps now r b c me1 me2 table' was fetched left same got =
       subst (λ (y : ControllerSide). ends.Fetched y c (side table' me2)) was
@@ -179,31 +179,31 @@ module _ (table : TableId) (me : Seated) (size serve free : ℕ) (state : Contro
 
   -- A5
   module _ (b : Buffer) (eop : Bool) (held : x.held ≡ Some b.number) where
-    pub held-slot : me.1 ≡ (serve, None) ∷ []
-    held-slot = slots-are-its ∙ ap (slots_while (s % size)) held ∙ ap (λ (j : ℕ). (j, None) ∷ []) (sym inv.serve_is)
+    pub held-slot : me.1 ≡ (serve, blank) ∷ []
+    held-slot = slots-are-its ∙ ap (slots_while (s % size)) held ∙ ap (λ (j : ℕ). (j, blank) ∷ []) (sym inv.serve_is)
 
-    pub write_back-empty : me.1 ≡ (serve, None) ∷ rest me.1
-    write_back-empty = front-is me.1 [] (serve, None) held-slot
+    pub write_back-empty : me.1 ≡ (serve, blank) ∷ rest me.1
+    write_back-empty = front-is me.1 [] (serve, blank) held-slot
 
-    pub write_back-asks : (ring table' : TableId) (key id w : ℕ) (me' : Seated) → table ≡ ring → IsTableOf ring key → table' ≡ table → me' ≡ (me.0, (serve, Some b) ∷ rest me.1) → w ≡ rx_word (length b.bytes) eop
+    pub write_back-asks : (ring table' : TableId) (key id w : ℕ) (me' : Seated) → table ≡ ring → IsTableOf ring key → table' ≡ table → me' ≡ (me.0, (serve, b) ∷ rest me.1) → w ≡ rx_word (length b.bytes) eop
         → b ≡ buffer b.number b.bytes → Follows piece_of size (unfinished piece_of x.stored) b.bytes eop
         → (table' ≡ ring) × (serve < ring.words) × Allows (IsRuled key) ring.slots id me' serve (λ _. w) (λ _ m. writes_back (step ring.slots serve w 0 none) me' w m)
     write_back-asks ring table' key id w me' own of_key same put word real follows = (
       same ∙ own,
       word-within table ring key size serve own of_key inv.size_is (let f = serve-below in omega arith),
       subst (λ (v : ℕ). Allows (IsRuled key) ring.slots id me' serve (λ _. v) (λ _ m. writes_back (step ring.slots serve v 0 none) me' v m)) (sym word)
-          (allow-at (λ k m r m'. writes_back (step k serve (rx_word (length b.bytes) eop) 0 none) m (rx_word (length b.bytes) eop) m') size key ring.slots id serve (λ _. rx_word (length b.bytes) eop) (Controller (controllers_of me.0), (serve, Some b) ∷ rest me.1) me'
+          (allow-at (λ k m r m'. writes_back (step k serve (rx_word (length b.bytes) eop) 0 none) m (rx_word (length b.bytes) eop) m') size key ring.slots id serve (λ _. rx_word (length b.bytes) eop) (Controller (controllers_of me.0), (serve, b) ∷ rest me.1) me'
           (key-is table ring key size own of_key inv.size_is) (slots-are table ring key size own of_key inv.size_is)
-          (put ∙ ap (λ (v : RxView). let m : Seated = (v, (serve, Some b) ∷ rest me.1) in m) view-is)
+          (put ∙ ap (λ (v : RxView). let m : Seated = (v, (serve, b) ∷ rest me.1) in m) view-is)
           (allow-write_back size id (controllers_of me.0) b eop (rest me.1) serve inv.serve_is held real follows)),
     )
 
-    pub write_back-seat : (w : ℕ) (me1 me2 : Seated) → w ≡ rx_word (length b.bytes) eop → me1 ≡ (me.0, (serve, Some b) ∷ rest me.1) → me2 ≡ (controller_does me1 (WroteBack serve w (front_buffer me1.1)), rest me1.1)
+    pub write_back-seat : (w : ℕ) (me1 me2 : Seated) → w ≡ rx_word (length b.bytes) eop → me1 ≡ (me.0, (serve, b) ∷ rest me.1) → me2 ≡ (controller_does me1 (WroteBack serve w (front_buffer me1.1)), rest me1.1)
         → me2 ≡ (Controller (controllers_of me.0 ++ WroteBack serve (rx_word (length b.bytes) eop) b ∷ []), [])
     write_back-seat w me1 me2 word put wrote =
         wrote ∙ ap (λ (m : Seated). let y : Seated = (controller_does m (WroteBack serve w (front_buffer m.1)), rest m.1) in y) put
         ∙ ap (λ (v : ℕ). let y : Seated = (Controller (controllers_of me.0 ++ WroteBack serve v b ∷ []), rest me.1) in y) word
-        ∙ ap (λ (xs : List (ℕ × Option Buffer)). let y : Seated = (Controller (controllers_of me.0 ++ WroteBack serve (rx_word (length b.bytes) eop) b ∷ []), rest xs) in y) held-slot
+        ∙ ap (λ (xs : List (ℕ × Buffer)). let y : Seated = (Controller (controllers_of me.0 ++ WroteBack serve (rx_word (length b.bytes) eop) b ∷ []), rest xs) in y) held-slot
 
     pub some-free : 1 ≤ free
     some-free = inv.held_free b.number held
@@ -211,7 +211,7 @@ module _ (table : TableId) (me : Seated) (size serve free : ℕ) (state : Contro
     stored-more : (y : Segment Bytes) → length (x.stored ++ y ∷ []) ≡ s + 1
     stored-more y = length-append x.stored (y ∷ [])
 
-    pub write_back-keeps : (w serve' : ℕ) (me1 me2 : Seated) (table' : TableId) → w ≡ rx_word (length b.bytes) eop → me1 ≡ (me.0, (serve, Some b) ∷ rest me.1) → me2 ≡ (controller_does me1 (WroteBack serve w (front_buffer me1.1)), rest me1.1) → table' ≡ table
+    pub write_back-keeps : (w serve' : ℕ) (me1 me2 : Seated) (table' : TableId) → w ≡ rx_word (length b.bytes) eop → me1 ≡ (me.0, (serve, b) ∷ rest me.1) → me2 ≡ (controller_does me1 (WroteBack serve w (front_buffer me1.1)), rest me1.1) → table' ≡ table
         → serve' ≡ (if (serve + 1) == size then 0 else (serve + 1)) → IsControllerEnd table' me2 size serve' (free - 1) state
     write_back-keeps w serve' me1 me2 table' word put wrote same at = let f = some-free in let g = big in let i = inv.free_is in let fb = inv.free_below in
         let more = stored-more (segment_of (rx_word (length b.bytes) eop) b) in
@@ -225,7 +225,7 @@ module _ (table : TableId) (me : Seated) (size serve free : ℕ) (state : Contro
         (λ c h. absurd (none-some c h))
         inv.state_is)
 
-    pub write_back-steps : (now : ControllerSide) (w : ℕ) (me1 me2 : Seated) (table' : TableId) → side table me ≡ now → w ≡ rx_word (length b.bytes) eop → me1 ≡ (me.0, (serve, Some b) ∷ rest me.1) → me2 ≡ (controller_does me1 (WroteBack serve w (front_buffer me1.1)), rest me1.1) → table' ≡ table
+    pub write_back-steps : (now : ControllerSide) (w : ℕ) (me1 me2 : Seated) (table' : TableId) → side table me ≡ now → w ≡ rx_word (length b.bytes) eop → me1 ≡ (me.0, (serve, b) ∷ rest me.1) → me2 ≡ (controller_does me1 (WroteBack serve w (front_buffer me1.1)), rest me1.1) → table' ≡ table
         → ends.WroteBack now b eop (side table' me2)
     write_back-steps now w me1 me2 table' was word put wrote same =
         subst (λ (y : ControllerSide). ends.WroteBack y b eop (side table' me2)) was
@@ -237,13 +237,13 @@ module _ (table : TableId) (me : Seated) (size serve free : ℕ) (state : Contro
     stored-is = ap (λ (e : Bool). let y : Segment Bytes = record { number = b.number; payload = b.bytes; eop = e } in y) (eop_of-rx_word (length b.bytes) eop)
 
     -- the record after it, by the words of a contract
-    pub wrote : {Y : Type 0} (f : Controlled → Y) (w : ℕ) (me1 me2 : Seated) (table' : TableId) → w ≡ rx_word (length b.bytes) eop → me1 ≡ (me.0, (serve, Some b) ∷ rest me.1) → me2 ≡ (controller_does me1 (WroteBack serve w (front_buffer me1.1)), rest me1.1) → table' ≡ table
+    pub wrote : {Y : Type 0} (f : Controlled → Y) (w : ℕ) (me1 me2 : Seated) (table' : TableId) → w ≡ rx_word (length b.bytes) eop → me1 ≡ (me.0, (serve, b) ∷ rest me.1) → me2 ≡ (controller_does me1 (WroteBack serve w (front_buffer me1.1)), rest me1.1) → table' ≡ table
         → f (controlling table'.slots (controllers_of me2.0)) ≡ f (record x { stored = x.stored ++ record { number = b.number; payload = b.bytes; eop = eop } ∷ []; held = None })
     wrote f w me1 me2 table' word put did_it same =
         did f table' me2.0 (WroteBack serve (rx_word (length b.bytes) eop) b) same (ap (λ (m : Seated). m.0) (write_back-seat w me1 me2 word put did_it))
         ∙ ap (λ (y : Segment Bytes). f (record x { stored = x.stored ++ y ∷ []; held = None })) stored-is
 
-    pub write_back-counts : (now : ControllerSide) (w : ℕ) (me1 me2 : Seated) (table' : TableId) → side table me ≡ now → w ≡ rx_word (length b.bytes) eop → me1 ≡ (me.0, (serve, Some b) ∷ rest me.1) → me2 ≡ (controller_does me1 (WroteBack serve w (front_buffer me1.1)), rest me1.1) → table' ≡ table
+    pub write_back-counts : (now : ControllerSide) (w : ℕ) (me1 me2 : Seated) (table' : TableId) → side table me ≡ now → w ≡ rx_word (length b.bytes) eop → me1 ≡ (me.0, (serve, b) ∷ rest me.1) → me2 ≡ (controller_does me1 (WroteBack serve w (front_buffer me1.1)), rest me1.1) → table' ≡ table
         → ends.known_free (side table' me2) + 1 ≡ ends.known_free now
     write_back-counts now w me1 me2 table' was word put did_it same = subst (λ (y : ControllerSide). ends.known_free (side table' me2) + 1 ≡ ends.known_free y) was
         (let a : ends.known_free (side table' me2) ≡ x.known - length (x.stored ++ record { number = b.number; payload = b.bytes; eop = eop } ∷ []) = wrote (λ (y : Controlled). y.known - length y.stored) w me1 me2 table' word put did_it same in

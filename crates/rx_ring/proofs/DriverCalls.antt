@@ -1,10 +1,10 @@
 -- The driver's calls, over the fields of its end: what each step asks, and what the end keeps.
-use Rattle.std.proofs.Common.{◌≡◌, ℕ, ◌+◌, ◌-◌, ◌%◌, ◌<◌, true, List, [], ◌∷◌, ◌++◌, length, Option, Some, None, sym, ap, ◌∙◌, subst, arith, if◌then◌else◌, length-append, mod-lt}
+use Rattle.std.proofs.Common.{◌≡◌, ℕ, ◌+◌, ◌-◌, ◌%◌, ◌<◌, true, List, [], ◌∷◌, ◌++◌, length, sym, ap, ◌∙◌, subst, arith, if◌then◌else◌, length-append, mod-lt}
 use Rattle.std.specs.Prelude.{◌==◌}
 use mathlib.Core.Option.{none}
 use Rattle.atomic_table.specs.Table.{Allows, step, rest}
 use Rattle.atomic_table.specs.Seated.{TableId}
-use Rattle.buffer_pool.specs.Buffer.{Buffer, buffer}
+use Rattle.buffer_pool.specs.Buffer.{blank, Buffer, buffer}
 use Rattle.ring_model.specs.declared.states.DriverState.{DriverState}
 use Rattle.ring_model.specs.receive.Ring.{Segment}
 use Rattle.ring_model.specs.shared.Frames.{Bytes}
@@ -27,14 +27,14 @@ pub driving-did : (v : RxView) (m : Seated) (e : DriverEvent) → v ≡ driver_d
 driving-did v m e h = ap (λ (w : RxView). driving (drivers_of w)) h ∙ driving-snoc (drivers_of m.0) e
 
 -- an end whose record amounts to d
-pub driver-end : (table : TableId) (es : List DriverEvent) (slots : List (ℕ × Option Buffer)) (size fill next out : ℕ) (state : DriverState) (d : Driven) → driving es ≡ d
+pub driver-end : (table : TableId) (es : List DriverEvent) (slots : List (ℕ × Buffer)) (size fill next out : ℕ) (state : DriverState) (d : Driven) → driving es ≡ d
     → table.slots ≡ size → table.words ≡ size + 4 → IsRingLength size → slots ≡ driver_slots size d → fill ≡ length d.posted % size → next ≡ length d.taken % size → out + length d.taken ≡ length d.posted → out < size → state ≡ d.state
     → IsDriverEnd table (Driver es, slots) size fill next out state
 driver-end table es slots size fill next out state d e size_is words lawful slots_are fill_is next_is out_is room state_is = record {
   size_is = size_is;
   words = words;
   lawful = lawful;
-  me_is = ap (λ (xs : List (ℕ × Option Buffer)). let m : Seated = (Driver es, xs) in m) (slots_are ∙ ap (driver_slots size) (sym e));
+  me_is = ap (λ (xs : List (ℕ × Buffer)). let m : Seated = (Driver es, xs) in m) (slots_are ∙ ap (driver_slots size) (sym e));
   fill_is = fill_is ∙ ap (λ (x : Driven). length x.posted % size) (sym e);
   next_is = next_is ∙ ap (λ (x : Driven). length x.taken % size) (sym e);
   out_is = subst (λ (x : Driven). out + length x.taken ≡ length x.posted) (sym e) out_is;
@@ -71,21 +71,21 @@ module _ (table : TableId) (me : Seated) (size fill next out : ℕ) (state : Dri
   next-below = let b = big in let m : t % size < size = mod-lt t (omega arith) in let f = inv.next_is in omega arith
 
   module _ (room : p + 1 < size + t) where
-    front : me.1 ≡ (fill, None) ∷ empty_slots size (p + 1) (t + size - (p + 1))
-    front = slots-are-its ∙ slots-post size p t (omega arith) ∙ ap (λ (j : ℕ). (j, None) ∷ empty_slots size (p + 1) (t + size - (p + 1))) (sym inv.fill_is)
+    front : me.1 ≡ (fill, blank) ∷ empty_slots size (p + 1) (t + size - (p + 1))
+    front = slots-are-its ∙ slots-post size p t (omega arith) ∙ ap (λ (j : ℕ). (j, blank) ∷ empty_slots size (p + 1) (t + size - (p + 1))) (sym inv.fill_is)
 
-    pub post-empty : me.1 ≡ (fill, None) ∷ rest me.1
-    post-empty = front-is me.1 _ (fill, None) front
+    pub post-empty : me.1 ≡ (fill, blank) ∷ rest me.1
+    post-empty = front-is me.1 _ (fill, blank) front
 
-    pub post-asks : (ring table' : TableId) (key id : ℕ) (b : Buffer) (me' : Seated) → table ≡ ring → IsTableOf ring key → table' ≡ table → me' ≡ (me.0, (fill, Some b) ∷ rest me.1)
+    pub post-asks : (ring table' : TableId) (key id : ℕ) (b : Buffer) (me' : Seated) → table ≡ ring → IsTableOf ring key → table' ≡ table → me' ≡ (me.0, (fill, b) ∷ rest me.1)
         → is_open d.state ≡ true → b ≡ buffer b.number []
         → (table' ≡ ring) × (fill < ring.words) × Allows (IsRuled key) ring.slots id me' fill (λ _. 0) (λ _ m. posts (step ring.slots fill 0 0 none) me' 0 m)
     post-asks ring table' key id b me' own of_key same put opened empty = (
       same ∙ own,
       word-within table ring key size fill own of_key inv.size_is (let f = fill-below in omega arith),
-      allow-at (λ k m r m'. posts (step k fill 0 0 none) m 0 m') size key ring.slots id fill (λ _. 0) (Driver (drivers_of me.0), (fill, Some b) ∷ rest me.1) me'
+      allow-at (λ k m r m'. posts (step k fill 0 0 none) m 0 m') size key ring.slots id fill (λ _. 0) (Driver (drivers_of me.0), (fill, b) ∷ rest me.1) me'
           (key-is table ring key size own of_key inv.size_is) (slots-are table ring key size own of_key inv.size_is)
-          (put ∙ ap (λ (v : RxView). let m : Seated = (v, (fill, Some b) ∷ rest me.1) in m) view-is)
+          (put ∙ ap (λ (v : RxView). let m : Seated = (v, (fill, b) ∷ rest me.1) in m) view-is)
           (allow-post size id (drivers_of me.0) b (rest me.1) fill inv.fill_is opened (omega arith) empty),
     )
 
@@ -104,17 +104,17 @@ module _ (table : TableId) (me : Seated) (size fill next out : ℕ) (state : Dri
         inv.state_is
 
     -- the seat after a post
-    pub post-seat : (b : Buffer) (me' me'' : Seated) → me' ≡ (me.0, (fill, Some b) ∷ rest me.1) → me'' ≡ (driver_does me' (Posted fill 0 (front_buffer me'.1)), rest me'.1)
+    pub post-seat : (b : Buffer) (me' me'' : Seated) → me' ≡ (me.0, (fill, b) ∷ rest me.1) → me'' ≡ (driver_does me' (Posted fill 0 (front_buffer me'.1)), rest me'.1)
         → me'' ≡ (Driver (drivers_of me.0 ++ Posted fill 0 b ∷ []), rest me.1)
     post-seat b me' me'' put stored = stored ∙ ap (λ (m : Seated). let x : Seated = (driver_does m (Posted fill 0 (front_buffer m.1)), rest m.1) in x) put
 
-    pub post-keeps : (b : Buffer) (table' table'' : TableId) (me' me'' : Seated) (fill' : ℕ) → table' ≡ table → table'' ≡ table' → me' ≡ (me.0, (fill, Some b) ∷ rest me.1) → me'' ≡ (driver_does me' (Posted fill 0 (front_buffer me'.1)), rest me'.1)
+    pub post-keeps : (b : Buffer) (table' table'' : TableId) (me' me'' : Seated) (fill' : ℕ) → table' ≡ table → table'' ≡ table' → me' ≡ (me.0, (fill, b) ∷ rest me.1) → me'' ≡ (driver_does me' (Posted fill 0 (front_buffer me'.1)), rest me'.1)
         → fill' ≡ (if (fill + 1) == size then 0 else (fill + 1)) → IsDriverEnd table'' me'' size fill' next (out + 1) state
     post-keeps b table' table'' me' me'' fill' a c put stored f =
         subst (λ (j : ℕ). IsDriverEnd table'' me'' size j next (out + 1) state) (sym f)
         (same-end table table'' (Driver (drivers_of me.0 ++ Posted fill 0 b ∷ []), rest me.1) me'' size _ next (out + 1) state (c ∙ a) (post-seat b me' me'' put stored) (after-post b))
 
-    pub post-driven : (b : Buffer) (me' me'' : Seated) → me' ≡ (me.0, (fill, Some b) ∷ rest me.1) → me'' ≡ (driver_does me' (Posted fill 0 (front_buffer me'.1)), rest me'.1)
+    pub post-driven : (b : Buffer) (me' me'' : Seated) → me' ≡ (me.0, (fill, b) ∷ rest me.1) → me'' ≡ (driver_does me' (Posted fill 0 (front_buffer me'.1)), rest me'.1)
         → driving (drivers_of me''.0) ≡ drive d (Posted fill 0 b)
     post-driven b me' me'' put stored = ap (λ (m : Seated). driving (drivers_of m.0)) (post-seat b me' me'' put stored) ∙ driving-snoc (drivers_of me.0) (Posted fill 0 b)
 

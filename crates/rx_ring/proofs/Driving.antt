@@ -29,10 +29,10 @@ use Rattle.rx_ring.proofs.Moving.{fresh, word_at, keeps_it, eop_of-rx_word, rx_w
 use Rattle.rx_ring.proofs.Allowing.{DriverGoes, allow_driver}
 
 -- A1
-pub allow-post : (n id : ℕ) (es : List DriverEvent) (b : Buffer) (slots : List (ℕ × Option Buffer)) (p : ℕ)
+pub allow-post : (n id : ℕ) (es : List DriverEvent) (b : Buffer) (slots : List (ℕ × Buffer)) (p : ℕ)
     → p ≡ length (driving es).posted % n → is_open (driving es).state ≡ true → length (driving es).posted + 1 < length (driving es).taken + n → b ≡ fresh b.number
-    → Allows (IsRuled n) n id (Driver es, (p, Some b) ∷ slots) p (λ _. 0) (λ _ m. posts (step n p 0 0 none) (Driver es, (p, Some b) ∷ slots) 0 m)
-allow-post n id es b slots p at opened room empty = allow_driver n id es ((p, Some b) ∷ slots) p (λ _. 0) (λ _ m. posts (step n p 0 0 none) (Driver es, (p, Some b) ∷ slots) 0 m)
+    → Allows (IsRuled n) n id (Driver es, (p, b) ∷ slots) p (λ _. 0) (λ _ m. posts (step n p 0 0 none) (Driver es, (p, b) ∷ slots) 0 m)
+allow-post n id es b slots p at opened room empty = allow_driver n id es ((p, b) ∷ slots) p (λ _. 0) (λ _ m. posts (step n p 0 0 none) (Driver es, (p, b) ∷ slots) 0 m)
     (λ q cs words homes pos l. record {
       event = Posted p 0 b;
       act = gives;
@@ -47,7 +47,7 @@ allow-post n id es b slots p at opened room empty = allow_driver n id es ((p, So
     })
 
 -- A2
-pub allow-publish : (n id : ℕ) (es : List DriverEvent) (slots : List (ℕ × Option Buffer)) (t : ℕ)
+pub allow-publish : (n id : ℕ) (es : List DriverEvent) (slots : List (ℕ × Buffer)) (t : ℕ)
     → t ≡ length (driving es).posted % n → is_open (driving es).state ≡ true
     → Allows (IsRuled n) n id (Driver es, slots) (n + 1) (λ _. t) (λ _ m. publishes (step n (n + 1) t 0 none) (Driver es, slots) t m)
 allow-publish n id es slots t at opened = allow_driver n id es slots (n + 1) (λ _. t) (λ _ m. publishes (step n (n + 1) t 0 none) (Driver es, slots) t m)
@@ -60,7 +60,7 @@ allow-publish n id es slots t at opened = allow_driver n id es slots (n + 1) (λ
       told = refl;
     })
 
-module _ (n : ℕ) (es : List DriverEvent) (slots : List (ℕ × Option Buffer)) (p : ℕ) (q : RxRing Bytes) (cs : List ControllerEvent) (words : List ℕ) (homes : List (maybe.Option (Option Buffer))) (pos : 1 < n) (l : LiesAs n q es cs words homes)
+module _ (n : ℕ) (es : List DriverEvent) (slots : List (ℕ × Buffer)) (p : ℕ) (q : RxRing Bytes) (cs : List ControllerEvent) (words : List ℕ) (homes : List (maybe.Option Buffer)) (pos : 1 < n) (l : LiesAs n q es cs words homes)
     (at : p ≡ given_count q.queue % n) (live : is_live q.handshake.driver ≡ true) (out : given_count q.queue < posted_count q.queue) (back : returned_count q.queue ≡ given_count q.queue) where
   abbrev Goes : Type 0
   Goes = DriverGoes n es slots p (λ x. x) (LoadsStatus (step n p 0 0 none) (Driver es, slots)) cs words homes
@@ -90,7 +90,7 @@ module _ (n : ℕ) (es : List DriverEvent) (slots : List (ℕ × Option Buffer))
     posted-is : slice_get q.ledger.posted (given_count q.queue) ≡ Some s.number
     posted-is = let k = keeps_it n q es cs words homes pos l in number_at q.ledger.served q.ledger.posted (given_count q.queue) s k.stored e
 
-    home-is : get_elem? homes p ≡ some (some (Some (buffer s.number s.payload)))
+    home-is : get_elem? homes p ≡ some (some (buffer s.number s.payload))
     home-is = let below : given_count q.queue < served_count q.queue = slice_get_within q.ledger.served (given_count q.queue) s e in
         home-full homes p (buffer s.number s.payload)
         (ap (home_at homes) at ∙ l.items.slots (given_count q.queue) (omega arith) out
@@ -109,7 +109,7 @@ module _ (n : ℕ) (es : List DriverEvent) (slots : List (ℕ × Option Buffer))
     goes-taken : Goes
     goes-taken = record {
       event = Taken p (slice_index words p) (buffer s.number s.payload);
-      act = takes p (Some (buffer s.number s.payload));
+      act = takes p (buffer s.number s.payload);
       valid = home-is;
       later = took q (Some s);
       lies = subst (λ (ws : List ℕ). LiesAs n (took q (Some s)) (es ++ Taken p (slice_index words p) (buffer s.number s.payload) ∷ []) cs ws (set homes p none)) (sym (set-same words p))
@@ -132,7 +132,7 @@ module _ (n : ℕ) (es : List DriverEvent) (slots : List (ℕ × Option Buffer))
   goes-status (Some s) e = goes-taken s e
 
 -- A6
-pub allow-status : (n id : ℕ) (es : List DriverEvent) (slots : List (ℕ × Option Buffer)) (p : ℕ)
+pub allow-status : (n id : ℕ) (es : List DriverEvent) (slots : List (ℕ × Buffer)) (p : ℕ)
     → p ≡ length (driving es).taken % n → is_live (driving es).state ≡ true → length (driving es).taken < length (driving es).posted
     → Allows (IsRuled n) n id (Driver es, slots) p (λ x. x) (LoadsStatus (step n p 0 0 none) (Driver es, slots))
 allow-status n id es slots p at live out = allow_driver n id es slots p (λ x. x) (LoadsStatus (step n p 0 0 none) (Driver es, slots))

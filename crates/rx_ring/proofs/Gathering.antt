@@ -1,5 +1,5 @@
 -- The making of a ring, the meeting of its ends, and the seats that are cut and joined for them.
-use Rattle.std.proofs.Common.{◌≡◌, ℕ, zero, suc, ◌+◌, ◌%◌, ◌<◌, ◌≤◌, true, List, [], ◌∷◌, ◌++◌, map, replicate, length, set, Option, None, sym, refl, ap, ◌∙◌, subst, ⊎_elim, inr, arith, mod-eq_of_lt, append_assoc, append-nil, length-set, get_or-set_same, get_or-set_other}
+use Rattle.std.proofs.Common.{◌≡◌, ℕ, zero, suc, ◌+◌, ◌%◌, ◌<◌, ◌≤◌, true, List, [], ◌∷◌, ◌++◌, map, replicate, length, set, sym, refl, ap, ◌∙◌, subst, ⊎_elim, inr, arith, mod-eq_of_lt, append_assoc, append-nil, length-set, get_or-set_same, get_or-set_other}
 use Rattle.std.specs.Prelude.{slice_index, slice_set}
 use Rattle.std.proofs.lemmas.List.{length-replicate}
 use mathlib.Core.Option as maybe
@@ -7,7 +7,7 @@ use mathlib.Core.Option.{some, none, some-injective, some-ne-none}
 use lib.ListN.{get_elem?}
 use Rattle.atomic_table.specs.Table.{Act, keeps, takes, chain, Valid, homes_after, carried_after, step, Allows, Splits, Joins}
 use Rattle.atomic_table.proofs.Lists.{at_set, set_else}
-use Rattle.buffer_pool.specs.Buffer.{Buffer}
+use Rattle.buffer_pool.specs.Buffer.{blank, Buffer}
 use Rattle.ring_model.specs.receive.Agreement.{rx_registers_of}
 use Rattle.ring_model.specs.receive.Ring.{rx_opening, piece_of}
 use Rattle.ring_model.specs.receive.Steps.{rx_can, rx_changed}
@@ -30,30 +30,30 @@ use Rattle.rx_ring.proofs.Laying.{set-same}
 use Rattle.rx_ring.proofs.Allowing.{running}
 
 -- all slots below k are taken, the last first
-take_all : ℕ → Act (Option Buffer)
+take_all : ℕ → Act Buffer
 take_all zero = keeps
-take_all (suc k) = chain (takes k None) (take_all k)
+take_all (suc k) = chain (takes k blank) (take_all k)
 
-carried-all : (n k : ℕ) (c : List (ℕ × Option Buffer)) → k ≤ n → carried_after c (take_all k) ≡ empty_slots n 0 k ++ c
+carried-all : (n k : ℕ) (c : List (ℕ × Buffer)) → k ≤ n → carried_after c (take_all k) ≡ empty_slots n 0 k ++ c
 unfolding take_all
 carried-all n zero c h = refl
 carried-all n (suc k) c h = let below : k < n = omega arith in
-    carried-all n k ((k, None) ∷ c) (omega arith)
-    ∙ sym (append_assoc (empty_slots n 0 k) ((k, None) ∷ []) c)
-    ∙ ap (λ (xs : List (ℕ × Option Buffer)). xs ++ c)
-    (ap (λ (j : ℕ). empty_slots n 0 k ++ (j, None) ∷ []) (sym (mod-eq_of_lt below) ∙ ap (λ (j : ℕ). j % n) (let e : k ≡ 0 + k = omega arith in e)) ∙ empty_slots-back n 0 k)
+    carried-all n k ((k, blank) ∷ c) (omega arith)
+    ∙ sym (append_assoc (empty_slots n 0 k) ((k, blank) ∷ []) c)
+    ∙ ap (λ (xs : List (ℕ × Buffer)). xs ++ c)
+    (ap (λ (j : ℕ). empty_slots n 0 k ++ (j, blank) ∷ []) (sym (mod-eq_of_lt below) ∙ ap (λ (j : ℕ). j % n) (let e : k ≡ 0 + k = omega arith in e)) ∙ empty_slots-back n 0 k)
 
-valid-all : (k : ℕ) (c : List (ℕ × Option Buffer)) (homes : List (maybe.Option (Option Buffer))) → ((j : ℕ) → j < k → get_elem? homes j ≡ some (some None)) → Valid homes c (take_all k)
+valid-all : (k : ℕ) (c : List (ℕ × Buffer)) (homes : List (maybe.Option Buffer)) → ((j : ℕ) → j < k → get_elem? homes j ≡ some (some blank)) → Valid homes c (take_all k)
 unfolding take_all
 valid-all zero c homes h = tt
-valid-all (suc k) c homes h = (h k (omega arith), valid-all k ((k, None) ∷ c) (set homes k none) (λ j lt. set_else homes k j none (λ e. omega arith) ∙ h j (omega arith)))
+valid-all (suc k) c homes h = (h k (omega arith), valid-all k ((k, blank) ∷ c) (set homes k none) (λ j lt. set_else homes k j none (λ e. omega arith) ∙ h j (omega arith)))
 
-count-all : (k : ℕ) (c : List (ℕ × Option Buffer)) (homes : List (maybe.Option (Option Buffer))) → length (homes_after homes c (take_all k)) ≡ length homes
+count-all : (k : ℕ) (c : List (ℕ × Buffer)) (homes : List (maybe.Option Buffer)) → length (homes_after homes c (take_all k)) ≡ length homes
 unfolding take_all
 count-all zero c homes = refl
-count-all (suc k) c homes = count-all k ((k, None) ∷ c) (set homes k none) ∙ length-set homes k none
+count-all (suc k) c homes = count-all k ((k, blank) ∷ c) (set homes k none) ∙ length-set homes k none
 
-empty-homes : (n j : ℕ) → j < n → get_elem? (map some (replicate n (let x : Option Buffer = None in x))) j ≡ some (some None)
+empty-homes : (n j : ℕ) → j < n → get_elem? (map some (replicate n blank)) j ≡ some (some blank)
 empty-homes zero j h = absurd (omega arith)
 empty-homes (suc n) zero h = refl
 empty-homes (suc n) (suc j) h = empty-homes n j (omega arith)
@@ -78,7 +78,7 @@ pub opening-count : (n : ℕ) → length (opening_words_of n) ≡ n + 4
 opening-count n = length-set (replicate (n + 4) 0) (n + 2) 2 ∙ length-replicate (n + 4) 0
 
 -- a made ring, whose ends have done nothing yet
-opening-lies : (n : ℕ) (words : List ℕ) (homes : List (maybe.Option (Option Buffer))) → 1 < n → words ≡ opening_words_of n → length homes ≡ n → LiesAs n (rx_opening n true) [] [] words homes
+opening-lies : (n : ℕ) (words : List ℕ) (homes : List (maybe.Option Buffer)) → 1 < n → words ≡ opening_words_of n → length homes ≡ n → LiesAs n (rx_opening n true) [] [] words homes
 opening-lies n words homes pos w count = record {
   word_count = ap length w ∙ opening-count n;
   slot_count = count;
@@ -114,7 +114,7 @@ allow-deal n id pos s ruled count at small = ⊎_elim
     (λ b. (
       Both [] [],
       take_all n,
-      valid-all n [] s.homes (λ j h. subst (λ (hs : List (maybe.Option (Option Buffer))). get_elem? hs j ≡ some (some None)) (sym b.homes) (empty-homes n j h)),
+      valid-all n [] s.homes (λ j h. subst (λ (hs : List (maybe.Option Buffer)). get_elem? hs j ≡ some (some blank)) (sym b.homes) (empty-homes n j h)),
       (
         pos,
         inr (record {
@@ -125,13 +125,13 @@ allow-deal n id pos s ruled count at small = ⊎_elim
           seats = opening-seats s.views id b.views at;
         }),
       ),
-      record { seat = ap (λ (xs : List (ℕ × Option Buffer)). let m : Seated = (Both [] [], xs) in m) (carried-all n n [] (omega arith) ∙ append-nil (empty_slots n 0 n)) },
+      record { seat = ap (λ (xs : List (ℕ × Buffer)). let m : Seated = (Both [] [], xs) in m) (carried-all n n [] (omega arith) ∙ append-nil (empty_slots n 0 n)) },
     ))
     (λ r. absurd (r.seats.fits id Maker at))
     ruled.1
 
 -- both ends meet
-pub allow-meet : (n id : ℕ) (ds : List DriverEvent) (cs : List ControllerEvent) (slots : List (ℕ × Option Buffer)) → Allows (IsRuled n) n id (Both ds cs, slots) 0 (λ x. x) (Meets (step n 0 0 0 none) (Both ds cs, slots))
+pub allow-meet : (n id : ℕ) (ds : List DriverEvent) (cs : List ControllerEvent) (slots : List (ℕ × Buffer)) → Allows (IsRuled n) n id (Both ds cs, slots) 0 (λ x. x) (Meets (step n 0 0 0 none) (Both ds cs, slots))
 allow-meet n id ds cs slots s ruled count at small =
     let r = running n s id (Both ds cs) ruled at (λ e. cc) in
     let both : (ds ≡ r.ds) × (cs ≡ r.cs) = both_are r.ds ds r.cs cs s.views id r.seats at in
@@ -163,18 +163,18 @@ allow-meet n id ds cs slots s ruled count at small =
     )
 
 -- seats that are cut and joined
-pub splits-halve : (n id : ℕ) (ds : List DriverEvent) (cs : List ControllerEvent) → Splits {S = Option Buffer} (IsRuled n) id (Both ds cs) (Driver ds) (Controller cs)
+pub splits-halve : (n id : ℕ) (ds : List DriverEvent) (cs : List ControllerEvent) → Splits {S = Buffer} (IsRuled n) id (Both ds cs) (Driver ds) (Controller cs)
 splits-halve n id ds cs s ruled at = let r = running n s id (Both ds cs) ruled at (λ e. cc) in
     (ruled.0, inr (record { queue = r.queue; ds = r.ds; cs = r.cs; lies = r.lies; seats = halve_seated r.ds ds r.cs cs s.views id r.seats at }))
 
-pub splits-lend : (n id : ℕ) (cs : List ControllerEvent) → Splits {S = Option Buffer} (IsRuled n) id (Controller cs) Nobody (Controller cs)
+pub splits-lend : (n id : ℕ) (cs : List ControllerEvent) → Splits {S = Buffer} (IsRuled n) id (Controller cs) Nobody (Controller cs)
 splits-lend n id cs s ruled at = let r = running n s id (Controller cs) ruled at (λ e. cc) in
     (ruled.0, inr (record { queue = r.queue; ds = r.ds; cs = r.cs; lies = r.lies; seats = lend_seated r.ds r.cs cs s.views id r.seats at }))
 
-pub joins-unite : (n id other : ℕ) (ds : List DriverEvent) (cs : List ControllerEvent) → Joins {S = Option Buffer} (IsRuled n) id (Driver ds) other (Controller cs) (Both ds cs) Nobody
+pub joins-unite : (n id other : ℕ) (ds : List DriverEvent) (cs : List ControllerEvent) → Joins {S = Buffer} (IsRuled n) id (Driver ds) other (Controller cs) (Both ds cs) Nobody
 joins-unite n id other ds cs s ruled at ne there = let r = running n s id (Driver ds) ruled at (λ e. cc) in
     (ruled.0, inr (record { queue = r.queue; ds = r.ds; cs = r.cs; lies = r.lies; seats = unite_seated r.ds ds r.cs cs s.views id other r.seats at ne there }))
 
-pub joins-return : (n id other : ℕ) (cs : List ControllerEvent) → Joins {S = Option Buffer} (IsRuled n) id Nobody other (Controller cs) (Controller cs) Nobody
+pub joins-return : (n id other : ℕ) (cs : List ControllerEvent) → Joins {S = Buffer} (IsRuled n) id Nobody other (Controller cs) (Controller cs) Nobody
 joins-return n id other cs s ruled at ne there = let r = running n s id Nobody ruled at (λ e. cc) in
     (ruled.0, inr (record { queue = r.queue; ds = r.ds; cs = r.cs; lies = r.lies; seats = return_seated r.ds r.cs cs s.views id other r.seats at ne there }))

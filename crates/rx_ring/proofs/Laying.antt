@@ -1,15 +1,15 @@
 -- Words and slots in the table's lists, read by place.
-use Rattle.std.proofs.Common.{◌≡◌, ◌≢◌, ℕ, zero, suc, ◌+◌, ◌<◌, ◌≤◌, List, [], ◌∷◌, ◌++◌, length, set, Option, Some, None, refl, ap, ◌∙◌, arith, get_or-set_other}
-use Rattle.std.specs.Prelude.{slice_get, slice_index, slice_set}
-use Rattle.std.proofs.lemmas.Option.{none-some}
+use Rattle.std.proofs.Common.{◌≡◌, ◌≢◌, Bool, true, false, ℕ, zero, suc, ◌+◌, ◌<◌, ◌≤◌, List, [], ◌∷◌, ◌++◌, length, set, Some, None, refl, sym, ap, ◌∙◌, arith, get_or-set_other}
+use Rattle.std.specs.Prelude.{slice_get, slice_index, slice_set, ◌==◌, if◌then◌else◌}
+use Rattle.std.proofs.lemmas.Option.{none-some, same_Some}
 use mathlib.Core.Option as maybe
 use mathlib.Core.Option.{some, none}
 use lib.ListN.{get_elem?}
 use Rattle.atomic_table.proofs.Lists.{set_here, set_else}
 use Rattle.ring_model.specs.shared.Agreement.{Registers, HasRegisters}
 use Rattle.ring_model.proofs.shared.Places.{Writes}
-use Rattle.buffer_pool.specs.Buffer.{Buffer}
-use Rattle.rx_ring.specs.Rule.{at_home, home_at}
+use Rattle.buffer_pool.specs.Buffer.{Buffer, buffer}
+use Rattle.rx_ring.specs.Rule.{at_home, home_at, in_slot}
 
 -- a load leaves the words
 pub set-same : (ws : List ℕ) (i : ℕ) → slice_set ws i (slice_index ws i) ≡ ws
@@ -31,28 +31,33 @@ pub descriptors-stay : (n p x j : ℕ) (ws : List ℕ) → n ≤ p → j < n →
 descriptors-stay n p x j ws h b = get_or-set_other ws p j x 0 (λ e. omega arith)
 
 -- what is at home, where a buffer is found there
-full_home : (o : maybe.Option (maybe.Option (Option Buffer))) (b : Buffer) → at_home o ≡ Some b → o ≡ some (some (Some b))
+full : (empty : Bool) (x b : Buffer) → (if empty then None else Some x) ≡ Some b → x ≡ b
+full true x b e = absurd (none-some b e)
+full false x b e = same_Some x b e
+
+full_home : (o : maybe.Option (maybe.Option Buffer)) (b : Buffer) → at_home o ≡ Some b → o ≡ some (some b)
 full_home none b e = absurd (none-some b e)
 full_home (some none) b e = absurd (none-some b e)
-full_home (some (some x)) b e = ap (λ (y : Option Buffer). some (some y)) e
+full_home (some (some x)) b e = ap (λ (y : Buffer). some (some y)) (full (x.capacity == 0) x b e)
 
-pub home-full : (homes : List (maybe.Option (Option Buffer))) (p : ℕ) (b : Buffer) → home_at homes p ≡ Some b → get_elem? homes p ≡ some (some (Some b))
+pub home-full : (homes : List (maybe.Option Buffer)) (p : ℕ) (b : Buffer) → home_at homes p ≡ Some b → get_elem? homes p ≡ some (some b)
 home-full homes p b e = full_home (get_elem? homes p) b e
 
 -- a slot that comes home with a buffer, and one that goes out
-pub home-given : (homes : List (maybe.Option (Option Buffer))) (n p : ℕ) (b : Option Buffer) → p < length homes → Writes n (home_at homes) (home_at (set homes p (some b))) p b
-home-given homes n p b h = record {
-  here = ap at_home (set_here homes p (some b) h);
+pub home-given : (homes : List (maybe.Option Buffer)) (n p : ℕ) (b : Buffer) (number : ℕ) (bytes : List ℕ) → b ≡ buffer number bytes → p < length homes
+    → Writes n (home_at homes) (home_at (set homes p (some b))) p (Some b)
+home-given homes n p b number bytes real h = record {
+  here = ap at_home (set_here homes p (some b) h) ∙ ap in_slot real ∙ ap Some (sym real);
   rest = λ j below ne. ap at_home (set_else homes p j (some b) ne);
 }
 
-pub home-taken : (homes : List (maybe.Option (Option Buffer))) (n p : ℕ) → p < length homes → Writes n (home_at homes) (home_at (set homes p none)) p None
+pub home-taken : (homes : List (maybe.Option Buffer)) (n p : ℕ) → p < length homes → Writes n (home_at homes) (home_at (set homes p none)) p None
 home-taken homes n p h = record {
   here = ap at_home (set_here homes p none h);
   rest = λ j below ne. ap at_home (set_else homes p j none ne);
 }
 
-pub home-left : (homes : List (maybe.Option (Option Buffer))) (p j : ℕ) → j ≢ p → home_at (set homes p none) j ≡ home_at homes j
+pub home-left : (homes : List (maybe.Option Buffer)) (p j : ℕ) → j ≢ p → home_at (set homes p none) j ≡ home_at homes j
 home-left homes p j ne = ap at_home (set_else homes p j none ne)
 
 -- lists read by place, as they grow

@@ -1,5 +1,5 @@
 -- What the steps of a meeting and of a making ask, over the seats that they are made with.
-use Rattle.std.proofs.Common.{◌≡◌, ℕ, ◌+◌, ◌<◌, List, [], Option, sym, subst, arith}
+use Rattle.std.proofs.Common.{◌≡◌, ℕ, ◌+◌, ◌<◌, List, [], sym, subst, arith}
 use mathlib.Core.Option.{none}
 use Rattle.atomic_table.specs.Table.{Allows, Splits, Joins, step}
 use Rattle.atomic_table.specs.Seated.{TableId}
@@ -16,26 +16,26 @@ use Rattle.rx_ring.proofs.Gathering.{allow-deal, allow-meet, splits-halve, split
 pub some-words : (ring : TableId) (key : ℕ) → IsTableOf ring key → 0 < ring.words
 some-words ring key t = let w = t.words in omega arith
 
-pub lend-asks : (key id : ℕ) (v : RxView) (cs : List ControllerEvent) → v ≡ Controller cs → Splits {S = Option Buffer} (IsRuled key) id v Nobody v
-lend-asks key id v cs e = subst (λ (w : RxView). Splits {S = Option Buffer} (IsRuled key) id w Nobody w) (sym e) (splits-lend key id cs)
+pub lend-asks : (key id : ℕ) (v : RxView) (cs : List ControllerEvent) → v ≡ Controller cs → Splits {S = Buffer} (IsRuled key) id v Nobody v
+lend-asks key id v cs e = subst (λ (w : RxView). Splits {S = Buffer} (IsRuled key) id w Nobody w) (sym e) (splits-lend key id cs)
 
-pub unite-asks : (key id other : ℕ) (v w : RxView) (ds : List DriverEvent) (cs : List ControllerEvent) → v ≡ Driver ds → w ≡ Controller cs → Joins {S = Option Buffer} (IsRuled key) id v other w (both_halves v w) Nobody
+pub unite-asks : (key id other : ℕ) (v w : RxView) (ds : List DriverEvent) (cs : List ControllerEvent) → v ≡ Driver ds → w ≡ Controller cs → Joins {S = Buffer} (IsRuled key) id v other w (both_halves v w) Nobody
 unite-asks key id other v w ds cs e f =
-    subst (λ (x : RxView). Joins {S = Option Buffer} (IsRuled key) id x other w (both_halves x w) Nobody) (sym e)
-    (subst (λ (y : RxView). Joins {S = Option Buffer} (IsRuled key) id (Driver ds) other y (both_halves (Driver ds) y) Nobody) (sym f) (joins-unite key id other ds cs))
+    subst (λ (x : RxView). Joins {S = Buffer} (IsRuled key) id x other w (both_halves x w) Nobody) (sym e)
+    (subst (λ (y : RxView). Joins {S = Buffer} (IsRuled key) id (Driver ds) other y (both_halves (Driver ds) y) Nobody) (sym f) (joins-unite key id other ds cs))
 
-pub meet-asks : (key slots id : ℕ) (me : Seated) (ds : List DriverEvent) (cs : List ControllerEvent) (carried : List (ℕ × Option Buffer)) → slots ≡ key → me ≡ (Both ds cs, carried) → Allows (IsRuled key) slots id me 0 (λ x. x) (Meets (step slots 0 0 0 none) me)
+pub meet-asks : (key slots id : ℕ) (me : Seated) (ds : List DriverEvent) (cs : List ControllerEvent) (carried : List (ℕ × Buffer)) → slots ≡ key → me ≡ (Both ds cs, carried) → Allows (IsRuled key) slots id me 0 (λ x. x) (Meets (step slots 0 0 0 none) me)
 meet-asks key slots id me ds cs carried s e =
     subst (λ (k : ℕ). Allows (IsRuled key) k id me 0 (λ x. x) (Meets (step k 0 0 0 none) me)) (sym s)
     (subst (λ (m : Seated). Allows (IsRuled key) key id m 0 (λ x. x) (Meets (step key 0 0 0 none) m)) (sym e) (allow-meet key id ds cs carried))
 
-pub halve-asks : (key id : ℕ) (v : RxView) (ds : List DriverEvent) (cs : List ControllerEvent) → v ≡ Both ds cs → Splits {S = Option Buffer} (IsRuled key) id v (driver_half v) (controller_half v)
-halve-asks key id v ds cs e = subst (λ (w : RxView). Splits {S = Option Buffer} (IsRuled key) id w (driver_half w) (controller_half w)) (sym e) (splits-halve key id ds cs)
+pub halve-asks : (key id : ℕ) (v : RxView) (ds : List DriverEvent) (cs : List ControllerEvent) → v ≡ Both ds cs → Splits {S = Buffer} (IsRuled key) id v (driver_half v) (controller_half v)
+halve-asks key id v ds cs e = subst (λ (w : RxView). Splits {S = Buffer} (IsRuled key) id w (driver_half w) (controller_half w)) (sym e) (splits-halve key id ds cs)
 
-pub return-asks : (key id other : ℕ) (v w : RxView) (cs : List ControllerEvent) → v ≡ Nobody → w ≡ Controller cs → Joins {S = Option Buffer} (IsRuled key) id v other w w Nobody
+pub return-asks : (key id other : ℕ) (v w : RxView) (cs : List ControllerEvent) → v ≡ Nobody → w ≡ Controller cs → Joins {S = Buffer} (IsRuled key) id v other w w Nobody
 return-asks key id other v w cs e f =
-    subst (λ (x : RxView). Joins {S = Option Buffer} (IsRuled key) id x other w w Nobody) (sym e)
-    (subst (λ (y : RxView). Joins {S = Option Buffer} (IsRuled key) id Nobody other y y Nobody) (sym f) (joins-return key id other cs))
+    subst (λ (x : RxView). Joins {S = Buffer} (IsRuled key) id x other w w Nobody) (sym e)
+    (subst (λ (y : RxView). Joins {S = Buffer} (IsRuled key) id Nobody other y y Nobody) (sym f) (joins-return key id other cs))
 
 pub deal-asks : (n key slots id : ℕ) (me : Seated) → 1 < n → key ≡ n → slots ≡ n → me ≡ (Maker, []) → Allows (IsRuled key) slots id me (n + 2) (λ x. x) (Deals (step slots (n + 2) 0 0 none) me)
 deal-asks n key slots id me big k s e =

@@ -84,7 +84,7 @@ bit-eop false = refl
 pub eop_of-rx_word : (len : ℕ) (eop : Bool) → eop_of (rx_word len eop) ≡ eop
 eop_of-rx_word len eop = ap (λ (v : ℕ). v == 1) (eop_of-bit len eop (rx_word len eop) refl) ∙ bit-eop eop
 
-module _ (n : ℕ) (q : RxRing Bytes) (ds : List DriverEvent) (cs : List ControllerEvent) (words : List ℕ) (homes : List (maybe.Option (Option Buffer))) (pos : 1 < n) (l : LiesAs n q ds cs words homes) where
+module _ (n : ℕ) (q : RxRing Bytes) (ds : List DriverEvent) (cs : List ControllerEvent) (words : List ℕ) (homes : List (maybe.Option Buffer)) (pos : 1 < n) (l : LiesAs n q ds cs words homes) where
   pub keeps_it : IsRxKept Bytes n q
   keeps_it = rx_kept n q pos l.reachable
 
@@ -135,30 +135,30 @@ module _ (n : ℕ) (q : RxRing Bytes) (ds : List DriverEvent) (cs : List Control
   word-posted b k = says-alike k (slice_get (q.ledger.posted ++ b ∷ []) k) (slice_get q.ledger.posted k) (slice_get q.ledger.served k)
 
   post-items : (b : Buffer) (p : ℕ) → p ≡ posted_count q.queue % n → posted_count q.queue + 1 < given_count q.queue + n → b ≡ fresh b.number → p < length words → p < length homes
-      → HasItems {Given = Segment Bytes} says holds n (rx_changed q (Post b.number)).queue (slice_index (slice_set words p 0)) (home_at (set homes p (some (Some b))))
+      → HasItems {Given = Segment Bytes} says holds n (rx_changed q (Post b.number)).queue (slice_index (slice_set words p 0)) (home_at (set homes p (some b)))
   post-items b p at room empty in_words in_homes = let k = keeps_it in let o = k.queue.order in let rp = o.returned_posted in record {
     words = subst (λ (past : ℕ). (k : ℕ) → returned_count q.queue ≤ k → k < past → slice_index (slice_set words p 0) (k % n) ≡ word_at (rx_changed q (Post b.number)) k) (sym (length-posted b.number))
         (each_item-push n (returned_count q.queue) (posted_count q.queue) (slice_index words) (slice_index (slice_set words p 0)) (word_at q) (word_at (rx_changed q (Post b.number))) (omega arith) (omega arith)
         (subst (λ (x : ℕ). Writes n (slice_index words) (slice_index (slice_set words p 0)) (posted_count q.queue % n) x) (sym (word-last b.number))
         (subst (λ (j : ℕ). Writes n (slice_index words) (slice_index (slice_set words p 0)) j 0) at (slice_index-writes words n p 0 in_words)))
         (λ k a c. word-posted b.number k) rp l.items.words);
-    slots = subst (λ (past : ℕ). (k : ℕ) → returned_count q.queue ≤ k → k < past → home_at (set homes p (some (Some b))) (k % n) ≡ slot_of (rx_changed q (Post b.number)) k) (sym (length-posted b.number))
-        (each_item-push n (returned_count q.queue) (posted_count q.queue) (home_at homes) (home_at (set homes p (some (Some b)))) (slot_of q) (slot_of (rx_changed q (Post b.number))) (omega arith) (omega arith)
-        (subst (λ (x : Option Buffer). Writes n (home_at homes) (home_at (set homes p (some (Some b)))) (posted_count q.queue % n) x) (ap Some empty ∙ sym (slot-last b.number))
-        (subst (λ (j : ℕ). Writes n (home_at homes) (home_at (set homes p (some (Some b)))) j (Some b)) at (home-given homes n p (Some b) in_homes)))
+    slots = subst (λ (past : ℕ). (k : ℕ) → returned_count q.queue ≤ k → k < past → home_at (set homes p (some b)) (k % n) ≡ slot_of (rx_changed q (Post b.number)) k) (sym (length-posted b.number))
+        (each_item-push n (returned_count q.queue) (posted_count q.queue) (home_at homes) (home_at (set homes p (some b))) (slot_of q) (slot_of (rx_changed q (Post b.number))) (omega arith) (omega arith)
+        (subst (λ (x : Option Buffer). Writes n (home_at homes) (home_at (set homes p (some b))) (posted_count q.queue % n) x) (ap Some empty ∙ sym (slot-last b.number))
+        (subst (λ (j : ℕ). Writes n (home_at homes) (home_at (set homes p (some b))) j (Some b)) at (home-given homes n p b b.number [] empty in_homes)))
         (λ k a c. slot-posted b.number k c) rp l.items.slots);
   }
 
   -- A1
   pub post-lies : (b : Buffer) (p : ℕ) → p ≡ posted_count q.queue % n → is_open q.handshake.driver ≡ true → posted_count q.queue + 1 < given_count q.queue + n → b ≡ fresh b.number
-      → LiesAs n (rx_changed q (Post b.number)) (ds ++ Posted p 0 b ∷ []) cs (slice_set words p 0) (set homes p (some (Some b)))
+      → LiesAs n (rx_changed q (Post b.number)) (ds ++ Posted p 0 b ∷ []) cs (slice_set words p 0) (set homes p (some b))
   post-lies b p at opened room empty = let wc = l.word_count in let sc = l.slot_count in
       let small : posted_count q.queue % n < n = mod-lt (posted_count q.queue) (omega arith) in
       let below : p < n = omega arith in
       let in_words : p < length words = omega arith in
       let in_homes : p < length homes = omega arith in record {
         word_count = length-set words p 0 ∙ l.word_count;
-        slot_count = length-set homes p (some (Some b)) ∙ l.slot_count;
+        slot_count = length-set homes p (some b) ∙ l.slot_count;
         reachable = goes_on (Post b.number) (can-post opened room b.number);
         driver = driving-snoc ds (Posted p 0 b) ∙ ap (λ (d : Driven). drive d (Posted p 0 b)) l.driver;
         controller = l.controller ∙ controlled-post b.number;
@@ -301,7 +301,7 @@ module _ (n : ℕ) (q : RxRing Bytes) (ds : List DriverEvent) (cs : List Control
   stored-other s k ne = slice_get-snoc_other q.ledger.served s k ne
 
   store-items : (b : Buffer) (eop : Bool) (p : ℕ) → p ≡ served_count q.queue % n → q.held ≡ true → b ≡ buffer b.number b.bytes → b.number ≡ slice_index q.ledger.posted (served_count q.queue) → p < length words → p < length homes
-      → HasItems {Given = Segment Bytes} says holds n (rx_changed q (Store b.bytes eop)).queue (slice_index (slice_set words p (rx_word (length b.bytes) eop))) (home_at (set homes p (some (Some b))))
+      → HasItems {Given = Segment Bytes} says holds n (rx_changed q (Store b.bytes eop)).queue (slice_index (slice_set words p (rx_word (length b.bytes) eop))) (home_at (set homes p (some b)))
   store-items b eop p at held real number in_words in_homes = let k = keeps_it in let o = k.queue.order in let rs = returned_stored (o.held_serving held) in let bh = below_held held in let w = within in
       let s : Segment Bytes = record { number = slice_index q.ledger.posted (served_count q.queue); payload = b.bytes; eop = eop } in record {
         words = each_item-set n (returned_count q.queue) (posted_count q.queue) (served_count q.queue) (slice_index words) (slice_index (slice_set words p (rx_word (length b.bytes) eop))) (word_at q) (word_at (rx_changed q (Store b.bytes eop))) (omega arith) w rs bh
@@ -309,10 +309,10 @@ module _ (n : ℕ) (q : RxRing Bytes) (ds : List DriverEvent) (cs : List Control
             (sym (ap (says (served_count q.queue) (slice_get q.ledger.posted (served_count q.queue))) (slice_get-last q.ledger.served s)))
             (subst (λ (j : ℕ). Writes n (slice_index words) (slice_index (slice_set words p (rx_word (length b.bytes) eop))) j (rx_word (length b.bytes) eop)) at (slice_index-writes words n p (rx_word (length b.bytes) eop) in_words)))
             (λ k a c ne. ap (says k (slice_get q.ledger.posted k)) (stored-other s k ne)) l.items.words;
-        slots = each_item-set n (returned_count q.queue) (posted_count q.queue) (served_count q.queue) (home_at homes) (home_at (set homes p (some (Some b)))) (slot_of q) (slot_of (rx_changed q (Store b.bytes eop))) (omega arith) w rs bh
-            (subst (λ (x : Option Buffer). Writes n (home_at homes) (home_at (set homes p (some (Some b)))) (served_count q.queue % n) x)
+        slots = each_item-set n (returned_count q.queue) (posted_count q.queue) (served_count q.queue) (home_at homes) (home_at (set homes p (some b))) (slot_of q) (slot_of (rx_changed q (Store b.bytes eop))) (omega arith) w rs bh
+            (subst (λ (x : Option Buffer). Writes n (home_at homes) (home_at (set homes p (some b))) (served_count q.queue % n) x)
             (ap Some (real ∙ ap (λ (j : ℕ). buffer j b.bytes) number) ∙ sym (ap (λ (x : Option ℕ). holds x (Some s)) (next_posted bh)) ∙ sym (ap (holds (slice_get q.ledger.posted (served_count q.queue))) (slice_get-last q.ledger.served s)))
-            (subst (λ (j : ℕ). Writes n (home_at homes) (home_at (set homes p (some (Some b)))) j (Some b)) at (home-given homes n p (Some b) in_homes)))
+            (subst (λ (j : ℕ). Writes n (home_at homes) (home_at (set homes p (some b))) j (Some b)) at (home-given homes n p b b.number b.bytes real in_homes)))
             (λ k a c ne. ap (holds (slice_get q.ledger.posted k)) (stored-other s k ne) ∙ slot-other false k ne) l.items.slots;
       }
 
@@ -325,12 +325,12 @@ module _ (n : ℕ) (q : RxRing Bytes) (ds : List DriverEvent) (cs : List Control
   -- A5
   pub store-lies : (b : Buffer) (eop : Bool) (p : ℕ) → p ≡ served_count q.queue % n → q.held ≡ true → b ≡ buffer b.number b.bytes → b.number ≡ slice_index q.ledger.posted (served_count q.queue)
       → Follows piece_of n (unfinished piece_of q.ledger.served) b.bytes eop
-      → LiesAs n (rx_changed q (Store b.bytes eop)) ds (cs ++ WroteBack p (rx_word (length b.bytes) eop) b ∷ []) (slice_set words p (rx_word (length b.bytes) eop)) (set homes p (some (Some b)))
+      → LiesAs n (rx_changed q (Store b.bytes eop)) ds (cs ++ WroteBack p (rx_word (length b.bytes) eop) b ∷ []) (slice_set words p (rx_word (length b.bytes) eop)) (set homes p (some b))
   store-lies b eop p at held real number follows = let sc = l.slot_count in let wc = l.word_count in
       let small : served_count q.queue % n < n = mod-lt (served_count q.queue) (omega arith) in
       let w : ℕ = rx_word (length b.bytes) eop in record {
         word_count = length-set words p (rx_word (length b.bytes) eop) ∙ l.word_count;
-        slot_count = length-set homes p (some (Some b)) ∙ l.slot_count;
+        slot_count = length-set homes p (some b) ∙ l.slot_count;
         reachable = goes_on (Store b.bytes eop) held;
         driver = l.driver;
         controller = controlling-snoc n cs (WroteBack p (rx_word (length b.bytes) eop) b) ∙ ap (λ (c : Controlled). control n c (WroteBack p (rx_word (length b.bytes) eop) b)) l.controller ∙ segment-stored b eop number;

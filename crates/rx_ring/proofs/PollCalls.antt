@@ -1,11 +1,11 @@
 -- What `poll` leaves and answers, over the fields of its end.
-use Rattle.std.proofs.Common.{◌/◌, Bool, mod-lt, ⊎_elim, false, ◌≡◌, ℕ, ◌+◌, ◌-◌, ◌%◌, ◌<◌, true, List, [], ◌∷◌, ◌++◌, length, Option, Some, None, sym, refl, ap, ◌∙◌, subst, arith, if◌then◌else◌, length-append}
+use Rattle.std.proofs.Common.{◌/◌, Bool, mod-lt, ⊎_elim, false, ◌≡◌, ℕ, ◌+◌, ◌-◌, ◌%◌, ◌<◌, true, List, [], ◌∷◌, ◌++◌, length, sym, refl, ap, ◌∙◌, subst, arith, if◌then◌else◌, length-append}
 use Rattle.std.specs.Prelude.{◌==◌}
 use Rattle.std.proofs.lemmas.Bool.{cases_eq, eq-eqb, eqb-true, false≢true, false_from_ne_true}
 use mathlib.Core.Option.{none}
 use Rattle.atomic_table.specs.Table.{step, rest, turned}
 use Rattle.atomic_table.specs.Seated.{TableId}
-use Rattle.buffer_pool.specs.Buffer.{Buffer}
+use Rattle.buffer_pool.specs.Buffer.{blank, Buffer}
 use Rattle.ring_model.specs.declared.states.DriverState.{DriverState}
 use Rattle.ring_model.specs.receive.Ring.{Segment, piece_of}
 use Rattle.ring_model.specs.shared.Frames.{Bytes, Follows, unfinished}
@@ -69,20 +69,20 @@ module _ (table : TableId) (me : Seated) (size fill next out : ℕ) (state : Dri
       (subst (λ (m : Seated). SawNotDone (side table me) (side table m)) (sym did) (not_done-at r clear)))
 
   -- the seat after the load, the exchange and the turn
-  taken-seat : (r : ℕ) (b : Buffer) (me1 me2 me3 : Seated) → me1 ≡ (driver_does me (Taken next r b), (next, Some b) ∷ me.1) → me2 ≡ (me1.0, (next, None) ∷ rest me1.1) → me3 ≡ (me2.0, turned me2.1)
-      → me3 ≡ (Driver (drivers_of me.0 ++ Taken next r b ∷ []), me.1 ++ (next, None) ∷ [])
+  taken-seat : (r : ℕ) (b : Buffer) (me1 me2 me3 : Seated) → me1 ≡ (driver_does me (Taken next r b), (next, b) ∷ me.1) → me2 ≡ (me1.0, (next, blank) ∷ rest me1.1) → me3 ≡ (me2.0, turned me2.1)
+      → me3 ≡ (Driver (drivers_of me.0 ++ Taken next r b ∷ []), me.1 ++ (next, blank) ∷ [])
   taken-seat r b me1 me2 me3 did left turned_is =
-      turned_is ∙ ap (λ (m : Seated). let x : Seated = (m.0, turned m.1) in x) (left ∙ ap (λ (m : Seated). let x : Seated = (m.0, (next, None) ∷ rest m.1) in x) did)
+      turned_is ∙ ap (λ (m : Seated). let x : Seated = (m.0, turned m.1) in x) (left ∙ ap (λ (m : Seated). let x : Seated = (m.0, (next, blank) ∷ rest m.1) in x) did)
 
   taken-more : (s : Segment Bytes) → length (d.taken ++ s ∷ []) ≡ length d.taken + 1
   taken-more s = length-append d.taken (s ∷ [])
 
-  after-take : (r : ℕ) (b : Buffer) → IsDriverEnd table (Driver (drivers_of me.0 ++ Taken next r b ∷ []), me.1 ++ (next, None) ∷ []) size fill (if (next + 1) == size then 0 else (next + 1)) (out - 1) state
+  after-take : (r : ℕ) (b : Buffer) → IsDriverEnd table (Driver (drivers_of me.0 ++ Taken next r b ∷ []), me.1 ++ (next, blank) ∷ []) size fill (if (next + 1) == size then 0 else (next + 1)) (out - 1) state
   after-take r b = let o = inv.out_is in let m = inv.room in let g = big table me size fill next out state inv in
-      driver-end table (drivers_of me.0 ++ Taken next r b ∷ []) (me.1 ++ (next, None) ∷ []) size fill _ (out - 1) state (drive d (Taken next r b)) (driving-snoc (drivers_of me.0) (Taken next r b))
+      driver-end table (drivers_of me.0 ++ Taken next r b ∷ []) (me.1 ++ (next, blank) ∷ []) size fill _ (out - 1) state (drive d (Taken next r b)) (driving-snoc (drivers_of me.0) (Taken next r b))
       inv.size_is inv.words inv.lawful
-      (ap (λ (xs : List (ℕ × Option Buffer)). xs ++ (next, None) ∷ []) (slots-are-its table me size fill next out state inv)
-      ∙ ap (λ (j : ℕ). driver_slots size d ++ (j, None) ∷ []) inv.next_is
+      (ap (λ (xs : List (ℕ × Buffer)). xs ++ (next, blank) ∷ []) (slots-are-its table me size fill next out state inv)
+      ∙ ap (λ (j : ℕ). driver_slots size d ++ (j, blank) ∷ []) inv.next_is
       ∙ slots-take size (length d.posted) (length d.taken) (omega arith)
       ∙ ap (λ (j : ℕ). empty_slots size (length d.posted) (j + size - length d.posted)) (sym (taken-more (segment_of r b))))
       inv.fill_is
@@ -91,11 +91,11 @@ module _ (table : TableId) (me : Seated) (size fill next out : ℕ) (state : Dri
       (omega arith)
       inv.state_is
 
-  pub take-keeps : (r : ℕ) (b : Buffer) (table' : TableId) (me1 me2 me3 : Seated) (next' : ℕ) → table' ≡ table → me1 ≡ (driver_does me (Taken next r b), (next, Some b) ∷ me.1) → me2 ≡ (me1.0, (next, None) ∷ rest me1.1) → me3 ≡ (me2.0, turned me2.1)
+  pub take-keeps : (r : ℕ) (b : Buffer) (table' : TableId) (me1 me2 me3 : Seated) (next' : ℕ) → table' ≡ table → me1 ≡ (driver_does me (Taken next r b), (next, b) ∷ me.1) → me2 ≡ (me1.0, (next, blank) ∷ rest me1.1) → me3 ≡ (me2.0, turned me2.1)
       → next' ≡ (if (next + 1) == size then 0 else (next + 1)) → IsDriverEnd table' me3 size fill next' (out - 1) state
   take-keeps r b table' me1 me2 me3 next' same did left turned_is at =
       subst (λ (j : ℕ). IsDriverEnd table' me3 size fill j (out - 1) state) (sym at)
-      (same-end table table' (Driver (drivers_of me.0 ++ Taken next r b ∷ []), me.1 ++ (next, None) ∷ []) me3 size fill _ (out - 1) state same (taken-seat r b me1 me2 me3 did left turned_is) (after-take r b))
+      (same-end table table' (Driver (drivers_of me.0 ++ Taken next r b ∷ []), me.1 ++ (next, blank) ∷ []) me3 size fill _ (out - 1) state same (taken-seat r b me1 me2 me3 did left turned_is) (after-take r b))
 
   took-at : (r slots : ℕ) (me1 : Seated) → slots ≡ size → (t : TakesOut (step slots next 0 0 none) me r me1) → TookSegment (side table me) t.buf (eop_of r) (appended (side table me) (Taken next r t.buf))
   took-at r slots me1 count t = record {
@@ -112,7 +112,7 @@ module _ (table : TableId) (me : Seated) (size fill next out : ℕ) (state : Dri
   }
 
   pub took-segment : (now : DriverSide) (r slots : ℕ) (me1 me2 me3 : Seated) (table' : TableId) (b : Buffer) → slots ≡ size → side table me ≡ now → (t : TakesOut (step slots next 0 0 none) me r me1) → b ≡ front_buffer me1.1
-      → me2 ≡ (me1.0, (next, None) ∷ rest me1.1) → me3 ≡ (me2.0, turned me2.1) → table' ≡ table → TookSegment now b (eop_of r) (side table' me3)
+      → me2 ≡ (me1.0, (next, blank) ∷ rest me1.1) → me3 ≡ (me2.0, turned me2.1) → table' ≡ table → TookSegment now b (eop_of r) (side table' me3)
   took-segment now r slots me1 me2 me3 table' b count was t got left turned_is same =
       let is : b ≡ t.buf = got ∙ ap (λ (m : Seated). front_buffer m.1) t.seat in
       subst (λ (s : DriverSide). TookSegment s b (eop_of r) (side table' me3)) was

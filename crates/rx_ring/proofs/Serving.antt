@@ -35,7 +35,7 @@ some-held true b c e = (refl, sym (same_Some b c e))
 some-held false b c e = absurd (none-some c e)
 
 -- A3
-pub allow-look : (n id : ℕ) (es : List ControllerEvent) (slots : List (ℕ × Option Buffer)) → is_serving (controlling n es).state ≡ true
+pub allow-look : (n id : ℕ) (es : List ControllerEvent) (slots : List (ℕ × Buffer)) → is_serving (controlling n es).state ≡ true
     → Allows (IsRuled n) n id (Controller es, slots) (n + 1) (λ x. x) (LoadsTail (step n (n + 1) 0 0 none) (Controller es, slots))
 allow-look n id es slots serving = allow_controller n id es slots (n + 1) (λ x. x) (LoadsTail (step n (n + 1) 0 0 none) (Controller es, slots))
     (λ q ds words homes pos l. let k = keeps_it n q ds es words homes pos l in
@@ -59,12 +59,12 @@ allow-look n id es slots serving = allow_controller n id es slots (n + 1) (λ x.
     })
 
 -- A4
-module _ (n : ℕ) (es : List ControllerEvent) (slots : List (ℕ × Option Buffer)) (p : ℕ) (q : RxRing Bytes) (ds : List DriverEvent) (words : List ℕ) (homes : List (maybe.Option (Option Buffer))) (pos : 1 < n) (l : LiesAs n q ds es words homes)
+module _ (n : ℕ) (es : List ControllerEvent) (slots : List (ℕ × Buffer)) (p : ℕ) (q : RxRing Bytes) (ds : List DriverEvent) (words : List ℕ) (homes : List (maybe.Option Buffer)) (pos : 1 < n) (l : LiesAs n q ds es words homes)
     (at : p ≡ served_count q.queue % n) (serving : is_serving q.handshake.controller ≡ true) (unheld : q.held ≡ false) (some_known : served_count q.queue < q.known) (moving : q.still ≡ false) where
   next_number : ℕ
   next_number = slice_index q.ledger.posted (served_count q.queue)
 
-  home-posted : get_elem? homes p ≡ some (some (Some (fresh (slice_index q.ledger.posted (served_count q.queue)))))
+  home-posted : get_elem? homes p ≡ some (some (fresh (slice_index q.ledger.posted (served_count q.queue))))
   home-posted = let k = keeps_it n q ds es words homes pos l in let o = k.queue.order in let a = returned_stored n q ds es words homes pos l serving in let b = o.known_published serving in let c = o.published_posted in
       home-full homes p (fresh (slice_index q.ledger.posted (served_count q.queue)))
       (ap (home_at homes) at ∙ l.items.slots (served_count q.queue) a (omega arith)
@@ -75,7 +75,7 @@ module _ (n : ℕ) (es : List ControllerEvent) (slots : List (ℕ × Option Buff
   goes-fetch : ControllerGoes n es slots p (λ x. x) (Fetches (step n p 0 0 none) (Controller es, slots)) ds words homes
   goes-fetch = record {
     event = Fetched p (slice_index words p) (fresh (slice_index q.ledger.posted (served_count q.queue)));
-    act = takes p (Some (fresh (slice_index q.ledger.posted (served_count q.queue))));
+    act = takes p (fresh (slice_index q.ledger.posted (served_count q.queue)));
     valid = home-posted;
     later = rx_changed q Fetch;
     lies = subst (λ (ws : List ℕ). LiesAs n (rx_changed q Fetch) ds (es ++ Fetched p (slice_index words p) (fresh (slice_index q.ledger.posted (served_count q.queue))) ∷ []) ws (set homes p none)) (sym (set-same words p))
@@ -83,7 +83,7 @@ module _ (n : ℕ) (es : List ControllerEvent) (slots : List (ℕ × Option Buff
     told = record { buf = fresh (slice_index q.ledger.posted (served_count q.queue)); seat = refl; empty = refl };
   }
 
-pub allow-fetch : (n id : ℕ) (es : List ControllerEvent) (slots : List (ℕ × Option Buffer)) (p : ℕ)
+pub allow-fetch : (n id : ℕ) (es : List ControllerEvent) (slots : List (ℕ × Buffer)) (p : ℕ)
     → p ≡ length (controlling n es).stored % n → is_serving (controlling n es).state ≡ true → (controlling n es).held ≡ None → length (controlling n es).stored < (controlling n es).known → (controlling n es).still ≡ false
     → Allows (IsRuled n) n id (Controller es, slots) p (λ x. x) (Fetches (step n p 0 0 none) (Controller es, slots))
 allow-fetch n id es slots p at serving unheld some_known moving = allow_controller n id es slots p (λ x. x) (Fetches (step n p 0 0 none) (Controller es, slots))
@@ -95,12 +95,12 @@ allow-fetch n id es slots p at serving unheld some_known moving = allow_controll
     (sym (ap (λ (c : Controlled). c.still) l.controller) ∙ moving))
 
 -- A5
-pub allow-write_back : (n id : ℕ) (es : List ControllerEvent) (b : Buffer) (eop : Bool) (slots : List (ℕ × Option Buffer)) (p : ℕ)
+pub allow-write_back : (n id : ℕ) (es : List ControllerEvent) (b : Buffer) (eop : Bool) (slots : List (ℕ × Buffer)) (p : ℕ)
     → p ≡ length (controlling n es).stored % n → (controlling n es).held ≡ Some b.number → b ≡ buffer b.number b.bytes → Follows piece_of n (unfinished piece_of (controlling n es).stored) b.bytes eop
-    → Allows (IsRuled n) n id (Controller es, (p, Some b) ∷ slots) p (λ _. rx_word (length b.bytes) eop)
-    (λ _ m. writes_back (step n p (rx_word (length b.bytes) eop) 0 none) (Controller es, (p, Some b) ∷ slots) (rx_word (length b.bytes) eop) m)
-allow-write_back n id es b eop slots p at held real follows = allow_controller n id es ((p, Some b) ∷ slots) p (λ _. rx_word (length b.bytes) eop)
-    (λ _ m. writes_back (step n p (rx_word (length b.bytes) eop) 0 none) (Controller es, (p, Some b) ∷ slots) (rx_word (length b.bytes) eop) m)
+    → Allows (IsRuled n) n id (Controller es, (p, b) ∷ slots) p (λ _. rx_word (length b.bytes) eop)
+    (λ _ m. writes_back (step n p (rx_word (length b.bytes) eop) 0 none) (Controller es, (p, b) ∷ slots) (rx_word (length b.bytes) eop) m)
+allow-write_back n id es b eop slots p at held real follows = allow_controller n id es ((p, b) ∷ slots) p (λ _. rx_word (length b.bytes) eop)
+    (λ _ m. writes_back (step n p (rx_word (length b.bytes) eop) 0 none) (Controller es, (p, b) ∷ slots) (rx_word (length b.bytes) eop) m)
     (λ q ds words homes pos l. let h = some-held q.held (slice_index q.ledger.posted (served_count q.queue)) b.number (sym (ap (λ (c : Controlled). c.held) l.controller) ∙ held) in record {
       event = WroteBack p (rx_word (length b.bytes) eop) b;
       act = gives;

@@ -76,27 +76,23 @@ abbrev pub controlling : ℕ → List ControllerEvent → Controlled
 controlling n es = controlling_from n (record { stored = []; known = 0; held = None; state = Serving; still = false }) es
 
 -- the slots of so many items from item k on, all empty
-abbrev pub empty_slots : ℕ → ℕ → ℕ → List (ℕ × Option Buffer)
+abbrev pub empty_slots : ℕ → ℕ → ℕ → List (ℕ × Buffer)
 empty_slots n k zero = []
-empty_slots n k (suc more) = (k % n, None) ∷ empty_slots n (k + 1) more
+empty_slots n k (suc more) = (k % n, blank) ∷ empty_slots n (k + 1) more
 
 -- the slots that the driver has, in the order in which it posts into them: those of the items that are not out
-abbrev pub driver_slots : ℕ → Driven → List (ℕ × Option Buffer)
+abbrev pub driver_slots : ℕ → Driven → List (ℕ × Buffer)
 driver_slots n d = empty_slots n (length d.posted) (length d.taken + n - length d.posted)
 
 -- the slot that the controller has: that of the fetched buffer
-abbrev pub slots_while : ℕ → Option ℕ → List (ℕ × Option Buffer)
+abbrev pub slots_while : ℕ → Option ℕ → List (ℕ × Buffer)
 slots_while place None = []
-slots_while place (Some b) = (place, None) ∷ []
+slots_while place (Some b) = (place, blank) ∷ []
 
-abbrev pub controller_slots : ℕ → Controlled → List (ℕ × Option Buffer)
+abbrev pub controller_slots : ℕ → Controlled → List (ℕ × Buffer)
 controller_slots n c = slots_while (length c.stored % n) c.held
 
--- the buffer in the slot that a seat took last
-abbrev pub buffer_in : Option Buffer → Buffer
-buffer_in None = blank
-buffer_in (Some b) = b
-
-abbrev pub front_buffer : List (ℕ × Option Buffer) → Buffer
+-- what is in the slot that a seat took last
+abbrev pub front_buffer : List (ℕ × Buffer) → Buffer
 front_buffer [] = blank
-front_buffer (x ∷ xs) = buffer_in x.1
+front_buffer (x ∷ xs) = x.1

@@ -1,11 +1,11 @@
 -- The rule of a ring's table: between any two steps words, slots and both records agree with one ring that a schedule makes.
-use Rattle.std.specs.Prelude.{◌≡◌, ℕ, ◌+◌, ◌<◌, ◌⊎◌, List, [], ◌∷◌, map, length, replicate, Option, Some, None, slice_index, slice_set, if◌then◌else◌}
+use Rattle.std.specs.Prelude.{◌≡◌, ℕ, ◌+◌, ◌<◌, ◌⊎◌, List, [], ◌∷◌, map, length, replicate, Option, Some, None, slice_index, slice_set, ◌==◌, if◌then◌else◌}
 use mathlib.Core.Option as maybe
 use mathlib.Core.Option.{some, none}
 use lib.ListN.{get_elem?}
 use Rattle.atomic_table.specs.Table.{State}
 use Rattle.atomic_table.specs.Seated.{TableId}
-use Rattle.buffer_pool.specs.Buffer.{Buffer, buffer}
+use Rattle.buffer_pool.specs.Buffer.{blank, Buffer, buffer}
 use Rattle.limits.specs.RingLength.{IsRingLength}
 use Rattle.ring_model.specs.receive.Agreement.{rx_registers_of, rx_says, rx_lies}
 use Rattle.ring_model.specs.receive.Ring.{RxRing, Segment, piece_of}
@@ -20,19 +20,23 @@ use Rattle.rx_ring.specs.Seats.{HasSeats}
 use Rattle.rx_ring.specs.Records.{RxView, Driven, driving, Controlled, controlling}
 
 abbrev pub Table : Type 0
-Table = State (Option Buffer) RxView
+Table = State Buffer RxView
 
 -- n descriptors of 0, then head and tail 0, control 2, quiet 0
 abbrev pub opening_words_of : ℕ → List ℕ
 opening_words_of n = slice_set (replicate (n + 4) 0) (n + 2) 2
 
+-- the buffer in a slot, which is not there where a blank is
+abbrev pub in_slot : Buffer → Option Buffer
+in_slot b = if b.capacity == 0 then None else Some b
+
 -- the buffer at home in a slot, if the slot is at home and has one
-abbrev pub at_home : maybe.Option (maybe.Option (Option Buffer)) → Option Buffer
+abbrev pub at_home : maybe.Option (maybe.Option Buffer) → Option Buffer
 at_home none = None
 at_home (some none) = None
-at_home (some (some b)) = b
+at_home (some (some b)) = in_slot b
 
-abbrev pub home_at : List (maybe.Option (Option Buffer)) → ℕ → Option Buffer
+abbrev pub home_at : List (maybe.Option Buffer) → ℕ → Option Buffer
 home_at homes place = at_home (get_elem? homes place)
 
 -- what the two ends have of a ring
@@ -56,7 +60,7 @@ abbrev pub holds : Option ℕ → Option (Segment Bytes) → Option Buffer
 holds = rx_lies {Payload = Bytes} length (λ b. buffer b []) buffer
 
 -- the records are those of the ring q, and words and slots lie as q has them
-pub record LiesAs (n : ℕ) (q : RxRing Bytes) (ds : List DriverEvent) (cs : List ControllerEvent) (words : List ℕ) (homes : List (maybe.Option (Option Buffer))) : Type 0 where
+pub record LiesAs (n : ℕ) (q : RxRing Bytes) (ds : List DriverEvent) (cs : List ControllerEvent) (words : List ℕ) (homes : List (maybe.Option Buffer)) : Type 0 where
   pub word_count : length words ≡ n + 4
   pub slot_count : length homes ≡ n
   pub reachable : IsRxReachable Bytes n q
@@ -77,7 +81,7 @@ pub record Runs (n : ℕ) (s : Table) : Type 0 where
 -- the ring is being made: one seat, all slots at home and empty
 pub record Begins (n : ℕ) (s : Table) : Type 0 where
   pub words : s.words ≡ opening_words_of n
-  pub homes : s.homes ≡ map some (replicate n None)
+  pub homes : s.homes ≡ map some (replicate n blank)
   pub views : s.views ≡ Maker ∷ []
 
 abbrev pub IsRuled : ℕ → Table → Type 0

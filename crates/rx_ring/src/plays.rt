@@ -7,7 +7,7 @@ use buffer_pool::Buf;
 /// A1, with the buffer in the slot that the seat took last.
 pub(crate) struct PostStep;
 
-impl Play<Option<Buf>, RxView> for PostStep {
+impl Play<Buf, RxView> for PostStep {
     ghost use Rattle.rx_ring.specs.Plays.{posts};
 
     ghost then = { posts };
@@ -16,7 +16,7 @@ impl Play<Option<Buf>, RxView> for PostStep {
 /// A2.
 pub(crate) struct PublishStep;
 
-impl Play<Option<Buf>, RxView> for PublishStep {
+impl Play<Buf, RxView> for PublishStep {
     ghost use Rattle.rx_ring.specs.Plays.{publishes};
 
     ghost then = { publishes };
@@ -25,7 +25,7 @@ impl Play<Option<Buf>, RxView> for PublishStep {
 /// A6.
 pub(crate) struct StatusLoad;
 
-impl Play<Option<Buf>, RxView> for StatusLoad {
+impl Play<Buf, RxView> for StatusLoad {
     ghost use Rattle.rx_ring.specs.Plays.{LoadsStatus};
 
     ghost then = { LoadsStatus };
@@ -34,7 +34,7 @@ impl Play<Option<Buf>, RxView> for StatusLoad {
 /// A3.
 pub(crate) struct TailLoad;
 
-impl Play<Option<Buf>, RxView> for TailLoad {
+impl Play<Buf, RxView> for TailLoad {
     ghost use Rattle.rx_ring.specs.Plays.{LoadsTail};
 
     ghost then = { LoadsTail };
@@ -43,7 +43,7 @@ impl Play<Option<Buf>, RxView> for TailLoad {
 /// A4.
 pub(crate) struct FetchLoad;
 
-impl Play<Option<Buf>, RxView> for FetchLoad {
+impl Play<Buf, RxView> for FetchLoad {
     ghost use Rattle.rx_ring.specs.Plays.{Fetches};
 
     ghost then = { Fetches };
@@ -52,7 +52,7 @@ impl Play<Option<Buf>, RxView> for FetchLoad {
 /// A5, with the buffer in the slot that the seat took last.
 pub(crate) struct WriteBackStep;
 
-impl Play<Option<Buf>, RxView> for WriteBackStep {
+impl Play<Buf, RxView> for WriteBackStep {
     ghost use Rattle.rx_ring.specs.Plays.{writes_back};
 
     ghost then = { writes_back };
@@ -61,7 +61,7 @@ impl Play<Option<Buf>, RxView> for WriteBackStep {
 /// The load by which the first seat takes all slots, as the ring is made.
 pub(crate) struct Deal;
 
-impl Play<Option<Buf>, RxView> for Deal {
+impl Play<Buf, RxView> for Deal {
     ghost use Rattle.rx_ring.specs.Plays.{Deals};
 
     ghost then = { Deals };
@@ -70,7 +70,7 @@ impl Play<Option<Buf>, RxView> for Deal {
 /// The load of two ends that meet.
 pub(crate) struct MeetLoad;
 
-impl Play<Option<Buf>, RxView> for MeetLoad {
+impl Play<Buf, RxView> for MeetLoad {
     ghost use Rattle.rx_ring.specs.Plays.{Meets};
 
     ghost then = { Meets };

@@ -19,14 +19,14 @@ use std::marker::Model;
 /// What a seat knows: the record of an end.
 pub(crate) type RxView = View<DriverEvent, ControllerEvent>;
 
-pub(crate) type RxSeat = Seat<Option<Buf>, RxView>;
+pub(crate) type RxSeat = Seat<Buf, RxView>;
 
-pub(crate) type RxTable = Shared<Option<Buf>, RxView, usize, RxRule>;
+pub(crate) type RxTable = Shared<Buf, RxView, usize, RxRule>;
 
 /// Between any two steps, the words, the slots and both records agree with one ring that a schedule makes.
 pub struct RxRule;
 
-impl TableRule<Option<Buf>, RxView, usize> for RxRule {
+impl TableRule<Buf, RxView, usize> for RxRule {
     ghost use Rattle.rx_ring.specs.declared.view.View.TheVariants.{Maker};
     ghost use Rattle.rx_ring.specs.Rule.{IsRuled};
 
@@ -39,7 +39,7 @@ impl TableRule<Option<Buf>, RxView, usize> for RxRule {
 /// Contracts see it as the identity of its table, whose `slots` are the ring's length.
 #[derive(Drop)]
 pub struct RxRing {
-    pub(crate) table: Table<Option<Buf>, RxView, usize, RxRule, Global>,
+    pub(crate) table: Table<Buf, RxView, usize, RxRule, Global>,
 }
 
 impl Model for RxRing {
@@ -67,7 +67,10 @@ impl RxRing {
         let Ok(words) = opening_words(alloc, size) else {
             return Err(RingError::Memory);
         };
-        let Ok((table, mut seat)) = Table::vacant(alloc, words.as_slice(), size, &size) else {
+        let Ok(slots) = Buf::blanks(alloc, size) else {
+            return Err(RingError::Memory);
+        };
+        let Ok((table, mut seat)) = Table::new(alloc, words.as_slice(), slots, &size) else {
             return Err(RingError::Memory);
         };
         table.shared.load::<Deal>(&mut seat, size + 2);

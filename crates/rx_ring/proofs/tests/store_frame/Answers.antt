@@ -1,5 +1,5 @@
 -- A segment that ends its frame leaves nothing unfinished.
-use Rattle.std.proofs.Common.{arith, length, ◌<◌, ◌≤◌, ◌≡◌, true, sym, ap, ◌∙◌}
+use Rattle.std.proofs.Common.{arith, length, ◌<◌, ◌≡◌, true, sym, ap, ◌∙◌}
 use Rattle.ring_model.specs.receive.Ring.{piece_of}
 use Rattle.ring_model.specs.shared.Frames.{unfinished}
 use Rattle.ring_model.specs.shared.Handshakes.{is_serving}
