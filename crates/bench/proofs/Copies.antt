@@ -1,16 +1,16 @@
 -- Segments that are each the whole frame: what they leave unfinished, and the frames that they are.
-use Rattle.std.proofs.Common.{◌≡◌, ◌∙◌, Bool, true, List, [], ◌∷◌, ◌++◌, length, ap, refl, append-nil, if◌then◌else◌}
+use Rattle.std.proofs.Common.{◌≡◌, ◌∙◌, Bool, true, List, [], ◌∷◌, ◌++◌, length, map, ap, refl, append-nil, if◌then◌else◌}
 use Rattle.std.specs.Prelude.{All, replicate}
 use Rattle.std.proofs.lemmas.List.Elements.{All-nil, All-cons, All-head, All-tail, All-same}
-use Rattle.ring_machine.specs.Lists.{IsBeginning}
-use Rattle.ring_machine.specs.Ring.{Bytes, Segment}
-use Rattle.ring_machine.specs.Frames.{join, frames_from, frames, unfinished}
-use Rattle.ring_machine.proofs.FrameLaws.{unfinished-snoc}
+use Rattle.ring_model.specs.shared.Lists.{IsBeginning}
+use Rattle.ring_model.specs.receive.Ring.{Segment, piece_of}
+use Rattle.ring_model.specs.shared.Frames.{Bytes, join, chains_from, frames, unfinished}
+use Rattle.ring_model.proofs.shared.FrameLaws.{unfinished-snoc}
 use Rattle.bench.specs.Passing.{IsWhole}
 
 -- a whole frame leaves nothing unfinished
-pub none_after : (ss : List (Segment Bytes)) (s : Segment Bytes) → s.eop ≡ true → unfinished (ss ++ s ∷ []) ≡ []
-none_after ss s last = unfinished-snoc ss s ∙ ap (λ (e : Bool). if e then [] else unfinished ss ++ s ∷ []) last
+pub none_after : (ss : List (Segment Bytes)) (s : Segment Bytes) → s.eop ≡ true → unfinished piece_of (ss ++ s ∷ []) ≡ []
+none_after ss s last = unfinished-snoc piece_of ss s ∙ ap (λ (e : Bool). if e then [] else unfinished piece_of ss ++ s ∷ []) last
 
 -- what holds of each item holds of each item of a beginning
 pub All-beginning : {X : Type 0} (P : X → Type 0) (xs ys : List X) → IsBeginning xs ys → All P ys → All P xs
@@ -20,10 +20,10 @@ All-beginning P (x ∷ xs) ys before all =
     All-cons P x xs (All-head P x (xs ++ before.0) whole) (All-beginning P xs (xs ++ before.0) (before.0, refl) (All-tail P x (xs ++ before.0) whole))
 
 -- whole frames are so many copies of the frame
-pub copies : (frame : Bytes) (ss : List (Segment Bytes)) → All (IsWhole frame) ss → frames ss ≡ replicate (length ss) frame
+pub copies : (frame : Bytes) (ss : List (Segment Bytes)) → All (IsWhole frame) ss → frames piece_of ss ≡ replicate (length ss) frame
 copies frame [] all = refl
 copies frame (s ∷ ss) all =
     let first = All-head (IsWhole frame) s ss all in
-    let ends = ap (λ (e : Bool). if e then join (s ∷ []) ∷ frames_from [] ss else frames_from (s ∷ []) ss) first.last in
+    let ends = ap (λ (e : Bool). map (join piece_of) (if e then (s ∷ []) ∷ chains_from piece_of [] ss else chains_from piece_of (s ∷ []) ss)) first.last in
     let bytes = append-nil s.payload ∙ first.bytes in
-    ends ∙ ap (λ (f : Bytes). f ∷ frames_from [] ss) bytes ∙ ap (λ (fs : List Bytes). frame ∷ fs) (copies frame ss (All-tail (IsWhole frame) s ss all))
+    ends ∙ ap (λ (f : Bytes). f ∷ frames piece_of ss) bytes ∙ ap (λ (fs : List Bytes). frame ∷ fs) (copies frame ss (All-tail (IsWhole frame) s ss all))

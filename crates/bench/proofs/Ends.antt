@@ -5,10 +5,11 @@ use Rattle.std.proofs.lemmas.List.Elements.{All-nil, All-same, All-push}
 use Rattle.std.proofs.lemmas.List.FromFn.{length-range_with_len}
 use Rattle.atomic_table.specs.Seated.{TableId}
 use Rattle.buffer_pool.specs.Stocked.{Stocked, full_stock}
-use Rattle.ring_machine.specs.declared.states.DriverState.TheVariants.{On}
-use Rattle.ring_machine.specs.Lawful.{IsLawfulRxLedger}
-use Rattle.ring_machine.specs.Ring.{Bytes, Segment, is_serving}
-use Rattle.ring_machine.specs.Frames.{unfinished}
+use Rattle.ring_model.specs.declared.states.DriverState.TheVariants.{On}
+use Rattle.ring_model.specs.receive.Lawful.{IsLawfulRxLedger}
+use Rattle.ring_model.specs.receive.Ring.{Segment, piece_of}
+use Rattle.ring_model.specs.shared.Handshakes.{is_serving}
+use Rattle.ring_model.specs.shared.Frames.{Bytes, unfinished}
 use Rattle.rx_ring.specs.Records.{driving, controlling}
 use Rattle.rx_ring.specs.Ends.{DriverSide, ControllerSide, driver_size, posted, taken, driver_state, stored, ledger_of, IsFreshDriver, IsFreshController}
 use Rattle.bench.specs.Passing.{IsWhole, StoredOnly, CanStore, TookAll, HasPassed}
@@ -37,7 +38,7 @@ pub fresh_stores : (ring : TableId) (frame : Bytes) (controller : ControllerSide
 fresh_stores ring frame controller fresh =
     let none : stored controller ≡ [] = ap (λ es. (controlling controller.table.slots es).stored) fresh.empty in record {
       stored_only = record { own = fresh.own; only = All-same (IsWhole frame) (stored controller) [] none (All-nil (IsWhole frame)) };
-      none_unfinished = ap unfinished none;
+      none_unfinished = ap (unfinished piece_of) none;
       none_held = ap (λ es. (controlling controller.table.slots es).held) fresh.empty;
       serving = ap (λ es. is_serving (controlling controller.table.slots es).state) fresh.empty;
       not_quiet = ap (λ es. (controlling controller.table.slots es).still) fresh.empty;
@@ -45,9 +46,9 @@ fresh_stores ring frame controller fresh =
 
 -- the segments with one more that is the whole frame
 pub whole_after : (frame : Bytes) (before after : List (Segment Bytes)) (s : Segment Bytes) → All (IsWhole frame) before → IsWhole frame s → after ≡ before ++ s ∷ []
-    → All (IsWhole frame) after × (unfinished after ≡ [])
+    → All (IsWhole frame) after × (unfinished piece_of after ≡ [])
 whole_after frame before after s all whole grew =
-    (All-same (IsWhole frame) after (before ++ s ∷ []) grew (All-push (IsWhole frame) before s all whole), ap unfinished grew ∙ none_after before s whole.last)
+    (All-same (IsWhole frame) after (before ++ s ∷ []) grew (All-push (IsWhole frame) before s all whole), ap (unfinished piece_of) grew ∙ none_after before s whole.last)
 
 -- a driver that took so many segments took so many copies of the frame, where the controller stored nothing else
 pub has_passed : (ring : TableId) (count : ℕ) (frame : Bytes) (driver : DriverSide) (controller : ControllerSide)

@@ -1,11 +1,12 @@
 -- What the threads at the two ends of a ring keep while frames are passed, and what was passed at the end.
 use Rattle.std.specs.Prelude.{◌≡◌, ℕ, ◌+◌, ◌≤◌, true, false, [], All, length, replicate, None}
 use Rattle.atomic_table.specs.Seated.{TableId}
-use Rattle.ring_machine.specs.declared.limits.TheConstants.{BUFFER_BYTES, LEAST_FRAME}
-use Rattle.ring_machine.specs.declared.states.DriverState.TheVariants.{On}
-use Rattle.ring_machine.specs.Ring.{Bytes, Segment, is_serving}
-use Rattle.ring_machine.specs.Frames.{frames, unfinished}
-use Rattle.ring_machine.specs.Lawful.{IsLawfulRxLedger}
+use Rattle.limits.specs.declared.profile.TheConstants.{BUFFER_BYTES, LEAST_FRAME}
+use Rattle.ring_model.specs.declared.states.DriverState.TheVariants.{On}
+use Rattle.ring_model.specs.receive.Ring.{Segment, piece_of}
+use Rattle.ring_model.specs.shared.Handshakes.{is_serving}
+use Rattle.ring_model.specs.shared.Frames.{Bytes, frames, unfinished}
+use Rattle.ring_model.specs.receive.Lawful.{IsLawfulRxLedger}
 use Rattle.rx_ring.specs.Ends.{DriverSide, ControllerSide, driver_size, posted, taken, driver_state, stored, held_number, controller_state, is_quiet, ledger_of}
 
 -- at least an Ethernet header, and no more than a buffer has room for
@@ -25,7 +26,7 @@ pub record StoredOnly (ring : TableId) (frame : Bytes) (controller : ControllerS
 -- the controller stored nothing but the frame at the ring, and can store it again where a descriptor is free
 pub record CanStore (ring : TableId) (frame : Bytes) (controller : ControllerSide) : Type 0 where
   pub stored_only : StoredOnly ring frame controller
-  pub none_unfinished : unfinished (stored controller) ≡ []
+  pub none_unfinished : unfinished piece_of (stored controller) ≡ []
   pub none_held : held_number controller ≡ None
   pub serving : is_serving (controller_state controller) ≡ true
   pub not_quiet : is_quiet controller ≡ false
@@ -45,4 +46,4 @@ pub record TookAll (ring : TableId) (count : ℕ) (driver : DriverSide) : Type 0
 pub record HasPassed (count : ℕ) (frame : Bytes) (driver : DriverSide) (controller : ControllerSide) : Type 0 where
   pub one_ring : controller.table ≡ driver.table
   pub lawful : IsLawfulRxLedger Bytes (driver_size driver) (ledger_of driver controller)
-  pub copies : frames (taken driver) ≡ replicate count frame
+  pub copies : frames piece_of (taken driver) ≡ replicate count frame

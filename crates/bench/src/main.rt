@@ -15,7 +15,7 @@ use anyhow::Result;
 use passing::{Passage, pass};
 use std::process::ExitCode;
 use std::{env, io};
-use words::plan_of;
+use words::{USAGE, plan_of};
 
 /// Prints how many frames were passed, and what one of them cost.
 fn report(rt: &impl Print, frames: u32, passage: &Passage) -> io::Result<()> {
@@ -27,12 +27,9 @@ fn report(rt: &impl Print, frames: u32, passage: &Passage) -> io::Result<()> {
 
 fn main(rt: HostRuntime) -> Result<ExitCode> {
     let words: Vec<String> = env::args(&rt)?.skip(1).collect(rt.alloc())?;
-    let plan = match plan_of(rt.alloc(), words.as_slice()) {
-        Ok(plan) => plan,
-        Err(error) => {
-            error.print(&rt)?;
-            return Ok(ExitCode::from(error.exit_code() as u8));
-        }
+    let Some(plan) = plan_of(words.as_slice()) else {
+        eprintln!(rt; "{USAGE}")?;
+        return Ok(ExitCode::from(2));
     };
     let passage = pass(&rt, rt.alloc(), plan)?;
     report(&rt, plan.frames, &passage)?;

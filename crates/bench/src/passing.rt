@@ -1,6 +1,6 @@
 //! A ring is made, its two ends run in threads of their own, and the time is taken.
 ghost use Rattle.std.specs.Prelude.{◌≡◌, ◌+◌, ◌≤◌, [], length, replicate, IfOk};
-ghost use Rattle.rx_ring.specs.Rule.{IsRingLength};
+ghost use Rattle.limits.specs.RingLength.{IsRingLength};
 ghost use Rattle.rx_ring.specs.Ends.{taken, IsFreshController, IsFreshDriver};
 ghost use Rattle.bench.specs.Passing.{CanTake, HasPassed, IsFrameLength, StoredOnly, TookAll};
 
@@ -8,8 +8,8 @@ use crate::storing::store_all;
 use crate::taking::{Reception, Tally, take_all};
 use crate::words::Plan;
 use anyhow::{Result, bail, ensure};
-use buffer_pool::{FEWEST_BUFFERS, Stock};
-use ring_machine::{BUFFER_BYTES, LEAST_FRAME};
+use buffer_pool::Stock;
+use limits::{BUFFER_BYTES, FEWEST_BUFFERS, LEAST_FRAME};
 use rx_ring::{RxControllerEnd, RxDriverEnd, RxRing, meet_rx};
 use std::alloc::Global;
 use std::rt::Clock;

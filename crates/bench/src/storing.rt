@@ -1,6 +1,6 @@
 //! The controller's thread.
 ghost use Rattle.std.specs.Prelude.{◌<◌, length};
-ghost use Rattle.rx_ring.specs.Rule.{IsRingLength};
+ghost use Rattle.limits.specs.RingLength.{IsRingLength};
 ghost use Rattle.rx_ring.specs.Ends.{known_free, IsFreshController};
 ghost use Rattle.bench.specs.Passing.{CanStore, IsFrameLength, StoredOnly};
 

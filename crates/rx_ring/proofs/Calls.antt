@@ -3,6 +3,7 @@ use Rattle.std.proofs.Common.{◌≡◌, ℕ, ◌+◌, ◌<◌, List, ◌∷◌,
 use Rattle.atomic_table.specs.Table.{Allows, rest}
 use Rattle.atomic_table.specs.Seated.{TableId}
 use Rattle.buffer_pool.specs.Buffer.{Buffer}
+use Rattle.limits.specs.RingLength.{IsRingLength}
 use Rattle.rx_ring.specs.Rule.{IsRuled, IsTableOf}
 use Rattle.rx_ring.specs.Plays.{Seated}
 
@@ -25,3 +26,7 @@ allow-at T n key slots id i f me me' k s m a =
 -- the front slot is what the list says
 pub front-is : (xs ys : List (ℕ × Option Buffer)) (x : ℕ × Option Buffer) → xs ≡ x ∷ ys → xs ≡ x ∷ rest xs
 front-is xs ys x e = subst (λ (zs : List (ℕ × Option Buffer)). zs ≡ x ∷ rest zs) (sym e) refl
+
+-- a ring has two places or more
+pub some-places : {n : ℕ} → IsRingLength n → 1 < n
+some-places lawful = let h = lawful.0 in omega arith

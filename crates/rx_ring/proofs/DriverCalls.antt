@@ -1,23 +1,26 @@
 -- The driver's calls, over the fields of its end: what each step asks, and what the end keeps.
-use Rattle.std.proofs.Common.{◌≡◌, ℕ, ◌+◌, ◌-◌, ◌%◌, ◌<◌, ◌≤◌, true, List, [], ◌∷◌, ◌++◌, length, Option, Some, None, sym, ap, ◌∙◌, subst, arith, if◌then◌else◌, length-append, mod-lt}
+use Rattle.std.proofs.Common.{◌≡◌, ℕ, ◌+◌, ◌-◌, ◌%◌, ◌<◌, true, List, [], ◌∷◌, ◌++◌, length, Option, Some, None, sym, ap, ◌∙◌, subst, arith, if◌then◌else◌, length-append, mod-lt}
 use Rattle.std.specs.Prelude.{◌==◌}
 use mathlib.Core.Option.{none}
 use Rattle.atomic_table.specs.Table.{Allows, step, rest}
 use Rattle.atomic_table.specs.Seated.{TableId}
 use Rattle.buffer_pool.specs.Buffer.{Buffer, buffer}
-use Rattle.ring_machine.specs.declared.states.DriverState.{DriverState}
-use Rattle.ring_machine.specs.Ring.{Bytes, Segment, is_open, is_live}
-use Rattle.ring_machine.proofs.Places.{next_place}
+use Rattle.ring_model.specs.declared.states.DriverState.{DriverState}
+use Rattle.ring_model.specs.receive.Ring.{Segment}
+use Rattle.ring_model.specs.shared.Frames.{Bytes}
+use Rattle.ring_model.specs.shared.Handshakes.{is_open, is_live}
+use Rattle.ring_model.proofs.shared.Places.{next_place}
 use Rattle.rx_ring.specs.declared.view.DriverEvent.{DriverEvent}
 use Rattle.rx_ring.specs.declared.view.DriverEvent.TheVariants.{Posted}
 use Rattle.rx_ring.specs.declared.view.View.TheVariants.{Driver}
 use Rattle.rx_ring.specs.Records.{RxView, drivers_of, Driven, drive, driving, driver_slots, empty_slots, front_buffer}
-use Rattle.rx_ring.specs.Rule.{IsRuled, IsTableOf, IsRingLength}
+use Rattle.limits.specs.RingLength.{IsRingLength}
+use Rattle.rx_ring.specs.Rule.{IsRuled, IsTableOf}
 use Rattle.rx_ring.specs.Plays.{Seated, driver_does, posts, publishes, LoadsStatus}
 use Rattle.rx_ring.specs.Ends.{IsDriverEnd}
 use Rattle.rx_ring.proofs.Folds.{driving-snoc, slots-post}
 use Rattle.rx_ring.proofs.Driving.{allow-post, allow-publish, allow-status}
-use Rattle.rx_ring.proofs.Calls.{key-is, slots-are, word-within, allow-at, front-is}
+use Rattle.rx_ring.proofs.Calls.{some-places, key-is, slots-are, word-within, allow-at, front-is}
 
 -- the record after a step
 pub driving-did : (v : RxView) (m : Seated) (e : DriverEvent) → v ≡ driver_does m e → driving (drivers_of v) ≡ drive (driving (drivers_of m.0)) e
@@ -52,8 +55,8 @@ module _ (table : TableId) (me : Seated) (size fill next out : ℕ) (state : Dri
   abbrev t : ℕ
   t = length d.taken
 
-  pub big : 8 ≤ size
-  big = inv.lawful.0
+  pub big : 1 < size
+  big = some-places inv.lawful
 
   view-is : me.0 ≡ Driver (drivers_of me.0)
   view-is = ap (λ (m : Seated). m.0) inv.me_is

@@ -1,5 +1,5 @@
 use Rattle.std.proofs.Common.{◌≡◌, subst, arith, rules, replicate}
-use Rattle.ring_machine.specs.Ring.{Bytes}
+use Rattle.ring_model.specs.shared.Frames.{Bytes}
 use Rattle.bench.specs.declared.passing.TheConstants.{BYTE}
 use Rattle.bench.specs.Passing.{StoredOnly}
 use Rattle.bench.proofs.Ends.{has_passed, stock_count}

@@ -1,7 +1,7 @@
 use Rattle.std.proofs.Common.{◌∙◌, ap, refl}
 use Rattle.std.proofs.lemmas.List.Elements.{All-same}
 use Rattle.buffer_pool.specs.Buffer.{Buffer}
-use Rattle.ring_machine.specs.Ring.{is_serving}
+use Rattle.ring_model.specs.shared.Handshakes.{is_serving}
 use Rattle.rx_ring.specs.Ends.{stored}
 use Rattle.bench.specs.Passing.{IsWhole}
 use Rattle.bench.proofs.Ends.{whole_after}

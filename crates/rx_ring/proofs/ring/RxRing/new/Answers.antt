@@ -1,6 +1,7 @@
 -- The first seat takes all slots, and is cut into the seats of the two ends.
-use Rattle.std.proofs.Common.{◌≡◌, ◌+◌, ◌≤◌, [], length, ap, ◌∙◌, arith}
-use Rattle.rx_ring.specs.Rule.{IsRingLength}
+use Rattle.std.proofs.Common.{◌≡◌, ◌+◌, ◌<◌, [], length, ap, ◌∙◌, arith}
+use Rattle.limits.specs.RingLength.{IsRingLength}
+use Rattle.rx_ring.proofs.Calls.{some-places}
 use Rattle.rx_ring.proofs.MeetCalls.{deal-asks, halve-asks}
 use Rattle.rx_ring.proofs.Gathering.{opening-count}
 use Rattle.rx_ring.proofs.ring.RxRing.new.Goals as goal
@@ -9,7 +10,7 @@ pub load-requires : goal.load-requires
 load-requires c =
     let made = c.in-Ok-vacant.ensures in
     let lawful : IsRingLength c.args.n = c.is_ring_length.ensures.0 c.if-not-is_ring_length.false in
-    let least : 8 ≤ c.args.n = lawful.0 in
+    let some : 1 < c.args.n = some-places lawful in
     let words : c.in-Ok-vacant.table.shared.table_id.words ≡ c.args.n + 4 = made.0 ∙ ap length (c.as_slice.ensures.value ∙ c.in-Ok.ensures) ∙ opening-count c.args.n in (
       made.2,
       omega arith,

@@ -1,0 +1,38 @@
+-- From what the words ask for to how the run ends.
+use Rattle.std.proofs.Common.{◌≡◌, inr, refl, ℕ, List, Option, Some, ap, subst}
+use Rattle.std.specs.Io.KnownBytes.{Keeps}
+use Rattle.commands.specs.declared.answering.TheConstants.{DONE, REFUSED}
+use Rattle.commands.specs.declared.decode.Form.{Form}
+use Rattle.commands.specs.declared.replay.QueuePlan.{QueuePlan}
+use Rattle.commands.specs.declared.request.Request.{Request}
+use Rattle.commands.specs.declared.request.Request.TheVariants.{Once, Decode, Replay}
+use Rattle.commands.specs.Answers.{Ends, EndsAs, EndsDecode}
+use Rattle.commands.specs.Frame.{frame_in}
+use Rattle.commands.specs.Replay.{EndsReplay, HasReplayed}
+use Rattle.command_line.specs.CommandLine.{IsDecode, IsOnce, IsReplayOf}
+
+pub once-ends : (request : Request) (digits : List ℕ) (input : Option (List ℕ)) (status : ℕ) (old new : Option (List ℕ)) → IsOnce request digits
+    → EndsAs request input status old new → Ends (frame_in digits) status old new
+once-ends (Once given) digits input status old new is ends = subst (λ ds. Ends (frame_in ds) status old new) is ends
+once-ends (Decode form given) digits input status old new is ends = absurd is
+once-ends (Replay plan) digits input status old new is ends = absurd is
+
+pub decode-ends : (request : Request) (form : Form) (digits : List ℕ) (input : Option (List ℕ)) (status : ℕ) (old new : Option (List ℕ)) → IsDecode request form digits
+    → EndsAs request input status old new → EndsDecode form digits status old new
+decode-ends (Once given) form digits input status old new is ends = absurd is
+decode-ends (Replay plan) form digits input status old new is ends = absurd is
+decode-ends (Decode named given) form digits input status old new is ends =
+    subst (λ f. EndsDecode f digits status old new) is.0 (subst (λ ds. EndsDecode named ds status old new) is.1 ends)
+
+pub replay-ends : (request : Request) (plan : QueuePlan) (text : List ℕ) (input : Option (List ℕ)) (status : ℕ) (old new : Option (List ℕ)) → IsReplayOf request plan
+    → input ≡ Some text → EndsAs request input status old new → EndsReplay plan text status old new
+replay-ends (Once given) plan text input status old new is known ends = absurd is
+replay-ends (Decode form given) plan text input status old new is known ends = absurd is
+replay-ends (Replay given) plan text input status old new is known ends = subst (λ (p : QueuePlan). EndsReplay p text status old new) is (ends text known)
+
+undone : (plan : QueuePlan) (text : List ℕ) (old new : Option (List ℕ)) → REFUSED ≡ DONE → HasReplayed plan text old new
+undone plan text old new e = let bad : ⊥ = cc e in absurd bad
+
+-- whatever the text is, a refusal that prints nothing ends it
+pub replay-kept : (plan : QueuePlan) (text : List ℕ) (old new : Option (List ℕ)) → Keeps old new → EndsReplay plan text REFUSED old new
+replay-kept plan text old new kept = record { done = undone plan text old new; either = inr refl; faulty = λ k f. (refl, kept); no_queues = λ no. (refl, kept) }

@@ -1,0 +1,19 @@
+use Rattle.std.proofs.Common.{rules, ◌≡◌, ◌∙◌, ap, ap₂}
+use Rattle.std.proofs.lemmas.Result.{IfOk-weaker}
+use Rattle.clap.specs.Words.{App, app_of, with_subcommand}
+use Rattle.command_line.specs.CommandLine.{bare_app}
+use Rattle.command_line.proofs.command.program.Goals as goal
+
+pub returns : goal.returns
+returns c =
+    let bare_is : app_of c.subcommand_required.result ≡ bare_app = search rules in
+    let with_once = c.in_ok-subcommand.ensures.shape c.in_ok-once.ensures.local ∙ ap₂ with_subcommand bare_is (ap (λ (a : App). a.top) c.in_ok-once.ensures.app) in
+    let decode = c.in_ok-decode.ensures.app in
+    let with_decode = c.in_ok-subcommand-2.ensures.shape c.in_ok-decode.ensures.local ∙ ap₂ with_subcommand with_once (ap (λ (a : App). a.top) decode.app_is) in
+    IfOk-weaker c.subcommand-3.result _ _ (λ r adds. record {
+      rings = decode.rings;
+      formats = decode.formats;
+      rings_are = decode.rings_are;
+      formats_are = decode.formats_are;
+      app_is = adds.shape c.in_ok-replay.ensures.local ∙ ap₂ with_subcommand with_decode (ap (λ (a : App). a.top) c.in_ok-replay.ensures.app);
+    }) c.subcommand-3.ensures

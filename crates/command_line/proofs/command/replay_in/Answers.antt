@@ -1,0 +1,38 @@
+use Rattle.std.proofs.Common.{◌≡◌, ◌∙◌, ap, sym, ℕ, codes, Option, Some, None, unwrap_or}
+use Rattle.std.specs.Prelude.{decimal, not}
+use Rattle.clap.specs.Words.{found_of}
+use Rattle.command_line.specs.CommandLine.{is_head}
+use Rattle.command_line.proofs.CommandLine.{reads_flag, reads_number, text_is}
+use Rattle.command_line.proofs.ReplayWords.{begins_as, by_head, by_status, plan_is}
+use Rattle.command_line.proofs.command.replay_in.Goals as goal
+use Rattle.command_line.proofs.command.replay_in.Goals.{then-get_flag, else-get_flag}
+
+pub returns-in_err-ring : goal.returns-in_err-ring
+returns-in_err-ring c plan has =
+    let text = text_is (found_of c.args.replay.now) (codes "ring") (decimal plan.ring) has.ring in
+    let none : None ≡ Some plan.ring = reads_number plan.ring None has.ring_fits (c.in_err-ring.ensures.value (decimal plan.ring) text) in cc
+
+pub returns-in_err-pairs : goal.returns-in_err-pairs
+returns-in_err-pairs c plan has =
+    let text = text_is (found_of c.args.replay.now) (codes "pairs") (decimal plan.pairs) has.pairs in
+    let none : None ≡ Some plan.pairs = reads_number plan.pairs None has.pairs_fits (c.in_err-pairs.ensures.value (decimal plan.pairs) text) in cc
+
+pub returns : goal.returns
+returns c plan has =
+    let found = found_of c.args.replay.now in
+    let ring_text = text_is found (codes "ring") (decimal plan.ring) has.ring in
+    let pairs_text = text_is found (codes "pairs") (decimal plan.pairs) has.pairs in
+    let ring = reads_number plan.ring (Some c.in_ok-ring.ring) has.ring_fits (c.in_ok-ring.ensures.value (decimal plan.ring) ring_text) in
+    let pairs = reads_number plan.pairs (Some c.in_ok-pairs.pairs) has.pairs_fits (c.in_ok-pairs.ensures.value (decimal plan.pairs) pairs_text) in
+    let off = reads_flag (not plan.enabled) c.get_flag-enabled.result _ c.get_flag-enabled.ensures.value c.get_flag-enabled.ensures.other
+    (text_is found (codes "off") _ has.off) in
+    let head = reads_flag (is_head plan.completion) c.get_flag.result _ c.get_flag.ensures.value c.get_flag.ensures.other
+    (text_is found (codes "head") _ has.head) in
+    let completion : c.if-get_flag.completion ≡ plan.completion = elim c.if-get_flag.branch [
+      | then-get_flag w ↦ w.completion-is ∙ by_head plan.completion (sym head ∙ w.if-get_flag.true)
+      | else-get_flag w ↦ w.completion-is ∙ by_status plan.completion (sym head ∙ w.if-get_flag.false)
+    ] in
+    plan_is plan c.in_ok-ring.ring c.in_ok-pairs.pairs (not c.get_flag-enabled.result) c.if-get_flag.completion
+    (ap (λ (o : Option ℕ). unwrap_or o c.in_ok-pairs.pairs) pairs)
+    (ap (λ (o : Option ℕ). unwrap_or o c.in_ok-ring.ring) ring)
+    (begins_as plan.enabled c.get_flag-enabled.result off) completion

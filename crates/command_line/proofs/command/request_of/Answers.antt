@@ -1,0 +1,74 @@
+use Rattle.std.proofs.Common.{◌∙◌}
+use Rattle.std.proofs.lemmas.Result.{err_from_is_err_and}
+use Rattle.command_line.proofs.CommandLine.{free, misuse_fails, misuse_not_taken, simple}
+use Rattle.command_line.proofs.DecodeWords.{decode_found, decode_taken}
+use Rattle.command_line.proofs.OnceWords.{once_found, once_taken}
+use Rattle.command_line.proofs.ReplayWords.{replay_found, replay_taken}
+use Rattle.command_line.proofs.command.request_of.Goals as goal
+
+pub returns-in_err-matches-clause-once : goal.returns-in_err-matches-clause-once
+returns-in_err-matches-clause-once c digits says =
+    let p = err_from_is_err_and c.from_residual-in_err-matches.result c.from_residual-in_err-matches.ensures.1 in
+    rw (p.1, p.2) (c.in_err-matches.ensures.passes (once_taken _ _ digits c.in_ok-program.ensures says))
+
+pub returns-in_err-matches-clause-decode : goal.returns-in_err-matches-clause-decode
+returns-in_err-matches-clause-decode c form digits says =
+    let p = err_from_is_err_and c.from_residual-in_err-matches.result c.from_residual-in_err-matches.ensures.1 in
+    rw (p.1, p.2) (c.in_err-matches.ensures.passes (decode_taken _ _ form digits c.in_ok-program.ensures says))
+
+pub returns-in_err-matches-clause-replay : goal.returns-in_err-matches-clause-replay
+returns-in_err-matches-clause-replay c plan says =
+    let p = err_from_is_err_and c.from_residual-in_err-matches.result c.from_residual-in_err-matches.ensures.1 in
+    rw (p.1, p.2) (c.in_err-matches.ensures.passes (replay_taken _ _ plan c.in_ok-program.ensures says))
+
+pub returns-in_err-matches-clause-misuse : goal.returns-in_err-matches-clause-misuse
+returns-in_err-matches-clause-misuse c misuse =
+    let p = err_from_is_err_and c.from_residual-in_err-matches.result c.from_residual-in_err-matches.ensures.1 in
+    let kinds = c.in_err-matches.ensures.kinds (free _ c.in_ok-program.ensures) in
+    rw (p.1, p.2) (misuse_fails _ _ _ c.in_ok-program.ensures misuse kinds)
+
+pub returns-in-Some-clause-once : goal.returns-in-Some-clause-once
+returns-in-Some-clause-once c digits says =
+    let once = once_found _ _ digits c.in_ok-program.ensures says in
+    let found = (c.in_ok-matches.ensures.ok.2 (simple _ c.in_ok-program.ensures)).1 ∙ once.1 in
+    c.in-Some.ensures.once once.0 digits found once.2
+
+pub returns-in-Some-clause-decode : goal.returns-in-Some-clause-decode
+returns-in-Some-clause-decode c form digits says =
+    let decode = decode_found _ _ form digits c.in_ok-program.ensures says in
+    let found = (c.in_ok-matches.ensures.ok.2 (simple _ c.in_ok-program.ensures)).1 ∙ decode.1 in
+    c.in-Some.ensures.decode decode.0 form digits found decode.2
+
+pub returns-in-Some-clause-replay : goal.returns-in-Some-clause-replay
+returns-in-Some-clause-replay c plan says =
+    let replay = replay_found _ _ plan c.in_ok-program.ensures says in
+    let found = (c.in_ok-matches.ensures.ok.2 (simple _ c.in_ok-program.ensures)).1 ∙ replay.1 in
+    c.in-Some.ensures.replay replay.0 plan found replay.2
+
+pub returns-in-Some-clause-misuse : goal.returns-in-Some-clause-misuse
+returns-in-Some-clause-misuse c misuse =
+    let kinds = c.in_ok-matches.ensures.kinds (free _ c.in_ok-program.ensures) in
+    absurd (misuse_not_taken _ _ c.in_ok-program.ensures misuse kinds)
+
+pub returns-clause-once : goal.returns-clause-once
+returns-clause-once c digits says =
+    let once = once_found _ _ digits c.in_ok-program.ensures says in
+    let found = (c.in_ok-matches.ensures.ok.2 (simple _ c.in_ok-program.ensures)).1 ∙ once.1 in
+    absurd (c.in-None.ensures.once once.0 digits found once.2)
+
+pub returns-clause-decode : goal.returns-clause-decode
+returns-clause-decode c form digits says =
+    let decode = decode_found _ _ form digits c.in_ok-program.ensures says in
+    let found = (c.in_ok-matches.ensures.ok.2 (simple _ c.in_ok-program.ensures)).1 ∙ decode.1 in
+    absurd (c.in-None.ensures.decode decode.0 form digits found decode.2)
+
+pub returns-clause-replay : goal.returns-clause-replay
+returns-clause-replay c plan says =
+    let replay = replay_found _ _ plan c.in_ok-program.ensures says in
+    let found = (c.in_ok-matches.ensures.ok.2 (simple _ c.in_ok-program.ensures)).1 ∙ replay.1 in
+    absurd (c.in-None.ensures.replay replay.0 plan found replay.2)
+
+pub returns-clause-misuse : goal.returns-clause-misuse
+returns-clause-misuse c misuse =
+    let kinds = c.in_ok-matches.ensures.kinds (free _ c.in_ok-program.ensures) in
+    absurd (misuse_not_taken _ _ c.in_ok-program.ensures misuse kinds)

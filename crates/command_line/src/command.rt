@@ -1,0 +1,248 @@
+//! The words of the command line, as `clap` reads them, to a request.
+ghost use Rattle.std.specs.Prelude.{◌≡◌, ◌⊎◌, ℕ, List, Some, false, codes, map};
+ghost use Rattle.std.specs.Prelude.{IfOk, IsErrAnd, IsSomeAnd, MatchResult};
+ghost use Rattle.std.specs.String.{string_bytes};
+ghost use Rattle.clap.specs.Words.{Row, Text, app_of, kind_of, found_of, rows_of, rule_of, subcommand_rows_of};
+ghost use Rattle.clap.specs.declared.builder.command.Command.TheViews.{out-Command};
+ghost use Rattle.clap.specs.declared.error.kind.ErrorKind.TheVariants.{OutOfMemory};
+ghost use Rattle.commands.specs.declared.decode.Form.{Form};
+ghost use Rattle.command_line.specs.CommandLine.{IsDecodeApp, IsProgram, choice_rule, hex_rule, once_app};
+ghost use Rattle.command_line.specs.CommandLine.{flag_rule, number_rule, replay_app};
+ghost use Rattle.commands.specs.declared.replay.QueuePlan.{QueuePlan};
+ghost use Rattle.command_line.specs.CommandLine.{HasDecode, IsDecode, SaysDecode};
+ghost use Rattle.command_line.specs.CommandLine.{HasReplay, IsReplayOf, SaysReplay};
+ghost use Rattle.command_line.specs.CommandLine.{HasOnce, IsMistake, IsMisuse, IsOnce, SaysOnce};
+
+use clap::error::ErrorKind;
+use clap::{Arg, ArgAction, ArgMatches, Command, Error, value_parser};
+use commands::{Form, QueuePlan, Request};
+use ring_machine::Completion;
+use std::alloc::{AllocError, Global};
+
+/// The version that `--version` prints.
+const VERSION: &str = "0.1.0";
+
+const ONCE_EXAMPLE: &str =
+    "Example:\n  poll82599 once 000102030405060708090a0b0c0d\n  prints 000102030405060708090a0b0c0d";
+
+const DECODE_EXAMPLE: &str =
+    "Example:\n  poll82599 decode rx back 0000000000000000030000003c000000\n  prints dd 1 eop 1 length 60";
+
+const REPLAY_EXAMPLE: &str =
+    "Example:\n  echo 'r0 A1 5' | poll82599 replay --ring 16\n  prints r0 A1 place 0\n  and moves 1 of 1";
+
+/// One example of each command.
+const EXAMPLES: &str =
+    "Examples:\n  poll82599 once 000102030405060708090a0b0c0d\n  poll82599 decode rx back 0000000000000000030000003c000000\n  echo 'r0 A1 5' | poll82599 replay --ring 16";
+
+static RINGS: [&str; 2] = ["rx", "tx"];
+
+static FORMATS: [&str; 2] = ["read", "back"];
+
+/// Reads the words after the program's name. What it answers in place of a request is an error of `clap`, which is
+/// also how help is asked for.
+pub fn request_of<'a>(alloc: Global, words: &'a [String]) -> Result<Request<'a>, Error>
+    ensures once { (digits : List ℕ) → SaysOnce (map string_bytes words.entry.now) digits
+        → MatchResult result (λ r. IsOnce r digits) (λ e. kind_of e ≡ OutOfMemory) }
+    ensures decode { (form : Form) (digits : List ℕ) → SaysDecode (map string_bytes words.entry.now) form digits
+        → MatchResult result (λ r. IsDecode r form digits) (λ e. kind_of e ≡ OutOfMemory) }
+    ensures replay { (plan : QueuePlan) → SaysReplay (map string_bytes words.entry.now) plan
+        → MatchResult result (λ r. IsReplayOf r plan) (λ e. kind_of e ≡ OutOfMemory) }
+    ensures misuse { IsMisuse (map string_bytes words.entry.now)
+        → IsErrAnd result (λ e. (kind_of e ≡ OutOfMemory) ⊎ IsMistake (kind_of e)) }
+{
+    let mut program = program(alloc)?;
+    let matches = program.try_get_matches_from_mut(words)?;
+    match request_in(&matches) {
+        Some(request) => Ok(request),
+        None => Err(program.error(ErrorKind::MissingSubcommand, "no command was given")?),
+    }
+}
+
+/// The request in matches of the program's command line.
+fn request_in<'a>(matches: &ArgMatches<'a>) -> Option<Request<'a>>
+    ensures once { (rows : List Row) (digits : Text) → subcommand_rows_of matches.now ≡ Some (codes "once", rows)
+        → HasOnce rows digits → IsSomeAnd result (λ r. IsOnce r digits) }
+    ensures decode { (rows : List Row) (form : Form) (digits : Text)
+        → subcommand_rows_of matches.now ≡ Some (codes "decode", rows)
+        → HasDecode rows form digits → IsSomeAnd result (λ r. IsDecode r form digits) }
+    ensures replay { (rows : List Row) (plan : QueuePlan) → subcommand_rows_of matches.now ≡ Some (codes "replay", rows)
+        → HasReplay rows plan → IsSomeAnd result (λ r. IsReplayOf r plan) }
+{
+    match matches.subcommand()? {
+        ("once", once) => once_in(once),
+        ("decode", decode) => decode_in(decode),
+        ("replay", replay) => replay_in(replay),
+        _ => None,
+    }
+}
+
+/// The request in matches of `once`.
+fn once_in<'a>(once: &ArgMatches<'a>) -> Option<Request<'a>>
+    ensures { (digits : Text) → HasOnce (rows_of (found_of once.now)) digits
+        → IsSomeAnd result (λ r. IsOnce r digits) }
+{
+    let digits = once.get_str("hex")?;
+    Some(Request::Once { digits })
+}
+
+/// The request in matches of `decode`.
+fn decode_in<'a>(decode: &ArgMatches<'a>) -> Option<Request<'a>>
+    ensures { (form : Form) (digits : Text) → HasDecode (rows_of (found_of decode.now)) form digits
+        → IsSomeAnd result (λ r. IsDecode r form digits) }
+{
+    let form = Form::named(decode.get_str("ring")?, decode.get_str("format")?)?;
+    let digits = decode.get_str("hex")?;
+    Some(Request::Decode { form, digits })
+}
+
+/// The request in matches of `replay`.
+fn replay_in<'a>(replay: &ArgMatches<'a>) -> Option<Request<'a>>
+    ensures { (plan : QueuePlan) → HasReplay (rows_of (found_of replay.now)) plan
+        → IsSomeAnd result (λ r. IsReplayOf r plan) }
+{
+    let ring = replay.get_one("ring")?;
+    let pairs = replay.get_one("pairs")?;
+    let enabled = !replay.get_flag("off");
+    let completion = if replay.get_flag("head") {
+        Completion::Head
+    } else {
+        Completion::Status
+    };
+    Some(Request::Replay {
+        plan: QueuePlan {
+            pairs,
+            ring,
+            enabled,
+            completion,
+        },
+    })
+}
+
+/// The program's commands and their arguments.
+fn program<'a>(alloc: Global) -> Result<Command<'a>, AllocError>
+    ensures { IfOk result (λ c. IsProgram (app_of c)) }
+{
+    Command::new(alloc, "poll82599")
+        .bin_name("poll82599")?
+        .about("Both sides of the Intel 82599's descriptor rings, in one process")
+        .version(VERSION)
+        .after_help(EXAMPLES)
+        .no_binary_name(true)
+        .subcommand_required(true)
+        .subcommand(once(alloc)?)?
+        .subcommand(decode(alloc)?)?
+        .subcommand(replay(alloc)?)
+}
+
+/// The command `once`.
+fn once<'a>(alloc: Global) -> Result<Command<'a>, AllocError>
+    ensures app { IfOk result (λ c. app_of c ≡ once_app) }
+    ensures local { IfOk result (λ c. (out-Command c).has_globals ≡ false) }
+{
+    let hex = hex(
+        alloc,
+        "A frame of 14 to 2,048 bytes, two hex digits for each byte",
+    );
+    Command::new(alloc, "once")
+        .about("Passes one frame through a receive ring of 8 and prints it")
+        .after_help(ONCE_EXAMPLE)
+        .arg(hex)
+}
+
+/// The command `decode`.
+fn decode<'a>(alloc: Global) -> Result<Command<'a>, AllocError>
+    ensures app { IfOk result (λ c. IsDecodeApp (app_of c)) }
+    ensures local { IfOk result (λ c. (out-Command c).has_globals ≡ false) }
+{
+    let ring = choice(alloc, "ring", "RING", RINGS.as_slice()).help(
+        "The ring that the descriptor is on: to receive or to transmit",
+    );
+    let format = choice(alloc, "format", "FORMAT", FORMATS.as_slice()).help(
+        "As the driver posts it, or as the controller writes it back",
+    );
+    let hex = hex(
+        alloc,
+        "The 16 bytes of a descriptor, two hex digits for each byte",
+    );
+    Command::new(alloc, "decode")
+        .about("Reads the bytes of a descriptor and prints what they say")
+        .after_help(DECODE_EXAMPLE)
+        .arg(ring)?
+        .arg(format)?
+        .arg(hex)
+}
+
+/// The command `replay`.
+fn replay<'a>(alloc: Global) -> Result<Command<'a>, AllocError>
+    ensures app { IfOk result (λ c. app_of c ≡ replay_app) }
+    ensures local { IfOk result (λ c. (out-Command c).has_globals ≡ false) }
+{
+    let ring = number(
+        alloc,
+        "ring",
+        "8",
+        "How many descriptors each queue has, a power of two from 8 to 4,096",
+    );
+    let pairs = number(
+        alloc,
+        "pairs",
+        "1",
+        "How many pairs of a receive and a transmit queue there are, 1 to 8",
+    );
+    let off = flag(alloc, "off", "Begins with disabled queues");
+    let head = flag(alloc, "head", "Reports what was sent by a head word");
+    Command::new(alloc, "replay")
+        .about("Makes the moves of standard input on queues, and prints what each of them tells")
+        .after_help(REPLAY_EXAMPLE)
+        .arg(ring)?
+        .arg(pairs)?
+        .arg(off)?
+        .arg(head)
+}
+
+/// An option with a number, which has this one where it is left out.
+fn number<'a>(alloc: Global, id: &'a str, default: &'a str, help: &'a str) -> Arg<'a>
+    ensures rule { rule_of result ≡ number_rule id.entry.now default.entry.now }
+    ensures local { result.global ≡ false }
+{
+    Arg::new(alloc, id)
+        .long(id)
+        .value_name("N")
+        .value_parser(value_parser!(u32))
+        .default_value(default)
+        .help(help)
+}
+
+/// An option without a value.
+fn flag<'a>(alloc: Global, id: &'a str, help: &'a str) -> Arg<'a>
+    ensures rule { rule_of result ≡ flag_rule id.entry.now }
+    ensures local { result.global ≡ false }
+{
+    Arg::new(alloc, id)
+        .long(id)
+        .action(ArgAction::SetTrue)
+        .help(help)
+}
+
+/// An argument of hex digits.
+fn hex<'a>(alloc: Global, help: &'a str) -> Arg<'a>
+    ensures rule { rule_of result ≡ hex_rule }
+    ensures local { result.global ≡ false }
+{
+    Arg::new(alloc, "hex")
+        .required(true)
+        .value_name("HEX")
+        .help(help)
+}
+
+/// An argument that is one of these words.
+fn choice<'a>(alloc: Global, id: &'a str, name: &'a str, words: &'a [&'a str]) -> Arg<'a>
+    ensures rule { rule_of result ≡ choice_rule id.entry.now words.entry }
+    ensures local { result.global ≡ false }
+{
+    Arg::new(alloc, id)
+        .value_name(name)
+        .value_parser(words)
+        .required(true)
+}

@@ -1,0 +1,76 @@
+//! The program's run: its words to a request, and the request to an exit status.
+ghost use Rattle.std.specs.Prelude.{◌≡◌, ◌⊎◌, ℕ, List, Some, map};
+ghost use Rattle.std.specs.String.{string_bytes};
+ghost use Rattle.std.specs.Io.KnownBytes.{Keeps};
+ghost use Rattle.clap.specs.Words.{kind_of};
+ghost use Rattle.clap.specs.declared.error.kind.ErrorKind.TheVariants.{OutOfMemory};
+ghost use Rattle.commands.specs.declared.decode.Form.{Form};
+ghost use Rattle.commands.specs.declared.replay.QueuePlan.{QueuePlan};
+ghost use Rattle.commands.specs.Answers.{Ends, EndsDecode};
+ghost use Rattle.commands.specs.Frame.{frame_in};
+ghost use Rattle.commands.specs.Replay.{EndsReplay};
+ghost use Rattle.command_line.specs.CommandLine.{IsMistake, IsMisuse, SaysDecode, SaysOnce, SaysReplay};
+
+use crate::command::request_of;
+use clap::error::ErrorKind;
+use commands::{DONE, REFUSED, Refusal, answer, refuse};
+use std::alloc::Global;
+use std::io::{Read, Write};
+use std::sync::Wait;
+use std::thread::Threads;
+
+/// The command line asks for nothing that the program knows.
+pub const MISUSED: u8 = 2;
+
+/// Runs the program on the words after its name, and answers its exit status.
+///
+/// Results and help go to `output`, with status 0. A refusal goes to `faults` as one line, `refused` with its number
+/// and its words, with status 1; before it stands the line of the input that it is for, if it is for one. What is wrong
+/// with the command line goes to `faults`, with status 2. A failed write to `faults` changes no status.
+pub fn run<R: Threads + Wait + Sync, I: Read, W: Write, E: Write>(
+    rt: &R,
+    alloc: Global,
+    words: &[String],
+    input: &mut I,
+    output: &mut W,
+    faults: &mut E,
+) -> u8
+    ensures status { (result ≡ DONE) ⊎ (result ≡ REFUSED) ⊎ (result ≡ MISUSED) }
+    ensures done { result ≡ DONE → Keeps (E.contents faults.old) (E.contents faults.new) }
+    ensures misused { result ≡ MISUSED → Keeps (W.contents output.old) (W.contents output.new) }
+    ensures misuse { IsMisuse (map string_bytes words.now)
+        → ((result ≡ MISUSED) ⊎ (result ≡ REFUSED)) × Keeps (W.contents output.old) (W.contents output.new) }
+    ensures once { (digits : List ℕ) → SaysOnce (map string_bytes words.now) digits
+        → Ends (frame_in digits) result (W.contents output.old) (W.contents output.new) }
+    ensures decode { (form : Form) (digits : List ℕ) → SaysDecode (map string_bytes words.now) form digits
+        → EndsDecode form digits result (W.contents output.old) (W.contents output.new) }
+    ensures replay { (plan : QueuePlan) (text : List ℕ) → SaysReplay (map string_bytes words.now) plan
+        → I.remaining input.old ≡ Some text → EndsReplay plan text result (W.contents output.old) (W.contents output.new) }
+{
+    match request_of(alloc, words) {
+        Ok(request) => answer(rt, alloc, request, input, output, faults),
+        Err(error) => tell(&error, output, faults),
+    }
+}
+
+/// Prints what `clap` says in place of a request, and answers the status.
+fn tell<W: Write, E: Write>(error: &clap::Error, output: &mut W, faults: &mut E) -> u8
+    ensures status { (result ≡ DONE) ⊎ (result ≡ REFUSED) ⊎ (result ≡ MISUSED) }
+    ensures done { result ≡ DONE → Keeps (E.contents faults.old) (E.contents faults.new) }
+    ensures misused { result ≡ MISUSED → Keeps (W.contents output.old) (W.contents output.new) }
+    ensures mistake { IsMistake (kind_of error.now) → result ≡ MISUSED }
+    ensures memory { kind_of error.now ≡ OutOfMemory
+        → (result ≡ REFUSED) × Keeps (W.contents output.old) (W.contents output.new) }
+{
+    if error.kind() == ErrorKind::OutOfMemory {
+        return refuse(faults, Refusal::Memory);
+    }
+    if error.use_stderr() {
+        let _ = write!(faults, "{error}");
+        return MISUSED;
+    }
+    match write!(output, "{error}").and_then(|()| output.flush()) {
+        Ok(()) => DONE,
+        Err(_) => refuse(faults, Refusal::Output),
+    }
+}

@@ -1,0 +1,23 @@
+//! Tests of the program's commands and of its command line. They stand above both crates, so that each of those is proved
+//! without them.
+//!
+//! Most are tables of rows, a run with all that it has to come to, which `told` walks. `streams` has inputs and outputs
+//! that fail.
+#![tactic(auto)]
+
+#[cfg(test)]
+mod decode_tests;
+#[cfg(test)]
+mod once_tests;
+#[cfg(test)]
+mod replay_rows;
+#[cfg(test)]
+mod replay_tests;
+#[cfg(test)]
+mod stream_tests;
+#[cfg(test)]
+mod streams;
+#[cfg(test)]
+mod told;
+#[cfg(test)]
+mod words_tests;

@@ -1,0 +1,136 @@
+//! Words that ask for help, and words that are wrong.
+
+use crate::told::{comes_to, is_helped, is_mistaken};
+use buffer_pool::PoolError;
+use commands::{REFUSED, Refusal, refuse};
+use descriptor::DescError;
+use ring_machine::MachineError;
+use rx_ring::RingError;
+use std::test::Fail;
+
+const FRAME: &str = "000102030405060708090a0b0c0d";
+
+const BYTES: &str = "00f8ff07000000000000000000000000";
+
+const ONCE: &str = "poll82599 once 000102030405060708090a0b0c0d\n";
+
+const DECODE: &str = "poll82599 decode rx back 0000000000000000030000003c000000\n";
+
+const REPLAY: &str = "echo 'r0 A1 5' | poll82599 replay --ring 16\n";
+
+/// Words that ask for help, and the example that it has to have.
+const HELPED: [(&[&str], &str); 14] = [
+    (&["--help"], ONCE),
+    (&["--help"], DECODE),
+    (&["--help"], REPLAY),
+    (&["-h"], ONCE),
+    (&["help"], ONCE),
+    (&["once", "--help"], ONCE),
+    (&["once", "-h"], ONCE),
+    (&["help", "once"], ONCE),
+    (&["decode", "--help"], DECODE),
+    (&["decode", "-h"], DECODE),
+    (&["help", "decode"], DECODE),
+    (&["replay", "--help"], REPLAY),
+    (&["replay", "-h"], REPLAY),
+    (&["help", "replay"], REPLAY),
+];
+
+/// Words that are wrong, and what has to be told of them.
+const WRONG: [(&[&str], &str); 17] = [
+    (&[], ""),
+    (&["twice"], "twice"),
+    (&["once"], "HEX"),
+    (&["once", FRAME, FRAME], FRAME),
+    (&["once", "--frame", FRAME], "--frame"),
+    (&["--once", FRAME], "--once"),
+    (&["decode"], "RING"),
+    (&["decode", "rx"], "FORMAT"),
+    (&["decode", "rx", "read"], "HEX"),
+    (&["decode", "rx", "sideways", "00"], "read, back"),
+    (&["decode", "sx", "read", "00"], "rx, tx"),
+    (&["decode", "RX", "read", "00"], "rx, tx"),
+    (&["decode", "rx", "read", BYTES, BYTES], BYTES),
+    (&["replay", "--ring", "eight"], "eight"),
+    (&["replay", "--ring", "4294967296"], "4294967296"),
+    (&["replay", "--half"], "--half"),
+    (&["replay", "moves"], "moves"),
+];
+
+/// Each refusal, and its line.
+const LINES: [(Refusal, &str); 18] = [
+    (Refusal::Descriptor(DescError::Length), "refused 1 length\n"),
+    (
+        Refusal::Descriptor(DescError::Reserved),
+        "refused 2 reserved\n",
+    ),
+    (Refusal::Descriptor(DescError::Kind), "refused 3 type\n"),
+    (Refusal::Descriptor(DescError::Size), "refused 4 size\n"),
+    (
+        Refusal::Machine(MachineError::NotEnabled),
+        "refused 11 not enabled\n",
+    ),
+    (
+        Refusal::Machine(MachineError::RingLength),
+        "refused 12 ring length\n",
+    ),
+    (
+        Refusal::Machine(MachineError::Memory),
+        "refused 13 memory\n",
+    ),
+    (Refusal::Move { line: 7 }, "line 7: refused 14 move\n"),
+    (
+        Refusal::Ring(RingError::RingLength),
+        "refused 21 ring length\n",
+    ),
+    (Refusal::Ring(RingError::Memory), "refused 22 memory\n"),
+    (Refusal::Stock(PoolError::Memory), "refused 31 memory\n"),
+    (Refusal::Stock(PoolError::Count), "refused 34 count\n"),
+    (Refusal::FrameLength, "refused 41 frame length\n"),
+    (Refusal::Thread, "refused 63 thread\n"),
+    (Refusal::Hex, "refused 81 hex\n"),
+    (Refusal::Input, "refused 82 input\n"),
+    (Refusal::Memory, "refused 83 memory\n"),
+    (Refusal::Output, "refused 84 output\n"),
+];
+
+#[test]
+fn help_goes_to_the_output_with_an_example(rt: HostRuntime) -> Result<(), Fail> {
+    for (words, text) in HELPED {
+        is_helped(&rt, rt.alloc(), words, text)?;
+    }
+    Ok(())
+}
+
+#[test]
+fn the_version_goes_to_the_output(rt: HostRuntime) -> Result<(), Fail> {
+    for word in ["--version", "-V"] {
+        let words = [word];
+        comes_to(
+            &rt,
+            rt.alloc(),
+            words.as_slice(),
+            "",
+            (0, "poll82599 0.1.0\n", ""),
+        )?;
+    }
+    Ok(())
+}
+
+#[test]
+fn wrong_words_are_told_with_status_2(rt: HostRuntime) -> Result<(), Fail> {
+    for (words, text) in WRONG {
+        is_mistaken(&rt, rt.alloc(), words, text)?;
+    }
+    Ok(())
+}
+
+#[test]
+fn refusals_have_their_words(rt: HostRuntime) -> Result<(), Fail> {
+    for (refusal, line) in LINES {
+        let mut faults = Vec::new(rt.alloc());
+        assert_eq!(rt; refuse(&mut faults, refusal), REFUSED);
+        assert_eq!(rt; faults.as_slice(), line.as_bytes());
+    }
+    Ok(())
+}

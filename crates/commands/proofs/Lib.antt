@@ -1,0 +1,6 @@
+pub mod Decoded
+pub mod Ends
+pub mod Passed
+pub mod Unmade
+pub mod Replaying
+pub mod Endings

@@ -1,0 +1,260 @@
+-- A list of moves, line after line.
+use Rattle.std.proofs.Common.{◌≡◌, ◌⊎◌, ⊎_elim, inl, inr, ℕ, suc, ◌+◌, ◌≤◌, Bool, true, false, List, [], ◌∷◌, ◌++◌, length, map, Option, Result, Ok, Err, sym, refl, ap, ap₂, ◌∙◌, subst, arith, append_assoc, length-append, if◌then◌else◌}
+use Rattle.std.specs.Prelude.{◌↔◌, codes, All}
+use Rattle.std.specs.Int.{from_bool}
+use Rattle.std.specs.List.{filter}
+use Rattle.std.specs.Int.{is_power_of_two}
+use Rattle.std.proofs.lemmas.Bool.{cases_lt}
+use Rattle.std.specs.Result.{is_ok}
+use Rattle.std.proofs.lemmas.List.{append-nil, map-append}
+use Rattle.std.proofs.lemmas.List.Elements.{All-append, All-cons, All-head, All-nil, All-tail, filter-append}
+use Rattle.ring_machine.specs.declared.queue_moves.Move.{Move}
+use Rattle.ring_model.specs.declared.notes.Note.{Note}
+use Rattle.ring_machine.specs.declared.error.MachineError.{MachineError}
+use Rattle.limits.specs.declared.profile.TheConstants.{LEAST_RING, MOST_PAIRS, MOST_RING}
+use Rattle.ring_model.specs.declared.states.Completion.{Completion}
+use Rattle.ring_model.specs.Worlds.{World, opening_world, after_move, after_moves, can_move, moves_happened, IsReachableWorld}
+use Rattle.ring_machine.specs.Queues.{AreQueues, QueueParts, QueuesAgree, QueuesDid, note_in}
+use Rattle.ring_machine.specs.MoveTexts.{IsInRange, name_of, note_text, text_of}
+use Rattle.ring_machine.proofs.QueuesRunning.{after_moves-append, did-made, did-refused, moves_happened-append, reached_world}
+use Rattle.text_lines.specs.Parts.{lines_of, says_something}
+use Rattle.commands.specs.declared.replay.QueuePlan.{QueuePlan}
+use Rattle.commands.specs.Replay.{count_line, line_in, lines_in, told_text, world_of, HasPage, IsFaulty, IsMoveList, IsNoMove, IsPageOf, IsReplay, Reads, Says, WroteMove}
+
+-- what reading a line answers, in words of lists
+pub read-line : (line : List ℕ) (result : Result Move MachineError) → ((m : Move) → (result ≡ Ok m) ↔ (IsInRange m × (line ≡ text_of m))) → is_ok result ≡ true → Reads line
+read-line line (Ok m) exact ok = let e = (exact m).0 refl in inr (m, e.0, e.1)
+read-line line (Err e) exact ok = absurd (let bad : ⊥ = cc ok in bad)
+
+pub unread-line : (line : List ℕ) (result : Result Move MachineError) → ((m : Move) → (result ≡ Ok m) ↔ (IsInRange m × (line ≡ text_of m))) → says_something line ≡ true → is_ok result ≡ false → IsNoMove line
+unread-line line (Ok m) exact move bad = absurd (let never : ⊥ = cc bad in never)
+unread-line line (Err e) exact move bad = record { is_move = move; no_text = λ m range text. let ok = (exact m).1 (range, text) in absurd (let never : ⊥ = cc ok in never) }
+
+says-none : Says [] []
+says-none = record { texts = refl; in_range = All-nil IsInRange }
+
+-- a line that is passed over says no more
+says-skipped : (before : List (List ℕ)) (line : List ℕ) (ms : List Move) → says_something line ≡ false → Says before ms → Says (before ++ line ∷ []) ms
+says-skipped before line ms e s = record {
+  texts = filter-append says_something before (line ∷ []) ∙ ap (λ (x : List (List ℕ)). filter says_something before ++ x) (none_of e) ∙ append-nil (filter says_something before) ∙ s.texts;
+  in_range = s.in_range;
+}
+  where
+    none_of : says_something line ≡ false → filter says_something (line ∷ []) ≡ []
+    none_of h = rw h refl
+
+-- a line that is a move's text says that move
+says-more : (before : List (List ℕ)) (line : List ℕ) (ms : List Move) (m : Move) → says_something line ≡ true → IsInRange m → line ≡ text_of m → Says before ms → Says (before ++ line ∷ []) (ms ++ m ∷ [])
+says-more before line ms m e range text s = record {
+  texts = filter-append says_something before (line ∷ []) ∙ ap₂ (λ (x y : List (List ℕ)). x ++ y) s.texts (one_of e) ∙ ap (λ (t : List ℕ). map text_of ms ++ t ∷ []) text ∙ sym (map-append text_of ms (m ∷ []));
+  in_range = All-append IsInRange ms (m ∷ []) s.in_range (All-cons IsInRange m [] range (All-nil IsInRange));
+}
+  where
+    one_of : says_something line ≡ true → filter says_something (line ∷ []) ≡ line ∷ []
+    one_of h = rw h refl
+
+-- a move that was made: its line has its note
+pub wrote-made : (w : World) (m : Move) (t : Note) (old new : List ℕ) (before later : QueueParts) → QueuesDid (note_in w m) (after_move w m) (Ok t) before later → new ≡ old ++ (name_of m ++ (codes " " ++ (note_text t ++ 10 ∷ []))) → WroteMove w m true old new later
+wrote-made w m t old new before later d e = let made = did-made w m t before later d in record {
+  text = e ∙ ap (λ (told : Option Note). old ++ (name_of m ++ (codes " " ++ (told_text told ++ 10 ∷ [])))) (sym made.0);
+  agrees = d.agrees;
+  counted = sym made.1;
+}
+
+-- a move that was refused: its line says so
+pub wrote-refused : (w : World) (m : Move) (why : MachineError) (old new : List ℕ) (before later : QueueParts) → QueuesDid (note_in w m) (after_move w m) (Err why) before later → new ≡ old ++ (name_of m ++ (codes " " ++ (codes "not enabled" ++ 10 ∷ []))) → WroteMove w m false old new later
+wrote-refused w m why old new before later d e = let refused = did-refused w m why before later d in record {
+  text = e ∙ ap (λ (told : Option Note). old ++ (name_of m ++ (codes " " ++ (told_text told ++ 10 ∷ [])))) (sym refused.0);
+  agrees = d.agrees;
+  counted = sym refused.1;
+}
+
+-- so many lines are good, and these are left
+pub record GoodSoFar (text : List ℕ) (number : ℕ) (rest : List (List ℕ)) : Type 0 where
+  pub before : List (List ℕ)
+  pub split : before ++ rest ≡ lines_of text
+  pub count : number ≡ length before
+  pub moves : List Move
+  pub says : Says before moves
+
+pub good-first : (text : List ℕ) → GoodSoFar text 0 (lines_of text)
+good-first text = record { before = []; split = refl; count = refl; moves = []; says = says-none }
+
+one-on : (before later lines : List (List ℕ)) (line : List ℕ) → before ++ line ∷ later ≡ lines → (before ++ line ∷ []) ++ later ≡ lines
+one-on before later lines line e = append_assoc before (line ∷ []) later ∙ e
+
+one-longer : (before : List (List ℕ)) (line : List ℕ) (number : ℕ) → number ≡ length before → number + 1 ≡ length (before ++ line ∷ [])
+one-longer before line number e = ap (λ (k : ℕ). k + 1) e ∙ sym (length-append before (line ∷ []))
+
+move-line-cases : (b : Bool) → (b ≡ true) ⊎ (b ≡ false)
+move-line-cases true = inl refl
+move-line-cases false = inr refl
+
+pub good-next : (text : List ℕ) (number : ℕ) (line : List ℕ) (later : List (List ℕ)) → Reads line → GoodSoFar text number (line ∷ later) → GoodSoFar text (number + 1) later
+good-next text number line later (inl skipped) g = record {
+  before = g.before ++ line ∷ [];
+  split = one-on g.before later (lines_of text) line g.split;
+  count = one-longer g.before line number g.count;
+  moves = g.moves;
+  says = says-skipped g.before line g.moves skipped g.says;
+}
+good-next text number line later (inr (m, range, is)) g = by_case (move-line-cases (says_something line))
+  where
+    by_case : (says_something line ≡ true) ⊎ (says_something line ≡ false) → GoodSoFar text (number + 1) later
+    by_case (inl e) = record {
+      before = g.before ++ line ∷ [];
+      split = one-on g.before later (lines_of text) line g.split;
+      count = one-longer g.before line number g.count;
+      moves = g.moves ++ m ∷ [];
+      says = says-more g.before line g.moves m e range is g.says;
+    }
+    by_case (inr e) = record {
+      before = g.before ++ line ∷ [];
+      split = one-on g.before later (lines_of text) line g.split;
+      count = one-longer g.before line number g.count;
+      moves = g.moves;
+      says = says-skipped g.before line g.moves e g.says;
+    }
+
+pub good-last : (text : List ℕ) (number : ℕ) → GoodSoFar text number [] → IsMoveList text
+good-last text number g = (g.moves, subst (λ (lines : List (List ℕ)). Says lines g.moves) (sym (append-nil g.before) ∙ g.split) g.says)
+
+pub good-faulty : (text : List ℕ) (number : ℕ) (line : List ℕ) (later : List (List ℕ)) → IsNoMove line → GoodSoFar text number (line ∷ later) → IsFaulty (lines_of text) (number + 1)
+good-faulty text number line later none g = record {
+  before = g.before;
+  line = line;
+  later = later;
+  split = g.split;
+  number = ap (λ (k : ℕ). k + 1) g.count;
+  moves = g.moves;
+  says = g.says;
+  no_move = none;
+}
+
+-- so many moves are written, and these lines are left
+pub record Followed (w : World) (moves : List Move) (page : List ℕ) (made : ℕ) (now : QueueParts) : Type 0 where
+  pub text : page ≡ lines_in w moves
+  pub agrees : QueuesAgree now (after_moves w moves)
+  pub counted : made ≡ moves_happened w moves
+
+pub record PageSoFar (text page : List ℕ) (made read : ℕ) (rest : List (List ℕ)) (first now : QueueParts) : Type 0 where
+  pub before : List (List ℕ)
+  pub split : before ++ rest ≡ lines_of text
+  pub moves : List Move
+  pub says : Says before moves
+  pub count : read ≡ length moves
+  pub follows : (pairs n : ℕ) (w : World) → IsReachableWorld pairs n w → QueuesAgree first w → Followed w moves page made now
+
+pub page-first : (text page : List ℕ) (queues : QueueParts) → page ≡ [] → PageSoFar text page 0 0 (lines_of text) queues queues
+page-first text page queues e = record { before = []; split = refl; moves = []; says = says-none; count = refl; follows = λ pairs n w reached agrees. record { text = e; agrees = agrees; counted = refl } }
+
+pub page-skipped : (text page : List ℕ) (made read : ℕ) (line : List ℕ) (later : List (List ℕ)) (first now : QueueParts) → says_something line ≡ false → PageSoFar text page made read (line ∷ later) first now → PageSoFar text page made read later first now
+page-skipped text page made read line later first now e p = record {
+  before = p.before ++ line ∷ [];
+  split = one-on p.before later (lines_of text) line p.split;
+  moves = p.moves;
+  says = says-skipped p.before line p.moves e p.says;
+  count = p.count;
+  follows = p.follows;
+}
+
+lines_in-more : (w : World) (ms : List Move) (m : Move) → lines_in w (ms ++ m ∷ []) ≡ lines_in w ms ++ line_in (after_moves w ms) m
+lines_in-more w [] m = append-nil (line_in w m)
+lines_in-more w (x ∷ ms) m = ap (λ (t : List ℕ). line_in w x ++ t) (lines_in-more (after_move w x) ms m) ∙ sym (append_assoc (line_in w x) (lines_in (after_move w x) ms) (line_in (after_moves (after_move w x) ms) m))
+
+one_happened : (b : Bool) → (if b then suc 0 else 0) ≡ from_bool b
+one_happened true = refl
+one_happened false = refl
+
+pub one-at_most : (b : Bool) (n : ℕ) → n ≡ from_bool b → n ≤ 1
+one-at_most true n e = omega (arith, e)
+one-at_most false n e = omega (arith, e)
+
+pub page-more : (text page later_page : List ℕ) (made added read : ℕ) (more : Bool) (line : List ℕ) (later : List (List ℕ)) (first now after : QueueParts) (m : Move) → says_something line ≡ true → IsInRange m → line ≡ text_of m
+    → ((pairs n : ℕ) (w : World) → IsReachableWorld pairs n w → QueuesAgree now w → WroteMove w m more page later_page after)
+    → added ≡ from_bool more → PageSoFar text page made read (line ∷ later) first now → PageSoFar text later_page (made + added) (read + 1) later first after
+page-more text page later_page made added read more line later first now after m e range is wrote adds p = record {
+  before = p.before ++ line ∷ [];
+  split = one-on p.before later (lines_of text) line p.split;
+  moves = p.moves ++ m ∷ [];
+  says = says-more p.before line p.moves m e range is p.says;
+  count = ap (λ (k : ℕ). k + 1) p.count ∙ sym (length-append p.moves (m ∷ []));
+  follows = λ pairs n w reached agrees. let f = p.follows pairs n w reached agrees in let here = after_moves w p.moves in let one = wrote pairs n here (reached_world pairs n w p.moves reached) f.agrees in record {
+    text = one.text ∙ ap (λ (t : List ℕ). t ++ line_in here m) f.text ∙ sym (lines_in-more w p.moves m);
+    agrees = subst (λ (v : World). QueuesAgree after v) (sym (after_moves-append w p.moves (m ∷ []))) one.agrees;
+    counted = ap₂ (λ (x y : ℕ). x + y) f.counted (adds ∙ (ap from_bool one.counted ∙ sym (one_happened (can_move here m)))) ∙ sym (moves_happened-append w p.moves (m ∷ []));
+  };
+}
+
+-- what the later lines never say is not said after one more line before them
+unsaid-after : (b : List ℕ) (rest : List (List ℕ)) (ms : List Move) (keep : Bool) → says_something b ≡ keep → ((xs : List Move) → All IsInRange xs → filter says_something rest ≡ map text_of xs → ⊥) → All IsInRange ms → filter says_something (b ∷ rest) ≡ map text_of ms → ⊥
+unsaid-after b rest ms false h never range e = never ms range (sym (dropped h) ∙ e)
+  where
+    dropped : says_something b ≡ false → filter says_something (b ∷ rest) ≡ filter says_something rest
+    dropped h = rw h refl
+unsaid-after b rest ms true h never range e = said ms range (sym (kept h) ∙ e)
+  where
+    kept : says_something b ≡ true → filter says_something (b ∷ rest) ≡ b ∷ filter says_something rest
+    kept h = rw h refl
+
+    said : (xs : List Move) → All IsInRange xs → b ∷ filter says_something rest ≡ map text_of xs → ⊥
+    said [] all f = let bad : ⊥ = cc f in bad
+    said (x ∷ xs) all f = let same : filter says_something rest ≡ map text_of xs = cc f in never xs (All-tail IsInRange x xs all) same
+
+-- a line that is no move's text stands in no list of moves
+unsaid : (before later : List (List ℕ)) (line : List ℕ) (ms : List Move) → IsNoMove line → All IsInRange ms → filter says_something (before ++ line ∷ later) ≡ map text_of ms → ⊥
+unsaid [] later line ms none range e = first ms range (sym (skip none.is_move) ∙ e)
+  where
+    skip : says_something line ≡ true → filter says_something (line ∷ later) ≡ line ∷ filter says_something later
+    skip h = rw h refl
+
+    first : (xs : List Move) → All IsInRange xs → line ∷ filter says_something later ≡ map text_of xs → ⊥
+    first [] all f = let bad : ⊥ = cc f in bad
+    first (x ∷ xs) all f = let same : line ≡ text_of x = cc f in none.no_text x (All-head IsInRange x xs all) same
+unsaid (b ∷ before) later line ms none range e = unsaid-after b (before ++ line ∷ later) ms (says_something b) refl (λ xs all f. unsaid before later line xs none all f) range e
+
+pub faulty-unsaid : (lines : List (List ℕ)) (k : ℕ) (ms : List Move) → IsFaulty lines k → Says lines ms → ⊥
+faulty-unsaid lines k ms f s = unsaid f.before f.later f.line ms f.no_move s.in_range (ap (filter says_something) f.split ∙ s.texts)
+
+-- so a line of a list of moves that is to be read is read
+pub read-said : (text page : List ℕ) (made read : ℕ) (line : List ℕ) (later : List (List ℕ)) (first now : QueueParts) → IsMoveList text → IsNoMove line → PageSoFar text page made read (line ∷ later) first now → ⊥
+read-said text page made read line later first now (ms, says) none p = unsaid p.before later line ms none says.in_range (ap (filter says_something) p.split ∙ says.texts)
+
+-- when no line is left, the page lacks the count alone
+pub page-last : (w : World) (pairs n : ℕ) (text page whole : List ℕ) (made read : ℕ) (first now : QueueParts) → IsReachableWorld pairs n w → QueuesAgree first w → whole ≡ page ++ count_line made read → PageSoFar text page made read [] first now → IsPageOf w text whole
+page-last w pairs n text page whole made read first now reached agrees e p = let f = p.follows pairs n w reached agrees in record {
+  moves = p.moves;
+  says = subst (λ (lines : List (List ℕ)). Says lines p.moves) (sym (append-nil p.before) ∙ p.split) p.says;
+  printed = e ∙ ap₂ (λ (x y : List ℕ). x ++ y) f.text (ap₂ (λ (x y : ℕ). count_line x y) f.counted p.count);
+}
+
+stable-le : (a b : ℕ) → ((a ≤ b → ⊥) → ⊥) → a ≤ b
+stable-le a b nn = ⊎_elim (λ lt. absurd (nn (λ le. let bad : ⊥ = omega arith in bad))) (λ le. le) (cases_lt b a)
+
+stable-true : (b : Bool) → ((b ≡ true → ⊥) → ⊥) → b ≡ true
+stable-true true nn = refl
+stable-true false nn = absurd (nn (λ e. let bad : ⊥ = cc e in bad))
+
+-- where they were not refused, there can be such queues
+pub are-queues : (pairs n : ℕ) → ((AreQueues pairs n → ⊥) → ⊥) → AreQueues pairs n
+are-queues pairs n nn = (
+  stable-le 1 pairs (λ no. nn (λ a. no a.0)),
+  stable-le pairs MOST_PAIRS (λ no. nn (λ a. no a.1)),
+  (stable-le LEAST_RING n (λ no. nn (λ a. no a.2.0)), stable-le n MOST_RING (λ no. nn (λ a. no a.2.1)), stable-true (is_power_of_two n) (λ no. nn (λ a. no a.2.2))),
+)
+
+opening-reached : (pairs n : ℕ) (enabled : Bool) (completion : Completion) → IsReachableWorld pairs n (opening_world pairs n enabled completion)
+opening-reached pairs n enabled completion = record { enabled = enabled; completion = completion; schedule = []; made = refl }
+
+-- the page is that of the plan's queues as they are made
+pub has-page : (plan : QueuePlan) (text page : List ℕ) (queues : QueueParts) → ((AreQueues plan.pairs plan.ring → ⊥) → ⊥) → QueuesAgree queues (world_of plan)
+    → ((pairs n : ℕ) (w : World) → IsReachableWorld pairs n w → QueuesAgree queues w → IsPageOf w text page) → HasPage plan text page
+has-page plan text page queues able agrees is_page = let p = is_page plan.pairs plan.ring (world_of plan) (opening-reached plan.pairs plan.ring plan.enabled plan.completion) agrees in record {
+  moves = p.moves;
+  replay = record { says = p.says; queues = are-queues plan.pairs plan.ring able };
+  printed = p.printed;
+}
+
+-- the moves were known, and had no memory
+pub is-replay : (plan : QueuePlan) (text : List ℕ) → ((AreQueues plan.pairs plan.ring → ⊥) → ⊥) → IsMoveList text → (moves : List Move) × IsReplay plan text moves
+is-replay plan text able (ms, says) = (ms, record { says = says; queues = are-queues plan.pairs plan.ring able })

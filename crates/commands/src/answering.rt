@@ -1,0 +1,98 @@
+//! What a request does to the three streams, and the status that it ends with.
+ghost use Rattle.std.specs.Prelude.{◌≡◌, ◌⊎◌, IfErr, IfOk, OnOk};
+ghost use Rattle.std.specs.String.{string_bytes};
+ghost use Rattle.std.specs.Io.KnownBytes.{Appends, Keeps};
+ghost use Rattle.commands.specs.Answers.{EndsAs, IsText, IsWithheld, Prints, Refuses};
+
+use crate::decode::decode;
+use crate::once::once;
+use crate::refusal::Refusal;
+use crate::replay::replay;
+use crate::request::Request;
+use std::alloc::Global;
+use std::io::{Read, Write};
+use std::sync::Wait;
+use std::thread::Threads;
+
+/// The status of what was done.
+pub const DONE: u8 = 0;
+
+/// The status of what was refused.
+pub const REFUSED: u8 = 1;
+
+/// Does what is asked for, and answers an exit status. What was asked for goes to `output`, with status 0. A refusal goes
+/// to `faults` as one line, `refused` with its number and its words, with status 1; before it stands the line of the
+/// input that it is for, if it is for one. A failed write to `faults` changes no status.
+pub fn answer<R: Threads + Wait + Sync, I: Read, W: Write, E: Write>(
+    rt: &R,
+    alloc: Global,
+    request: Request<'_>,
+    input: &mut I,
+    output: &mut W,
+    faults: &mut E,
+) -> u8
+    ensures status { (result ≡ DONE) ⊎ (result ≡ REFUSED) }
+    ensures done { result ≡ DONE → Keeps (E.contents faults.old) (E.contents faults.new) }
+    ensures ends { EndsAs request.entry (I.remaining input.old) result (W.contents output.old) (W.contents output.new) }
+{
+    match perform(rt, alloc, request, input, output) {
+        Ok(()) => DONE,
+        Err(refusal) => refuse(faults, refusal),
+    }
+}
+
+/// Does what is asked for. What it refuses before it prints leaves `output` as it was.
+pub fn perform<R: Threads + Wait + Sync, I: Read, W: Write>(
+    rt: &R,
+    alloc: Global,
+    request: Request<'_>,
+    input: &mut I,
+    output: &mut W,
+) -> Result<(), Refusal>
+    ensures done { OnOk result (Prints request.entry (I.remaining input.old) (W.contents output.old) (W.contents output.new)) }
+    ensures refused { IfErr result (λ e.
+        Refuses request.entry (I.remaining input.old) e (W.contents output.old) (W.contents output.new)) }
+{
+    let text = text_of(rt, alloc, request, input)?;
+    print(text.as_str(), output)
+}
+
+/// The text that a request prints.
+fn text_of<R: Threads + Wait + Sync, I: Read>(
+    rt: &R,
+    alloc: Global,
+    request: Request<'_>,
+    input: &mut I,
+) -> Result<String, Refusal>
+    ensures text { IfOk result (λ text. IsText request.entry (I.remaining input.old) (string_bytes text)) }
+    ensures withheld { IfErr result (λ e. IsWithheld request.entry (I.remaining input.old) e) }
+{
+    match request {
+        Request::Once { digits } => once(rt, alloc, digits),
+        Request::Decode { form, digits } => decode(alloc, form, digits),
+        Request::Replay { plan } => replay(alloc, plan, input),
+    }
+}
+
+/// Prints a text.
+pub fn print<W: Write>(text: &str, output: &mut W) -> Result<(), Refusal>
+    ensures done { OnOk result (Appends (W.contents output.old) (W.contents output.new) text.now) }
+    ensures refused { IfErr result (λ e. e ≡ Refusal.Output) }
+{
+    output
+        .write_all(text.as_bytes())
+        .map_err(|_| Refusal::Output)?;
+    output.flush().map_err(|_| Refusal::Output)
+}
+
+/// Prints a refusal, and answers its status.
+pub fn refuse<E: Write>(faults: &mut E, refusal: Refusal) -> u8
+    ensures { result ≡ REFUSED }
+{
+    let number = refusal.number();
+    let _ = match refusal.line() {
+        Some(line) => writeln!(faults, "line {line}: refused {number} {refusal}"),
+        None => writeln!(faults, "refused {number} {refusal}"),
+    };
+    REFUSED
+}

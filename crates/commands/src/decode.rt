@@ -1,0 +1,76 @@
+//! The line of a descriptor, from the hex digits of its bytes.
+ghost use Rattle.std.specs.Prelude.{◌≡◌, ◌⊎◌, ◌↔◌, ◌∷◌, [], ◌++◌, Some, IfOk, IfErr, IfSome};
+ghost use Rattle.std.specs.String.{string_bytes};
+ghost use Rattle.commands.specs.Digits.{bytes_in};
+ghost use Rattle.commands.specs.Decoding.{IsDecoded, IsRead, format_word, ring_word};
+
+use crate::digits::bytes_of;
+use crate::refusal::Refusal;
+use descriptor::{DescError, RxBack, RxRead, TxBack, TxRead};
+use std::alloc::Global;
+use std::fmt::Display;
+
+/// The form in which bytes are read. They do not tell it.
+#[derive(Clone, Copy)]
+pub enum Form {
+    /// A receive descriptor as the driver posts it.
+    RxRead,
+    /// A receive descriptor as the controller writes it back.
+    RxBack,
+    /// A transmit descriptor as the driver posts it.
+    TxRead,
+    /// A transmit descriptor as the controller writes it back.
+    TxBack,
+}
+
+impl Form {
+    /// The form on the ring `rx` or `tx`, in the format `read` or `back`.
+    pub fn named(ring: &str, format: &str) -> Option<Form>
+        ensures { (form : Form)
+            → (result ≡ Some form) ↔ (ring.now ≡ ring_word form) × (format.now ≡ format_word form) }
+    {
+        match (ring, format) {
+            ("rx", "read") => Some(Form::RxRead),
+            ("rx", "back") => Some(Form::RxBack),
+            ("tx", "read") => Some(Form::TxRead),
+            ("tx", "back") => Some(Form::TxBack),
+            _ => None,
+        }
+    }
+}
+
+/// The line of the descriptor whose bytes the digits are.
+///
+/// It answers `Hex` where the digits are no pairs, the refusal of the descriptor where the bytes are not of that form,
+/// and `Memory` where the growth was refused.
+pub fn decode(alloc: Global, form: Form, digits: &str) -> Result<String, Refusal>
+    ensures ok { IfOk result (λ line. IsDecoded form (bytes_in digits.now) (Ok (string_bytes line))) }
+    ensures err { IfErr result (λ e. (e ≡ Refusal.Memory) ⊎ IsDecoded form (bytes_in digits.now) (Err e)) }
+{
+    let bytes = bytes_of(alloc, digits)?;
+    read_as(alloc, form, bytes.as_slice())
+}
+
+/// The line of the descriptor that the bytes are in this form.
+fn read_as(alloc: Global, form: Form, bytes: &[u8]) -> Result<String, Refusal>
+    ensures ok { IfOk result (λ line. IsRead form bytes.now (Ok (string_bytes line))) }
+    ensures err { IfErr result (λ e. (e ≡ Refusal.Memory) ⊎ IsRead form bytes.now (Err e)) }
+{
+    match form {
+        Form::RxRead => line_of(alloc, RxRead::from_bytes(bytes)),
+        Form::RxBack => line_of(alloc, RxBack::from_bytes(bytes)),
+        Form::TxRead => line_of(alloc, TxRead::from_bytes(bytes)),
+        Form::TxBack => line_of(alloc, TxBack::from_bytes(bytes)),
+    }
+}
+
+/// What is printed of a value, in a line of its own, if there is one.
+fn line_of<D: Display + Drop>(alloc: Global, value: Result<D, DescError>) -> Result<String, Refusal>
+    ensures ok { IfOk result (λ line. (d : D) × (value ≡ Ok d)
+        × IfSome (D.output d) (λ text. string_bytes line ≡ text ++ 10 ∷ [])) }
+    ensures err { IfErr result (λ e. (e ≡ Refusal.Memory)
+        ⊎ ((refused : DescError) × (value ≡ Err refused) × (e ≡ Refusal.Descriptor refused))) }
+{
+    let value = value?;
+    Ok(format!(in alloc; "{value}\n")?)
+}

@@ -1,0 +1,25 @@
+//! The commands of the program `poll82599`, as a library: what each of them does with typed requests and streams.
+//!
+//! A `Request` says what is asked for. `perform` does it: each command makes its text, and one place prints it. A
+//! request whose text was made and could not be printed ends in `Output`; whatever else is refused leaves the output as
+//! it was. `answer` does the same for a caller who wants an exit status, and prints the refusal.
+//!
+//! `once` passes a frame through a receive ring between two threads (`passing`), `decode` reads a descriptor, and
+//! `replay` makes a list of moves on queues. `digits` and `frame` read an argument of hex digits.
+#![tactic(auto)]
+
+mod answering;
+mod decode;
+mod digits;
+mod frame;
+mod once;
+mod passing;
+mod refusal;
+mod replay;
+mod request;
+
+pub use answering::{DONE, REFUSED, answer, perform, print, refuse};
+pub use decode::Form;
+pub use refusal::Refusal;
+pub use replay::QueuePlan;
+pub use request::Request;

@@ -1,0 +1,36 @@
+//! The command `once`: a frame is passed through a ring, and what the driver took is its text.
+ghost use Rattle.std.specs.Prelude.{◌≡◌, ◌⊎◌, IfErr, IfOk};
+ghost use Rattle.std.specs.String.{string_bytes};
+ghost use Rattle.commands.specs.Answers.{line_of, once_answer, IsOnceRefused};
+ghost use Rattle.commands.specs.Frame.{frame_in};
+
+use crate::frame::frame_of;
+use crate::passing::{Passage, pass};
+use crate::refusal::Refusal;
+use std::alloc::{AllocError, Global};
+use std::sync::Wait;
+use std::thread::Threads;
+
+/// Passes the frame of these hex digits through a receive ring, and answers the line of the frame that was taken.
+pub fn once<R: Threads + Wait + Sync>(
+    rt: &R,
+    alloc: Global,
+    digits: &str,
+) -> Result<String, Refusal>
+    ensures ok { IfOk result (λ line. once_answer digits.now ≡ Ok (string_bytes line)) }
+    ensures err { IfErr result (λ e. (e ≡ Refusal.Memory) ⊎ IsOnceRefused (frame_in digits.now) e) }
+{
+    let frame = frame_of(alloc, digits)?;
+    let passage = pass(rt, alloc, frame.as_slice())?;
+    Ok(taken_line(alloc, &passage)?)
+}
+
+/// The bytes of the buffer that the driver took, as lower case hex digits, in a line of its own. It has nothing to read
+/// them from but that buffer.
+fn taken_line(alloc: Global, passage: &Passage) -> Result<String, AllocError>
+    ensures { IfOk result (λ line. string_bytes line ≡ line_of passage.now.buf.bytes) }
+{
+    let mut line = hex::encode(alloc, passage.buf.bytes())?;
+    line.push('\n')?;
+    Ok(line)
+}

@@ -1,0 +1,120 @@
+//! Why a command was refused.
+ghost use Rattle.std.specs.Prelude.{◌≡◌};
+ghost use Rattle.commands.specs.Refusals.{refusal_number, refused_line};
+ghost use Rattle.commands.specs.declared.refusal.Refusal.TheVariants.{Descriptor, Machine, Ring, Stock, Memory};
+
+use buffer_pool::PoolError;
+use descriptor::DescError;
+use ring_machine::MachineError;
+use rx_ring::RingError;
+use std::alloc::AllocError;
+use thiserror::Error;
+
+/// Why a command was refused. It is printed as `refused`, its number and its words.
+#[derive(Clone, Copy, Debug, Error)]
+pub enum Refusal {
+    /// The bytes are not the form of a descriptor.
+    #[error(transparent)]
+    Descriptor(DescError),
+    /// The ring refused.
+    #[error(transparent)]
+    Ring(RingError),
+    /// The stock of buffers refused.
+    #[error(transparent)]
+    Stock(PoolError),
+    /// The frame is shorter than an Ethernet header, or longer than what is carried.
+    #[error("frame length")]
+    FrameLength,
+    /// A thread could not be started.
+    #[error("thread")]
+    Thread,
+    /// The argument is no even number of hexadecimal digits.
+    #[error("hex")]
+    Hex,
+    /// This line of the list of moves, counted from 1, is no move.
+    #[error("move")]
+    Move { line: u64 },
+    /// The machine refused.
+    #[error(transparent)]
+    Machine(MachineError),
+    /// Standard input could not be read.
+    #[error("input")]
+    Input,
+    /// Memory was refused to the program itself.
+    #[error("memory")]
+    Memory,
+    /// Standard output could not be written. A beginning of the output may have gone out.
+    #[error("output")]
+    Output,
+}
+
+impl Refusal {
+    /// The number of the refusal. Those of a descriptor, a ring and a stock are their own.
+    pub fn number(&self) -> u8
+        ensures { result ≡ refusal_number self.now }
+    {
+        match self {
+            Refusal::Descriptor(error) => error.number(),
+            Refusal::Ring(error) => error.number(),
+            Refusal::Stock(error) => error.number(),
+            Refusal::FrameLength => 41,
+            Refusal::Thread => 63,
+            Refusal::Hex => 81,
+            Refusal::Move { .. } => 14,
+            Refusal::Machine(error) => error.number(),
+            Refusal::Input => 82,
+            Refusal::Memory => 83,
+            Refusal::Output => 84,
+        }
+    }
+
+    /// The line of the input that is refused, counted from 1, if one is.
+    pub fn line(&self) -> Option<u64>
+        ensures { result ≡ refused_line self.now }
+    {
+        match self {
+            Refusal::Move { line } => Some(*line),
+            _ => None,
+        }
+    }
+}
+
+impl From<DescError> for Refusal {
+    ghost from_gives = { λ error refusal. refusal ≡ Descriptor error };
+
+    fn from(error: DescError) -> Refusal {
+        Refusal::Descriptor(error)
+    }
+}
+
+impl From<RingError> for Refusal {
+    ghost from_gives = { λ error refusal. refusal ≡ Ring error };
+
+    fn from(error: RingError) -> Refusal {
+        Refusal::Ring(error)
+    }
+}
+
+impl From<PoolError> for Refusal {
+    ghost from_gives = { λ error refusal. refusal ≡ Stock error };
+
+    fn from(error: PoolError) -> Refusal {
+        Refusal::Stock(error)
+    }
+}
+
+impl From<MachineError> for Refusal {
+    ghost from_gives = { λ error refusal. refusal ≡ Machine error };
+
+    fn from(error: MachineError) -> Refusal {
+        Refusal::Machine(error)
+    }
+}
+
+impl From<AllocError> for Refusal {
+    ghost from_gives = { λ _ refusal. refusal ≡ Memory };
+
+    fn from(_: AllocError) -> Refusal {
+        Refusal::Memory
+    }
+}

@@ -1,8 +1,0 @@
-pub mod Refusals
-pub mod Digits
-pub mod Frame
-pub mod Decoding
-pub mod Passing
-pub mod Answers
-pub mod Replay
-pub mod CommandLine

@@ -1,0 +1,20 @@
+//! The program `uses`: the README's examples of library use. The gate proves it and runs it.
+#![tactic(auto)]
+
+mod moves;
+mod one_frame;
+
+use anyhow::Result;
+use moves::told;
+use one_frame::passed;
+
+const MOVES: [&str; 3] = ["r0 A1 5", "r0 A2", "r0 A6"];
+
+fn main(rt: HostRuntime) -> Result<()> {
+    let frame = [0xab; 60];
+    if let Some(buf) = passed(rt.alloc(), &frame)? {
+        println!(rt; "took {} bytes in buffer {}", buf.len(), buf.number())?;
+    }
+    print!(rt; "{}", told(rt.alloc(), MOVES.as_slice())?)?;
+    Ok(())
+}
