@@ -8,18 +8,24 @@ use Rattle.std.proofs.lemmas.Bool.{cases_lt}
 use Rattle.std.specs.Result.{is_ok}
 use Rattle.std.proofs.lemmas.List.{append-nil, map-append}
 use Rattle.std.proofs.lemmas.List.Elements.{All-append, All-cons, All-head, All-nil, All-tail, filter-append}
-use Rattle.ring_machine.specs.declared.queue_moves.Move.{Move}
+use Rattle.ring_machine.specs.declared.moves.Move.{Move}
 use Rattle.ring_model.specs.declared.notes.Note.{Note}
 use Rattle.ring_machine.specs.declared.error.MachineError.{MachineError}
 use Rattle.limits.specs.declared.profile.TheConstants.{LEAST_RING, MOST_PAIRS, MOST_RING}
 use Rattle.ring_model.specs.declared.states.Completion.{Completion}
-use Rattle.ring_model.specs.Worlds.{World, opening_world, after_move, after_moves, can_move, moves_happened, IsReachableWorld}
-use Rattle.ring_machine.specs.Queues.{AreQueues, QueueParts, QueuesAgree, QueuesDid, note_in}
-use Rattle.ring_machine.specs.MoveTexts.{IsInRange, name_of, note_text, text_of}
-use Rattle.ring_machine.proofs.QueuesRunning.{after_moves-append, did-made, did-refused, moves_happened-append, reached_world}
+use Rattle.ring_model.specs.NoteTexts.{note_text}
+use Rattle.ring_model.specs.transmit.Ring.{TxBeginning}
+use Rattle.ring_model.specs.Worlds.{QueueMove, World, opening_world, after_move, after_moves, can_move, moves_happened, note_in, IsReachableWorld}
+use Rattle.ring_model.proofs.shared.Reaching.{reached-opening}
+use Rattle.ring_model.proofs.Apart.{reached_world}
+use Rattle.ring_machine.specs.shared.Following.{Did}
+use Rattle.ring_machine.specs.Queues.{AreQueues, QueueParts, QueuesAgree, queue_move}
+use Rattle.ring_machine.specs.text.Moves.{IsInRange, name_of, text_of}
+use Rattle.ring_machine.proofs.QueuesRunning.{did-made, did-refused}
+use Rattle.ring_machine.proofs.shared.Running.{joined}
 use Rattle.text_lines.specs.Parts.{lines_of, says_something}
 use Rattle.commands.specs.declared.replay.QueuePlan.{QueuePlan}
-use Rattle.commands.specs.Replay.{count_line, line_in, lines_in, told_text, world_of, HasPage, IsFaulty, IsMoveList, IsNoMove, IsPageOf, IsReplay, Reads, Says, WroteMove}
+use Rattle.commands.specs.Replay.{after_it, count_line, line_in, lines_in, told_text, world_of, HasPage, IsFaulty, IsMoveList, IsNoMove, IsPageOf, IsReplay, Reads, Says, WroteMove}
 
 -- what reading a line answers, in words of lists
 pub read-line : (line : List ℕ) (result : Result Move MachineError) → ((m : Move) → (result ≡ Ok m) ↔ (IsInRange m × (line ≡ text_of m))) → is_ok result ≡ true → Reads line
@@ -54,16 +60,16 @@ says-more before line ms m e range text s = record {
     one_of h = rw h refl
 
 -- a move that was made: its line has its note
-pub wrote-made : (w : World) (m : Move) (t : Note) (old new : List ℕ) (before later : QueueParts) → QueuesDid (note_in w m) (after_move w m) (Ok t) before later → new ≡ old ++ (name_of m ++ (codes " " ++ (note_text t ++ 10 ∷ []))) → WroteMove w m true old new later
-wrote-made w m t old new before later d e = let made = did-made w m t before later d in record {
+pub wrote-made : (w : World) (m : Move) (t : Note) (old new : List ℕ) (before later : QueueParts) → Did QueuesAgree (note_in w (queue_move m)) (after_it w m) (Ok t) before later → new ≡ old ++ (name_of m ++ (codes " " ++ (note_text t ++ 10 ∷ []))) → WroteMove w m true old new later
+wrote-made w m t old new before later d e = let made = did-made w (queue_move m) t (after_it w m) before later d in record {
   text = e ∙ ap (λ (told : Option Note). old ++ (name_of m ++ (codes " " ++ (told_text told ++ 10 ∷ [])))) (sym made.0);
   agrees = d.agrees;
   counted = sym made.1;
 }
 
 -- a move that was refused: its line says so
-pub wrote-refused : (w : World) (m : Move) (why : MachineError) (old new : List ℕ) (before later : QueueParts) → QueuesDid (note_in w m) (after_move w m) (Err why) before later → new ≡ old ++ (name_of m ++ (codes " " ++ (codes "not enabled" ++ 10 ∷ []))) → WroteMove w m false old new later
-wrote-refused w m why old new before later d e = let refused = did-refused w m why before later d in record {
+pub wrote-refused : (w : World) (m : Move) (why : MachineError) (old new : List ℕ) (before later : QueueParts) → Did QueuesAgree (note_in w (queue_move m)) (after_it w m) (Err why) before later → new ≡ old ++ (name_of m ++ (codes " " ++ (codes "not enabled" ++ 10 ∷ []))) → WroteMove w m false old new later
+wrote-refused w m why old new before later d e = let refused = did-refused w (queue_move m) why (after_it w m) before later d in record {
   text = e ∙ ap (λ (told : Option Note). old ++ (name_of m ++ (codes " " ++ (told_text told ++ 10 ∷ [])))) (sym refused.0);
   agrees = d.agrees;
   counted = sym refused.1;
@@ -134,8 +140,8 @@ good-faulty text number line later none g = record {
 -- so many moves are written, and these lines are left
 pub record Followed (w : World) (moves : List Move) (page : List ℕ) (made : ℕ) (now : QueueParts) : Type 0 where
   pub text : page ≡ lines_in w moves
-  pub agrees : QueuesAgree now (after_moves w moves)
-  pub counted : made ≡ moves_happened w moves
+  pub agrees : QueuesAgree now (after_moves w (map queue_move moves))
+  pub counted : made ≡ moves_happened w (map queue_move moves)
 
 pub record PageSoFar (text page : List ℕ) (made read : ℕ) (rest : List (List ℕ)) (first now : QueueParts) : Type 0 where
   pub before : List (List ℕ)
@@ -158,9 +164,9 @@ page-skipped text page made read line later first now e p = record {
   follows = p.follows;
 }
 
-lines_in-more : (w : World) (ms : List Move) (m : Move) → lines_in w (ms ++ m ∷ []) ≡ lines_in w ms ++ line_in (after_moves w ms) m
+lines_in-more : (w : World) (ms : List Move) (m : Move) → lines_in w (ms ++ m ∷ []) ≡ lines_in w ms ++ line_in (after_moves w (map queue_move ms)) m
 lines_in-more w [] m = append-nil (line_in w m)
-lines_in-more w (x ∷ ms) m = ap (λ (t : List ℕ). line_in w x ++ t) (lines_in-more (after_move w x) ms m) ∙ sym (append_assoc (line_in w x) (lines_in (after_move w x) ms) (line_in (after_moves (after_move w x) ms) m))
+lines_in-more w (x ∷ ms) m = ap (λ (t : List ℕ). line_in w x ++ t) (lines_in-more (after_it w x) ms m) ∙ sym (append_assoc (line_in w x) (lines_in (after_it w x) ms) (line_in (after_moves (after_it w x) (map queue_move ms)) m))
 
 one_happened : (b : Bool) → (if b then suc 0 else 0) ≡ from_bool b
 one_happened true = refl
@@ -179,10 +185,12 @@ page-more text page later_page made added read more line later first now after m
   moves = p.moves ++ m ∷ [];
   says = says-more p.before line p.moves m e range is p.says;
   count = ap (λ (k : ℕ). k + 1) p.count ∙ sym (length-append p.moves (m ∷ []));
-  follows = λ pairs n w reached agrees. let f = p.follows pairs n w reached agrees in let here = after_moves w p.moves in let one = wrote pairs n here (reached_world pairs n w p.moves reached) f.agrees in record {
+  follows = λ pairs n w reached agrees. let f = p.follows pairs n w reached agrees in let here = after_moves w (map queue_move p.moves) in let one = wrote pairs n here (reached_world pairs n w (map queue_move p.moves) reached) f.agrees in
+      let both = joined can_move after_move QueuesAgree after w (map queue_move p.moves) (queue_move m ∷ []) made added f.counted (one.agrees, adds ∙ (ap from_bool one.counted ∙ sym (one_happened (can_move here (queue_move m))))) in
+      let whole : map queue_move (p.moves ++ m ∷ []) ≡ map queue_move p.moves ++ queue_move m ∷ [] = map-append queue_move p.moves (m ∷ []) in record {
     text = one.text ∙ ap (λ (t : List ℕ). t ++ line_in here m) f.text ∙ sym (lines_in-more w p.moves m);
-    agrees = subst (λ (v : World). QueuesAgree after v) (sym (after_moves-append w p.moves (m ∷ []))) one.agrees;
-    counted = ap₂ (λ (x y : ℕ). x + y) f.counted (adds ∙ (ap from_bool one.counted ∙ sym (one_happened (can_move here m)))) ∙ sym (moves_happened-append w p.moves (m ∷ []));
+    agrees = subst (λ (ms : List QueueMove). QueuesAgree after (after_moves w ms)) (sym whole) both.0;
+    counted = subst (λ (ms : List QueueMove). made + added ≡ moves_happened w ms) (sym whole) both.1;
   };
 }
 
@@ -243,13 +251,13 @@ are-queues pairs n nn = (
   (stable-le LEAST_RING n (λ no. nn (λ a. no a.2.0)), stable-le n MOST_RING (λ no. nn (λ a. no a.2.1)), stable-true (is_power_of_two n) (λ no. nn (λ a. no a.2.2))),
 )
 
-opening-reached : (pairs n : ℕ) (enabled : Bool) (completion : Completion) → IsReachableWorld pairs n (opening_world pairs n enabled completion)
-opening-reached pairs n enabled completion = record { enabled = enabled; completion = completion; schedule = []; made = refl }
+opening-reached : (pairs n : ℕ) (b : TxBeginning) → IsReachableWorld pairs n (opening_world pairs n b)
+opening-reached pairs n b = reached-opening can_move after_move (opening_world pairs n) b
 
 -- the page is that of the plan's queues as they are made
 pub has-page : (plan : QueuePlan) (text page : List ℕ) (queues : QueueParts) → ((AreQueues plan.pairs plan.ring → ⊥) → ⊥) → QueuesAgree queues (world_of plan)
     → ((pairs n : ℕ) (w : World) → IsReachableWorld pairs n w → QueuesAgree queues w → IsPageOf w text page) → HasPage plan text page
-has-page plan text page queues able agrees is_page = let p = is_page plan.pairs plan.ring (world_of plan) (opening-reached plan.pairs plan.ring plan.enabled plan.completion) agrees in record {
+has-page plan text page queues able agrees is_page = let p = is_page plan.pairs plan.ring (world_of plan) (opening-reached plan.pairs plan.ring (record { enabled = plan.enabled; completion = plan.completion })) agrees in record {
   moves = p.moves;
   replay = record { says = p.says; queues = are-queues plan.pairs plan.ring able };
   printed = p.printed;

@@ -3,12 +3,14 @@ use Rattle.std.specs.Prelude.{◌≡◌, ◌≢◌, ◌⊎◌, ℕ, ◌+◌, Boo
 use Rattle.std.specs.List.{filter}
 use Rattle.std.specs.Io.KnownBytes.{Appends, Keeps}
 use Rattle.text_lines.specs.Parts.{lines_of, says_something}
-use Rattle.ring_machine.specs.declared.queue_moves.Move.{Move}
+use Rattle.ring_machine.specs.declared.moves.Move.{Move}
 use Rattle.ring_model.specs.declared.notes.Note.{Note}
 use Rattle.ring_machine.specs.declared.error.MachineError.TheVariants.{RingLength, Memory as MachineMemory}
-use Rattle.ring_model.specs.Worlds.{World, opening_world, after_move, can_move, moves_happened}
-use Rattle.ring_machine.specs.Queues.{AreQueues, QueueParts, QueuesAgree, note_in}
-use Rattle.ring_machine.specs.MoveTexts.{IsInRange, name_of, note_text, text_of}
+use Rattle.ring_model.specs.shared.Schedules.{next}
+use Rattle.ring_model.specs.NoteTexts.{note_text}
+use Rattle.ring_model.specs.Worlds.{World, opening_world, after_move, can_move, moves_happened, note_in}
+use Rattle.ring_machine.specs.Queues.{AreQueues, QueueParts, QueuesAgree, queue_move}
+use Rattle.ring_machine.specs.text.Moves.{IsInRange, name_of, text_of}
 use Rattle.commands.specs.declared.replay.QueuePlan.{QueuePlan}
 use Rattle.commands.specs.declared.answering.TheConstants.{DONE, REFUSED}
 use Rattle.commands.specs.declared.refusal.Refusal.{Refusal}
@@ -46,20 +48,24 @@ abbrev pub told_text : Option Note → List ℕ
 told_text None = codes "not enabled"
 told_text (Some note) = note_text note
 
+-- the world after a move, which is passed over where it can't happen
+abbrev pub after_it : World → Move → World
+after_it w m = next can_move after_move w (queue_move m)
+
 -- the line of one move: its queue and kind, and what it tells
 abbrev pub line_in : World → Move → List ℕ
-line_in w m = name_of m ++ (codes " " ++ (told_text (note_in w m) ++ 10 ∷ []))
+line_in w m = name_of m ++ (codes " " ++ (told_text (note_in w (queue_move m)) ++ 10 ∷ []))
 
 abbrev pub lines_in : World → List Move → List ℕ
 lines_in w [] = []
-lines_in w (m ∷ ms) = line_in w m ++ lines_in (after_move w m) ms
+lines_in w (m ∷ ms) = line_in w m ++ lines_in (after_it w m) ms
 
 abbrev pub count_line : ℕ → ℕ → List ℕ
 count_line made read = codes "moves " ++ (decimal made ++ (codes " of " ++ (decimal read ++ 10 ∷ [])))
 
 -- one line a move, and at last how many of them happened
 abbrev pub replayed : World → List Move → List ℕ
-replayed w ms = lines_in w ms ++ count_line (moves_happened w ms) (length ms)
+replayed w ms = lines_in w ms ++ count_line (moves_happened w (map queue_move ms)) (length ms)
 
 -- the page is what the text's moves print
 pub record IsPageOf (w : World) (text page : List ℕ) : Type 0 where
@@ -69,7 +75,7 @@ pub record IsPageOf (w : World) (text page : List ℕ) : Type 0 where
 
 -- the queues of the plan, as they are made
 abbrev pub world_of : QueuePlan → World
-world_of p = opening_world p.pairs p.ring p.enabled p.completion
+world_of p = opening_world p.pairs p.ring (record { enabled = p.enabled; completion = p.completion })
 
 -- the text is a list of moves, and there can be such queues
 pub record IsReplay (plan : QueuePlan) (text : List ℕ) (moves : List Move) : Type 0 where
@@ -117,5 +123,5 @@ pub record EndsReplay (plan : QueuePlan) (text : List ℕ) (status : ℕ) (old n
 -- one move's line was written, and the queues are those of the world after it
 pub record WroteMove (w : World) (m : Move) (made : Bool) (old new : List ℕ) (queues : QueueParts) : Type 0 where
   pub text : new ≡ old ++ line_in w m
-  pub agrees : QueuesAgree queues (after_move w m)
-  pub counted : made ≡ can_move w m
+  pub agrees : QueuesAgree queues (after_it w m)
+  pub counted : made ≡ can_move w (queue_move m)
