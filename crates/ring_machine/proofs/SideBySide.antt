@@ -12,6 +12,7 @@ use Rattle.ring_model.specs.receive.Steps.{rx_can, rx_changed, rx_next, rx_note_
 use Rattle.ring_model.specs.transmit.Ring.{Posting, TxRing}
 use Rattle.ring_model.specs.transmit.Steps.{tx_can, tx_changed, tx_next, tx_note_of}
 use Rattle.ring_model.specs.Worlds.{World, can_at, note_at, put_next}
+use Rattle.ring_model.proofs.shared.Places.{slice_get-set_other}
 use Rattle.ring_model.proofs.Apart.{reaches}
 use Rattle.ring_machine.specs.declared.error.MachineError.{MachineError}
 use Rattle.ring_machine.specs.declared.error.MachineError.TheVariants as refusal
@@ -27,13 +28,6 @@ module _ {X : Type 0} where
   set_same [] q x e = refl
   set_same (y ∷ ys) zero x e = ap (λ z. z ∷ ys) (sym (same_Some y x e))
   set_same (y ∷ ys) (suc q) x e = ap (λ zs. y ∷ zs) (set_same ys q x e)
-
-  get_set_other : (xs : List X) (p j : ℕ) (x : X) → j ≢ p → slice_get (slice_set xs p x) j ≡ slice_get xs j
-  get_set_other [] p j x ne = refl
-  get_set_other (y ∷ ys) zero zero x ne = absurd (ne refl)
-  get_set_other (y ∷ ys) zero (suc j) x ne = refl
-  get_set_other (y ∷ ys) (suc p) zero x ne = refl
-  get_set_other (y ∷ ys) (suc p) (suc j) x ne = get_set_other ys p j x (λ e. ne (ap suc e))
 
   -- what lies where something was stored is that
   stored_is : (xs : List X) (q : ℕ) (x y : X) → slice_get (slice_set xs q x) q ≡ Some y → x ≡ y
@@ -85,7 +79,7 @@ module _ {A B : Type 0} (Agree : A → B → Type 0) where
     lengths = length-set xs q x ∙ a.lengths ∙ sym (length-set ys q y);
     each = λ k u v e f. ⊎_elim
         (λ same. subst (λ z. Agree z v) (stored_is xs q x u (subst (λ j. slice_get (slice_set xs q x) j ≡ Some u) same e)) (subst (λ z. Agree x z) (stored_is ys q y v (subst (λ j. slice_get (slice_set ys q y) j ≡ Some v) same f)) h))
-        (λ ne. a.each k u v (sym (get_set_other xs q k x ne) ∙ e) (sym (get_set_other ys q k y ne) ∙ f))
+        (λ ne. a.each k u v (sym (slice_get-set_other xs q k x ne) ∙ e) (sym (slice_get-set_other ys q k y ne) ∙ f))
         (cases_eq k q);
   }
 

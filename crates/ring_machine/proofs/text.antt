@@ -1,5 +1,3 @@
-pub mod CutLemmas
-pub mod NumberFields
 pub mod ArgumentFields
 pub mod MoveLines
 pub mod MoveQueues

@@ -11,19 +11,12 @@ use Rattle.ring_model.specs.transmit.Ring.{TxBeginning, TxRing, tx_opening}
 use Rattle.ring_model.specs.transmit.Steps.{IsTxReachable, tx_can, tx_changed}
 use Rattle.ring_model.specs.transmit.Laws.{TxLater}
 use Rattle.ring_model.specs.Worlds.{QueueMove, Receive, Transmit, World, WorldLater, opening_world, put_next, can_move, after_move, after_moves, IsReachableWorld, IsLeftAlone, IsLawfulWorld}
-use Rattle.ring_model.proofs.shared.Places.{slice_set-writes}
+use Rattle.ring_model.proofs.shared.Places.{slice_get-set_other, slice_set-writes}
 use Rattle.ring_model.proofs.shared.Reaching.{after-append, reached-opening, reached-more, reached-next}
 use Rattle.ring_model.proofs.receive.Reached.{rx_kept, rx_lawful, rx_later-all}
 use Rattle.ring_model.proofs.transmit.Reached.{tx_kept, tx_lawful, tx_later-all}
 
 module _ {X : Type 0} where
-  get_set_other : (xs : List X) (p j : ℕ) (x : X) → j ≢ p → slice_get (slice_set xs p x) j ≡ slice_get xs j
-  get_set_other [] p j x ne = refl
-  get_set_other (y ∷ ys) zero zero x ne = absurd (ne refl)
-  get_set_other (y ∷ ys) zero (suc j) x ne = refl
-  get_set_other (y ∷ ys) (suc p) zero x ne = refl
-  get_set_other (y ∷ ys) (suc p) (suc j) x ne = get_set_other ys p j x (λ e. ne (ap suc e))
-
   get_set_same : (xs : List X) (p : ℕ) (x y : X) → slice_get xs p ≡ Some y → slice_get (slice_set xs p x) p ≡ Some x
   get_set_same xs p x y e = let w = slice_set-writes xs p x (slice_get_within xs p y e) in w.here
 
@@ -41,7 +34,7 @@ module _ {X : Type 0} where
 module _ {Ring Step : Type 0} (can : Ring → Step → Bool) (changed : Ring → Step → Ring) where
   others : (rs : List Ring) (q : ℕ) (s : Step) (found : Option Ring) (k : ℕ) → k ≢ q → slice_get (put_next (next can changed) rs q s found) k ≡ slice_get rs k
   others rs q s None k ne = refl
-  others rs q s (Some r) k ne = get_set_other rs q k (next can changed r s) ne
+  others rs q s (Some r) k ne = slice_get-set_other rs q k (next can changed r s) ne
 
   put_length : (rs : List Ring) (q : ℕ) (s : Step) (found : Option Ring) → length (put_next (next can changed) rs q s found) ≡ length rs
   put_length rs q s None = refl
@@ -74,7 +67,7 @@ module _ {Ring Step : Type 0} (can : Ring → Step → Bool) (changed : Ring →
         schedule = s ∷ [];
         made = ap (λ (y : Ring). next can changed y s) (sym it);
       })
-      (λ ne. went_nowhere (slice_set rs q (next can changed x s)) k r (get_set_other rs q k (next can changed x s) ne ∙ e))
+      (λ ne. went_nowhere (slice_set rs q (next can changed x s)) k r (slice_get-set_other rs q k (next can changed x s) ne ∙ e))
       (cases_eq k q)
 
   -- what each ring keeps through its steps, all rings keep
@@ -85,7 +78,7 @@ module _ {Ring Step : Type 0} (can : Ring → Step → Bool) (changed : Ring →
   put-all Stays on rs q s (Some x) e all k r h = ⊎_elim
       (λ same. let it = same_Some (next can changed x s) r (sym (get_set_same rs q (next can changed x s) x e) ∙ ap (λ (j : ℕ). slice_get (slice_set rs q (next can changed x s)) j) (sym same) ∙ h) in
       subst Stays it (on x s (all q x e)))
-      (λ ne. all k r (sym (get_set_other rs q k (next can changed x s) ne) ∙ h))
+      (λ ne. all k r (sym (slice_get-set_other rs q k (next can changed x s) ne) ∙ h))
       (cases_eq k q)
 
 pub left_alone : (w : World) (m : QueueMove) → IsLeftAlone w m (after_move w m)

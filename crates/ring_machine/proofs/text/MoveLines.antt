@@ -22,7 +22,7 @@ use Rattle.ring_machine.specs.text.Fields.{AreSmall, Spells, fields_in, later_fi
 use Rattle.ring_machine.specs.text.Moves.{IsInRange, IsRxInRange, IsTxInRange, arguments_of, control_kind, kind_of, queue_of, rx_arguments, rx_kind, text_of, tx_arguments, tx_kind}
 use Rattle.ring_model.specs.shared.Agreement.{bit}
 use Rattle.ring_model.specs.transmit.Ring.{Posting}
-use Rattle.ring_machine.proofs.text.NumberFields.{decimal_digits}
+use Rattle.text_lines.proofs.Decimals.{decimal_digits}
 
 -- no space
 abbrev IsPlain : List ℕ → Type 0
@@ -83,7 +83,7 @@ digits_plain (b ∷ bs) digits =
 
 decimals_plain : (ns : List ℕ) → AreSmall ns → AllByRecursion IsPlain (map decimal ns)
 decimals_plain [] small = tt
-decimals_plain (n ∷ ns) small = (digits_plain (decimal n) (decimal_digits n small.0), decimals_plain ns small.1)
+decimals_plain (n ∷ ns) small = (digits_plain (decimal n) (decimal_digits n (omega (arith, small.0))), decimals_plain ns small.1)
 
 queue_plain : (m : Move) → IsInRange m → IsPlain (queue_of m)
 queue_plain (Receive q s) r = (refl, digits_plain (decimal q) (decimal_digits q (omega (arith, r.0))))

@@ -1,8 +1,8 @@
 -- The fields of a move's line as the reader has them.
-use Rattle.std.specs.Prelude.{◌≡◌, ◌==◌, ◌<◌, ◌^◌, nat_le, ℕ, Bool, not, ◌&&◌, ◌||◌, List, [], length, slice_index, Option, Some, None}
+use Rattle.std.specs.Prelude.{◌≡◌, ◌<◌, ◌^◌, ℕ, List, Option}
 use Rattle.std.specs.Borrow.{Bor}
-use Rattle.std.specs.Char.{is_ascii_digit}
-use Rattle.std.specs.List.{AllByRecursion, list_all, slice_split}
+use Rattle.std.specs.List.{AllByRecursion}
+use Rattle.text_lines.specs.Parts.{later_parts, parts}
 use Rattle.ring_machine.specs.declared.moves.Move.{Move}
 use Rattle.ring_model.specs.declared.steps.RxStep.{RxStep}
 use Rattle.ring_model.specs.declared.steps.TxStep.{TxStep}
@@ -11,12 +11,11 @@ use Rattle.ring_machine.specs.text.Moves.{IsInRange, IsRxInRange, IsTxInRange, a
 
 -- what stands between spaces
 abbrev pub fields_in : List ℕ → List (List ℕ)
-fields_in line = slice_split (λ b. b == 32) line
+fields_in line = parts 32 line
 
 -- the fields after a space, if there was one
 abbrev pub later_fields : Option (Bor (List ℕ)) → List (List ℕ)
-later_fields None = []
-later_fields (Some rest) = fields_in rest.now
+later_fields rest = later_parts 32 rest
 
 -- the step is in range, and these are the name of its kind and its arguments
 pub record SpellsRx (name numbers : List ℕ) (s : RxStep ℕ) : Type 0 where
@@ -35,13 +34,6 @@ pub record Spells (first name numbers : List ℕ) (m : Move) : Type 0 where
   pub queue : first ≡ queue_of m
   pub kind : name ≡ kind_of m
   pub arguments : numbers ≡ arguments_of m
-
--- 1 to 5 decimal digits, the first of more than one not `0`
-abbrev pub is_number : List ℕ → Bool
-is_number field =
-    nat_le 1 (length field) && nat_le (length field) 5
-    && (length field == 1 || not (slice_index field 0 == 48))
-    && list_all is_ascii_digit field
 
 -- numbers that fit 16 bits
 abbrev pub AreSmall : List ℕ → Type 0

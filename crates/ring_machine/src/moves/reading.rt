@@ -13,9 +13,10 @@ ghost use Rattle.ring_model.specs.declared.steps.TxStep.{TxStep};
 
 use crate::error::MachineError;
 use crate::moves::arguments::{Descriptor, SegmentLength};
-use crate::moves::fields::{arguments_in, cut};
+use crate::moves::fields::arguments_in;
 use crate::moves::{Move, QueueNumber};
 use ring_model::{ControlStep, RxStep, TxStep};
+use text_lines::cut;
 
 impl Move {
     /// The move of a line, which has to be just as `Display` prints it. Anything else is refused, an empty line and a
@@ -35,8 +36,8 @@ impl Move {
 fn read(line: &[u8]) -> Option<Move>
     ensures { (m : Move) → (result ≡ Some m) ↔ (IsInRange m × (line.now ≡ text_of m)) }
 {
-    let (queue, rest) = cut(line);
-    let (kind, rest) = cut(rest?);
+    let (queue, rest) = cut(line, b' ');
+    let (kind, rest) = cut(rest?, b' ');
     let arguments = arguments_in(rest)?;
     move_of(queue, kind, &arguments)
 }

@@ -97,7 +97,7 @@ module _ {X : Type 0} where
   slice_get-set_same (y ∷ ys) zero x h = refl
   slice_get-set_same (y ∷ ys) (suc p) x h = slice_get-set_same ys p x (omega arith)
 
-  slice_get-set_other : (xs : List X) (p j : ℕ) (x : X) → j ≢ p → slice_get (slice_set xs p x) j ≡ slice_get xs j
+  pub slice_get-set_other : (xs : List X) (p j : ℕ) (x : X) → j ≢ p → slice_get (slice_set xs p x) j ≡ slice_get xs j
   slice_get-set_other [] p j x ne = refl
   slice_get-set_other (y ∷ ys) zero zero x ne = absurd (ne refl)
   slice_get-set_other (y ∷ ys) zero (suc j) x ne = refl

@@ -11,7 +11,7 @@ returns-in_err-number-clause-none c =
     let got : List ℕ = c.loop-rest.arguments.items in
     let none : c.from_residual.result ≡ None = search rules in
     let missing : c.number_of.result ≡ None = search rules in
-    let before = next_field got _ _ _ _ c.loop-rest.invariant.read c.in-Some.is c.cut.ensures.fields in
+    let before = next_field got _ _ _ _ c.loop-rest.invariant.read c.in-Some.is c.cut.ensures.parts in
     rw none (λ ns fit few same.
     no_number got ns c.cut.result.0.now (later_fields c.cut.result.1)
     (λ n small is. cc (missing, (c.number_of.ensures n).1 (small, is))) fit (sym before ∙ same))
@@ -19,7 +19,7 @@ returns-in_err-number-clause-none c =
 pub returns-then-is_full-clause-none : goal.returns-then-is_full-clause-none
 returns-then-is_full-clause-none c =
     let got : List ℕ = c.loop-rest.arguments.items in
-    let before = next_field got _ _ _ _ c.loop-rest.invariant.read c.in-Some.is c.cut.ensures.fields in
+    let before = next_field got _ _ _ _ c.loop-rest.invariant.read c.in-Some.is c.cut.ensures.parts in
     let full : length got ≡ 5 = eqb-true (length got) 5 (sym c.is_full.ensures.value ∙ c.if-is_full.true) in
     λ ns fit few same.
     too_many got ns c.cut.result.0.now (later_fields c.cut.result.1) (omega (arith, few, full)) (sym before ∙ same)
@@ -28,7 +28,7 @@ pub loop-rest-preserved : goal.loop-rest-preserved
 loop-rest-preserved c =
     let got : List ℕ = c.loop-rest.arguments.items in
     let later = later_fields c.cut.result.1 in
-    let before = next_field got _ _ _ _ c.loop-rest.invariant.read c.in-Some.is c.cut.ensures.fields in
+    let before = next_field got _ _ _ _ c.loop-rest.invariant.read c.in-Some.is c.cut.ensures.parts in
     let read : c.number_of.result ≡ Some c.in_ok-number.number = search rules in
     let said = (c.number_of.ensures c.in_ok-number.number).0 read in
     record {

@@ -8,7 +8,7 @@ pub returns-in_err-rest : goal.returns-in_err-rest
 returns-in_err-rest c =
     let none : c.from_residual.result ≡ None = search rules in
     let missing : c.cut.result.1 ≡ None = search rules in
-    let cut = c.cut.ensures.fields ∙ ap (λ rest. c.cut.result.0.now ∷ later_fields rest) missing in
+    let cut = c.cut.ensures.parts ∙ ap (λ rest. c.cut.result.0.now ∷ later_fields rest) missing in
     λ m. (λ e. cc (none), λ h. absurd (one_field c.args.line.now c.cut.result.0.now m cut h.0 h.1))
 
 pub returns-in_err-arguments : goal.returns-in_err-arguments
@@ -17,7 +17,7 @@ returns-in_err-arguments c =
     let kind : List ℕ = c.cut-2.result.0.now in
     let none : c.from_residual-in_err-arguments.result ≡ None = search rules in
     let more : c.cut.result.1 ≡ Some c.in_ok-rest.field-0 = search rules in
-    let cut = two_fields c.args.line.now queue kind _ _ _ c.cut.ensures.fields more c.cut-2.ensures.fields in
+    let cut = two_fields c.args.line.now queue kind _ _ _ c.cut.ensures.parts more c.cut-2.ensures.parts in
     λ m. (
       λ e. cc (none),
       λ h.
@@ -30,7 +30,7 @@ returns c = λ m.
     let queue : List ℕ = c.cut.result.0.now in
     let kind : List ℕ = c.cut-2.result.0.now in
     let more : c.cut.result.1 ≡ Some c.in_ok-rest.field-0 = search rules in
-    let cut = two_fields c.args.line.now queue kind _ _ _ c.cut.ensures.fields more c.cut-2.ensures.fields in
+    let cut = two_fields c.args.line.now queue kind _ _ _ c.cut.ensures.parts more c.cut-2.ensures.parts in
     let numbers = c.in_ok-arguments.ensures.found ∙ ap (map decimal) (sym c.deref.ensures.0) in
     let small = subst AreSmall (sym c.deref.ensures.0) c.in_ok-arguments.ensures.small in
     let fields = cut ∙ ap (λ more. queue ∷ kind ∷ more) numbers in
