@@ -1,12 +1,14 @@
 //! Worked rows: what schedules tell and how frames are cut, computed from the definitions alone.
 
-ghost use Rattle.ring_model.specs.shared.Rows.{CutRows};
+ghost use Rattle.ring_model.specs.shared.Rows.{CutRows, FollowRows};
 ghost use Rattle.ring_model.specs.receive.Rows.{RxRows};
 ghost use Rattle.ring_model.specs.transmit.Rows.{TxRows};
 
-/// The notes of each schedule, and the pieces of each frame, are those that were worked out by hand.
+/// The notes of each schedule, the pieces of each frame, and what may follow an unfinished frame are those that were
+/// worked out by hand.
 pub fn worked_rows()
     ensures cut { CutRows }
+    ensures follow { FollowRows }
     ensures receive { RxRows }
     ensures transmit { TxRows }
 {}

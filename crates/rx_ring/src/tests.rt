@@ -132,6 +132,33 @@ fn two_threads(rt: HostRuntime) -> Result<(), Fail> {
     Ok(())
 }
 
+/// What a poll found, in a word.
+fn found(poll: Poll) -> &'static str {
+    match poll {
+        Poll::Segment(_, _) => "segment",
+        Poll::NotDone => "not done",
+        Poll::Empty => "empty",
+        Poll::Off => "off",
+    }
+}
+
+/// On one thread: no call waits for the other end.
+#[test]
+fn a_poll_does_not_wait(rt: HostRuntime) -> Result<(), Fail> {
+    let (ring, mut driver, mut controller) = RxRing::new(rt.alloc(), 8)?;
+    let mut stock = Stock::new(rt.alloc(), 0, 16)?;
+    assert_eq!(rt; found(driver.poll(&ring)), "empty");
+    assert_eq!(rt; controller.look(&ring), 0);
+    fill_ring(&ring, &mut driver, &mut stock);
+    assert_eq!(rt; found(driver.poll(&ring)), "not done");
+    assert_eq!(rt; controller.look(&ring), 7);
+    assert_eq!(rt; found(driver.poll(&ring)), "not done");
+    store_frame(&rt, &ring, &mut controller, &[7; 14]);
+    assert_eq!(rt; found(driver.poll(&ring)), "segment");
+    assert_eq!(rt; found(driver.poll(&ring)), "not done");
+    Ok(())
+}
+
 #[test]
 fn lawful_lengths_are_made(rt: HostRuntime) -> Result<(), Fail> {
     for n in [8, 16, 32, 64, 128, 256, 512, 1_024, 2_048, 4_096] {

@@ -1,5 +1,6 @@
 -- Each row is computed.
-use Rattle.std.proofs.Common.{refl}
+use Rattle.std.proofs.Common.{refl, arith}
+use Rattle.std.proofs.lemmas.Bool.{false≢true}
 use Rattle.ring_model.proofs.shared.Shapes.{shapes-cut}
 use Rattle.ring_model.proofs.rows.worked_rows.Goals as goal
 
@@ -14,6 +15,21 @@ returns-clause-cut c = record {
   nine = λ f e. shapes-cut 1024 f _ e;
   by_2048 = λ f e. shapes-cut 2048 f _ e;
   fifteen = λ f e. shapes-cut 1024 f _ e;
+}
+
+pub returns-clause-follow : goal.returns-clause-follow
+returns-clause-follow c = record {
+  shortest = λ ps f count before len. record { some_bytes = omega arith; few_bytes = omega arith; segments = omega arith; descriptors = omega arith; most = omega arith; least = λ e. omega arith };
+  too_short = λ ps f count before len fits. let bound = fits.least refl in omega arith;
+  begun = λ ps f count before len. record { some_bytes = omega arith; few_bytes = omega arith; segments = omega arith; descriptors = omega arith; most = omega arith; least = λ e. absurd (false≢true e) };
+  nothing = λ ps f count before len fits. let bound = fits.some_bytes in omega arith;
+  full_buffer = λ ps f count before len. record { some_bytes = omega arith; few_bytes = omega arith; segments = omega arith; descriptors = omega arith; most = omega arith; least = λ e. omega arith };
+  over_full = λ ps f count before len fits. let bound = fits.few_bytes in omega arith;
+  fifteenth = λ ps f count before len. record { some_bytes = omega arith; few_bytes = omega arith; segments = omega arith; descriptors = omega arith; most = omega arith; least = λ e. omega arith };
+  too_long = λ ps f count before len fits. let bound = fits.most in omega arith;
+  sixteenth = λ ps f count before len fits. let bound = fits.segments in omega arith;
+  last_descriptor = λ ps f count before len. record { some_bytes = omega arith; few_bytes = omega arith; segments = omega arith; descriptors = omega arith; most = omega arith; least = λ e. omega arith };
+  no_descriptor = λ ps f count before len fits. let bound = fits.descriptors in omega arith;
 }
 
 pub returns-clause-receive : goal.returns-clause-receive
