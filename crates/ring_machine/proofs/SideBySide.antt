@@ -7,10 +7,10 @@ use Rattle.std.proofs.lemmas.Option.{none-some, same_Some, slice_get_within}
 use Rattle.ring_model.specs.declared.steps.RxStep.{RxStep}
 use Rattle.ring_model.specs.declared.steps.TxStep.{TxStep}
 use Rattle.ring_model.specs.declared.notes.Note.{Note}
-use Rattle.ring_model.specs.receive.Ring.{RxRing}
-use Rattle.ring_model.specs.receive.Steps.{rx_can, rx_changed, rx_next, rx_note_of}
-use Rattle.ring_model.specs.transmit.Ring.{Posting, TxRing}
-use Rattle.ring_model.specs.transmit.Steps.{tx_can, tx_changed, tx_next, tx_note_of}
+use Rattle.ring_model.specs.shared.Schedules.{next}
+use Rattle.ring_model.specs.receive.Steps.{rx_can, rx_changed, rx_note_of}
+use Rattle.ring_model.specs.transmit.Ring.{Posting}
+use Rattle.ring_model.specs.transmit.Steps.{tx_can, tx_changed, tx_note_of}
 use Rattle.ring_model.specs.Worlds.{World, can_at, note_at, put_next}
 use Rattle.ring_model.proofs.shared.Places.{slice_get-set_other}
 use Rattle.ring_model.proofs.Apart.{reaches}
@@ -87,76 +87,56 @@ module _ {A B : Type 0} (Agree : A → B → Type 0) where
   kept-set : (xs : List A) (q : ℕ) (x y : A) → slice_get xs q ≡ Some x → y ≡ x → slice_set xs q y ≡ xs
   kept-set xs q x y here e = ap (λ z. slice_set xs q z) e ∙ set_same xs q x here
 
--- the receive queues with one stepped, beside the world with that ring stepped
-stepped-receive : (old : QueueParts) (w : World) (q : ℕ) (s : RxStep ℕ) (x y : RxParts) (r : RxRing ℕ) (result : Result Note MachineError) (happens : Bool) → rx_can r s ≡ happens → slice_get old.receive q ≡ Some x → QueuesAgree old w
-    → Did RxAgrees (if happens then Some (rx_note_of r s) else None) (if happens then rx_changed r s else r) result x y
-    → Did QueuesAgree (if happens then Some (rx_note_of r s) else None) (if happens then record w { receive = slice_set w.receive q (rx_next r s) } else w) result old (record old { receive = slice_set old.receive q y })
-stepped-receive old w q s x y r result true e here a d = record {
-  answer = d.answer;
-  agrees = record { receive = rw e (set-agrees RxAgrees old.receive w.receive q y (rx_changed r s) a.receive d.agrees); transmit = a.transmit };
-  kept = λ none. absurd (none-some (rx_note_of r s) (sym none));
-}
-stepped-receive old w q s x y r result false e here a d = let same = kept-set RxAgrees old.receive q x y here (d.kept refl) in record {
-  answer = d.answer;
-  agrees = rw same (record { receive = a.receive; transmit = a.transmit });
-  kept = λ none. ap (λ (xs : List RxParts). record old { receive = xs }) same;
-}
+-- Of one direction: `parts` and `whole` put its machines and its rings beside those of the other
+module _ {Parts Ring Step : Type 0} (Agree : Parts → Ring → Type 0) (can : Ring → Step → Bool) (changed : Ring → Step → Ring) (tells : Ring → Step → Note)
+    (parts : List Parts → QueueParts) (whole : List Ring → World) (beside : (xs : List Parts) (rs : List Ring) → AllAgree Agree xs rs → QueuesAgree (parts xs) (whole rs)) where
+  -- one of them stepped, beside its ring
+  stepped : (xs : List Parts) (rs : List Ring) (q : ℕ) (s : Step) (x y : Parts) (r : Ring) (result : Result Note MachineError) (happens : Bool) → can r s ≡ happens → slice_get xs q ≡ Some x → AllAgree Agree xs rs
+      → Did Agree (if happens then Some (tells r s) else None) (if happens then changed r s else r) result x y
+      → Did QueuesAgree (if happens then Some (tells r s) else None) (if happens then whole (slice_set rs q (next can changed r s)) else whole rs) result (parts xs) (parts (slice_set xs q y))
+  stepped xs rs q s x y r result true e here a d = record {
+    answer = d.answer;
+    agrees = rw e (beside (slice_set xs q y) (slice_set rs q (changed r s)) (set-agrees Agree xs rs q y (changed r s) a d.agrees));
+    kept = λ none. absurd (none-some (tells r s) (sym none));
+  }
+  stepped xs rs q s x y r result false e here a d = let same = kept-set Agree xs q x y here (d.kept refl) in record {
+    answer = d.answer;
+    agrees = rw same (beside xs rs a);
+    kept = λ none. ap parts same;
+  }
 
-put-receive : (old : QueueParts) (w : World) (q : ℕ) (s : RxStep ℕ) (x y : RxParts) (result : Result Note MachineError) (found : Option (RxRing ℕ)) → slice_get w.receive q ≡ found → slice_get old.receive q ≡ Some x → QueuesAgree old w
-    → ((r : RxRing ℕ) → found ≡ Some r → Did RxAgrees (if rx_can r s then Some (rx_note_of r s) else None) (rx_next r s) result x y)
-    → Did QueuesAgree (note_at rx_can rx_note_of found s) (if can_at rx_can found s then record w { receive = put_next rx_next w.receive q s found } else w) result old (record old { receive = slice_set old.receive q y })
-put-receive old w q s x y result None e here a did = let inside = slice_get_within old.receive q x here in let b = a.receive in let l = b.lengths in absurd (found-within w.receive q (omega arith) e)
-put-receive old w q s x y result (Some r) e here a did = stepped-receive old w q s x y r result (rx_can r s) refl here a (did r refl)
+  put-one : (xs : List Parts) (rs : List Ring) (q : ℕ) (s : Step) (x y : Parts) (result : Result Note MachineError) (found : Option Ring) → slice_get rs q ≡ found → slice_get xs q ≡ Some x → AllAgree Agree xs rs
+      → ((r : Ring) → found ≡ Some r → Did Agree (if can r s then Some (tells r s) else None) (next can changed r s) result x y)
+      → Did QueuesAgree (note_at can tells found s) (if can_at can found s then whole (put_next (next can changed) rs q s found) else whole rs) result (parts xs) (parts (slice_set xs q y))
+  put-one xs rs q s x y result None e here a did = let inside = slice_get_within xs q x here in let l = a.lengths in absurd (found-within rs q (omega arith) e)
+  put-one xs rs q s x y result (Some r) e here a did = stepped xs rs q s x y r result (can r s) refl here a (did r refl)
+
+  -- a queue that is not there has no step
+  missing-one : (xs : List Parts) (rs : List Ring) (q : ℕ) (s : Step) (found : Option Ring) → slice_get rs q ≡ found → length xs ≤ q → AllAgree Agree xs rs
+      → Did QueuesAgree (note_at can tells found s) (if can_at can found s then whole (put_next (next can changed) rs q s found) else whole rs) (Err refusal.NotEnabled) (parts xs) (parts xs)
+  missing-one xs rs q s None e past a = record { answer = refl; agrees = beside xs rs a; kept = λ none. refl }
+  missing-one xs rs q s (Some r) e past a = let inside = slice_get_within rs q r e in let l = a.lengths in absurd (omega arith)
 
 pub receive-follows : (old : QueueParts) (q : ℕ) (s : RxStep ℕ) (x y : RxParts) (result : Result Note MachineError) → slice_get old.receive q ≡ Some x → RxFollows x s result y
     → QueuesFollow old (Receive q s) result (record old { receive = slice_set old.receive q y })
 unfolding RxFollows QueuesFollow
-receive-follows old q s x y result here follows pairs n w e a = let b = a.receive in put-receive old w q s x y result (slice_get w.receive q) refl here a
-    (λ r at. follows n r ((reaches pairs n w e).receive q r at) (b.each q x r here at))
-
--- a queue that is not there has no step
-no-receive : (old : QueueParts) (w : World) (q : ℕ) (s : RxStep ℕ) (found : Option (RxRing ℕ)) → slice_get w.receive q ≡ found → length old.receive ≤ q → QueuesAgree old w
-    → Did QueuesAgree (note_at rx_can rx_note_of found s) (if can_at rx_can found s then record w { receive = put_next rx_next w.receive q s found } else w) (Err refusal.NotEnabled) old old
-no-receive old w q s None e past a = record { answer = refl; agrees = a; kept = λ none. refl }
-no-receive old w q s (Some r) e past a = let inside = slice_get_within w.receive q r e in let b = a.receive in let l = b.lengths in absurd (omega arith)
+receive-follows old q s x y result here follows pairs n w e a = let b = a.receive in
+    put-one RxAgrees rx_can rx_changed rx_note_of (λ xs. record old { receive = xs }) (λ rs. record w { receive = rs }) (λ xs rs all. record { receive = all; transmit = a.transmit })
+    old.receive w.receive q s x y result (slice_get w.receive q) refl here b (λ r at. follows n r ((reaches pairs n w e).receive q r at) (b.each q x r here at))
 
 pub receive-missing : (old : QueueParts) (q : ℕ) (s : RxStep ℕ) → length old.receive ≤ q → QueuesFollow old (Receive q s) (Err refusal.NotEnabled) old
 unfolding QueuesFollow
-receive-missing old q s past pairs n w e a = no-receive old w q s (slice_get w.receive q) refl past a
-
--- the transmit queues with one stepped, beside the world with that ring stepped
-stepped-transmit : (old : QueueParts) (w : World) (q : ℕ) (s : TxStep (Posting ℕ)) (x y : TxParts) (r : TxRing ℕ) (result : Result Note MachineError) (happens : Bool) → tx_can r s ≡ happens → slice_get old.transmit q ≡ Some x → QueuesAgree old w
-    → Did TxAgrees (if happens then Some (tx_note_of r s) else None) (if happens then tx_changed r s else r) result x y
-    → Did QueuesAgree (if happens then Some (tx_note_of r s) else None) (if happens then record w { transmit = slice_set w.transmit q (tx_next r s) } else w) result old (record old { transmit = slice_set old.transmit q y })
-stepped-transmit old w q s x y r result true e here a d = record {
-  answer = d.answer;
-  agrees = record { receive = a.receive; transmit = rw e (set-agrees TxAgrees old.transmit w.transmit q y (tx_changed r s) a.transmit d.agrees) };
-  kept = λ none. absurd (none-some (tx_note_of r s) (sym none));
-}
-stepped-transmit old w q s x y r result false e here a d = let same = kept-set TxAgrees old.transmit q x y here (d.kept refl) in record {
-  answer = d.answer;
-  agrees = rw same (record { receive = a.receive; transmit = a.transmit });
-  kept = λ none. ap (λ (xs : List TxParts). record old { transmit = xs }) same;
-}
-
-put-transmit : (old : QueueParts) (w : World) (q : ℕ) (s : TxStep (Posting ℕ)) (x y : TxParts) (result : Result Note MachineError) (found : Option (TxRing ℕ)) → slice_get w.transmit q ≡ found → slice_get old.transmit q ≡ Some x → QueuesAgree old w
-    → ((r : TxRing ℕ) → found ≡ Some r → Did TxAgrees (if tx_can r s then Some (tx_note_of r s) else None) (tx_next r s) result x y)
-    → Did QueuesAgree (note_at tx_can tx_note_of found s) (if can_at tx_can found s then record w { transmit = put_next tx_next w.transmit q s found } else w) result old (record old { transmit = slice_set old.transmit q y })
-put-transmit old w q s x y result None e here a did = let inside = slice_get_within old.transmit q x here in let b = a.transmit in let l = b.lengths in absurd (found-within w.transmit q (omega arith) e)
-put-transmit old w q s x y result (Some r) e here a did = stepped-transmit old w q s x y r result (tx_can r s) refl here a (did r refl)
+receive-missing old q s past pairs n w e a = missing-one RxAgrees rx_can rx_changed rx_note_of (λ xs. record old { receive = xs }) (λ rs. record w { receive = rs }) (λ xs rs all. record { receive = all; transmit = a.transmit })
+    old.receive w.receive q s (slice_get w.receive q) refl past a.receive
 
 pub transmit-follows : (old : QueueParts) (q : ℕ) (s : TxStep (Posting ℕ)) (x y : TxParts) (result : Result Note MachineError) → slice_get old.transmit q ≡ Some x → TxFollows x s result y
     → QueuesFollow old (Transmit q s) result (record old { transmit = slice_set old.transmit q y })
 unfolding TxFollows QueuesFollow
-transmit-follows old q s x y result here follows pairs n w e a = let b = a.transmit in put-transmit old w q s x y result (slice_get w.transmit q) refl here a
-    (λ r at. follows n r ((reaches pairs n w e).transmit q r at) (b.each q x r here at))
-
--- a queue that is not there has no step
-no-transmit : (old : QueueParts) (w : World) (q : ℕ) (s : TxStep (Posting ℕ)) (found : Option (TxRing ℕ)) → slice_get w.transmit q ≡ found → length old.transmit ≤ q → QueuesAgree old w
-    → Did QueuesAgree (note_at tx_can tx_note_of found s) (if can_at tx_can found s then record w { transmit = put_next tx_next w.transmit q s found } else w) (Err refusal.NotEnabled) old old
-no-transmit old w q s None e past a = record { answer = refl; agrees = a; kept = λ none. refl }
-no-transmit old w q s (Some r) e past a = let inside = slice_get_within w.transmit q r e in let b = a.transmit in let l = b.lengths in absurd (omega arith)
+transmit-follows old q s x y result here follows pairs n w e a = let b = a.transmit in
+    put-one TxAgrees tx_can tx_changed tx_note_of (λ xs. record old { transmit = xs }) (λ rs. record w { transmit = rs }) (λ xs rs all. record { receive = a.receive; transmit = all })
+    old.transmit w.transmit q s x y result (slice_get w.transmit q) refl here b (λ r at. follows n r ((reaches pairs n w e).transmit q r at) (b.each q x r here at))
 
 pub transmit-missing : (old : QueueParts) (q : ℕ) (s : TxStep (Posting ℕ)) → length old.transmit ≤ q → QueuesFollow old (Transmit q s) (Err refusal.NotEnabled) old
 unfolding QueuesFollow
-transmit-missing old q s past pairs n w e a = no-transmit old w q s (slice_get w.transmit q) refl past a
+transmit-missing old q s past pairs n w e a = missing-one TxAgrees tx_can tx_changed tx_note_of (λ xs. record old { transmit = xs }) (λ rs. record w { transmit = rs }) (λ xs rs all. record { receive = a.receive; transmit = all })
+    old.transmit w.transmit q s (slice_get w.transmit q) refl past a.transmit

@@ -130,48 +130,38 @@ impl Queues {
     fn receive_step(
         &mut self,
         queue: QueueNumber,
-        step: &RxStep<SegmentLength>,
+        step: RxStep<SegmentLength>,
     ) -> Result<Note, MachineError>
-        ensures follows { QueuesFollow self.old (queue_move.Receive queue step.now) result self.new }
+        ensures follows { QueuesFollow self.old (queue_move.Receive queue step) result self.new }
         ensures refused { IfErr result (λ e. (e ≡ NotEnabled) × (self.new ≡ self.old)) }
     {
         let Some(machine) = self.receive.get_mut(usize::from(queue.number())) else {
             return Err(MachineError::NotEnabled);
         };
-        machine.step_by(step)
+        machine.step(step)
     }
 
     // The step of a transmit queue, or 11 where it does not have it or is not there.
     fn transmit_step(
         &mut self,
         queue: QueueNumber,
-        step: &TxStep<Descriptor>,
+        step: TxStep<Descriptor>,
     ) -> Result<Note, MachineError>
-        ensures follows { QueuesFollow self.old (queue_move.Transmit queue step.now) result self.new }
+        ensures follows { QueuesFollow self.old (queue_move.Transmit queue step) result self.new }
         ensures refused { IfErr result (λ e. (e ≡ NotEnabled) × (self.new ≡ self.old)) }
     {
         let Some(machine) = self.transmit.get_mut(usize::from(queue.number())) else {
             return Err(MachineError::NotEnabled);
         };
-        machine.step_by(step)
-    }
-
-    fn step_by(&mut self, action: &Move) -> Result<Note, MachineError>
-        ensures follows { QueuesFollow self.old action.now result self.new }
-        ensures refused { IfErr result (λ e. (e ≡ NotEnabled) × (self.new ≡ self.old)) }
-    {
-        match action {
-            Move::Receive(queue, step) => self.receive_step(*queue, step),
-            Move::Transmit(queue, step) => self.transmit_step(*queue, step),
-        }
+        machine.step(step)
     }
 
     // How many moves of this one are made: one or none.
-    fn tried(&mut self, action: &Move) -> usize
-        ensures runs { QueuesRun self.old (action.now ∷ []) result self.new }
+    fn tried(&mut self, action: Move) -> usize
+        ensures runs { QueuesRun self.old (action ∷ []) result self.new }
         ensures one { result ≤ 1 }
     {
-        match self.step_by(action) {
+        match self.step(action) {
             Ok(_) => 1,
             Err(_) => 0,
         }
@@ -183,7 +173,10 @@ impl Queues {
         ensures follows { QueuesFollow self.old action result self.new }
         ensures refused { IfErr result (λ e. (e ≡ NotEnabled) × (self.new ≡ self.old)) }
     {
-        self.step_by(&action)
+        match action {
+            Move::Receive(queue, step) => self.receive_step(queue, step),
+            Move::Transmit(queue, step) => self.transmit_step(queue, step),
+        }
     }
 
     /// Makes each move that its queue has when its turn comes, passes over the others, and answers how many it made.
@@ -192,7 +185,7 @@ impl Queues {
     {
         let mut made = 0;
         for action in moves {
-            made += self.tried(action);
+            made += self.tried(*action);
         }
         made
     }

@@ -62,8 +62,8 @@ module _ (p : RxParts) (r : RxRing ℕ) (k : IsRxKept ℕ r.size r) (a : RxAgree
 
   pub rx_fits-moved : (s : RxStep ℕ) → rx_can r s ≡ true → RxAgrees (rx_moved p s) (rx_changed r s)
   rx_fits-moved (Post b) e = rests (rx_moved p (Post b)).queue (by r.queue (queue.Post b)) (fit.fits-post ends_segment says_rx lies_rx p.queue r.queue k.queue a.queue sound b b 0 e refl refl)
-  rx_fits-moved Publish e = rests (rx_moved p Publish).queue (by r.queue queue.Publish) (fit.fits-publish ends_segment says_rx lies_rx p.queue r.queue k.queue a.queue sound)
-  rx_fits-moved Look e = rests (rx_moved p Look).queue (by r.queue queue.Look) (fit.fits-look ends_segment says_rx lies_rx p.queue r.queue k.queue a.queue sound)
+  rx_fits-moved Publish e = rests (rx_moved p Publish).queue (by r.queue queue.Publish) (shake.fits-publish ends_segment says_rx lies_rx p.queue r.queue k.queue a.queue)
+  rx_fits-moved Look e = rests (rx_moved p Look).queue (by r.queue queue.Look) (shake.fits-look ends_segment says_rx lies_rx p.queue r.queue k.queue a.queue)
   rx_fits-moved Fetch e = moves-fetch e
   rx_fits-moved (Store x eop) e = moves-store x eop e
   rx_fits-moved Take e = moves-due (due r) refl e

@@ -1,13 +1,13 @@
 -- Each step that both directions share takes a machine's queue to one that agrees with the queue after the step.
-use Rattle.std.proofs.Common.{◌≡◌, ◌≢◌, ℕ, ◌+◌, ◌-◌, ◌%◌, ◌<◌, ◌≤◌, Bool, true, false, not, ◌&&◌, [], ◌∷◌, ◌++◌, length, Option, Some, None, sym, refl, ap, ◌∙◌, subst, arith, if◌then◌else◌, mod-lt, length-append}
+use Rattle.std.proofs.Common.{List, ◌≡◌, ◌≢◌, ℕ, ◌+◌, ◌-◌, ◌%◌, ◌<◌, ◌≤◌, Bool, true, false, not, ◌&&◌, [], ◌∷◌, ◌++◌, length, Option, Some, None, sym, refl, ap, ◌∙◌, subst, arith, if◌then◌else◌, mod-lt, length-append}
 use Rattle.std.specs.Prelude.{slice_get, slice_index, slice_set, ◌==◌, nat_lt}
 use Rattle.std.proofs.lemmas.Bool.{and_parts, and_left, and_right, not-true, ltb-true, eq-eqb, ne_eqb}
 use Rattle.ring_model.specs.declared.states.Owner.{Owner}
 use Rattle.ring_model.specs.declared.states.Owner.TheVariants.{Driver, Ring, Controller}
 use Rattle.ring_model.specs.shared.Lists.{EachItem, slot_at}
 use Rattle.ring_model.specs.shared.Handshakes.{is_open, is_live, is_serving, is_ended, is_stopped}
-use Rattle.ring_model.specs.shared.QueueSteps.{Post, Publish, Look, Fetch, Serve, Give, Reclaim}
-use Rattle.ring_model.specs.shared.Queue.{Queue, posted_count, served_count, given_count, returned_count, may, by}
+use Rattle.ring_model.specs.shared.QueueSteps.{Post, Fetch, Serve, Give, Reclaim}
+use Rattle.ring_model.specs.shared.Queue.{Queue, posted_count, served_count, given_count, returned_count, passed_to, may, by}
 use Rattle.ring_model.specs.shared.Agreement.{Agrees, HasItems, Wrapped, wanted_slot, wanted_word}
 use Rattle.ring_model.proofs.shared.Beginnings.{slice_get-front}
 use Rattle.ring_model.proofs.shared.Places.{Writes, next_place, each_item-set, each_item-push, each_item-drop}
@@ -15,7 +15,7 @@ use Rattle.ring_model.proofs.shared.Kept.{IsKept}
 use Rattle.ring_model.proofs.shared.Shakes.{live_unanswered, serving_unended}
 use Rattle.ring_model.proofs.shared.Stepping.{held_below, returned_served}
 use Rattle.ring_machine.specs.shared.Machine.{IsSound}
-use Rattle.ring_machine.specs.shared.Moves.{place_next, word_put, after_post, after_publish, after_look, after_fetch, after_serve, after_out}
+use Rattle.ring_machine.specs.shared.Moves.{place_next, word_put, after_post, after_fetch, after_serve, after_out}
 use Rattle.ring_machine.proofs.shared.Snoc.{snoc_end, snoc_rest, past_end, ends_frame-snoc}
 use Rattle.ring_machine.proofs.shared.Slots.{slot-writes, put-writes, put-here, empty-write, none_to-ring}
 
@@ -90,38 +90,6 @@ module _ {Posted Served Given : Type 0} (ends : Served → Bool) (says : ℕ →
       serve = a.serve;
       known = a.known;
       held = a.held ∙ held_post x q.held refl;
-      whole = a.whole;
-      handshake = a.handshake;
-    }
-
-    pub fits-publish : Agrees {Given = Given} ends says lies (after_publish w) (by q Publish)
-    fits-publish = let i = a.items in record {
-      size_is = a.size_is;
-      head = a.head;
-      tail = a.fill;
-      items = record { words = i.words; slots = i.slots };
-      empty = a.empty;
-      fill = a.fill;
-      next = a.next;
-      serve = a.serve;
-      known = a.known;
-      held = a.held;
-      whole = a.whole;
-      handshake = a.handshake;
-    }
-
-    pub fits-look : Agrees {Given = Given} ends says lies (after_look w) (by q Look)
-    fits-look = let i = a.items in record {
-      size_is = a.size_is;
-      head = a.head;
-      tail = a.tail;
-      items = record { words = i.words; slots = i.slots };
-      empty = a.empty;
-      fill = a.fill;
-      next = a.next;
-      serve = a.serve;
-      known = λ e. a.tail;
-      held = a.held;
       whole = a.whole;
       handshake = a.handshake;
     }
@@ -215,49 +183,38 @@ module _ {Posted Served Given : Type 0} (ends : Served → Bool) (says : ℕ →
     out-slots more = let i = a.items in let s = slot-writes_at (returned_count q) w.next None a.next in
         each_item-drop q.size (returned_count q) (posted_count q) (slot_at w.slots) (slot_at (slice_set w.slots w.next None)) (wanted_slot {Given = Given} says lies q) pos within more s.rest i.slots
 
+    -- with these given back, and so many reclaimed
+    fits-out : (given : List Given) (reclaimed i : ℕ) (word : Option ℕ) (b : ℕ) → returned_count q < posted_count q → returned_count q + 1 ≡ length given + reclaimed → i ≡ returned_count q
+        → Agrees {Given = Given} ends says lies (after_out w word (Some b)) (record q { ledger = record q.ledger { given = given }; owners = passed_to Driver q i; reclaimed = reclaimed })
+    fits-out given reclaimed i word b more after at = record {
+      size_is = a.size_is;
+      head = a.head;
+      tail = a.tail;
+      items = record {
+        words = subst (λ (d : ℕ). EachItem q.size d (posted_count q) (slice_index (word_put w.words w.next word)) (wanted_word {Given = Given} says lies q)) after (out-words word more);
+        slots = subst (λ (d : ℕ). EachItem q.size d (posted_count q) (slot_at (slice_set w.slots w.next None)) (wanted_slot {Given = Given} says lies q)) after (out-slots more);
+      };
+      empty = empty_at i w.next Driver None (a.next ∙ ap (λ (j : ℕ). j % q.size) (sym at)) (λ e. refl);
+      fill = a.fill;
+      next = moved_on w.next (returned_count q) a.next ∙ ap (λ (j : ℕ). j % q.size) after;
+      serve = a.serve;
+      known = a.known;
+      held = a.held;
+      whole = a.whole;
+      handshake = a.handshake;
+    }
+
     fits-given : (x : Given) (word : Option ℕ) (b : ℕ) → may q (Give x) ≡ true → Agrees {Given = Given} ends says lies (after_out w word (Some b)) (by q (Give x))
     fits-given x word b may = let t = and_parts (is_live q.handshake.driver) (nat_lt (given_count q) (served_count q)) may in let less = ltb-true (given_count q) (served_count q) t.1 in let o = k.order in
         let none = o.not_reclaimed (live_unanswered q.handshake.driver t.0) in let below = o.served_posted in let len = length-append q.ledger.given (x ∷ []) in
-        let after : returned_count q + 1 ≡ length (q.ledger.given ++ x ∷ []) + q.reclaimed = omega arith in let same : returned_count q ≡ given_count q = omega arith in record {
-          size_is = a.size_is;
-          head = a.head;
-          tail = a.tail;
-          items = record {
-            words = subst (λ (d : ℕ). EachItem q.size d (posted_count q) (slice_index (word_put w.words w.next word)) (wanted_word {Given = Given} says lies q)) after (out-words word (omega arith));
-            slots = subst (λ (d : ℕ). EachItem q.size d (posted_count q) (slot_at (slice_set w.slots w.next None)) (wanted_slot {Given = Given} says lies q)) after (out-slots (omega arith));
-          };
-          empty = empty_at (given_count q) w.next Driver None (a.next ∙ ap (λ (j : ℕ). j % q.size) same) (λ e. refl);
-          fill = a.fill;
-          next = moved_on w.next (returned_count q) a.next ∙ ap (λ (j : ℕ). j % q.size) after;
-          serve = a.serve;
-          known = a.known;
-          held = a.held;
-          whole = a.whole;
-          handshake = a.handshake;
-        }
+        fits-out (q.ledger.given ++ x ∷ []) q.reclaimed (given_count q) word b (omega arith) (omega arith) (omega arith)
 
     pub fits-give : (x : Given) (word : Option ℕ) (b : ℕ) → may q (Give x) ≡ true → slot_at w.slots w.next ≡ Some b → Agrees {Given = Given} ends says lies (after_out w word (slot_at w.slots w.next)) (by q (Give x))
     fits-give x word b may e = subst (λ (o : Option ℕ). Agrees {Given = Given} ends says lies (after_out w word o) (by q (Give x))) (sym e) (fits-given x word b may)
 
     fits-reclaimed : (word : Option ℕ) (b : ℕ) → may q Reclaim ≡ true → Agrees {Given = Given} ends says lies (after_out w word (Some b)) (by q Reclaim)
-    fits-reclaimed word b may = let t = and_parts (is_stopped q.handshake.driver) (nat_lt (returned_count q) (posted_count q)) may in let more = ltb-true (returned_count q) (posted_count q) t.1 in
-        let after : returned_count q + 1 ≡ given_count q + (q.reclaimed + 1) = omega arith in record {
-          size_is = a.size_is;
-          head = a.head;
-          tail = a.tail;
-          items = record {
-            words = subst (λ (d : ℕ). EachItem q.size d (posted_count q) (slice_index (word_put w.words w.next word)) (wanted_word {Given = Given} says lies q)) after (out-words word more);
-            slots = subst (λ (d : ℕ). EachItem q.size d (posted_count q) (slot_at (slice_set w.slots w.next None)) (wanted_slot {Given = Given} says lies q)) after (out-slots more);
-          };
-          empty = empty_at (returned_count q) w.next Driver None a.next (λ e. refl);
-          fill = a.fill;
-          next = moved_on w.next (returned_count q) a.next ∙ ap (λ (j : ℕ). j % q.size) after;
-          serve = a.serve;
-          known = a.known;
-          held = a.held;
-          whole = a.whole;
-          handshake = a.handshake;
-        }
+    fits-reclaimed word b may = let t = and_parts (is_stopped q.handshake.driver) (nat_lt (returned_count q) (posted_count q)) may in
+        fits-out q.ledger.given (q.reclaimed + 1) (returned_count q) word b (ltb-true (returned_count q) (posted_count q) t.1) (omega arith) refl
 
     pub fits-reclaim : (word : Option ℕ) (b : ℕ) → may q Reclaim ≡ true → slot_at w.slots w.next ≡ Some b → Agrees {Given = Given} ends says lies (after_out w word (slot_at w.slots w.next)) (by q Reclaim)
     fits-reclaim word b may e = subst (λ (o : Option ℕ). Agrees {Given = Given} ends says lies (after_out w word o) (by q Reclaim)) (sym e) (fits-reclaimed word b may)

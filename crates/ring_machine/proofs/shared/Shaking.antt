@@ -1,4 +1,4 @@
--- The head, the handshake, clearing and renewal take a machine's queue to one that agrees with the queue after the step; and so does the making.
+-- Tail and head, the handshake, clearing and renewal take a machine's queue to one that agrees with the queue after the step; and so does the making.
 use Rattle.std.proofs.Common.{◌≡◌, ℕ, ◌%◌, ◌<◌, Bool, true, false, not, ◌&&◌, ◌||◌, [], Option, None, sym, refl, ap, ◌∙◌, ⊎_elim, subst, arith, if◌then◌else◌, mod-eq_of_lt}
 use Rattle.std.specs.Prelude.{slice_get, ◌==◌}
 use Rattle.std.proofs.lemmas.Bool.{both_ways, and_parts, and_from, and_left, and_right, not-true, not_from_false, eqb-true, or_cases, true≢false}
@@ -7,13 +7,13 @@ use Rattle.ring_model.specs.declared.handshake.Handshake.{Handshake}
 use Rattle.ring_model.specs.declared.steps.ControlStep.{ControlStep}
 use Rattle.ring_model.specs.declared.steps.ControlStep.TheVariants.{AskEnable, LookAsked, Answer, LookAnswered, AskDisable}
 use Rattle.ring_model.specs.shared.Handshakes.{is_open, is_serving, is_ended, is_stopped, is_between, ask_enable, look_asked, look_answered, ask_disable, can_enable, can_disable, enable, disable, enables, may_shake, shaken}
-use Rattle.ring_model.specs.shared.QueueSteps.{Head, Shake, ClearHead, ClearTail, Renew}
+use Rattle.ring_model.specs.shared.QueueSteps.{Publish, Look, Head, Shake, ClearHead, ClearTail, Renew}
 use Rattle.ring_model.specs.shared.Queue.{Queue, opening, posted_count, served_count, returned_count, may, by}
 use Rattle.ring_model.specs.shared.Agreement.{Agrees, Wrapped}
 use Rattle.ring_model.proofs.shared.Kept.{IsKept}
 use Rattle.ring_model.proofs.shared.Shakes.{new_open, on_serving, stopped_answered, answered_closed, emptied_answered, cleared_emptied, tailed_emptied, shakes-enable, learned_open, serving_unended}
 use Rattle.ring_model.proofs.shared.Stepping.{shook, answered_unheld, answered_over}
-use Rattle.ring_machine.specs.shared.Moves.{after_shake, after_clear_head, after_clear_tail, after_head, after_renew, begun}
+use Rattle.ring_machine.specs.shared.Moves.{after_shake, after_clear_head, after_clear_tail, after_head, after_look, after_publish, after_renew, begun}
 use Rattle.ring_machine.proofs.shared.Slots.{empty-begun}
 
 module _ {Posted Served Given : Type 0} (ends : Served → Bool) (says : ℕ → Option Posted → Option Served → ℕ) (lies : Option Posted → Option Served → Option ℕ) where
@@ -21,13 +21,14 @@ module _ {Posted Served Given : Type 0} (ends : Served → Bool) (says : ℕ →
     pos : 0 < q.size
     pos = let some = k.places in omega arith
 
-    -- a step of the handshake leaves words and slots
-    fits-shaken : (serve known last : ℕ) (h g : Handshake) → h ≡ g → (is_between g ≡ false → serve ≡ served_count q % q.size) → (is_between g ≡ false → known ≡ last % q.size)
-        → Agrees {Given = Given} ends says lies (record w { serve = serve; known = known; handshake = h }) (record q { known = last; handshake = g })
-    fits-shaken serve known last h g e serves knows = let i = a.items in record {
+    -- a step that leaves words and slots, the driver's places and what is held
+    fits-left : (head tail serve known : ℕ) (h : Handshake) (stored published last : ℕ) (g : Handshake) → head ≡ stored → tail ≡ published % q.size
+        → (is_between g ≡ false → serve ≡ served_count q % q.size) → (is_between g ≡ false → known ≡ last % q.size) → h ≡ g
+        → Agrees {Given = Given} ends says lies (record w { head = head; tail = tail; serve = serve; known = known; handshake = h }) (record q { published = published; known = last; head = stored; handshake = g })
+    fits-left head tail serve known h stored published last g heads tails serves knows shakes = let i = a.items in record {
       size_is = a.size_is;
-      head = a.head;
-      tail = a.tail;
+      head = heads;
+      tail = tails;
       items = record { words = i.words; slots = i.slots };
       empty = a.empty;
       fill = a.fill;
@@ -36,38 +37,32 @@ module _ {Posted Served Given : Type 0} (ends : Served → Bool) (says : ℕ →
       known = knows;
       held = a.held;
       whole = a.whole;
-      handshake = e;
+      handshake = shakes;
     }
+
+    pub fits-publish : Agrees {Given = Given} ends says lies (after_publish w) (by q Publish)
+    fits-publish = fits-left w.head w.fill w.serve w.known w.handshake q.head (posted_count q) q.known q.handshake a.head a.fill a.serve a.known a.handshake
+
+    pub fits-look : Agrees {Given = Given} ends says lies (after_look w) (by q Look)
+    fits-look = fits-left w.head w.tail w.serve w.tail w.handshake q.head q.published q.published q.handshake a.head a.tail a.serve (λ e. a.tail) a.handshake
 
     -- the places stay where both sides agreed on them before
     fits-changed : (g : Handshake) → (is_between g ≡ false → is_between q.handshake ≡ false) → Agrees {Given = Given} ends says lies (record w { handshake = g }) (record q { handshake = g })
-    fits-changed g off = fits-shaken w.serve w.known q.known g g refl (λ e. a.serve (off e)) (λ e. a.known (off e))
+    fits-changed g off = fits-left w.head w.tail w.serve w.known g q.head q.published q.known g a.head a.tail (λ e. a.serve (off e)) (λ e. a.known (off e)) refl
 
     unbetween : is_serving q.handshake.controller ≡ true → is_between q.handshake ≡ false
     unbetween serving = and_left (is_ended q.handshake.controller) (is_open q.handshake.driver) (serving_unended q.handshake.controller serving)
 
     pub fits-head : may q Head ≡ true → Agrees {Given = Given} ends says lies (after_head w) (by q Head)
-    fits-head may = let t = and_parts (is_serving q.handshake.controller) (not q.held) may in let i = a.items in record {
-      size_is = a.size_is;
-      head = a.serve (unbetween t.0);
-      tail = a.tail;
-      items = record { words = i.words; slots = i.slots };
-      empty = a.empty;
-      fill = a.fill;
-      next = a.next;
-      serve = a.serve;
-      known = a.known;
-      held = a.held;
-      whole = a.whole;
-      handshake = a.handshake;
-    }
+    fits-head may = let t = and_parts (is_serving q.handshake.controller) (not q.held) may in
+        fits-left w.serve w.tail w.serve w.known w.handshake (served_count q % q.size) q.published q.known q.handshake (a.serve (unbetween t.0)) a.tail a.serve a.known a.handshake
 
     fits-answered : (on settled : Bool) → can_enable q.handshake ≡ on → (can_enable q.handshake || (can_disable q.handshake && settled)) ≡ true
         → Agrees {Given = Given} ends says lies (record w { serve = if on then 0 else w.serve; known = if on then 0 else w.known; handshake = if on then enable q.handshake else disable q.handshake })
         (record q { known = if on then 0 else q.known; handshake = if on then enable q.handshake else disable q.handshake })
     fits-answered true settled e may = let h = q.handshake in let t = and_parts (h.seen == 1) (not (is_serving h.controller)) e in let o = k.order in
         let s = shakes-enable h.driver h.controller h.control h.seen (eqb-true h.seen 1 t.0) (shook q.size ends q k) in let none = o.none_served (not-true (is_serving h.controller) t.1) s.1 in
-        fits-shaken 0 0 0 (enable h) (enable h) refl (λ e. sym (ap (λ (j : ℕ). j % q.size) none ∙ mod-eq_of_lt pos)) (λ e. sym (mod-eq_of_lt pos))
+        fits-left w.head w.tail 0 0 (enable h) q.head q.published 0 (enable h) a.head a.tail (λ e. sym (ap (λ (j : ℕ). j % q.size) none ∙ mod-eq_of_lt pos)) (λ e. sym (mod-eq_of_lt pos)) refl
     fits-answered false settled e may = let h = q.handshake in
         let t = ⊎_elim (λ t. absurd (both_ways (can_enable h) e t)) (λ t. t) (or_cases (can_enable h) (can_disable h && settled) may) in
         let u = and_parts (can_disable h) settled t in let v = and_parts (h.seen == 3) (is_serving h.controller) u.0 in
@@ -86,38 +81,14 @@ module _ {Posted Served Given : Type 0} (ends : Served → Bool) (says : ℕ →
         (sym a.handshake) (fits-control c settled may)
 
     pub fits-clear_head : may q ClearHead ≡ true → Agrees {Given = Given} ends says lies (after_clear_head w) (by q ClearHead)
-    fits-clear_head may = let h = q.handshake in let t = and_parts (is_stopped h.driver) (returned_count q == posted_count q) may in let i = a.items in
-        let off = and_right (is_ended h.controller) (is_open h.driver) (answered_closed h.driver (stopped_answered h.driver t.0)) in record {
-          size_is = a.size_is;
-          head = refl;
-          tail = a.tail;
-          items = record { words = i.words; slots = i.slots };
-          empty = a.empty;
-          fill = a.fill;
-          next = a.next;
-          serve = λ e. a.serve off;
-          known = λ e. a.known off;
-          held = a.held;
-          whole = a.whole;
-          handshake = ap (λ (g : Handshake). record g { driver = Cleared }) a.handshake;
-        }
+    fits-clear_head may = let h = q.handshake in let t = and_parts (is_stopped h.driver) (returned_count q == posted_count q) may in
+        let off = and_right (is_ended h.controller) (is_open h.driver) (answered_closed h.driver (stopped_answered h.driver t.0)) in
+        fits-left 0 w.tail w.serve w.known (record w.handshake { driver = Cleared }) 0 q.published q.known (record h { driver = Cleared }) refl a.tail (λ e. a.serve off) (λ e. a.known off) (ap (λ (g : Handshake). record g { driver = Cleared }) a.handshake)
 
     pub fits-clear_tail : may q ClearTail ≡ true → Agrees {Given = Given} ends says lies (after_clear_tail w) (by q ClearTail)
-    fits-clear_tail may = let h = q.handshake in let i = a.items in
-        let off = and_right (is_ended h.controller) (is_open h.driver) (answered_closed h.driver (emptied_answered h.driver (cleared_emptied h.driver may))) in record {
-          size_is = a.size_is;
-          head = a.head;
-          tail = sym (mod-eq_of_lt pos);
-          items = record { words = i.words; slots = i.slots };
-          empty = a.empty;
-          fill = a.fill;
-          next = a.next;
-          serve = λ e. a.serve off;
-          known = λ e. a.known off;
-          held = a.held;
-          whole = a.whole;
-          handshake = ap (λ (g : Handshake). record g { driver = Tailed }) a.handshake;
-        }
+    fits-clear_tail may = let h = q.handshake in
+        let off = and_right (is_ended h.controller) (is_open h.driver) (answered_closed h.driver (emptied_answered h.driver (cleared_emptied h.driver may))) in
+        fits-left w.head 0 w.serve w.known (record w.handshake { driver = Tailed }) q.head 0 q.known (record h { driver = Tailed }) a.head (sym (mod-eq_of_lt pos)) (λ e. a.serve off) (λ e. a.known off) (ap (λ (g : Handshake). record g { driver = Tailed }) a.handshake)
 
     held_anew : (holds : Bool) (o p : Option ℕ) → holds ≡ false → (if holds then o else None) ≡ (if holds then p else None)
     held_anew true o p e = absurd (true≢false e)

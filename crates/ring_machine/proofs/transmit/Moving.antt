@@ -9,6 +9,7 @@ use Rattle.ring_model.specs.declared.steps.TxStep.{TxStep}
 use Rattle.ring_model.specs.declared.steps.TxStep.TheVariants.{Post, Publish, Look, Fetch, Send, Report, LoadReport, Clean, Control, Reclaim, ClearHead, ClearTail, ClearReport}
 use Rattle.ring_model.specs.shared.Handshakes.{enables, is_live, is_serving, is_tailed}
 use Rattle.ring_model.specs.shared.QueueSteps as queue
+use Rattle.ring_model.specs.shared.Lists.{EachItem}
 use Rattle.ring_model.specs.shared.Queue.{served_count, posted_count, returned_count, by}
 use Rattle.ring_model.specs.shared.Agreement.{Agrees, Wrapped, wanted_word}
 use Rattle.ring_model.specs.transmit.Ring.{Posting, TxQueue, TxRing, ends_posting, next_posting, next_sent}
@@ -132,6 +133,24 @@ module _ (p : TxParts) (r : TxRing ℕ) (k : IsTxKept ℕ r.size r) (a : TxAgree
   abbrev made : TxRing ℕ
   made = record r { reported = served_count r.queue; owed = false }
 
+  -- the same queue, whose words tell of other reports
+  resaid : (words : List ℕ) (told : ℕ → Bool) → EachItem r.size (returned_count r.queue) (posted_count r.queue) (slice_index words) (wanted_word {Given = ℕ} (says_tx told) lies_tx r.queue)
+      → Agrees {Given = ℕ} ends_posting (says_tx told) lies_tx (record p.queue { words = words }) r.queue
+  resaid words told lies = let q = a.queue in let i = q.items in record {
+    size_is = q.size_is;
+    head = q.head;
+    tail = q.tail;
+    items = record { words = lies; slots = i.slots };
+    empty = q.empty;
+    fill = q.fill;
+    next = q.next;
+    serve = q.serve;
+    known = q.known;
+    held = q.held;
+    whole = q.whole;
+    handshake = q.handshake;
+  }
+
   reported : (head : Bool) → by_head r.completion ≡ head → r.owed ≡ true → TxAgrees (after_report p head) made
   reported false h owed = let q = a.queue in let i = q.items in let s = k.reports in let kq = k.queue in let o = kq.order in let b = s.owed_last owed in let c = s.given_seen in let d = s.seen_reported in let e = o.served_posted in
       let serving = s.owed_serving owed in let none = o.not_reclaimed (serving_unanswered r.handshake.driver r.handshake.controller r.handshake.control r.handshake.seen serving (shook r.size ends_posting r.queue k.queue)) in
@@ -140,25 +159,9 @@ module _ (p : TxParts) (r : TxRing ℕ) (k : IsTxKept ℕ r.size r) (a : TxAgree
       let g = found r.ledger.served (served_count r.queue - 1) (omega arith) in let x : Posting ℕ = g.0 in let posted = beginning_at r.ledger.served r.ledger.posted (served_count r.queue - 1) x k.sent g.1 in
       let asks : x.rs ≡ true = ap asks_report (sym g.1) ∙ s.asked owed in let lt : nat_lt (served_count r.queue - 1) (served_count r.queue) ≡ true = lt-ltb (served_count r.queue - 1) (served_count r.queue) (omega arith) in
       let here : says_tx (is_told made) (served_count r.queue - 1) (slice_get r.ledger.posted (served_count r.queue - 1)) (slice_get r.ledger.served (served_count r.queue - 1)) ≡ done_word = rw (posted, h, lt, asks) refl in record {
-        queue = record {
-          size_is = q.size_is;
-          head = q.head;
-          tail = q.tail;
-          items = record {
-            words = each_item-set r.size (returned_count r.queue) (posted_count r.queue) (served_count r.queue - 1) (slice_index p.queue.words) (slice_index (after_report p false).queue.words)
-                (wanted_word {Given = ℕ} (says_tx (is_told r)) lies_tx r.queue) (wanted_word {Given = ℕ} (says_tx (is_told made)) lies_tx r.queue) (fit.pos ends_posting (says_tx (is_told r)) lies_tx p.queue r.queue k.queue a.queue sound.queue) (fit.within ends_posting (says_tx (is_told r)) lies_tx p.queue r.queue k.queue a.queue sound.queue) (omega arith) (omega arith)
-                (record { here = w.here ∙ sym here; rest = w.rest }) (λ j f l ne. same_word (is_told made) (is_told r) j (slice_get r.ledger.posted j) (λ z e. rest_told j z z.rs refl owed ne e)) i.words;
-            slots = i.slots;
-          };
-          empty = q.empty;
-          fill = q.fill;
-          next = q.next;
-          serve = q.serve;
-          known = q.known;
-          held = q.held;
-          whole = q.whole;
-          handshake = q.handshake;
-        };
+        queue = resaid (after_report p false).queue.words (is_told made) (each_item-set r.size (returned_count r.queue) (posted_count r.queue) (served_count r.queue - 1) (slice_index p.queue.words) (slice_index (after_report p false).queue.words)
+            (wanted_word {Given = ℕ} (says_tx (is_told r)) lies_tx r.queue) (wanted_word {Given = ℕ} (says_tx (is_told made)) lies_tx r.queue) (fit.pos ends_posting (says_tx (is_told r)) lies_tx p.queue r.queue k.queue a.queue sound.queue) (fit.within ends_posting (says_tx (is_told r)) lies_tx p.queue r.queue k.queue a.queue sound.queue) (omega arith) (omega arith)
+            (record { here = w.here ∙ sym here; rest = w.rest }) (λ j f l ne. same_word (is_told made) (is_told r) j (slice_get r.ledger.posted j) (λ z e. rest_told j z z.rs refl owed ne e)) i.words);
         completion = a.completion;
         report = λ e. absurd (both_ways (by_head r.completion) h e);
         rep = a.rep;
@@ -167,24 +170,8 @@ module _ (p : TxParts) (r : TxRing ℕ) (k : IsTxKept ℕ r.size r) (a : TxAgree
         lengths = a.lengths;
       }
   reported true h owed = let q = a.queue in let i = q.items in record {
-    queue = record {
-      size_is = q.size_is;
-      head = q.head;
-      tail = q.tail;
-      items = record {
-        words = λ j f l. i.words j f l ∙ same_word (is_told r) (is_told made) j (slice_get r.ledger.posted j)
-            (λ z e. ap (λ (b : Bool). (not b && nat_lt j r.reported) && z.rs) h ∙ sym (ap (λ (b : Bool). (not b && nat_lt j (served_count r.queue)) && z.rs) h));
-        slots = i.slots;
-      };
-      empty = q.empty;
-      fill = q.fill;
-      next = q.next;
-      serve = q.serve;
-      known = q.known;
-      held = q.held;
-      whole = q.whole;
-      handshake = q.handshake;
-    };
+    queue = resaid p.queue.words (is_told made) (λ j f l. i.words j f l ∙ same_word (is_told r) (is_told made) j (slice_get r.ledger.posted j)
+        (λ z e. ap (λ (b : Bool). (not b && nat_lt j r.reported) && z.rs) h ∙ sym (ap (λ (b : Bool). (not b && nat_lt j (served_count r.queue)) && z.rs) h)));
     completion = a.completion;
     report = λ e. owed_serve p r k a owed;
     rep = a.rep;
@@ -243,8 +230,8 @@ module _ (p : TxParts) (r : TxRing ℕ) (k : IsTxKept ℕ r.size r) (a : TxAgree
 
   pub tx_fits-moved : (s : TxStep (Posting ℕ)) → StepFits s → tx_can r s ≡ true → TxAgrees (tx_moved p s) (tx_changed r s)
   tx_fits-moved (Post b) short e = moves-post b short e
-  tx_fits-moved Publish short e = rests (tx_moved p Publish).queue (by r.queue queue.Publish) refl refl (omega arith) (fit.fits-publish ends_posting (says_tx (is_told r)) lies_tx p.queue r.queue k.queue a.queue sound.queue)
-  tx_fits-moved Look short e = rests (tx_moved p Look).queue (by r.queue queue.Look) refl refl (omega arith) (fit.fits-look ends_posting (says_tx (is_told r)) lies_tx p.queue r.queue k.queue a.queue sound.queue)
+  tx_fits-moved Publish short e = rests (tx_moved p Publish).queue (by r.queue queue.Publish) refl refl (omega arith) (shake.fits-publish ends_posting (says_tx (is_told r)) lies_tx p.queue r.queue k.queue a.queue)
+  tx_fits-moved Look short e = rests (tx_moved p Look).queue (by r.queue queue.Look) refl refl (omega arith) (shake.fits-look ends_posting (says_tx (is_told r)) lies_tx p.queue r.queue k.queue a.queue)
   tx_fits-moved Fetch short e = moves-fetch e
   tx_fits-moved Send short e = moves-send e
   tx_fits-moved Report short e = moves-report e

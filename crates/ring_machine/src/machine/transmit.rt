@@ -267,23 +267,12 @@ impl TxMachine {
         }
     }
 
-    // The step, or 11 where the queue does not have it.
-    pub(crate) fn step_by(&mut self, step: &TxStep<Descriptor>) -> Result<Note, MachineError>
-        ensures follows { TxFollows self.old step.now result self.new }
-        ensures refused { IfErr result (λ e. (e ≡ NotEnabled) × (self.new ≡ self.old)) }
-    {
-        if !self.may(step) {
-            return Err(MachineError::NotEnabled);
-        }
-        self.make(step)
-    }
-
     // How many steps of this one are made: one or none.
-    fn tried(&mut self, step: &TxStep<Descriptor>) -> usize
-        ensures runs { TxRuns self.old (step.now ∷ []) result self.new }
+    fn tried(&mut self, step: TxStep<Descriptor>) -> usize
+        ensures runs { TxRuns self.old (step ∷ []) result self.new }
         ensures one { result ≤ 1 }
     {
-        match self.step_by(step) {
+        match self.step(step) {
             Ok(_) => 1,
             Err(_) => 0,
         }
@@ -294,7 +283,10 @@ impl TxMachine {
         ensures follows { TxFollows self.old step result self.new }
         ensures refused { IfErr result (λ e. (e ≡ NotEnabled) × (self.new ≡ self.old)) }
     {
-        self.step_by(&step)
+        if !self.may(&step) {
+            return Err(MachineError::NotEnabled);
+        }
+        self.make(&step)
     }
 
     /// Makes each step that the queue has when its turn comes, passes over the others, and answers how many it made.
@@ -303,7 +295,7 @@ impl TxMachine {
     {
         let mut made = 0;
         for step in steps {
-            made += self.tried(step);
+            made += self.tried(*step);
         }
         made
     }

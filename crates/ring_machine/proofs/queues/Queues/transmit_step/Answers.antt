@@ -11,13 +11,13 @@ use Rattle.ring_machine.proofs.queues.Queues.transmit_step.Goals as goal
 pub returns-in_default-clause-follows : goal.returns-in_default-clause-follows
 returns-in_default-clause-follows c = let old : QueueParts = record { receive = c.self.inside.receive.items; transmit = c.self.inside.transmit.items } in let queue = c.from.ensures ∙ c.number.ensures in
     let past : length old.transmit ≤ c.from.result = let past_len = past-end c.from.result c.self.inside.transmit.len c.in_default.ensures.variant.1 in let l = c.self.inside.transmit.ok in omega arith in
-    let follows = subst (λ (q : ℕ). QueuesFollow old (Transmit q c.args.step.now) (Err NotEnabled) old) queue (transmit-missing old c.from.result c.args.step.now past) in
-    subst (λ (p : QueueParts). QueuesFollow p (Transmit c.args.queue c.args.step.now) (Err NotEnabled) old) c.self.view_is follows
+    let follows = subst (λ (q : ℕ). QueuesFollow old (Transmit q c.args.step) (Err NotEnabled) old) queue (transmit-missing old c.from.result c.args.step past) in
+    subst (λ (p : QueueParts). QueuesFollow p (Transmit c.args.queue c.args.step) (Err NotEnabled) old) c.self.view_is follows
 
 pub returns-clause-follows : goal.returns-clause-follows
 returns-clause-follows c = let old : QueueParts = record { receive = c.self.inside.receive.items; transmit = c.self.inside.transmit.items } in let queue = c.from.ensures ∙ c.number.ensures in
     let item = c.in-Some.ensures.item in
     let here = slice_get_read old.transmit (length old.transmit) c.from.result c.in-Some.machine.now refl item.3.0 c.in-Some.ensures.value in
-    let new : QueueParts = record { receive = old.receive; transmit = slice_set old.transmit c.from.result c.step_by.new.self } in
-    let follows = subst (λ (q : ℕ). QueuesFollow old (Transmit q c.args.step.now) c.step_by.result new) queue (transmit-follows old c.from.result c.args.step.now c.in-Some.machine.now c.step_by.new.self c.step_by.result here c.step_by.ensures.follows) in
-    subst (λ (p : QueueParts). QueuesFollow p (Transmit c.args.queue c.args.step.now) c.step_by.result new) c.self.view_is follows
+    let new : QueueParts = record { receive = old.receive; transmit = slice_set old.transmit c.from.result c.step.new.self } in
+    let follows = subst (λ (q : ℕ). QueuesFollow old (Transmit q c.args.step) c.step.result new) queue (transmit-follows old c.from.result c.args.step c.in-Some.machine.now c.step.new.self c.step.result here c.step.ensures.follows) in
+    subst (λ (p : QueueParts). QueuesFollow p (Transmit c.args.queue c.args.step) c.step.result new) c.self.view_is follows
