@@ -1,5 +1,5 @@
 -- From what the words ask for to how the run ends.
-use Rattle.std.proofs.Common.{◌≡◌, inr, refl, ℕ, List, Option, Some, ap, subst}
+use Rattle.std.proofs.Common.{◌≡◌, inr, refl, ℕ, List, Option, Some, subst}
 use Rattle.std.specs.Io.KnownBytes.{Keeps}
 use Rattle.commands.specs.declared.answering.TheConstants.{DONE, REFUSED}
 use Rattle.commands.specs.declared.decode.Form.{Form}

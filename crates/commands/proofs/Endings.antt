@@ -1,10 +1,8 @@
 -- How a request ends, from what it did to the output.
-use Rattle.std.proofs.Common.{◌≡◌, inl, inr, ℕ, List, Option, Some, refl, ap, sym, subst, ◌∙◌}
+use Rattle.std.proofs.Common.{◌≡◌, inl, inr, ℕ, List, Option, Some, refl, sym, subst}
 use Rattle.std.specs.Prelude.{◌⊎◌, Result, Ok, Err}
 use Rattle.std.specs.Result.{result_map_both}
 use Rattle.std.specs.Io.KnownBytes.{Appends, Keeps}
-use Rattle.ring_machine.specs.declared.error.MachineError.TheVariants as machine
-use Rattle.ring_machine.specs.Queues.{AreQueues}
 use Rattle.text_lines.specs.Parts.{lines_of}
 use Rattle.commands.specs.declared.answering.TheConstants.{DONE, REFUSED}
 use Rattle.commands.specs.declared.decode.Form.{Form}
@@ -13,11 +11,11 @@ use Rattle.commands.specs.declared.refusal.Refusal.TheVariants as refusal
 use Rattle.commands.specs.declared.replay.QueuePlan.{QueuePlan}
 use Rattle.commands.specs.declared.request.Request.{Request}
 use Rattle.commands.specs.declared.request.Request.TheVariants.{Once, Decode, Replay}
-use Rattle.commands.specs.Answers.{line_of, once_answer, Ends, EndsAs, EndsDecode, IsOnceRefused, IsText, IsWithheld, Prints, Refuses}
+use Rattle.commands.specs.Answers.{line_of, Ends, EndsAs, EndsDecode, Prints, Refuses}
 use Rattle.commands.specs.Digits.{bytes_in}
 use Rattle.commands.specs.Frame.{frame_in}
 use Rattle.commands.specs.Decoding.{IsDecoded}
-use Rattle.commands.specs.Replay.{EndsReplay, HasReplayed, IsFaulty, IsReplayed, RefusesReplay, ReplayRefused}
+use Rattle.commands.specs.Replay.{EndsReplay, HasReplayed, IsReplayed}
 use Rattle.commands.proofs.Replaying.{faulty-unsaid}
 
 -- ---- once

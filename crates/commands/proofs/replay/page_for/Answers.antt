@@ -1,5 +1,4 @@
 -- The page is that of the plan's queues as they are made.
-use Rattle.std.proofs.Common.{◌≡◌}
 use Rattle.std.specs.String.{string_bytes}
 use Rattle.commands.proofs.Replaying.{has-page}
 use Rattle.commands.proofs.replay.page_for.Goals as goal
