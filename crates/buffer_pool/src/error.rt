@@ -11,10 +11,10 @@ use thiserror::Error;
 pub enum PoolError {
     /// Memory was refused.
     #[error("memory")]
-    Memory,
+    Memory = 31,
     /// The number of buffers is out of range, or one of their numbers would be.
     #[error("count")]
-    Count,
+    Count = 34,
 }
 
 impl PoolError {
@@ -22,10 +22,7 @@ impl PoolError {
     pub fn number(&self) -> u8
         ensures { result ≡ refusal_number self.now }
     {
-        match self {
-            PoolError::Memory => 31,
-            PoolError::Count => 34,
-        }
+        *self as u8
     }
 }
 

@@ -1,5 +1,5 @@
 -- What a call that decodes answers, for a form and the descriptors that have it.
-use Rattle.std.proofs.Common.{◌≡◌, ℕ, ◌<◌, List, [], ◌∷◌, length, drop, Result, Ok, Err, IfOk, sym, ap, ◌∙◌, arith}
+use Rattle.std.proofs.Common.{◌≡◌, ℕ, ◌<◌, ◌↔◌, List, [], ◌∷◌, length, drop, Result, Ok, Err, sym, ap, ◌∙◌, arith}
 use Rattle.byteorder.specs.Endian.{little_number}
 use Rattle.descriptor.specs.declared.error.DescError.{DescError}
 use Rattle.descriptor.specs.declared.error.DescError.TheVariants.{Length, Reserved, Kind, Size}
@@ -63,10 +63,6 @@ lowest-size form first second reserved kinds broken = record {
 lowest-moved : (K K' : DescError → Type 0) → ((e : DescError) → K e → K' e) → ((e : DescError) → K' e → K e) → (e : DescError) → IsLowest K e → IsLowest K' e
 lowest-moved K K' onto back e h = record { broken = λ k. h.broken (back e k); lowest = λ lower below. onto lower (h.lowest lower below) }
 
-IfOk-map : {D : Type 0} (P Q : D → Type 0) → ((d : D) → P d → Q d) → (r : Result D DescError) → IfOk r P → IfOk r Q
-IfOk-map P Q onto (Ok d) h = onto d h
-IfOk-map P Q onto (Err e) h = tt
-
 -- ---- a form, and the descriptors that have it
 
 pub record IsCodec {D : Type 0} (form : Form) (numbers : D → Name → ℕ) : Type 0 where
@@ -128,20 +124,18 @@ module _ {D : Type 0} (form : Form) (numbers : D → Name → ℕ) (codec : IsCo
       keeps-bytes bytes len e (keeps (little_number 8 bytes) (little_number 8 (drop 8 bytes)) d (words-of bytes d same) e)
 
   -- of 16 bytes the words decide
-  pub bytes-decoded : (bytes : List ℕ) {first second : ℕ} → HasWords bytes first second
-      → (r : Result D DescError) → Decodes (AreWords first second) (KeepsWords form first second) r
-      → Decodes (AreBytes bytes) (KeepsBytes form bytes) r
-  bytes-decoded bytes {first} {second} words r h =
-      let one = words.first_is in
-      let two = words.second_is in
-      let onto : (e : DescError) → KeepsWords form first second e → KeepsBytes form bytes e = λ e k. keeps-bytes bytes words.sixteen e (rw (← one, ← two) k) in
-      let back : (e : DescError) → KeepsBytes form bytes e → KeepsWords form first second e = λ e k. rw (one, two) (keeps-words bytes e k) in
-      let moved : (d : D) → AreWords first second d → AreBytes bytes d = λ d same. words.whole ∙ ap (bytes_of first) same.1 ∙ ap (λ (a : ℕ). bytes_of a (second_word form (numbers d))) same.0 in
-      record {
-        accepted = IfOk-map (AreWords first second) (AreBytes bytes) moved r h.accepted;
-        reads_back = λ d same. h.reads_back d (one ∙ (words-of bytes d same).0, two ∙ (words-of bytes d same).1);
-        refused = λ e. (
-          (λ err. lowest-moved (KeepsWords form first second) (KeepsBytes form bytes) onto back e ((h.refused e).0 err)),
-          (λ k. (h.refused e).1 (lowest-moved (KeepsBytes form bytes) (KeepsWords form first second) back onto e k)),
-        );
-      }
+  module _ (bytes : List ℕ) {first second : ℕ} (words : HasWords bytes first second) (r : Result D DescError) where
+    pub bytes-read_back : ((d : D) → AreWords first second d → r ≡ Ok d) → (d : D) → AreBytes bytes d → r ≡ Ok d
+    bytes-read_back reads_back d same = let given = words-of bytes d same in reads_back d (words.first_is ∙ given.0, words.second_is ∙ given.1)
+
+    onto : (e : DescError) → KeepsWords form first second e → KeepsBytes form bytes e
+    onto e k = keeps-bytes bytes words.sixteen e (rw (← words.first_is, ← words.second_is) k)
+
+    back : (e : DescError) → KeepsBytes form bytes e → KeepsWords form first second e
+    back e k = rw (words.first_is, words.second_is) (keeps-words bytes e k)
+
+    pub bytes-refused : ((e : DescError) → (r ≡ Err e) ↔ IsLowest (KeepsWords form first second) e) → (e : DescError) → (r ≡ Err e) ↔ IsLowest (KeepsBytes form bytes) e
+    bytes-refused refused e = (
+      λ err. lowest-moved (KeepsWords form first second) (KeepsBytes form bytes) onto back e ((refused e).0 err),
+      λ k. (refused e).1 (lowest-moved (KeepsBytes form bytes) (KeepsWords form first second) back onto e k),
+    )

@@ -1,14 +1,14 @@
 -- The receive write-back's form and its descriptors.
-use Rattle.std.proofs.Common.{◌≡◌, ◌≢◌, ℕ, ◌+◌, ◌*◌, ◌/◌, ◌%◌, ◌<◌, ◌≤◌, ◌^◌, Bool, List, Result, Ok, Err, refl, sym, ap, subst, ◌∙◌, arith, rules}
+use Rattle.std.proofs.Common.{◌≡◌, ◌≢◌, ℕ, ◌+◌, ◌*◌, ◌/◌, ◌%◌, ◌<◌, ◌≤◌, ◌^◌, Bool, Result, Ok, Err, refl, sym, ap, subst, ◌∙◌, arith, rules}
 use Rattle.std.proofs.Props.{props}
 use Rattle.limits.specs.declared.profile.TheConstants.{BUFFER_BYTES}
 use Rattle.descriptor.specs.declared.error.DescError.{DescError}
 use Rattle.descriptor.specs.declared.error.DescError.TheVariants.{Length, Reserved, Kind, Size}
 use Rattle.descriptor.specs.declared.rx_back.RxBack.{RxBack}
-use Rattle.descriptor.specs.Layout.{KeepsWords, KeepsBytes, HasWords, word_of, bit}
-use Rattle.descriptor.specs.Receive.{rx_back_form, rx_back_numbers, rx_back_first, rx_back_second, rx_back_bytes}
+use Rattle.descriptor.specs.Layout.{KeepsWords, word_of, bit}
+use Rattle.descriptor.specs.Receive.{rx_back_form, rx_back_numbers, rx_back_first, rx_back_second}
 use Rattle.descriptor.proofs.Fields.{IsWhole, IsNarrow, IsKept, AreSame, settled, word_of-settled}
-use Rattle.descriptor.proofs.Codec.{IsCodec, lowest-reserved, words-accepted, words-refused, bytes-decoded}
+use Rattle.descriptor.proofs.Codec.{IsCodec, lowest-reserved, words-accepted, words-refused}
 use Rattle.descriptor.proofs.Refusals.{Decodes}
 use Rattle.descriptor.proofs.Bits.{bit-lt, bit-same}
 
@@ -85,9 +85,3 @@ rx_back-second_refused first second len eop h is_len is_eop other =
 pub rx_back-accepted : (first second : ℕ) (d : RxBack) → first ≡ 0 → second ≡ 1 + 2 * bit d.eop + d.len * 2 ^ 32 → RxBackDecodes first second (Ok d)
 rx_back-accepted first second d one two =
     words-accepted rx_back_form (λ d. rx_back_numbers d.len d.eop) rx_back-codec first second d (one, omega arith)
-
-abbrev pub RxBackDecodesBytes : List ℕ → Result RxBack DescError → Type 0
-RxBackDecodesBytes bytes r = Decodes (λ d. bytes ≡ rx_back_bytes d) (KeepsBytes rx_back_form bytes) r
-
-pub rx_back-bytes : (bytes : List ℕ) {first second : ℕ} → HasWords bytes first second → (r : Result RxBack DescError) → RxBackDecodes first second r → RxBackDecodesBytes bytes r
-rx_back-bytes bytes words r h = bytes-decoded rx_back_form (λ d. rx_back_numbers d.len d.eop) rx_back-codec bytes words r h

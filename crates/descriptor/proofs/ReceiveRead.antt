@@ -1,13 +1,13 @@
 -- The read format of a receive descriptor, and its descriptors.
-use Rattle.std.proofs.Common.{◌≡◌, ℕ, ◌*◌, ◌<◌, ◌^◌, List, Result, Ok, refl, ap, subst, arith, rules}
+use Rattle.std.proofs.Common.{◌≡◌, ℕ, ◌*◌, ◌<◌, ◌^◌, Result, Ok, refl, ap, subst, arith, rules}
 use Rattle.std.proofs.Props.{props}
 use Rattle.descriptor.specs.declared.error.DescError.{DescError}
 use Rattle.descriptor.specs.declared.error.DescError.TheVariants.{Length, Reserved, Kind, Size}
 use Rattle.descriptor.specs.declared.rx_read.RxRead.{RxRead}
-use Rattle.descriptor.specs.Layout.{KeepsWords, KeepsBytes, HasWords}
-use Rattle.descriptor.specs.Receive.{rx_read_form, rx_read_numbers, rx_read_first, rx_read_second, rx_read_bytes}
+use Rattle.descriptor.specs.Layout.{KeepsWords}
+use Rattle.descriptor.specs.Receive.{rx_read_form, rx_read_numbers, rx_read_first, rx_read_second}
 use Rattle.descriptor.proofs.BufferAddress.{address-tiles}
-use Rattle.descriptor.proofs.Codec.{IsCodec, words-accepted, bytes-decoded}
+use Rattle.descriptor.proofs.Codec.{IsCodec, words-accepted}
 use Rattle.descriptor.proofs.Fields.{IsWhole, IsNarrow, IsKept, AreSame}
 use Rattle.descriptor.proofs.Refusals.{Decodes}
 
@@ -57,9 +57,3 @@ RxReadDecodes first second r = Decodes (λ d. (first ≡ rx_read_first d) × (se
 pub rx_read-accepted : (first second : ℕ) (d : RxRead) → first ≡ 2048 * d.number → second ≡ 0 → RxReadDecodes first second (Ok d)
 rx_read-accepted first second d one two =
     words-accepted rx_read_form (λ d. rx_read_numbers d.number) rx_read-codec first second d (omega arith, omega arith)
-
-abbrev pub RxReadDecodesBytes : List ℕ → Result RxRead DescError → Type 0
-RxReadDecodesBytes bytes r = Decodes (λ d. bytes ≡ rx_read_bytes d) (KeepsBytes rx_read_form bytes) r
-
-pub rx_read-bytes : (bytes : List ℕ) {first second : ℕ} → HasWords bytes first second → (r : Result RxRead DescError) → RxReadDecodes first second r → RxReadDecodesBytes bytes r
-rx_read-bytes bytes words r h = bytes-decoded rx_read_form (λ d. rx_read_numbers d.number) rx_read-codec bytes words r h

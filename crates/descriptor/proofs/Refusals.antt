@@ -1,26 +1,22 @@
 -- The lowest refusal is one, and none applies to what keeps everything.
-use Rattle.std.proofs.Common.{◌≡◌, ℕ, ◌<◌, ◌↔◌, ◌⊎◌, inl, inr, Result, Ok, Err, IfOk, refl, ap, subst, arith}
+use Rattle.std.proofs.Common.{◌≡◌, ℕ, ◌<◌, ◌↔◌, ◌⊎◌, inl, inr, Result, Ok, Err, IfOk, refl, sym, ap, ◌∙◌, subst, arith, if◌then◌else◌}
+use Rattle.std.specs.Prelude.{◌==◌}
 use Rattle.descriptor.specs.declared.error.DescError.{DescError}
 use Rattle.descriptor.specs.declared.error.DescError.TheVariants.{Length, Reserved, Kind, Size}
 use Rattle.descriptor.specs.Refusal.{refusal_number, IsLowest}
 
+-- the refusal of a number
+abbrev refusal_of : ℕ → DescError
+refusal_of n = if n == 1 then Length else if n == 2 then Reserved else if n == 3 then Kind else Size
+
+of-number : (e : DescError) → refusal_of (refusal_number e) ≡ e
+of-number Length = refl
+of-number Reserved = refl
+of-number Kind = refl
+of-number Size = refl
+
 same-refusal : (e e' : DescError) → refusal_number e ≡ refusal_number e' → e ≡ e'
-same-refusal Length Length h = refl
-same-refusal Length Reserved h = absurd (omega arith)
-same-refusal Length Kind h = absurd (omega arith)
-same-refusal Length Size h = absurd (omega arith)
-same-refusal Reserved Length h = absurd (omega arith)
-same-refusal Reserved Reserved h = refl
-same-refusal Reserved Kind h = absurd (omega arith)
-same-refusal Reserved Size h = absurd (omega arith)
-same-refusal Kind Length h = absurd (omega arith)
-same-refusal Kind Reserved h = absurd (omega arith)
-same-refusal Kind Kind h = refl
-same-refusal Kind Size h = absurd (omega arith)
-same-refusal Size Length h = absurd (omega arith)
-same-refusal Size Reserved h = absurd (omega arith)
-same-refusal Size Kind h = absurd (omega arith)
-same-refusal Size Size h = refl
+same-refusal e e' h = sym (of-number e) ∙ ap refusal_of h ∙ of-number e'
 
 compare : (m n : ℕ) → (m < n) ⊎ ((n < m) ⊎ (m ≡ n))
 compare m n = grind arith

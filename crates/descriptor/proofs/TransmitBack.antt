@@ -1,11 +1,11 @@
 -- The write-back format of a transmit descriptor.
-use Rattle.std.proofs.Common.{◌≡◌, ℕ, List, Result, refl, rules}
+use Rattle.std.proofs.Common.{◌≡◌, ℕ, Result, refl, rules}
 use Rattle.descriptor.specs.declared.error.DescError.{DescError}
 use Rattle.descriptor.specs.declared.error.DescError.TheVariants.{Length, Reserved, Kind, Size}
 use Rattle.descriptor.specs.declared.tx_back.TxBack.{TxBack}
-use Rattle.descriptor.specs.Layout.{KeepsWords, KeepsBytes, HasWords}
-use Rattle.descriptor.specs.Transmit.{tx_back_form, no_numbers, tx_back_first, tx_back_second, tx_back_bytes}
-use Rattle.descriptor.proofs.Codec.{IsCodec, bytes-decoded}
+use Rattle.descriptor.specs.Layout.{KeepsWords}
+use Rattle.descriptor.specs.Transmit.{tx_back_form, no_numbers, tx_back_first, tx_back_second}
+use Rattle.descriptor.proofs.Codec.{IsCodec}
 use Rattle.descriptor.proofs.Fields.{IsKept}
 use Rattle.descriptor.proofs.Refusals.{Decodes}
 
@@ -15,7 +15,7 @@ tx_back-kept Reserved = record { first = λ w made. search rules; second = λ w 
 tx_back-kept Kind = record { first = λ w made. search rules; second = λ w made. search rules }
 tx_back-kept Size = record { first = λ w made. search rules; second = λ w made. search rules }
 
-tx_back-codec : IsCodec {D = TxBack} tx_back_form (λ _. no_numbers)
+pub tx_back-codec : IsCodec {D = TxBack} tx_back_form (λ _. no_numbers)
 tx_back-codec = record {
   whole = record { first = (refl, refl); second = (refl, (refl, (refl, (refl, refl)))) };
   narrow = λ d. record { first = search rules; second = search rules };
@@ -25,9 +25,3 @@ tx_back-codec = record {
 
 abbrev pub TxBackDecodes : ℕ → ℕ → Result TxBack DescError → Type 0
 TxBackDecodes first second r = Decodes (λ d. (first ≡ tx_back_first d) × (second ≡ tx_back_second d)) (KeepsWords tx_back_form first second) r
-
-abbrev pub TxBackDecodesBytes : List ℕ → Result TxBack DescError → Type 0
-TxBackDecodesBytes bytes r = Decodes (λ d. bytes ≡ tx_back_bytes d) (KeepsBytes tx_back_form bytes) r
-
-pub tx_back-bytes : (bytes : List ℕ) {first second : ℕ} → HasWords bytes first second → (r : Result TxBack DescError) → TxBackDecodes first second r → TxBackDecodesBytes bytes r
-tx_back-bytes bytes words r h = bytes-decoded tx_back_form (λ d. no_numbers) tx_back-codec bytes words r h

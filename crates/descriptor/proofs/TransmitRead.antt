@@ -1,5 +1,5 @@
 -- The read format of a transmit descriptor, and its descriptors.
-use Rattle.std.proofs.Common.{◌≡◌, ℕ, ◌+◌, ◌*◌, ◌/◌, ◌%◌, ◌<◌, ◌≤◌, ◌^◌, IsTrue, Bool, true, false, List, Result, Ok, Err, refl, ap, subst, ◌∙◌, arith, rules}
+use Rattle.std.proofs.Common.{◌≡◌, ℕ, ◌+◌, ◌*◌, ◌/◌, ◌%◌, ◌<◌, ◌≤◌, ◌^◌, IsTrue, Bool, true, false, Result, Ok, Err, refl, ap, subst, ◌∙◌, arith, rules}
 use Rattle.std.proofs.Props.{props}
 use Rattle.limits.specs.declared.profile.TheConstants.{BUFFER_BYTES, LEAST_FRAME, MOST_FRAME}
 use Rattle.descriptor.specs.declared.error.DescError.{DescError}
@@ -7,11 +7,11 @@ use Rattle.descriptor.specs.declared.error.DescError.TheVariants.{Length, Reserv
 use Rattle.descriptor.specs.declared.tx_read.TxRead.{TxRead}
 use Rattle.descriptor.specs.Address.{address_fields}
 use Rattle.descriptor.specs.Refusal.{IsLowest}
-use Rattle.descriptor.specs.Layout.{KeepsField, KeepsWords, KeepsBytes, HasWords, EachField, bit}
-use Rattle.descriptor.specs.Transmit.{tx_read_form, tx_read_numbers, tx_read_first, tx_read_second, tx_read_bytes}
+use Rattle.descriptor.specs.Layout.{KeepsField, KeepsWords, EachField, bit}
+use Rattle.descriptor.specs.Transmit.{tx_read_form, tx_read_numbers, tx_read_first, tx_read_second}
 use Rattle.descriptor.proofs.BufferAddress.{address-tiles, address-kept}
 use Rattle.descriptor.proofs.Bits.{bit-lt, bit-same}
-use Rattle.descriptor.proofs.Codec.{IsCodec, lowest-reserved, lowest-kind, lowest-size, words-accepted, words-refused, bytes-decoded}
+use Rattle.descriptor.proofs.Codec.{IsCodec, lowest-reserved, lowest-kind, lowest-size, words-accepted, words-refused}
 use Rattle.descriptor.proofs.Fields.{Tiles, IsNarrow, IsKept, AreSame, word_of-settled}
 use Rattle.descriptor.proofs.Refusals.{Decodes}
 
@@ -142,7 +142,7 @@ tx_read-alone d other h =
     h.second.1.1.1.1.1.1.1.1.1.1.1.1.1.1.1.1.0
     other.in_range other.some_data other.fits other.reports_end other.long_enough other.short_enough
 
-tx_read-codec : IsCodec {D = TxRead} tx_read_form (λ d. tx_read_numbers d.number d.len d.eop d.rs d.paylen)
+pub tx_read-codec : IsCodec {D = TxRead} tx_read_form (λ d. tx_read_numbers d.number d.len d.eop d.rs d.paylen)
 tx_read-codec = record {
   whole = record { first = address-tiles; second = tx_read-tiles };
   narrow = tx_read-narrow;
@@ -193,9 +193,3 @@ tx_read-accepted first second d h one keeps kinds is_len is_eop is_rs is_paylen 
     let data_kind = kinds.1.1.1.0 in
     let extended = kinds.1.1.1.1.1.1.1.1.1.0 in
     words-accepted tx_read_form (λ d. tx_read_numbers d.number d.len d.eop d.rs d.paylen) tx_read-codec first second d (omega arith, omega arith)
-
-abbrev pub TxReadDecodesBytes : List ℕ → Result TxRead DescError → Type 0
-TxReadDecodesBytes bytes r = Decodes (λ d. bytes ≡ tx_read_bytes d) (KeepsBytes tx_read_form bytes) r
-
-pub tx_read-bytes : (bytes : List ℕ) {first second : ℕ} → HasWords bytes first second → (r : Result TxRead DescError) → TxReadDecodes first second r → TxReadDecodesBytes bytes r
-tx_read-bytes bytes words r h = bytes-decoded tx_read_form (λ d. tx_read_numbers d.number d.len d.eop d.rs d.paylen) tx_read-codec bytes words r h

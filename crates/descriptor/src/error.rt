@@ -9,16 +9,16 @@ use thiserror::Error;
 pub enum DescError {
     /// There are not 16 bytes.
     #[error("length")]
-    Length,
+    Length = 1,
     /// A bit that the profile fixes has another value, but for those of `Kind`.
     #[error("reserved")]
-    Reserved,
+    Reserved = 2,
     /// DTYP is not 3, or DEXT is not 1: it is no advanced data descriptor.
     #[error("type")]
-    Kind,
+    Kind = 3,
     /// A data length or PAYLEN is out of range.
     #[error("size")]
-    Size,
+    Size = 4,
 }
 
 impl DescError {
@@ -27,11 +27,6 @@ impl DescError {
     pub fn number(&self) -> u8
         ensures { result ≡ refusal_number self.now }
     {
-        match self {
-            DescError::Length => 1,
-            DescError::Reserved => 2,
-            DescError::Kind => 3,
-            DescError::Size => 4,
-        }
+        *self as u8
     }
 }

@@ -10,13 +10,13 @@ use thiserror::Error;
 #[derive(Clone, Copy, Debug, PartialEq, Eq, Error)]
 pub enum MachineError {
     /// The step can't happen now, or there is no such queue. The machine is as it was.
-    NotEnabled,
+    NotEnabled = 11,
     /// The length is no power of two from 8 to 4,096, or the number of pairs is not 1 to 8.
-    RingLength,
+    RingLength = 12,
     /// Memory was refused.
-    Memory,
+    Memory = 13,
     /// The text is not that of a move.
-    Text,
+    Text = 14,
 }
 
 impl MachineError {
@@ -26,12 +26,7 @@ impl MachineError {
     pub fn number(&self) -> u8
         ensures { result ≡ number_of_error self.now }
     {
-        match self {
-            MachineError::NotEnabled => 11,
-            MachineError::RingLength => 12,
-            MachineError::Memory => 13,
-            MachineError::Text => 14,
-        }
+        *self as u8
     }
 }
 

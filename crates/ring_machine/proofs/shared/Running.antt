@@ -1,7 +1,8 @@
 -- A machine that follows its ring step by step follows it through every schedule.
-use Rattle.std.proofs.Common.{◌≡◌, ℕ, suc, ◌+◌, Bool, true, false, List, [], ◌∷◌, ◌++◌, Some, None, sym, refl, ap, ◌∙◌, subst, arith, if◌then◌else◌}
+use Rattle.std.proofs.Common.{◌≡◌, ℕ, suc, ◌+◌, ◌<◌, Bool, true, false, List, [], ◌∷◌, ◌++◌, length, take, get_or, Some, None, sym, refl, ap, ◌∙◌, subst, arith, if◌then◌else◌}
 use Rattle.std.specs.Prelude.{Ok, Err}
 use Rattle.std.specs.Option.{ok_or}
+use Rattle.std.proofs.lemmas.List.{take_more}
 use Rattle.ring_model.specs.declared.notes.Note.{Note}
 use Rattle.ring_model.specs.shared.QueueSteps.{QueueStep, Post, Publish, Look, Fetch, Serve, Head, Give, Shake, Reclaim, ClearHead, ClearTail, Renew}
 use Rattle.ring_model.specs.shared.Queue.{Queue, by}
@@ -74,3 +75,11 @@ module _ {Parts State Step : Type 0} (Agree : Parts → State → Type 0) (Reach
 
   pub did-refused : (a : Parts) (r : State) (s : Step) → can r s ≡ false → Agree a r → Did Agree (if can r s then Some (tells r s) else None) (next can changed r s) (Err refusal.NotEnabled) a a
   did-refused a r s e g = rw e (record { answer = refl; agrees = g; kept = λ none. refl })
+
+-- a schedule goes on by one step, where `Runs` goes on from one schedule to the next
+pub runs-longer : {Parts Step : Type 0} (Runs : Parts → List Step → ℕ → Parts → Type 0)
+    → ((a b c : Parts) (ss more : List Step) (x y : ℕ) → Runs a ss x b → Runs b more y c → Runs a (ss ++ more) (x + y) c)
+    → (a b c : Parts) (ss : List Step) (i : ℕ) (s : Step) (x y : ℕ) → i < length ss → s ≡ get_or ss i s
+    → Runs a (take i ss) x b → Runs b (s ∷ []) y c → Runs a (take (i + 1) ss) (x + y) c
+runs-longer Runs append a b c ss i s x y inside is before now =
+    rw (take_more ss i s inside ∙ ap (λ t. take i ss ++ t ∷ []) (sym is)) (append a b c (take i ss) (s ∷ []) x y before now)

@@ -87,27 +87,15 @@ module _ {Posted Served Given : Type 0} (n : ℕ) (ends : Served → Bool) where
           told = k.told;
         }
 
+    -- a step that changes what is published or known alone
+    kept-seen : (published known : ℕ) → InOrder n (posted_count q) (served_count q) (given_count q) published known q.reclaimed q.held q.handshake → IsKept n ends (record q { published = published; known = known })
+    kept-seen published known o = record { size_is = k.size_is; places = k.places; shaken = k.shaken; order = o; map = k.map; whole = k.whole; told = k.told }
+
     pub kept-publish : may q Publish ≡ true → IsKept n ends (by q Publish)
-    kept-publish e = record {
-      size_is = k.size_is;
-      places = k.places;
-      shaken = k.shaken;
-      order = order-publish n (posted_count q) (served_count q) (given_count q) q.published q.known q.reclaimed q.held q.handshake k.order e;
-      map = k.map;
-      whole = k.whole;
-      told = k.told;
-    }
+    kept-publish e = kept-seen (posted_count q) q.known (order-publish n (posted_count q) (served_count q) (given_count q) q.published q.known q.reclaimed q.held q.handshake k.order e)
 
     pub kept-look : may q Look ≡ true → IsKept n ends (by q Look)
-    kept-look e = record {
-      size_is = k.size_is;
-      places = k.places;
-      shaken = k.shaken;
-      order = order-look n (posted_count q) (served_count q) (given_count q) q.published q.known q.reclaimed q.held q.handshake k.order e;
-      map = k.map;
-      whole = k.whole;
-      told = k.told;
-    }
+    kept-look e = kept-seen q.published q.published (order-look n (posted_count q) (served_count q) (given_count q) q.published q.known q.reclaimed q.held q.handshake k.order e)
 
     pub kept-fetch : may q Fetch ≡ true → IsKept n ends (by q Fetch)
     kept-fetch e = let u = and_parts (is_serving q.handshake.controller && not q.held) (nat_lt (served_count q) q.known) e in

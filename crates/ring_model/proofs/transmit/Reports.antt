@@ -76,10 +76,11 @@ module _ {Payload : Type 0} where
       silent = λ k a b f. absurd (omega arith);
     }
 
-    pub reports-load : (j : ℕ) → j < reported → seen ≤ j → InReports sent given (j + 1) reported held owed serving
-    reports-load j below above = let a = s.given_seen in record {
-      given_seen = omega arith;
-      seen_reported = omega arith;
+    -- a driver's step changes what it gave and what it saw reported, and nothing else
+    reports-seen : (gave saw : ℕ) → gave ≤ saw → saw ≤ reported → InReports sent gave saw reported held owed serving
+    reports-seen gave saw few made = record {
+      given_seen = few;
+      seen_reported = made;
       reported_sent = s.reported_sent;
       owed_unheld = s.owed_unheld;
       owed_serving = s.owed_serving;
@@ -88,17 +89,11 @@ module _ {Payload : Type 0} where
       silent = s.silent;
     }
 
+    pub reports-load : (j : ℕ) → j < reported → seen ≤ j → InReports sent given (j + 1) reported held owed serving
+    reports-load j below above = let a = s.given_seen in reports-seen given (j + 1) (omega arith) (omega arith)
+
     pub reports-give : given < seen → InReports sent (given + 1) seen reported held owed serving
-    reports-give below = record {
-      given_seen = omega arith;
-      seen_reported = s.seen_reported;
-      reported_sent = s.reported_sent;
-      owed_unheld = s.owed_unheld;
-      owed_serving = s.owed_serving;
-      owed_last = s.owed_last;
-      asked = s.asked;
-      silent = s.silent;
-    }
+    reports-give below = reports-seen (given + 1) seen (omega arith) s.seen_reported
 
     -- an answered control word: nothing is owed, and nothing was
     pub reports-answer : (serves : Bool) (owing : Bool) → owed ≡ false → owing ≡ false → InReports sent given seen reported held owing serves
