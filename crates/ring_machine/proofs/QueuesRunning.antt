@@ -1,6 +1,6 @@
 -- Queues follow their world through every schedule of moves.
 use Rattle.std.proofs.Common.{◌≡◌, ℕ, suc, ◌+◌, Bool, true, false, List, [], ◌∷◌, ◌++◌, map, Option, Some, None, sym, refl, ap, ◌∙◌, if◌then◌else◌}
-use Rattle.std.specs.Prelude.{Ok, Err, slice_get}
+use Rattle.std.specs.Prelude.{Result, Ok, Err, slice_get}
 use Rattle.std.specs.Option.{ok_or}
 use Rattle.std.proofs.lemmas.List.{map-append}
 use Rattle.ring_model.specs.declared.notes.Note.{Note}
@@ -13,7 +13,7 @@ use Rattle.ring_model.proofs.Apart.{reached_world}
 use Rattle.ring_machine.specs.declared.error.MachineError.{MachineError}
 use Rattle.ring_machine.specs.declared.error.MachineError.TheVariants as refusal
 use Rattle.ring_machine.specs.declared.moves.Move.{Move}
-use Rattle.ring_machine.specs.shared.Following.{Did}
+use Rattle.ring_machine.specs.shared.Following.{Did, count_of}
 use Rattle.ring_machine.specs.Queues.{QueueParts, QueuesAgree, QueuesFollow, QueuesRun, queue_move}
 use Rattle.ring_machine.proofs.shared.Running.{joined}
 
@@ -50,13 +50,18 @@ did-made w m t later old new d = let made = made_note (note_in w m) t d.answer i
 pub did-refused : (w : World) (m : QueueMove) (why : MachineError) (later : World) (old new : QueueParts) → Did QueuesAgree (note_in w m) later (Err why) old new → (note_in w m ≡ None) × (can_move w m ≡ false)
 did-refused w m why later old new d = let none = refused_note (note_in w m) why d.answer in (none, sym (told-can w m) ∙ ap is_told none)
 
-pub queues_run-one : (a b : QueueParts) (m : Move) (told : Note) → QueuesFollow a m (Ok told) b → QueuesRun a (m ∷ []) 1 b
+queues_run-one : (a b : QueueParts) (m : Move) (told : Note) → QueuesFollow a m (Ok told) b → QueuesRun a (m ∷ []) 1 b
 unfolding QueuesFollow QueuesRun
 queues_run-one a b m told follows pairs n w e g = let d = follows pairs n w e g in let t = did-made w (queue_move m) told (next can_move after_move w (queue_move m)) a b d in (d.agrees, sym (ap (λ (happens : Bool). if happens then suc 0 else 0) t.1))
 
-pub queues_run-refused : (a b : QueueParts) (m : Move) (why : MachineError) → QueuesFollow a m (Err why) b → QueuesRun a (m ∷ []) 0 b
+queues_run-refused : (a b : QueueParts) (m : Move) (why : MachineError) → QueuesFollow a m (Err why) b → QueuesRun a (m ∷ []) 0 b
 unfolding QueuesFollow QueuesRun
 queues_run-refused a b m why follows pairs n w e g = let d = follows pairs n w e g in let t = did-refused w (queue_move m) why (next can_move after_move w (queue_move m)) a b d in (d.agrees, sym (ap (λ (happens : Bool). if happens then suc 0 else 0) t.1))
+
+-- whatever a move answers, it is a schedule of one move, which is counted where it was made
+pub queues_run-answer : (a b : QueueParts) (m : Move) (told : Result Note MachineError) → QueuesFollow a m told b → QueuesRun a (m ∷ []) (count_of told) b
+queues_run-answer a b m (Ok note) follows = queues_run-one a b m note follows
+queues_run-answer a b m (Err why) follows = queues_run-refused a b m why follows
 
 pub queues_run-nil : (a : QueueParts) → QueuesRun a [] 0 a
 unfolding QueuesRun

@@ -6,6 +6,7 @@
 //! directions. Moves have one text each, which is printed and read back.
 #![tactic(auto)]
 
+mod counting;
 mod error;
 mod machine;
 mod moves;

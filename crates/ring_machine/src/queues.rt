@@ -12,6 +12,7 @@ ghost use Rattle.ring_machine.specs.receive.Machine.{RxAgrees};
 ghost use Rattle.ring_machine.specs.transmit.Machine.{TxAgrees};
 ghost use Rattle.ring_machine.specs.Queues.{AllAgree, AreQueues, QueuesAgree, QueuesFollow, QueuesRun};
 
+use crate::counting::count_of;
 use crate::error::MachineError;
 use crate::machine::{RxMachine, TxMachine};
 use crate::moves::arguments::{Descriptor, SegmentLength};
@@ -156,17 +157,6 @@ impl Queues {
         machine.step(step)
     }
 
-    // How many moves of this one are made: one or none.
-    fn tried(&mut self, action: Move) -> usize
-        ensures runs { QueuesRun self.old (action ∷ []) result self.new }
-        ensures one { result ≤ 1 }
-    {
-        match self.step(action) {
-            Ok(_) => 1,
-            Err(_) => 0,
-        }
-    }
-
     /// Makes one move. Where its queue has no such step, or is not there, it answers `NotEnabled`. An `Err` leaves the
     /// queues as they were.
     pub fn step(&mut self, action: Move) -> Result<Note, MachineError>
@@ -185,7 +175,7 @@ impl Queues {
     {
         let mut made = 0;
         for action in moves {
-            made += self.tried(*action);
+            made += count_of(&self.step(*action));
         }
         made
     }

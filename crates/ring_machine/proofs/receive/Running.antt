@@ -1,6 +1,6 @@
 -- A receive machine follows its ring, step by step and through every schedule.
 use Rattle.std.proofs.Common.{◌≡◌, ℕ, ◌+◌, ◌<◌, Bool, true, false, List, [], ◌∷◌, ◌++◌, Option, Some, None, sym, refl, ◌∙◌, subst, arith}
-use Rattle.std.specs.Prelude.{Ok, Err}
+use Rattle.std.specs.Prelude.{Result, Ok, Err}
 use Rattle.ring_model.specs.declared.steps.RxStep.{RxStep}
 use Rattle.ring_model.specs.declared.steps.RxStep.TheVariants.{Post, Publish, Look, Fetch, Store, Take, Head, Control, Reclaim, StoreQuiet, LoadQuiet, ClearHead, ClearTail, ClearQuiet}
 use Rattle.ring_model.specs.declared.notes.Note.{Note}
@@ -11,6 +11,7 @@ use Rattle.ring_model.proofs.receive.Kept.{IsRxKept}
 use Rattle.ring_model.proofs.receive.Reached.{rx_kept}
 use Rattle.ring_machine.specs.declared.error.MachineError.{MachineError}
 use Rattle.ring_machine.specs.declared.error.MachineError.TheVariants as refusal
+use Rattle.ring_machine.specs.shared.Following.{count_of}
 use Rattle.ring_machine.specs.shared.Machine.{IsSound}
 use Rattle.ring_machine.specs.shared.Moves.{told_owner}
 use Rattle.ring_machine.specs.receive.Machine.{RxAgrees, RxFollows, RxOwns, RxParts, RxRuns, lies_rx, says_rx}
@@ -63,13 +64,18 @@ rx_refuses p s sound may n r e a = let k = rx_meets p n r sound e a in did-refus
 pub rx_begun-agrees : (n : ℕ) (enabled : Bool) → 0 < n → RxAgrees (rx_begun n enabled) (rx_opening n enabled)
 rx_begun-agrees n enabled some = record { queue = fits-begun ends_segment says_rx lies_rx n enabled some; quiet = refl; still = refl }
 
-pub rx_runs-one : (a b : RxParts) (s : RxStep ℕ) (told : Note) → RxFollows a s (Ok told) b → RxRuns a (s ∷ []) 1 b
+rx_runs-one : (a b : RxParts) (s : RxStep ℕ) (told : Note) → RxFollows a s (Ok told) b → RxRuns a (s ∷ []) 1 b
 unfolding RxFollows RxRuns
 rx_runs-one a b s told follows = runs-one RxAgrees (IsRxReachable ℕ) rx_can rx_changed rx_note_of a b s told follows
 
-pub rx_runs-none : (a b : RxParts) (s : RxStep ℕ) (why : MachineError) → RxFollows a s (Err why) b → RxRuns a (s ∷ []) 0 b
+rx_runs-none : (a b : RxParts) (s : RxStep ℕ) (why : MachineError) → RxFollows a s (Err why) b → RxRuns a (s ∷ []) 0 b
 unfolding RxFollows RxRuns
 rx_runs-none a b s why follows = runs-none RxAgrees (IsRxReachable ℕ) rx_can rx_changed rx_note_of a b s why follows
+
+-- whatever a step answers, it is a schedule of one step, which is counted where it was made
+pub rx_runs-answer : (a b : RxParts) (s : RxStep ℕ) (told : Result Note MachineError) → RxFollows a s told b → RxRuns a (s ∷ []) (count_of told) b
+rx_runs-answer a b s (Ok note) follows = rx_runs-one a b s note follows
+rx_runs-answer a b s (Err why) follows = rx_runs-none a b s why follows
 
 pub rx_runs-nil : (a : RxParts) → RxRuns a [] 0 a
 unfolding RxRuns

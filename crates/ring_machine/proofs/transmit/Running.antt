@@ -1,6 +1,6 @@
 -- A transmit machine follows its ring, step by step and through every schedule.
 use Rattle.std.proofs.Common.{◌≡◌, ℕ, ◌+◌, ◌<◌, Bool, true, false, List, [], ◌∷◌, ◌++◌, Option, Some, None, sym, refl, ◌∙◌, subst, arith, if◌then◌else◌, mod-eq_of_lt}
-use Rattle.std.specs.Prelude.{nat_lt, Ok, Err}
+use Rattle.std.specs.Prelude.{Result, nat_lt, Ok, Err}
 use Rattle.std.proofs.lemmas.Option.{none-some}
 use Rattle.ring_model.specs.declared.steps.TxStep.{TxStep}
 use Rattle.ring_model.specs.declared.steps.TxStep.TheVariants.{Post, Publish, Look, Fetch, Send, Report, LoadReport, Clean, Control, Reclaim, ClearHead, ClearTail, ClearReport}
@@ -11,6 +11,7 @@ use Rattle.ring_model.specs.transmit.Agreement.{is_told}
 use Rattle.ring_model.proofs.shared.Reaching.{kept-reached, reached-more}
 use Rattle.ring_model.proofs.transmit.Kept.{IsTxKept}
 use Rattle.ring_model.proofs.transmit.Reached.{tx_kept}
+use Rattle.ring_machine.specs.shared.Following.{count_of}
 use Rattle.ring_machine.specs.declared.error.MachineError.{MachineError}
 use Rattle.ring_machine.specs.declared.error.MachineError.TheVariants as refusal
 use Rattle.ring_machine.specs.shared.Moves.{told_owner}
@@ -87,13 +88,18 @@ tx_begun-agrees n b some = record {
   lengths = λ j q x e. absurd (none-some q e);
 }
 
-pub tx_runs-one : (a b : TxParts) (s : TxStep (Posting ℕ)) (told : Note) → TxFollows a s (Ok told) b → TxRuns a (s ∷ []) 1 b
+tx_runs-one : (a b : TxParts) (s : TxStep (Posting ℕ)) (told : Note) → TxFollows a s (Ok told) b → TxRuns a (s ∷ []) 1 b
 unfolding TxFollows TxRuns
 tx_runs-one a b s told follows = runs-one TxAgrees (IsTxReachable ℕ) tx_can tx_changed tx_note_of a b s told follows
 
-pub tx_runs-none : (a b : TxParts) (s : TxStep (Posting ℕ)) (why : MachineError) → TxFollows a s (Err why) b → TxRuns a (s ∷ []) 0 b
+tx_runs-none : (a b : TxParts) (s : TxStep (Posting ℕ)) (why : MachineError) → TxFollows a s (Err why) b → TxRuns a (s ∷ []) 0 b
 unfolding TxFollows TxRuns
 tx_runs-none a b s why follows = runs-none TxAgrees (IsTxReachable ℕ) tx_can tx_changed tx_note_of a b s why follows
+
+-- whatever a step answers, it is a schedule of one step, which is counted where it was made
+pub tx_runs-answer : (a b : TxParts) (s : TxStep (Posting ℕ)) (told : Result Note MachineError) → TxFollows a s told b → TxRuns a (s ∷ []) (count_of told) b
+tx_runs-answer a b s (Ok note) follows = tx_runs-one a b s note follows
+tx_runs-answer a b s (Err why) follows = tx_runs-none a b s why follows
 
 pub tx_runs-nil : (a : TxParts) → TxRuns a [] 0 a
 unfolding TxRuns

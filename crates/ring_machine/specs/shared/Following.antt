@@ -1,5 +1,5 @@
 -- What is promised of a machine's steps by the ring that it agrees with.
-use Rattle.std.specs.Prelude.{◌≡◌, ℕ, Bool, List, Option, Some, None, Result, if◌then◌else◌}
+use Rattle.std.specs.Prelude.{◌≡◌, ℕ, Bool, List, Option, Some, None, Result, if◌then◌else◌, Ok, Err}
 use Rattle.std.specs.Option.{ok_or}
 use Rattle.ring_model.specs.declared.notes.Note.{Note}
 use Rattle.ring_model.specs.shared.Schedules.{after_all, happened, next}
@@ -11,6 +11,11 @@ pub record Did {Parts State : Type 0} (Agree : Parts → State → Type 0) (told
   pub answer : result ≡ ok_or told refusal.NotEnabled
   pub agrees : Agree new later
   pub kept : told ≡ None → new ≡ old
+
+-- how many steps an answer says were made
+abbrev pub count_of : Result Note MachineError → ℕ
+count_of (Ok told) = 1
+count_of (Err why) = 0
 
 -- `Reached` says of which rings something is promised, `can` whether a step can happen, `changed` what it makes, and `tells` its note
 module _ {Parts State Step : Type 0} (Agree : Parts → State → Type 0) (Reached : ℕ → State → Type 0) (can : State → Step → Bool) (changed : State → Step → State) (tells : State → Step → Note) where

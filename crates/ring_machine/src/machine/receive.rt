@@ -11,6 +11,7 @@ ghost use Rattle.ring_machine.specs.shared.Moves.{told_owner};
 ghost use Rattle.ring_machine.specs.receive.Machine.{RxAgrees, RxFollows, RxOwns, RxRuns};
 ghost use Rattle.ring_machine.specs.receive.Moves.{has_dd, has_eop, rx_begun, rx_may, rx_moved, rx_told};
 
+use crate::counting::count_of;
 use crate::error::MachineError;
 use crate::machine::queue::QueueMachine;
 use crate::moves::arguments::SegmentLength;
@@ -43,6 +44,17 @@ fn written_back(len: u16, eop: bool) -> u64
 }
 
 impl RxMachine {
+    /// Makes one step. Where the queue has no such step, it answers `NotEnabled`. An `Err` leaves the machine as it was.
+    pub fn step(&mut self, step: RxStep<SegmentLength>) -> Result<Note, MachineError>
+        ensures follows { RxFollows self.old step result self.new }
+        ensures refused { IfErr result (λ e. (e ≡ NotEnabled) × (self.new ≡ self.old)) }
+    {
+        if !self.may(&step) {
+            return Err(MachineError::NotEnabled);
+        }
+        self.make(&step)
+    }
+
     // Whether the queue has the step, as far as words and places tell.
     fn may(&self, step: &RxStep<SegmentLength>) -> bool
         ensures told { result ≡ rx_may self.now step.now }
@@ -182,35 +194,13 @@ impl RxMachine {
         }
     }
 
-    // How many steps of this one are made: one or none.
-    fn tried(&mut self, step: RxStep<SegmentLength>) -> usize
-        ensures runs { RxRuns self.old (step ∷ []) result self.new }
-        ensures one { result ≤ 1 }
-    {
-        match self.step(step) {
-            Ok(_) => 1,
-            Err(_) => 0,
-        }
-    }
-
-    /// Makes one step. Where the queue has no such step, it answers `NotEnabled`. An `Err` leaves the machine as it was.
-    pub fn step(&mut self, step: RxStep<SegmentLength>) -> Result<Note, MachineError>
-        ensures follows { RxFollows self.old step result self.new }
-        ensures refused { IfErr result (λ e. (e ≡ NotEnabled) × (self.new ≡ self.old)) }
-    {
-        if !self.may(&step) {
-            return Err(MachineError::NotEnabled);
-        }
-        self.make(&step)
-    }
-
     /// Makes each step that the queue has when its turn comes, passes over the others, and answers how many it made.
     pub fn run(&mut self, steps: &[RxStep<SegmentLength>]) -> usize
         ensures { RxRuns self.old steps.now result self.new }
     {
         let mut made = 0;
         for step in steps {
-            made += self.tried(*step);
+            made += count_of(&self.step(*step));
         }
         made
     }

@@ -10,6 +10,7 @@ ghost use Rattle.ring_machine.specs.shared.Moves.{told_owner};
 ghost use Rattle.ring_machine.specs.transmit.Machine.{IsTxSound, StepFits, TxAgrees, TxFollows, TxOwns, TxRuns};
 ghost use Rattle.ring_machine.specs.transmit.Moves.{is_made, oldest_place, tx_after_renew, tx_may, tx_moved, tx_told};
 
+use crate::counting::count_of;
 use crate::error::MachineError;
 use crate::machine::places::{place_after, places_between};
 use crate::machine::queue::QueueMachine;
@@ -63,6 +64,17 @@ impl TxMachine {
         let size = self.queue.size();
         let reported = places_between(self.rep, self.report, size);
         places_between(self.rep, place_after(place, size), size) <= reported
+    }
+
+    /// Makes one step. Where the queue has no such step, it answers `NotEnabled`. An `Err` leaves the machine as it was.
+    pub fn step(&mut self, step: TxStep<Descriptor>) -> Result<Note, MachineError>
+        ensures follows { TxFollows self.old step result self.new }
+        ensures refused { IfErr result (λ e. (e ≡ NotEnabled) × (self.new ≡ self.old)) }
+    {
+        if !self.may(&step) {
+            return Err(MachineError::NotEnabled);
+        }
+        self.make(&step)
     }
 
     // Whether the queue has the step, as far as words and places tell.
@@ -267,35 +279,13 @@ impl TxMachine {
         }
     }
 
-    // How many steps of this one are made: one or none.
-    fn tried(&mut self, step: TxStep<Descriptor>) -> usize
-        ensures runs { TxRuns self.old (step ∷ []) result self.new }
-        ensures one { result ≤ 1 }
-    {
-        match self.step(step) {
-            Ok(_) => 1,
-            Err(_) => 0,
-        }
-    }
-
-    /// Makes one step. Where the queue has no such step, it answers `NotEnabled`. An `Err` leaves the machine as it was.
-    pub fn step(&mut self, step: TxStep<Descriptor>) -> Result<Note, MachineError>
-        ensures follows { TxFollows self.old step result self.new }
-        ensures refused { IfErr result (λ e. (e ≡ NotEnabled) × (self.new ≡ self.old)) }
-    {
-        if !self.may(&step) {
-            return Err(MachineError::NotEnabled);
-        }
-        self.make(&step)
-    }
-
     /// Makes each step that the queue has when its turn comes, passes over the others, and answers how many it made.
     pub fn run(&mut self, steps: &[TxStep<Descriptor>]) -> usize
         ensures { TxRuns self.old steps.now result self.new }
     {
         let mut made = 0;
         for step in steps {
-            made += self.tried(*step);
+            made += count_of(&self.step(*step));
         }
         made
     }

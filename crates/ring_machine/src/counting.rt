@@ -1,0 +1,15 @@
+//! Counting what is made of a schedule.
+
+ghost use Rattle.std.specs.Prelude.{◌≡◌, ◌≤◌};
+ghost use Rattle.ring_machine.specs.shared.Following.{count_of};
+
+use crate::error::MachineError;
+use ring_model::Note;
+
+/// How many steps an answer says were made: one or none.
+pub(crate) fn count_of(answer: &Result<Note, MachineError>) -> usize
+    ensures value { result ≡ count_of answer.now }
+    ensures one { result ≤ 1 }
+{
+    usize::from(answer.is_ok())
+}
