@@ -217,13 +217,6 @@ impl RxMachine {
         requires { place < self.now.queue.size }
         ensures { RxOwns self.now place result }
     {
-        self.owner_at(place)
-    }
-
-    fn owner_at(&self, place: u16) -> Owner
-        ensures told { result ≡ told_owner self.now.queue place }
-        ensures sound { IsSound self.now.queue }
-    {
         self.queue.owner(place)
     }
 

@@ -114,13 +114,6 @@ impl TxMachine {
         requires { place < self.now.queue.size }
         ensures { TxOwns self.now place result }
     {
-        self.owner_at(place)
-    }
-
-    fn owner_at(&self, place: u16) -> Owner
-        ensures told { result ≡ told_owner self.now.queue place }
-        ensures sound { IsTxSound self.now }
-    {
         self.queue.owner(place)
     }
 }
