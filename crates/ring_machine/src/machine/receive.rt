@@ -194,6 +194,14 @@ impl RxMachine {
         }
     }
 
+    /// Who has this place, which is below the size.
+    pub fn owner(&self, place: u16) -> Owner
+        requires { place < self.now.queue.size }
+        ensures { RxOwns self.now place result }
+    {
+        self.queue.owner(place)
+    }
+
     /// Makes each step that the queue has when its turn comes, passes over the others, and answers how many it made.
     pub fn run(&mut self, steps: &[RxStep<SegmentLength>]) -> usize
         ensures { RxRuns self.old steps.now result self.new }
@@ -203,21 +211,6 @@ impl RxMachine {
             made += count_of(&self.step(*step));
         }
         made
-    }
-
-    /// How many places the ring has, and so descriptors.
-    pub fn size(&self) -> u16
-        ensures { result ≡ self.now.queue.size }
-    {
-        self.queue.size()
-    }
-
-    /// Who has this place, which is below the size.
-    pub fn owner(&self, place: u16) -> Owner
-        requires { place < self.now.queue.size }
-        ensures { RxOwns self.now place result }
-    {
-        self.queue.owner(place)
     }
 
     /// A receive queue of `n` descriptors with nothing posted, enabled and seen enabled or never enabled. It answers
@@ -233,5 +226,12 @@ impl RxMachine {
             quiet: 0,
             still: false,
         })
+    }
+
+    /// How many places the ring has, and so descriptors.
+    pub fn size(&self) -> u16
+        ensures { result ≡ self.now.queue.size }
+    {
+        self.queue.size()
     }
 }

@@ -102,13 +102,6 @@ impl TxMachine {
         }
     }
 
-    /// How many places the ring has, and so descriptors.
-    pub fn size(&self) -> u16
-        ensures { result ≡ self.now.queue.size }
-    {
-        self.queue.size()
-    }
-
     /// Who has this place, which is below the size.
     pub fn owner(&self, place: u16) -> Owner
         requires { place < self.now.queue.size }
@@ -317,5 +310,12 @@ impl TxMachine {
             ends: true,
             owed: false,
         })
+    }
+
+    /// How many places the ring has, and so descriptors.
+    pub fn size(&self) -> u16
+        ensures { result ≡ self.now.queue.size }
+    {
+        self.queue.size()
     }
 }
