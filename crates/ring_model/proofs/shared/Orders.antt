@@ -3,7 +3,7 @@ use Rattle.std.proofs.Common.{◌≡◌, ℕ, ◌+◌, ◌-◌, ◌<◌, Bool, t
 use Rattle.std.proofs.lemmas.Bool.{false≢true, both_ways}
 use Rattle.ring_model.specs.declared.handshake.Handshake.{Handshake}
 use Rattle.ring_model.specs.shared.Handshakes.{is_open, is_live, is_answered, is_serving, is_stopped, is_tailed}
-use Rattle.ring_model.proofs.shared.Kept.{InOrder, is_emptied}
+use Rattle.ring_model.proofs.shared.Kept.{InOrder, InState, is_emptied}
 use Rattle.ring_model.proofs.shared.Shakes.{open_unanswered, live_unanswered, unanswered_full, stopped_full, stopped_answered, tailed_emptied}
 
 -- a state of another kind claims nothing
@@ -11,8 +11,17 @@ full : {P : Type 0} (h : Handshake) → is_emptied h.driver ≡ false → is_emp
 full h not_so so = absurd (both_ways (is_emptied h.driver) not_so so)
 
 module _ (n posted served given published known reclaimed : ℕ) (held : Bool) (h : Handshake) (o : InOrder n posted served given published known reclaimed held h) where
+  -- where the driver is open, not all came back, nor is the tail cleared
+  open_state : (posted' published' : ℕ) → is_open h.driver ≡ true → InState posted' served given published' reclaimed h
+  open_state posted' published' opened = let unemptied = unanswered_full h.driver (open_unanswered h.driver opened) in record {
+    not_reclaimed = o.not_reclaimed;
+    none_served = o.none_served;
+    all_back = full h unemptied;
+    tail_cleared = λ t. full h unemptied (tailed_emptied h.driver t);
+  }
+
   pub order-post : is_open h.driver ≡ true → posted - given < n - 1 → InOrder n (posted + 1) served given published known reclaimed held h
-  order-post opened room = record {
+  order-post opened few = record {
     count = record {
       given_served = o.given_served;
       served_posted = omega arith;
@@ -26,12 +35,7 @@ module _ (n posted served given published known reclaimed : ℕ) (held : Bool) (
       held_known = o.held_known;
       held_serving = o.held_serving;
     };
-    state = record {
-      not_reclaimed = o.not_reclaimed;
-      none_served = o.none_served;
-      all_back = full h (unanswered_full h.driver (open_unanswered h.driver opened));
-      tail_cleared = o.tail_cleared;
-    };
+    state = open_state (posted + 1) published opened;
   }
 
   pub order-publish : is_open h.driver ≡ true → InOrder n posted served given posted known reclaimed held h
@@ -44,12 +48,7 @@ module _ (n posted served given published known reclaimed : ℕ) (held : Bool) (
       held_known = o.held_known;
       held_serving = o.held_serving;
     };
-    state = record {
-      not_reclaimed = o.not_reclaimed;
-      none_served = o.none_served;
-      all_back = o.all_back;
-      tail_cleared = λ t. full h (unanswered_full h.driver (open_unanswered h.driver opened)) (tailed_emptied h.driver t);
-    };
+    state = open_state posted posted opened;
   }
 
   pub order-look : is_serving h.controller ≡ true → InOrder n posted served given published published reclaimed held h
