@@ -67,6 +67,11 @@ says_from k n [] frames room h =
 says_from k n (line ∷ lines) frames room h =
     says_more k n line lines frames (line_says k line) room refl h (λ m fs below same. says_from (k + 1) m lines fs below same)
 
+-- why the line of this number is refused, after n frames and those of the lines before it
+abbrev IsFault : ℕ → List (ℕ × List ℕ) → ℕ → List ℕ → ScriptError → Type 0
+IsFault n before number line e = (line_says number line ≡ Err e)
+    ⊎ ((n + length (frames_in before) ≡ MOST_SCRIPT_FRAMES) × IsSome (said_frame (line_says number line)) × (e ≡ errors.TooMany number))
+
 -- the first fault of the lines from number k on, after n frames
 record RefusesFrom (k n : ℕ) (lines : List (List ℕ)) (e : ScriptError) : Type 0 where
   before : List (ℕ × List ℕ)
@@ -75,8 +80,20 @@ record RefusesFrom (k n : ℕ) (lines : List (List ℕ)) (e : ScriptError) : Typ
   after : List (ℕ × List ℕ)
   cut : enumerate_from k lines ≡ before ++ (number, line) ∷ after
   good : All IsGood before
-  fault : (line_says number line ≡ Err e)
-      ⊎ ((n + length (frames_in before) ≡ MOST_SCRIPT_FRAMES) × IsSome (said_frame (line_says number line)) × (e ≡ errors.TooMany number))
+  fault : IsFault n before number line e
+
+-- it comes after a line that has none
+refuses_later : (k n m : ℕ) (line : List ℕ) (lines : List (List ℕ)) (e : ScriptError) (said : Option Frame) → line_says k line ≡ Ok said
+    → (rest : RefusesFrom (k + 1) m lines e) → IsFault n ((k, line) ∷ rest.before) rest.number rest.line e → RefusesFrom k n (line ∷ lines) e
+refuses_later k n m line lines e said is rest fault = record {
+  before = (k, line) ∷ rest.before;
+  number = rest.number;
+  line = rest.line;
+  after = rest.after;
+  cut = ap (λ more. (k, line) ∷ more) rest.cut;
+  good = good_line k line rest.before said is rest.good;
+  fault = fault;
+}
 
 refuses_more : (k n : ℕ) (line : List ℕ) (lines : List (List ℕ)) (e : ScriptError) (r : Result (Option Frame) ScriptError)
     → n ≤ MOST_SCRIPT_FRAMES → line_says k line ≡ r → and_then k n r (λ m. lines_say (k + 1) m lines) ≡ Err e
@@ -88,15 +105,7 @@ refuses_more k n line lines e (Err d) room is h later =
     record { before = []; number = k; line = line; after = enumerate_from (k + 1) lines; cut = refl; good = All-nil IsGood; fault = inl (is ∙ ap Err same) }
 refuses_more k n line lines e (Ok None) room is h later =
     let rest = later n room h in
-    record {
-      before = (k, line) ∷ rest.before;
-      number = rest.number;
-      line = rest.line;
-      after = rest.after;
-      cut = ap (λ lines. (k, line) ∷ lines) rest.cut;
-      good = good_line k line rest.before None is rest.good;
-      fault = rw is rest.fault;
-    }
+    refuses_later k n n line lines e None is rest (rw is rest.fault)
 refuses_more k n line lines e (Ok (Some f)) room is h later =
     elim (gain_err (nat_eq n MOST_SCRIPT_FRAMES) (errors.TooMany k) f (lines_say (k + 1) (n + 1) lines) e h) [
       | inl full ↦
@@ -105,15 +114,7 @@ refuses_more k n line lines e (Ok (Some f)) room is h later =
       | inr stop ↦
           let other = eqb-false n MOST_SCRIPT_FRAMES stop.0 in
           let rest = later (n + 1) (omega arith) stop.1 in
-          record {
-            before = (k, line) ∷ rest.before;
-            number = rest.number;
-            line = rest.line;
-            after = rest.after;
-            cut = ap (λ lines. (k, line) ∷ lines) rest.cut;
-            good = good_line k line rest.before (Some f) is rest.good;
-            fault = rw is (elim rest.fault [ inl bad ↦ inl bad | inr many ↦ inr (omega (arith, many.0), many.1, many.2) ]);
-          }
+          refuses_later k n (n + 1) line lines e (Some f) is rest (rw is (elim rest.fault [ inl bad ↦ inl bad | inr many ↦ inr (omega (arith, many.0), many.1, many.2) ]))
     ]
 
 refuses_from : (k n : ℕ) (lines : List (List ℕ)) (e : ScriptError) → n ≤ MOST_SCRIPT_FRAMES → lines_say k n lines ≡ Err e → RefusesFrom k n lines e

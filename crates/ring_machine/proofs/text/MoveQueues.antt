@@ -1,13 +1,14 @@
 -- The queue of a move, and the moves that its step makes.
 use Rattle.std.proofs.Common.{◌≡◌, ◌↔◌, ℕ, ◌+◌, ◌<◌, List, [], ◌∷◌, length, get_or, Some, refl, sym, ap, subst, ◌∙◌, arith}
 use Rattle.std.proofs.lemmas.Fmt.{decimal_digit}
+use Rattle.std.proofs.lemmas.Option.{same_Some}
 use Rattle.limits.specs.declared.profile.TheConstants.{MOST_PAIRS}
 use Rattle.ring_machine.specs.declared.moves.Move.{Move}
 use Rattle.ring_machine.specs.declared.moves.Move.TheVariants.{Receive, Transmit}
 use Rattle.ring_model.specs.declared.steps.RxStep.{RxStep}
 use Rattle.ring_model.specs.declared.steps.TxStep.{TxStep}
 use Rattle.ring_machine.specs.text.Fields.{Spells, SpellsRx, SpellsTx}
-use Rattle.ring_machine.specs.text.Moves.{IsInRange, queue_of}
+use Rattle.ring_machine.specs.text.Moves.{IsInRange, arguments_of, kind_of, queue_of}
 use Rattle.ring_model.specs.transmit.Ring.{Posting}
 
 abbrev letter_of : Move → ℕ
@@ -54,64 +55,42 @@ queue_again queue m r is =
     cc (is.letter_is, is.digit_is) in
     two_bytes queue is.two ∙ bytes ∙ sym (queue_is m r)
 
--- a receive queue with its step
-receive_spelled : (queue name numbers : List ℕ) (q : ℕ) (s : RxStep ℕ) → IsQueue queue 114 q
-    → SpellsRx name numbers s → Spells queue name numbers (Receive q s)
-receive_spelled queue name numbers q s is t =
-    record {
-      in_range = (is.below, t.in_range);
-      queue = queue_again queue (Receive q s) (is.below, t.in_range) is;
-      kind = t.kind;
-      arguments = t.arguments;
-    }
+-- a queue that was read
+pub queue_read : (queue : List ℕ) (letter number : ℕ) → length queue ≡ 2 → get_or queue 0 0 ≡ letter → (number < MOST_PAIRS) × (get_or queue 1 0 ≡ 48 + number) → IsQueue queue letter number
+queue_read queue letter number two letter_is digit = record { two = two; letter_is = letter_is; digit_is = digit.1; below = digit.0 }
 
-pub receive_exact : (queue name numbers : List ℕ) (q : ℕ) (s : RxStep ℕ) → IsQueue queue 114 q
-    → ((t : RxStep ℕ) → (Some s ≡ Some t) ↔ SpellsRx name numbers t)
-    → (m : Move) → (Some (Receive q s) ≡ Some m) ↔ Spells queue name numbers m
-receive_exact queue name numbers q s is exact (Receive p t) = (
-  λ e.
-      let same : Receive q s ≡ Receive p t = cc in
-      subst (λ m. Spells queue name numbers m) same (receive_spelled queue name numbers q s is ((exact s).0 refl)),
-  λ h.
-      let there = queue_said queue name numbers (Receive p t) h in
-      let number : q ≡ p = omega (arith, there.digit_is, is.digit_is) in
-      let step = (exact t).1 (record { in_range = h.in_range.1; kind = h.kind; arguments = h.arguments }) in
-      cc,
-)
-receive_exact queue name numbers q s is exact (Transmit p t) = (
-  λ e. cc,
-  λ h.
-      let there = queue_said queue name numbers (Transmit p t) h in
-      absurd (omega (arith, there.letter_is, is.letter_is)),
-)
+-- what is read is what is meant, and nothing else is
+abbrev pub IsExact : {X : Type 0} → X → (X → Type 0) → Type 0
+IsExact {X} read Means = (x : X) → (Some read ≡ Some x) ↔ Means x
 
--- a transmit queue with its step
-transmit_spelled : (queue name numbers : List ℕ) (q : ℕ) (s : TxStep (Posting ℕ)) → IsQueue queue 116 q
-    → SpellsTx name numbers s → Spells queue name numbers (Transmit q s)
-transmit_spelled queue name numbers q s is t =
-    record {
-      in_range = (is.below, t.in_range);
-      queue = queue_again queue (Transmit q s) (is.below, t.in_range) is;
-      kind = t.kind;
-      arguments = t.arguments;
-    }
+module _ (queue name numbers : List ℕ) where
+  spelled : (m : Move) → IsInRange m → IsQueue queue (letter_of m) (number_of m) → name ≡ kind_of m → numbers ≡ arguments_of m → Spells queue name numbers m
+  spelled m r is kind arguments = record { in_range = r; queue = queue_again queue m r is; kind = kind; arguments = arguments }
 
-pub transmit_exact : (queue name numbers : List ℕ) (q : ℕ) (s : TxStep (Posting ℕ)) → IsQueue queue 116 q
-    → ((t : TxStep (Posting ℕ)) → (Some s ≡ Some t) ↔ SpellsTx name numbers t)
-    → (m : Move) → (Some (Transmit q s) ≡ Some m) ↔ Spells queue name numbers m
-transmit_exact queue name numbers q s is exact (Transmit p t) = (
-  λ e.
-      let same : Transmit q s ≡ Transmit p t = cc in
-      subst (λ m. Spells queue name numbers m) same (transmit_spelled queue name numbers q s is ((exact s).0 refl)),
-  λ h.
-      let there = queue_said queue name numbers (Transmit p t) h in
-      let number : q ≡ p = omega (arith, there.digit_is, is.digit_is) in
-      let step = (exact t).1 (record { in_range = h.in_range.1; kind = h.kind; arguments = h.arguments }) in
-      cc,
-)
-transmit_exact queue name numbers q s is exact (Receive p t) = (
-  λ e. cc,
-  λ h.
-      let there = queue_said queue name numbers (Receive p t) h in
-      absurd (omega (arith, there.letter_is, is.letter_is)),
-)
+  -- a step that is exact makes a move that is, by the constructor of its letter
+  made_exact : {Step : Type 0} (make : ℕ → Step → Move) (letter : ℕ) (Means : Step → Type 0) (q : ℕ) (s : Step) → IsQueue queue letter q → IsExact s Means
+      → ((t : Step) → Means t → Spells queue name numbers (make q t)) → ((m : Move) → Spells queue name numbers m → letter_of m ≡ letter → (t : Step) × (m ≡ make (number_of m) t) × Means t)
+      → IsExact (make q s) (Spells queue name numbers)
+  made_exact make letter Means q s is exact spells steps m = (
+    λ e. subst (λ x. Spells queue name numbers x) (same_Some (make q s) m e) (spells s ((exact s).0 refl)),
+    λ h.
+        let there = queue_said queue name numbers m h in
+        let found = steps m h (sym there.letter_is ∙ is.letter_is) in
+        let number : q ≡ number_of m = omega (arith, there.digit_is, is.digit_is) in
+        let step = same_Some s found.0 ((exact found.0).1 found.2) in
+        ap Some (ap (λ i. make i s) number ∙ ap (λ t. make (number_of m) t) step ∙ sym found.1),
+  )
+
+  pub receive_exact : (q : ℕ) (s : RxStep ℕ) → IsQueue queue 114 q → IsExact s (SpellsRx name numbers) → IsExact (Receive q s) (Spells queue name numbers)
+  receive_exact q s is exact = made_exact Receive 114 (SpellsRx name numbers) q s is exact (λ t h. spelled (Receive q t) (is.below, h.in_range) is h.kind h.arguments) steps
+    where
+      steps : (m : Move) → Spells queue name numbers m → letter_of m ≡ 114 → (t : RxStep ℕ) × (m ≡ Receive (number_of m) t) × SpellsRx name numbers t
+      steps (Receive p t) h letter = (t, refl, record { in_range = h.in_range.1; kind = h.kind; arguments = h.arguments })
+      steps (Transmit p t) h letter = absurd (omega arith)
+
+  pub transmit_exact : (q : ℕ) (s : TxStep (Posting ℕ)) → IsQueue queue 116 q → IsExact s (SpellsTx name numbers) → IsExact (Transmit q s) (Spells queue name numbers)
+  transmit_exact q s is exact = made_exact Transmit 116 (SpellsTx name numbers) q s is exact (λ t h. spelled (Transmit q t) (is.below, h.in_range) is h.kind h.arguments) steps
+    where
+      steps : (m : Move) → Spells queue name numbers m → letter_of m ≡ 116 → (t : TxStep (Posting ℕ)) × (m ≡ Transmit (number_of m) t) × SpellsTx name numbers t
+      steps (Receive p t) h letter = absurd (omega arith)
+      steps (Transmit p t) h letter = (t, refl, record { in_range = h.in_range.1; kind = h.kind; arguments = h.arguments })

@@ -1,5 +1,5 @@
 -- Every receive ring that a schedule gives is kept, so it is lawful and concluded; and whatever schedule goes on from it, the ring after is later.
-use Rattle.std.proofs.Common.{◌≡◌, ℕ, ◌<◌, inr, ⊎_elim, true, not, ◌&&◌, List, Option, Some, None, refl, sym, subst}
+use Rattle.std.proofs.Common.{◌≡◌, ℕ, ◌<◌, inr, ⊎_elim, true, not, ◌&&◌, List, Option, Some, None, refl}
 use Rattle.std.specs.Prelude.{nat_lt}
 use Rattle.std.proofs.lemmas.Bool.{and_parts, and_from, lt-ltb}
 use Rattle.std.proofs.lemmas.Option.{slice_get_within}
@@ -14,7 +14,7 @@ use Rattle.ring_model.specs.receive.Steps.{IsRxReachable, rx_after_all, rx_can, 
 use Rattle.ring_model.specs.receive.Lawful.{IsLawfulRx, IsLawfulRxLedger}
 use Rattle.ring_model.specs.receive.Laws.{IsRxConcluded, RxLater, rx_over}
 use Rattle.ring_model.proofs.shared.Fixed.{later-refl, later-trans, later-by, same-lists}
-use Rattle.ring_model.proofs.shared.Reached.{ordered, concluded}
+use Rattle.ring_model.proofs.shared.Reached.{ordered, concluded, lawful}
 use Rattle.ring_model.proofs.shared.Reaching.{kept-reached, later-all}
 use Rattle.ring_model.proofs.receive.Kept.{IsRxKept}
 use Rattle.ring_model.proofs.receive.Over.{over-parts, over-quiet, over-close, over-shake, held-unover}
@@ -25,11 +25,7 @@ module _ {Payload : Type 0} where
   rx_kept n r h e = kept-reached rx_can rx_changed (IsRxKept Payload n) (λ q s k may. rx_kept-changed n q k s may) (rx_opening n) (λ b. rx_kept-opening n b h) r e
 
   pub rx_lawful : (n : ℕ) (r : RxRing Payload) → IsRxKept Payload n r → IsLawfulRx Payload r
-  rx_lawful n r k = let q = k.queue in record {
-    ledger = subst (λ (m : ℕ). IsLawfulRxLedger Payload m r.ledger) (sym q.size_is) (rx_ledger n r k);
-    past = λ i l e. subst (λ (m : ℕ). IsLawfulRxLedger Payload m l) (sym q.size_is) (k.past i l e);
-    map = q.map;
-  }
+  rx_lawful n r k = lawful n r.queue k.queue (IsLawfulRxLedger Payload) (rx_ledger n r k) k.past
 
   -- an ended controller has a whole ring, and so has one that said that it is quiet
   whole_over : (n : ℕ) (r : RxRing Payload) → IsRxKept Payload n r → rx_over r ≡ true → is_whole r ≡ true

@@ -43,21 +43,36 @@ ShakesAs Tailed Ended control seen = (control ≡ 0) × (seen ≡ 0)
 pub record IsShaken (h : Handshake) : Type 0 where
   pub shakes : ShakesAs h.driver h.controller h.control h.seen
 
--- the counts of an epoch, in their order
-pub record InOrder (n posted served given published known reclaimed : ℕ) (held : Bool) (h : Handshake) : Type 0 where
+-- the counts of what went round in an epoch, in their order
+pub record InCount (n posted served given reclaimed : ℕ) : Type 0 where
   pub given_served : given ≤ served
   pub served_posted : served ≤ posted
   pub returned_posted : given + reclaimed ≤ posted
   pub room : posted < given + n
+
+-- what is published of them, and what a controller that serves knows and holds of that
+pub record InSight (posted served published known : ℕ) (held : Bool) (h : Handshake) : Type 0 where
   pub published_posted : published ≤ posted
   pub known_published : is_serving h.controller ≡ true → known ≤ published
   pub served_known : is_serving h.controller ≡ true → served ≤ known
   pub held_known : held ≡ true → served < known
   pub held_serving : held ≡ true → is_serving h.controller ≡ true
+
+-- what the states of the handshake say of them
+pub record InState (posted served given published reclaimed : ℕ) (h : Handshake) : Type 0 where
   pub not_reclaimed : is_answered h.driver ≡ false → reclaimed ≡ 0
   pub none_served : is_serving h.controller ≡ false → is_open h.driver ≡ true → served ≡ 0
   pub all_back : is_emptied h.driver ≡ true → given + reclaimed ≡ posted
   pub tail_cleared : is_tailed h.driver ≡ true → published ≡ 0
+
+-- the counts of an epoch, in their order
+pub record InOrder (n posted served given published known reclaimed : ℕ) (held : Bool) (h : Handshake) : Type 0 where
+  pub count : InCount n posted served given reclaimed
+  pub open count use *
+  pub sight : InSight posted served published known held h
+  pub open sight use *
+  pub state : InState posted served given published reclaimed h
+  pub open state use *
 
 -- `ends` says of what was served whether it ends a frame
 pub record IsKept {Posted Served Given : Type 0} (n : ℕ) (ends : Served → Bool) (q : Queue Posted Served Given) : Type 0 where

@@ -1,6 +1,8 @@
--- What a kept queue is: its counts stand in their order, and where the controller has ended, the head tells how many were served.
-use Rattle.std.proofs.Common.{ℕ, Bool}
-use Rattle.ring_model.specs.shared.Queue.{Queue}
+-- What a kept queue is: it is lawful where its ledgers are; its counts stand in their order, and where the controller has ended, the head tells how many were served.
+use Rattle.std.proofs.Common.{◌≡◌, ℕ, Bool, Some, sym, subst}
+use Rattle.std.specs.Prelude.{slice_get}
+use Rattle.ring_model.specs.shared.Queue.{Ledger, Queue}
+use Rattle.ring_model.specs.shared.Lawful.{IsLawfulQueue}
 use Rattle.ring_model.specs.shared.Laws.{IsConcluded, IsOrdered}
 use Rattle.ring_model.proofs.shared.Kept.{IsKept}
 use Rattle.ring_model.proofs.shared.Shakes.{ended_full}
@@ -18,6 +20,14 @@ module _ {Posted Served Given : Type 0} (n : ℕ) {ends : Served → Bool} (q : 
     held_known = o.held_known;
     held_serving = o.held_serving;
     not_reclaimed = o.not_reclaimed;
+  }
+
+  -- a ledger that is lawful for n is so for the queue, which has n places
+  pub lawful : (Lawful : ℕ → Ledger Posted Served Given → Type 0) → Lawful n q.ledger → ((i : ℕ) (l : Ledger Posted Served Given) → slice_get q.past i ≡ Some l → Lawful n l) → IsLawfulQueue Lawful q
+  lawful Lawful now before = record {
+    ledger = subst (λ (m : ℕ). Lawful m q.ledger) (sym k.size_is) now;
+    past = λ i l e. subst (λ (m : ℕ). Lawful m l) (sym k.size_is) (before i l e);
+    map = k.map;
   }
 
   pub concluded : IsConcluded q

@@ -1,5 +1,5 @@
 -- Every transmit ring that a schedule gives is kept, so it is lawful and concluded; and whatever schedule goes on from it, the ring after is later.
-use Rattle.std.proofs.Common.{◌≡◌, ℕ, ◌+◌, ◌<◌, ◌≤◌, ⊎_elim, Bool, true, false, not, List, [], ◌∷◌, ◌++◌, map, length, Option, Some, None, refl, sym, ap, ◌∙◌, subst, arith, if◌then◌else◌, append-nil, length-append}
+use Rattle.std.proofs.Common.{◌≡◌, ℕ, ◌+◌, ◌<◌, ◌≤◌, ⊎_elim, Bool, true, false, not, List, [], ◌∷◌, ◌++◌, map, length, Option, Some, None, refl, sym, ap, ◌∙◌, arith, if◌then◌else◌, append-nil, length-append}
 use Rattle.std.specs.Prelude.{nat_lt}
 use Rattle.std.proofs.lemmas.Bool.{and_parts, and_from, cases_Bool, ltb-true, not_from_false}
 use Rattle.std.proofs.lemmas.List.{length-map}
@@ -16,7 +16,7 @@ use Rattle.ring_model.specs.transmit.Lawful.{IsLawfulTx, IsLawfulTxLedger}
 use Rattle.ring_model.specs.transmit.Laws.{IsTxConcluded, IsTxOrdered, TxLater, tx_over}
 use Rattle.ring_model.proofs.shared.Stepping.{unended}
 use Rattle.ring_model.proofs.shared.Fixed.{ended-shake, later-refl, later-trans, later-by}
-use Rattle.ring_model.proofs.shared.Reached.{ordered, concluded}
+use Rattle.ring_model.proofs.shared.Reached.{ordered, concluded, lawful}
 use Rattle.ring_model.proofs.shared.Reaching.{kept-reached, later-all}
 use Rattle.ring_model.proofs.transmit.Kept.{IsTxKept}
 use Rattle.ring_model.proofs.transmit.Stepping.{tx_kept-opening, tx_kept-changed, tx_ledger, may_clean}
@@ -34,11 +34,7 @@ module _ {Payload : Type 0} where
   tx_kept n r h e = kept-reached tx_can tx_changed (IsTxKept Payload n) (λ q s k may. tx_kept-changed n q k s may) (tx_opening n) (λ b. tx_kept-opening n b h) r e
 
   pub tx_lawful : (n : ℕ) (r : TxRing Payload) → IsTxKept Payload n r → IsLawfulTx Payload r
-  tx_lawful n r k = let q = k.queue in record {
-    ledger = subst (λ (m : ℕ). IsLawfulTxLedger Payload m r.ledger) (sym q.size_is) (tx_ledger n r k);
-    past = λ i l e. subst (λ (m : ℕ). IsLawfulTxLedger Payload m l) (sym q.size_is) (k.past i l e);
-    map = q.map;
-  }
+  tx_lawful n r k = lawful n r.queue k.queue (IsLawfulTxLedger Payload) (tx_ledger n r k) k.past
 
   module _ (n : ℕ) (r : TxRing Payload) (k : IsTxKept Payload n r) where
     tx_ordered : IsTxOrdered r

@@ -1,7 +1,7 @@
 -- What is true of a lawful receive ring: its ledgers and its owner map.
-use Rattle.std.specs.Prelude.{◌≡◌, ℕ, ◌-◌, ◌≤◌, map, length, Some, slice_get}
+use Rattle.std.specs.Prelude.{ℕ, ◌-◌, ◌≤◌, map, length}
 use Rattle.ring_model.specs.shared.Lists.{IsBeginning}
-use Rattle.ring_model.specs.shared.Lawful.{IsLawfulMap, window}
+use Rattle.ring_model.specs.shared.Lawful.{IsLawfulQueue}
 use Rattle.ring_model.specs.receive.Ring.{RxLedger, RxRing, number_of_segment}
 
 -- Taken segments are a beginning of those stored, byte for byte and in order; the stored ones lie in the posted buffers, in order; and the driver never has more than n - 1 out
@@ -10,7 +10,5 @@ pub record IsLawfulRxLedger (Payload : Type 0) (n : ℕ) (l : RxLedger Payload) 
   pub stored : IsBeginning (map number_of_segment l.served) l.posted
   pub room : length l.posted - length l.given ≤ n - 1
 
-pub record IsLawfulRx (Payload : Type 0) (r : RxRing Payload) : Type 0 where
-  pub ledger : IsLawfulRxLedger Payload r.size r.ledger
-  pub past : (k : ℕ) (l : RxLedger Payload) → slice_get r.past k ≡ Some l → IsLawfulRxLedger Payload r.size l
-  pub map : IsLawfulMap (window r.queue) r.owners
+abbrev pub IsLawfulRx : (Payload : Type 0) → RxRing Payload → Type 0
+IsLawfulRx Payload r = IsLawfulQueue (IsLawfulRxLedger Payload) r.queue

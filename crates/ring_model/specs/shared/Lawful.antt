@@ -1,8 +1,8 @@
--- Who has which place: the lawful owner map.
+-- Who has which place: the lawful owner map; and what is lawful of a whole queue.
 use Rattle.std.specs.Prelude.{◌≡◌, ◌≢◌, ℕ, ◌%◌, ◌<◌, ◌≤◌, Bool, ◌&&◌, ◌==◌, List, length, Some, slice_get, if◌then◌else◌}
 use Rattle.ring_model.specs.declared.states.Owner.{Owner}
 use Rattle.ring_model.specs.declared.states.Owner.TheVariants.{Driver, Ring, Controller}
-use Rattle.ring_model.specs.shared.Queue.{Queue, posted_count, served_count, returned_count}
+use Rattle.ring_model.specs.shared.Queue.{Ledger, Queue, posted_count, served_count, returned_count}
 
 -- Which items are out: from `first` up to `past`. The one at `serving` may be held by the controller
 pub record Window : Type 0 where
@@ -24,3 +24,9 @@ pub record IsLawfulMap (w : Window) (owners : List Owner) : Type 0 where
   pub places : length owners ≡ w.size
   pub out : (k : ℕ) → w.first ≤ k → k < w.past → slice_get owners (k % w.size) ≡ Some (holder w k)
   pub home : (place : ℕ) → place < w.size → ((k : ℕ) → w.first ≤ k → k < w.past → (k % w.size) ≢ place) → slice_get owners place ≡ Some Driver
+
+-- Its ledger of this epoch is lawful for its size, and so is each of those that ended, and its owner map is lawful
+pub record IsLawfulQueue {Posted Served Given : Type 0} (IsLawful : ℕ → Ledger Posted Served Given → Type 0) (q : Queue Posted Served Given) : Type 0 where
+  pub ledger : IsLawful q.size q.ledger
+  pub past : (k : ℕ) (l : Ledger Posted Served Given) → slice_get q.past k ≡ Some l → IsLawful q.size l
+  pub map : IsLawfulMap (window q) q.owners

@@ -1,7 +1,7 @@
 -- What is true of a lawful transmit ring: its ledgers and its owner map.
-use Rattle.std.specs.Prelude.{◌≡◌, ℕ, ◌-◌, ◌≤◌, map, length, Some, slice_get}
+use Rattle.std.specs.Prelude.{ℕ, ◌-◌, ◌≤◌, map, length}
 use Rattle.ring_model.specs.shared.Lists.{IsBeginning}
-use Rattle.ring_model.specs.shared.Lawful.{IsLawfulMap, window}
+use Rattle.ring_model.specs.shared.Lawful.{IsLawfulQueue}
 use Rattle.ring_model.specs.transmit.Ring.{TxLedger, TxRing, number_of_posting}
 
 -- Sent segments are a beginning of those posted, byte for byte and in order; the driver took back the buffers of a beginning of those sent; and it never has more than n - 1 out
@@ -10,7 +10,5 @@ pub record IsLawfulTxLedger (Payload : Type 0) (n : ℕ) (l : TxLedger Payload) 
   pub cleaned : IsBeginning l.given (map number_of_posting l.served)
   pub room : length l.posted - length l.given ≤ n - 1
 
-pub record IsLawfulTx (Payload : Type 0) (r : TxRing Payload) : Type 0 where
-  pub ledger : IsLawfulTxLedger Payload r.size r.ledger
-  pub past : (k : ℕ) (l : TxLedger Payload) → slice_get r.past k ≡ Some l → IsLawfulTxLedger Payload r.size l
-  pub map : IsLawfulMap (window r.queue) r.owners
+abbrev pub IsLawfulTx : (Payload : Type 0) → TxRing Payload → Type 0
+IsLawfulTx Payload r = IsLawfulQueue (IsLawfulTxLedger Payload) r.queue

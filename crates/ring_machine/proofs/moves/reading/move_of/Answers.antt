@@ -1,5 +1,5 @@
 use Rattle.std.proofs.Common.{◌≡◌, Some, None, rules, arith}
-use Rattle.ring_machine.proofs.text.MoveQueues.{number_of, queue_said, receive_exact, transmit_exact}
+use Rattle.ring_machine.proofs.text.MoveQueues.{number_of, queue_read, queue_said, receive_exact, transmit_exact}
 use Rattle.ring_machine.proofs.moves.reading.move_of.Goals as goal
 
 pub returns-in_default : goal.returns-in_default
@@ -22,19 +22,13 @@ returns-in_err-number c =
     )
 
 pub returns-in_ok-rx_step-in-114 : goal.returns-in_ok-rx_step-in-114
-returns-in_ok-rx_step-in-114 c =
-    let read : c.number_of.result ≡ Some c.in_ok-number.number = search rules in
+returns-in_ok-rx_step-in-114 c = let number = c.in_ok-number.number in
+    let read : c.number_of.result ≡ Some number = search rules in
     let step : c.rx_step.result ≡ Some c.in_ok-rx_step-in-114.field-0 = search rules in
-    let digit = (c.number_of.ensures c.in_ok-number.number).0 read in
-    receive_exact c.args.queue.now c.args.kind.now c.args.arguments.now c.in_ok-number.number c.in_ok-rx_step-in-114.field-0
-    (record { two = omega arith; letter_is = omega arith; digit_is = digit.1; below = digit.0 })
-    (rw step at c.rx_step.ensures)
+    receive_exact c.args.queue.now c.args.kind.now c.args.arguments.now number c.in_ok-rx_step-in-114.field-0 (queue_read c.args.queue.now 114 number (omega arith) (omega arith) ((c.number_of.ensures number).0 read)) (rw step at c.rx_step.ensures)
 
 pub returns-in_ok-tx_step-in-116 : goal.returns-in_ok-tx_step-in-116
-returns-in_ok-tx_step-in-116 c =
-    let read : c.number_of.result ≡ Some c.in_ok-number.number = search rules in
+returns-in_ok-tx_step-in-116 c = let number = c.in_ok-number.number in
+    let read : c.number_of.result ≡ Some number = search rules in
     let step : c.tx_step.result ≡ Some c.in_ok-tx_step-in-116.field-0 = search rules in
-    let digit = (c.number_of.ensures c.in_ok-number.number).0 read in
-    transmit_exact c.args.queue.now c.args.kind.now c.args.arguments.now c.in_ok-number.number c.in_ok-tx_step-in-116.field-0
-    (record { two = omega arith; letter_is = omega arith; digit_is = digit.1; below = digit.0 })
-    (rw step at c.tx_step.ensures)
+    transmit_exact c.args.queue.now c.args.kind.now c.args.arguments.now number c.in_ok-tx_step-in-116.field-0 (queue_read c.args.queue.now 116 number (omega arith) (omega arith) ((c.number_of.ensures number).0 read)) (rw step at c.tx_step.ensures)
