@@ -188,10 +188,10 @@ page-more text page later_page made added read more line later first now after m
   follows = λ pairs n w reached agrees. let f = p.follows pairs n w reached agrees in let here = after_moves w (map queue_move p.moves) in let one = wrote pairs n here (reached_world pairs n w (map queue_move p.moves) reached) f.agrees in
       let both = joined can_move after_move QueuesAgree after w (map queue_move p.moves) (queue_move m ∷ []) made added f.counted (one.agrees, adds ∙ (ap from_bool one.counted ∙ sym (one_happened (can_move here (queue_move m))))) in
       let whole : map queue_move (p.moves ++ m ∷ []) ≡ map queue_move p.moves ++ queue_move m ∷ [] = map-append queue_move p.moves (m ∷ []) in record {
-    text = one.text ∙ ap (λ (t : List ℕ). t ++ line_in here m) f.text ∙ sym (lines_in-more w p.moves m);
-    agrees = subst (λ (ms : List QueueMove). QueuesAgree after (after_moves w ms)) (sym whole) both.0;
-    counted = subst (λ (ms : List QueueMove). made + added ≡ moves_happened w ms) (sym whole) both.1;
-  };
+        text = one.text ∙ ap (λ (t : List ℕ). t ++ line_in here m) f.text ∙ sym (lines_in-more w p.moves m);
+        agrees = subst (λ (ms : List QueueMove). QueuesAgree after (after_moves w ms)) (sym whole) both.0;
+        counted = subst (λ (ms : List QueueMove). made + added ≡ moves_happened w ms) (sym whole) both.1;
+      };
 }
 
 -- what the later lines never say is not said after one more line before them
