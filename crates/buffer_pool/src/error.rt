@@ -12,6 +12,12 @@ pub enum PoolError {
     /// Memory was refused.
     #[error("memory")]
     Memory,
+    /// No buffer was in the pool at some moment of the call.
+    #[error("empty")]
+    Empty,
+    /// The stash has no room for another buffer.
+    #[error("stash full")]
+    StashFull,
     /// The number of buffers is out of range, or one of their numbers would be.
     #[error("count")]
     Count,
@@ -24,6 +30,8 @@ impl PoolError {
     {
         match self {
             PoolError::Memory => 31,
+            PoolError::Empty => 32,
+            PoolError::StashFull => 33,
             PoolError::Count => 34,
         }
     }

@@ -10,10 +10,12 @@
 
 mod buf;
 mod error;
+mod stash;
 mod stock;
 #[cfg(test)]
 mod tests;
 
 pub use buf::Buf;
 pub use error::PoolError;
+pub use stash::{STASH_BUFFERS, Stash};
 pub use stock::Stock;
