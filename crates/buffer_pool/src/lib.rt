@@ -9,13 +9,17 @@
 #![tactic(auto)]
 
 mod buf;
+mod chain;
 mod error;
+mod packet;
 mod stash;
 mod stock;
 #[cfg(test)]
 mod tests;
 
 pub use buf::Buf;
+pub use chain::Segments;
 pub use error::PoolError;
+pub use packet::Packet;
 pub use stash::{STASH_BUFFERS, Stash};
 pub use stock::Stock;
