@@ -1,0 +1,3 @@
+mod Totals
+mod Rules
+mod Accounts

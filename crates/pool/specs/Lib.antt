@@ -1,0 +1,4 @@
+pub mod Hands
+pub mod Owned
+pub mod Plays
+pub mod Sharing
