@@ -7,7 +7,7 @@ use borrow.Author.Tests.{eqb-true, eqb-false, eq-eqb, ne_eqb}
 use Rattle.buffer_pool.specs.Buffer.{Buffer}
 use Rattle.pool.specs.declared.hand.Hand.{Hand}
 use Rattle.pool.specs.declared.hand.TheConstants.{WHOLE_SHARE}
-use Rattle.pool.specs.Hands.{total, without, HoldsOnce, Accounts, WasDry}
+use Rattle.pool.specs.Hands.{total, without, HoldsOnce, HoldsWhole, Accounts, WasDry}
 use Rattle.pool.specs.Sharing.{numbers}
 use Rattle.pool.specs.Plays.{IsFair, Looked}
 use Rattle.pool.proofs.Totals.{total-append, total-without}
@@ -132,3 +132,9 @@ was-dry v [] none looked = record {
   whole = λ whole. same-members (range_with_len 0 v.count) v.held (λ h. omega (arith, looked.whole whole h));
 }
 was-dry v (b ∷ items) none looked = absurd (omega arith)
+
+pub holds-whole : (v : Hand) (items : List Buffer) → Looked v items → HoldsWhole v
+holds-whole v items looked whole = (
+  numbers items,
+  same-members (range_with_len 0 v.count) (v.held ++ numbers items) (λ h. sym (total-append h v.held (numbers items) ∙ looked.whole whole h)),
+)

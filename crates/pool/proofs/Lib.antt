@@ -1,3 +1,4 @@
 mod Totals
 mod Rules
 mod Accounts
+mod Filling

@@ -179,6 +179,9 @@ range-more a (suc n) =
     ap (range_with_len a) longer ∙ ap (λ (xs : List ℕ). a ∷ xs) (range-more (a + 1) n)
     ∙ ap (λ (m : ℕ). a ∷ (range_with_len (a + 1) n ++ m ∷ [])) last
 
+pub range-last : (n : ℕ) → range_with_len 0 (n + 1) ≡ range_with_len 0 n ++ n ∷ []
+range-last n = let e : 0 + n ≡ n = omega arith in range-more 0 n ∙ ap (λ (m : ℕ). range_with_len 0 n ++ m ∷ []) e
+
 pub begins : Shared [] (fresh_hand 0 ∷ [])
 begins = (0, record {
   shares = omega arith;
@@ -232,9 +235,6 @@ adds n port v b whole ready items views room (count, k) at =
       },
     )
   where
-  range-last : (n : ℕ) → range_with_len 0 (n + 1) ≡ range_with_len 0 n ++ n ∷ []
-  range-last n = let e : 0 + n ≡ n = omega arith in range-more 0 n ∙ ap (λ (m : ℕ). range_with_len 0 n ++ m ∷ []) e
-
   -- a pass without a share goes on fitting, whatever the pool becomes
   without-share : (count' : ℕ) (queue queue' : List ℕ) (count : ℕ) (u : Hand) → u.share ≡ 0 → Fits count queue u → Fits count' queue' u
   without-share count' queue queue' count u none f = record {

@@ -76,3 +76,7 @@ new_hand k v = hand k v.count [] None
 -- both shares, and what both held
 abbrev pub joined_hand : Hand → Hand → Hand
 joined_hand v w = hand (v.share + w.share) v.count (v.held ++ w.held) None
+
+-- a pass with the whole share, whether or not it knows what the pool holds: with some numbers in the pool it has all, each once
+abbrev pub HoldsWhole : Hand → Type 0
+HoldsWhole v = v.share ≡ WHOLE_SHARE → (queued : List ℕ) × IsPermutation (range_with_len 0 v.count) (v.held ++ queued)

@@ -13,6 +13,7 @@
 
 mod hand;
 mod pool;
+mod shares;
 
 pub use hand::{Hand, Sharing, WHOLE_SHARE};
 pub use pool::{Pool, PoolPass};

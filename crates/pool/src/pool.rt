@@ -1,7 +1,8 @@
 //! A pool, and taking and giving single buffers.
 ghost use Rattle.std.specs.Prelude.{◌≡◌, ◌<◌, ◌⊎◌, ◌↔◌, ℕ, [], ◌∷◌, IfOk, IfErr, OnOk, OnErr, IsErrOf, Contains};
-ghost use Rattle.crossbeam_queue.specs.Passes.{view, IsPassOf, ruled_capacity};
+ghost use Rattle.crossbeam_queue.specs.Passes.{view, IsPassOf, IsSamePass, ruled_capacity};
 ghost use Rattle.buffer_pool.specs.Buffer.{buffer};
+ghost use Rattle.buffer_pool.specs.Stocked.{full_stock};
 ghost use Rattle.buffer_pool.specs.declared.error.PoolError.TheVariants.{Empty};
 ghost use Rattle.pool.specs.Hands.{fresh_hand, Took, Gave, Knows, Accounts, WasDry};
 ghost use Rattle.pool.specs.Owned.{IsOf};
@@ -15,12 +16,12 @@ use std::marker::Model;
 use std::sync::Wait;
 
 /// The queue of the buffers that are in a pool.
-type Queue = RuledArrayQueue<Buf, Hand, Sharing>;
+pub(crate) type Queue = RuledArrayQueue<Buf, Hand, Sharing>;
 
 /// The empty buffers that no pass holds, in the order in which they are taken. Threads share it.
 #[derive(Drop)]
 pub struct Pool {
-    queue: Queue,
+    pub(crate) queue: Queue,
 }
 
 impl Model for Pool {
@@ -36,7 +37,7 @@ impl Model for Pool {
 /// that took it, or by one that this pass was joined to.
 #[derive(Drop)]
 pub struct PoolPass {
-    pass: Pass<Buf, Hand>,
+    pub(crate) pass: Pass<Buf, Hand>,
 }
 
 impl Model for PoolPass {
@@ -51,6 +52,22 @@ impl Model for PoolPass {
 }
 
 impl Pool {
+    /// A pool of the buffers `0` to `count - 1`, which come out in this order, and its only pass.
+    ///
+    /// `PoolError::Count` is answered where `count` is not `FEWEST_BUFFERS` to `MOST_BUFFERS`, and
+    /// `PoolError::Memory` only where memory was refused.
+    pub fn new<R: Wait>(rt: &R, alloc: Global, count: u32) -> Result<(Pool, PoolPass), PoolError>
+        ensures refused { IsErrOf result PoolError.Count ↔ ((count < FEWEST_BUFFERS) ⊎ (MOST_BUFFERS < count)) }
+        ensures count { IfOk result (λ made. made.0.count ≡ count) }
+        ensures pass { IfOk result (λ made. made.1 ≡ record { pool = made.0.id; hand = fresh_hand count }) }
+        ensures accounts { IfOk result (λ made. Accounts made.1.hand) }
+    {
+        let stock = Stock::new(alloc, 0, count)?;
+        let (queue, mut pass) = Queue::ruled(alloc, count as usize)?;
+        fill(rt, &queue, &mut pass, stock);
+        Ok((Pool { queue }, PoolPass { pass }))
+    }
+
     /// How many buffers belong to the pool.
     pub fn count(&self) -> usize
         ensures { result ≡ self.now.count }
@@ -88,6 +105,24 @@ impl Pool {
     {
         buf.clear();
         match self.queue.push_as::<Gives, R>(rt, &mut pass.pass, buf) {
+            Ok(()) => {}
+            Err(_) => unreachable!(),
+        }
+    }
+}
+
+/// Puts the buffers of a full stock into an empty queue. Nobody else has the queue yet, so each push
+/// is its next step, and finds room.
+fn fill<R: Wait>(rt: &R, queue: &Queue, pass: &mut Pass<Buf, Hand>, mut stock: Stock)
+    requires queue { IsPassOf queue.now pass.old }
+    requires room { ruled_capacity queue.now ≡ stock.count }
+    requires stock { stock ≡ full_stock 0 stock.count }
+    requires fresh { view pass.old ≡ fresh_hand 0 }
+    ensures queue { IsSamePass pass.old pass.new }
+    ensures filled { view pass.new ≡ fresh_hand stock.count }
+{
+    while let Some(buf) = stock.take() {
+        match queue.push_as::<Adds, R>(rt, pass, buf) {
             Ok(()) => {}
             Err(_) => unreachable!(),
         }
