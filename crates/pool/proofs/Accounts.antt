@@ -1,12 +1,11 @@
 -- Lists that weigh the same have the same members, and numbers that weigh no more than a range are of it, each once.
-use Rattle.std.proofs.Common.{◌≡◌, ◌≢◌, ℕ, zero, suc, ◌+◌, ◌<◌, ◌≤◌, Bool, true, false, cond, List, [], ◌∷◌, ◌++◌, length, get_or, refl, sym, ap, ◌∙◌, subst, arith, Contains, eqb, All, AllPairs, IfSome, IsPermutation}
+use Rattle.std.proofs.Common.{◌≡◌, ◌≢◌, ℕ, zero, suc, ◌+◌, ◌<◌, ◌≤◌, Bool, true, false, cond, List, [], ◌∷◌, ◌++◌, length, get_or, refl, sym, ap, ◌∙◌, subst, arith, Contains, eqb, IsPermutation}
 use Rattle.std.specs.List.{range_with_len}
 use Rattle.std.proofs.lemmas.List.FromFn.{length-range_with_len, get_or-range_with_len}
 use Rattle.std.proofs.lemmas.List.Sorted.{IsPermutation-refl, IsPermutation-sym, IsPermutation-trans, IsPermutation-cons, IsPermutation-middle}
 use borrow.Author.Tests.{eqb-true, eqb-false, eq-eqb, ne_eqb}
 use Rattle.buffer_pool.specs.Buffer.{Buffer}
 use Rattle.pool.specs.declared.hand.Hand.{Hand}
-use Rattle.pool.specs.declared.hand.TheConstants.{WHOLE_SHARE}
 use Rattle.pool.specs.Hands.{total, without, HoldsOnce, HoldsWhole, Accounts, WasDry}
 use Rattle.pool.specs.Sharing.{numbers}
 use Rattle.pool.specs.Plays.{IsFair, Looked}
@@ -35,11 +34,11 @@ contained : (n : ℕ) (xs : List ℕ) → 0 < total (only n) xs → Contains xs 
 contained n [] h = absurd (omega arith)
 contained n (x ∷ xs) h = by_test (eqb x n) (eqb-true x n) (eqb-false x n) (contained n xs)
   where
-  by_test : (t : Bool) → (t ≡ true → x ≡ n) → (t ≡ false → x ≢ n) → (0 < total (only n) xs → Contains xs n) → Contains (x ∷ xs) n
-  by_test true same apart more = (0, omega arith, same refl)
-  by_test false same apart more =
-      let c : Contains xs n = more (omega (arith, only-other n x (apart refl))) in
-      (suc c.0, omega (arith, c.1), c.2)
+    by_test : (t : Bool) → (t ≡ true → x ≡ n) → (t ≡ false → x ≢ n) → (0 < total (only n) xs → Contains xs n) → Contains (x ∷ xs) n
+    by_test true same apart more = (0, omega arith, same refl)
+    by_test false same apart more =
+        let c : Contains xs n = more (omega (arith, only-other n x (apart refl))) in
+        (suc c.0, omega (arith, c.1), c.2)
 
 total-get : (f : ℕ → ℕ) (xs : List ℕ) (k d : ℕ) → k < length xs → f (get_or xs k d) ≤ total f xs
 total-get f [] k d h = absurd (omega arith)
@@ -62,10 +61,10 @@ range-once : (n a c : ℕ) → total (only n) (range_with_len a c) ≤ 1
 range-once n a zero = omega arith
 range-once n a (suc c) = by_test (eqb a n) (eqb-true a n) (eqb-false a n) (range-once n (a + 1) c)
   where
-  by_test : (t : Bool) → (t ≡ true → a ≡ n) → (t ≡ false → a ≢ n) → total (only n) (range_with_len (a + 1) c) ≤ 1
-      → only n a + total (only n) (range_with_len (a + 1) c) ≤ 1
-  by_test true same apart more = omega (arith, only-itself n a (same refl), range-above n (a + 1) c (omega (arith, same refl)))
-  by_test false same apart more = omega (arith, only-other n a (apart refl))
+    by_test : (t : Bool) → (t ≡ true → a ≡ n) → (t ≡ false → a ≢ n) → total (only n) (range_with_len (a + 1) c) ≤ 1
+        → only n a + total (only n) (range_with_len (a + 1) c) ≤ 1
+    by_test true same apart more = omega (arith, only-itself n a (same refl), range-above n (a + 1) c (omega (arith, same refl)))
+    by_test false same apart more = omega (arith, only-other n a (apart refl))
 
 -- ---- lists that weigh the same
 
@@ -73,18 +72,18 @@ without-shuffled : (n : ℕ) (xs : List ℕ) → Contains xs n → IsPermutation
 without-shuffled n [] c = absurd (omega (arith, c.1))
 without-shuffled n (x ∷ xs) c = by_test (eqb x n) (eqb-true x n) (eqb-false x n) (without-shuffled n xs)
   where
-  further : (k : ℕ) → k < suc (length xs) → get_or (x ∷ xs) k n ≡ n → x ≢ n → Contains xs n
-  further zero l e other = absurd (other e)
-  further (suc k) l e other = (k, omega arith, e)
+    further : (k : ℕ) → k < suc (length xs) → get_or (x ∷ xs) k n ≡ n → x ≢ n → Contains xs n
+    further zero l e other = absurd (other e)
+    further (suc k) l e other = (k, omega arith, e)
 
-  by_test : (t : Bool) → (t ≡ true → x ≡ n) → (t ≡ false → x ≢ n) → (Contains xs n → IsPermutation xs (n ∷ without n xs))
-      → IsPermutation (x ∷ xs) (n ∷ cond t xs (x ∷ without n xs))
-  by_test true same apart more = subst (λ (y : ℕ). IsPermutation (x ∷ xs) (y ∷ xs)) (same refl) (IsPermutation-refl (x ∷ xs))
-  by_test false same apart more =
-      let rest = more (further c.0 c.1 c.2 (apart refl)) in
-      IsPermutation-trans (x ∷ xs) (x ∷ n ∷ without n xs) (n ∷ x ∷ without n xs)
-          (IsPermutation-cons x xs (n ∷ without n xs) rest)
-          (IsPermutation-middle (x ∷ []) n (without n xs))
+    by_test : (t : Bool) → (t ≡ true → x ≡ n) → (t ≡ false → x ≢ n) → (Contains xs n → IsPermutation xs (n ∷ without n xs))
+        → IsPermutation (x ∷ xs) (n ∷ cond t xs (x ∷ without n xs))
+    by_test true same apart more = subst (λ (y : ℕ). IsPermutation (x ∷ xs) (y ∷ xs)) (same refl) (IsPermutation-refl (x ∷ xs))
+    by_test false same apart more =
+        let rest = more (further c.0 c.1 c.2 (apart refl)) in
+        IsPermutation-trans (x ∷ xs) (x ∷ n ∷ without n xs) (n ∷ x ∷ without n xs)
+        (IsPermutation-cons x xs (n ∷ without n xs) rest)
+        (IsPermutation-middle (x ∷ []) n (without n xs))
 
 pub same-members : (xs ys : List ℕ) → ((h : ℕ → ℕ) → total h xs ≡ total h ys) → IsPermutation xs ys
 same-members [] [] e = IsPermutation-refl []
@@ -93,8 +92,8 @@ same-members (x ∷ xs) ys e =
     let c : Contains ys x = contained x ys (omega (arith, e (only x), only-itself x x refl)) in
     let rest = same-members xs (without x ys) (λ h. omega (arith, e h, total-without h x ys c)) in
     IsPermutation-trans (x ∷ xs) (x ∷ without x ys) ys
-        (IsPermutation-cons x xs (without x ys) rest)
-        (IsPermutation-sym ys (x ∷ without x ys) (without-shuffled x ys c))
+    (IsPermutation-cons x xs (without x ys) rest)
+    (IsPermutation-sym ys (x ∷ without x ys) (without-shuffled x ys c))
 
 -- ---- what a pass may say of its numbers
 
@@ -103,7 +102,7 @@ holds-once v fair = record {
   of_pool = λ k d l.
       let n : ℕ = get_or v.held k d in
       let c : Contains (range_with_len 0 v.count) n = contained n (range_with_len 0 v.count)
-          (omega (arith, fair.once (only n), total-get (only n) v.held k d l, only-itself n n refl)) in
+      (omega (arith, fair.once (only n), total-get (only n) v.held k d l, only-itself n n refl)) in
       omega (arith, c.1, c.2, length-range_with_len 0 v.count, get_or-range_with_len 0 v.count c.0 n (omega (arith, c.1, length-range_with_len 0 v.count)));
   once = λ i j d l h same.
       let n : ℕ = get_or v.held i d in

@@ -1,5 +1,5 @@
 -- A queue as it is filled with the buffers of a full stock.
-use Rattle.std.proofs.Common.{◌≡◌, ℕ, suc, ◌+◌, ◌-◌, ◌≤◌, List, [], ◌∷◌, ◌++◌, length, Option, Some, refl, sym, ap, ◌∙◌, subst, arith}
+use Rattle.std.proofs.Common.{◌≡◌, ℕ, suc, ◌+◌, ◌-◌, ◌≤◌, List, [], ◌∷◌, ◌++◌, length, Option, Some, sym, ap, ◌∙◌, subst, arith}
 use Rattle.std.specs.List.{range_with_len}
 use Rattle.std.proofs.lemmas.List.FromFn.{length-range_with_len}
 use Rattle.buffer_pool.specs.Buffer.{Buffer}
@@ -39,7 +39,7 @@ left-next s after count number left e =
     let numbers : s.numbers ≡ number ∷ after.numbers = ap (λ (x : Stocked). x.numbers) e in
     let long = ap (length {A = ℕ}) numbers in
     let here = next-numbers count number after.numbers (omega arith)
-        (subst (λ (ns : List ℕ). ns ≡ range_with_len (count - length ns) (length ns)) numbers left.numbers) in
+    (subst (λ (ns : List ℕ). ns ≡ range_with_len (count - length ns) (length ns)) numbers left.numbers) in
     record {
       is = omega (arith, here.0);
       below = omega (arith, here.0);
@@ -55,4 +55,4 @@ pub added-fresh : (v w : Hand) (b : Buffer) (i : ℕ) → v ≡ fresh_hand i →
 added-fresh v w b i e number added =
     let a : Added (fresh_hand i) b w = subst (λ (x : Hand). Added x b w) e added in
     hand-same w WHOLE_SHARE (i + 1) [] (Some (range_with_len 0 (i + 1))) a.share a.count a.held
-        (a.queued ∙ ap (λ (n : ℕ). Some (range_with_len 0 i ++ n ∷ [])) number ∙ ap (λ (q : List ℕ). Some q) (sym (range-last i)))
+    (a.queued ∙ ap (λ (n : ℕ). Some (range_with_len 0 i ++ n ∷ [])) number ∙ ap (λ (q : List ℕ). Some q) (sym (range-last i)))

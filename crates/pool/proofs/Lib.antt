@@ -2,3 +2,4 @@ mod Totals
 mod Rules
 mod Accounts
 mod Filling
+mod Moving

@@ -1,18 +1,18 @@
 -- Each step keeps the rule of a pool.
-use Rattle.std.proofs.Common.{◌≡◌, ◌≢◌, ℕ, zero, suc, ◌+◌, ◌-◌, ◌<◌, ◌≤◌, Bool, true, false, cond, List, [], ◌∷◌, ◌++◌, length, set, map, refl, sym, ap, ◌∙◌, subst, ⊎_elim, arith, get_or, Contains, eqb, Option, Some, None, IfSome, IsSome, All}
+use Rattle.std.proofs.Common.{◌≡◌, ◌≢◌, ℕ, zero, suc, ◌+◌, ◌<◌, ◌≤◌, Bool, true, false, cond, List, [], ◌∷◌, ◌++◌, length, set, refl, sym, ap, ◌∙◌, subst, ⊎_elim, arith, Contains, eqb, Option, Some, None, IfSome, IsSome, All}
 use Rattle.std.specs.List.{range_with_len}
 use Rattle.std.proofs.lemmas.List.{length-map, map-append}
 use Rattle.std.proofs.lemmas.List.FromFn.{length-range_with_len}
 use Rattle.std.proofs.lemmas.List.Elements.{All-append, All-tail}
-use mathlib.Core.Option.{some, some-injective, some-ne-none}
+use mathlib.Core.Option.{some, some-ne-none}
 use lib.ListN.{get_elem?}
 use borrow.Author.Tests.{eqb-true, eq-eqb}
 use Rattle.crossbeam_queue.specs.Fifo.{Pushes, Pops, Forks, Merges, Learns}
-use Rattle.crossbeam_queue.proofs.Lists.{at_set, at_snoc, set_here}
+use Rattle.crossbeam_queue.proofs.Lists.{at_set, at_snoc}
 use Rattle.buffer_pool.specs.Buffer.{Buffer, buffer}
 use Rattle.pool.specs.declared.hand.Hand.{Hand}
 use Rattle.pool.specs.declared.hand.TheConstants.{WHOLE_SHARE}
-use Rattle.pool.specs.Hands.{hand, fresh_hand, total, without, Took, Gave, kept_hand, new_hand, joined_hand}
+use Rattle.pool.specs.Hands.{hand, total, without, kept_hand, new_hand, joined_hand}
 use Rattle.pool.specs.Sharing.{numbers, Fits, AllFit, Partition, Shared}
 use Rattle.pool.specs.Plays.{IsFair, Taken, Given, Added, Looked}
 use Rattle.pool.proofs.Totals.{total-append, total-set, total-at, total-two, total-alone, total-ones, total-without}
@@ -73,9 +73,9 @@ fair-at items views count port w k at some_share =
       once = λ h. rw counted (omega (arith, total-at (λ v. total h v.held) views port w at, k.once h));
       whole = IfSome-map (λ q. (w.share ≡ WHOLE_SHARE) × (q ≡ numbers items)) (λ q. (h : ℕ → ℕ) → total h w.held + total h q ≡ total h (range_with_len 0 w.count)) w.queued
           (λ q known h.
-            let idle : (j : ℕ) (u : Hand) → get_elem? views j ≡ some u → u.share ≡ 0 → total h u.held ≡ 0 = λ j u e none. ap (total h) ((k.each j u e).idle none) in
-            let alone = total-alone (λ v. total h v.held) (λ v. v.share) views port w at idle (k.shares ∙ sym known.0) in
-            rw (counted, known.1) (omega (arith, alone, k.once h)))
+          let idle : (j : ℕ) (u : Hand) → get_elem? views j ≡ some u → u.share ≡ 0 → total h u.held ≡ 0 = λ j u e none. ap (total h) ((k.each j u e).idle none) in
+          let alone = total-alone (λ v. total h v.held) (λ v. v.share) views port w at idle (k.shares ∙ sym known.0) in
+          rw (counted, known.1) (omega (arith, alone, k.once h)))
           fits.queued;
     }
 
@@ -102,7 +102,7 @@ takes port v some_share b items views (count, k) at =
       ready = All-tail (λ x. x ≡ buffer x.number []) b items k.ready;
       each = fit-set count (numbers (b ∷ items)) (numbers items) views port w mine'
           (λ j u apart e. others-fit count (numbers (b ∷ items)) (numbers items) u
-              (not-whole (b ∷ items) views count k port j v u (λ same. apart (sym same)) at e some_share) (k.each j u e));
+          (not-whole (b ∷ items) views count k port j v u (λ same. apart (sym same)) at e some_share) (k.each j u e));
     } in (
       w,
       (count, kept),
@@ -151,8 +151,8 @@ gives n port v b some_share ready contains items views room (count, k) at =
       ready = All-append (λ x. x ≡ buffer x.number []) items (b ∷ []) k.ready (ready-one b ready);
       each = subst (λ (q : List ℕ). AllFit count q (set views port w)) (sym (numbers-push items b))
           (fit-set count (numbers items) queue views port w mine'
-            (λ j u apart e. others-fit count (numbers items) queue u
-                (not-whole items views count k port j v u (λ same. apart (sym same)) at e some_share) (k.each j u e)));
+          (λ j u apart e. others-fit count (numbers items) queue u
+          (not-whole items views count k port j v u (λ same. apart (sym same)) at e some_share) (k.each j u e)));
     } in (
       w,
       (count, kept),
@@ -182,18 +182,6 @@ range-more a (suc n) =
 pub range-last : (n : ℕ) → range_with_len 0 (n + 1) ≡ range_with_len 0 n ++ n ∷ []
 range-last n = let e : 0 + n ≡ n = omega arith in range-more 0 n ∙ ap (λ (m : ℕ). range_with_len 0 n ++ m ∷ []) e
 
-pub begins : Shared [] (fresh_hand 0 ∷ [])
-begins = (0, record {
-  shares = omega arith;
-  once = λ h. omega arith;
-  ready = λ k d h. absurd (omega arith);
-  each = first;
-})
-  where
-  first : AllFit 0 [] (fresh_hand 0 ∷ [])
-  first zero v e = subst (Fits 0 []) (some-injective (fresh_hand 0) v e) (record { idle = λ none. refl; counted = λ some_share. refl; queued = (refl, refl) })
-  first (suc port) v e = absurd (some-ne-none v (sym e))
-
 pub adds : (n port : ℕ) (v : Hand) (b : Buffer) → v.share ≡ WHOLE_SHARE → b ≡ buffer v.count [] → Pushes Shared n port v b (Added v b)
 adds n port v b whole ready items views room (count, k) at =
     let queue : List ℕ = numbers items ++ b.number ∷ [] in
@@ -220,9 +208,9 @@ adds n port v b whole ready items views room (count, k) at =
       ready = All-append (λ x. x ≡ buffer x.number []) items (b ∷ []) k.ready (ready-one b (ready ∙ ap (λ (m : ℕ). buffer m []) (sym number)));
       each = subst (λ (q : List ℕ). AllFit (count + 1) q (set views port w)) (sym (numbers-push items b))
           (fit-set-more count queue views port w mine'
-            (λ j u apart e.
-              let part : u.share ≡ 0 = omega (arith, total-two (λ x. x.share) views port j v u (λ same. apart (sym same)) at e, k.shares) in
-              without-share (count + 1) (numbers items) queue count u part (k.each j u e)));
+          (λ j u apart e.
+          let part : u.share ≡ 0 = omega (arith, total-two (λ x. x.share) views port j v u (λ same. apart (sym same)) at e, k.shares) in
+          without-share (count + 1) (numbers items) queue count u part (k.each j u e)));
     } in (
       w,
       (count + 1, kept),
@@ -235,17 +223,17 @@ adds n port v b whole ready items views room (count, k) at =
       },
     )
   where
-  -- a pass without a share goes on fitting, whatever the pool becomes
-  without-share : (count' : ℕ) (queue queue' : List ℕ) (count : ℕ) (u : Hand) → u.share ≡ 0 → Fits count queue u → Fits count' queue' u
-  without-share count' queue queue' count u none f = record {
-    idle = f.idle;
-    counted = λ some_share. absurd (omega arith);
-    queued = IfSome-map (λ q. (u.share ≡ WHOLE_SHARE) × (q ≡ queue)) (λ q. (u.share ≡ WHOLE_SHARE) × (q ≡ queue')) u.queued (λ q h. absurd (omega (arith, h.0))) f.queued;
-  }
+    -- a pass without a share goes on fitting, whatever the pool becomes
+    without-share : (count' : ℕ) (queue queue' : List ℕ) (count : ℕ) (u : Hand) → u.share ≡ 0 → Fits count queue u → Fits count' queue' u
+    without-share count' queue queue' count u none f = record {
+      idle = f.idle;
+      counted = λ some_share. absurd (omega arith);
+      queued = IfSome-map (λ q. (u.share ≡ WHOLE_SHARE) × (q ≡ queue)) (λ q. (u.share ≡ WHOLE_SHARE) × (q ≡ queue')) u.queued (λ q h. absurd (omega (arith, h.0))) f.queued;
+    }
 
-  fit-set-more : (count : ℕ) (queue' : List ℕ) (views : List Hand) (port : ℕ) (w : Hand) → Fits (count + 1) queue' w
-      → ((j : ℕ) (u : Hand) → j ≢ port → get_elem? views j ≡ some u → Fits (count + 1) queue' u) → AllFit (count + 1) queue' (set views port w)
-  fit-set-more count queue' views port w mine others = fit-set (count + 1) queue' queue' views port w mine others
+    fit-set-more : (count : ℕ) (queue' : List ℕ) (views : List Hand) (port : ℕ) (w : Hand) → Fits (count + 1) queue' w
+        → ((j : ℕ) (u : Hand) → j ≢ port → get_elem? views j ≡ some u → Fits (count + 1) queue' u) → AllFit (count + 1) queue' (set views port w)
+    fit-set-more count queue' views port w mine others = fit-set (count + 1) queue' queue' views port w mine others
 
 -- ---- looking
 
@@ -254,7 +242,7 @@ learns port v some_share items views (count, k) at =
     let fits : Fits count (numbers items) v = k.each port v at in
     let counted : v.count ≡ count = fits.counted some_share in
     let at_most : (h : ℕ → ℕ) → total h v.held + total h (numbers items) ≤ total h (range_with_len 0 count) = λ h.
-        omega (arith, total-at (λ u. total h u.held) views port v at, k.once h) in
+    omega (arith, total-at (λ u. total h u.held) views port v at, k.once h) in
     record {
       once = λ h. rw counted (omega (arith, at_most h));
       whole = λ whole h.
@@ -283,13 +271,15 @@ forks port k v some_share less items views (count, p) at =
     let fits : Fits count (numbers items) v = p.each port v at in
     let left-fits : Fits count (numbers items) left = record { idle = λ none. absurd (omega arith); counted = λ some. fits.counted (omega arith); queued = tt } in
     let right-fits : Fits count (numbers items) right = record { idle = λ none. refl; counted = λ some. fits.counted (omega arith); queued = tt } in
-    let split-fits : AllFit count (numbers items) split = fit-set count (numbers items) (numbers items) views port left left-fits (λ j u apart e. p.each j u e) in
-    (count, record {
-      shares = omega (arith, total-append (λ u. u.share) split (right ∷ []), total-set (λ u. u.share) views port v left at, p.shares);
-      once = λ h. omega (arith, total-append (λ u. total h u.held) split (right ∷ []), total-set (λ u. total h u.held) views port v left at, p.once h);
-      ready = p.ready;
-      each = λ j u e. ⊎_elim (λ (x : get_elem? split j ≡ some u). split-fits j u x) (λ (x : right ≡ u). subst (Fits count (numbers items)) x right-fits) (at_snoc split right u j e);
-    })
+    let split-fits : AllFit count (numbers items) split = fit-set count (numbers items) (numbers items) views port left left-fits (λ j u apart e. p.each j u e) in (
+      count,
+      record {
+        shares = omega (arith, total-append (λ u. u.share) split (right ∷ []), total-set (λ u. u.share) views port v left at, p.shares);
+        once = λ h. omega (arith, total-append (λ u. total h u.held) split (right ∷ []), total-set (λ u. total h u.held) views port v left at, p.once h);
+        ready = p.ready;
+        each = λ j u e. ⊎_elim (λ (x : get_elem? split j ≡ some u). split-fits j u x) (λ (x : right ≡ u). subst (Fits count (numbers items)) x right-fits) (at_snoc split right u j e);
+      },
+    )
 
 pub merges : (port other : ℕ) (v u : Hand) → 0 < v.share → 0 < u.share → Merges Shared port v other u (joined_hand v u) (hand 0 0 [] None)
 merges port other v u some_share other_share items views (count, p) at apart at' =
@@ -299,21 +289,23 @@ merges port other v u some_share other_share items views (count, p) at apart at'
     let fits : Fits count (numbers items) v = p.each port v at in
     let both-fits : Fits count (numbers items) both = record { idle = λ none. absurd (omega arith); counted = λ some. fits.counted some_share; queued = tt } in
     let spent-fits : Fits count (numbers items) spent = record { idle = λ none. refl; counted = λ some. absurd (omega arith); queued = tt } in
-    let merged-fits : AllFit count (numbers items) merged = fit-set count (numbers items) (numbers items) views port both both-fits (λ j x other_port e. p.each j x e) in
-    (count, record {
-      shares = omega (
-        arith,
-        total-set (λ x. x.share) views port v both at,
-        total-set (λ x. x.share) merged other u spent at',
-        p.shares,
-      );
-      once = λ h. omega (
-        arith,
-        total-set (λ x. total h x.held) views port v both at,
-        total-set (λ x. total h x.held) merged other u spent at',
-        total-append h v.held u.held,
-        p.once h,
-      );
-      ready = p.ready;
-      each = fit-set count (numbers items) (numbers items) merged other spent spent-fits (λ j x other_port e. merged-fits j x e);
-    })
+    let merged-fits : AllFit count (numbers items) merged = fit-set count (numbers items) (numbers items) views port both both-fits (λ j x other_port e. p.each j x e) in (
+      count,
+      record {
+        shares = omega (
+          arith,
+          total-set (λ x. x.share) views port v both at,
+          total-set (λ x. x.share) merged other u spent at',
+          p.shares,
+        );
+        once = λ h. omega (
+          arith,
+          total-set (λ x. total h x.held) views port v both at,
+          total-set (λ x. total h x.held) merged other u spent at',
+          total-append h v.held u.held,
+          p.once h,
+        );
+        ready = p.ready;
+        each = fit-set count (numbers items) (numbers items) merged other spent spent-fits (λ j x other_port e. merged-fits j x e);
+      },
+    )

@@ -1,9 +1,9 @@
 -- Sums of weights, over lists of numbers and over the views of all passes.
-use Rattle.std.proofs.Common.{◌≡◌, ◌≢◌, ℕ, zero, suc, ◌+◌, ◌<◌, ◌≤◌, Bool, true, false, cond, List, [], ◌∷◌, ◌++◌, length, set, map, refl, sym, ap, ◌∙◌, arith, get_or, Contains, eqb}
+use Rattle.std.proofs.Common.{◌≡◌, ◌≢◌, ℕ, zero, suc, ◌+◌, ◌<◌, ◌≤◌, Bool, true, false, cond, List, [], ◌∷◌, ◌++◌, length, set, refl, sym, ap, arith, get_or, Contains, eqb}
 use mathlib.Core.Option.{some, some-injective, some-ne-none}
 use lib.ListN.{get_elem?}
 use borrow.Author.Tests.{eqb-true, eqb-false}
-use Rattle.pool.specs.Hands.{total, without, without_all}
+use Rattle.pool.specs.Hands.{total, without}
 
 module _ {X : Type 0} (f : X → ℕ) where
   pub total-append : (xs ys : List X) → total f (xs ++ ys) ≡ total f xs + total f ys
@@ -65,6 +65,6 @@ total-without h n [] c = absurd (omega (arith, c.1))
 total-without h n (x ∷ xs) c = without-step h n x xs (eqb x n) (eqb-true x n)
     (λ apart. total-without h n xs (further c.0 c.1 c.2 (eqb-false x n apart)))
   where
-  further : (k : ℕ) → k < suc (length xs) → get_or (x ∷ xs) k n ≡ n → (x ≡ n → ⊥) → Contains xs n
-  further zero l e other = absurd (other e)
-  further (suc k) l e other = (k, omega arith, e)
+    further : (k : ℕ) → k < suc (length xs) → get_or (x ∷ xs) k n ≡ n → (x ≡ n → ⊥) → Contains xs n
+    further zero l e other = absurd (other e)
+    further (suc k) l e other = (k, omega arith, e)

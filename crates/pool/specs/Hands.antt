@@ -1,5 +1,5 @@
 -- What a pass of a pool has, and what a call changes of it.
-use Rattle.std.specs.Prelude.{◌≡◌, ◌≢◌, ℕ, ◌+◌, ◌-◌, ◌<◌, ◌==◌, List, [], ◌∷◌, ◌++◌, length, reverse, Option, Some, None, IfSome, IsSome, All, AllPairs, IsPermutation, cond}
+use Rattle.std.specs.Prelude.{◌≡◌, ◌≢◌, ℕ, ◌+◌, ◌-◌, ◌<◌, ◌==◌, List, [], ◌∷◌, ◌++◌, reverse, Option, Some, None, IfSome, IsSome, All, AllPairs, IsPermutation, cond}
 use Rattle.std.specs.List.{range_with_len}
 use Rattle.pool.specs.declared.hand.Hand.{Hand}
 use Rattle.pool.specs.declared.hand.TheConstants.{WHOLE_SHARE}

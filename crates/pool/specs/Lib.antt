@@ -1,3 +1,4 @@
+pub mod Bulk
 pub mod Hands
 pub mod Owned
 pub mod Plays

@@ -1,6 +1,6 @@
 -- The rule of the queue: the numbers in it and those held by all passes together are 0 to count - 1, each once.
 -- "Together each once" is said by weights: however the numbers are weighed, both sides weigh the same.
-use Rattle.std.specs.Prelude.{◌≡◌, ℕ, ◌+◌, ◌<◌, ◌≤◌, List, [], ◌∷◌, map, IfSome, All, length}
+use Rattle.std.specs.Prelude.{◌≡◌, ℕ, ◌+◌, ◌<◌, List, [], map, IfSome, All}
 use Rattle.std.specs.List.{range_with_len}
 use mathlib.Core.Option.{some}
 use lib.ListN.{get_elem?}

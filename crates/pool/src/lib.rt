@@ -11,6 +11,7 @@
 //! Making a pool takes memory, and no other call does.
 #![tactic(auto)]
 
+mod bulk;
 mod hand;
 mod pool;
 mod shares;

@@ -51,6 +51,17 @@ impl Model for PoolPass {
     ghost invariant = { λ p. IsIdle p.pass };
 }
 
+impl PoolPass {
+    /// What holds of a pass at every moment: it holds numbers of the pool, each once, and where it
+    /// knows what the pool holds, both are together all of the pool. It does nothing when it runs.
+    #[inline]
+    pub fn accounts(&self)
+        ensures { Accounts self.now.hand }
+    {
+        let _pass = &self.pass;
+    }
+}
+
 impl Pool {
     /// A pool of the buffers `0` to `count - 1`, which come out in this order, and its only pass.
     ///

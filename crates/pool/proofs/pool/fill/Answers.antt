@@ -1,5 +1,5 @@
-use Rattle.std.proofs.Common.{◌≡◌, ℕ, ◌+◌, ◌-◌, ◌<◌, [], length, refl, sym, ap, ◌∙◌, subst, arith}
-use Rattle.buffer_pool.specs.Buffer.{Buffer, buffer}
+use Rattle.std.proofs.Common.{◌≡◌, ℕ, ◌+◌, ◌-◌, [], length, refl, sym, ap, ◌∙◌, arith}
+use Rattle.buffer_pool.specs.Buffer.{buffer}
 use Rattle.crossbeam_queue.specs.Passes.{view}
 use Rattle.pool.specs.declared.hand.Hand.{Hand}
 use Rattle.pool.specs.declared.hand.TheConstants.{WHOLE_SHARE}
@@ -31,10 +31,11 @@ loop-buf-preserved g c =
     let i : ℕ = c.args.stock.count - length c.loop-buf.stock.numbers in
     let step = c.push_as.ensures.queue in
     let before = c.loop-buf.invariant.same in
+    let added : view c.push_as.new.pass ≡ fresh_hand (i + 1) =
+    added-fresh (view c.loop-buf.pass) (view c.push_as.new.pass) c.in-Some.buf i c.loop-buf.invariant.filled next.is c.in-Ok.ensures.rule in
     let one_more : i + 1 ≡ c.args.stock.count - length c.take.new.self.numbers = omega (arith, next.is, next.below) in
     record {
       same = (step.0 ∙ before.0, step.1 ∙ before.1, step.2 ∙ before.2);
-      filled = added-fresh (view c.loop-buf.pass) (view c.push_as.new.pass) c.in-Some.buf i c.loop-buf.invariant.filled next.is c.in-Ok.ensures.rule
-          ∙ ap fresh_hand one_more;
+      filled = rw (← one_more) added;
       left = next.left;
     }
