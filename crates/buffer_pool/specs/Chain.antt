@@ -1,5 +1,5 @@
 -- What buffers have on the heap: one buffer alone, or those of a packet one behind another.
-use Rattle.std.specs.Prelude.{◌≡◌, ◌≤◌, List, [], ◌∷◌, length, take}
+use Rattle.std.specs.Prelude.{◌≡◌, ◌<◌, ◌≤◌, List, [], ◌∷◌, length, take}
 use Rattle.limits.specs.declared.profile.TheConstants.{BUFFER_BYTES}
 use Rattle.buffer_pool.specs.declared.chain.Chain.{Chain}
 use Rattle.buffer_pool.specs.declared.chain.Chain.TheVariants.{End, To'}
@@ -24,11 +24,11 @@ abbrev pub IsBuffer : Chain → Type 0
 IsBuffer End = Unit {0}
 IsBuffer (To' p room next) = IsRoom room × (next ≡ End)
 
--- the buffers of a chain, the foremost first
+-- the buffers of a chain, the foremost first, none of them empty
 abbrev pub chained : Chain → List Buffer
 chained End = []
 chained (To' p room next) = seen_room room ∷ chained next
 
 abbrev pub IsChain : Chain → Type 0
 IsChain End = Unit {0}
-IsChain (To' p room next) = IsRoom room × IsChain next
+IsChain (To' p room next) = IsRoom room × (0 < room.len) × IsChain next

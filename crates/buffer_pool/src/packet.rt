@@ -5,13 +5,13 @@ ghost use Rattle.buffer_pool.specs.Packed.{IsPacket, bytes_of, shape_of};
 use crate::Buf;
 use crate::chain::{Chain, Segments};
 use arrayvec::ArrayVec;
-use limits::MOST_SEGMENTS;
+use limits::{LEAST_FRAME, MOST_FRAME, MOST_SEGMENTS};
 use std::marker::Model;
 use std::mem;
 
 /// The buffers of one packet, in order.
 ///
-/// A packet that is whole has 1 to `MOST_SEGMENTS` buffers, none of them empty, and `LEAST_FRAME` to
+/// A whole packet has 1 to `MOST_SEGMENTS` buffers, none of them empty, and `LEAST_FRAME` to
 /// `MOST_FRAME` bytes. Its buffers hang one behind another on the heap, so a packet takes 24 bytes,
 /// and moving it moves no more. No call of a packet allocates. The default packet has no buffers, and
 /// stands where no packet is. A contract sees a packet as the list of its buffers.
@@ -124,6 +124,15 @@ impl Packet {
         self.segments as usize
     }
 
+    /// Whether the packet is whole: it has `LEAST_FRAME` to `MOST_FRAME` bytes.
+    pub fn is_whole(&self) -> bool
+        ensures { IsTrue result ↔ IsPacket self.now }
+    {
+        let _chain = &self.chain;
+        let len = self.len();
+        LEAST_FRAME <= len && len <= MOST_FRAME
+    }
+
     /// Byte `i` of the packet, counted from 0.
     pub fn byte(&self, i: usize) -> u8
         requires { i < length (bytes_of self.now) }
@@ -141,7 +150,7 @@ impl Packet {
         self.chain.set_byte(i, v);
     }
 
-    /// The bytes of each buffer, in order.
+    /// The bytes of each buffer, in order, none of them empty.
     #[inline]
     pub fn iter(&self) -> Segments<'_>
         ensures { result ≡ map (λ b. b.bytes) self.now }
