@@ -10,5 +10,5 @@ mod sharing;
 mod tests;
 mod worker;
 
-pub use sharing::share_out;
-pub use worker::work;
+pub use sharing::{in_two, share_out};
+pub use worker::{BATCH, Manner, work};

@@ -3,7 +3,7 @@ ghost use Rattle.std.specs.Prelude.{◌≡◌, []};
 ghost use Rattle.pool.specs.declared.hand.TheConstants.{WHOLE_SHARE};
 ghost use Rattle.pool.specs.Owned.{IsOf};
 
-use crate::work;
+use crate::{Manner, work};
 use pool::{Pool, PoolPass, WHOLE_SHARE};
 use std::sync::Wait;
 use std::thread;
@@ -16,6 +16,7 @@ pub fn share_out<R: Threads + Wait + Sync>(
     pool: &Pool,
     mut pass: PoolPass,
     turns: u32,
+    manner: Manner,
 ) -> PoolPass
     requires pool { IsOf pool.now pass }
     requires share { pass.hand.share ≡ WHOLE_SHARE }
@@ -30,18 +31,25 @@ pub fn share_out<R: Threads + Wait + Sync>(
         move || -> PoolPass
             requires { IsOf pool.now pass × (pass.hand.share ≡ 32768) × (pass.hand.held ≡ []) }
             ensures { IsOf pool.entry.now result × (result.hand.share ≡ 32768) × (result.hand.held ≡ []) }
-        { in_two(rt, pool, pass, turns) },
+        { in_two(rt, pool, pass, turns, manner) },
         move || -> PoolPass
             requires { IsOf pool.now other × (other.hand.share ≡ 32768) × (other.hand.held ≡ []) }
             ensures { IsOf pool.entry.now result × (result.hand.share ≡ 32768) × (result.hand.held ≡ []) }
-        { in_two(rt, pool, other, turns) },
+        { in_two(rt, pool, other, turns, manner) },
     );
     pass.join(pool, other);
     pass
 }
 
-/// Lets two threads work on one pool, with half of the pass each.
-fn in_two<R: Threads + Wait + Sync>(rt: &R, pool: &Pool, mut pass: PoolPass, turns: u32) -> PoolPass
+/// Lets two threads work on one pool, and joins them. The pass has half of the whole share and holds
+/// nothing, before and after.
+pub fn in_two<R: Threads + Wait + Sync>(
+    rt: &R,
+    pool: &Pool,
+    mut pass: PoolPass,
+    turns: u32,
+    manner: Manner,
+) -> PoolPass
     requires pool { IsOf pool.now pass }
     requires share { pass.hand.share ≡ 32768 }
     requires idle { pass.hand.held ≡ [] }
@@ -55,11 +63,11 @@ fn in_two<R: Threads + Wait + Sync>(rt: &R, pool: &Pool, mut pass: PoolPass, tur
         move || -> PoolPass
             requires { IsOf pool.now pass × (pass.hand.share ≡ 16384) × (pass.hand.held ≡ []) }
             ensures { IsOf pool.entry.now result × (result.hand.share ≡ 16384) × (result.hand.held ≡ []) }
-        { work(rt, pool, pass, turns) },
+        { work(rt, pool, pass, turns, manner) },
         move || -> PoolPass
             requires { IsOf pool.now other × (other.hand.share ≡ 16384) × (other.hand.held ≡ []) }
             ensures { IsOf pool.entry.now result × (result.hand.share ≡ 16384) × (result.hand.held ≡ []) }
-        { work(rt, pool, other, turns) },
+        { work(rt, pool, other, turns, manner) },
     );
     pass.join(pool, other);
     pass

@@ -1,6 +1,6 @@
 ghost use Rattle.pool.specs.Owned.{IsOf};
 
-use crate::share_out;
+use crate::{Manner, share_out};
 use buffer_pool::{PoolError, Stash};
 use pool::{Pool, PoolPass};
 use std::alloc::Global;
@@ -91,7 +91,7 @@ fn without_memory_no_pool_is_made(rt: HostRuntime) {
 fn pool_race(rt: HostRuntime) -> Result<(), Fail> {
     for count in [16, 64, 200] {
         let (pool, pass) = Pool::new(&rt, rt.alloc(), count)?;
-        let mut pass = share_out(&rt, &pool, pass, 10_000);
+        let mut pass = share_out(&rt, &pool, pass, 10_000, Manner::Mixed);
         let numbers = drained(&rt, rt.alloc(), &pool, &mut pass)?;
         assert_eq!(rt; numbers.len(), count as usize);
         for (number, want) in numbers.iter().zip(0..count) {

@@ -7,11 +7,28 @@ use pool::{Pool, PoolPass};
 use std::sync::Wait;
 
 /// How many buffers a worker takes at once.
-const BATCH: usize = 32;
+pub const BATCH: usize = 32;
 
-/// Takes buffers so many times, one and a batch in turn, and gives them back each time. The worker
-/// holds none before and none after. Where the pool is empty, the turn is left out.
-pub fn work<R: Wait>(rt: &R, pool: &Pool, mut pass: PoolPass, turns: u32) -> PoolPass
+/// How a worker takes its buffers in a turn, before it gives them back.
+#[derive(Clone, Copy)]
+pub enum Manner {
+    /// One.
+    Single,
+    /// `BATCH` at once, through a stash.
+    Bulk,
+    /// One and `BATCH` in turn.
+    Mixed,
+}
+
+/// Takes buffers so many times, and gives them back each time. The worker holds none before and none
+/// after. Where the pool is empty, a turn is left out.
+pub fn work<R: Wait>(
+    rt: &R,
+    pool: &Pool,
+    mut pass: PoolPass,
+    turns: u32,
+    manner: Manner,
+) -> PoolPass
     requires pool { IsOf pool.now pass }
     requires idle { pass.hand.held ≡ [] }
     ensures pool { IsOf pool.now result }
@@ -20,8 +37,13 @@ pub fn work<R: Wait>(rt: &R, pool: &Pool, mut pass: PoolPass, turns: u32) -> Poo
 {
     let mut stash = Stash::new();
     for turn in 0..turns {
-        if turn % 2 == 0 {
-            single(rt, pool, &mut pass, (turn % 256) as u8);
+        let one = match manner {
+            Manner::Single => true,
+            Manner::Bulk => false,
+            Manner::Mixed => turn % 2 == 0,
+        };
+        if one {
+            single(rt, pool, &mut pass);
         } else {
             batch(rt, pool, &mut pass, &mut stash);
         }
@@ -29,16 +51,15 @@ pub fn work<R: Wait>(rt: &R, pool: &Pool, mut pass: PoolPass, turns: u32) -> Poo
     pass
 }
 
-/// Takes one buffer, writes a byte into it and gives it back.
-fn single<R: Wait>(rt: &R, pool: &Pool, pass: &mut PoolPass, byte: u8)
+/// Takes one buffer and gives it back.
+fn single<R: Wait>(rt: &R, pool: &Pool, pass: &mut PoolPass)
     requires pool { IsOf pool.now pass.old }
     requires idle { pass.old.hand.held ≡ [] }
     ensures pool { IsOf pool.now pass.new }
     ensures share { pass.new.hand.share ≡ pass.old.hand.share }
     ensures idle { pass.new.hand.held ≡ [] }
 {
-    if let Ok(mut buf) = pool.take(rt, pass) {
-        buf.fill(&[byte]);
+    if let Ok(buf) = pool.take(rt, pass) {
         pool.give(rt, pass, buf);
     }
 }
