@@ -17,7 +17,7 @@ fn drained<R: Wait>(
     requires pool { IsOf pool.now pass.old }
 {
     let mut numbers = Vec::new(alloc);
-    for _ in 0..65_536 {
+    for _turn in 0..65_536 {
         match pool.take(rt, pass) {
             Ok(buf) => numbers.push(buf.number())?,
             Err(_) => break,
@@ -31,25 +31,22 @@ fn drained<R: Wait>(
 fn a_second_pass_takes_what_the_first_gives(rt: HostRuntime) -> Result<(), Fail> {
     let (pool, mut first) = Pool::new(&rt, rt.alloc(), 16)?;
     let mut second = first.split(&pool, 1);
-    let mut taken = Vec::new(rt.alloc());
     for want in 0..3 {
         let buf = pool.take(&rt, &mut first)?;
         assert_eq!(rt; buf.number(), want);
-        taken.push(buf)?;
     }
-    let mut third = pool.take(&rt, &mut first)?;
+    let third = pool.take(&rt, &mut first)?;
     assert_eq!(rt; third.number(), 3);
-    third.fill(&[1, 2, 3]);
-    for want in 4..16 {
-        let buf = pool.take(&rt, &mut first)?;
-        assert_eq!(rt; buf.number(), want);
-        taken.push(buf)?;
-    }
+    let mut stash = Stash::new();
+    let moved = pool.refill(&rt, &mut first, &mut stash, 256);
+    assert_eq!(rt; moved, 12);
     assert_eq!(rt; pool.take(&rt, &mut second).err(), Some(PoolError::Empty));
     pool.give(&rt, &mut first, third);
     let again = pool.take(&rt, &mut second)?;
     assert_eq!(rt; again.number(), 3);
-    assert!(rt; again.is_empty());
+    for want in (4..16).rev() {
+        assert_eq!(rt; stash.take().map(|buf| buf.number()), Some(want));
+    }
     Ok(())
 }
 

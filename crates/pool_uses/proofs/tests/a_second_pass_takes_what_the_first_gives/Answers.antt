@@ -1,0 +1,5 @@
+use Rattle.pool_uses.proofs.Returned.{behind}
+use Rattle.pool_uses.proofs.tests.a_second_pass_takes_what_the_first_gives.Goals as goal
+
+pub give-requires-clause-held : goal.give-requires-clause-held
+give-requires-clause-held c = ?
