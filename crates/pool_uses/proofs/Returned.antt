@@ -1,6 +1,6 @@
 -- What was taken at once and is given back at once.
-use Rattle.std.proofs.Common.{◌≡◌, ℕ, suc, Contains, List, [], ◌∷◌, ◌++◌, length, take, reverse, min, cond, Bool, refl, sym, ap, ◌∙◌, subst, arith, length-append}
-use Rattle.std.proofs.lemmas.List.{append-nil, length-reverse}
+use Rattle.std.proofs.Common.{◌≡◌, ℕ, suc, Contains, List, [], ◌∷◌, ◌++◌, length, take, reverse, min, cond, Bool, refl, sym, ap, ◌∙◌, arith, length-append}
+use Rattle.std.proofs.lemmas.List.{length-reverse}
 use borrow.Author.Tests.{eq-eqb}
 use Rattle.pool.specs.declared.hand.Hand.{Hand}
 use Rattle.pool.specs.Bulk.{Refilled}

@@ -27,14 +27,24 @@ fn drained<R: Wait>(
     Ok(numbers)
 }
 
+// Whether the next three buffers have the numbers 0 to 2. They stay out.
+fn take_three<R: Wait>(rt: &R, pool: &Pool, pass: &mut PoolPass) -> Result<bool, Fail>
+    requires pool { IsOf pool.now pass.old }
+    ensures pool { IsOf pool.now pass.new }
+{
+    let mut right = true;
+    for want in 0..3 {
+        let buf = pool.take(rt, pass)?;
+        right = right && buf.number() == want;
+    }
+    Ok(right)
+}
+
 #[test]
 fn a_second_pass_takes_what_the_first_gives(rt: HostRuntime) -> Result<(), Fail> {
     let (pool, mut first) = Pool::new(&rt, rt.alloc(), 16)?;
     let mut second = first.split(&pool, 1);
-    for want in 0..3 {
-        let buf = pool.take(&rt, &mut first)?;
-        assert_eq!(rt; buf.number(), want);
-    }
+    assert!(rt; take_three(&rt, &pool, &mut first)?);
     let third = pool.take(&rt, &mut first)?;
     assert_eq!(rt; third.number(), 3);
     let mut stash = Stash::new();
