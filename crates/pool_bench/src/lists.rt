@@ -14,20 +14,25 @@ type Row = ArrayVec<Buf, 15>;
 /// How long it takes to take so many packets from the front, each of which is put behind again; and
 /// so many rows of buffers.
 pub fn compared<R: Clock>(rt: &R, turns: u32) -> Result<(Duration, Duration)> {
-    let mut packets: ArrayVec<Packet, LIST> = ArrayVec::new();
-    let mut rows: ArrayVec<Row, LIST> = ArrayVec::new();
-    while !packets.is_full() {
-        packets.push(Packet::default());
-    }
-    while !rows.is_full() {
-        rows.push(Row::new());
-    }
+    let mut packets: ArrayVec<Packet, LIST> = full();
+    let mut rows: ArrayVec<Row, LIST> = full();
     let start = Instant::now(rt)?;
     turn(&mut packets, turns);
     let packets_took = start.elapsed(rt)?;
     let start = Instant::now(rt)?;
     turn(&mut rows, turns);
     Ok((packets_took, start.elapsed(rt)?))
+}
+
+/// A list of as many blanks as it has room for.
+fn full<T: Default + Drop>() -> ArrayVec<T, LIST> {
+    let mut list = ArrayVec::new();
+    for _ in 0..LIST {
+        if !list.is_full() {
+            list.push(T::default());
+        }
+    }
+    list
 }
 
 /// Takes the first of a list and puts it behind, so many times.
