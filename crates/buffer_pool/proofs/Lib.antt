@@ -1,2 +1,3 @@
+mod Chains
 pub mod Numbers
 mod Pile

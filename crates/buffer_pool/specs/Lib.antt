@@ -1,6 +1,8 @@
 pub mod Buffer
+pub mod Chain
 pub mod Held
+pub mod Hung
+pub mod Packed
 pub mod Refusal
-pub mod Room
 pub mod Shelf
 pub mod Stocked

@@ -2,6 +2,7 @@
 ghost use Rattle.std.specs.Prelude.{◌≡◌, ◌≤◌, ◌↔◌, ◌⊎◌, [], ◌++◌, length, drop, replicate, IsTrue, IfOk};
 ghost use Rattle.buffer_pool.specs.Buffer.{buffer, blank};
 
+use crate::chain::{Chain, Link, Room};
 use limits::BUFFER_BYTES;
 use std::alloc::{AllocError, Global};
 use std::marker::Model;
@@ -13,28 +14,20 @@ use std::marker::Model;
 /// the heap.
 #[derive(Drop)]
 pub struct Buf {
-    room: Option<Box<Room>>,
+    pub(crate) chain: Chain,
 }
 
 const _: () = prove!(size_of::<Buf>() == 16);
 
-/// What a buffer has on the heap.
-#[derive(Drop)]
-struct Room {
-    number: u16,
-    len: u16,
-    bytes: [u8; BUFFER_BYTES],
-}
-
 impl Model for Buf {
     ghost use Rattle.buffer_pool.specs.Buffer.{Buffer};
-    ghost use Rattle.buffer_pool.specs.Room.{IsWhole, seen};
+    ghost use Rattle.buffer_pool.specs.Chain.{IsBuffer, seen};
 
     ghost Value = { Buffer };
 
-    ghost view = { λ b. seen b.room };
+    ghost view = { λ b. seen b.chain };
 
-    ghost invariant = { λ b. IsWhole b.room };
+    ghost invariant = { λ b. IsBuffer b.chain };
 }
 
 impl Buf {
@@ -47,8 +40,12 @@ impl Buf {
             len: 0,
             bytes: [0; BUFFER_BYTES],
         };
+        let link = Link {
+            room,
+            next: Chain::End,
+        };
         Ok(Buf {
-            room: Some(Box::new(alloc, room)?),
+            chain: Chain::To(Box::new(alloc, link)?),
         })
     }
 
@@ -68,9 +65,9 @@ impl Buf {
     pub fn number(&self) -> u16
         ensures { result ≡ self.now.number }
     {
-        match &self.room {
-            Some(room) => room.number,
-            None => 0,
+        match &self.chain {
+            Chain::To(link) => link.room.number,
+            Chain::End => 0,
         }
     }
 
@@ -79,10 +76,11 @@ impl Buf {
     pub fn bytes(&self) -> &[u8]
         ensures value { result.now ≡ self.now.bytes }
         ensures fits { length result.now ≤ self.now.capacity }
+        ensures few { length result.now ≤ BUFFER_BYTES }
     {
-        match &self.room {
-            Some(room) => &room.bytes[..usize::from(room.len)],
-            None => &[],
+        match &self.chain {
+            Chain::To(link) => &link.room.bytes[..usize::from(link.room.len)],
+            Chain::End => &[],
         }
     }
 
@@ -91,6 +89,7 @@ impl Buf {
     pub fn len(&self) -> usize
         ensures value { result ≡ length self.now.bytes }
         ensures fits { result ≤ self.now.capacity }
+        ensures few { result ≤ BUFFER_BYTES }
     {
         self.bytes().len()
     }
@@ -109,7 +108,10 @@ impl Buf {
         ensures value { result ≡ self.now.capacity }
         ensures all_or_none { (result ≡ BUFFER_BYTES) ⊎ (result ≡ 0) }
     {
-        if self.room.is_some() { BUFFER_BYTES } else { 0 }
+        match &self.chain {
+            Chain::To(_) => BUFFER_BYTES,
+            Chain::End => 0,
+        }
     }
 
     /// Puts `bytes` into the buffer, in place of those that were there. It writes no other byte.
@@ -118,9 +120,9 @@ impl Buf {
         requires { length bytes.now ≤ self.old.capacity }
         ensures { self.new ≡ record self.old { bytes = bytes.now } }
     {
-        if let Some(room) = &mut self.room {
-            overwrite(&mut room.bytes, bytes);
-            room.len = bytes.len() as u16;
+        if let Chain::To(link) = &mut self.chain {
+            overwrite(&mut link.room.bytes, bytes);
+            link.room.len = bytes.len() as u16;
         }
     }
 
@@ -129,8 +131,8 @@ impl Buf {
     pub fn clear(&mut self)
         ensures { self.new ≡ record self.old { bytes = [] } }
     {
-        if let Some(room) = &mut self.room {
-            room.len = 0;
+        if let Chain::To(link) = &mut self.chain {
+            link.room.len = 0;
         }
     }
 }
@@ -139,7 +141,7 @@ impl Default for Buf {
     ghost is_default = { λ b. b ≡ blank };
 
     fn default() -> Buf {
-        Buf { room: None }
+        Buf { chain: Chain::End }
     }
 }
 

@@ -12,6 +12,12 @@ pub enum PoolError {
     /// Memory was refused.
     #[error("memory")]
     Memory = 31,
+    /// No buffer was in the pool at some moment of the call.
+    #[error("empty")]
+    Empty = 32,
+    /// The stash has no room for another buffer.
+    #[error("stash full")]
+    StashFull = 33,
     /// The number of buffers is out of range, or one of their numbers would be.
     #[error("count")]
     Count = 34,

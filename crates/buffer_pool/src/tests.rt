@@ -1,4 +1,4 @@
-use crate::{Buf, PoolError, Stock};
+use crate::{Buf, PoolError, Stash, Stock};
 use std::test::Fail;
 
 #[test]
@@ -89,10 +89,44 @@ fn without_memory_no_stock_is_made(rt: HostRuntime) {
 fn refusals_have_a_number_and_a_text(rt: HostRuntime) -> Result<(), Fail> {
     for (refusal, want) in [
         (PoolError::Memory, "31 memory"),
+        (PoolError::Empty, "32 empty"),
+        (PoolError::StashFull, "33 stash full"),
         (PoolError::Count, "34 count"),
     ] {
         let text = format!(in rt.alloc(); "{} {refusal}", refusal.number())?;
         assert_eq!(rt; text.as_str(), want);
     }
+    Ok(())
+}
+
+#[test]
+fn a_stash_takes_256_empty_buffers(rt: HostRuntime) -> Result<(), Fail> {
+    let mut stock = Stock::new(rt.alloc(), 0, 257)?;
+    let mut stash = Stash::new();
+    assert!(rt; stash.take().is_none());
+    for number in 0..256 {
+        let mut buf = stock.take().ok_or("no buffer")?;
+        buf.fill(&[7; 60]);
+        assert!(rt; !stash.is_full());
+        assert!(rt; stash.put(buf).is_ok());
+        assert_eq!(rt; stash.len(), number + 1);
+    }
+    assert!(rt; stash.is_full());
+    let mut last = stock.take().ok_or("no buffer")?;
+    last.fill(&[1, 2, 3]);
+    match stash.put(last) {
+        Ok(()) => return Err("a 257th buffer".into()),
+        Err((refusal, back)) => {
+            assert_eq!(rt; refusal, PoolError::StashFull);
+            assert_eq!(rt; back.number(), 256);
+            assert_eq!(rt; back.bytes(), [1, 2, 3].as_slice());
+        }
+    }
+    for number in (0..256).rev() {
+        let buf = stash.take().ok_or("no buffer")?;
+        assert_eq!(rt; buf.number(), number);
+        assert!(rt; buf.is_empty());
+    }
+    assert!(rt; stash.is_empty());
     Ok(())
 }

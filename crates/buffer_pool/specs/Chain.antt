@@ -1,0 +1,34 @@
+-- What buffers have on the heap: one buffer alone, or those of a packet one behind another.
+use Rattle.std.specs.Prelude.{◌≡◌, ◌<◌, ◌≤◌, List, [], ◌∷◌, length, take}
+use Rattle.limits.specs.declared.profile.TheConstants.{BUFFER_BYTES}
+use Rattle.buffer_pool.specs.declared.chain.Chain.{Chain}
+use Rattle.buffer_pool.specs.declared.chain.Chain.TheVariants.{End, To'}
+use Rattle.buffer_pool.specs.declared.chain.Room.{Room}
+use Rattle.buffer_pool.specs.Buffer.{Buffer, blank, buffer}
+
+-- the buffer that callers see
+abbrev pub seen_room : Room → Buffer
+seen_room room = buffer room.number (take room.len room.bytes)
+
+-- each byte of the room is there, and len of them are the buffer's
+pub record IsRoom (room : Room) : Type 0 where
+  pub bytes : length room.bytes ≡ BUFFER_BYTES
+  pub len : room.len ≤ BUFFER_BYTES
+
+-- a chain of one buffer or none, as callers see it: a blank has no room
+abbrev pub seen : Chain → Buffer
+seen End = blank
+seen (To' p room next) = seen_room room
+
+abbrev pub IsBuffer : Chain → Type 0
+IsBuffer End = Unit {0}
+IsBuffer (To' p room next) = IsRoom room × (next ≡ End)
+
+-- the buffers of a chain, the foremost first, none of them empty
+abbrev pub chained : Chain → List Buffer
+chained End = []
+chained (To' p room next) = seen_room room ∷ chained next
+
+abbrev pub IsChain : Chain → Type 0
+IsChain End = Unit {0}
+IsChain (To' p room next) = IsRoom room × (0 < room.len) × IsChain next

@@ -1,0 +1,110 @@
+//! The empty buffers that a worker has at hand.
+ghost use Rattle.std.specs.Prelude.{◌≡◌, ◌≤◌, ◌↔◌, ℕ, [], ◌∷◌, length, IsTrue, IsErr, IsNone, IfNone, IfSome, IfErr, OnOk, OnErr};
+ghost use Rattle.buffer_pool.specs.Buffer.{buffer};
+ghost use Rattle.buffer_pool.specs.declared.error.PoolError.TheVariants.{StashFull};
+
+use crate::{Buf, PoolError};
+use arrayvec::ArrayVec;
+use limits::BUFFER_BYTES;
+use std::marker::Model;
+
+/// The most buffers of a stash.
+pub const STASH_BUFFERS: usize = 256;
+
+const _: () = prove!(STASH_BUFFERS == 256);
+
+/// Up to `STASH_BUFFERS` empty buffers, for one worker.
+///
+/// A worker takes its buffers here and puts them back here, and goes to what all workers share only
+/// where the stash is dry or full. The buffer that was put last is taken first, since its bytes may
+/// still be in a cache. A contract sees a stash as the list of its numbers, the next one to be taken
+/// first.
+#[derive(Drop)]
+pub struct Stash {
+    bufs: ArrayVec<Buf, STASH_BUFFERS>,
+}
+
+impl Model for Stash {
+    ghost use Rattle.std.specs.Prelude.{List, ℕ};
+    ghost use Rattle.buffer_pool.specs.Shelf.{numbers_of, AllReady};
+
+    ghost Value = { List ℕ };
+
+    ghost view = { λ s. numbers_of s.bufs.items };
+
+    ghost invariant = { λ s. AllReady s.bufs.items };
+}
+
+impl Stash {
+    /// A stash with no buffer in it. It allocates nothing.
+    pub fn new() -> Self
+        ensures { result ≡ [] }
+    {
+        Stash {
+            bufs: ArrayVec::new(),
+        }
+    }
+
+    /// How many buffers are in the stash.
+    #[inline]
+    pub fn len(&self) -> usize
+        ensures value { result ≡ length self.now }
+        ensures few { result ≤ STASH_BUFFERS }
+    {
+        self.bufs.len()
+    }
+
+    /// Whether no buffer is in the stash.
+    #[inline]
+    pub fn is_empty(&self) -> bool
+        ensures { IsTrue result ↔ (self.now ≡ []) }
+    {
+        self.bufs.is_empty()
+    }
+
+    /// Whether no further buffer fits.
+    #[inline]
+    pub fn is_full(&self) -> bool
+        ensures value { IsTrue result ↔ (length self.now ≡ STASH_BUFFERS) }
+        ensures few { length self.now ≤ STASH_BUFFERS }
+    {
+        self.bufs.is_full()
+    }
+
+    /// Takes a buffer, unless there is none. It allocates nothing.
+    #[inline]
+    pub fn take(&mut self) -> Option<Buf>
+        ensures none { IsNone result ↔ (self.old ≡ []) }
+        ensures unchanged { IfNone result (self.new ≡ self.old) }
+        ensures left { IfSome result (λ b. self.old ≡ b.number ∷ self.new) }
+        ensures empty { IfSome result (λ b. b ≡ buffer b.number []) }
+    {
+        self.bufs.pop()
+    }
+
+    /// Puts a buffer in, and empties it. Into a full stash nothing is put, and the buffer comes back
+    /// as it was with `PoolError::StashFull`. It allocates nothing.
+    #[inline]
+    pub fn put(&mut self, mut buf: Buf) -> Result<(), (PoolError, Buf)>
+        requires real { buf.capacity ≡ BUFFER_BYTES }
+        ensures refused { IsErr result ↔ (length self.old ≡ STASH_BUFFERS) }
+        ensures kept { OnOk result (self.new ≡ buf.number ∷ self.old) }
+        ensures unchanged { OnErr result (self.new ≡ self.old) }
+        ensures handed_back { IfErr result (λ e. (e.0 ≡ StashFull) × (e.1 ≡ buf)) }
+    {
+        if self.bufs.is_full() {
+            return Err((PoolError::StashFull, buf));
+        }
+        buf.clear();
+        self.bufs.push(buf);
+        Ok(())
+    }
+}
+
+impl Default for Stash {
+    ghost is_default = { λ s. s ≡ [] };
+
+    fn default() -> Stash {
+        Stash::new()
+    }
+}

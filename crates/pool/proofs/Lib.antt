@@ -1,0 +1,5 @@
+mod Totals
+mod Rules
+mod Accounts
+mod Filling
+mod Moving

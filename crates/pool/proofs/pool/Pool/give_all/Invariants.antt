@@ -1,0 +1,13 @@
+use Rattle.std.proofs.Common.{◌-◌}
+use Rattle.pool.specs.Owned.{IsOf}
+use Rattle.pool.proofs.Moving.{IsGiving}
+use Rattle.pool.proofs.pool.Pool.give_all.Given as goal
+
+abbrev pub invariant-loop-moved : goal.invariant-loop-moved
+invariant-loop-moved g l = record {
+  pool : IsOf l.self l.pass;
+  giving : IsGiving l.k l.moved l.initial.pass.hand l.initial.stash l.pass.hand l.stash;
+}
+
+abbrev pub decreases-loop-moved : goal.decreases-loop-moved
+decreases-loop-moved g l = l.k - l.moved

@@ -1,0 +1,5 @@
+pub mod Bulk
+pub mod Hands
+pub mod Owned
+pub mod Plays
+pub mod Sharing

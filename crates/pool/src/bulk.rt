@@ -1,0 +1,65 @@
+//! Many buffers at once, between a pool and a worker's stash.
+ghost use Rattle.std.specs.Prelude.{◌≡◌, ◌≤◌, ◌⊎◌, length, take, drop, min};
+ghost use Rattle.buffer_pool.specs.declared.stash.TheConstants.{STASH_BUFFERS};
+ghost use Rattle.pool.specs.Bulk.{Refilled};
+ghost use Rattle.pool.specs.Hands.{Gave, Accounts, WasDry, HoldsAll};
+ghost use Rattle.pool.specs.Owned.{IsOf};
+
+use crate::{Pool, PoolPass};
+use buffer_pool::Stash;
+use std::sync::Wait;
+
+impl Pool {
+    /// Moves up to `k` buffers from the pool into a stash, in the pool's order, and answers how many.
+    /// It stops at `k`, at a full stash, or where the pool was empty at a moment of the call.
+    pub fn refill<R: Wait>(&self, rt: &R, pass: &mut PoolPass, stash: &mut Stash, k: usize) -> usize
+        requires { IsOf self.now pass.old }
+        ensures at_most { result ≤ k }
+        ensures moved { Refilled pass.old.hand stash.old result pass.new.hand stash.new }
+        ensures stops { (result ≡ k) ⊎ (length stash.new ≡ STASH_BUFFERS) ⊎ WasDry pass.new.hand }
+        ensures pool { IsOf self.now pass.new }
+        ensures accounts { Accounts pass.new.hand }
+    {
+        let mut moved = 0;
+        while moved < k && !stash.is_full() {
+            let Ok(buf) = self.take(rt, pass) else {
+                break;
+            };
+            match stash.put(buf) {
+                Ok(()) => moved += 1,
+                Err(_) => unreachable!(),
+            }
+        }
+        pass.accounts();
+        moved
+    }
+
+    /// Gives up to `k` buffers of a stash back, those that the stash would hand out first, and answers
+    /// how many: `k`, or all where the stash has fewer.
+    pub fn give_all<R: Wait>(
+        &self,
+        rt: &R,
+        pass: &mut PoolPass,
+        stash: &mut Stash,
+        k: usize,
+    ) -> usize
+        requires pool { IsOf self.now pass.old }
+        requires held { HoldsAll pass.old.hand.held (take k stash.old) }
+        ensures how_many { result ≡ min k (length stash.old) }
+        ensures stash { stash.new ≡ drop result stash.old }
+        ensures gave { Gave pass.old.hand (take result stash.old) pass.new.hand }
+        ensures pool { IsOf self.now pass.new }
+        ensures accounts { Accounts pass.new.hand }
+    {
+        let mut moved = 0;
+        while moved < k {
+            let Some(buf) = stash.take() else {
+                break;
+            };
+            self.give(rt, pass, buf);
+            moved += 1;
+        }
+        pass.accounts();
+        moved
+    }
+}

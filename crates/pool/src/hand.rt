@@ -1,0 +1,113 @@
+//! The rule of a pool's queue, and what a pass knows.
+ghost use Rattle.std.specs.Prelude.{ℕ};
+
+use buffer_pool::Buf;
+use crossbeam_queue::protocol::{Join, Lesson, Outcome, Protocol, Split};
+use std::collections::LinkedList;
+use std::marker::{Brand, PhantomData};
+
+/// The share of a pool's only pass. The shares of all passes of a pool add up to it.
+pub const WHOLE_SHARE: u32 = 65_536;
+
+const _: () = prove!(WHOLE_SHARE == 65_536);
+
+/// What a pass has, for contracts alone: its share of the pool, how many buffers belong to the pool,
+/// the numbers of those that it holds, the last one taken first, and with the whole share the numbers
+/// in the pool, in the order in which they come out, as far as it knows them. No value of it is made.
+pub struct Hand {
+    pub share: u64,
+    pub count: u64,
+    pub held: LinkedList<u32>,
+    pub queued: Option<LinkedList<u32>>,
+}
+
+/// The rule of a pool's queue.
+pub struct Sharing;
+
+impl Protocol<Buf, Hand> for Sharing {
+    ghost use Rattle.pool.specs.Hands.{fresh_hand};
+    ghost use Rattle.pool.specs.Sharing.{Shared};
+
+    ghost holds = { Shared };
+
+    ghost first = { fresh_hand 0 };
+}
+
+/// A buffer leaves the pool.
+pub(crate) struct Takes;
+
+impl Outcome<Buf, Hand> for Takes {
+    ghost use Rattle.pool.specs.Plays.{Taken};
+
+    ghost then = { Taken };
+}
+
+impl Lesson<Buf, Hand> for Takes {
+    ghost use Rattle.pool.specs.Plays.{Looked};
+
+    ghost fact = { Looked };
+}
+
+/// A buffer comes back to the pool.
+pub(crate) struct Gives;
+
+impl Outcome<Buf, Hand> for Gives {
+    ghost use Rattle.pool.specs.Plays.{Given};
+
+    ghost then = { Given };
+}
+
+impl Lesson<Buf, Hand> for Gives {
+    ghost use Rattle.pool.specs.Plays.{Looked};
+
+    ghost fact = { Looked };
+}
+
+/// A buffer comes to the pool as it is made.
+pub(crate) struct Adds;
+
+impl Outcome<Buf, Hand> for Adds {
+    ghost use Rattle.pool.specs.Plays.{Added};
+
+    ghost then = { Added };
+}
+
+impl Lesson<Buf, Hand> for Adds {
+    ghost use Rattle.pool.specs.Plays.{Looked};
+
+    ghost fact = { Looked };
+}
+
+/// How much of a share is cut off.
+pub(crate) trait Amount {
+    ghost amount: { ℕ };
+}
+
+impl Amount for Brand {
+    ghost amount = { 0 };
+}
+
+/// A pass is split off.
+pub(crate) struct Parts<K> {
+    amount: PhantomData<K>,
+}
+
+impl<K: Amount> Split<Hand> for Parts<K> {
+    ghost use Rattle.pool.specs.Hands.{kept_hand, new_hand};
+
+    ghost left = { kept_hand K.amount };
+
+    ghost right = { new_hand K.amount };
+}
+
+/// Two passes become one.
+pub(crate) struct Meets;
+
+impl Join<Hand> for Meets {
+    ghost use Rattle.std.specs.Prelude.{[], None};
+    ghost use Rattle.pool.specs.Hands.{hand, joined_hand};
+
+    ghost both = { joined_hand };
+
+    ghost spent = { hand 0 0 [] None };
+}

@@ -1,0 +1,37 @@
+//! A pool is made, and the time of its threads is taken.
+use anyhow::Result;
+use pool::{Pool, WHOLE_SHARE};
+use pool_uses::{Manner, in_two, share_out, work};
+use std::alloc::Global;
+use std::rt::Clock;
+use std::sync::Wait;
+use std::thread::Threads;
+use std::time::{Duration, Instant};
+
+/// The buffers of the pool: more than all threads take at once.
+const BUFFERS: u32 = 1_024;
+
+/// How long 1, 2 or 4 threads take for so many turns each.
+pub fn timed<R: Threads + Wait + Clock + Sync>(
+    rt: &R,
+    alloc: Global,
+    threads: u32,
+    turns: u32,
+    manner: Manner,
+) -> Result<Duration> {
+    let (pool, mut pass) = Pool::new(rt, alloc, BUFFERS)?;
+    let start = Instant::now(rt)?;
+    match threads {
+        1 => {
+            work(rt, &pool, pass, turns, manner);
+        }
+        2 => {
+            let _idle = pass.split(&pool, WHOLE_SHARE / 2);
+            in_two(rt, &pool, pass, turns, manner);
+        }
+        _ => {
+            share_out(rt, &pool, pass, turns, manner);
+        }
+    }
+    Ok(start.elapsed(rt)?)
+}

@@ -1,0 +1,79 @@
+//! One worker of a pool.
+ghost use Rattle.std.specs.Prelude.{◌≡◌, [], ◌≤◌, length};
+ghost use Rattle.pool.specs.Owned.{IsOf};
+
+use buffer_pool::Stash;
+use pool::{Pool, PoolPass};
+use std::sync::Wait;
+
+/// How many buffers a worker takes at once.
+pub const BATCH: usize = 32;
+
+/// How a worker takes its buffers in a turn, before it gives them back.
+#[derive(Clone, Copy)]
+pub enum Manner {
+    /// One.
+    Single,
+    /// `BATCH` at once, through a stash.
+    Bulk,
+    /// One and `BATCH` in turn.
+    Mixed,
+}
+
+/// Takes buffers so many times, and gives them back each time. The worker holds none before and none
+/// after. Where the pool is empty, a turn is left out.
+pub fn work<R: Wait>(
+    rt: &R,
+    pool: &Pool,
+    mut pass: PoolPass,
+    turns: u32,
+    manner: Manner,
+) -> PoolPass
+    requires pool { IsOf pool.now pass }
+    requires idle { pass.hand.held ≡ [] }
+    ensures pool { IsOf pool.now result }
+    ensures share { result.hand.share ≡ pass.hand.share }
+    ensures idle { result.hand.held ≡ [] }
+{
+    let mut stash = Stash::new();
+    for turn in 0..turns {
+        let one = match manner {
+            Manner::Single => true,
+            Manner::Bulk => false,
+            Manner::Mixed => turn % 2 == 0,
+        };
+        if one {
+            single(rt, pool, &mut pass);
+        } else {
+            batch(rt, pool, &mut pass, &mut stash);
+        }
+    }
+    pass
+}
+
+/// Takes one buffer and gives it back.
+fn single<R: Wait>(rt: &R, pool: &Pool, pass: &mut PoolPass)
+    requires pool { IsOf pool.now pass.old }
+    requires idle { pass.old.hand.held ≡ [] }
+    ensures pool { IsOf pool.now pass.new }
+    ensures share { pass.new.hand.share ≡ pass.old.hand.share }
+    ensures idle { pass.new.hand.held ≡ [] }
+{
+    if let Ok(buf) = pool.take(rt, pass) {
+        pool.give(rt, pass, buf);
+    }
+}
+
+/// Refills a stash by up to `BATCH` buffers, and gives them all back.
+fn batch<R: Wait>(rt: &R, pool: &Pool, pass: &mut PoolPass, stash: &mut Stash)
+    requires pool { IsOf pool.now pass.old }
+    requires idle { pass.old.hand.held ≡ [] }
+    requires empty { stash.old ≡ [] }
+    ensures pool { IsOf pool.now pass.new }
+    ensures share { pass.new.hand.share ≡ pass.old.hand.share }
+    ensures idle { pass.new.hand.held ≡ [] }
+    ensures empty { stash.new ≡ [] }
+{
+    let taken = pool.refill(rt, pass, stash, BATCH);
+    pool.give_all(rt, pass, stash, taken);
+}
