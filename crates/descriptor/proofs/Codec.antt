@@ -4,7 +4,7 @@ use Rattle.byteorder.specs.Endian.{little_number}
 use Rattle.descriptor.specs.declared.error.DescError.{DescError}
 use Rattle.descriptor.specs.declared.error.DescError.TheVariants.{Length, Reserved, Kind, Size}
 use Rattle.descriptor.specs.Refusal.{refusal_number, IsLowest}
-use Rattle.descriptor.specs.Layout.{Name, Form, Field, Content, fixed, kind, flag, flag_under, range, Keeps, KeepsField, KeepsWords, KeepsBytes, HasWords, EachField, read, first_word, second_word, bytes_of}
+use Rattle.descriptor.specs.Layout.{Name, Form, Field, Content, Keeps, KeepsField, KeepsWords, KeepsBytes, HasWords, EachField, read, first_word, second_word, bytes_of}
 use Rattle.descriptor.proofs.Bytes.{first-read, second-read}
 use Rattle.descriptor.proofs.Fields.{IsWhole, IsNarrow, IsKept, AreSame, keeps-form, words-same, first-lt, second-lt}
 use Rattle.descriptor.proofs.Refusals.{Decodes, Decodes-ok, Decodes-err}
@@ -12,11 +12,7 @@ use Rattle.descriptor.proofs.Refusals.{Decodes, Decodes-ok, Decodes-err}
 -- ---- the lowest refusal of two words
 
 keeps-length : (w : ℕ) (c : Content) (n : ℕ) → Keeps Length w c n
-keeps-length w (fixed _) n = tt
-keeps-length w (kind _) n = tt
-keeps-length w flag n = tt
-keeps-length w (flag_under _) n = tt
-keeps-length w (range _ _) n = tt
+keeps-length w _ n = tt
 
 each-length : (w : ℕ) (fs : List Field) → EachField (KeepsField Length w) fs
 each-length w [] = tt

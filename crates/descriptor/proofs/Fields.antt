@@ -4,7 +4,7 @@ use Rattle.std.proofs.lemmas.Nat.{pow-add, shr-shr, shr_split, shr_high, mod_low
 use Rattle.std.proofs.Math.Nat.{mul-le-mul_right}
 use Rattle.descriptor.specs.declared.error.DescError.{DescError}
 use Rattle.descriptor.specs.declared.error.DescError.TheVariants.{Reserved}
-use Rattle.descriptor.specs.Layout.{Name, Form, Field, Content, fixed, kind, flag, flag_under, range, word_of, read, EachField, Keeps, KeepsField, KeepsWords, number_in, first_word, second_word}
+use Rattle.descriptor.specs.Layout.{Name, Form, Field, Content, fixed, word_of, read, EachField, Keeps, KeepsField, KeepsWords, number_in, first_word, second_word}
 
 -- the fields lie side by side from bit b up to bit 63
 abbrev pub Tiles : ℕ → List Field → Type 0
@@ -75,20 +75,14 @@ word_of-lt n low b (f ∷ fs) (here, rest) (fits, others) h =
 
 abbrev pub settle : Content → ℕ → ℕ
 settle (fixed m) _ = m
-settle (kind _) n = n
-settle flag n = n
-settle (flag_under _) n = n
-settle (range _ _) n = n
+settle _ n = n
 
 abbrev pub settled : ℕ → Field → ℕ
 settled w f = settle f.content (read w f)
 
 settle-is : (c : Content) (w n : ℕ) → Keeps Reserved w c n → settle c n ≡ n
 settle-is (fixed m) w n h = sym h
-settle-is (kind _) w n h = refl
-settle-is flag w n h = refl
-settle-is (flag_under _) w n h = refl
-settle-is (range _ _) w n h = refl
+settle-is _ w n h = refl
 
 settled-read : (w : ℕ) (fs : List Field) → EachField (KeepsField Reserved w) fs → word_of (settled w) fs ≡ word_of (read w) fs
 settled-read w [] h = refl

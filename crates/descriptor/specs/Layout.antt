@@ -71,9 +71,7 @@ bit false = 0
 abbrev pub filled : Content → ℕ → ℕ
 filled (fixed m) _ = m
 filled (kind m) _ = m
-filled flag n = n
-filled (flag_under _) n = n
-filled (range _ _) n = n
+filled _ n = n
 
 abbrev pub number_in : (Name → ℕ) → Field → ℕ
 number_in numbers f = filled f.content (numbers f.name)

@@ -2,6 +2,7 @@ pub mod Lists
 pub mod Frames
 pub mod Places
 pub mod Rows
+pub mod Told
 pub mod Handshakes
 pub mod QueueSteps
 pub mod Queue

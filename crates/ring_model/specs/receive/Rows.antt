@@ -5,6 +5,7 @@ use Rattle.ring_model.specs.declared.steps.RxStep.{RxStep}
 use Rattle.ring_model.specs.declared.steps.RxStep.TheVariants.{Post, Publish, Look, Fetch, Store, Take, Head, Control, Reclaim, StoreQuiet, LoadQuiet, ClearHead, ClearTail, ClearQuiet}
 use Rattle.ring_model.specs.declared.notes.Note.{Note}
 use Rattle.ring_model.specs.declared.notes.Note.TheVariants as note
+use Rattle.ring_model.specs.shared.Told.{place, tail, head, buffer, control}
 use Rattle.ring_model.specs.receive.Ring.{RxRing, Segment, rx_opening}
 use Rattle.ring_model.specs.receive.Steps.{rx_after_all, rx_happened, rx_notes}
 
@@ -13,12 +14,6 @@ on_8 = rx_opening 8 true
 
 abbrev off_8 : RxRing ℕ
 off_8 = rx_opening 8 false
-
-abbrev place : ℕ → Option Note
-place k = Some (note.Place k)
-
-abbrev tail : ℕ → Option Note
-tail k = Some (note.Tail k)
 
 abbrev free : ℕ → Option Note
 free k = Some (note.Free k)
@@ -31,15 +26,6 @@ taken b len eop = Some (note.Taken (Some (record { buffer = b; len = len; eop = 
 
 abbrev nothing : Option Note
 nothing = Some (note.Taken None)
-
-abbrev head : ℕ → Option Note
-head k = Some (note.Head k)
-
-abbrev buffer : ℕ → Option Note
-buffer b = Some (note.Buffer b)
-
-abbrev control : ℕ → Option Note
-control v = Some (note.Control v)
 
 abbrev quiet : ℕ → Option Note
 quiet v = Some (note.Quiet v)

@@ -6,6 +6,7 @@ use Rattle.ring_model.specs.declared.steps.TxStep.{TxStep}
 use Rattle.ring_model.specs.declared.steps.TxStep.TheVariants.{Post, Publish, Look, Fetch, Send, Report, LoadReport, Clean, Control, Reclaim, ClearHead, ClearTail, ClearReport}
 use Rattle.ring_model.specs.declared.notes.Note.{Note}
 use Rattle.ring_model.specs.declared.notes.Note.TheVariants as note
+use Rattle.ring_model.specs.shared.Told.{place, tail, head, buffer, control}
 use Rattle.ring_model.specs.transmit.Ring.{Posting, TxRing, tx_opening}
 use Rattle.ring_model.specs.transmit.Steps.{tx_after_all, tx_happened, tx_notes}
 
@@ -26,17 +27,8 @@ frame b rs = record { number = b; payload = 60; eop = true; rs = rs; paylen = 60
 abbrev half : Posting ℕ
 half = record { number = 3; payload = 60; eop = false; rs = false; paylen = 120 }
 
-abbrev place : ℕ → Option Note
-place k = Some (note.Place k)
-
-abbrev tail : ℕ → Option Note
-tail k = Some (note.Tail k)
-
 abbrev ready : ℕ → Option Note
 ready k = Some (note.Ready k)
-
-abbrev head : ℕ → Option Note
-head k = Some (note.Head k)
 
 abbrev sending : ℕ → ℕ → Bool → Option Note
 sending k b rs = Some (note.Sending k (record { buffer = b; len = 60; eop = true; rs = rs }))
@@ -49,12 +41,6 @@ unreported = Some (note.Reported None)
 
 abbrev reported : ℕ → Option Note
 reported k = Some (note.Reported (Some k))
-
-abbrev buffer : ℕ → Option Note
-buffer b = Some (note.Buffer b)
-
-abbrev control : ℕ → Option Note
-control v = Some (note.Control v)
 
 -- posted, published, seen, fetched, sent, reported, cleaned; loads of the report before it is made show nothing
 abbrev one_frame : List (TxStep (Posting ℕ))
