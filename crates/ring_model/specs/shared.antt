@@ -1,5 +1,6 @@
 pub mod Lists
 pub mod Frames
+pub mod Places
 pub mod Rows
 pub mod Handshakes
 pub mod QueueSteps

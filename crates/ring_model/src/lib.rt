@@ -11,6 +11,7 @@ mod handshake;
 mod laws;
 mod note_text;
 mod notes;
+mod places;
 mod rows;
 mod states;
 mod steps;
@@ -22,6 +23,7 @@ pub use laws::{
     tx_rings_are_lawful,
 };
 pub use notes::{FetchedSegment, Note, TakenSegment};
+pub use places::{place_after, places_between};
 pub use rows::worked_rows;
 pub use states::{Completion, ControllerState, DriverState, Owner};
 pub use steps::{ControlStep, RxStep, TxStep};

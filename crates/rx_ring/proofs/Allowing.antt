@@ -6,7 +6,8 @@ use mathlib.Core.Option.{some, none, some-injective, some-ne-none}
 use lib.ListN.{get_elem?}
 use Rattle.atomic_table.specs.Table.{Act, Valid, homes_after, carried_after, Allows}
 use Rattle.buffer_pool.specs.Buffer.{Buffer}
-use Rattle.ring_machine.specs.Ring.{Bytes, RxRing}
+use Rattle.ring_model.specs.receive.Ring.{RxRing}
+use Rattle.ring_model.specs.shared.Frames.{Bytes}
 use Rattle.rx_ring.specs.declared.view.DriverEvent.{DriverEvent}
 use Rattle.rx_ring.specs.declared.view.ControllerEvent.{ControllerEvent}
 use Rattle.rx_ring.specs.declared.view.View.TheVariants.{Maker, Driver, Controller}

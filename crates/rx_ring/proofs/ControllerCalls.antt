@@ -9,16 +9,18 @@ use Rattle.descriptor.specs.Layout.{bit as descriptor_bit}
 use Rattle.atomic_table.specs.Table.{Allows, step, rest}
 use Rattle.atomic_table.specs.Seated.{TableId}
 use Rattle.buffer_pool.specs.Buffer.{Buffer, buffer}
-use Rattle.ring_machine.specs.declared.states.ControllerState.{ControllerState}
-use Rattle.ring_machine.specs.Ring.{Bytes, Segment, is_serving}
-use Rattle.ring_machine.specs.Frames.{Follows, unfinished}
-use Rattle.ring_machine.specs.Agreement.{rx_word}
-use Rattle.ring_machine.proofs.Places.{next_place}
+use Rattle.ring_model.specs.declared.states.ControllerState.{ControllerState}
+use Rattle.ring_model.specs.receive.Agreement.{rx_word}
+use Rattle.ring_model.specs.receive.Ring.{Segment, piece_of}
+use Rattle.ring_model.specs.shared.Frames.{Bytes, Follows, unfinished}
+use Rattle.ring_model.specs.shared.Handshakes.{is_serving}
+use Rattle.ring_model.proofs.shared.Places.{next_place}
 use Rattle.rx_ring.specs.declared.view.ControllerEvent.{ControllerEvent}
 use Rattle.rx_ring.specs.declared.view.ControllerEvent.TheVariants.{Looked, Fetched, WroteBack}
 use Rattle.rx_ring.specs.declared.view.View.TheVariants.{Controller}
 use Rattle.rx_ring.specs.Records.{RxView, controllers_of, Controlled, control, controlling, controller_slots, slots_while, count_at, segment_of, front_buffer}
-use Rattle.rx_ring.specs.Rule.{IsRuled, IsTableOf, IsRingLength}
+use Rattle.limits.specs.RingLength.{IsRingLength}
+use Rattle.rx_ring.specs.Rule.{IsRuled, IsTableOf}
 use Rattle.rx_ring.specs.Plays.{Seated, controller_does, LoadsTail, Fetches, writes_back}
 use Rattle.rx_ring.specs.Ends as ends
 use Rattle.rx_ring.specs.Ends.{IsControllerEnd, ControllerSide}
@@ -37,13 +39,6 @@ same-word false len w h = h
 
 pub word-is : (eop e : Bool) (len n : ℕ) → e ≡ eop → n ≡ len → (w : ℕ) → w ≡ 1 + 2 * descriptor_bit e + n * 2 ^ 32 → w ≡ rx_word len eop
 word-is eop e len n same count w h = same-word e n w h ∙ ap (λ (b : Bool). rx_word n b) same ∙ ap (λ (k : ℕ). rx_word k eop) count
-
--- the free descriptors up to a tail, without division
-pub free-up : (n serve tail stored : ℕ) → serve ≡ stored % n → serve < n → tail < n → serve ≤ tail → (tail + n - stored % n) % n ≡ tail - serve
-free-up n serve tail stored e s t h = ap (λ (x : ℕ). (tail + n - x) % n) (sym e) ∙ ap (λ (x : ℕ). x % n) (let f : tail + n - serve ≡ (tail - serve) + n = omega arith in f) ∙ add-mod_right (tail - serve) n ∙ mod-eq_of_lt (omega arith)
-
-pub free-round : (n serve tail stored : ℕ) → serve ≡ stored % n → serve < n → tail < n → tail < serve → (tail + n - stored % n) % n ≡ tail + n - serve
-free-round n serve tail stored e s t h = ap (λ (x : ℕ). (tail + n - x) % n) (sym e) ∙ mod-eq_of_lt (omega arith)
 
 -- an end whose record amounts to x
 pub controller-end : (table : TableId) (es : List ControllerEvent) (slots : List (ℕ × Option Buffer)) (size serve free : ℕ) (state : ControllerState) (x : Controlled) → controlling size es ≡ x
@@ -80,7 +75,7 @@ module _ (table : TableId) (me : Seated) (size serve free : ℕ) (state : Contro
   slots-are-its : me.1 ≡ controller_slots size x
   slots-are-its = ap (λ (m : Seated). m.1) inv.me_is
 
-  serve-below : serve < size
+  pub serve-below : serve < size
   serve-below = let b = big in let m : s % size < size = mod-lt s (omega arith) in let f = inv.serve_is in omega arith
 
   -- what the words of a contract say of the fields: they go by the table's number of slots, which is the size
@@ -103,18 +98,15 @@ module _ (table : TableId) (me : Seated) (size serve free : ℕ) (state : Contro
   )
 
   module _ (ring : TableId) (tail : ℕ) (me' : Seated) (counts : ring.slots ≡ size) (told : LoadsTail (step ring.slots (size + 1) 0 0 none) me tail me') where
-    below : tail < size
+    pub below : tail < size
     below = let b = told.below in omega arith
 
     pub grew : x.known ≤ count_at size s tail
     grew = subst (λ (n : ℕ). (controlling n (controllers_of me.0)).known ≤ count_at n (length (controlling n (controllers_of me.0)).stored) tail) counts told.grows
 
-    -- the two ways in which the code counts
-    pub look-free : (free' : ℕ) → (serve ≤ tail → free' ≡ tail - serve) → (tail < serve → free' ≡ tail + size - serve) → (tail + size - s % size) % size ≡ free'
-    look-free free' up round = ⊎_elim
-        (λ lt. free-round size serve tail s inv.serve_is serve-below below lt ∙ sym (round lt))
-        (λ le. free-up size serve tail s inv.serve_is serve-below below le ∙ sym (up le))
-        (cases_lt tail serve)
+    -- what the code counts
+    pub look-free : (free' : ℕ) → free' ≡ (tail + size - serve) % size → (tail + size - s % size) % size ≡ free'
+    look-free free' e = ap (λ (j : ℕ). (tail + size - j) % size) (sym inv.serve_is) ∙ sym e
 
     pub look-keeps : (free' : ℕ) (table' : TableId) → (tail + size - s % size) % size ≡ free' → table' ≡ table → IsControllerEnd table' me' size serve free' state
     look-keeps free' table' e same = let b = big in
@@ -196,7 +188,7 @@ module _ (table : TableId) (me : Seated) (size serve free : ℕ) (state : Contro
     write_back-empty = front-is me.1 [] (serve, None) held-slot
 
     pub write_back-asks : (ring table' : TableId) (key id w : ℕ) (me' : Seated) → table ≡ ring → IsTableOf ring key → table' ≡ table → me' ≡ (me.0, (serve, Some b) ∷ rest me.1) → w ≡ rx_word (length b.bytes) eop
-        → b ≡ buffer b.number b.bytes → Follows size (unfinished x.stored) b.bytes eop
+        → b ≡ buffer b.number b.bytes → Follows piece_of size (unfinished piece_of x.stored) b.bytes eop
         → (table' ≡ ring) × (serve < ring.words) × Allows (IsRuled key) ring.slots id me' serve (λ _. w) (λ _ m. writes_back (step ring.slots serve w 0 none) me' w m)
     write_back-asks ring table' key id w me' own of_key same put word real follows = (
       same ∙ own,

@@ -5,14 +5,17 @@ use mathlib.Core.Option.{none}
 use Rattle.atomic_table.specs.Table.{Allows, step, rest}
 use Rattle.atomic_table.specs.Seated.{TableId}
 use Rattle.buffer_pool.specs.Buffer.{Buffer, buffer}
-use Rattle.ring_machine.specs.declared.states.DriverState.{DriverState}
-use Rattle.ring_machine.specs.Ring.{Bytes, Segment, is_open, is_live}
-use Rattle.ring_machine.proofs.Places.{next_place}
+use Rattle.ring_model.specs.declared.states.DriverState.{DriverState}
+use Rattle.ring_model.specs.receive.Ring.{Segment}
+use Rattle.ring_model.specs.shared.Frames.{Bytes}
+use Rattle.ring_model.specs.shared.Handshakes.{is_open, is_live}
+use Rattle.ring_model.proofs.shared.Places.{next_place}
 use Rattle.rx_ring.specs.declared.view.DriverEvent.{DriverEvent}
 use Rattle.rx_ring.specs.declared.view.DriverEvent.TheVariants.{Posted}
 use Rattle.rx_ring.specs.declared.view.View.TheVariants.{Driver}
 use Rattle.rx_ring.specs.Records.{RxView, drivers_of, Driven, drive, driving, driver_slots, empty_slots, front_buffer}
-use Rattle.rx_ring.specs.Rule.{IsRuled, IsTableOf, IsRingLength}
+use Rattle.limits.specs.RingLength.{IsRingLength}
+use Rattle.rx_ring.specs.Rule.{IsRuled, IsTableOf}
 use Rattle.rx_ring.specs.Plays.{Seated, driver_does, posts, publishes, LoadsStatus}
 use Rattle.rx_ring.specs.Ends.{IsDriverEnd}
 use Rattle.rx_ring.proofs.Folds.{driving-snoc, slots-post}

@@ -1,26 +1,30 @@
 -- The steps of the driver's end: each keeps the rule, and tells what its play says.
 use Rattle.std.proofs.Common.{◌≡◌, ℕ, zero, suc, ◌+◌, ◌%◌, ◌<◌, Bool, true, List, [], ◌∷◌, ◌++◌, map, take, length, set, Option, Some, None, sym, refl, ap, ◌∙◌, subst, arith}
 use Rattle.std.specs.Prelude.{slice_get, slice_index}
-use Rattle.std.proofs.lemmas.Option.{same_Some, none-some}
+use Rattle.std.proofs.lemmas.Option.{slice_get_within}
 use mathlib.Core.Option as maybe
 use mathlib.Core.Option.{some, none, some-injective, some-ne-none}
 use lib.ListN.{get_elem?}
 use Rattle.atomic_table.specs.Table.{keeps, takes, gives, step, Allows}
 use Rattle.buffer_pool.specs.Buffer.{Buffer, buffer}
-use Rattle.ring_machine.specs.Ring.{Bytes, Segment, RxRing, is_open, is_live, posted_count, stored_count, taken_count, returned_count}
-use Rattle.ring_machine.specs.Steps.{post, publish, took, due}
-use Rattle.ring_machine.specs.Frames.{Follows, unfinished}
-use Rattle.ring_machine.specs.Lists.{IsBeginning}
-use Rattle.ring_machine.specs.Agreement.{rx_word, word_of, buffer_of}
-use Rattle.ring_machine.proofs.Shakes.{live_unanswered}
+use Rattle.ring_model.specs.declared.steps.RxStep.TheVariants.{Post, Publish}
+use Rattle.ring_model.specs.receive.Agreement.{rx_word}
+use Rattle.ring_model.specs.receive.Ring.{Segment, RxRing, due, piece_of}
+use Rattle.ring_model.specs.receive.Steps.{rx_changed, took}
+use Rattle.ring_model.specs.shared.Frames.{Bytes, Follows, unfinished}
+use Rattle.ring_model.specs.shared.Handshakes.{is_open, is_live}
+use Rattle.ring_model.specs.shared.Queue.{posted_count, served_count, given_count, returned_count}
+use Rattle.ring_model.proofs.shared.Beginnings.{number_at}
+use Rattle.ring_model.proofs.shared.FrameLaws.{follows_next}
+use Rattle.ring_model.proofs.shared.Shakes.{live_unanswered}
 use Rattle.rx_ring.specs.declared.view.DriverEvent.{DriverEvent}
 use Rattle.rx_ring.specs.declared.view.DriverEvent.TheVariants.{Posted, Published, NotDone, Taken}
 use Rattle.rx_ring.specs.declared.view.ControllerEvent.{ControllerEvent}
 use Rattle.rx_ring.specs.declared.view.View.TheVariants.{Driver}
 use Rattle.rx_ring.specs.Records.{Driven, driving, eop_of}
-use Rattle.rx_ring.specs.Rule.{IsRuled, LiesAs, home_at}
+use Rattle.rx_ring.specs.Rule.{IsRuled, LiesAs, says, holds, home_at}
 use Rattle.rx_ring.specs.Plays.{posts, publishes, LoadsStatus}
-use Rattle.rx_ring.proofs.Laying.{set-same, home-full, slice_get-below}
+use Rattle.rx_ring.proofs.Laying.{set-same, home-full}
 use Rattle.rx_ring.proofs.Moving.{fresh, word_at, keeps_it, eop_of-rx_word, rx_word-odd, slot_unheld, unreclaimed, post-lies, publish-lies, not_done-lies, take-lies}
 use Rattle.rx_ring.proofs.Allowing.{DriverGoes, allow_driver}
 
@@ -33,7 +37,7 @@ allow-post n id es b slots p at opened room empty = allow_driver n id es ((p, So
       event = Posted p 0 b;
       act = gives;
       valid = tt;
-      later = post q b.number;
+      later = rx_changed q (Post b.number);
       lies = post-lies n q es cs words homes pos l b p
           (at ∙ ap (λ (d : Driven). length d.posted % n) l.driver)
           (sym (ap (λ (d : Driven). is_open d.state) l.driver) ∙ opened)
@@ -51,44 +55,22 @@ allow-publish n id es slots t at opened = allow_driver n id es slots (n + 1) (λ
       event = Published t;
       act = keeps;
       valid = tt;
-      later = publish q;
+      later = rx_changed q Publish;
       lies = publish-lies n q es cs words homes pos l t (at ∙ ap (λ (d : Driven). length d.posted % n) l.driver) (sym (ap (λ (d : Driven). is_open d.state) l.driver) ∙ opened);
       told = refl;
     })
 
--- what lists that begin each other have at one place
-module _ {X : Type 0} where
-  beginning-get : (xs ys : List X) (k : ℕ) (x : X) → IsBeginning xs ys → slice_get xs k ≡ Some x → slice_get ys k ≡ Some x
-  beginning-get xs ys k x b e = subst (λ (l : List X). slice_get l k ≡ Some x) b.1 (front xs k e)
-    where
-      front : (l : List X) (j : ℕ) → slice_get l j ≡ Some x → slice_get (l ++ b.0) j ≡ Some x
-      front [] j f = absurd (none-some x f)
-      front (y ∷ l) zero f = f
-      front (y ∷ l) (suc j) f = front l j f
-
-  take-beginning : (xs ys : List X) → IsBeginning xs ys → take (length xs) ys ≡ xs
-  take-beginning xs ys b = subst (λ (l : List X). take (length xs) l ≡ xs) b.1 (front xs)
-    where
-      front : (l : List X) → take (length l) (l ++ b.0) ≡ l
-      front [] = refl
-      front (y ∷ l) = ap (λ (k : List X). y ∷ k) (front l)
-
-  slice_get-map : {Y : Type 0} (f : X → Y) (xs : List X) (k : ℕ) (x : X) → slice_get xs k ≡ Some x → slice_get (map f xs) k ≡ Some (f x)
-  slice_get-map f [] k x e = absurd (none-some x e)
-  slice_get-map f (y ∷ ys) zero x e = ap Some (ap f (same_Some y x e))
-  slice_get-map f (y ∷ ys) (suc k) x e = slice_get-map f ys k x e
-
 module _ (n : ℕ) (es : List DriverEvent) (slots : List (ℕ × Option Buffer)) (p : ℕ) (q : RxRing Bytes) (cs : List ControllerEvent) (words : List ℕ) (homes : List (maybe.Option (Option Buffer))) (pos : 1 < n) (l : LiesAs n q es cs words homes)
-    (at : p ≡ taken_count q % n) (live : is_live q.handshake.driver ≡ true) (out : taken_count q < posted_count q) (back : returned_count q ≡ taken_count q) where
+    (at : p ≡ given_count q.queue % n) (live : is_live q.handshake.driver ≡ true) (out : given_count q.queue < posted_count q.queue) (back : returned_count q.queue ≡ given_count q.queue) where
   abbrev Goes : Type 0
   Goes = DriverGoes n es slots p (λ x. x) (LoadsStatus (step n p 0 0 none) (Driver es, slots)) cs words homes
 
   -- the word at the place of the next item
-  status : slice_index words p ≡ word_at q (taken_count q)
-  status = ap (slice_index words) at ∙ l.items.words (taken_count q) (omega arith) out
+  status : slice_index words p ≡ word_at q (given_count q.queue)
+  status = ap (slice_index words) at ∙ l.items.words (given_count q.queue) (omega arith) out
 
   goes-not_done : due q ≡ None → Goes
-  goes-not_done e = let zero_word : slice_index words p ≡ 0 = status ∙ ap (word_of {Payload = Bytes} length fresh buffer) e in record {
+  goes-not_done e = let zero_word : slice_index words p ≡ 0 = status ∙ ap (says (given_count q.queue) (slice_get q.ledger.posted (given_count q.queue))) e in record {
     event = NotDone p (slice_index words p);
     act = keeps;
     valid = tt;
@@ -99,28 +81,30 @@ module _ (n : ℕ) (es : List DriverEvent) (slots : List (ℕ × Option Buffer))
 
   module _ (s : Segment Bytes) (e : due q ≡ Some s) where
     word-is : slice_index words p ≡ rx_word (length s.payload) s.eop
-    word-is = status ∙ ap (word_of {Payload = Bytes} length fresh buffer) e
+    word-is = status ∙ ap (says (given_count q.queue) (slice_get q.ledger.posted (given_count q.queue))) e
 
     eop-is : eop_of (slice_index words p) ≡ s.eop
     eop-is = ap eop_of word-is ∙ eop_of-rx_word (length s.payload) s.eop
 
+    -- the number of the segment is the one posted as the same item
+    posted-is : slice_get q.ledger.posted (given_count q.queue) ≡ Some s.number
+    posted-is = let k = keeps_it n q es cs words homes pos l in number_at q.ledger.served q.ledger.posted (given_count q.queue) s k.stored e
+
     home-is : get_elem? homes p ≡ some (some (Some (buffer s.number s.payload)))
-    home-is = let below : taken_count q < stored_count q = slice_get-below q.ledger.stored (taken_count q) s e in
+    home-is = let below : given_count q.queue < served_count q.queue = slice_get_within q.ledger.served (given_count q.queue) s e in
         home-full homes p (buffer s.number s.payload)
-        (ap (home_at homes) at ∙ l.items.slots (taken_count q) (omega arith) out
-        ∙ slot_unheld q.held (taken_count q) (stored_count q) _ (λ h x. omega arith)
-        ∙ ap (λ (o : Option (Segment Bytes)). Some (buffer_of {Payload = Bytes} length fresh buffer (slice_index q.ledger.posted (taken_count q)) o)) e)
+        (ap (home_at homes) at ∙ l.items.slots (given_count q.queue) (omega arith) out
+        ∙ slot_unheld q.held (given_count q.queue) (served_count q.queue) _ (λ h x. omega arith)
+        ∙ ap (holds (slice_get q.ledger.posted (given_count q.queue))) e ∙ ap (λ (x : Option ℕ). holds x (Some s)) posted-is)
 
     number-is : slice_get (driving es).posted (length (driving es).taken) ≡ Some s.number
-    number-is = let k = keeps_it n q es cs words homes pos l in
-        subst (λ (d : Driven). slice_get d.posted (length d.taken) ≡ Some s.number) (sym l.driver)
-        (beginning-get (map (λ (x : Segment Bytes). x.number) q.ledger.stored) q.ledger.posted (taken_count q) s.number k.stored (slice_get-map (λ (x : Segment Bytes). x.number) q.ledger.stored (taken_count q) s e))
+    number-is = subst (λ (d : Driven). slice_get d.posted (length d.taken) ≡ Some s.number) (sym l.driver) posted-is
 
-    follows-is : Follows n (unfinished (driving es).taken) s.payload (eop_of (slice_index words p))
+    follows-is : Follows piece_of n (unfinished piece_of (driving es).taken) s.payload (eop_of (slice_index words p))
     follows-is = let k = keeps_it n q es cs words homes pos l in
-        subst (λ (x : Bool). Follows n (unfinished (driving es).taken) s.payload x) (sym eop-is)
-        (subst (λ (d : Driven). Follows n (unfinished d.taken) s.payload s.eop) (sym l.driver)
-        (subst (λ (xs : List (Segment Bytes)). Follows n (unfinished xs) s.payload s.eop) (take-beginning q.ledger.taken q.ledger.stored k.taken) (l.follow (taken_count q) s e)))
+        subst (λ (x : Bool). Follows piece_of n (unfinished piece_of (driving es).taken) s.payload x) (sym eop-is)
+        (subst (λ (d : Driven). Follows piece_of n (unfinished piece_of d.taken) s.payload s.eop) (sym l.driver)
+        (follows_next piece_of n q.ledger.given q.ledger.served s k.taken e l.follow))
 
     goes-taken : Goes
     goes-taken = record {

@@ -1,7 +1,7 @@
 -- A record with one more event, and the slots that the ends have by their records.
 use Rattle.std.proofs.Common.{◌≡◌, ℕ, zero, suc, ◌+◌, ◌-◌, ◌%◌, ◌<◌, ◌≤◌, List, [], ◌∷◌, ◌++◌, Option, None, sym, refl, ap, ◌∙◌, arith}
 use Rattle.buffer_pool.specs.Buffer.{Buffer}
-use Rattle.ring_machine.proofs.Places.{lap}
+use Rattle.ring_model.proofs.shared.Places.{lap}
 use Rattle.rx_ring.specs.declared.view.DriverEvent.{DriverEvent}
 use Rattle.rx_ring.specs.declared.view.ControllerEvent.{ControllerEvent}
 use Rattle.rx_ring.specs.Records.{Driven, drive, driving_from, driving, Controlled, control, controlling_from, controlling, empty_slots}

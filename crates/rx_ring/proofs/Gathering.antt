@@ -8,11 +8,15 @@ use lib.ListN.{get_elem?}
 use Rattle.atomic_table.specs.Table.{Act, keeps, takes, chain, Valid, homes_after, carried_after, step, Allows, Splits, Joins}
 use Rattle.atomic_table.proofs.Lists.{at_set, set_else}
 use Rattle.buffer_pool.specs.Buffer.{Buffer}
-use Rattle.ring_machine.specs.Ring.{Bytes, opening}
-use Rattle.ring_machine.specs.Agreement.{HasRegisters, registers_of}
-use Rattle.ring_machine.proofs.Kept.{IsKept}
-use Rattle.ring_machine.proofs.Reached.{kept, lawful}
-use Rattle.ring_machine.proofs.FrameLaws.{AllFollow-nil}
+use Rattle.ring_model.specs.receive.Agreement.{rx_registers_of}
+use Rattle.ring_model.specs.receive.Ring.{rx_opening, piece_of}
+use Rattle.ring_model.specs.receive.Steps.{rx_can, rx_changed}
+use Rattle.ring_model.specs.shared.Agreement.{HasRegisters}
+use Rattle.ring_model.specs.shared.Frames.{Bytes}
+use Rattle.ring_model.proofs.receive.Kept.{IsRxKept}
+use Rattle.ring_model.proofs.receive.Reached.{rx_kept, rx_lawful}
+use Rattle.ring_model.proofs.shared.Reaching.{reached-opening}
+use Rattle.ring_model.proofs.shared.FrameLaws.{AllFollow-nil}
 use Rattle.rx_ring.specs.declared.view.DriverEvent.{DriverEvent}
 use Rattle.rx_ring.specs.declared.view.ControllerEvent.{ControllerEvent}
 use Rattle.rx_ring.specs.declared.view.View.TheVariants.{Maker, Driver, Controller, Both, Nobody}
@@ -62,7 +66,7 @@ zero-words (suc m) (suc k) = zero-words m k
 within-words : (k m len : ℕ) → len ≡ m → k < m → k < len
 within-words k m len e h = omega arith
 
-opening-registers : (n : ℕ) → 0 < n → (n + 2) < length {A = ℕ} (replicate (n + 4) 0) → HasRegisters n (registers_of {Payload = Bytes} (opening n true)) (opening_words_of n)
+opening-registers : (n : ℕ) → 0 < n → (n + 2) < length {A = ℕ} (replicate (n + 4) 0) → HasRegisters n (rx_registers_of {Payload = Bytes} (rx_opening n true)) (opening_words_of n)
 opening-registers n pos within = record {
   head = get_or-set_other (replicate (n + 4) 0) (n + 2) n 2 0 (λ e. omega arith) ∙ zero-words (n + 4) n;
   tail = get_or-set_other (replicate (n + 4) 0) (n + 2) (n + 1) 2 0 (λ e. omega arith) ∙ zero-words (n + 4) (n + 1) ∙ sym (mod-eq_of_lt pos);
@@ -74,16 +78,16 @@ pub opening-count : (n : ℕ) → length (opening_words_of n) ≡ n + 4
 opening-count n = length-set (replicate (n + 4) 0) (n + 2) 2 ∙ length-replicate (n + 4) 0
 
 -- a made ring, whose ends have done nothing yet
-opening-lies : (n : ℕ) (words : List ℕ) (homes : List (maybe.Option (Option Buffer))) → 1 < n → words ≡ opening_words_of n → length homes ≡ n → LiesAs n (opening n true) [] [] words homes
+opening-lies : (n : ℕ) (words : List ℕ) (homes : List (maybe.Option (Option Buffer))) → 1 < n → words ≡ opening_words_of n → length homes ≡ n → LiesAs n (rx_opening n true) [] [] words homes
 opening-lies n words homes pos w count = record {
   word_count = ap length w ∙ opening-count n;
   slot_count = count;
-  reachable = record { enabled = true; schedule = []; made = refl };
+  reachable = reached-opening rx_can rx_changed (rx_opening n) true;
   driver = refl;
   controller = refl;
-  registers = subst (λ (ws : List ℕ). HasRegisters n (registers_of {Payload = Bytes} (opening n true)) ws) (sym w) (opening-registers n (omega arith) (within-words (n + 2) (n + 4) (length {A = ℕ} (replicate (n + 4) 0)) (length-replicate (n + 4) 0) (omega arith)));
+  registers = subst (λ (ws : List ℕ). HasRegisters n (rx_registers_of {Payload = Bytes} (rx_opening n true)) ws) (sym w) (opening-registers n (omega arith) (within-words (n + 2) (n + 4) (length {A = ℕ} (replicate (n + 4) 0)) (length-replicate (n + 4) 0) (omega arith)));
   items = record { words = λ k a b. absurd (omega arith); slots = λ k a b. absurd (omega arith) };
-  follow = AllFollow-nil n;
+  follow = AllFollow-nil piece_of n;
 }
 
 first_seat : (id : ℕ) → get_elem? (Maker ∷ []) id ≡ some (let v : RxView = Maker in v) → id ≡ 0
@@ -114,7 +118,7 @@ allow-deal n id pos s ruled count at small = ⊎_elim
       (
         pos,
         inr (record {
-          queue = opening n true;
+          queue = rx_opening n true;
           ds = [];
           cs = [];
           lies = opening-lies n (slice_set s.words (n + 2) (slice_index s.words (n + 2))) (homes_after s.homes [] (take_all n)) pos (set-same s.words (n + 2) ∙ b.words) (count-all n [] s.homes ∙ count);
@@ -131,7 +135,7 @@ pub allow-meet : (n id : ℕ) (ds : List DriverEvent) (cs : List ControllerEvent
 allow-meet n id ds cs slots s ruled count at small =
     let r = running n s id (Both ds cs) ruled at (λ e. cc) in
     let both : (ds ≡ r.ds) × (cs ≡ r.cs) = both_are r.ds ds r.cs cs s.views id r.seats at in
-    let k : IsKept Bytes n r.queue = kept n r.queue ruled.0 r.lies.reachable in (
+    let k : IsRxKept Bytes n r.queue = rx_kept n r.queue ruled.0 r.lies.reachable in (
       Both ds cs,
       keeps,
       tt,
@@ -152,8 +156,8 @@ allow-meet n id ds cs slots s ruled count at small =
           reachable = r.lies.reachable;
           driver = ap driving both.0 ∙ r.lies.driver;
           controller = ap (controlling n) both.1 ∙ r.lies.controller;
-          lawful = lawful n r.queue k;
-          size_is = k.size_is;
+          lawful = rx_lawful n r.queue k;
+          size_is = k.queue.size_is;
         };
       },
     )

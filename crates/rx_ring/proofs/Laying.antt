@@ -6,8 +6,8 @@ use mathlib.Core.Option as maybe
 use mathlib.Core.Option.{some, none}
 use lib.ListN.{get_elem?}
 use Rattle.atomic_table.proofs.Lists.{set_here, set_else}
-use Rattle.ring_machine.specs.Agreement.{Registers, HasRegisters}
-use Rattle.ring_machine.proofs.Places.{Writes}
+use Rattle.ring_model.specs.shared.Agreement.{Registers, HasRegisters}
+use Rattle.ring_model.proofs.shared.Places.{Writes}
 use Rattle.buffer_pool.specs.Buffer.{Buffer}
 use Rattle.rx_ring.specs.Rule.{at_home, home_at}
 
@@ -62,11 +62,6 @@ module _ {X : Type 0} where
   slice_get-past (x ∷ xs) zero h = absurd (omega arith)
   slice_get-past (x ∷ xs) (suc k) h = slice_get-past xs k (omega arith)
 
-  pub slice_get-front : (xs ys : List X) (k : ℕ) → k < length xs → slice_get (xs ++ ys) k ≡ slice_get xs k
-  slice_get-front [] ys k h = absurd (omega arith)
-  slice_get-front (x ∷ xs) ys zero h = refl
-  slice_get-front (x ∷ xs) ys (suc k) h = slice_get-front xs ys k (omega arith)
-
   pub slice_get-last : (xs : List X) (x : X) → slice_get (xs ++ x ∷ []) (length xs) ≡ Some x
   slice_get-last [] x = refl
   slice_get-last (y ∷ ys) x = slice_get-last ys x
@@ -78,17 +73,7 @@ module _ {X : Type 0} where
   slice_get-snoc_other (y ∷ ys) x zero ne = refl
   slice_get-snoc_other (y ∷ ys) x (suc k) ne = slice_get-snoc_other ys x k (λ e. ne (ap suc e))
 
-  -- an element that is there lies below the length
-  pub slice_get-below : (xs : List X) (k : ℕ) (x : X) → slice_get xs k ≡ Some x → k < length xs
-  slice_get-below [] k x e = absurd (none-some x e)
-  slice_get-below (y ∷ ys) zero x e = omega arith
-  slice_get-below (y ∷ ys) (suc k) x e = let h : k < length ys = slice_get-below ys k x e in omega arith
-
 pub slice_index-front : (xs ys : List ℕ) (k : ℕ) → k < length xs → slice_index (xs ++ ys) k ≡ slice_index xs k
 slice_index-front [] ys k h = absurd (omega arith)
 slice_index-front (x ∷ xs) ys zero h = refl
 slice_index-front (x ∷ xs) ys (suc k) h = slice_index-front xs ys k (omega arith)
-
-pub slice_index-last : (xs : List ℕ) (x : ℕ) → slice_index (xs ++ x ∷ []) (length xs) ≡ x
-slice_index-last [] x = refl
-slice_index-last (y ∷ ys) x = slice_index-last ys x

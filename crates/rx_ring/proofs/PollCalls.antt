@@ -6,10 +6,11 @@ use mathlib.Core.Option.{none}
 use Rattle.atomic_table.specs.Table.{step, rest, turned}
 use Rattle.atomic_table.specs.Seated.{TableId}
 use Rattle.buffer_pool.specs.Buffer.{Buffer}
-use Rattle.ring_machine.specs.declared.states.DriverState.{DriverState}
-use Rattle.ring_machine.specs.Ring.{Bytes, Segment, is_live}
-use Rattle.ring_machine.specs.Frames.{Follows, unfinished}
-use Rattle.ring_machine.proofs.Places.{next_place}
+use Rattle.ring_model.specs.declared.states.DriverState.{DriverState}
+use Rattle.ring_model.specs.receive.Ring.{Segment, piece_of}
+use Rattle.ring_model.specs.shared.Frames.{Bytes, Follows, unfinished}
+use Rattle.ring_model.specs.shared.Handshakes.{is_live}
+use Rattle.ring_model.proofs.shared.Places.{next_place}
 use Rattle.rx_ring.specs.declared.view.DriverEvent.{DriverEvent}
 use Rattle.rx_ring.specs.declared.view.DriverEvent.TheVariants.{NotDone, Taken}
 use Rattle.rx_ring.specs.declared.view.View.TheVariants.{Driver}
@@ -103,7 +104,7 @@ module _ (table : TableId) (me : Seated) (size fill next out : ℕ) (state : Dri
     step = ap (λ (k : ℕ). appended (side table me) (Taken k r t.buf)) place-is ∙ ap (λ (w : ℕ). appended (side table me) (Taken (take_place (side table me)) w t.buf)) t.word;
     number = t.number;
     real = t.real;
-    follows = subst (λ (n : ℕ). Follows n (unfinished (taken (side table me))) t.buf.bytes (eop_of r)) (count ∙ sym inv.size_is) t.follows;
+    follows = subst (λ (n : ℕ). Follows piece_of n (unfinished piece_of (taken (side table me))) t.buf.bytes (eop_of r)) (count ∙ sym inv.size_is) t.follows;
     taken_grew = ap (λ (x : Driven). x.taken) (driving-snoc (drivers_of me.0) (Taken next r t.buf));
     room = subst (λ (x : Driven). length x.posted + 1 < table.slots + length x.taken) (sym (driving-snoc (drivers_of me.0) (Taken next r t.buf)))
         (let o = inv.out_is in let m = inv.room in let z = inv.size_is in let e = taken-more (segment_of r t.buf) in omega arith);

@@ -1,11 +1,11 @@
 -- A frame in one segment.
 use Rattle.std.proofs.Common.{◌≡◌, ℕ, ◌≤◌, true, List, [], length, sym, subst, arith}
-use Rattle.ring_machine.specs.Ring.{Bytes, Segment}
-use Rattle.ring_machine.specs.Frames.{Follows}
+use Rattle.ring_model.specs.receive.Ring.{Segment, piece_of}
+use Rattle.ring_model.specs.shared.Frames.{Bytes, Follows}
 
 -- a whole frame of one segment may follow where nothing is unfinished
-pub follows-whole : (n : ℕ) (before : List (Segment Bytes)) (xs : Bytes) → 8 ≤ n → before ≡ [] → 14 ≤ length xs → length xs ≤ 2048 → Follows n before xs true
-follows-whole n before xs big none least most = subst (λ (b : List (Segment Bytes)). Follows n b xs true) (sym none) (record {
+pub follows-whole : (n : ℕ) (before : List (Segment Bytes)) (xs : Bytes) → 8 ≤ n → before ≡ [] → 14 ≤ length xs → length xs ≤ 2048 → Follows piece_of n before xs true
+follows-whole n before xs big none least most = subst (λ (b : List (Segment Bytes)). Follows piece_of n b xs true) (sym none) (record {
   some_bytes = omega arith;
   few_bytes = most;
   segments = omega arith;

@@ -2,11 +2,12 @@
 use Rattle.std.specs.Prelude.{◌≡◌, ℕ, ◌+◌, ◌-◌, ◌%◌, ◌<◌, Bool, true, false, List, [], ◌∷◌, ◌++◌, length, Option, Some, None, slice_get}
 use Rattle.atomic_table.specs.Seated.{TableId}
 use Rattle.buffer_pool.specs.Buffer.{Buffer, buffer}
-use Rattle.ring_machine.specs.declared.states.DriverState.{DriverState}
-use Rattle.ring_machine.specs.declared.states.ControllerState.{ControllerState}
-use Rattle.ring_machine.specs.Ring.{Bytes, Segment, RxLedger, is_open, is_live, is_serving}
-use Rattle.ring_machine.specs.Frames.{Follows, unfinished}
-use Rattle.ring_machine.specs.Agreement.{rx_word}
+use Rattle.ring_model.specs.declared.states.DriverState.{DriverState}
+use Rattle.ring_model.specs.declared.states.ControllerState.{ControllerState}
+use Rattle.ring_model.specs.receive.Agreement.{rx_word}
+use Rattle.ring_model.specs.receive.Ring.{Segment, RxLedger, piece_of}
+use Rattle.ring_model.specs.shared.Frames.{Bytes, Follows, unfinished}
+use Rattle.ring_model.specs.shared.Handshakes.{is_open, is_live, is_serving}
 use Rattle.rx_ring.specs.declared.view.DriverEvent.{DriverEvent}
 use Rattle.rx_ring.specs.declared.view.DriverEvent.TheVariants as driver
 use Rattle.rx_ring.specs.declared.view.ControllerEvent.{ControllerEvent}
@@ -15,7 +16,7 @@ use Rattle.rx_ring.specs.declared.view.View.TheVariants.{Driver, Controller}
 use Rattle.rx_ring.specs.declared.driver.Poll.{Poll}
 use Rattle.rx_ring.specs.declared.driver.Poll.TheVariants as poll
 use Rattle.rx_ring.specs.Records.{driving, controlling, driver_slots, controller_slots, empty_slots, drivers_of, controllers_of}
-use Rattle.rx_ring.specs.Rule.{IsRingLength}
+use Rattle.limits.specs.RingLength.{IsRingLength}
 use Rattle.rx_ring.specs.Plays.{Seated, AreOf}
 
 pub record DriverSide : Type 0 where
@@ -118,7 +119,7 @@ pub record TookSegment (old : DriverSide) (buf : Buffer) (eop : Bool) (new : Dri
   pub step : new ≡ appended old (driver.Taken (take_place old) (rx_word (length buf.bytes) eop) buf)
   pub number : slice_get (posted old) (length (taken old)) ≡ Some buf.number
   pub real : buf ≡ buffer buf.number buf.bytes
-  pub follows : Follows (driver_size old) (unfinished (taken old)) buf.bytes eop
+  pub follows : Follows piece_of (driver_size old) (unfinished piece_of (taken old)) buf.bytes eop
   pub taken_grew : taken new ≡ taken old ++ record { number = buf.number; payload = buf.bytes; eop = eop } ∷ []
   pub room : length (posted new) + 1 < driver_size new + length (taken new)
   pub same : SamePosted old new
@@ -140,7 +141,7 @@ Polled old poll.Off new = SawOff old new
 
 -- the ledger that two ends have together
 abbrev pub ledger_of : DriverSide → ControllerSide → RxLedger Bytes
-ledger_of d c = record { posted = posted d; stored = stored c; taken = taken d }
+ledger_of d c = record { posted = posted d; served = stored c; given = taken d }
 
 -- both records are those of one ring that a schedule makes, whose owner map is lawful
 abbrev pub Met : DriverSide → ControllerSide → Type 0
@@ -166,7 +167,7 @@ pub record IsBetweenFrames (ring : TableId) (c : ControllerSide) : Type 0 where
   pub serving : is_serving (controller_state c) ≡ true
   pub unheld : held_number c ≡ None
   pub storing : is_quiet c ≡ false
-  pub whole : unfinished (stored c) ≡ []
+  pub whole : unfinished piece_of (stored c) ≡ []
 
 -- what the fields of an end keep: the record amounts to the places, the counts and the slots that the seat has
 pub record IsDriverEnd (table : TableId) (me : Seated) (size fill next out : ℕ) (state : DriverState) : Type 0 where

@@ -2,11 +2,11 @@
 use Rattle.std.specs.Prelude.{◌≡◌, ℕ, ◌%◌, ◌<◌, ◌≤◌, List, [], ◌∷◌, ◌++◌, length, Option, Some, slice_get}
 use Rattle.atomic_table.specs.Table.{Me, Step, rest}
 use Rattle.buffer_pool.specs.Buffer.{Buffer, buffer}
-use Rattle.ring_machine.specs.Ring.{Bytes, RxRing}
-use Rattle.ring_machine.specs.Frames.{Follows, unfinished}
-use Rattle.ring_machine.specs.Lawful.{IsLawfulRx}
-use Rattle.ring_machine.specs.Schedules.{IsReachable}
-use Rattle.ring_machine.specs.Agreement.{rx_word}
+use Rattle.ring_model.specs.receive.Agreement.{rx_word}
+use Rattle.ring_model.specs.receive.Lawful.{IsLawfulRx}
+use Rattle.ring_model.specs.receive.Ring.{RxRing, piece_of}
+use Rattle.ring_model.specs.receive.Steps.{IsRxReachable}
+use Rattle.ring_model.specs.shared.Frames.{Bytes, Follows, unfinished}
 use Rattle.rx_ring.specs.declared.view.DriverEvent.TheVariants.{Posted, Published, NotDone, Taken}
 use Rattle.rx_ring.specs.declared.view.DriverEvent.{DriverEvent}
 use Rattle.rx_ring.specs.declared.view.ControllerEvent.{ControllerEvent}
@@ -38,7 +38,7 @@ pub record TakesOut (st : Step (Option Buffer)) (m : Seated) (r : ℕ) (m' : Sea
   pub number : slice_get (driving (drivers_of m.0)).posted (length (driving (drivers_of m.0)).taken) ≡ Some buf.number
   pub word : r ≡ rx_word (length buf.bytes) (eop_of r)
   pub real : buf ≡ buffer buf.number buf.bytes
-  pub follows : Follows st.slots (unfinished (driving (drivers_of m.0)).taken) buf.bytes (eop_of r)
+  pub follows : Follows piece_of st.slots (unfinished piece_of (driving (drivers_of m.0)).taken) buf.bytes (eop_of r)
 
 pub record LoadsStatus (st : Step (Option Buffer)) (m : Seated) (r : ℕ) (m' : Seated) : Type 0 where
   pub not_done : r % 2 ≡ 0 → m' ≡ (driver_does m (NotDone st.word r), m.1)
@@ -66,7 +66,7 @@ pub record Deals (st : Step (Option Buffer)) (m : Seated) (r : ℕ) (m' : Seated
 -- both records are those of one lawful ring that a schedule makes
 pub record AreOf (n : ℕ) (ds : List DriverEvent) (cs : List ControllerEvent) : Type 0 where
   pub queue : RxRing Bytes
-  pub reachable : IsReachable Bytes n queue
+  pub reachable : IsRxReachable Bytes n queue
   pub driver : driving ds ≡ driven queue
   pub controller : controlling n cs ≡ controlled queue
   pub lawful : IsLawfulRx Bytes queue

@@ -1,11 +1,12 @@
 -- What the records of the two ends amount to.
 use Rattle.std.specs.Prelude.{ℕ, zero, suc, ◌+◌, ◌-◌, ◌/◌, ◌%◌, Bool, false, List, [], ◌∷◌, ◌++◌, length, Option, Some, None, ◌==◌}
 use Rattle.buffer_pool.specs.Buffer.{Buffer, blank}
-use Rattle.ring_machine.specs.declared.states.DriverState.{DriverState}
-use Rattle.ring_machine.specs.declared.states.DriverState.TheVariants.{On}
-use Rattle.ring_machine.specs.declared.states.ControllerState.{ControllerState}
-use Rattle.ring_machine.specs.declared.states.ControllerState.TheVariants.{Serving}
-use Rattle.ring_machine.specs.Ring.{Bytes, Segment}
+use Rattle.ring_model.specs.declared.states.DriverState.{DriverState}
+use Rattle.ring_model.specs.declared.states.DriverState.TheVariants.{On}
+use Rattle.ring_model.specs.declared.states.ControllerState.{ControllerState}
+use Rattle.ring_model.specs.declared.states.ControllerState.TheVariants.{Serving}
+use Rattle.ring_model.specs.receive.Ring.{Segment}
+use Rattle.ring_model.specs.shared.Frames.{Bytes}
 use Rattle.rx_ring.specs.declared.view.DriverEvent.{DriverEvent}
 use Rattle.rx_ring.specs.declared.view.DriverEvent.TheVariants.{Posted, Published, NotDone, Taken}
 use Rattle.rx_ring.specs.declared.view.ControllerEvent.{ControllerEvent}

@@ -1,26 +1,23 @@
 -- The rule of a ring's table: between any two steps words, slots and both records agree with one ring that a schedule makes.
-use Rattle.std.specs.Prelude.{◌≡◌, ℕ, ◌+◌, ◌<◌, ◌≤◌, ◌⊎◌, IsTrue, List, [], ◌∷◌, map, length, replicate, Option, Some, None, slice_index, slice_set, if◌then◌else◌}
-use Rattle.std.specs.Int.{is_power_of_two}
+use Rattle.std.specs.Prelude.{◌≡◌, ℕ, ◌+◌, ◌<◌, ◌⊎◌, List, [], ◌∷◌, map, length, replicate, Option, Some, None, slice_index, slice_set, if◌then◌else◌}
 use mathlib.Core.Option as maybe
 use mathlib.Core.Option.{some, none}
 use lib.ListN.{get_elem?}
 use Rattle.atomic_table.specs.Table.{State}
 use Rattle.atomic_table.specs.Seated.{TableId}
 use Rattle.buffer_pool.specs.Buffer.{Buffer, buffer}
-use Rattle.ring_machine.specs.declared.limits.TheConstants.{LEAST_RING, MOST_RING}
-use Rattle.ring_machine.specs.Ring.{Bytes, RxRing, stored_count}
-use Rattle.ring_machine.specs.Frames.{AllFollow}
-use Rattle.ring_machine.specs.Schedules.{IsReachable}
-use Rattle.ring_machine.specs.Agreement.{HasRegisters, registers_of, HasItems}
+use Rattle.limits.specs.RingLength.{IsRingLength}
+use Rattle.ring_model.specs.receive.Agreement.{rx_registers_of, rx_says, rx_lies}
+use Rattle.ring_model.specs.receive.Ring.{RxRing, Segment, piece_of}
+use Rattle.ring_model.specs.receive.Steps.{IsRxReachable}
+use Rattle.ring_model.specs.shared.Agreement.{HasRegisters, HasItems}
+use Rattle.ring_model.specs.shared.Frames.{Bytes, AllFollow}
+use Rattle.ring_model.specs.shared.Queue.{served_count}
 use Rattle.rx_ring.specs.declared.view.DriverEvent.{DriverEvent}
 use Rattle.rx_ring.specs.declared.view.ControllerEvent.{ControllerEvent}
 use Rattle.rx_ring.specs.declared.view.View.TheVariants.{Maker}
 use Rattle.rx_ring.specs.Seats.{HasSeats}
 use Rattle.rx_ring.specs.Records.{RxView, Driven, driving, Controlled, controlling}
-
--- a ring's length: a power of two from 8 to 4,096
-abbrev pub IsRingLength : ℕ → Type 0
-IsRingLength n = (LEAST_RING ≤ n) × (n ≤ MOST_RING) × IsTrue (is_power_of_two n)
 
 abbrev pub Table : Type 0
 Table = State (Option Buffer) RxView
@@ -40,27 +37,34 @@ home_at homes place = at_home (get_elem? homes place)
 
 -- what the two ends have of a ring
 abbrev pub driven : RxRing Bytes → Driven
-driven q = record { posted = q.ledger.posted; published = q.published; taken = q.ledger.taken; state = q.handshake.driver }
+driven q = record { posted = q.ledger.posted; published = q.published; taken = q.ledger.given; state = q.handshake.driver }
 
 abbrev pub controlled : RxRing Bytes → Controlled
 controlled q = record {
-  stored = q.ledger.stored;
+  stored = q.ledger.served;
   known = q.known;
-  held = if q.held then Some (slice_index q.ledger.posted (stored_count q)) else None;
+  held = if q.held then Some (slice_index q.ledger.posted (served_count q.queue)) else None;
   state = q.handshake.controller;
   still = q.still;
 }
+
+-- the word of an item, and the buffer in its slot
+abbrev pub says : ℕ → Option ℕ → Option (Segment Bytes) → ℕ
+says = rx_says {Payload = Bytes} length (λ b. buffer b []) buffer
+
+abbrev pub holds : Option ℕ → Option (Segment Bytes) → Option Buffer
+holds = rx_lies {Payload = Bytes} length (λ b. buffer b []) buffer
 
 -- the records are those of the ring q, and words and slots lie as q has them
 pub record LiesAs (n : ℕ) (q : RxRing Bytes) (ds : List DriverEvent) (cs : List ControllerEvent) (words : List ℕ) (homes : List (maybe.Option (Option Buffer))) : Type 0 where
   pub word_count : length words ≡ n + 4
   pub slot_count : length homes ≡ n
-  pub reachable : IsReachable Bytes n q
+  pub reachable : IsRxReachable Bytes n q
   pub driver : driving ds ≡ driven q
   pub controller : controlling n cs ≡ controlled q
-  pub registers : HasRegisters n (registers_of q) words
-  pub items : HasItems {Payload = Bytes} length (λ b. buffer b []) buffer n q (slice_index words) (home_at homes)
-  pub follow : AllFollow n q.ledger.stored
+  pub registers : HasRegisters n (rx_registers_of q) words
+  pub items : HasItems {Given = Segment Bytes} says holds n q.queue (slice_index words) (home_at homes)
+  pub follow : AllFollow piece_of n q.ledger.served
 
 -- both ends are made
 pub record Runs (n : ℕ) (s : Table) : Type 0 where

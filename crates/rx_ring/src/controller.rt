@@ -1,26 +1,27 @@
 //! The controller's end: it loads the tail, fetches posted buffers, and writes them back filled.
 ghost use Rattle.std.specs.Prelude.{◌≡◌, ◌+◌, ◌<◌, ◌≤◌, true, false, [], ◌∷◌, ◌++◌, length, Some, None};
 ghost use Rattle.buffer_pool.specs.Buffer.{buffer};
-ghost use Rattle.ring_machine.specs.Ring.{is_serving};
-ghost use Rattle.ring_machine.specs.Frames.{Follows, unfinished};
-ghost use Rattle.rx_ring.specs.Rule.{IsRingLength};
+ghost use Rattle.ring_model.specs.receive.Ring.{piece_of};
+ghost use Rattle.ring_model.specs.shared.Frames.{Follows, unfinished};
+ghost use Rattle.ring_model.specs.shared.Handshakes.{is_serving};
+ghost use Rattle.limits.specs.RingLength.{IsRingLength};
 ghost use Rattle.rx_ring.specs.Ends.{controller_size, stored, known_free, held_number, controller_state, is_quiet, IsFreshController, MakesController, Looked, Fetched, WroteBack};
 
 use crate::exchange::{put_in, take_out};
 use crate::plays::{FetchLoad, TailLoad, WriteBackStep};
-use crate::ring::{RxRing, RxSeat, place_after};
+use crate::ring::{RxRing, RxSeat};
 use buffer_pool::Buf;
 use descriptor::RxBack;
-use ring_machine::ControllerState;
+use ring_model::{ControllerState, place_after, places_between};
 use std::marker::Model;
 
 /// The controller's end of a receive ring. Contracts see the ring's identity and the record of the end's own steps.
 #[derive(Drop)]
 pub struct RxControllerEnd {
     pub(crate) seat: RxSeat,
-    size: u32,
-    serve: u32,
-    free: u32,
+    size: u16,
+    serve: u16,
+    free: u16,
     state: ControllerState,
 }
 
@@ -36,7 +37,7 @@ impl Model for RxControllerEnd {
 }
 
 impl RxControllerEnd {
-    pub(crate) fn new(seat: RxSeat, size: u32) -> RxControllerEnd
+    pub(crate) fn new(seat: RxSeat, size: u16) -> RxControllerEnd
         requires seat { MakesController size seat.table_id seat.me }
         ensures { IsFreshController seat.table_id result }
     {
@@ -55,7 +56,7 @@ impl RxControllerEnd {
         ensures value { result ≡ controller_size self.now }
         ensures lawful { IsRingLength result }
     {
-        self.size
+        self.size as u32
     }
 
     /// How many descriptors the end knows to be free: from the next one up to the tail that it loaded last.
@@ -63,7 +64,7 @@ impl RxControllerEnd {
     pub fn free(&self) -> u32
         ensures { result ≡ known_free self.now }
     {
-        self.free
+        self.free as u32
     }
 
     /// Loads the tail (RDT), and answers how many descriptors are free (82599 datasheet, 7.1.9).
@@ -82,13 +83,9 @@ impl RxControllerEnd {
         let tail = ring
             .table
             .shared
-            .load::<TailLoad>(&mut self.seat, self.size as usize + 1) as u32;
-        self.free = if self.serve <= tail {
-            tail - self.serve
-        } else {
-            tail + self.size - self.serve
-        };
-        self.free
+            .load::<TailLoad>(&mut self.seat, self.size as usize + 1) as u16;
+        self.free = places_between(self.serve, tail, self.size);
+        self.free as u32
     }
 
     /// Loads the next descriptor and takes its empty buffer.
@@ -119,7 +116,7 @@ impl RxControllerEnd {
         requires own { self.old.table ≡ ring.now }
         requires held { held_number self.old ≡ Some buf.number }
         requires real { buf ≡ buffer buf.number buf.bytes }
-        requires follows { Follows (controller_size self.old) (unfinished (stored self.old)) buf.bytes eop }
+        requires follows { Follows piece_of (controller_size self.old) (unfinished piece_of (stored self.old)) buf.bytes eop }
         ensures step { WroteBack self.old buf eop self.new }
         ensures free { known_free self.new + 1 ≡ known_free self.old }
         ensures stored { stored self.new ≡ stored self.old ++ record { number = buf.number; payload = buf.bytes; eop = eop } ∷ [] }

@@ -1,17 +1,17 @@
 //! The driver's end: it posts empty buffers, publishes them by the tail, and takes what was written back.
 ghost use Rattle.std.specs.Prelude.{◌≡◌, ◌+◌, ◌-◌, ◌<◌, true, [], ◌∷◌, ◌++◌, length};
 ghost use Rattle.buffer_pool.specs.Buffer.{buffer};
-ghost use Rattle.ring_machine.specs.Ring.{is_open};
+ghost use Rattle.ring_model.specs.shared.Handshakes.{is_open};
 ghost use Rattle.rx_ring.specs.declared.view.DriverEvent.TheVariants.{Posted, Published};
-ghost use Rattle.rx_ring.specs.Rule.{IsRingLength};
+ghost use Rattle.limits.specs.RingLength.{IsRingLength};
 ghost use Rattle.rx_ring.specs.Ends.{appended, driver_size, fill_place, posted, published, taken, driver_state, IsFreshDriver, MakesDriver, Polled};
 
 use crate::exchange::{put_in, take_out};
 use crate::plays::{PostStep, PublishStep, StatusLoad};
-use crate::ring::{RxRing, RxSeat, place_after};
+use crate::ring::{RxRing, RxSeat};
 use buffer_pool::Buf;
 use descriptor::RxBack;
-use ring_machine::DriverState;
+use ring_model::{DriverState, place_after};
 use std::marker::Model;
 
 /// What a look at the next descriptor found.
@@ -31,10 +31,10 @@ pub enum Poll {
 #[derive(Drop)]
 pub struct RxDriverEnd {
     pub(crate) seat: RxSeat,
-    size: u32,
-    fill: u32,
-    next: u32,
-    out: u32,
+    size: u16,
+    fill: u16,
+    next: u16,
+    out: u16,
     state: DriverState,
 }
 
@@ -50,7 +50,7 @@ impl Model for RxDriverEnd {
 }
 
 impl RxDriverEnd {
-    pub(crate) fn new(seat: RxSeat, size: u32) -> RxDriverEnd
+    pub(crate) fn new(seat: RxSeat, size: u16) -> RxDriverEnd
         requires seat { MakesDriver size seat.table_id seat.me }
         ensures { IsFreshDriver seat.table_id result }
     {
@@ -70,7 +70,7 @@ impl RxDriverEnd {
         ensures value { result ≡ driver_size self.now }
         ensures lawful { IsRingLength result }
     {
-        self.size
+        self.size as u32
     }
 
     /// How many more buffers can be posted: `n - 1` less those posted and not taken, since head equal to tail means an
@@ -79,7 +79,7 @@ impl RxDriverEnd {
     pub fn room(&self) -> u32
         ensures { result + length (posted self.now) + 1 ≡ driver_size self.now + length (taken self.now) }
     {
-        self.size - 1 - self.out
+        (self.size - 1 - self.out) as u32
     }
 
     /// Posts an empty buffer at the next place: it goes into the slot, and the descriptor becomes 0, so that DD is

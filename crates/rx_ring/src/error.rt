@@ -7,7 +7,7 @@ use thiserror::Error;
 /// Why a call on a ring was refused.
 #[derive(Clone, Copy, Debug, PartialEq, Eq, Error)]
 pub enum RingError {
-    /// The length is no power of two from 8 to 4,096.
+    /// No ring may have so many descriptors.
     #[error("ring length")]
     RingLength,
     /// Memory was refused.

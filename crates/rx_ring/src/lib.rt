@@ -6,7 +6,7 @@
 //! need for that.
 //!
 //! Each end keeps a record of the words that it loaded and stored, in proofs alone. Between any two steps the words,
-//! the slots and both records agree with a ring of `ring_machine` that some schedule of steps makes, and so with a
+//! the slots and both records agree with a ring of `ring_model` that some schedule of steps makes, and so with a
 //! lawful one: what is taken is a beginning of what is stored, byte for byte, in order, each once.
 #![tactic(auto)]
 

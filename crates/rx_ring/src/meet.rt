@@ -1,7 +1,7 @@
 //! What both ends know together.
 ghost use Rattle.std.specs.Prelude.{◌≡◌};
-ghost use Rattle.ring_machine.specs.Lawful.{IsLawfulRxLedger};
-ghost use Rattle.ring_machine.specs.Ring.{Bytes};
+ghost use Rattle.ring_model.specs.receive.Lawful.{IsLawfulRxLedger};
+ghost use Rattle.ring_model.specs.shared.Frames.{Bytes};
 ghost use Rattle.rx_ring.specs.Ends.{driver_size, ledger_of, Met};
 
 use crate::controller::RxControllerEnd;

@@ -1,6 +1,8 @@
 //! The ring, and the rule that every step on it keeps.
-ghost use Rattle.std.specs.Prelude.{◌≡◌, ◌+◌, ◌<◌, ◌≤◌, ◌==◌, ◌↔◌, if◌then◌else◌, IfOk, IsTrue};
-ghost use Rattle.rx_ring.specs.Rule.{IsRingLength, opening_words_of};
+ghost use Rattle.std.specs.Prelude.{◌≡◌, ◌≤◌, ◌↔◌, IfOk};
+ghost use Rattle.limits.specs.declared.profile.TheConstants.{MOST_RING};
+ghost use Rattle.limits.specs.RingLength.{IsRingLength};
+ghost use Rattle.rx_ring.specs.Rule.{opening_words_of};
 ghost use Rattle.rx_ring.specs.Ends.{Made};
 
 use crate::controller::RxControllerEnd;
@@ -10,6 +12,7 @@ use crate::plays::{Deal, Halve};
 use crate::view::{ControllerEvent, DriverEvent, View};
 use atomic_table::{Seat, Shared, Table, TableRule};
 use buffer_pool::Buf;
+use limits::is_ring_length;
 use std::alloc::{AllocError, Global};
 use std::marker::Model;
 
@@ -50,24 +53,17 @@ impl Model for RxRing {
     ghost invariant = { λ r. IsTableOf r.table.shared.table_id r.table.shared.key };
 }
 
-/// Whether a ring may have this many descriptors: a power of two from 8 to 4,096.
-pub fn is_ring_length(n: u32) -> bool
-    ensures { IsTrue result ↔ IsRingLength n }
-{
-    8 <= n && n <= 4096 && n.is_power_of_two()
-}
-
 impl RxRing {
-    /// A ring of `n` descriptors, enabled, with nothing posted. It answers `RingLength` where `n` is no power of two
-    /// from 8 to 4,096, and `Memory` only where memory was refused.
+    /// A ring of `n` descriptors, enabled, with nothing posted. It answers `RingLength` where a ring may not be so long
+    /// (`limits::is_ring_length`), and `Memory` only where memory was refused.
     pub fn new(alloc: Global, n: u32) -> Result<(RxRing, RxDriverEnd, RxControllerEnd), RingError>
         ensures refused { (result ≡ Err RingError.RingLength) ↔ ¬ (IsRingLength n) }
         ensures made { IfOk result (λ r. Made n r.0 r.1 r.2) }
     {
-        if !is_ring_length(n) {
+        let size = n as usize;
+        if !is_ring_length(size) {
             return Err(RingError::RingLength);
         }
-        let size = n as usize;
         let Ok(words) = opening_words(alloc, size) else {
             return Err(RingError::Memory);
         };
@@ -76,28 +72,18 @@ impl RxRing {
         };
         table.shared.load::<Deal>(&mut seat, size + 2);
         let served = table.shared.split_seat::<Halve>(&mut seat);
-        let driver = RxDriverEnd::new(seat, n);
-        let controller = RxControllerEnd::new(served, n);
+        let driver = RxDriverEnd::new(seat, n as u16);
+        let controller = RxControllerEnd::new(served, n as u16);
         Ok((RxRing { table }, driver, controller))
     }
 }
 
 /// The words of a ring as it is made: all 0 but the control word, which says that the queue is enabled.
 fn opening_words(alloc: Global, size: usize) -> Result<Vec<u64>, AllocError>
-    requires { size ≤ 4096 }
+    requires { size ≤ MOST_RING }
     ensures { IfOk result (λ v. v.items ≡ opening_words_of size) }
 {
     let mut words = vec![in alloc; 0u64; size + 4]?;
     words[size + 2] = 2;
     Ok(words)
-}
-
-/// The place after this one, with wrap-around.
-#[inline]
-pub(crate) fn place_after(place: u32, size: u32) -> u32
-    requires { place < size }
-    ensures { result ≡ (if (place + 1) == size then 0 else (place + 1)) }
-{
-    let after = place + 1;
-    if after == size { 0 } else { after }
 }

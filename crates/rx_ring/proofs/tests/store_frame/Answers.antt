@@ -1,8 +1,9 @@
 -- A segment that ends its frame leaves nothing unfinished.
 use Rattle.std.proofs.Common.{arith, length, ◌≤◌, ◌≡◌, true, sym, ap, ◌∙◌}
-use Rattle.ring_machine.specs.Ring.{is_serving}
-use Rattle.ring_machine.specs.Frames.{unfinished}
-use Rattle.ring_machine.proofs.FrameLaws.{unfinished-snoc}
+use Rattle.ring_model.specs.receive.Ring.{piece_of}
+use Rattle.ring_model.specs.shared.Frames.{unfinished}
+use Rattle.ring_model.specs.shared.Handshakes.{is_serving}
+use Rattle.ring_model.proofs.shared.FrameLaws.{unfinished-snoc}
 use Rattle.rx_ring.specs.Ends.{controller_size, stored}
 use Rattle.rx_ring.proofs.Whole.{follows-whole}
 use Rattle.rx_ring.proofs.tests.store_frame.Goals as goal
@@ -11,7 +12,7 @@ pub write_back-requires-clause-follows : goal.write_back-requires-clause-follows
 write_back-requires-clause-follows g c =
     let least : 8 ≤ c.size-size.result = c.size-size.ensures.lawful.0 in
     let size : controller_size c.fetch-buf.new.self ≡ c.size-size.result = ap (λ e. e.table.slots) c.fetch-buf.ensures.step.step ∙ sym c.size-size.ensures.value in
-    follows-whole (controller_size c.fetch-buf.new.self) (unfinished (stored c.fetch-buf.new.self)) c.fill.new.self.bytes (omega arith) (ap unfinished c.fetch-buf.ensures.stored ∙ c.await_free.ensures.between.whole) (let e : length c.fill.new.self.bytes ≡ length c.args.frame.now = ap (λ b. length b.bytes) c.fill.ensures in let h = c.requires.frame.0 in omega arith) (let e : length c.fill.new.self.bytes ≡ length c.args.frame.now = ap (λ b. length b.bytes) c.fill.ensures in let h = c.requires.frame.1 in omega arith)
+    follows-whole (controller_size c.fetch-buf.new.self) (unfinished piece_of (stored c.fetch-buf.new.self)) c.fill.new.self.bytes (omega arith) (ap (unfinished piece_of) c.fetch-buf.ensures.stored ∙ c.await_free.ensures.between.whole) (let e : length c.fill.new.self.bytes ≡ length c.args.frame.now = ap (λ b. length b.bytes) c.fill.ensures in let h = c.requires.frame.0 in omega arith) (let e : length c.fill.new.self.bytes ≡ length c.args.frame.now = ap (λ b. length b.bytes) c.fill.ensures in let h = c.requires.frame.1 in omega arith)
 
 pub returns : goal.returns
 returns g c =
@@ -20,5 +21,5 @@ returns g c =
       serving = ap (λ s. is_serving s) (c.write_back.ensures.state ∙ c.fetch-buf.ensures.state) ∙ before.serving;
       unheld = c.write_back.ensures.held;
       storing = c.write_back.ensures.quiet ∙ c.fetch-buf.ensures.quiet ∙ before.storing;
-      whole = ap unfinished c.write_back.ensures.stored ∙ unfinished-snoc (stored c.fetch-buf.new.self) (record { number = c.fill.new.self.number; payload = c.fill.new.self.bytes; eop = true });
+      whole = ap (unfinished piece_of) c.write_back.ensures.stored ∙ unfinished-snoc piece_of (stored c.fetch-buf.new.self) (record { number = c.fill.new.self.number; payload = c.fill.new.self.bytes; eop = true });
     }

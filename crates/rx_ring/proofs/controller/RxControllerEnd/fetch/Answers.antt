@@ -1,7 +1,7 @@
 -- The load keeps the rule, and the buffer that came out is the one that was posted next in order.
 use Rattle.std.proofs.Common.{◌≡◌, ℕ, ◌-◌, ◌<◌, true, false, length, sym, ap, ◌∙◌, subst, arith}
 use Rattle.std.specs.Prelude.{Some, None}
-use Rattle.ring_machine.specs.Ring.{is_serving}
+use Rattle.ring_model.specs.shared.Handshakes.{is_serving}
 use Rattle.rx_ring.specs.declared.view.ControllerEvent.TheVariants as event
 use Rattle.rx_ring.specs.Records.{Controlled, controlling, controllers_of, front_buffer}
 use Rattle.rx_ring.specs.Ends.{ControllerSide, stored, known_free, held_number, controller_state, is_quiet}

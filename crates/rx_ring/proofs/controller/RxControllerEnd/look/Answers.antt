@@ -1,13 +1,12 @@
 -- The step keeps the rule; the tail is below the length, and the code counts how far it is ahead.
 use Rattle.std.proofs.Common.{◌≡◌, ℕ, ◌+◌, ◌-◌, ◌%◌, true, length, sym, ap, ◌∙◌, subst, arith}
-use Rattle.ring_machine.specs.Ring.{is_serving}
+use Rattle.ring_model.specs.shared.Handshakes.{is_serving}
 use Rattle.rx_ring.specs.declared.view.ControllerEvent.TheVariants as event
 use Rattle.rx_ring.specs.Records.{Controlled, controlling, controllers_of}
 use Rattle.rx_ring.specs.Ends.{ControllerSide, stored, held_number, controller_state, is_quiet}
 use Rattle.rx_ring.proofs.Calls.{slots-are}
 use Rattle.rx_ring.proofs.ControllerCalls.{look-asks, look-free, look-keeps, look-steps, look-counts, look-grows, did, words-are}
 use Rattle.rx_ring.proofs.controller.RxControllerEnd.look.Goals as goal
-use Rattle.rx_ring.proofs.controller.RxControllerEnd.look.Goals.{After-self-1, then-self-tail, else-self-tail}
 
 pub load-tail-requires : goal.load-tail-requires
 load-tail-requires c =
@@ -16,38 +15,29 @@ load-tail-requires c =
     let serving : is_serving (controlling i.size (controllers_of i.seat.me.0)).state ≡ true = subst (λ (n : ℕ). is_serving (controlling n (controllers_of i.seat.me.0)).state ≡ true) c.self.invariant.size_is (subst (λ (s : ControllerSide). is_serving (controller_state s) ≡ true) (sym c.self.view_is) c.requires.serving) in
     look-asks i.seat.table_id i.seat.me i.size i.serve i.free i.state c.self.invariant c.ring.inside.table.shared.table_id c.ring.inside.table.shared.key i.seat.id own c.ring.invariant serving
 
--- what the code counts is how far the tail is ahead
-ahead-is : (c : After-self-1) → (c.load-tail.result + c.self.inside.size - length (controlling c.self.inside.size (controllers_of c.self.inside.seat.me.0)).stored % c.self.inside.size) % c.self.inside.size ≡ c.if-self-tail.self
-ahead-is c =
-    let i = c.self.inside in
-    let own : i.seat.table_id ≡ c.ring.inside.table.shared.table_id = ap (λ (d : ControllerSide). d.table) c.self.view_is ∙ c.requires.own ∙ sym c.ring.view_is in
-    look-free i.seat.table_id i.seat.me i.size i.serve i.free i.state c.self.invariant c.ring.inside.table.shared.table_id c.load-tail.result c.load-tail.new.seat.me (slots-are i.seat.table_id c.ring.inside.table.shared.table_id c.ring.inside.table.shared.key i.size own c.ring.invariant c.self.invariant.size_is) c.load-tail.ensures.2 c.if-self-tail.self
-    (elim c.if-self-tail.branch [ then-self-tail w ↦ λ h. w.self-is | else-self-tail w ↦ λ h. absurd (omega arith) ])
-    (elim c.if-self-tail.branch [ then-self-tail w ↦ λ h. absurd (omega arith) | else-self-tail w ↦ λ h. w.self-is ])
-
 pub invariant_of-self : goal.invariant_of-self
 invariant_of-self c =
     let i = c.self.inside in
     let own : i.seat.table_id ≡ c.ring.inside.table.shared.table_id = ap (λ (d : ControllerSide). d.table) c.self.view_is ∙ c.requires.own ∙ sym c.ring.view_is in
-    look-keeps i.seat.table_id i.seat.me i.size i.serve i.free i.state c.self.invariant c.ring.inside.table.shared.table_id c.load-tail.result c.load-tail.new.seat.me (slots-are i.seat.table_id c.ring.inside.table.shared.table_id c.ring.inside.table.shared.key i.size own c.ring.invariant c.self.invariant.size_is) c.load-tail.ensures.2 c.if-self-tail.self c.load-tail.new.seat.table_id (ahead-is c) c.load-tail.ensures.0
+    look-keeps i.seat.table_id i.seat.me i.size i.serve i.free i.state c.self.invariant c.ring.inside.table.shared.table_id c.load-tail.result c.load-tail.new.seat.me (slots-are i.seat.table_id c.ring.inside.table.shared.table_id c.ring.inside.table.shared.key i.size own c.ring.invariant c.self.invariant.size_is) c.load-tail.ensures.2 c.places_between-self-inside.result c.load-tail.new.seat.table_id (look-free i.seat.table_id i.seat.me i.size i.serve i.free i.state c.self.invariant c.ring.inside.table.shared.table_id c.load-tail.result c.load-tail.new.seat.me (slots-are i.seat.table_id c.ring.inside.table.shared.table_id c.ring.inside.table.shared.key i.size own c.ring.invariant c.self.invariant.size_is) c.load-tail.ensures.2 c.places_between-self-inside.result c.places_between-self-inside.ensures.value) c.load-tail.ensures.0
 
 pub returns-clause-step : goal.returns-clause-step
 returns-clause-step c =
     let i = c.self.inside in
     let own : i.seat.table_id ≡ c.ring.inside.table.shared.table_id = ap (λ (d : ControllerSide). d.table) c.self.view_is ∙ c.requires.own ∙ sym c.ring.view_is in
-    look-steps i.seat.table_id i.seat.me i.size i.serve i.free i.state c.self.invariant c.ring.inside.table.shared.table_id c.load-tail.result c.load-tail.new.seat.me (slots-are i.seat.table_id c.ring.inside.table.shared.table_id c.ring.inside.table.shared.key i.size own c.ring.invariant c.self.invariant.size_is) c.load-tail.ensures.2 c.args.self.now c.if-self-tail.self c.load-tail.new.seat.table_id c.self.view_is (ahead-is c) c.load-tail.ensures.0
+    look-steps i.seat.table_id i.seat.me i.size i.serve i.free i.state c.self.invariant c.ring.inside.table.shared.table_id c.load-tail.result c.load-tail.new.seat.me (slots-are i.seat.table_id c.ring.inside.table.shared.table_id c.ring.inside.table.shared.key i.size own c.ring.invariant c.self.invariant.size_is) c.load-tail.ensures.2 c.args.self.now c.places_between-self-inside.result c.load-tail.new.seat.table_id c.self.view_is (look-free i.seat.table_id i.seat.me i.size i.serve i.free i.state c.self.invariant c.ring.inside.table.shared.table_id c.load-tail.result c.load-tail.new.seat.me (slots-are i.seat.table_id c.ring.inside.table.shared.table_id c.ring.inside.table.shared.key i.size own c.ring.invariant c.self.invariant.size_is) c.load-tail.ensures.2 c.places_between-self-inside.result c.places_between-self-inside.ensures.value) c.load-tail.ensures.0
 
 pub returns-clause-free : goal.returns-clause-free
 returns-clause-free c =
     let i = c.self.inside in
     let own : i.seat.table_id ≡ c.ring.inside.table.shared.table_id = ap (λ (d : ControllerSide). d.table) c.self.view_is ∙ c.requires.own ∙ sym c.ring.view_is in
-    look-counts i.seat.table_id i.seat.me i.size i.serve i.free i.state c.self.invariant c.ring.inside.table.shared.table_id c.load-tail.result c.load-tail.new.seat.me (slots-are i.seat.table_id c.ring.inside.table.shared.table_id c.ring.inside.table.shared.key i.size own c.ring.invariant c.self.invariant.size_is) c.load-tail.ensures.2 c.if-self-tail.self c.load-tail.new.seat.table_id (ahead-is c) c.load-tail.ensures.0
+    look-counts i.seat.table_id i.seat.me i.size i.serve i.free i.state c.self.invariant c.ring.inside.table.shared.table_id c.load-tail.result c.load-tail.new.seat.me (slots-are i.seat.table_id c.ring.inside.table.shared.table_id c.ring.inside.table.shared.key i.size own c.ring.invariant c.self.invariant.size_is) c.load-tail.ensures.2 c.places_between-self-inside.result c.load-tail.new.seat.table_id (look-free i.seat.table_id i.seat.me i.size i.serve i.free i.state c.self.invariant c.ring.inside.table.shared.table_id c.load-tail.result c.load-tail.new.seat.me (slots-are i.seat.table_id c.ring.inside.table.shared.table_id c.ring.inside.table.shared.key i.size own c.ring.invariant c.self.invariant.size_is) c.load-tail.ensures.2 c.places_between-self-inside.result c.places_between-self-inside.ensures.value) c.load-tail.ensures.0
 
 pub returns-clause-grows : goal.returns-clause-grows
 returns-clause-grows c =
     let i = c.self.inside in
     let own : i.seat.table_id ≡ c.ring.inside.table.shared.table_id = ap (λ (d : ControllerSide). d.table) c.self.view_is ∙ c.requires.own ∙ sym c.ring.view_is in
-    look-grows i.seat.table_id i.seat.me i.size i.serve i.free i.state c.self.invariant c.ring.inside.table.shared.table_id c.load-tail.result c.load-tail.new.seat.me (slots-are i.seat.table_id c.ring.inside.table.shared.table_id c.ring.inside.table.shared.key i.size own c.ring.invariant c.self.invariant.size_is) c.load-tail.ensures.2 c.args.self.now c.if-self-tail.self c.self.view_is (ahead-is c)
+    look-grows i.seat.table_id i.seat.me i.size i.serve i.free i.state c.self.invariant c.ring.inside.table.shared.table_id c.load-tail.result c.load-tail.new.seat.me (slots-are i.seat.table_id c.ring.inside.table.shared.table_id c.ring.inside.table.shared.key i.size own c.ring.invariant c.self.invariant.size_is) c.load-tail.ensures.2 c.args.self.now c.places_between-self-inside.result c.self.view_is (look-free i.seat.table_id i.seat.me i.size i.serve i.free i.state c.self.invariant c.ring.inside.table.shared.table_id c.load-tail.result c.load-tail.new.seat.me (slots-are i.seat.table_id c.ring.inside.table.shared.table_id c.ring.inside.table.shared.key i.size own c.ring.invariant c.self.invariant.size_is) c.load-tail.ensures.2 c.places_between-self-inside.result c.places_between-self-inside.ensures.value)
 
 pub returns-clause-stored : goal.returns-clause-stored
 returns-clause-stored c =

@@ -1,7 +1,8 @@
 -- The step keeps the rule, and the record has the segment that the buffer carries.
 use Rattle.std.proofs.Common.{length, ◌≡◌, ℕ, [], ◌∷◌, ◌++◌, sym, ap, ◌∙◌, subst}
 use Rattle.std.specs.Prelude.{Some}
-use Rattle.ring_machine.specs.Frames.{Follows, unfinished}
+use Rattle.ring_model.specs.receive.Ring.{piece_of}
+use Rattle.ring_model.specs.shared.Frames.{Follows, unfinished}
 use Rattle.rx_ring.specs.Records.{Controlled, controlling, controllers_of}
 use Rattle.rx_ring.specs.Ends.{ControllerSide, controller_size, stored, held_number, controller_state, is_quiet}
 use Rattle.rx_ring.proofs.ControllerCalls.{word-is, write_back-asks, write_back-keeps, write_back-steps, write_back-counts, some-free, wrote, words-are}
@@ -12,7 +13,7 @@ store-requires c =
     let i = c.self.inside in
     let own : i.seat.table_id ≡ c.ring.inside.table.shared.table_id = ap (λ (d : ControllerSide). d.table) c.self.view_is ∙ c.requires.own ∙ sym c.ring.view_is in
     let held : (controlling i.size (controllers_of i.seat.me.0)).held ≡ Some c.args.buf.number = subst (λ (n : ℕ). (controlling n (controllers_of i.seat.me.0)).held ≡ Some c.args.buf.number) c.self.invariant.size_is (subst (λ (s : ControllerSide). held_number s ≡ Some c.args.buf.number) (sym c.self.view_is) c.requires.held) in
-    let follows : Follows i.size (unfinished (controlling i.size (controllers_of i.seat.me.0)).stored) c.args.buf.bytes c.args.eop = subst (λ (n : ℕ). Follows n (unfinished (controlling n (controllers_of i.seat.me.0)).stored) c.args.buf.bytes c.args.eop) c.self.invariant.size_is (subst (λ (s : ControllerSide). Follows (controller_size s) (unfinished (stored s)) c.args.buf.bytes c.args.eop) (sym c.self.view_is) c.requires.follows) in
+    let follows : Follows piece_of i.size (unfinished piece_of (controlling i.size (controllers_of i.seat.me.0)).stored) c.args.buf.bytes c.args.eop = subst (λ (n : ℕ). Follows piece_of n (unfinished piece_of (controlling n (controllers_of i.seat.me.0)).stored) c.args.buf.bytes c.args.eop) c.self.invariant.size_is (subst (λ (s : ControllerSide). Follows piece_of (controller_size s) (unfinished piece_of (stored s)) c.args.buf.bytes c.args.eop) (sym c.self.view_is) c.requires.follows) in
     write_back-asks i.seat.table_id i.seat.me i.size i.serve i.free i.state c.self.invariant c.args.buf c.args.eop held c.ring.inside.table.shared.table_id c.put_in.new.seat.table_id c.ring.inside.table.shared.key c.put_in.new.seat.id c.second_word-word.result c.put_in.new.seat.me own c.ring.invariant c.put_in.ensures.same.0 c.put_in.ensures.put (word-is c.args.eop c.new.result.eop (length c.args.buf.bytes) c.new.result.len c.new.ensures.eop (c.new.ensures.len ∙ c.len.ensures.value) c.second_word-word.result c.second_word-word.ensures.value) c.requires.real follows
 
 pub overflow_sub-self : goal.overflow_sub-self
@@ -25,7 +26,7 @@ pub invariant_of-self : goal.invariant_of-self
 invariant_of-self c =
     let i = c.self.inside in
     let held : (controlling i.size (controllers_of i.seat.me.0)).held ≡ Some c.args.buf.number = subst (λ (n : ℕ). (controlling n (controllers_of i.seat.me.0)).held ≡ Some c.args.buf.number) c.self.invariant.size_is (subst (λ (s : ControllerSide). held_number s ≡ Some c.args.buf.number) (sym c.self.view_is) c.requires.held) in
-    write_back-keeps i.seat.table_id i.seat.me i.size i.serve i.free i.state c.self.invariant c.args.buf c.args.eop held c.second_word-word.result c.place_after-self-inside.result c.put_in.new.seat.me c.store.new.seat.me c.store.new.seat.table_id (word-is c.args.eop c.new.result.eop (length c.args.buf.bytes) c.new.result.len c.new.ensures.eop (c.new.ensures.len ∙ c.len.ensures.value) c.second_word-word.result c.second_word-word.ensures.value) c.put_in.ensures.put c.store.ensures.2 (c.store.ensures.0 ∙ c.put_in.ensures.same.0) c.place_after-self-inside.ensures
+    write_back-keeps i.seat.table_id i.seat.me i.size i.serve i.free i.state c.self.invariant c.args.buf c.args.eop held c.second_word-word.result c.place_after-self-inside.result c.put_in.new.seat.me c.store.new.seat.me c.store.new.seat.table_id (word-is c.args.eop c.new.result.eop (length c.args.buf.bytes) c.new.result.len c.new.ensures.eop (c.new.ensures.len ∙ c.len.ensures.value) c.second_word-word.result c.second_word-word.ensures.value) c.put_in.ensures.put c.store.ensures.2 (c.store.ensures.0 ∙ c.put_in.ensures.same.0) c.place_after-self-inside.ensures.value
 
 pub returns-clause-step : goal.returns-clause-step
 returns-clause-step c =

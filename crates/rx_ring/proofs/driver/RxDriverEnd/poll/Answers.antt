@@ -1,6 +1,6 @@
 -- The load keeps the rule; without DD the record has one more event, and with DD the buffer came out too.
 use Rattle.std.proofs.Common.{◌≡◌, ◌%◌, ◌<◌, Bool, true, subst, refl, sym, ap, ◌∙◌, arith}
-use Rattle.ring_machine.specs.Ring.{is_live}
+use Rattle.ring_model.specs.shared.Handshakes.{is_live}
 use Rattle.rx_ring.specs.declared.view.DriverEvent.TheVariants.{NotDone}
 use Rattle.rx_ring.specs.Records.{driving, drivers_of, eop_of}
 use Rattle.rx_ring.specs.Ends.{DriverSide, TookSegment}
@@ -38,7 +38,7 @@ invariant_of-self-2 c =
     let odd : c.load-word.result % 2 ≡ 1 = c.is_done.ensures.0 c.if-not-is_done.false in
     let t = c.load-word.ensures.2.done odd in
     take-keeps i.seat.table_id i.seat.me i.size i.fill i.next i.out i.state c.self.invariant (sym c.is_live.ensures ∙ c.if-not-is_live.false) some_out c.load-word.result t.buf c.turn.new.self.table_id c.load-word.new.seat.me c.take_out-buf.new.seat.me c.turn.new.self.me c.place_after-self-inside.result
-    (c.turn.ensures.0 ∙ c.take_out-buf.ensures.same.0 ∙ c.load-word.ensures.0) t.seat c.take_out-buf.ensures.left c.turn.ensures.2 c.place_after-self-inside.ensures
+    (c.turn.ensures.0 ∙ c.take_out-buf.ensures.same.0 ∙ c.load-word.ensures.0) t.seat c.take_out-buf.ensures.left c.turn.ensures.2 c.place_after-self-inside.ensures.value
 
 pub returns : goal.returns
 returns c =

@@ -1,6 +1,6 @@
 -- The end's own slot is in front; the step keeps the rule, and the record has one more event.
 use Rattle.std.proofs.Common.{◌≡◌, ◌+◌, ◌<◌, true, [], ◌∷◌, ◌++◌, length, sym, ap, ◌∙◌, subst}
-use Rattle.ring_machine.specs.Ring.{is_open}
+use Rattle.ring_model.specs.shared.Handshakes.{is_open}
 use Rattle.rx_ring.specs.Records.{Driven, driving, drivers_of}
 use Rattle.rx_ring.specs.Ends.{DriverSide, driver_size, posted, published, taken, driver_state}
 use Rattle.rx_ring.proofs.DriverCalls.{post-asks, post-keeps, post-driven}
@@ -18,7 +18,7 @@ pub invariant_of-self : goal.invariant_of-self
 invariant_of-self c =
     let i = c.self.inside in let v = c.self.invariant in
     let room : length (driving (drivers_of i.seat.me.0)).posted + 1 < i.size + length (driving (drivers_of i.seat.me.0)).taken = subst (λ k. length (driving (drivers_of i.seat.me.0)).posted + 1 < k + length (driving (drivers_of i.seat.me.0)).taken) v.size_is (subst (λ (d : DriverSide). length (posted d) + 1 < driver_size d + length (taken d)) (sym c.self.view_is) c.requires.room) in
-    post-keeps i.seat.table_id i.seat.me i.size i.fill i.next i.out i.state v room c.args.buf c.put_in.new.seat.table_id c.store.new.seat.table_id c.put_in.new.seat.me c.store.new.seat.me c.place_after-self-inside.result c.put_in.ensures.same.0 c.store.ensures.0 c.put_in.ensures.put c.store.ensures.2 c.place_after-self-inside.ensures
+    post-keeps i.seat.table_id i.seat.me i.size i.fill i.next i.out i.state v room c.args.buf c.put_in.new.seat.table_id c.store.new.seat.table_id c.put_in.new.seat.me c.store.new.seat.me c.place_after-self-inside.result c.put_in.ensures.same.0 c.store.ensures.0 c.put_in.ensures.put c.store.ensures.2 c.place_after-self-inside.ensures.value
 
 pub returns-clause-posted : goal.returns-clause-posted
 returns-clause-posted c =

@@ -1,6 +1,6 @@
 -- The step keeps the rule, and the record has one more event.
 use Rattle.std.proofs.Common.{◌≡◌, true, length, refl, sym, ap, ◌∙◌, subst}
-use Rattle.ring_machine.specs.Ring.{is_open}
+use Rattle.ring_model.specs.shared.Handshakes.{is_open}
 use Rattle.rx_ring.specs.declared.view.DriverEvent.TheVariants.{Published}
 use Rattle.rx_ring.specs.Records.{Driven, driving, drivers_of}
 use Rattle.rx_ring.specs.Ends.{DriverSide, posted, taken, driver_state}

@@ -1,6 +1,6 @@
 -- The first seat takes all slots, and is cut into the seats of the two ends.
 use Rattle.std.proofs.Common.{◌≡◌, ◌+◌, ◌≤◌, [], length, ap, ◌∙◌, arith}
-use Rattle.rx_ring.specs.Rule.{IsRingLength}
+use Rattle.limits.specs.RingLength.{IsRingLength}
 use Rattle.rx_ring.proofs.MeetCalls.{deal-asks, halve-asks}
 use Rattle.rx_ring.proofs.Gathering.{opening-count}
 use Rattle.rx_ring.proofs.ring.RxRing.new.Goals as goal

@@ -1,0 +1,29 @@
+//! Places of a ring: they wrap at its length.
+
+ghost use Rattle.std.specs.Prelude.{◌≡◌, ◌<◌};
+ghost use Rattle.ring_model.specs.shared.Places.{between_places, place_next};
+
+/// The place after this one.
+#[inline]
+pub fn place_after(place: u16, size: u16) -> u16
+    requires { place < size }
+    ensures value { result ≡ place_next size place }
+    ensures below { result < size }
+{
+    if place + 1 == size { 0 } else { place + 1 }
+}
+
+/// How many places lie from `from` up to `to`.
+#[inline]
+pub fn places_between(from: u16, to: u16, size: u16) -> u16
+    requires from { from < size }
+    requires to { to < size }
+    ensures value { result ≡ between_places size from to }
+    ensures below { result < size }
+{
+    if from <= to {
+        to - from
+    } else {
+        size - from + to
+    }
+}
