@@ -24,14 +24,14 @@ is_early _ = false
 
 module _ {Posted Served Given : Type 0} (says : ℕ → Option Posted → Option Served → ℕ) (lies : Option Posted → Option Served → Option Buffer) where
   -- what the controller has of it. Between a renewal and the answer to it, the controller still has its record of the epoch before
-  pub record IsControlled (q : Queue Posted Served Given) (barred : Bool) (c : Controlled Served) : Type 0 where
+  pub record IsControlled (q : Queue Posted Served Given) (bars : Bool) (c : Controlled Served) : Type 0 where
     pub served : is_between q.handshake ≡ false → c.served ≡ q.ledger.served
     pub known : is_between q.handshake ≡ false → c.known ≡ q.known
     pub held : c.held ≡ held_buffer {Given = Given} says lies q
     pub head : is_serving q.handshake.controller ≡ true → c.head ≡ q.head
     pub state : c.state ≡ q.handshake.controller
     pub seen : c.seen ≡ q.handshake.seen
-    pub barred : c.barred ≡ barred
+    pub barred : c.barred ≡ bars
 
   -- Words and slots lie as the queue has them: m words, of which those beyond n are registers
   pub record LiesIn (n m : ℕ) (q : Queue Posted Served Given) (quiet : ℕ) (words : List ℕ) (homes : List (maybe.Option Buffer)) : Type 0 where
