@@ -1,14 +1,3 @@
-pub mod Folds
-pub mod Seating
-pub mod Laying
+pub mod Words
+pub mod Learning
 pub mod Moving
-pub mod Allowing
-pub mod Driving
-pub mod Serving
-pub mod Gathering
-pub mod Calls
-pub mod DriverCalls
-pub mod PollCalls
-pub mod ControllerCalls
-pub mod MeetCalls
-pub mod Whole
