@@ -1,3 +1,5 @@
 pub mod Words
 pub mod Learning
 pub mod Moving
+pub mod Driving
+pub mod Serving
