@@ -78,7 +78,7 @@ module _ (n id : ℕ) (es : List DriverStep) (slots : List (ℕ × Buffer)) wher
   Goes i f tells cs words homes = DriverGoes (LiesAs n) n (n + 4) es slots i f tells cs words homes
 
   -- A1
-  pub allow-post : (b : Buffer) (p : ℕ) → p ≡ length d.posted % n → is_open d.state ≡ true → length d.posted + 1 < length d.given + n → b ≡ buffer b.number []
+  pub allow-post : (b : Buffer) (p : ℕ) → p ≡ length d.posted % n → is_open d.state ≡ true → length d.posted + 1 < length d.given + d.reclaimed + n → b ≡ buffer b.number []
       → Allows (IsRuled n) n id (Driver es, (p, b) ∷ slots) p (λ _. 0) (λ _ m. posts (step n p 0 0 none) (Driver es, (p, b) ∷ slots) 0 m)
   allow-post b p at opened room empty = allow_driver (LiesAs n) n (n + 4) id es ((p, b) ∷ slots) p (λ _. 0) (λ _ m. posts (step n p 0 0 none) (Driver es, (p, b) ∷ slots) 0 m)
       (λ q cs words homes pos l. record {
@@ -89,7 +89,7 @@ module _ (n id : ℕ) (es : List DriverStep) (slots : List (ℕ × Buffer)) wher
         lies = post-lies n q es cs words homes pos l b p
             (at ∙ ap (λ (y : RxDriven). length y.posted % n) l.driver)
             (sym (ap (λ (y : RxDriven). is_open y.state) l.driver) ∙ opened)
-            (subst (λ (y : RxDriven). length y.posted + 1 < length y.given + n) l.driver room)
+            (subst (λ (y : RxDriven). length y.posted + 1 < length y.given + y.reclaimed + n) l.driver room)
             empty;
         told = refl;
       })

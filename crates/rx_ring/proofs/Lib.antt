@@ -3,3 +3,4 @@ pub mod Learning
 pub mod Moving
 pub mod Driving
 pub mod Serving
+pub mod DriverSeats
