@@ -4,3 +4,4 @@ pub mod Moving
 pub mod Driving
 pub mod Serving
 pub mod DriverSeats
+pub mod ControllerSeats

@@ -2,6 +2,7 @@
 //! by which its end's record grows: so a step that no record tells of can't be made.
 
 
+mod controller;
 mod driver;
 
 
