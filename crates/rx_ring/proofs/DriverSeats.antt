@@ -15,7 +15,8 @@ use Rattle.shared_ring.specs.declared.events.View.TheVariants.{Driver}
 use Rattle.shared_ring.specs.Plays.{driver_does, posts, publishes, asks_enable, LoadsControl, asks_disable, LoadsHead, clears_head, clears_tail}
 use Rattle.shared_ring.specs.Records.{driver_slots, undriven}
 use Rattle.shared_ring.specs.Slots.{empty_slots, front_buffer}
-use Rattle.shared_ring.proofs.Folds.{driving-snoc, slots-post, slots-return}
+use Rattle.std.proofs.Math.Nat.{mod-mod}
+use Rattle.shared_ring.proofs.Folds.{driving-snoc, slots-post, slots-return, slots-alike}
 use Rattle.rx_ring.specs.declared.events.RxDriverOwn.TheVariants.{NotDone, Taken, LoadedQuiet, ClearedQuiet}
 use Rattle.rx_ring.specs.Records.{RxDriven, RxView, DriverStep, drivers_of, driving, drive, posting, drive_own, eop_of, segment_of}
 use Rattle.rx_ring.specs.Rule.{IsRuled, IsTableOf}
@@ -185,6 +186,29 @@ module _ (table : TableId) (me : Seated) (size : ℕ) (inv : IsDriverSeat table 
     -- C11
     pub clear_quiet-asks : (id : ℕ) → is_tailed (driver_state now) ≡ true → (table ≡ ring) × ((size + 3) < ring.words) × Allows (IsRuled key) ring.slots id me (size + 3) (λ _. 0) (λ _. clears_quiet (step ring.slots (size + 3) 0 0 none) me 0)
     clear_quiet-asks id tailed = store-asks clears_quiet id (size + 3) 0 (omega arith) (allow-clear_quiet size id (drivers_of me.0) its (sym (words-are (λ x n. is_tailed x.state)) ∙ tailed))
+
+    -- all slots are with the seat, and the one in front is that of the place
+    pub turn-asks : (place : ℕ) (me' : Seated) → place ≡ fill_place now → returned now ≡ length (posted now) → me' ≡ (driver_does me (driver.Own ClearedQuiet), me.1) → me'.1 ≡ empty_slots size place size
+    turn-asks place me' at back stored = let b : length d.given + d.reclaimed ≡ length d.posted = sym (words-are (λ x n. length x.given + x.reclaimed)) ∙ back ∙ words-are (λ x n. length x.posted) in
+        ap (λ (m : Seated). m.1) stored ∙ slots-are ∙ ap (empty_slots size (length d.posted)) (let f : length d.given + d.reclaimed + size - length d.posted ≡ size = omega arith in f)
+        ∙ slots-alike size (length d.posted) place size (let g = big in let f = filled place at in sym (ap (λ (j : ℕ). j % size) f ∙ mod-mod (length d.posted) size))
+
+    pub turn-below : (place : ℕ) → place ≡ fill_place now → place < size
+    turn-below place at = let b = big in let f = filled place at in let m : length d.posted % size < size = mod-lt (length d.posted) (omega arith) in omega arith
+
+    renewed-seat : (me1 me2 : Seated) → me1 ≡ (driver_does me (driver.Own ClearedQuiet), me.1) → me2.0 ≡ me1.0 → me2.1 ≡ empty_slots size 0 size → me2 ≡ (Driver (drivers_of me.0 ++ driver.Own ClearedQuiet ∷ []), empty_slots size 0 size)
+    renewed-seat me1 me2 stored same slots = ap (λ (v : RxView). let x : Seated = (v, me2.1) in x) (same ∙ ap (λ (m : Seated). m.0) stored)
+        ∙ ap (λ (xs : List (ℕ × Buffer)). let x : Seated = (Driver (drivers_of me.0 ++ driver.Own ClearedQuiet ∷ []), xs) in x) slots
+
+    pub renew-keeps : (table' : TableId) (me1 me2 : Seated) → table' ≡ table → me1 ≡ (driver_does me (driver.Own ClearedQuiet), me.1) → me2.0 ≡ me1.0 → me2.1 ≡ empty_slots size 0 size → IsDriverSeat table' me2 size
+    renew-keeps table' me1 me2 t stored same slots = let b = big in
+        made table' me2 (drivers_of me.0 ++ driver.Own ClearedQuiet ∷ []) (empty_slots size 0 size) (drive d (driver.Own ClearedQuiet)) t (renewed-seat me1 me2 stored same slots) (did (drivers_of me.0) (driver.Own ClearedQuiet))
+        (ap (empty_slots size 0) (let f : size ≡ 0 + 0 + size - 0 = omega arith in f)) (record { back = omega arith; room = omega arith })
+
+    pub renew-steps : (table' : TableId) (me1 me2 : Seated) → table' ≡ table → me1 ≡ (driver_does me (driver.Own ClearedQuiet), me.1) → me2.0 ≡ me1.0 → me2.1 ≡ empty_slots size 0 size → side table' me2 ≡ appended now (driver.Own ClearedQuiet)
+    renew-steps table' me1 me2 t stored same slots =
+        ap (λ (m : Seated). side table' m) (renewed-seat me1 me2 stored same slots) ∙ ap (λ (z : TableId). let s : DriverSide = record { table = z; events = drivers_of me.0 ++ driver.Own ClearedQuiet ∷ [] } in s) t
+        ∙ ap (λ (s : DriverSide). appended s (driver.Own ClearedQuiet)) was
 
     -- C8
     pub quiet-asks : (id : ℕ) → (table ≡ ring) × ((size + 3) < ring.words) × Allows (IsRuled key) ring.slots id me (size + 3) (λ x. x) (LoadsQuiet (step ring.slots (size + 3) 0 0 none) me)

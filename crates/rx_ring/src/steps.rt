@@ -4,6 +4,7 @@
 
 mod controller;
 mod driver;
+mod gathering;
 
 
 use crate::events::{RxControllerEvent, RxDriverEvent};

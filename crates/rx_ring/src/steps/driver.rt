@@ -9,6 +9,7 @@ ghost use Rattle.rx_ring.specs.declared.events.RxDriverOwn.TheVariants.{LoadedQu
 ghost use Rattle.ring_model.specs.shared.Agreement.{bit};
 ghost use Rattle.rx_ring.specs.Ends.{driver_size, posted, taken, returned, driver_state, fill_place, next_place, appended};
 ghost use Rattle.rx_ring.specs.Steps.{Found, CameBack};
+ghost use Rattle.shared_ring.specs.Slots.{empty_slots};
 
 use super::{
     ClearQuietStore, DriverSeat, QuietLoad, ReclaimStore, RxRing, RxSeat, StatusLoad,
@@ -181,5 +182,34 @@ impl DriverSeat {
         ring.table
             .shared
             .store::<ClearTailStore>(&mut self.seat, word, 0);
+    }
+
+    /// C11. The epoch ends, and the next one begins with the slot of place 0 in front.
+    #[inline]
+    pub(crate) fn clear_quiet(&mut self, ring: &RxRing, fill: u16)
+        requires own { self.old.table ≡ ring.now }
+        requires place { fill ≡ fill_place self.old }
+        requires tailed { is_tailed (driver_state self.old) ≡ true }
+        requires back { returned self.old ≡ length (posted self.old) }
+        ensures { self.new ≡ appended self.old (Own ClearedQuiet) }
+    {
+        let word = self.size as usize + 3;
+        ring.table
+            .shared
+            .store::<ClearQuietStore>(&mut self.seat, word, 0);
+        turn_round(&mut self.seat, fill, self.size);
+    }
+}
+
+/// Turns all slots, of which that of `place` stands in front, until that of place 0 does. A seat has no bytes, so this
+/// moves nothing.
+fn turn_round(seat: &mut RxSeat, place: u16, size: u16)
+    requires place { place < size }
+    requires all { seat.old.me.1 ≡ empty_slots size place size }
+    ensures same { (seat.new.table_id ≡ seat.old.table_id) × (seat.new.id ≡ seat.old.id) × (seat.new.me.0 ≡ seat.old.me.0) }
+    ensures turned { seat.new.me.1 ≡ empty_slots size 0 size }
+{
+    for _ in place..size {
+        seat.turn();
     }
 }
