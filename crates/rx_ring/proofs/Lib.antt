@@ -6,3 +6,4 @@ pub mod Serving
 pub mod DriverSeats
 pub mod ControllerSeats
 pub mod Meeting
+pub mod DriverEnds

@@ -1,0 +1,116 @@
+-- What the calls of both ends do, where their answer depends on what was loaded; and what the fields of an end keep.
+use Rattle.std.specs.Prelude.{◌≡◌, ℕ, ◌+◌, ◌-◌, ◌%◌, ◌<◌, ◌≤◌, ◌⊎◌, Bool, true, false, List, [], ◌∷◌, ◌++◌, length, Option, Some, None, slice_get}
+use Rattle.atomic_table.specs.Seated.{TableId}
+use Rattle.buffer_pool.specs.Buffer.{Buffer, buffer}
+use Rattle.limits.specs.RingLength.{IsRingLength}
+use Rattle.ring_model.specs.declared.states.DriverState.{DriverState}
+use Rattle.ring_model.specs.declared.states.ControllerState.{ControllerState}
+use Rattle.ring_model.specs.declared.states.ControllerState.TheVariants as state
+use Rattle.ring_model.specs.receive.Agreement.{rx_word}
+use Rattle.ring_model.specs.receive.Ring.{Segment, ends_segment, piece_of}
+use Rattle.ring_model.specs.shared.Frames.{Bytes, Follows, unfinished, ends_frame}
+use Rattle.ring_model.specs.shared.Handshakes.{is_answered, is_live, is_serving}
+use Rattle.shared_ring.specs.declared.events.DriverEvent.TheVariants as driver
+use Rattle.shared_ring.specs.declared.events.ControllerEvent.TheVariants as controller
+use Rattle.shared_ring.specs.Records.{undriven, count_at}
+use Rattle.rx_ring.specs.declared.events.RxDriverOwn.TheVariants.{NotDone, Taken, ClearedQuiet}
+use Rattle.rx_ring.specs.declared.events.RxControllerOwn.TheVariants.{WroteBack}
+use Rattle.rx_ring.specs.declared.driver.Poll.{Poll}
+use Rattle.rx_ring.specs.declared.driver.Poll.TheVariants as poll
+use Rattle.rx_ring.specs.Records.{RxDriven, RxControlled, Knowing, unknown, segment_of}
+use Rattle.rx_ring.specs.Ends.{DriverSide, driver_size, driver_record, posted, taken, reclaimed, returned, driver_state, known_of, saw_quiet, is_drained, next_place, appended, ControllerSide, controller_size, controller_record, stored, held_number, serve_place, answered, seen, head_stored, controller_state, is_between}
+use Rattle.rx_ring.specs.Meeting.{left_by}
+
+abbrev pub segment : Buffer → Bool → Segment Bytes
+segment buf eop = record { number = buf.number; payload = buf.bytes; eop = eop }
+
+-- the next descriptor was loaded, and had no DD. Where the queue was seen quiet, nothing is left to take
+pub record SawNotDone (old new : DriverSide) : Type 0 where
+  pub live : is_live (driver_state old) ≡ true
+  pub some_out : length (taken old) < length (posted old)
+  pub word : ℕ
+  pub clear : word % 2 ≡ 0
+  pub step : new ≡ appended old (driver.Own (NotDone (next_place old) word))
+  pub same : driver_record new ≡ driver_record old
+  pub drained : saw_quiet old ≡ true → is_drained new ≡ true
+
+-- the next descriptor was loaded, and had DD: the segment lies in the buffer that was posted next in order, with the length and EOP of the word, and it follows the frame so far; so there is room for one more
+pub record TookSegment (old : DriverSide) (buf : Buffer) (eop : Bool) (new : DriverSide) : Type 0 where
+  pub live : is_live (driver_state old) ≡ true
+  pub some_out : length (taken old) < length (posted old)
+  pub step : new ≡ appended old (driver.Own (Taken (next_place old) (rx_word (length buf.bytes) eop) buf))
+  pub number : slice_get (posted old) (length (taken old)) ≡ Some buf.number
+  pub real : buf ≡ buffer buf.number buf.bytes
+  pub follows : Follows piece_of (driver_size old) (unfinished piece_of (taken old)) buf.bytes eop
+  pub grew : driver_record new ≡ record (driver_record old) { given = taken old ++ segment buf eop ∷ [] }
+  pub room : length (posted new) + 1 < returned new + driver_size new
+
+-- all that is posted is taken. Where the queue was seen quiet, nothing is left to take
+pub record SawEmpty (old new : DriverSide) : Type 0 where
+  pub live : is_live (driver_state old) ≡ true
+  pub none_out : length (taken old) ≡ length (posted old)
+  pub same : new ≡ old
+  pub drained : saw_quiet old ≡ true → is_drained new ≡ true
+
+pub record SawOff (old new : DriverSide) : Type 0 where
+  pub off : is_live (driver_state old) ≡ false
+  pub same : new ≡ old
+
+abbrev pub Polled : DriverSide → Poll → DriverSide → Type 0
+Polled old (poll.Segment buf eop) new = TookSegment old buf eop new
+Polled old poll.NotDone new = SawNotDone old new
+Polled old poll.Empty new = SawEmpty old new
+Polled old poll.Off new = SawOff old new
+
+-- how many segments were left to take, if the head was loaded after the disabling was seen answered
+abbrev pub left_at : DriverSide → Option ℕ → Option ℕ
+left_at d None = None
+left_at d (Some head) = Some (left_by d head)
+
+abbrev pub told_left : DriverSide → Option ℕ
+told_left d = left_at d (known_of d).head
+
+pub record FoundLeft (old : DriverSide) (left : ℕ) (new : DriverSide) : Type 0 where
+  pub head : ℕ
+  pub step : new ≡ appended old (driver.LoadedHead head)
+  pub same : driver_record new ≡ driver_record old
+  pub told : told_left new ≡ Some left
+
+-- the oldest buffer that was out came back
+pub record CameHome (old : DriverSide) (buf : Buffer) (new : DriverSide) : Type 0 where
+  pub step : new ≡ appended old (driver.Reclaimed (next_place old) buf)
+  pub number : slice_get (posted old) (returned old) ≡ Some buf.number
+  pub real : buf ≡ buffer buf.number buf.bytes
+  pub same : driver_record new ≡ record (driver_record old) { reclaimed = reclaimed old + 1 }
+  pub known : known_of new ≡ known_of old
+
+pub record NoneOut (old new : DriverSide) : Type 0 where
+  pub none_out : returned old ≡ length (posted old)
+  pub same : new ≡ old
+
+abbrev pub Reclaimed : DriverSide → Option Buffer → DriverSide → Type 0
+Reclaimed old None new = NoneOut old new
+Reclaimed old (Some buf) new = CameHome old buf new
+
+-- head, tail and quiet word are cleared, and an epoch begins in which nothing is done and nothing learnt
+pub record GoneOver (old new : DriverSide) : Type 0 where
+  pub step : new ≡ appended (appended (appended old driver.ClearedHead) driver.ClearedTail) (driver.Own ClearedQuiet)
+  pub fresh : driver_record new ≡ undriven
+  pub unlearnt : known_of new ≡ unknown
+
+abbrev pub IsFreshDriver : DriverSide → Type 0
+IsFreshDriver d = d.events ≡ []
+
+-- What the fields of a driver's end keep, over its record and what it has learnt
+pub record IsEndOf (n : ℕ) (x : RxDriven) (k : Knowing) (fill next out : ℕ) (state : DriverState) : Type 0 where
+  pub lawful : IsRingLength n
+  pub fill_is : fill ≡ length x.posted % n
+  pub next_is : next ≡ (length x.given + x.reclaimed) % n
+  pub out_is : out + (length x.given + x.reclaimed) ≡ length x.posted
+  pub room : out < n
+  pub state_is : state ≡ x.state
+  pub unreclaimed : is_answered x.state ≡ false → x.reclaimed ≡ 0
+  pub sure : k.quiet ≡ true → length x.given ≡ length x.posted → k.drained ≡ true
+
+abbrev pub IsDriverEnd : DriverSide → ℕ → ℕ → ℕ → DriverState → Type 0
+IsDriverEnd d fill next out state = IsEndOf (driver_size d) (driver_record d) (known_of d) fill next out state
