@@ -7,3 +7,4 @@ pub mod DriverSeats
 pub mod ControllerSeats
 pub mod Meeting
 pub mod DriverEnds
+pub mod DriverCalls

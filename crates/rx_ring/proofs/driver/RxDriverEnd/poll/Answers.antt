@@ -1,28 +1,19 @@
-use Rattle.std.proofs.Common.{rules, ◌≡◌, ◌+◌, ◌-◌, ◌%◌, ◌<◌, true, [], ◌∷◌, ◌++◌, length, Some, ℕ, ◌*◌, ◌≤◌, ◌/◌, Bool, false, nat_eq, nat_lt, List, slice_index_or, slice_set, bit_and, bit_or, Fits, w8, w32, w64, Bor, MutBor}
-use Rattle.buffer_pool.specs.Buffer.{buffer}
-use Rattle.limits.specs.RingLength.{IsRingLength}
-use Rattle.ring_model.specs.shared.Agreement.{bit}
-use Rattle.ring_model.specs.declared.states.DriverState.TheVariants as state
-use Rattle.ring_model.specs.shared.Handshakes.{is_open, is_live, is_new, is_on, is_stopped, learned}
-use Rattle.shared_ring.specs.Words.{control_word}
-use Rattle.shared_ring.specs.declared.events.DriverEvent.TheVariants.{Posted, Published, AskedEnable, LoadedControl, AskedDisable, LoadedHead, ClearedHead, ClearedTail, Own}
-use Rattle.rx_ring.specs.declared.events.RxDriverOwn.TheVariants.{LoadedQuiet, ClearedQuiet}
-use Rattle.rx_ring.specs.Ends.{driver_size, driver_record, posted, taken, returned, driver_state, known_of, saw_quiet, fill_place, appended}
-use Rattle.rx_ring.specs.Calls.{IsFreshDriver, Polled, Reclaimed, FoundLeft, GoneOver}
+-- What was found at the next descriptor, and what became of the end.
+use Rattle.std.proofs.Common.{◌≡◌, ◌+◌, ap, sym, refl, ◌∙◌, if◌then◌else◌}
+use Rattle.std.specs.Prelude.{◌==◌}
+use Rattle.rx_ring.specs.Ends.{driver_size}
+use Rattle.rx_ring.proofs.DriverCalls.{none-keeps, none-seen, segment-keeps, segment-taken}
 use Rattle.rx_ring.proofs.driver.RxDriverEnd.poll.Goals as goal
 
--- src/driver.rt:173:21
 pub invariant_of-self : goal.invariant_of-self
-invariant_of-self c = ?
+invariant_of-self c = let i = c.self.inside in none-keeps i.seat i.fill i.next i.out i.state c.self.invariant c.args.self.now c.self.view_is (sym c.if-not-is_live.ensures) c.if-self-eq0.false c.take.new.self c.in-None.ensures
 
--- src/driver.rt:177:17
 pub invariant_of-self-in-Some : goal.invariant_of-self-in-Some
-invariant_of-self-in-Some c = ?
+invariant_of-self-in-Some c = let i = c.self.inside in let f = c.in-Some.ensures in segment-keeps i.seat i.fill i.next i.out i.state c.self.invariant c.args.self.now c.self.view_is (sym c.if-not-is_live.ensures) c.if-self-eq0.false c.take.new.self c.in-Some.buf c.in-Some.eop c.place_after-self-inside.result c.in-Some.ensures
+    (c.place_after-self-inside.ensures.value ∙ ap (λ n. if (i.next + 1) == n then 0 else (i.next + 1)) (c.size.ensures.value ∙ ap driver_size f.step))
 
--- src/driver.rt:161:5
 pub returns-in-None : goal.returns-in-None
-returns-in-None c = ?
+returns-in-None c = let i = c.self.inside in none-seen i.seat i.fill i.next i.out i.state c.self.invariant c.args.self.now c.self.view_is (sym c.if-not-is_live.ensures) c.if-self-eq0.false c.take.new.self c.in-None.ensures
 
--- src/driver.rt:161:5
 pub returns-in-Some : goal.returns-in-Some
-returns-in-Some c = ?
+returns-in-Some c = let i = c.self.inside in segment-taken i.seat i.fill i.next i.out i.state c.self.invariant c.args.self.now c.self.view_is (sym c.if-not-is_live.ensures) c.if-self-eq0.false c.take.new.self c.in-Some.buf c.in-Some.eop c.in-Some.ensures

@@ -1,36 +1,21 @@
-use Rattle.std.proofs.Common.{rules, ◌≡◌, ◌+◌, ◌-◌, ◌%◌, ◌<◌, true, [], ◌∷◌, ◌++◌, length, Some, ℕ, ◌*◌, ◌≤◌, ◌/◌, Bool, false, nat_eq, nat_lt, List, slice_index_or, slice_set, bit_and, bit_or, Fits, w8, w32, w64, Bor, MutBor}
-use Rattle.buffer_pool.specs.Buffer.{buffer}
-use Rattle.limits.specs.RingLength.{IsRingLength}
-use Rattle.ring_model.specs.shared.Agreement.{bit}
-use Rattle.ring_model.specs.declared.states.DriverState.TheVariants as state
-use Rattle.ring_model.specs.shared.Handshakes.{is_open, is_live, is_new, is_on, is_stopped, learned}
-use Rattle.shared_ring.specs.Words.{control_word}
-use Rattle.shared_ring.specs.declared.events.DriverEvent.TheVariants.{Posted, Published, AskedEnable, LoadedControl, AskedDisable, LoadedHead, ClearedHead, ClearedTail, Own}
-use Rattle.rx_ring.specs.declared.events.RxDriverOwn.TheVariants.{LoadedQuiet, ClearedQuiet}
-use Rattle.rx_ring.specs.Ends.{driver_size, driver_record, posted, taken, returned, driver_state, known_of, saw_quiet, fill_place, appended}
-use Rattle.rx_ring.specs.Calls.{IsFreshDriver, Polled, Reclaimed, FoundLeft, GoneOver}
+-- Three steps, after which a new epoch begins.
+use Rattle.rx_ring.proofs.DriverCalls.{renew-cleared, renew-tailed, renew-place, renew-back, renew-keeps, renewed}
 use Rattle.rx_ring.proofs.driver.RxDriverEnd.renew.Goals as goal
 
--- src/driver.rt:272:9
 pub clear_tail-requires-clause-cleared : goal.clear_tail-requires-clause-cleared
-clear_tail-requires-clause-cleared c = ?
+clear_tail-requires-clause-cleared c = let i = c.self.inside in renew-cleared i.seat i.fill i.next i.out i.state c.self.invariant c.args.self.now c.self.view_is c.clear_head.new.self c.clear_head.ensures
 
--- src/driver.rt:273:9
 pub clear_quiet-requires-clause-place : goal.clear_quiet-requires-clause-place
-clear_quiet-requires-clause-place c = ?
+clear_quiet-requires-clause-place c = let i = c.self.inside in renew-place i.seat i.fill i.next i.out i.state c.self.invariant c.args.self.now c.self.view_is c.clear_head.new.self c.clear_tail.new.self c.clear_tail.new.self c.clear_head.ensures c.clear_tail.ensures c.requires.back
 
--- src/driver.rt:273:9
 pub clear_quiet-requires-clause-tailed : goal.clear_quiet-requires-clause-tailed
-clear_quiet-requires-clause-tailed c = ?
+clear_quiet-requires-clause-tailed c = let i = c.self.inside in renew-tailed i.seat i.fill i.next i.out i.state c.self.invariant c.args.self.now c.self.view_is c.clear_head.new.self c.clear_tail.new.self c.clear_tail.new.self c.clear_head.ensures c.clear_tail.ensures c.requires.back
 
--- src/driver.rt:273:9
 pub clear_quiet-requires-clause-back : goal.clear_quiet-requires-clause-back
-clear_quiet-requires-clause-back c = ?
+clear_quiet-requires-clause-back c = let i = c.self.inside in renew-back i.seat i.fill i.next i.out i.state c.self.invariant c.args.self.now c.self.view_is c.clear_head.new.self c.clear_tail.new.self c.clear_tail.new.self c.clear_head.ensures c.clear_tail.ensures c.requires.back
 
--- src/driver.rt:265:5
 pub invariant_of-self : goal.invariant_of-self
-invariant_of-self c = ?
+invariant_of-self c = let i = c.self.inside in renew-keeps i.seat i.fill i.next i.out i.state c.self.invariant c.args.self.now c.self.view_is c.clear_head.new.self c.clear_tail.new.self c.clear_quiet.new.self c.clear_head.ensures c.clear_tail.ensures c.requires.back c.clear_quiet.ensures
 
--- src/driver.rt:265:5
 pub returns : goal.returns
-returns c = ?
+returns c = let i = c.self.inside in renewed i.seat i.fill i.next i.out i.state c.self.invariant c.args.self.now c.self.view_is c.clear_head.new.self c.clear_tail.new.self c.clear_quiet.new.self c.clear_head.ensures c.clear_tail.ensures c.requires.back c.clear_quiet.ensures
