@@ -8,3 +8,4 @@ pub mod ControllerSeats
 pub mod Meeting
 pub mod DriverEnds
 pub mod DriverCalls
+pub mod ControllerEnds

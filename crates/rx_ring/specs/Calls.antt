@@ -12,13 +12,15 @@ use Rattle.ring_model.specs.shared.Frames.{Bytes, Follows, unfinished, ends_fram
 use Rattle.ring_model.specs.shared.Handshakes.{is_answered, is_live, is_serving}
 use Rattle.shared_ring.specs.declared.events.DriverEvent.TheVariants as driver
 use Rattle.shared_ring.specs.declared.events.ControllerEvent.TheVariants as controller
+use Rattle.shared_ring.specs.Words.{control_word}
+use Rattle.shared_ring.specs.declared.control.Control.{Control}
 use Rattle.shared_ring.specs.Records.{undriven, count_at}
 use Rattle.rx_ring.specs.declared.events.RxDriverOwn.TheVariants.{NotDone, Taken, ClearedQuiet}
 use Rattle.rx_ring.specs.declared.events.RxControllerOwn.TheVariants.{WroteBack}
 use Rattle.rx_ring.specs.declared.driver.Poll.{Poll}
 use Rattle.rx_ring.specs.declared.driver.Poll.TheVariants as poll
 use Rattle.rx_ring.specs.Records.{RxDriven, RxControlled, Knowing, unknown, segment_of}
-use Rattle.rx_ring.specs.Ends.{DriverSide, driver_size, driver_record, posted, taken, reclaimed, returned, driver_state, known_of, saw_quiet, is_drained, next_place, appended, ControllerSide, controller_size, controller_record, stored, held_number, serve_place, answered, seen, head_stored, controller_state, is_between}
+use Rattle.rx_ring.specs.Ends.{DriverSide, driver_size, driver_record, posted, taken, reclaimed, returned, driver_state, known_of, saw_quiet, is_drained, next_place, appended, ControllerSide, controller_size, controller_record, stored, held_number, serve_place, answered, seen, head_stored, controller_state, is_between, known_free}
 use Rattle.rx_ring.specs.Meeting.{left_by}
 
 abbrev pub segment : Buffer → Bool → Segment Bytes
@@ -114,3 +116,73 @@ pub record IsEndOf (n : ℕ) (x : RxDriven) (k : Knowing) (fill next out : ℕ) 
 
 abbrev pub IsDriverEnd : DriverSide → ℕ → ℕ → ℕ → DriverState → Type 0
 IsDriverEnd d fill next out state = IsEndOf (driver_size d) (driver_record d) (known_of d) fill next out state
+
+-- A3: the tail was loaded, and the result is how far it is ahead
+pub record FoundFree (old : ControllerSide) (free : ℕ) (new : ControllerSide) : Type 0 where
+  pub tail : ℕ
+  pub step : new ≡ answered old (controller.Looked tail)
+  pub ahead : free ≡ (tail + controller_size old - serve_place old) % controller_size old
+  pub same : controller_record new ≡ record (controller_record old) { known = length (stored old) + free }
+  pub grows : known_free old ≤ free
+
+-- A4: the next descriptor was loaded, and this empty buffer came out of its slot
+pub record Fetched (old : ControllerSide) (buf : Buffer) (new : ControllerSide) : Type 0 where
+  pub word : ℕ
+  pub step : new ≡ answered old (controller.Fetched (serve_place old) word buf)
+  pub empty : buf ≡ buffer buf.number []
+  pub same : controller_record new ≡ record (controller_record old) { held = Some buf }
+
+-- an enabling is asked, and may be answered
+pub record MayEnable (c : ControllerSide) : Type 0 where
+  pub asked : seen c ≡ 1
+  pub idle : is_serving (controller_state c) ≡ false
+
+-- a disabling is asked, and may be answered: nothing is held, the last stored segment ends a frame, and the head is stored after it
+pub record MayDisable (c : ControllerSide) : Type 0 where
+  pub asked : seen c ≡ 3
+  pub serving : is_serving (controller_state c) ≡ true
+  pub held : held_number c ≡ None
+  pub between : is_between c ≡ true
+  pub head : head_stored c ≡ serve_place c
+
+abbrev pub MayAnswer : ControllerSide → Type 0
+MayAnswer c = MayEnable c ⊎ MayDisable c
+
+-- a new epoch begins: nothing is stored in it, and nothing known
+pub record AnsweredEnabling (old new : ControllerSide) : Type 0 where
+  pub was : is_serving (controller_state old) ≡ false
+  pub step : new ≡ answered old controller.Enabled
+  pub same : controller_record new ≡ record (controller_record old) { served = []; known = 0; head = 0; state = state.Serving; seen = 2; barred = false }
+
+pub record AnsweredDisabling (old new : ControllerSide) : Type 0 where
+  pub was : is_serving (controller_state old) ≡ true
+  pub step : new ≡ answered old controller.Disabled
+  pub same : controller_record new ≡ record (controller_record old) { state = state.Ended; seen = 0 }
+
+abbrev pub Answered : ControllerSide → ControllerSide → Type 0
+Answered old new = AnsweredEnabling old new ⊎ AnsweredDisabling old new
+
+abbrev pub IsFreshController : ControllerSide → Type 0
+IsFreshController c = c.events ≡ []
+
+abbrev pub is_there : Option Buffer → Bool
+is_there None = false
+is_there (Some b) = true
+
+-- What the fields of a controller's end keep, over its record
+pub record IsServerOf (n : ℕ) (x : RxControlled) (serve free place : ℕ) (holding between : Bool) (side : ControllerState) (asked : Control) (finished : Bool) : Type 0 where
+  pub lawful : IsRingLength n
+  pub serve_is : serve ≡ length x.served % n
+  pub free_is : free + length x.served ≡ x.known
+  pub free_below : free < n
+  pub held_is : holding ≡ is_there x.held
+  pub held_free : holding ≡ true → 0 < free
+  pub held_serving : holding ≡ true → is_serving x.state ≡ true
+  pub head_is : place ≡ x.head
+  pub between_is : between ≡ ends_frame ends_segment true x.served
+  pub state_is : side ≡ x.state
+  pub seen_is : control_word asked ≡ x.seen
+  pub quiet_is : finished ≡ x.barred
+
+abbrev pub IsControllerEnd : ControllerSide → ℕ → ℕ → ℕ → Bool → Bool → ControllerState → Control → Bool → Type 0
+IsControllerEnd c serve free place holding between side asked finished = IsServerOf (controller_size c) (controller_record c) serve free place holding between side asked finished

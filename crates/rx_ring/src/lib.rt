@@ -1,10 +1,12 @@
 //! tmp
 #![tactic(auto)]
 
+mod controller;
 mod driver;
 mod events;
 mod steps;
 
+pub use controller::RxControllerEnd;
 pub use driver::{Poll, RxDriverEnd};
 pub use events::{RxControllerEvent, RxControllerOwn, RxDriverEvent, RxDriverOwn};
 pub use steps::{RxRing, RxRule};
