@@ -186,3 +186,8 @@ pub record IsServerOf (n : ℕ) (x : RxControlled) (serve free place : ℕ) (hol
 
 abbrev pub IsControllerEnd : ControllerSide → ℕ → ℕ → ℕ → Bool → Bool → ControllerState → Control → Bool → Type 0
 IsControllerEnd c serve free place holding between side asked finished = IsServerOf (controller_size c) (controller_record c) serve free place holding between side asked finished
+
+-- where it was told how many are left, as many are stored as are taken and left
+abbrev pub IsTold : Option ℕ → ℕ → ℕ → Type 0
+IsTold None taken stored = Unit {0}
+IsTold (Some left) taken stored = stored ≡ taken + left
