@@ -137,13 +137,18 @@ pub record MayEnable (c : ControllerSide) : Type 0 where
   pub asked : seen c ≡ 1
   pub idle : is_serving (controller_state c) ≡ false
 
--- a disabling is asked, and may be answered: nothing is held, the last stored segment ends a frame, and the head is stored after it
-pub record MayDisable (c : ControllerSide) : Type 0 where
-  pub asked : seen c ≡ 3
+-- the end serves, nothing is held, the last stored segment ends a frame, and the head is stored after it
+pub record IsSettled (c : ControllerSide) : Type 0 where
   pub serving : is_serving (controller_state c) ≡ true
   pub held : held_number c ≡ None
   pub between : is_between c ≡ true
   pub head : head_stored c ≡ serve_place c
+
+-- a disabling is asked, and may be answered
+pub record MayDisable (c : ControllerSide) : Type 0 where
+  pub asked : seen c ≡ 3
+  pub settled : IsSettled c
+  pub open settled use *
 
 abbrev pub MayAnswer : ControllerSide → Type 0
 MayAnswer c = MayEnable c ⊎ MayDisable c

@@ -11,7 +11,7 @@ ghost use Rattle.shared_ring.specs.Words.{control_word};
 ghost use Rattle.shared_ring.specs.declared.events.ControllerEvent.TheVariants.{StoredHead, LoadedRequest, Own};
 ghost use Rattle.rx_ring.specs.declared.events.RxControllerOwn.TheVariants.{WroteBack, SaidQuiet};
 ghost use Rattle.rx_ring.specs.Ends.{controller_size, controller_record, stored, known_free, held_number, controller_state, is_quiet, is_between, serve_place, answered};
-ghost use Rattle.rx_ring.specs.Calls.{IsFreshController, FoundFree, Fetched, MayAnswer, Answered, segment};
+ghost use Rattle.rx_ring.specs.Calls.{IsFreshController, FoundFree, Fetched, MayAnswer, IsSettled, Answered, segment};
 
 use crate::steps::{ControllerSeat, RxRing};
 use buffer_pool::Buf;
@@ -113,6 +113,27 @@ impl RxControllerEnd {
         ensures { result ≡ is_quiet self.now }
     {
         self.finished
+    }
+
+    /// Whether `answer` may be called: an enabling was loaded last and the end does not serve, or a disabling and the
+    /// end stands between two frames with the head stored.
+    #[inline]
+    pub fn can_answer(&self) -> bool
+        ensures { IsTrue result ↔ MayAnswer self.now }
+    {
+        match self.seen {
+            Control::EnableAsked => !self.state.is_serving(),
+            Control::DisableAsked => self.can_disable(),
+            Control::Disabled | Control::Enabled => false,
+        }
+    }
+
+    // Whether a disabling may be answered, where one was loaded last.
+    #[inline]
+    fn can_disable(&self) -> bool
+        ensures { IsTrue result ↔ IsSettled self.now }
+    {
+        self.state.is_serving() && !self.held && self.whole && self.head == self.serve
     }
 
     /// Loads the tail (RDT), and answers how many descriptors are free (82599 datasheet, 7.1.9).
