@@ -9,8 +9,8 @@ use Rattle.limits.specs.RingLength.{IsRingLength}
 use Rattle.ring_model.specs.declared.states.ControllerState.{ControllerState}
 use Rattle.ring_model.specs.declared.states.ControllerState.TheVariants.{Off, Serving, Ended}
 use Rattle.ring_model.specs.receive.Agreement.{rx_word}
-use Rattle.ring_model.specs.receive.Ring.{Segment, ends_segment}
-use Rattle.ring_model.specs.shared.Frames.{Bytes, ends_frame}
+use Rattle.ring_model.specs.receive.Ring.{Segment, ends_segment, piece_of}
+use Rattle.ring_model.specs.shared.Frames.{Bytes, ends_frame, unfinished, unfinished_from}
 use Rattle.ring_model.specs.shared.Handshakes.{is_serving}
 use Rattle.ring_model.specs.shared.Places.{between_places}
 use Rattle.ring_model.proofs.shared.Places.{next_place}
@@ -53,6 +53,14 @@ some-there (Some b) k e = refl
 ends-snoc : (whole : Bool) (xs : List (Segment Bytes)) (s : Segment Bytes) → ends_frame ends_segment whole (xs ++ s ∷ []) ≡ s.eop
 ends-snoc whole [] s = refl
 ends-snoc whole (x ∷ xs) s = ends-snoc x.eop xs s
+
+rest-none : (whole : Bool) (rest xs : List (Segment Bytes)) → (whole ≡ true → rest ≡ []) → ends_frame ends_segment whole xs ≡ true → unfinished_from piece_of rest xs ≡ []
+rest-none whole rest [] h e = h e
+rest-none whole rest (x ∷ xs) h e = rest-none x.eop (if x.eop then [] else rest ++ x ∷ []) xs (λ f. ap (λ (b : Bool). if b then [] else rest ++ x ∷ []) f) e
+
+-- between two frames nothing is unfinished
+pub between-rest : (xs : List (Segment Bytes)) → ends_frame ends_segment true xs ≡ true → unfinished piece_of xs ≡ []
+between-rest xs e = rest-none true [] xs (λ f. refl) e
 
 pub server-fresh : (n : ℕ) → IsRingLength n → IsServerOf n uncontrolled 0 0 0 false true Off control_is.Disabled false
 server-fresh n lawful = let g : 8 ≤ n = lawful.0 in record {

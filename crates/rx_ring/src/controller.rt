@@ -102,7 +102,8 @@ impl RxControllerEnd {
     /// Whether the last stored segment ends a frame, or none is stored.
     #[inline]
     pub fn is_between_frames(&self) -> bool
-        ensures { result ≡ is_between self.now }
+        ensures value { result ≡ is_between self.now }
+        ensures rest { result ≡ true → unfinished piece_of (stored self.now) ≡ [] }
     {
         self.whole
     }
