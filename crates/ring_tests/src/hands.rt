@@ -84,9 +84,12 @@ pub(crate) fn reclaim_all(ring: &RxRing, driver: &mut RxDriverEnd) -> u32
 {
     let mut count = 0u32;
     for _ in 0..driver.size() {
-        if !driver.is_stopped() || driver.reclaim(ring).is_none() {
+        if !driver.is_stopped() {
             break;
         }
+        let Some(_buf) = driver.reclaim(ring) else {
+            break;
+        };
         count = count.saturating_add(1);
     }
     count
