@@ -76,7 +76,7 @@ around n r p pos below = let m : r % n < n = mod-lt r pos in
     add-mod-mod r (p + n - r % n) n ∙ sym (mod-add-mod r n (p + n - r % n)) ∙ ap (λ (j : ℕ). j % n) (let e : r % n + (p + n - r % n) ≡ p + n = omega arith in e) ∙ add-mod_right p n ∙ mod-eq_of_lt below
 
 -- reading what a loop put together
-kept-length : (f : ℕ → Option Buffer) (k : ℕ) → length (kept_upto f k) ≡ k
+pub kept-length : (f : ℕ → Option Buffer) (k : ℕ) → length (kept_upto f k) ≡ k
 kept-length f zero = refl
 kept-length f (suc k) = let h = kept-length f k in let e = length-append (kept_upto f k) (f k ∷ []) in omega arith
 

@@ -66,6 +66,12 @@ abbrev pub kept_upto : (ℕ → Option Buffer) → ℕ → List (Option Buffer)
 kept_upto f zero = []
 kept_upto f (suc k) = kept_upto f k ++ f k ∷ []
 
+-- the buffers of the places that are kept, in order
+pub record TakenApart (d : DriverSide) (c : ControllerSide) (next out serve : ℕ) (holding : Bool) (buffers : List (Option Buffer)) : Type 0 where
+  pub slots : List Buffer
+  pub left : LeftIn d c slots
+  pub kept : buffers ≡ kept_upto (kept_at (driver_size d) next out serve holding slots) (driver_size d)
+
 -- A closed ring gave a buffer back at exactly the places that were with Ring, with the number that was posted there
 pub record IsClosed (d : DriverSide) (c : ControllerSide) (buffers : List (Option Buffer)) : Type 0 where
   pub of_one_ring : AreOf (driver_size d) d.events c.events
