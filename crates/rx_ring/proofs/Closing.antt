@@ -4,7 +4,7 @@ use Rattle.std.specs.Prelude.{slice_get, slice_index, ◌==◌, nat_lt}
 use Rattle.std.proofs.Math.Nat.{mod-add-mod, add-mod-mod, add-mod_right}
 use Rattle.std.proofs.lemmas.Bool.{cases_Bool, and_parts, and_from, and_left, and_right, ltb-true, lt-ltb, eqb-true, eqb-false, eq-eqb, not-true, not_from_false, both_ways, false≢true, true≢false, cases_lt}
 use Rattle.std.proofs.lemmas.Option.{none-some, same_Some, slice_get_within}
-use Rattle.ring_model.proofs.shared.Stepping.{returned_served}
+use Rattle.ring_model.proofs.shared.Stepping.{returned_served, held_below}
 use mathlib.Core.Option as maybe
 use mathlib.Core.Option.{some, none}
 use lib.ListN.{get_elem?}
@@ -21,7 +21,7 @@ use Rattle.ring_model.specs.shared.Places.{between_places}
 use Rattle.ring_model.specs.shared.Queue.{posted_count, served_count, given_count, returned_count}
 use Rattle.ring_model.proofs.receive.Kept.{IsRxKept}
 use Rattle.ring_model.proofs.receive.Reached.{rx_kept, rx_lawful}
-use Rattle.ring_model.proofs.shared.Beginnings.{number_at}
+use Rattle.ring_model.proofs.shared.Beginnings.{number_at, next_number}
 use Rattle.ring_model.proofs.shared.Places.{ahead, same_item}
 use Rattle.shared_ring.specs.declared.events.View.TheVariants.{Both}
 use Rattle.shared_ring.specs.Slots.{home_at}
@@ -31,8 +31,14 @@ use Rattle.shared_ring.proofs.Seating.{both_are}
 use Rattle.rx_ring.specs.Records.{RxView, RxDriven, DriverStep, ControllerStep, driving, controlling}
 use Rattle.rx_ring.specs.Rule.{IsRuled, LiesAs, lies_there}
 use Rattle.rx_ring.specs.Plays.{AreOf}
-use Rattle.rx_ring.specs.Ends.{DriverSide, driver_size, posted, returned, ControllerSide}
-use Rattle.rx_ring.specs.Meeting.{LeftIn, IsClosed, slot_of, is_kept, kept_at, kept_upto}
+use Rattle.ring_model.specs.declared.states.DriverState.{DriverState}
+use Rattle.ring_model.specs.declared.states.ControllerState.{ControllerState}
+use Rattle.shared_ring.specs.declared.control.Control.{Control}
+use Rattle.shared_ring.proofs.Controlling.{serving_settled}
+use Rattle.rx_ring.specs.Records.{RxControlled}
+use Rattle.rx_ring.specs.Ends.{DriverSide, driver_size, posted, returned, ControllerSide, controller_record}
+use Rattle.rx_ring.specs.Calls.{IsDriverEnd, IsControllerEnd, is_there}
+use Rattle.rx_ring.specs.Meeting.{LeftIn, TakenApart, IsClosed, slot_of, is_kept, kept_at, kept_upto}
 
 -- a slot that the controller does not hold has its buffer
 unheld : (held : Bool) (k s : ℕ) (o : Option Buffer) → (held ≡ true → ¬ (k ≡ s)) → (if held && (k == s) then None else o) ≡ o
@@ -160,6 +166,7 @@ module _ (d : DriverSide) (c : ControllerSide) (slots : List Buffer) (l : LeftIn
       posted-here [] j h = absurd (omega arith)
       posted-here (x ∷ xs) zero h = refl
       posted-here (x ∷ xs) (suc j) h = posted-here xs j (omega arith)
+
       found : (o : Option (Segment Bytes)) → slice_get q.ledger.served k ≡ o → (b : Buffer) × ((lies_there (slice_get q.ledger.posted k) (slice_get q.ledger.served k) ≡ Some b) × (slice_get q.ledger.posted k ≡ Some b.number))
       found None e = let h = posted-here q.ledger.posted k past in (buffer (slice_index q.ledger.posted k) [], (rw (h, e) refl, h))
       found (Some s) e = let kk = kept in let h = number_at q.ledger.served q.ledger.posted k s kk.stored e in (buffer s.number s.payload, (rw (h, e) refl, h))
@@ -185,6 +192,7 @@ module _ (d : DriverSide) (c : ControllerSide) (slots : List Buffer) (l : LeftIn
           (sym (m.home p (subst (λ (j : ℕ). p < j) (sym size-is) below) (λ k first past at. let a = subst (λ (j : ℕ). (k % j) ≡ p) size-is at in let b = item-back k first past in
           let f : between_places (driver_size d) next p ≡ k - returned_count q.queue = ap (between_places (driver_size d) next) (sym a) ∙ b in let z = count-is in omega arith)) ∙ e)))
           (cases_lt (between_places (driver_size d) next p) out)
+
       free : not (holding && (p == serve)) ≡ true
       free = ⊎_elim
           (λ both. let t = and_parts holding (p == serve) both in let w = nth p within in let at = item-place p below in let hold : q.held ≡ true = sym held_is ∙ t.0 in
@@ -202,10 +210,17 @@ module _ (d : DriverSide) (c : ControllerSide) (slots : List Buffer) (l : LeftIn
     of_one_ring = l.of_one_ring;
     count = kept-length (kept_at (driver_size d) next out serve holding slots) (driver_size d);
     ring = λ p e. let m = map-is in let below : p < driver_size d = let b = slice_get_within q.owners p Ring e in let z = m.places in let s = size-is in omega arith in
-        let k = ring-kept p below e in let t = and_parts (nat_lt (between_places (driver_size d) next p) out) (not (holding && (p == serve))) k in let w = nth p t.0 in let at = item-place p below in let b = buffer-of (item p) w.1 in
-        (item p, b.0, (at, kept-get (kept_at (driver_size d) next out serve holding slots) (driver_size d) p below
-        ∙ ap Some (ap (λ (x : Bool). if x then slot_of (get_elem? slots p) else None) k
-        ∙ ap slot_of (ap (get_elem? slots) (sym at) ∙ l.buffers (item p) b.0 w.0 w.1 (free-item p below k) b.1.0)), ap (λ (xs : List ℕ). slice_get xs (item p)) posted-is ∙ b.1.1));
+        let k = ring-kept p below e in let t = and_parts (nat_lt (between_places (driver_size d) next p) out) (not (holding && (p == serve))) k in let w = nth p t.0 in let at = item-place p below in let b = buffer-of (item p) w.1 in (
+          item p,
+          b.0,
+          (
+            at,
+            kept-get (kept_at (driver_size d) next out serve holding slots) (driver_size d) p below
+                ∙ ap Some (ap (λ (x : Bool). if x then slot_of (get_elem? slots p) else None) k
+                ∙ ap slot_of (ap (get_elem? slots) (sym at) ∙ l.buffers (item p) b.0 w.0 w.1 (free-item p below k) b.1.0)),
+            ap (λ (xs : List ℕ). slice_get xs (item p)) posted-is ∙ b.1.1,
+          ),
+        );
     others = λ p below ne. kept-get (kept_at (driver_size d) next out serve holding slots) (driver_size d) p below
         ∙ ap Some (ap (λ (x : Bool). if x then slot_of (get_elem? slots p) else None) (⊎_elim (λ yes. absurd (ne (kept-ring p below yes))) (λ no. no) (cases_Bool (is_kept (driver_size d) next out serve holding p))));
   })
@@ -213,3 +228,41 @@ module _ (d : DriverSide) (c : ControllerSide) (slots : List Buffer) (l : LeftIn
       free-item : (p : ℕ) → p < driver_size d → is_kept (driver_size d) next out serve holding p ≡ true → q.held ≡ true → ¬ (item p ≡ served_count q.queue)
       free-item p below e h same = let t = and_parts (nat_lt (between_places (driver_size d) next p) out) (not (holding && (p == serve))) e in let at = item-place p below in
           both_ways (holding && (p == serve)) (not-true (holding && (p == serve)) t.1) (and_from holding (p == serve) (held_is ∙ h) (eq-eqb p serve (sym at ∙ ap (λ (j : ℕ). j % driver_size d) same ∙ sym (serve_is (held_is ∙ h)))))
+
+there-if : (held : Bool) (o : Option Buffer) → (held ≡ true → is_there o ≡ true) → is_there (if held then o else None) ≡ held
+there-if true o h = h refl
+there-if false o h = refl
+
+there-some : (o : Option ℕ) (k : ℕ) → o ≡ Some k → is_there (lies_there o None) ≡ true
+there-some o k e = ap (λ (x : Option ℕ). is_there (lies_there x None)) e
+
+-- what the controller's end keeps, over the ring
+module _ (d : DriverSide) (c : ControllerSide) (slots : List Buffer) (l : LeftIn d c slots) (big : 1 < driver_size d) (same : c.table ≡ d.table)
+    (serve free place : ℕ) (holding between : Bool) (side : ControllerState) (asked : Control) (finished : Bool) (h : IsControllerEnd c serve free place holding between side asked finished) where
+  ours : RxRing Bytes
+  ours = (l.of_one_ring).queue
+
+  its : {Y : Type 0} (f : RxControlled → Y) → f (controller_record c) ≡ f (controlling (driver_size d) c.events)
+  its f = ap (λ (z : TableId). f (controlling z.slots c.events)) same
+
+  pub end-holds : holding ≡ (l.of_one_ring).queue.held
+  end-holds = let a = l.of_one_ring in let m = a.controller in let k = rx_kept (driver_size d) a.queue big a.reachable in let o = k.queue.order in
+      h.held_is ∙ its (λ x. is_there x.held) ∙ ap is_there m.held
+      ∙ there-if a.queue.held (lies_there (slice_get a.queue.ledger.posted (served_count a.queue.queue)) None)
+      (λ e. there-some (slice_get a.queue.ledger.posted (served_count a.queue.queue)) (slice_index a.queue.ledger.posted (served_count a.queue.queue))
+      (next_number a.queue.ledger.served a.queue.ledger.posted (held_below (driver_size d) ends_segment a.queue.queue k.queue e)))
+
+  pub end-serves : holding ≡ true → serve ≡ served_count (l.of_one_ring).queue.queue % driver_size d
+  end-serves e = let a = l.of_one_ring in let m = a.controller in let k = rx_kept (driver_size d) a.queue big a.reachable in let o = k.queue.order in
+      let serving : is_serving a.queue.handshake.controller ≡ true = o.held_serving (sym end-holds ∙ e) in
+      h.serve_is ∙ ap (λ (n : ℕ). length (controller_record c).served % n) (ap (λ (z : TableId). z.slots) same) ∙ its (λ x. length x.served % driver_size d)
+      ∙ ap (λ (xs : List (Segment Bytes)). length xs % driver_size d) (m.served (serving_settled a.queue.handshake serving))
+
+-- the two ends' own places tell which buffers come back
+pub closed-by : (d : DriverSide) (c : ControllerSide) (fill next out : ℕ) (state : DriverState) (e : IsDriverEnd d fill next out state) (same : c.table ≡ d.table)
+    (serve free place : ℕ) (holding between : Bool) (side : ControllerState) (asked : Control) (finished : Bool) (h : IsControllerEnd c serve free place holding between side asked finished)
+    (buffers : List (Option Buffer)) → TakenApart d c next out serve holding buffers → IsClosed d c buffers
+closed-by d c fill next out state e same serve free place holding between side asked finished h buffers t = let big : 8 ≤ driver_size d = e.lawful.0 in
+    closed d c t.slots t.left next out serve holding (omega arith) e.next_is e.out_is
+    (end-holds d c t.slots t.left (omega arith) same serve free place holding between side asked finished h)
+    (end-serves d c t.slots t.left (omega arith) same serve free place holding between side asked finished h) buffers t.kept
