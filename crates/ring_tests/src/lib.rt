@@ -10,3 +10,5 @@ mod machine_tests;
 mod rows;
 #[cfg(test)]
 mod text_tests;
+#[cfg(test)]
+mod threads;

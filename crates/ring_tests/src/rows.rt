@@ -37,9 +37,9 @@ fn disabled_with_two_left(rt: HostRuntime) -> Result<(), Fail> {
     driver.state(&ring);
     fill_ring(&ring, &mut driver, &mut stock);
     assert!(rt; driver.room() == 0);
-    for _ in 0..3 {
-        assert!(rt; store_frame(&ring, &mut controller, &[7u8; 60]));
-    }
+    assert!(rt; store_frame(&ring, &mut controller, &[7u8; 60]));
+    assert!(rt; store_frame(&ring, &mut controller, &[7u8; 60]));
+    assert!(rt; store_frame(&ring, &mut controller, &[7u8; 60]));
     let Poll::Segment(buf, true) = driver.poll(&ring) else {
         panic!(rt; "a segment")
     };

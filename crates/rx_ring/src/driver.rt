@@ -38,8 +38,8 @@ pub enum Poll {
 pub struct RxDriverEnd {
     pub(crate) seat: DriverSeat,
     fill: u16,
-    next: u16,
-    out: u16,
+    pub(crate) next: u16,
+    pub(crate) out: u16,
     state: DriverState,
 }
 
