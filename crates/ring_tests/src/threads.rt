@@ -145,7 +145,8 @@ fn epoch<R: Wait>(rt: &R, ring: &RxRing, end: &mut RxDriverEnd, stock: &mut Stoc
     let good = receive(rt, ring, end);
     stop(rt, ring, end);
     let back = reclaim_all(ring, end);
-    if end.is_stopped() && end.room() + 1 == end.size() {
+    let size = end.size();
+    if size > 0 && end.is_stopped() && end.room() == size - 1 {
         end.renew(ring);
     }
     (good, back)
