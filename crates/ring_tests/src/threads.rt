@@ -57,12 +57,7 @@ fn store_when_free<R: Wait>(rt: &R, ring: &RxRing, end: &mut RxControllerEnd, k:
 }
 
 /// The device's side of so many epochs: in each it stores frames until the queue is disabled.
-fn serve<R: Wait>(
-    rt: &R,
-    ring: &RxRing,
-    mut end: RxControllerEnd,
-    epochs: u32,
-) -> RxControllerEnd
+fn serve<R: Wait>(rt: &R, ring: &RxRing, mut end: RxControllerEnd, epochs: u32) -> RxControllerEnd
     requires { end.table ≡ ring.now }
     ensures { result.table ≡ ring.now }
 {
@@ -208,7 +203,11 @@ fn closed_in_the_middle(rt: HostRuntime) -> Result<(), Fail> {
     assert!(rt; buffers.len() == 8);
     for (place, entry) in buffers.iter().enumerate() {
         let number = entry.as_ref().map(|buf| buf.number());
-        let wanted = if place == 0 || place == 7 { None } else { Some(place as u16) };
+        let wanted = if place == 0 || place == 7 {
+            None
+        } else {
+            Some(place as u16)
+        };
         assert_eq!(rt; number, wanted);
     }
     Ok(())
