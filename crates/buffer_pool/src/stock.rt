@@ -1,5 +1,5 @@
 //! A stock of buffers.
-ghost use Rattle.std.specs.Prelude.{◌≡◌, ◌+◌, ◌<◌, ◌≤◌, ◌↔◌, ◌⊎◌, ℕ, List, [], ◌∷◌, length, vec_capacity, IsTrue, IsNone, IfNone, IfSome, IfOk, IsErrOf};
+ghost use Rattle.std.specs.Prelude.{◌≡◌, ◌+◌, ◌<◌, ◌≤◌, ◌↔◌, ◌⊎◌, ℕ, List, [], ◌∷◌, length, vec_capacity, IsTrue, IsNone, IfNone, IfSome, IfOk, IfErr, IsErrOf};
 ghost use Rattle.std.specs.List.{range_with_len};
 ghost use Rattle.buffer_pool.specs.Buffer.{buffer};
 ghost use Rattle.buffer_pool.specs.Shelf.{numbers_of, AllReady};
@@ -35,10 +35,11 @@ impl Model for Stock {
 impl Stock {
     /// A full stock of the buffers `first` to `first + count - 1`, which come out in this order.
     ///
-    /// `count` has to be at least `FEWEST_BUFFERS`, and no number above 65,535. Without memory for
-    /// all of the buffers none is kept.
+    /// `count` has to be at least `FEWEST_BUFFERS`, and no number above 65,535: else `Count`. Without memory for
+    /// all of the buffers none is kept: `Memory`.
     pub fn new(alloc: Global, first: u32, count: u32) -> Result<Self, PoolError>
         ensures refused { IsErrOf result PoolError.Count ↔ ((count < FEWEST_BUFFERS) ⊎ (MOST_BUFFERS < first + count)) }
+        ensures refusals { IfErr result (λ e. (e ≡ PoolError.Count) ⊎ (e ≡ PoolError.Memory)) }
         ensures full { IfOk result (λ s. s ≡ full_stock first count) }
         ensures shared { IfOk result (λ s. Shares s []) }
     {

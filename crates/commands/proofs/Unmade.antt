@@ -1,10 +1,10 @@
 -- Why a ring of eight and a stock of sixteen are refused: for memory alone.
-use Rattle.std.proofs.Common.{◌≡◌, refl, inl, inr, arith}
+use Rattle.std.proofs.Common.{◌≡◌, ◌⊎◌, refl, ap, inl, inr, arith}
 use lib.Count.{ones}
 use Rattle.buffer_pool.specs.declared.error.PoolError.{PoolError}
 use Rattle.buffer_pool.specs.declared.error.PoolError.TheVariants as pool
-use Rattle.rx_ring.specs.declared.error.RingError.{RingError}
-use Rattle.rx_ring.specs.declared.error.RingError.TheVariants as ring
+use Rattle.shared_ring.specs.declared.error.RingError.{RingError}
+use Rattle.shared_ring.specs.declared.error.RingError.TheVariants as ring
 use Rattle.limits.specs.RingLength.{IsRingLength}
 use Rattle.commands.specs.declared.refusal.Refusal.TheVariants.{Ring, Stock}
 use Rattle.commands.specs.Refusals.{IsUnmade}
@@ -17,6 +17,6 @@ pub ring_unmade : (e : RingError) → (e ≡ ring.RingLength → ¬ IsRingLength
 ring_unmade ring.RingLength only = absurd (only refl eight_is_lawful)
 ring_unmade ring.Memory only = inl refl
 
-pub stock_unmade : (e : PoolError) → (e ≡ pool.Count → ⊥) → IsUnmade (Stock e)
-stock_unmade pool.Count only = absurd (only refl)
-stock_unmade pool.Memory only = inr (inl refl)
+pub stock_unmade : (e : PoolError) → (e ≡ pool.Count) ⊎ (e ≡ pool.Memory) → (e ≡ pool.Count → ⊥) → IsUnmade (Stock e)
+stock_unmade e (inl count) only = absurd (only count)
+stock_unmade e (inr memory) only = inr (inl (ap Stock memory))
