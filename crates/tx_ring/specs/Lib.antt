@@ -1,0 +1,3 @@
+pub mod Records
+pub mod Rule
+pub mod Plays

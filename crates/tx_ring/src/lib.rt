@@ -1,0 +1,6 @@
+//! A transmit ring of the 82599: a driver that posts frames and cleans up after them, and a controller that sends them.
+#![tactic(auto)]
+
+mod events;
+
+pub use events::{TxControllerEvent, TxControllerOwn, TxDriverEvent, TxDriverOwn};
