@@ -1,0 +1,4 @@
+pub mod Words
+pub mod Learning
+pub mod Lying
+pub mod Moving
