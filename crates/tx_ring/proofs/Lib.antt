@@ -2,3 +2,4 @@ pub mod Words
 pub mod Learning
 pub mod Lying
 pub mod Moving
+pub mod Sending

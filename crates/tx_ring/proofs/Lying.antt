@@ -1,7 +1,7 @@
 -- What a ring's records, words and slots that lie as it has them give to each step: the parts that all steps of a transmit ring share.
 use Rattle.std.proofs.Common.{◌≡◌, ◌≢◌, ℕ, ◌+◌, ◌%◌, ◌<◌, ◌≤◌, Bool, true, false, not, ◌&&◌, List, [], ◌∷◌, ◌++◌, length, set, Option, Some, None, sym, refl, ap, ◌∙◌, subst, arith, length-set, get_or-set_other}
 use Rattle.std.specs.Prelude.{slice_get, slice_index, slice_set, nat_lt}
-use Rattle.std.proofs.lemmas.Bool.{ltb-false, le-ltb}
+use Rattle.std.proofs.lemmas.Bool.{le-ltb, false≢true}
 use mathlib.Core.Option as maybe
 use Rattle.buffer_pool.specs.Buffer.{Buffer}
 use Rattle.ring_model.specs.declared.states.Completion.{Completion}
@@ -37,6 +37,11 @@ fetched-snoc es e = fetched_from-snoc 0 es e
 pub words-big : (n : ℕ) (mode : Completion) → n + 4 ≤ words_of n mode
 words-big n Status = omega arith
 words-big n Head = omega arith
+
+-- a ring that reports by a head word has that word
+pub head-within : (n : ℕ) (mode : Completion) (words : List ℕ) → by_head mode ≡ true → length words ≡ words_of n mode → n + 4 < length words
+head-within n Status words e c = absurd (false≢true e)
+head-within n Head words e c = omega arith
 
 -- a word other than that of reports
 pub reports-else : (n : ℕ) (mode : Completion) (reported : ℕ) (words : List ℕ) (i v : ℕ) → i ≢ n + 4 → TellsReports n mode reported words → TellsReports n mode reported (slice_set words i v)

@@ -1,8 +1,8 @@
 -- What each step of the driver makes of words, slots and records that lie as a ring has them: they lie as the stepped ring has them.
-use Rattle.std.proofs.Common.{◌≡◌, ℕ, ◌+◌, ◌%◌, ◌<◌, ◌≤◌, Bool, true, false, not, ◌&&◌, List, [], ◌∷◌, ◌++◌, length, set, take, map, Option, Some, None, sym, refl, ap, ◌∙◌, subst, arith, mod-lt, if◌then◌else◌}
+use Rattle.std.proofs.Common.{◌≡◌, ℕ, ◌+◌, ◌%◌, ◌<◌, ◌≤◌, Bool, true, false, not, ◌&&◌, List, [], ◌∷◌, ◌++◌, length, set, take, map, Option, Some, None, sym, refl, ap, ◌∙◌, subst, arith, mod-lt, mod-eq_of_lt, get_or-set_same, if◌then◌else◌}
 use Rattle.std.specs.Prelude.{slice_get, slice_index, slice_set, ◌==◌, ◌-◌, nat_lt}
-use Rattle.std.proofs.lemmas.Bool.{and_from, lt-ltb, eq-eqb, ltb-true, false≢true}
-use Rattle.std.proofs.lemmas.Option.{slice_get_within}
+use Rattle.std.proofs.lemmas.Bool.{and_from, lt-ltb, eq-eqb, ltb-true, both_ways, false≢true}
+use Rattle.std.proofs.lemmas.Option.{none-some}
 use Rattle.std.proofs.lemmas.List.{take-append-le}
 use mathlib.Core.Option as maybe
 use mathlib.Core.Option.{some, none}
@@ -36,11 +36,14 @@ use Rattle.tx_ring.specs.Records.{Posting, TxDriven, TxControlled, DriverStep, C
 use Rattle.tx_ring.specs.Rule.{LiesAs, Learnt, IsFetched, IsReady, TellsReports, filled, says, lies_there, word_of, words_of}
 use Rattle.tx_ring.proofs.Words.{posting-posted}
 use Rattle.tx_ring.proofs.Learning.{learnt-step, learnt-head, learnt-report, learnt-unknown}
-use Rattle.tx_ring.proofs.Lying.{keeps_it, big, goes_on, drove, knows_is, unreclaimed, untold, lies-beyond, reports-else, controlled-else, driver-goes}
+use Rattle.tx_ring.proofs.Lying.{keeps_it, big, goes_on, drove, knows_is, unreclaimed, untold, lies-beyond, reports-else, head-within, controlled-else, Leaves, driver-goes}
 
 early_tailed : (d : DriverState) → is_tailed d ≡ true → is_early d ≡ true
 early_tailed Tailed e = refl
 early_tailed _ e = absurd (false≢true e)
+
+zero-mod : (n : ℕ) → 1 < n → 0 % n ≡ 0
+zero-mod n pos = let h : 0 < n = omega arith in mod-eq_of_lt h
 
 module _ (n : ℕ) (mode : Completion) (q : TxRing Bytes) (ds : List DriverStep) (cs : List ControllerStep) (words : List ℕ) (homes : List (maybe.Option Buffer)) (pos : 1 < n) (l : LiesAs n mode q ds cs words homes) where
   abbrev k : IsTxKept Bytes n q
@@ -220,3 +223,50 @@ module _ (n : ℕ) (mode : Completion) (q : TxRing Bytes) (ds : List DriverStep)
     items = record { words = λ j a b. absurd (omega arith); slots = λ j a b. absurd (omega arith) };
     cleared = λ a s. m.cleared (early_tailed p.handshake.driver tailed) s;
   }
+
+  -- C10, where the head word is cleared after it
+  pub clear_tail-lies : by_head mode ≡ true → is_cleared q.handshake.driver ≡ true → LiesAs n mode (tx_cleared q true) (ds ++ driver.ClearedTail ∷ []) cs (slice_set words (n + 1) 0) homes
+  clear_tail-lies more cleared = let is : by_head q.completion ≡ true = ap by_head l.completion ∙ more in subst (λ (b : Bool). LiesAs n mode (tx_cleared q b) (ds ++ driver.ClearedTail ∷ []) cs (slice_set words (n + 1) 0) homes) is
+      (driver-goes n mode q ds cs words homes pos l tx.ClearTail driver.ClearedTail (slice_set words (n + 1) 0) homes cleared
+      (ap (λ (b : Bool). driven (tx_cleared q b).queue) (sym is)) refl
+      (subst (λ (b : Bool). Leaves n mode q ds cs words homes pos l (tx_cleared q b)) (sym is) (refl, refl, refl, refl, refl, refl, refl, refl, refl))
+      (subst (λ (b : Bool). IsControlled {Given = ℕ} (says (tx_cleared q b)) lies_there (tx_cleared q b).queue (tx_cleared q b).owed c) (sym is)
+      (ctl-clear_tail (says q) lies_there ends_posting n q.queue k.queue q.owed c l.controller cleared))
+      (subst (λ (b : Bool). LiesIn {Given = ℕ} (says (tx_cleared q b)) lies_there n (words_of n mode) (tx_cleared q b).queue 0 (slice_set words (n + 1) 0) homes) (sym is)
+      (lies-clear_tail (says q) lies_there ends_posting n (words_of n mode) q.queue k.queue 0 words homes l.lies wide cleared))
+      (reports-else n mode q.reported words (n + 1) 0 (λ e. omega arith) l.reports))
+
+  -- C10, where nothing more is to be cleared: the epoch ends, and what was learnt in it is forgotten
+  pub end_epoch-lies : by_head mode ≡ false → is_cleared q.handshake.driver ≡ true → LiesAs n mode (tx_cleared q false) (ds ++ driver.Own EndedEpoch ∷ []) cs (slice_set words (n + 1) 0) homes
+  end_epoch-lies alone cleared = let is : by_head q.completion ≡ false = ap by_head l.completion ∙ alone in
+      let tailed : TxRing Bytes = record q { queue = by q.queue queue.ClearTail } in
+      let kept = kept-by n ends_posting q.queue k.queue queue.ClearTail tt cleared in let reach = goes_on n mode q ds cs words homes pos l tx.ClearTail cleared in record {
+        reachable = subst (λ (b : Bool). IsTxReachable Bytes n (tx_cleared q b)) is reach;
+        completion = l.completion;
+        driver = drove n mode q ds cs words homes pos l (driver.Own EndedEpoch);
+        controller = controlled-else (tx_cleared q false).queue (says q) (says (tx_cleared q false)) q.owed c
+            (ctl-renew (says q) lies_there ends_posting n tailed.queue kept q.owed c (ctl-clear_tail (says q) lies_there ends_posting n q.queue k.queue q.owed c l.controller cleared) refl
+            (answered_over n ends_posting tailed.queue kept refl));
+        lies = renewed-lies tailed (slice_set words (n + 1) 0) (lies-clear_tail (says q) lies_there ends_posting n (words_of n mode) q.queue k.queue 0 words homes l.lies wide cleared) refl;
+        reports = λ e. absurd (false≢true (sym alone ∙ e));
+        fetched = λ p held there. absurd (none-some p there);
+        ready = λ serving. absurd (both_ways (is_serving q.handshake.controller) (answered_idle n ends_posting tailed.queue kept refl) serving);
+        follow = AllMayFollow-nil n;
+        learnt = knows_is n mode q ds cs words homes pos l (tx_cleared q false) (driver.Own EndedEpoch) (learnt-unknown n (tx_cleared q false) refl);
+      }
+
+  -- C12: the epoch ends
+  pub clear_report-lies : by_head mode ≡ true → is_tailed q.handshake.driver ≡ true → LiesAs n mode (tx_renewed q) (ds ++ driver.Own ClearedReport ∷ []) cs (slice_set words (n + 4) 0) homes
+  clear_report-lies more tailed = let is : by_head q.completion ≡ true = ap by_head l.completion ∙ more in let a = emptied_answered q.handshake.driver (tailed_emptied q.handshake.driver tailed) in
+      let m = l.lies in let wc = m.word_count in record {
+        reachable = goes_on n mode q ds cs words homes pos l tx.ClearReport (and_from _ _ is tailed);
+        completion = l.completion;
+        driver = drove n mode q ds cs words homes pos l (driver.Own ClearedReport);
+        controller = controlled-else (tx_renewed q).queue (says q) (says (tx_renewed q)) q.owed c (ctl-renew (says q) lies_there ends_posting n q.queue k.queue q.owed c l.controller tailed (answered_over n ends_posting q.queue k.queue a));
+        lies = renewed-lies q (slice_set words (n + 4) 0) (lies-beyond n mode q ds cs words homes pos l 0) tailed;
+        reports = λ e. get_or-set_same words (n + 4) 0 0 (head-within n mode words e wc) ∙ sym (zero-mod n pos);
+        fetched = λ p held there. absurd (none-some p there);
+        ready = λ serving. absurd (both_ways (is_serving q.handshake.controller) (answered_idle n ends_posting q.queue k.queue a) serving);
+        follow = AllMayFollow-nil n;
+        learnt = knows_is n mode q ds cs words homes pos l (tx_renewed q) (driver.Own ClearedReport) (learnt-unknown n (tx_renewed q) refl);
+      }
