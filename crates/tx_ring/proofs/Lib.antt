@@ -3,3 +3,4 @@ pub mod Learning
 pub mod Lying
 pub mod Moving
 pub mod Sending
+pub mod Reporting
