@@ -31,7 +31,7 @@ use Rattle.ring_model.proofs.shared.FrameLaws.{AllFollow-nil, AllFollow-snoc}
 use Rattle.ring_model.proofs.shared.Reaching.{reached-changed, reached-opening}
 use Rattle.ring_model.proofs.shared.Kept.{ShakesAs}
 use Rattle.ring_model.proofs.receive.Stepping.{rx_kept-opening}
-use Rattle.ring_model.proofs.shared.Shakes.{live_unanswered, shakes-enable, serving_unended, tailed_emptied, emptied_answered}
+use Rattle.ring_model.proofs.shared.Shakes.{live_unanswered, open_unanswered, shakes-enable, serving_unended, tailed_emptied, emptied_answered}
 use Rattle.ring_model.proofs.shared.Stepping.{shook, held_below, answered_over}
 use Rattle.shared_ring.specs.declared.events.DriverEvent.TheVariants as driver
 use Rattle.shared_ring.specs.declared.events.ControllerEvent.TheVariants as controller
@@ -110,12 +110,15 @@ module _ (n : ℕ) (q : RxRing Bytes) (ds : List DriverStep) (cs : List Controll
     learnt = learnt-step n q keeps_it x l.learnt s can past given;
   }
 
+  pub unreclaimed : is_answered q.handshake.driver ≡ false → returned_count q.queue ≡ given_count q.queue
+  unreclaimed h = let k = keeps_it in let o = k.queue.order in let z = o.not_reclaimed h in omega arith
+
   -- A1
-  pub can-post : is_open q.handshake.driver ≡ true → posted_count q.queue + 1 < given_count q.queue + n → (b : ℕ) → rx_can q (rx.Post b) ≡ true
-  can-post opened room b = let k = keeps_it in let e = k.queue.size_is in let o = k.queue.order in let ts = o.given_served in let sp = o.served_posted in
+  pub can-post : is_open q.handshake.driver ≡ true → posted_count q.queue + 1 < returned_count q.queue + n → (b : ℕ) → rx_can q (rx.Post b) ≡ true
+  can-post opened room b = let k = keeps_it in let none = unreclaimed (open_unanswered q.handshake.driver opened) in let e = k.queue.size_is in let o = k.queue.order in let ts = o.given_served in let sp = o.served_posted in
       and_from _ _ opened (lt-ltb (posted_count q.queue - given_count q.queue) (q.size - 1) (omega arith))
 
-  pub post-lies : (b : Buffer) (p : ℕ) → p ≡ posted_count q.queue % n → is_open q.handshake.driver ≡ true → posted_count q.queue + 1 < given_count q.queue + n → b ≡ buffer b.number []
+  pub post-lies : (b : Buffer) (p : ℕ) → p ≡ posted_count q.queue % n → is_open q.handshake.driver ≡ true → posted_count q.queue + 1 < returned_count q.queue + n → b ≡ buffer b.number []
       → LiesAs n (rx_changed q (rx.Post b.number)) (ds ++ driver.Posted p 0 b ∷ []) cs (slice_set words p 0) (set homes p (some b))
   post-lies b p at opened room empty = let k = keeps_it in let can = can-post opened room b.number in
       driver-goes (rx.Post b.number) (driver.Posted p 0 b) (slice_set words p 0) (set homes p (some b)) can refl refl refl refl refl
@@ -142,9 +145,6 @@ module _ (n : ℕ) (q : RxRing Bytes) (ds : List DriverStep) (cs : List Controll
   pub can-take : (s : Segments) → due q ≡ Some s → is_live q.handshake.driver ≡ true → rx_can q rx.Take ≡ true
   can-take s is live = let below : given_count q.queue < served_count q.queue = slice_get_within q.ledger.served (given_count q.queue) s is in let k = keeps_it in let o = k.queue.order in let sp = o.served_posted in
       and_from _ _ live (lt-ltb (given_count q.queue) (posted_count q.queue) (omega arith))
-
-  pub unreclaimed : is_answered q.handshake.driver ≡ false → returned_count q.queue ≡ given_count q.queue
-  unreclaimed h = let k = keeps_it in let o = k.queue.order in let z = o.not_reclaimed h in omega arith
 
   took-past : (o : Option Segments) → (took q o).past ≡ q.past
   took-past None = refl

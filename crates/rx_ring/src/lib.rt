@@ -2,5 +2,7 @@
 #![tactic(auto)]
 
 mod events;
+mod steps;
 
 pub use events::{RxControllerEvent, RxControllerOwn, RxDriverEvent, RxDriverOwn};
+pub use steps::{RxRing, RxRule};

@@ -1,5 +1,7 @@
 -- A record with one more event, and the slots that the ends have by their records.
 use Rattle.std.proofs.Common.{◌≡◌, ℕ, zero, suc, ◌+◌, ◌-◌, ◌%◌, ◌<◌, ◌≤◌, List, [], ◌∷◌, ◌++◌, sym, refl, ap, ◌∙◌, arith}
+use Rattle.std.proofs.Math.Nat.{mod-add-mod}
+use Rattle.atomic_table.specs.Table.{turned}
 use Rattle.buffer_pool.specs.Buffer.{Buffer, blank}
 use Rattle.ring_model.proofs.shared.Places.{lap}
 use Rattle.shared_ring.specs.declared.events.DriverEvent.{DriverEvent}
@@ -42,3 +44,13 @@ pub slots-turn : (n k more : ℕ) → suc more ≡ n → empty_slots n (k + 1) m
 slots-turn n k more e =
     ap (λ (j : ℕ). empty_slots n (k + 1) more ++ (j, blank) ∷ []) (sym (lap n k) ∙ ap (λ (j : ℕ). j % n) (let f : k + n ≡ (k + 1) + more = omega arith in f))
     ∙ empty_slots-back n (k + 1) more ∙ ap (empty_slots n (k + 1)) e
+
+pub slots-turned : (n k : ℕ) → 0 < n → turned (empty_slots n k n) ≡ empty_slots n (k + 1) n
+slots-turned zero k pos = absurd (omega arith)
+slots-turned (suc more) k pos = slots-turn (suc more) k more refl
+
+-- slots go by places alone
+pub slots-alike : (n j k more : ℕ) → j % n ≡ k % n → empty_slots n j more ≡ empty_slots n k more
+slots-alike n j k zero e = refl
+slots-alike n j k (suc more) e = ap (λ (p : ℕ). (p, blank) ∷ empty_slots n (j + 1) more) e
+    ∙ ap (λ (xs : List (ℕ × Buffer)). (k % n, blank) ∷ xs) (slots-alike n (j + 1) (k + 1) more (sym (mod-add-mod j n 1) ∙ ap (λ (p : ℕ). (p + 1) % n) e ∙ mod-add-mod k n 1))
