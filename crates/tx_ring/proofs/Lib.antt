@@ -4,3 +4,5 @@ pub mod Lying
 pub mod Moving
 pub mod Sending
 pub mod Reporting
+pub mod Reported
+pub mod Driving

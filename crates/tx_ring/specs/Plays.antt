@@ -2,6 +2,8 @@
 use Rattle.std.specs.Prelude.{◌≡◌, ℕ, ◌+◌, ◌/◌, ◌%◌, ◌^◌, ◌<◌, ◌≤◌, Bool, true, false, not, nat_lt, ◌==◌, List, [], ◌∷◌, ◌++◌, length, Option, Some, None, slice_get, if◌then◌else◌}
 use Rattle.atomic_table.specs.Table.{Step, rest}
 use Rattle.buffer_pool.specs.Buffer.{Buffer, buffer}
+use Rattle.ring_model.specs.declared.states.Completion.{Completion}
+use Rattle.ring_model.specs.declared.states.Completion.TheVariants.{Status, Head}
 use Rattle.ring_model.specs.shared.Frames.{Bytes, unfinished}
 use Rattle.ring_model.specs.shared.Places.{between_places}
 use Rattle.ring_model.specs.transmit.Agreement.{tx_word}
@@ -27,6 +29,11 @@ Seated = shared.Seated DriverStep ControllerStep
 -- DD of a transmit write-back
 abbrev pub is_done : ℕ → Bool
 is_done word = (word / 2 ^ 32) % 2 == 1
+
+-- where item j is reported: in its descriptor, or in the head word
+abbrev pub report_word : ℕ → Completion → ℕ → ℕ
+report_word n Status j = j % n
+report_word n Head j = n + 4
 
 -- Whether the word loaded at this place reports item j, where so many are seen reported: DD in its descriptor, or a head that is past its place
 abbrev pub reports_item : ℕ → ℕ → Option ℕ → ℕ → ℕ → Bool
