@@ -6,3 +6,4 @@ pub mod Sending
 pub mod Reporting
 pub mod Reported
 pub mod Driving
+pub mod Serving
