@@ -22,7 +22,7 @@ use Rattle.ring_model.specs.shared.Places.{between_places}
 use Rattle.ring_model.specs.shared.Queue.{posted_count, served_count, given_count, returned_count}
 use Rattle.ring_model.proofs.shared.Beginnings.{beginning_at}
 use Rattle.ring_model.proofs.shared.Places.{ahead}
-use Rattle.ring_model.proofs.shared.Shakes.{live_unanswered, stopped_answered, answered_closed, stopped_full}
+use Rattle.ring_model.proofs.shared.Shakes.{live_unanswered, open_unanswered, stopped_answered, answered_closed, stopped_full}
 use Rattle.ring_model.proofs.shared.Stepping.{shook, answered_over, answered_unheld}
 use Rattle.ring_model.proofs.transmit.Stepping.{seen_sent}
 use Rattle.shared_ring.specs.declared.events.DriverEvent.TheVariants as driver
@@ -40,7 +40,7 @@ use Rattle.tx_ring.specs.Plays.{Seated, report_word, reports_item, shows_report,
 use Rattle.tx_ring.proofs.Words.{undone-tx_word, done-done_word}
 use Rattle.tx_ring.proofs.Lying.{keeps_it, unreclaimed}
 use Rattle.tx_ring.proofs.Moving.{post-lies, publish-lies, no_report-lies, saw_report-lies, clean-lies, head_loaded-lies, ask_enable-lies, look_answered-lies, ask_disable-lies, reclaim-lies, clear_head-lies, clear_tail-lies, end_epoch-lies, clear_report-lies}
-use Rattle.tx_ring.proofs.Reported.{reports-shown}
+use Rattle.tx_ring.proofs.Reported.{reports-shown, head-place}
 
 -- the control word is one of four
 pub control-value : (n : ℕ) (mode : Completion) (q : TxRing Bytes) (ds : List DriverStep) (cs : List ControllerStep) (words : List ℕ) (homes : List (maybe.Option Buffer)) → 1 < n → LiesAs n mode q ds cs words homes → slice_index words (n + 2) ≤ 3
@@ -63,7 +63,7 @@ module _ (n : ℕ) (mode : Completion) (id : ℕ) (es : List DriverStep) (slots 
   there f q cs words homes l = ap f l.driver
 
   -- B1
-  pub allow-post : (x : Posting) (p : ℕ) → p ≡ length d.posted % n → is_open d.state ≡ true → length d.posted + 1 < length d.given + n → MayFollow n (unfinished carried d.posted) x
+  pub allow-post : (x : Posting) (p : ℕ) → p ≡ length d.posted % n → is_open d.state ≡ true → length d.posted + 1 < length d.given + d.reclaimed + n → MayFollow n (unfinished carried d.posted) x
       → Allows (IsRuled n mode) n id (Driver es, (p, filled x) ∷ slots) p (λ _. word_of x) (λ _ m. posts (step n p (word_of x) 0 none) (Driver es, (p, filled x) ∷ slots) (word_of x) m)
   allow-post x p at opened room follows = allow_driver (LiesAs n mode) n (words_of n mode) id es ((p, filled x) ∷ slots) p (λ _. word_of x) (λ _ m. posts (step n p (word_of x) 0 none) (Driver es, (p, filled x) ∷ slots) (word_of x) m)
       (λ q cs words homes pos l. record {
@@ -71,10 +71,11 @@ module _ (n : ℕ) (mode : Completion) (id : ℕ) (es : List DriverStep) (slots 
         act = gives;
         valid = tt;
         later = tx_changed q (tx.Post x);
-        lies = post-lies n mode q es cs words homes pos l x p
+        lies = let on : is_open q.handshake.driver ≡ true = sym (there (λ y. is_open y.state) q cs words homes l) ∙ opened in let un = unreclaimed n mode q es cs words homes pos l (open_unanswered q.handshake.driver on) in
+            let more : posted_count q.queue + 1 < returned_count q.queue + n = subst (λ (y : TxDriven). length y.posted + 1 < length y.given + y.reclaimed + n) l.driver room in post-lies n mode q es cs words homes pos l x p
             (at ∙ there (λ y. length y.posted % n) q cs words homes l)
-            (sym (there (λ y. is_open y.state) q cs words homes l) ∙ opened)
-            (subst (λ (y : TxDriven). length y.posted + 1 < length y.given + n) l.driver room)
+            on
+            (omega arith)
             (subst (λ (y : TxDriven). MayFollow n (unfinished carried y.posted) x) l.driver follows);
         told = refl;
       })
@@ -264,22 +265,22 @@ module _ (n : ℕ) (mode : Completion) (id : ℕ) (es : List DriverStep) (slots 
 
   -- B7
   goes-report : (i j : ℕ) (q : TxRing Bytes) (cs : List ControllerStep) (words : List ℕ) (homes : List (maybe.Option Buffer)) → 1 < n → (l : LiesAs n mode q es cs words homes) → oldest_report q ≡ Some j → is_live q.handshake.driver ≡ true
-      → (made : Bool) → nat_lt j q.reported ≡ made → shows_report n es i (slice_index words i) ≡ made → Goes i (λ x. x) (LoadsReport (step n i 0 0 none) (Driver es, slots)) cs words homes
-  goes-report i j q cs words homes pos l is live true made shows = record {
+      → (n ≤ i → slice_index words i < n) → (made : Bool) → nat_lt j q.reported ≡ made → shows_report n es i (slice_index words i) ≡ made → Goes i (λ x. x) (LoadsReport (step n i 0 0 none) (Driver es, slots)) cs words homes
+  goes-report i j q cs words homes pos l is live place true made shows = record {
     event = driver.Own (SawReport i (slice_index words i));
     act = keeps;
     valid = tt;
     later = record q { seen_reported = j + 1 };
     lies = same-words n mode (record q { seen_reported = j + 1 }) (es ++ driver.Own (SawReport i (slice_index words i)) ∷ []) cs words homes i (saw_report-lies n mode q es cs words homes pos l j i (slice_index words i) is live (ltb-true j q.reported made));
-    told = record { none = λ e. absurd (true≢false (sym shows ∙ e)); seen = λ e. refl };
+    told = record { none = λ e. absurd (true≢false (sym shows ∙ e)); seen = λ e. refl; place = place };
   }
-  goes-report i j q cs words homes pos l is live false made shows = record {
+  goes-report i j q cs words homes pos l is live place false made shows = record {
     event = driver.Own (NoReport i (slice_index words i));
     act = keeps;
     valid = tt;
     later = q;
     lies = same-words n mode q (es ++ driver.Own (NoReport i (slice_index words i)) ∷ []) cs words homes i (no_report-lies n mode q es cs words homes pos l i (slice_index words i));
-    told = record { none = λ e. refl; seen = λ e. absurd (false≢true (sym shows ∙ e)) };
+    told = record { none = λ e. refl; seen = λ e. absurd (false≢true (sym shows ∙ e)); place = place };
   }
 
   -- where a report is looked for: in its descriptor, or in the head word
@@ -289,5 +290,5 @@ module _ (n : ℕ) (mode : Completion) (id : ℕ) (es : List DriverStep) (slots 
       (λ q cs words homes pos l. let x = l.learnt in
       let old : oldest_report q ≡ Some j = ap (λ (m : ℕ). outstanding (driven q.queue) m) (sym x.seen) ∙ sym (there (λ y. outstanding y (knowing es).seen) q cs words homes l) ∙ is in
       let on : is_live q.handshake.driver ≡ true = sym (there (λ y. is_live y.state) q cs words homes l) ∙ live in
-      goes-report i j q cs words homes pos l old on (nat_lt j q.reported) refl
+      goes-report i j q cs words homes pos l old on (head-place n mode q es cs words homes pos l i j at) (nat_lt j q.reported) refl
       (ap (λ (o : Option ℕ). reports_item n (knowing es).seen o i (slice_index words i)) is ∙ ap (λ (s : ℕ). reports_item n s (Some j) i (slice_index words i)) x.seen ∙ reports-shown n mode q es cs words homes pos l i j old at on))

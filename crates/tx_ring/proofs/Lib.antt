@@ -7,3 +7,5 @@ pub mod Reporting
 pub mod Reported
 pub mod Driving
 pub mod Serving
+pub mod DriverSeats
+pub mod ControllerSeats

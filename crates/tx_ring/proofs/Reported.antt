@@ -84,3 +84,13 @@ pub reports-shown : (n : ℕ) (mode : Completion) (q : TxRing Bytes) (ds : List 
     → oldest_report q ≡ Some j → i ≡ report_word n mode j → is_live q.handshake.driver ≡ true → reports_item n q.seen_reported (Some j) i (slice_index words i) ≡ nat_lt j q.reported
 reports-shown n mode q ds cs words homes pos l i j oldest at live = shown n mode q.seen_reported i j words (nat_lt j q.reported)
     (λ e. by-status n mode q ds cs words homes pos l j oldest live e) (λ e. by-word n mode q ds cs words homes pos l j oldest live e) at
+
+-- a head word has a place of the ring
+beyond : (n : ℕ) (mode : Completion) (i j : ℕ) → 0 < n → i ≡ report_word n mode j → n ≤ i → (by_head mode ≡ true) × (i ≡ n + 4)
+beyond n Status i j pos at far = let m : j % n < n = mod-lt j pos in absurd (omega arith)
+beyond n Head i j pos at far = (refl, at)
+
+pub head-place : (n : ℕ) (mode : Completion) (q : TxRing Bytes) (ds : List DriverStep) (cs : List ControllerStep) (words : List ℕ) (homes : List (maybe.Option Buffer)) (pos : 1 < n) (l : LiesAs n mode q ds cs words homes) (i j : ℕ) → i ≡ report_word n mode j
+    → n ≤ i → slice_index words i < n
+head-place n mode q ds cs words homes pos l i j at far = let b = beyond n mode i j (omega arith) at far in let e : slice_index words i ≡ q.reported % n = ap (slice_index words) b.1 ∙ l.reports b.0 in
+    let m : q.reported % n < n = mod-lt q.reported (omega arith) in omega arith

@@ -1,6 +1,9 @@
 -- The second words of transmit descriptors: what was written is read back, and DD is in the write-back alone.
 use Rattle.std.proofs.Common.{◌≡◌, ℕ, ◌+◌, ◌*◌, ◌/◌, ◌%◌, ◌^◌, ◌≤◌, Bool, true, false, length, sym, refl, ap, ◌∙◌, arith}
 use Rattle.std.specs.Prelude.{◌==◌}
+use Rattle.std.proofs.lemmas.Bool.{eq-eqb, eqb-true, false≢true, false_from_ne_true}
+use Rattle.descriptor.specs.Layout.{bit as descriptor_bit}
+use Rattle.descriptor.specs.declared.tx_read.TxRead.{TxRead}
 use Rattle.buffer_pool.specs.Buffer.{Buffer, buffer}
 use Rattle.ring_model.specs.shared.Agreement.{bit}
 use Rattle.ring_model.specs.transmit.Agreement.{tx_word, done_word}
@@ -51,3 +54,20 @@ posting-posted p small =
     ap (λ (e : Bool). let x : Posting = record { number = p.number; payload = p.payload; eop = e; rs = rs_of (word_of p); paylen = paylen_of (word_of p) } in x) (eop_of-tx_word (length p.payload) p.eop p.rs p.paylen small)
     ∙ ap (λ (e : Bool). let x : Posting = record { number = p.number; payload = p.payload; eop = p.eop; rs = e; paylen = paylen_of (word_of p) } in x) (rs_of-tx_word (length p.payload) p.eop p.rs p.paylen small)
     ∙ ap (λ (v : ℕ). let x : Posting = record { number = p.number; payload = p.payload; eop = p.eop; rs = p.rs; paylen = v } in x) (paylen_of-tx_word (length p.payload) p.eop p.rs p.paylen small)
+
+-- the second word of a descriptor with these fields
+bit-same : (b : Bool) → descriptor_bit b ≡ bit b
+bit-same true = refl
+bit-same false = refl
+
+pub word-is : (eop rs : Bool) (paylen len : ℕ) (d : TxRead) → d.len ≡ len → d.eop ≡ eop → d.rs ≡ rs → d.paylen ≡ paylen → (w : ℕ)
+    → w ≡ d.len + 3 * 2 ^ 20 + 2 ^ 25 + 2 ^ 29 + descriptor_bit d.eop * 2 ^ 24 + descriptor_bit d.rs * 2 ^ 27 + d.paylen * 2 ^ 46 → w ≡ tx_word len eop rs paylen
+word-is eop rs paylen len d a b c e w h = h
+    ∙ ap (λ (x : ℕ). d.len + 3 * 2 ^ 20 + 2 ^ 25 + 2 ^ 29 + x * 2 ^ 24 + descriptor_bit d.rs * 2 ^ 27 + d.paylen * 2 ^ 46) (bit-same d.eop)
+    ∙ ap (λ (x : ℕ). d.len + 3 * 2 ^ 20 + 2 ^ 25 + 2 ^ 29 + bit d.eop * 2 ^ 24 + x * 2 ^ 27 + d.paylen * 2 ^ 46) (bit-same d.rs)
+    ∙ ap (λ (x : ℕ). tx_word x d.eop d.rs d.paylen) a ∙ ap (λ (x : Bool). tx_word len x d.rs d.paylen) b ∙ ap (λ (x : Bool). tx_word len eop x d.paylen) c ∙ ap (λ (x : ℕ). tx_word len eop rs x) e
+
+-- what the test of a status word says, as the definitions read it
+pub done-word : (b : Bool) (w : ℕ) → (b ≡ true → (w / 2 ^ 32) % 2 ≡ 1) → ((w / 2 ^ 32) % 2 ≡ 1 → b ≡ true) → is_done w ≡ b
+done-word true w says from = eq-eqb ((w / 2 ^ 32) % 2) 1 (says refl)
+done-word false w says from = false_from_ne_true ((w / 2 ^ 32) % 2 == 1) (λ e. false≢true (from (eqb-true ((w / 2 ^ 32) % 2) 1 e)))

@@ -1,3 +1,6 @@
 pub mod Records
 pub mod Rule
 pub mod Plays
+pub mod Ends
+pub mod Seats
+pub mod Steps

@@ -44,10 +44,11 @@ reports_item n seen (Some j) place word =
 abbrev pub shows_report : ℕ → List DriverStep → ℕ → ℕ → Bool
 shows_report n es place word = reports_item n (knowing es).seen (outstanding (driving es) (knowing es).seen) place word
 
--- B7
+-- B7. A head word has a place of the ring
 pub record LoadsReport (st : Step Buffer) (m : Seated) (r : ℕ) (m' : Seated) : Type 0 where
   pub none : shows_report st.slots (drivers_of m.0) st.word r ≡ false → m' ≡ (driver_does m (driver.Own (NoReport st.word r)), m.1)
   pub seen : shows_report st.slots (drivers_of m.0) st.word r ≡ true → m' ≡ (driver_does m (driver.Own (SawReport st.word r)), m.1)
+  pub place : st.slots ≤ st.word → r < st.slots
 
 -- B8: the buffer of the oldest item that is not cleaned, as it was posted
 pub record Cleans (st : Step Buffer) (m : Seated) (r : ℕ) (m' : Seated) : Type 0 where

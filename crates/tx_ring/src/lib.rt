@@ -2,5 +2,7 @@
 #![tactic(auto)]
 
 mod events;
+mod steps;
 
 pub use events::{TxControllerEvent, TxControllerOwn, TxDriverEvent, TxDriverOwn};
+pub use steps::{TxRing, TxRule};
