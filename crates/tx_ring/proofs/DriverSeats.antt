@@ -1,8 +1,8 @@
 -- The driver's seat: what each of its steps asks of the table, and what the seat keeps.
 use Rattle.std.proofs.Common.{◌≡◌, ◌≢◌, ℕ, ◌+◌, ◌-◌, ◌%◌, ◌<◌, ◌≤◌, Bool, true, false, List, [], ◌∷◌, ◌++◌, length, Option, Some, None, sym, refl, ap, ◌∙◌, subst, arith, length-append, mod-lt}
-use Rattle.std.specs.Prelude.{slice_get}
+use Rattle.std.specs.Prelude.{slice_get, not, nat_lt, if◌then◌else◌}
 use Rattle.std.proofs.Math.Nat.{mod-mod}
-use Rattle.std.proofs.lemmas.Bool.{false≢true}
+use Rattle.std.proofs.lemmas.Bool.{false≢true, lt-ltb, le-ltb}
 use mathlib.Core.Option.{none}
 use Rattle.atomic_table.specs.Table.{Allows, Step, step, rest, turned}
 use Rattle.atomic_table.specs.Seated.{TableId}
@@ -12,6 +12,8 @@ use Rattle.ring_model.specs.declared.states.Completion.{Completion}
 use Rattle.ring_model.specs.declared.states.Completion.TheVariants.{Status, Head}
 use Rattle.ring_model.specs.shared.Frames.{unfinished}
 use Rattle.ring_model.specs.shared.Handshakes.{is_open, is_live, is_new, is_on, is_stopped, is_cleared, is_tailed}
+use Rattle.ring_model.specs.shared.Places.{between_places, place_next}
+use Rattle.ring_model.proofs.shared.Places.{next_place as next_place-of}
 use Rattle.ring_model.specs.transmit.Frames.{MayFollow}
 use Rattle.ring_model.specs.transmit.Ring.{are_whole, carried}
 use Rattle.ring_model.specs.transmit.Steps.{by_head}
@@ -24,10 +26,10 @@ use Rattle.shared_ring.proofs.Folds.{driving-snoc, slots-post, slots-return, slo
 use Rattle.tx_ring.specs.declared.events.TxDriverOwn.TheVariants.{NoReport, SawReport, Cleaned, EndedEpoch, ClearedReport}
 use Rattle.tx_ring.specs.Records.{Posting, TxDriven, TxView, DriverStep, drivers_of, driving, drive, posting_of, drive_own}
 use Rattle.tx_ring.specs.Rule.{IsRuled, IsTableOf, filled, word_of, words_of}
-use Rattle.tx_ring.specs.Plays.{Seated, report_word, LoadsReport, Cleans, Reclaims, ends_epoch, clears_report}
+use Rattle.tx_ring.specs.Plays.{Seated, is_done, report_word, reports_item, shows_report, LoadsReport, Cleans, Reclaims, ends_epoch, clears_report}
 use Rattle.tx_ring.specs.Ends.{DriverSide, driver_size, posted, cleaned, returned, seen_reported, outstanding, driver_state, fill_place, next_place, appended}
 use Rattle.tx_ring.specs.Seats.{IsDriverSeat, IsWindow}
-use Rattle.tx_ring.specs.Steps.{CameClean, CameBack}
+use Rattle.tx_ring.specs.Steps.{OldestAt, Looked, CameClean, CameBack}
 use Rattle.tx_ring.proofs.Lying.{words-big}
 use Rattle.tx_ring.proofs.Driving.{allow-post, allow-publish, allow-ask_enable, allow-control, allow-ask_disable, allow-head, allow-clear_head, allow-clear_tail, allow-end_epoch, allow-clear_report, allow-report, allow-clean, allow-reclaim}
 
@@ -45,6 +47,14 @@ head-there n Head e = omega arith
 report-within : (n : ℕ) (mode : Completion) (j : ℕ) → 0 < n → report_word n mode j < words_of n mode
 report-within n Status j pos = let m : j % n < n = mod-lt j pos in omega arith
 report-within n Head j pos = omega arith
+
+status-word : (n : ℕ) (mode : Completion) (j : ℕ) → by_head mode ≡ false → report_word n mode j ≡ j % n
+status-word n Status j e = refl
+status-word n Head j e = absurd (false≢true (sym e))
+
+head-word : (n : ℕ) (mode : Completion) (j : ℕ) → by_head mode ≡ true → report_word n mode j ≡ n + 4
+head-word n Status j e = absurd (false≢true e)
+head-word n Head j e = refl
 
 -- the front slot is what the list says
 pub front-is : (xs ys : List (ℕ × Buffer)) (x : ℕ × Buffer) → xs ≡ x ∷ ys → xs ≡ x ∷ rest xs
@@ -260,6 +270,77 @@ module _ (table : TableId) (me : Seated) (size : ℕ) (mode : Completion) (inv :
       allow-at (λ n m r m'. LoadsReport (step n i 0 0 none) m r m') id i (λ x. x) (Driver (drivers_of me.0), driver_slots size (driving (drivers_of me.0))) me inv.me_is
           (allow-report size mode id (drivers_of me.0) its i j (ap (λ (s : DriverSide). outstanding s) was ∙ is) at (sym (words-are (λ x n. is_live x.state)) ∙ live)),
     )
+
+    size-now : now.table.slots ≡ size
+    size-now = words-are (λ x n. n)
+
+    -- a load of the oldest report at `place`, which found r at i
+    module _ (place : ℕ) (o : OldestAt now place) (i r : ℕ) (at : i ≡ report_word size mode o.item) where
+      pub report-is : outstanding now ≡ Some o.item
+      report-is = o.oldest
+
+      place-is : i ≡ report_word (driver_size now) now.completion o.item
+      place-is = at ∙ ap (λ (n : ℕ). report_word n mode o.item) (sym size-now) ∙ ap (λ (m : Completion). report_word (driver_size now) m o.item) (sym is-mode)
+
+      found : shows_report ring.slots (drivers_of me.0) i r ≡ reports_item size (seen_reported now) (Some o.item) i r
+      found = ap (λ (n : ℕ). shows_report n (drivers_of me.0) i r) counts ∙ ap (λ (s : DriverSide). reports_item size (seen_reported s) (outstanding s) i r) was ∙ ap (λ (x : Option ℕ). reports_item size (seen_reported now) x i r) o.oldest
+
+      shows-is : shows_report ring.slots (drivers_of me.0) i r ≡ shows_report (driver_size now) now.events (report_word (driver_size now) now.completion o.item) r
+      shows-is = ap (λ (n : ℕ). shows_report n (drivers_of me.0) i r) (counts ∙ sym size-now) ∙ ap (λ (s : DriverSide). shows_report (driver_size now) s.events i r) was ∙ ap (λ (k : ℕ). shows_report (driver_size now) now.events k r) place-is
+
+      module _ (table' : TableId) (me' : Seated) (t : table' ≡ table) (told : LoadsReport (step ring.slots i 0 0 none) me r me') where
+        keeps-either : (b : Bool) → shows_report ring.slots (drivers_of me.0) i r ≡ b → IsDriverSeat table' me' size mode
+        keeps-either true e = same-keeps (driver.Own (SawReport i r)) table' me' t (told.seen e) refl refl refl
+        keeps-either false e = same-keeps (driver.Own (NoReport i r)) table' me' t (told.none e) refl refl refl
+
+        pub report-keeps : IsDriverSeat table' me' size mode
+        report-keeps = keeps-either (shows_report ring.slots (drivers_of me.0) i r) refl
+
+        one-more : (e : ℕ → ℕ → DriverStep) → me' ≡ (driver_does me (e i r), me.1) → side table' mode me' ≡ appended now (e (report_word (driver_size now) now.completion o.item) r)
+        one-more e stored = ap (λ (m : Seated). side table' mode m) stored ∙ ap (λ (z : TableId). let s : DriverSide = record { table = z; completion = mode; events = drivers_of me.0 ++ e i r ∷ [] } in s) t
+            ∙ ap (λ (s : DriverSide). appended s (e i r)) was ∙ ap (λ (k : ℕ). appended now (e k r)) place-is
+
+        pub looked : (b : Bool) → reports_item size (seen_reported now) (Some o.item) i r ≡ b → Looked now (side table' mode me') b
+        looked b e = record {
+          item = o.item;
+          oldest = o.oldest;
+          word = r;
+          shows = sym shows-is ∙ found ∙ e;
+          nothing = λ f. one-more (λ k v. driver.Own (NoReport k v)) (told.none (found ∙ e ∙ f));
+          report = λ f. one-more (λ k v. driver.Own (SawReport k v)) (told.seen (found ∙ e ∙ f));
+        }
+
+    module _ (place : ℕ) (o : OldestAt now place) where
+      at-place : place ≡ o.item % size
+      at-place = o.at ∙ ap (λ (n : ℕ). o.item % n) size-now
+
+      -- by the descriptor
+      pub status-at : by_head now.completion ≡ false → place ≡ report_word size mode o.item
+      status-at alone = at-place ∙ sym (status-word size mode o.item (sym (ap by_head is-mode) ∙ alone))
+
+      pub status-shows : (r : ℕ) (b : Bool) → is_done r ≡ b → reports_item size (seen_reported now) (Some o.item) place r ≡ b
+      status-shows r b e = let g = big in let m : o.item % size < size = mod-lt o.item (omega arith) in let h = at-place in
+          ap (λ (c : Bool). if c then is_done r else not (nat_lt (between_places size (seen_reported now % size) r) (between_places size (seen_reported now % size) ((o.item + 1) % size)))) (lt-ltb place size (omega arith)) ∙ e
+
+      -- by the head word
+      pub head-at : by_head now.completion ≡ true → size + 4 ≡ report_word size mode o.item
+      head-at more = sym (head-word size mode o.item (sym (ap by_head is-mode) ∙ more))
+
+      pub head-shows : (r from next : ℕ) → from ≡ seen_reported now % driver_size now → next ≡ place_next size place
+          → reports_item size (seen_reported now) (Some o.item) (size + 4) r ≡ not (nat_lt (between_places size from r) (between_places size from next))
+      head-shows r from next seen after = let g = big in
+          ap (λ (c : Bool). if c then is_done r else not (nat_lt (between_places size (seen_reported now % size) r) (between_places size (seen_reported now % size) ((o.item + 1) % size)))) (le-ltb (size + 4) size (omega arith))
+          ∙ ap (λ (f : ℕ). not (nat_lt (between_places size f r) (between_places size f ((o.item + 1) % size)))) (sym (seen ∙ ap (λ (n : ℕ). seen_reported now % n) size-now))
+          ∙ ap (λ (k : ℕ). not (nat_lt (between_places size from r) (between_places size from k))) (sym (after ∙ ap (λ (p : ℕ). place_next size p) at-place ∙ next_place-of size o.item (omega arith)))
+
+      pub place-below : place < size
+      place-below = let g = big in let m : o.item % size < size = mod-lt o.item (omega arith) in let h = at-place in omega arith
+
+    pub seen-below : (from : ℕ) → from ≡ seen_reported now % driver_size now → from < size
+    seen-below from e = let g = big in let m : seen_reported now % size < size = mod-lt (seen_reported now) (omega arith) in let h : from ≡ seen_reported now % size = e ∙ ap (λ (n : ℕ). seen_reported now % n) size-now in omega arith
+
+    pub loaded-below : (r : ℕ) (me' : Seated) → LoadsReport (step ring.slots (size + 4) 0 0 none) me r me' → r < size
+    loaded-below r me' t = let c = counts in let h = t.place (omega arith) in omega arith
 
     -- B8 and C6
     module _ (place : ℕ) (at : place ≡ next_place now) (out : returned now < length (posted now)) where
