@@ -6,3 +6,6 @@ pub mod Serving
 pub mod DriverSeats
 pub mod ControllerSeats
 pub mod Meeting
+pub mod DriverEnds
+pub mod DriverCalls
+pub mod ControllerEnds

@@ -28,6 +28,7 @@ use Rattle.rx_ring.specs.Records.{RxView, RxDriven, RxControlled, DriverStep, Co
 use Rattle.rx_ring.specs.Rule.{IsRuled, IsTableOf, LiesAs, says, lies_there}
 use Rattle.rx_ring.specs.Plays.{Seated, Meets, AreOf}
 use Rattle.rx_ring.specs.Ends.{DriverSide, driver_size, posted, taken, driver_state, known_of, is_drained, ControllerSide, stored, controller_state}
+use Rattle.rx_ring.specs.Calls.{IsTold, left_at, told_left}
 use Rattle.rx_ring.specs.Meeting.{ledger_of, stored_now, left_by, Met}
 use Rattle.rx_ring.proofs.Moving.{opening-lies}
 
@@ -125,3 +126,10 @@ module _ (d : DriverSide) (c : ControllerSide) (m : Met d c) (same : c.table ≡
   pub met-drained : is_drained d ≡ true → taken d ≡ stored_now d c
   met-drained e = let l = m.learnt in let h = l.drained e in let k = kept in
       ap (λ (x : RxDriven). x.given) m.driver ∙ beginning-whole m.queue.ledger.given m.queue.ledger.served k.taken h.1 ∙ sym stored-is
+
+  told-is : (o : Option ℕ) → (known_of d).head ≡ o → IsTold (left_at d o) (length (taken d)) (length (stored_now d c))
+  told-is None e = tt
+  told-is (Some head) e = met-left head e
+
+  pub met-told : IsTold (told_left d) (length (taken d)) (length (stored_now d c))
+  met-told = told-is (known_of d).head refl

@@ -1,8 +1,27 @@
-//! tmp
+//! One receive ring of the 82599 that a driver and a controller share without a lock, each in a thread of its own.
+//!
+//! A ring has a word for each descriptor, a head, a tail, a control word and a quiet word, and a slot for a buffer at
+//! each place. Each call of an end is one sequentially consistent load or store of one word, or none, and a slot is
+//! exchanged only by the end to which that step gave it. No call takes a lock or waits: none is passed what it would
+//! need for that.
+//!
+//! A ring begins disabled. The driver asks for it to be enabled and disabled, and the controller answers; once all
+//! buffers of a disabled ring are reclaimed, it can be renewed and enabled again.
+//!
+//! Each end keeps a record of the words that it loaded and stored, in proofs alone. Between any two steps the words,
+//! the slots and both records agree with a ring of `ring_model` that some schedule of steps makes, and so with a
+//! lawful one: what is taken is a beginning of what is stored, byte for byte, in order, each once.
 #![tactic(auto)]
 
+mod controller;
+mod driver;
 mod events;
+mod ring;
 mod steps;
 
+pub use controller::RxControllerEnd;
+pub use driver::{Poll, RxDriverEnd};
 pub use events::{RxControllerEvent, RxControllerOwn, RxDriverEvent, RxDriverOwn};
+pub use ring::meet_rx;
 pub use steps::{RxRing, RxRule};
+pub use shared_ring::{Control, ControllerEvent, DriverEvent, RingError, View};

@@ -7,6 +7,8 @@ mod driver;
 mod gathering;
 
 
+pub(crate) use gathering::meet;
+
 use crate::events::{RxControllerEvent, RxDriverEvent};
 use atomic_table::{Play, Seat, Shared, Table, TableRule};
 use buffer_pool::Buf;

@@ -20,7 +20,7 @@ impl RxRing {
         ensures { IfOk result (λ r. MadeSeats size r.0 r.1 r.2) }
     {
         let count = size as usize;
-        let words = vec![in alloc; 0u64; count + 4]?;
+        let words = opening_words(alloc, count)?;
         let room = Vec::with_capacity(alloc, count)?;
         let blanks = Buf::blanks(alloc, count)?;
         let Ok((table, mut seat)) = Table::new(alloc, words.as_slice(), blanks, &count) else {
@@ -35,6 +35,14 @@ impl RxRing {
             ControllerSeat { seat: served, size },
         ))
     }
+}
+
+/// The words of a ring as it is made, all 0.
+fn opening_words(alloc: Global, count: usize) -> Result<Vec<u64>, AllocError>
+    requires { count ≤ 4096 }
+    ensures { IfOk result (λ v. v.items ≡ replicate (count + 4) 0) }
+{
+    vec![in alloc; 0u64; count + 4]
 }
 
 /// Both seats, in one place, learn that their records are those of one lawful ring.

@@ -1,0 +1,152 @@
+-- What the driver's calls answer whose answer depends on what was loaded.
+use Rattle.std.proofs.Common.{◌≡◌, ℕ, ◌+◌, ◌-◌, ◌%◌, ◌<◌, ◌≤◌, Bool, true, false, if◌then◌else◌, List, [], ◌∷◌, ◌++◌, length, Option, Some, None, sym, refl, ap, ◌∙◌, subst, arith, length-append}
+use Rattle.std.specs.Prelude.{◌==◌}
+use Rattle.std.proofs.lemmas.Bool.{or_right}
+use Rattle.buffer_pool.specs.Buffer.{Buffer}
+use Rattle.ring_model.specs.declared.states.DriverState.{DriverState}
+use Rattle.ring_model.specs.declared.states.DriverState.TheVariants.{New}
+use Rattle.ring_model.specs.receive.Agreement.{rx_word}
+use Rattle.ring_model.specs.receive.Ring.{Segment}
+use Rattle.ring_model.specs.shared.Frames.{Bytes}
+use Rattle.ring_model.specs.shared.Handshakes.{is_live, is_stopped, is_cleared, is_tailed}
+use Rattle.ring_model.specs.shared.Places.{between_places}
+use Rattle.ring_model.proofs.shared.Shakes.{live_unanswered}
+use Rattle.shared_ring.specs.declared.events.DriverEvent.TheVariants as driver
+use Rattle.shared_ring.specs.Records.{undriven}
+use Rattle.rx_ring.specs.declared.events.RxDriverOwn.TheVariants.{NotDone, Taken, ClearedQuiet}
+use Rattle.rx_ring.specs.Records.{RxDriven, DriverStep, drive, segment_of, Knowing, know, unknown}
+use Rattle.rx_ring.specs.Ends.{DriverSide, driver_size, driver_record, posted, taken, reclaimed, returned, driver_state, known_of, fill_place, next_place, appended}
+use Rattle.rx_ring.specs.Meeting.{left_by}
+use Rattle.rx_ring.specs.Steps.{FoundNothing, FoundSegment, CameBack}
+use Rattle.rx_ring.specs.Calls.{IsEndOf, IsDriverEnd, SawNotDone, TookSegment, CameHome, FoundLeft, left_at, told_left, GoneOver, segment}
+use Rattle.rx_ring.proofs.Words.{eop_of-rx_word}
+use Rattle.rx_ring.proofs.DriverEnds.{record-after, known-after, end-after, end-not_done, end-taken, end-reclaimed, end-renewed, end-known}
+
+module _ (d : DriverSide) (fill next out : ℕ) (state : DriverState) (h : IsDriverEnd d fill next out state) (now : DriverSide) (was : d ≡ now) where
+  big : 8 ≤ driver_size d
+  big = h.lawful.0
+
+  -- A6
+  module _ (live : is_live state ≡ true) (some : ¬ (out ≡ 0)) where
+    is-live : is_live (driver_state d) ≡ true
+    is-live = sym (ap is_live h.state_is) ∙ live
+
+    some-out : length (taken d) < length (posted d)
+    some-out = let o = h.out_is in omega arith
+
+    pub none-keeps : (new : DriverSide) → FoundNothing d next new → IsDriverEnd new fill next out state
+    none-keeps new f = end-after d new (driver.Own (NotDone next f.word)) fill next out state f.step (end-not_done (driver_size d) (driver_record d) (known_of d) fill next out state h next f.word)
+
+    pub none-seen : (new : DriverSide) → FoundNothing d next new → SawNotDone now new
+    none-seen new f = subst (λ (s : DriverSide). SawNotDone s new) was (record {
+      live = is-live;
+      some_out = some-out;
+      word = f.word;
+      clear = f.clear;
+      step = f.step ∙ ap (λ (p : ℕ). appended d (driver.Own (NotDone p f.word))) h.next_is;
+      same = record-after d new (driver.Own (NotDone next f.word)) f.step;
+      drained = λ q. ap (λ (k : Knowing). k.drained) (known-after d new (driver.Own (NotDone next f.word)) f.step) ∙ or_right (known_of d).drained (known_of d).quiet q;
+    })
+
+    pub segment-keeps : (new : DriverSide) (buf : Buffer) (eop : Bool) (next' : ℕ) → FoundSegment d next buf eop new → next' ≡ (if (next + 1) == driver_size d then 0 else (next + 1)) → IsDriverEnd new fill next' (out - 1) state
+    segment-keeps new buf eop next' f e = end-after d new (driver.Own (Taken next (rx_word (length buf.bytes) eop) buf)) fill next' (out - 1) state f.step
+        (end-taken (driver_size d) (driver_record d) (known_of d) fill next out state h next (rx_word (length buf.bytes) eop) next' buf (omega arith) e)
+
+    grew : (buf : Buffer) (eop : Bool) → (let x : RxDriven = record (driver_record d) { given = taken d ++ segment_of (rx_word (length buf.bytes) eop) buf ∷ [] } in x) ≡ record (driver_record d) { given = taken d ++ segment buf eop ∷ [] }
+    grew buf eop = ap (λ (e : Bool). let x : RxDriven = record (driver_record d) { given = taken d ++ (let s : Segment Bytes = record { number = buf.number; payload = buf.bytes; eop = e } in s) ∷ [] } in x) (eop_of-rx_word (length buf.bytes) eop)
+
+    pub segment-taken : (new : DriverSide) (buf : Buffer) (eop : Bool) → FoundSegment d next buf eop new → TookSegment now buf eop new
+    segment-taken new buf eop f = subst (λ (s : DriverSide). TookSegment s buf eop new) was (record {
+      live = is-live;
+      some_out = some-out;
+      step = f.step ∙ ap (λ (p : ℕ). appended d (driver.Own (Taken p (rx_word (length buf.bytes) eop) buf))) h.next_is;
+      number = f.number;
+      real = f.real;
+      follows = f.follows;
+      grew = record-after d new (driver.Own (Taken next (rx_word (length buf.bytes) eop) buf)) f.step ∙ grew buf eop;
+      room = let o = h.out_is in let r = h.room in let len = length-append (taken d) (segment_of (rx_word (length buf.bytes) eop) buf ∷ []) in let z : driver_size new ≡ driver_size d = ap driver_size f.step in
+          subst (λ (x : RxDriven). length x.posted + 1 < length x.given + x.reclaimed + driver_size new) (sym (record-after d new (driver.Own (Taken next (rx_word (length buf.bytes) eop) buf)) f.step)) (omega arith);
+    })
+
+  -- C6
+  module _ (stopped : is_stopped (driver_state now) ≡ true) where
+    is-stopped : is_stopped (driver_state d) ≡ true
+    is-stopped = ap (λ (s : DriverSide). is_stopped (driver_state s)) was ∙ stopped
+
+    pub back-keeps : (new : DriverSide) (buf : Buffer) (next' : ℕ) → ¬ (out ≡ 0) → CameBack d next buf new → next' ≡ (if (next + 1) == driver_size d then 0 else (next + 1)) → IsDriverEnd new fill next' (out - 1) state
+    back-keeps new buf next' some f e = end-after d new (driver.Reclaimed next buf) fill next' (out - 1) state f.step (end-reclaimed (driver_size d) (driver_record d) (known_of d) fill next out state h next next' buf (omega arith) is-stopped e)
+
+    pub back-home : (new : DriverSide) (buf : Buffer) → CameBack d next buf new → CameHome now buf new
+    back-home new buf f = subst (λ (s : DriverSide). CameHome s buf new) was (record {
+      step = f.step ∙ ap (λ (p : ℕ). appended d (driver.Reclaimed p buf)) h.next_is;
+      number = f.number;
+      real = f.real;
+      same = record-after d new (driver.Reclaimed next buf) f.step;
+      known = known-after d new (driver.Reclaimed next buf) f.step;
+    })
+
+  -- the load of the head
+  pub left-keeps : (new : DriverSide) (head : ℕ) → new ≡ appended d (driver.LoadedHead head) → IsDriverEnd new fill next out state
+  left-keeps new head step = end-after d new (driver.LoadedHead head) fill next out state step (end-known (driver_size d) (driver_record d) (known_of d) fill next out state h (record (known_of d) { head = Some head }) h.sure)
+
+  pub left-found : (new : DriverSide) (head left size : ℕ) → new ≡ appended d (driver.LoadedHead head) → returned now ≡ length (taken now) → size ≡ driver_size new → left ≡ between_places size next head → FoundLeft now left new
+  left-found new head left size step whole sizes is = subst (λ (s : DriverSide). FoundLeft s left new) was (record {
+    head = head;
+    step = step;
+    same = record-after d new (driver.LoadedHead head) step;
+    told = ap (left_at new) (ap (λ (k : Knowing). k.head) (known-after d new (driver.LoadedHead head) step)) ∙ ap Some (sym counted);
+  })
+    where
+      nothing-back : returned d ≡ length (taken d)
+      nothing-back = subst (λ (s : DriverSide). returned s ≡ length (taken s)) (sym was) whole
+      given-is : taken new ≡ taken d
+      given-is = ap (λ (x : RxDriven). x.given) (record-after d new (driver.LoadedHead head) step)
+      same-size : size ≡ driver_size d
+      same-size = sizes ∙ ap driver_size step
+      next-at : next ≡ length (taken d) % driver_size d
+      next-at = h.next_is ∙ ap (λ (j : ℕ). j % driver_size d) nothing-back
+      counted : left ≡ left_by new head
+      counted = is ∙ ap (λ (n : ℕ). (head + n - next) % n) same-size ∙ ap (λ (j : ℕ). (head + driver_size d - j) % driver_size d) next-at
+          ∙ ap (λ (xs : List (Segment Bytes)). (head + driver_size d - length xs % driver_size d) % driver_size d) (sym given-is)
+          ∙ ap (λ (n : ℕ). (head + n - length (taken new) % n) % n) (sym (ap driver_size step))
+
+  -- C9, C10 and C11
+  pub renew-cleared : (d1 : DriverSide) → d1 ≡ appended d driver.ClearedHead → is_cleared (driver_state d1) ≡ true
+  renew-cleared d1 one = ap (λ (x : RxDriven). is_cleared x.state) (record-after d d1 driver.ClearedHead one)
+
+  module _ (d1 d2 d3 : DriverSide) (one : d1 ≡ appended d driver.ClearedHead) (two : d2 ≡ appended d1 driver.ClearedTail) (back : returned now ≡ length (posted now)) where
+    first : driver_record d1 ≡ drive (driver_record d) driver.ClearedHead
+    first = record-after d d1 driver.ClearedHead one
+
+    second : driver_record d2 ≡ drive (drive (driver_record d) driver.ClearedHead) driver.ClearedTail
+    second = record-after d1 d2 driver.ClearedTail two ∙ ap (λ (x : RxDriven). drive x driver.ClearedTail) first
+
+    pub renew-tailed : is_tailed (driver_state d2) ≡ true
+    renew-tailed = ap (λ (x : RxDriven). is_tailed x.state) second
+
+    same-size : driver_size d2 ≡ driver_size d
+    same-size = ap driver_size two ∙ ap driver_size one
+
+    pub renew-place : fill ≡ fill_place d2
+    renew-place = h.fill_is ∙ ap (λ (n : ℕ). length (posted d) % n) (sym same-size) ∙ ap (λ (x : RxDriven). length x.posted % driver_size d2) (sym second)
+
+    all-back : returned d ≡ length (posted d)
+    all-back = subst (λ (s : DriverSide). returned s ≡ length (posted s)) (sym was) back
+
+    pub renew-back : returned d2 ≡ length (posted d2)
+    renew-back = subst (λ (x : RxDriven). length x.given + x.reclaimed ≡ length x.posted) (sym second) all-back
+
+    module _ (three : d3 ≡ appended d2 (driver.Own ClearedQuiet)) where
+      pub renew-keeps : IsDriverEnd d3 0 0 out New
+      renew-keeps = let o = h.out_is in let b = all-back in
+          end-after d2 d3 (driver.Own ClearedQuiet) 0 0 out New three
+          (subst (λ (n : ℕ). IsEndOf n (drive (driver_record d2) (driver.Own ClearedQuiet)) unknown 0 0 out New) (sym same-size)
+          (subst (λ (j : ℕ). IsEndOf (driver_size d) (drive (driver_record d2) (driver.Own ClearedQuiet)) unknown 0 0 j New) (let z : 0 ≡ out = omega arith in z)
+          (end-renewed (driver_size d) (driver_record d) (known_of d) fill next out state h (driver_record d2).published)))
+
+      pub renewed : GoneOver now d3
+      renewed = record {
+        step = three ∙ ap (λ (s : DriverSide). appended s (driver.Own ClearedQuiet)) (two ∙ ap (λ (s : DriverSide). appended s driver.ClearedTail) (one ∙ ap (λ (s : DriverSide). appended s driver.ClearedHead) was));
+        fresh = record-after d2 d3 (driver.Own ClearedQuiet) three ∙ ap (λ (x : RxDriven). drive x (driver.Own ClearedQuiet)) second;
+        unlearnt = known-after d2 d3 (driver.Own ClearedQuiet) three;
+      }

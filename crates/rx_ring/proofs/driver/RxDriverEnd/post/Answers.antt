@@ -1,0 +1,18 @@
+-- The record has one more event, and the fields follow it.
+use Rattle.std.proofs.Common.{◌≡◌, ◌+◌, ◌<◌, ◌≤◌, true, false, length, ap, sym, refl, ◌∙◌, subst, arith}
+use Rattle.shared_ring.specs.declared.events.DriverEvent.TheVariants as driver
+use Rattle.std.proofs.Common.{if◌then◌else◌}
+use Rattle.std.specs.Prelude.{◌==◌}
+use Rattle.rx_ring.specs.Records.{RxDriven, drive, know}
+use Rattle.rx_ring.specs.Ends.{DriverSide, driver_size, driver_record, known_of, driver_state, posted, returned}
+use Rattle.rx_ring.proofs.DriverEnds.{record-after, known-after, end-after, end-post}
+use Rattle.rx_ring.proofs.driver.RxDriverEnd.post.Goals as goal
+
+pub invariant_of-self : goal.invariant_of-self
+invariant_of-self c = let i = c.self.inside in end-after i.seat c.post.new.self (driver.Posted i.fill 0 c.args.buf) _ i.next (i.out + 1) i.state c.post.ensures (end-post (driver_size i.seat) (driver_record i.seat) (known_of i.seat) i.fill i.next i.out i.state c.self.invariant c.args.buf.number c.place_after-self-inside.result (subst (λ (s : DriverSide). length (posted s) + 1 < returned s + driver_size s) (sym c.self.view_is) c.requires.room) (c.place_after-self-inside.ensures.value ∙ ap (λ n. if (i.fill + 1) == n then 0 else (i.fill + 1)) (c.size.ensures.value ∙ ap driver_size c.post.ensures)))
+
+pub returns-clause-record : goal.returns-clause-record
+returns-clause-record c = record-after c.self.inside.seat c.post.new.self (driver.Posted c.self.inside.fill 0 c.args.buf) c.post.ensures ∙ ap (λ (s : DriverSide). drive (driver_record s) (driver.Posted c.self.inside.fill 0 c.args.buf)) c.self.view_is
+
+pub returns-clause-known : goal.returns-clause-known
+returns-clause-known c = known-after c.self.inside.seat c.post.new.self (driver.Posted c.self.inside.fill 0 c.args.buf) c.post.ensures ∙ ap (λ (s : DriverSide). know (driver_record s) (known_of s) (driver.Posted c.self.inside.fill 0 c.args.buf)) c.self.view_is
