@@ -9,3 +9,4 @@ pub mod Driving
 pub mod Serving
 pub mod DriverSeats
 pub mod ControllerSeats
+pub mod Meeting

@@ -4,3 +4,4 @@ pub mod Plays
 pub mod Ends
 pub mod Seats
 pub mod Steps
+pub mod Meeting

@@ -3,6 +3,9 @@
 
 mod controller;
 mod driver;
+mod gathering;
+
+pub(crate) use gathering::meet;
 
 use crate::events::{TxControllerEvent, TxDriverEvent};
 use atomic_table::{Play, Seat, Shared, Table, TableRule};
