@@ -10,3 +10,4 @@ pub mod Serving
 pub mod DriverSeats
 pub mod ControllerSeats
 pub mod Meeting
+pub mod ControllerEnds

@@ -5,3 +5,4 @@ pub mod Ends
 pub mod Seats
 pub mod Steps
 pub mod Meeting
+pub mod Calls

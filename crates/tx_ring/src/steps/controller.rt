@@ -13,6 +13,7 @@ ghost use Rattle.tx_ring.specs.Steps.{FoundTail, CameOut};
 use super::{ControllerSeat, FetchLoad, ReportStore, SendStore, TailLoad, TxRing};
 use buffer_pool::Buf;
 use descriptor::TxBack;
+use ring_model::Completion;
 use shared_ring::{Control, DisableStore, EnableStore, RequestLoad, put_in, take_out};
 
 impl ControllerSeat {
@@ -23,6 +24,14 @@ impl ControllerSeat {
         ensures lawful { IsRingLength result }
     {
         self.size
+    }
+
+    /// How the ring reports.
+    #[inline]
+    pub(crate) fn completion(&self) -> Completion
+        ensures { result ≡ self.now.completion }
+    {
+        self.completion
     }
 
     /// B3: the tail.

@@ -1,0 +1,114 @@
+-- What the calls of both ends do, where their answer depends on what was loaded; and what the fields of an end keep. It is the same for both ways to report.
+use Rattle.std.specs.Prelude.{◌≡◌, ℕ, ◌+◌, ◌-◌, ◌%◌, ◌<◌, ◌≤◌, ◌⊎◌, Bool, true, false, List, [], ◌∷◌, ◌++◌, length, Option, Some, None, slice_get}
+use Rattle.buffer_pool.specs.Buffer.{Buffer, buffer}
+use Rattle.descriptor.specs.declared.tx_read.TxRead.{TxRead}
+use Rattle.limits.specs.RingLength.{IsRingLength}
+use Rattle.ring_model.specs.declared.states.Completion.{Completion}
+use Rattle.ring_model.specs.declared.states.Completion.TheVariants.{Status, Head}
+use Rattle.ring_model.specs.declared.states.DriverState.{DriverState}
+use Rattle.ring_model.specs.declared.states.ControllerState.{ControllerState}
+use Rattle.ring_model.specs.declared.states.ControllerState.TheVariants as state
+use Rattle.ring_model.specs.shared.Frames.{unfinished}
+use Rattle.ring_model.specs.shared.Handshakes.{is_answered, is_live, is_serving}
+use Rattle.ring_model.specs.transmit.Agreement.{done_word, tx_word}
+use Rattle.ring_model.specs.transmit.Frames.{MayFollow}
+use Rattle.ring_model.specs.transmit.Ring.{are_whole, carried}
+use Rattle.ring_model.specs.transmit.Steps.{asks_report}
+use Rattle.shared_ring.specs.declared.events.DriverEvent.TheVariants as driver
+use Rattle.shared_ring.specs.declared.events.ControllerEvent.TheVariants as controller
+use Rattle.shared_ring.specs.declared.control.Control.{Control}
+use Rattle.shared_ring.specs.Words.{control_word}
+use Rattle.tx_ring.specs.declared.events.TxControllerOwn.{TxControllerOwn}
+use Rattle.tx_ring.specs.declared.events.TxControllerOwn.TheVariants.{Sent, Reported}
+use Rattle.tx_ring.specs.Records.{Posting, TxDriven, TxControlled, Knowing, eop_of, rs_of, paylen_of, posting_of}
+use Rattle.tx_ring.specs.Ends.{ControllerSide, controller_size, controller_record, sent, known_ready, held, held_word, controller_state, seen, head_stored, is_owed, is_between, serve_place, answered}
+
+-- B3: the tail was loaded, and the result is how far it is ahead
+pub record FoundReady (old : ControllerSide) (ready : ℕ) (new : ControllerSide) : Type 0 where
+  pub tail : ℕ
+  pub step : new ≡ answered old (controller.Looked tail)
+  pub ahead : ready ≡ (tail + controller_size old - serve_place old) % controller_size old
+  pub same : controller_record new ≡ record (controller_record old) { known = length (sent old) + ready }
+  pub grows : known_ready old ≤ ready
+
+-- B4: the next descriptor was loaded, and its buffer came out with the bytes that were posted. What the descriptor says may follow the frame so far; and where it does not end its frame, more is known to be ready
+pub record Fetched (old : ControllerSide) (buf : Buffer) (read : TxRead) (new : ControllerSide) : Type 0 where
+  pub word : ℕ
+  pub step : new ≡ answered old (controller.Fetched (serve_place old) word buf)
+  pub says : word ≡ tx_word (length buf.bytes) read.eop read.rs read.paylen
+  pub number : read.number ≡ buf.number
+  pub len : read.len ≡ length buf.bytes
+  pub real : buf ≡ buffer buf.number buf.bytes
+  pub follows : MayFollow (controller_size old) (unfinished carried (sent old)) (posting_of word buf)
+  pub ready : read.eop ≡ false → 1 < known_ready old
+  pub same : controller_record new ≡ record (controller_record old) { held = Some buf }
+  pub held_is : held_word new ≡ word
+
+-- B6, of the last that was sent
+abbrev pub report_of : ℕ → Completion → ℕ → TxControllerOwn
+report_of n Status count = Reported ((count - 1) % n) done_word
+report_of n Head count = Reported (n + 4) (count % n)
+
+-- an enabling is asked, and may be answered
+pub record MayEnable (c : ControllerSide) : Type 0 where
+  pub asked : seen c ≡ 1
+  pub idle : is_serving (controller_state c) ≡ false
+
+-- the end serves, nothing is held and no report owed, and the last that was sent ends a frame
+pub record IsSettled (c : ControllerSide) : Type 0 where
+  pub serving : is_serving (controller_state c) ≡ true
+  pub unheld : held c ≡ None
+  pub between : is_between c ≡ true
+  pub paid : is_owed c ≡ false
+
+-- a disabling is asked, and may be answered
+pub record MayDisable (c : ControllerSide) : Type 0 where
+  pub asked : seen c ≡ 3
+  pub settled : IsSettled c
+  pub open settled use *
+
+abbrev pub MayAnswer : ControllerSide → Type 0
+MayAnswer c = MayEnable c ⊎ MayDisable c
+
+-- a new epoch begins: nothing is sent in it, and nothing known
+pub record AnsweredEnabling (old new : ControllerSide) : Type 0 where
+  pub was : is_serving (controller_state old) ≡ false
+  pub step : new ≡ answered old controller.Enabled
+  pub same : controller_record new ≡ record (controller_record old) { served = []; known = 0; head = 0; state = state.Serving; seen = 2; barred = false }
+
+pub record AnsweredDisabling (old new : ControllerSide) : Type 0 where
+  pub was : is_serving (controller_state old) ≡ true
+  pub step : new ≡ answered old controller.Disabled
+  pub same : controller_record new ≡ record (controller_record old) { state = state.Ended; seen = 0 }
+
+abbrev pub Answered : ControllerSide → ControllerSide → Type 0
+Answered old new = AnsweredEnabling old new ⊎ AnsweredDisabling old new
+
+abbrev pub IsFreshController : ControllerSide → Type 0
+IsFreshController c = c.events ≡ []
+
+abbrev pub is_there : Option Buffer → Bool
+is_there None = false
+is_there (Some b) = true
+
+-- What the fields of a controller's end keep, over its record and the word that it fetched last
+pub record IsServerOf (n : ℕ) (x : TxControlled) (word : ℕ) (serve ready last : ℕ) (holding between ends asks owing : Bool) (side : ControllerState) (asked : Control) : Type 0 where
+  pub lawful : IsRingLength n
+  pub serve_is : serve ≡ length x.served % n
+  pub ready_is : ready + length x.served ≡ x.known
+  pub ready_below : ready < n
+  pub held_is : holding ≡ is_there x.held
+  pub held_ready : holding ≡ true → 0 < ready
+  pub held_serving : holding ≡ true → is_serving x.state ≡ true
+  pub head_is : is_serving x.state ≡ true → x.head ≡ length x.served % n
+  pub between_is : between ≡ are_whole x.served
+  pub ends_is : holding ≡ true → ends ≡ eop_of word
+  pub asks_is : holding ≡ true → asks ≡ rs_of word
+  pub owing_is : owing ≡ x.barred
+  pub owing_serving : owing ≡ true → is_serving x.state ≡ true
+  pub last_is : owing ≡ true → last ≡ (length x.served - 1) % n
+  pub state_is : side ≡ x.state
+  pub seen_is : control_word asked ≡ x.seen
+
+abbrev pub IsControllerEnd : ControllerSide → ℕ → ℕ → ℕ → Bool → Bool → Bool → Bool → Bool → ControllerState → Control → Type 0
+IsControllerEnd c serve ready last holding between ends asks owing side asked = IsServerOf (controller_size c) (controller_record c) (held_word c) serve ready last holding between ends asks owing side asked
