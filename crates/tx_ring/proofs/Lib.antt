@@ -11,3 +11,4 @@ pub mod DriverSeats
 pub mod ControllerSeats
 pub mod Meeting
 pub mod ControllerEnds
+pub mod DriverEnds

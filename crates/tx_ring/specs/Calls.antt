@@ -20,8 +20,13 @@ use Rattle.shared_ring.specs.declared.control.Control.{Control}
 use Rattle.shared_ring.specs.Words.{control_word}
 use Rattle.tx_ring.specs.declared.events.TxControllerOwn.{TxControllerOwn}
 use Rattle.tx_ring.specs.declared.events.TxControllerOwn.TheVariants.{Sent, Reported}
-use Rattle.tx_ring.specs.Records.{Posting, TxDriven, TxControlled, Knowing, eop_of, rs_of, paylen_of, posting_of}
-use Rattle.tx_ring.specs.Ends.{ControllerSide, controller_size, controller_record, sent, known_ready, held, held_word, controller_state, seen, head_stored, is_owed, is_between, serve_place, answered}
+use Rattle.tx_ring.specs.Meeting.{told_left}
+use Rattle.tx_ring.specs.Rule.{filled}
+use Rattle.tx_ring.specs.Steps.{Looked}
+use Rattle.tx_ring.specs.declared.events.TxDriverOwn.TheVariants.{Cleaned, EndedEpoch, ClearedReport}
+use Rattle.shared_ring.specs.Records.{undriven}
+use Rattle.tx_ring.specs.Records.{Posting, TxDriven, TxControlled, Knowing, unknown, eop_of, rs_of, paylen_of, posting_of}
+use Rattle.tx_ring.specs.Ends.{DriverSide, driver_size, driver_record, posted, cleaned, reclaimed, returned, seen_reported, outstanding, driver_state, known_of, next_place, appended, ControllerSide, controller_size, controller_record, sent, known_ready, held, held_word, controller_state, seen, head_stored, is_owed, is_between, serve_place, answered}
 
 -- B3: the tail was loaded, and the result is how far it is ahead
 pub record FoundReady (old : ControllerSide) (ready : ℕ) (new : ControllerSide) : Type 0 where
@@ -112,3 +117,106 @@ pub record IsServerOf (n : ℕ) (x : TxControlled) (word : ℕ) (serve ready las
 
 abbrev pub IsControllerEnd : ControllerSide → ℕ → ℕ → ℕ → Bool → Bool → Bool → Bool → Bool → ControllerState → Control → Type 0
 IsControllerEnd c serve ready last holding between ends asks owing side asked = IsServerOf (controller_size c) (controller_record c) (held_word c) serve ready last holding between ends asks owing side asked
+
+-- what is posted with a buffer
+abbrev pub item_of : Buffer → Bool → Bool → ℕ → Posting
+item_of buf eop rs paylen = record { number = buf.number; payload = buf.bytes; eop = eop; rs = rs; paylen = paylen }
+
+-- how many places the oldest outstanding report is ahead of those that are seen reported
+abbrev pub OldestAhead : DriverSide → Option ℕ → Type 0
+OldestAhead d None = outstanding d ≡ None
+OldestAhead d (Some ahead) = outstanding d ≡ Some (seen_reported d + ahead)
+
+-- B7: the oldest report that was asked for is made, and so are all before it
+pub record SawReported (old new : DriverSide) : Type 0 where
+  pub live : is_live (driver_state old) ≡ true
+  pub looked : Looked old new true
+  pub same : driver_record new ≡ driver_record old
+  pub seen : seen_reported new ≡ looked.item + 1
+
+-- B7: it is not made yet
+pub record SawUnreported (old new : DriverSide) : Type 0 where
+  pub live : is_live (driver_state old) ≡ true
+  pub looked : Looked old new false
+  pub same : driver_record new ≡ driver_record old
+  pub known : known_of new ≡ known_of old
+
+-- no report is outstanding, or the queue is not live
+pub record NoneOutstanding (old new : DriverSide) : Type 0 where
+  pub none : is_live (driver_state old) ≡ true → outstanding old ≡ None
+  pub same : new ≡ old
+
+abbrev pub Polled : DriverSide → Bool → DriverSide → Type 0
+Polled old true new = SawReported old new
+Polled old false new = SawUnreported old new ⊎ NoneOutstanding old new
+
+-- B8: the oldest buffer that was not cleaned came back, as it was posted
+pub record CleanedOne (old : DriverSide) (buf : Buffer) (new : DriverSide) : Type 0 where
+  pub item : Posting
+  pub step : new ≡ appended old (driver.Own (Cleaned (next_place old) buf))
+  pub there : slice_get (posted old) (length (cleaned old)) ≡ Some item
+  pub is : buf ≡ filled item
+  pub same : driver_record new ≡ record (driver_record old) { given = cleaned old ++ buf.number ∷ [] }
+  pub known : known_of new ≡ known_of old
+
+-- the head was loaded, and tells how many of the postings were not sent
+pub record FoundLeft (old : DriverSide) (left : ℕ) (new : DriverSide) : Type 0 where
+  pub head : ℕ
+  pub step : new ≡ appended old (driver.LoadedHead head)
+  pub same : driver_record new ≡ driver_record old
+  pub told : told_left new ≡ Some left
+
+-- the oldest buffer that was out came back, as it was posted
+pub record CameHome (old : DriverSide) (buf : Buffer) (new : DriverSide) : Type 0 where
+  pub item : Posting
+  pub step : new ≡ appended old (driver.Reclaimed (next_place old) buf)
+  pub there : slice_get (posted old) (returned old) ≡ Some item
+  pub is : buf ≡ filled item
+  pub same : driver_record new ≡ record (driver_record old) { reclaimed = reclaimed old + 1 }
+  pub known : known_of new ≡ known_of old
+
+pub record NoneOut (old new : DriverSide) : Type 0 where
+  pub none_out : returned old ≡ length (posted old)
+  pub same : new ≡ old
+
+abbrev pub Reclaimed : DriverSide → Option Buffer → DriverSide → Type 0
+Reclaimed old None new = NoneOut old new
+Reclaimed old (Some buf) new = CameHome old buf new
+
+-- head and tail are cleared, and the head word of reports where there is one
+abbrev pub gone_over : Completion → DriverSide → DriverSide
+gone_over Status d = appended (appended d driver.ClearedHead) (driver.Own EndedEpoch)
+gone_over Head d = appended (appended (appended d driver.ClearedHead) driver.ClearedTail) (driver.Own ClearedReport)
+
+-- an epoch begins in which nothing is done and nothing learnt
+pub record GoneOver (old new : DriverSide) : Type 0 where
+  pub step : new ≡ gone_over old.completion old
+  pub fresh : driver_record new ≡ undriven
+  pub unlearnt : known_of new ≡ unknown
+
+abbrev pub IsFreshDriver : DriverSide → Type 0
+IsFreshDriver d = d.events ≡ []
+
+-- at the place of each item that is not seen reported stands whether it asked for a report
+abbrev pub AskedAt : ℕ → List Posting → ℕ → List Bool → Type 0
+AskedAt n posted seen asks = (j : ℕ) → seen ≤ j → j < length posted → slice_get asks (j % n) ≡ Some (asks_report (slice_get posted j))
+
+-- What the fields of a driver's end keep, over its record and what it has learnt
+pub record IsEndOf (n : ℕ) (x : TxDriven) (k : Knowing) (fill next out seen done unseen : ℕ) (whole : Bool) (asks : List Bool) (state : DriverState) : Type 0 where
+  pub lawful : IsRingLength n
+  pub fill_is : fill ≡ length x.posted % n
+  pub next_is : next ≡ (length x.given + x.reclaimed) % n
+  pub out_is : out + (length x.given + x.reclaimed) ≡ length x.posted
+  pub room : out < n
+  pub seen_is : seen ≡ k.seen % n
+  pub done_is : done + length x.given ≡ k.seen
+  pub unseen_is : unseen + k.seen ≡ length x.posted
+  pub few : length x.posted < length x.given + n
+  pub whole_is : whole ≡ are_whole x.posted
+  pub asks_count : length asks ≡ n
+  pub asks_are : AskedAt n x.posted k.seen asks
+  pub state_is : state ≡ x.state
+  pub unreclaimed : is_answered x.state ≡ false → x.reclaimed ≡ 0
+
+abbrev pub IsDriverEnd : DriverSide → ℕ → ℕ → ℕ → ℕ → ℕ → ℕ → Bool → List Bool → DriverState → Type 0
+IsDriverEnd d fill next out seen done unseen whole asks state = IsEndOf (driver_size d) (driver_record d) (known_of d) fill next out seen done unseen whole asks state

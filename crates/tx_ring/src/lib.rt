@@ -2,10 +2,12 @@
 #![tactic(auto)]
 
 mod controller;
+mod driver;
 mod events;
 mod reading;
 mod steps;
 
 pub use controller::TxControllerEnd;
+pub use driver::TxDriverEnd;
 pub use events::{TxControllerEvent, TxControllerOwn, TxDriverEvent, TxDriverOwn};
 pub use steps::{TxRing, TxRule};

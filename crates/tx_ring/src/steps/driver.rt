@@ -224,6 +224,22 @@ impl DriverSeat {
         !(places_between(seen, head, self.size) < wanted)
     }
 
+    /// B7: whether the oldest outstanding report, at this place, is made.
+    #[inline]
+    pub(crate) fn find_report(&mut self, ring: &TxRing, place: u16, seen: u16) -> bool
+        requires own { self.old.table ≡ ring.now }
+        requires oldest { OldestAt self.old place }
+        requires seen { seen ≡ seen_reported self.old % driver_size self.old }
+        requires live { is_live (driver_state self.old) ≡ true }
+        ensures { Looked self.old self.new result }
+    {
+        if self.completion.is_by_head() {
+            self.load_report(ring, place, seen)
+        } else {
+            self.load_status(ring, place)
+        }
+    }
+
     /// C10, of a ring that reports by its descriptors. The epoch ends, and the next one begins with the slot of place 0
     /// in front.
     #[inline]
