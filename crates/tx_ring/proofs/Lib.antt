@@ -12,3 +12,4 @@ pub mod ControllerSeats
 pub mod Meeting
 pub mod ControllerEnds
 pub mod DriverEnds
+pub mod DriverCalls

@@ -206,11 +206,12 @@ impl TxDriverEnd {
         let Some(ahead) = self.oldest() else {
             return false;
         };
-        let place = (self.seen + ahead) % self.seat.size();
+        let size = self.seat.size();
+        let place = (self.seen + ahead) % size;
         if !self.seat.find_report(ring, place, self.seen) {
             return false;
         }
-        self.seen = place_after(place, self.seat.size());
+        self.seen = place_after(place, size);
         self.done += ahead + 1;
         self.unseen -= ahead + 1;
         true
