@@ -4,6 +4,8 @@ use Rattle.std.specs.Prelude.{slice_get, slice_set, ◌==◌}
 use Rattle.std.proofs.Math.Nat.{add-mod-mod, mod-add-mod}
 use Rattle.std.proofs.lemmas.Option.{same_Some, get_or_from_slice_get}
 use Rattle.buffer_pool.specs.Buffer.{Buffer, buffer}
+use Rattle.ring_model.specs.declared.states.Completion.{Completion}
+use Rattle.ring_model.specs.declared.states.Completion.TheVariants.{Status, Head}
 use Rattle.ring_model.specs.declared.states.DriverState.{DriverState}
 use Rattle.ring_model.specs.declared.states.DriverState.TheVariants.{New}
 use Rattle.ring_model.specs.shared.Frames.{unfinished}
@@ -17,17 +19,17 @@ use Rattle.ring_model.proofs.shared.Places.{next_place as next_place-of}
 use Rattle.ring_model.proofs.shared.Shakes.{live_unanswered}
 use Rattle.shared_ring.specs.declared.events.DriverEvent.TheVariants as driver
 use Rattle.shared_ring.specs.Records.{undriven}
-use Rattle.tx_ring.specs.declared.events.TxDriverOwn.TheVariants.{NoReport, SawReport, Cleaned}
+use Rattle.tx_ring.specs.declared.events.TxDriverOwn.TheVariants.{NoReport, SawReport, Cleaned, EndedEpoch, ClearedReport}
 use Rattle.tx_ring.specs.Records.{Posting, TxDriven, DriverStep, drive, posting_of, Knowing, know, unknown, seen_after}
 use Rattle.tx_ring.specs.Rule.{filled, word_of}
 use Rattle.tx_ring.specs.Plays.{report_word}
 use Rattle.tx_ring.specs.Ends.{DriverSide, driver_size, driver_record, posted, cleaned, reclaimed, returned, seen_reported, outstanding, driver_state, known_of, fill_place, next_place, appended}
 use Rattle.tx_ring.specs.Meeting.{left_by, left_at, told_left}
 use Rattle.tx_ring.specs.Steps.{OldestAt, Looked, CameClean, CameBack}
-use Rattle.tx_ring.specs.Calls.{IsEndOf, IsDriverEnd, OldestAhead, SawReported, SawUnreported, CleanedOne, CameHome, FoundLeft, item_of}
+use Rattle.tx_ring.specs.Calls.{IsEndOf, IsDriverEnd, OldestAhead, SawReported, SawUnreported, CleanedOne, CameHome, FoundLeft, GoneOver, gone_over, item_of}
 use Rattle.tx_ring.proofs.Words.{posting-posted}
 use Rattle.tx_ring.proofs.Reported.{first_report-asks}
-use Rattle.tx_ring.proofs.DriverEnds.{record-after, known-after, end-as, end-same, end-post, end-clean, end-reclaimed, end-report}
+use Rattle.tx_ring.proofs.DriverEnds.{record-after, known-after, end-as, end-same, end-post, end-clean, end-reclaimed, end-report, end-renewed}
 
 -- where the item asks for a report, that is the first; where it does not, the next ones may
 pub first-here : (ps : List Posting) (k count : ℕ) → 0 < count → asks_report (slice_get ps k) ≡ true → first_report ps k count ≡ Some k
@@ -222,3 +224,33 @@ module _ (d : DriverSide) (fill next out seen done unseen : ℕ) (whole : Bool) 
 
   pub off-live : (b : Bool) → b ≡ is_live state → is_live (driver_state now) ≡ b
   off-live b e = sym (ap (λ (s : DriverSide). is_live (driver_state s)) was) ∙ sym (ap is_live h.state_is) ∙ sym e
+
+  -- C9, C10 and C12
+  gone-end : (n : ℕ) → n ≡ driver_size d → IsEndOf n undriven unknown 0 0 0 0 0 0 true asks New
+  gone-end n e = subst (λ (m : ℕ). IsEndOf m undriven unknown 0 0 0 0 0 0 true asks New) (sym e) (end-renewed (driver_size d) (driver_record d) (known_of d) fill next out seen done unseen whole asks state h 0)
+
+  gone-record : (mode : Completion) (x : DriverSide) → driver_record (gone_over mode x) ≡ undriven
+  gone-record Status x = let y = appended x driver.ClearedHead in record-after y (appended y (driver.Own EndedEpoch)) (driver.Own EndedEpoch) refl
+  gone-record Head x = let y = appended x driver.ClearedHead in let z = appended y driver.ClearedTail in record-after z (appended z (driver.Own ClearedReport)) (driver.Own ClearedReport) refl
+      ∙ ap (λ (r : TxDriven). drive r (driver.Own ClearedReport)) (record-after y (appended y driver.ClearedTail) driver.ClearedTail refl)
+
+  gone-known : (mode : Completion) (x : DriverSide) → known_of (gone_over mode x) ≡ unknown
+  gone-known Status x = let y = appended x driver.ClearedHead in known-after y (appended y (driver.Own EndedEpoch)) (driver.Own EndedEpoch) refl
+  gone-known Head x = let z = appended (appended x driver.ClearedHead) driver.ClearedTail in known-after z (appended z (driver.Own ClearedReport)) (driver.Own ClearedReport) refl
+
+  gone-size : (mode : Completion) (x : DriverSide) → driver_size (gone_over mode x) ≡ driver_size x
+  gone-size Status x = refl
+  gone-size Head x = refl
+
+  module _ (new : DriverSide) (step : new ≡ gone_over d.completion d) where
+    pub gone-keeps : IsDriverEnd new 0 0 0 0 0 0 true asks New
+    gone-keeps = subst (λ (x : TxDriven). IsEndOf (driver_size new) x (known_of new) 0 0 0 0 0 0 true asks New) (sym (ap driver_record step ∙ gone-record d.completion d))
+        (subst (λ (k : Knowing). IsEndOf (driver_size new) undriven k 0 0 0 0 0 0 true asks New) (sym (ap known_of step ∙ gone-known d.completion d))
+        (gone-end (driver_size new) (ap driver_size step ∙ gone-size d.completion d)))
+
+    pub gone : GoneOver now new
+    gone = record {
+      step = step ∙ ap (λ (s : DriverSide). gone_over s.completion s) was;
+      fresh = ap driver_record step ∙ gone-record d.completion d;
+      unlearnt = ap known_of step ∙ gone-known d.completion d;
+    }

@@ -13,3 +13,4 @@ pub mod Meeting
 pub mod ControllerEnds
 pub mod DriverEnds
 pub mod DriverCalls
+pub mod Renewing

@@ -299,4 +299,23 @@ impl TxDriverEnd {
         self.out -= 1;
         Some(buf)
     }
+
+    /// Clears head and tail of a queue from which all buffers came back, and the head word of reports where there is
+    /// one, so that it can be enabled again: a new epoch begins.
+    pub fn renew(&mut self, ring: &TxRing)
+        requires own { self.old.table ≡ ring.now }
+        requires stopped { is_stopped (driver_state self.old) ≡ true }
+        requires back { returned self.old ≡ length (posted self.old) }
+        ensures { GoneOver self.old self.new }
+    {
+        self.seat.go_over(ring, self.fill);
+        self.fill = 0;
+        self.next = 0;
+        self.out = 0;
+        self.seen = 0;
+        self.done = 0;
+        self.unseen = 0;
+        self.whole = true;
+        self.state = DriverState::New;
+    }
 }

@@ -5,9 +5,13 @@ mod controller;
 mod driver;
 mod events;
 mod reading;
+mod ring;
 mod steps;
 
 pub use controller::TxControllerEnd;
 pub use driver::TxDriverEnd;
 pub use events::{TxControllerEvent, TxControllerOwn, TxDriverEvent, TxDriverOwn};
+pub use ring::meet_tx;
+pub use ring_model::Completion;
+pub use shared_ring::{Control, ControllerEvent, DriverEvent, RingError, View};
 pub use steps::{TxRing, TxRule};

@@ -13,6 +13,7 @@ ghost use Rattle.shared_ring.specs.Words.{control_word};
 ghost use Rattle.shared_ring.specs.declared.events.DriverEvent.TheVariants.{Posted, Published, AskedEnable, LoadedControl, AskedDisable, LoadedHead, ClearedHead, ClearedTail, Own};
 ghost use Rattle.tx_ring.specs.declared.events.TxDriverOwn.TheVariants.{EndedEpoch, ClearedReport};
 ghost use Rattle.tx_ring.specs.Ends.{driver_size, posted, cleaned, returned, seen_reported, outstanding, driver_state, fill_place, next_place, appended};
+ghost use Rattle.tx_ring.specs.Calls.{gone_over};
 ghost use Rattle.tx_ring.specs.Steps.{OldestAt, Looked, CameClean, CameBack};
 
 use super::{
@@ -273,6 +274,23 @@ impl DriverSeat {
             .shared
             .store::<ClearReportStore>(&mut self.seat, word, 0);
         turn_round(&mut self.seat, fill, self.size);
+    }
+
+    /// C9 and C10, and C12 where there is a head word of reports: the epoch ends.
+    pub(crate) fn go_over(&mut self, ring: &TxRing, fill: u16)
+        requires own { self.old.table ≡ ring.now }
+        requires place { fill ≡ fill_place self.old }
+        requires stopped { is_stopped (driver_state self.old) ≡ true }
+        requires back { returned self.old ≡ length (posted self.old) }
+        ensures { self.new ≡ gone_over self.old.completion self.old }
+    {
+        self.clear_head(ring);
+        if self.completion.is_by_head() {
+            self.clear_tail(ring);
+            self.clear_report(ring, fill);
+        } else {
+            self.end_epoch(ring, fill);
+        }
     }
 }
 
