@@ -1,5 +1,6 @@
 //! What the tests do with the two ends of a ring. Each step is made where its condition holds, and left out where not.
 ghost use Rattle.std.specs.Prelude.{◌≡◌, ◌≤◌, length};
+ghost use Rattle.rx_ring.specs.Ends.{reclaimed};
 
 use buffer_pool::{Buf, Stock};
 use rx_ring::{RxControllerEnd, RxDriverEnd, RxRing};
@@ -7,7 +8,8 @@ use rx_ring::{RxControllerEnd, RxDriverEnd, RxRing};
 /// Asks for the queue to be enabled, if nothing was asked in this epoch.
 pub(crate) fn ask_enable(ring: &RxRing, driver: &mut RxDriverEnd)
     requires { driver.old.table ≡ ring.now }
-    ensures { driver.new.table ≡ ring.now }
+    ensures own { driver.new.table ≡ ring.now }
+    ensures reclaimed { reclaimed driver.new ≡ reclaimed driver.old }
 {
     if driver.is_new() {
         driver.ask_enable(ring);
@@ -17,7 +19,8 @@ pub(crate) fn ask_enable(ring: &RxRing, driver: &mut RxDriverEnd)
 /// Asks for the queue to be disabled, if it was seen enabled.
 pub(crate) fn ask_disable(ring: &RxRing, driver: &mut RxDriverEnd)
     requires { driver.old.table ≡ ring.now }
-    ensures { driver.new.table ≡ ring.now }
+    ensures own { driver.new.table ≡ ring.now }
+    ensures reclaimed { reclaimed driver.new ≡ reclaimed driver.old }
 {
     if driver.is_on() {
         driver.ask_disable(ring);
@@ -54,6 +57,34 @@ pub(crate) fn fill_ring(ring: &RxRing, driver: &mut RxDriverEnd, stock: &mut Sto
     }
 }
 
+/// Posts one buffer and publishes it, if there is room.
+pub(crate) fn post_one(ring: &RxRing, driver: &mut RxDriverEnd, stock: &mut Stock)
+    requires { driver.old.table ≡ ring.now }
+    ensures own { driver.new.table ≡ ring.now }
+    ensures reclaimed { reclaimed driver.new ≡ reclaimed driver.old }
+{
+    if driver.room() == 0 || !driver.is_open() {
+        return;
+    }
+    let Some(buf) = stock.take() else {
+        return;
+    };
+    driver.post(ring, buf);
+    driver.publish(ring);
+}
+
+/// Says that no more is stored, where that can be said now.
+pub(crate) fn finish(ring: &RxRing, controller: &mut RxControllerEnd) -> bool
+    requires { controller.old.table ≡ ring.now }
+    ensures { controller.new.table ≡ ring.now }
+{
+    if !controller.is_serving() || controller.is_holding() || !controller.is_between_frames() {
+        return false;
+    }
+    controller.set_quiet(ring);
+    true
+}
+
 /// Stores one frame in one segment, and the head, if a descriptor is free.
 pub(crate) fn store_frame(ring: &RxRing, controller: &mut RxControllerEnd, frame: &[u8]) -> bool
     requires own { controller.old.table ≡ ring.now }
@@ -84,9 +115,12 @@ pub(crate) fn reclaim_all(ring: &RxRing, driver: &mut RxDriverEnd) -> u32
 {
     let mut count = 0u32;
     for _ in 0..driver.size() {
-        if !driver.is_stopped() || driver.reclaim(ring).is_none() {
+        if !driver.is_stopped() {
             break;
         }
+        let Some(_buf) = driver.reclaim(ring) else {
+            break;
+        };
         count = count.saturating_add(1);
     }
     count

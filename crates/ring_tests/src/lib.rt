@@ -5,3 +5,5 @@
 mod hands;
 #[cfg(test)]
 mod rows;
+#[cfg(test)]
+mod threads;

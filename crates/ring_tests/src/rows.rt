@@ -1,9 +1,11 @@
 //! Worked rows of a receive ring, by calls.
 ghost use Rattle.std.specs.Prelude.{◌≡◌, ◌≤◌, length};
 
-use crate::hands::{answer, ask_disable, ask_enable, fill_ring, reclaim_all, store_frame};
+use crate::hands::{
+    answer, ask_disable, ask_enable, fill_ring, finish, post_one, reclaim_all, store_frame,
+};
 use buffer_pool::Stock;
-use rx_ring::{Control, Poll, RingError, RxRing};
+use rx_ring::{Control, Poll, RingError, RxRing, meet_rx};
 use std::test::Fail;
 
 #[test]
@@ -37,9 +39,9 @@ fn disabled_with_two_left(rt: HostRuntime) -> Result<(), Fail> {
     driver.state(&ring);
     fill_ring(&ring, &mut driver, &mut stock);
     assert!(rt; driver.room() == 0);
-    for _ in 0..3 {
-        assert!(rt; store_frame(&ring, &mut controller, &[7u8; 60]));
-    }
+    assert!(rt; store_frame(&ring, &mut controller, &[7u8; 60]));
+    assert!(rt; store_frame(&ring, &mut controller, &[7u8; 60]));
+    assert!(rt; store_frame(&ring, &mut controller, &[7u8; 60]));
     let Poll::Segment(buf, true) = driver.poll(&ring) else {
         panic!(rt; "a segment")
     };
@@ -52,6 +54,50 @@ fn disabled_with_two_left(rt: HostRuntime) -> Result<(), Fail> {
     assert!(rt; !store_frame(&ring, &mut controller, &[7u8; 60]));
     assert_eq!(rt; reclaim_all(&ring, &mut driver), 7u32);
     assert_eq!(rt; reclaim_all(&ring, &mut driver), 0u32);
+    Ok(())
+}
+
+#[test]
+fn quiet_by_calls(rt: HostRuntime) -> Result<(), Fail> {
+    let (ring, mut driver, mut controller) = RxRing::new(rt.alloc(), 8)?;
+    let mut stock = Stock::new(rt.alloc(), 0, 16)?;
+    ask_enable(&ring, &mut driver);
+    assert!(rt; !finish(&ring, &mut controller));
+    answer(&ring, &mut controller);
+    driver.state(&ring);
+    fill_ring(&ring, &mut driver, &mut stock);
+    assert!(rt; store_frame(&ring, &mut controller, &[7u8; 60]));
+    assert!(rt; !driver.is_quiet(&ring));
+    assert!(rt; finish(&ring, &mut controller) && controller.has_finished());
+    assert!(rt; !store_frame(&ring, &mut controller, &[7u8; 60]));
+    assert!(rt; driver.is_quiet(&ring));
+    assert!(rt; matches!(driver.poll(&ring), Poll::Segment(_, true)));
+    assert!(rt; matches!(driver.poll(&ring), Poll::NotDone));
+    Ok(())
+}
+
+#[test]
+fn left_is_what_was_stored_and_not_taken(rt: HostRuntime) -> Result<(), Fail> {
+    let (ring, mut driver, mut controller) = RxRing::new(rt.alloc(), 8)?;
+    let mut stock = Stock::new(rt.alloc(), 0, 16)?;
+    ask_enable(&ring, &mut driver);
+    answer(&ring, &mut controller);
+    driver.state(&ring);
+    post_one(&ring, &mut driver, &mut stock);
+    post_one(&ring, &mut driver, &mut stock);
+    post_one(&ring, &mut driver, &mut stock);
+    assert!(rt; store_frame(&ring, &mut controller, &[7u8; 60]));
+    assert!(rt; store_frame(&ring, &mut controller, &[7u8; 60]));
+    ask_disable(&ring, &mut driver);
+    answer(&ring, &mut controller);
+    driver.state(&ring);
+    if driver.is_stopped() {
+        assert_eq!(rt; driver.left(&ring), 2u32);
+    } else {
+        panic!(rt; "stopped")
+    }
+    assert_eq!(rt; reclaim_all(&ring, &mut driver), 3u32);
+    meet_rx(&ring, &mut driver, &mut controller);
     Ok(())
 }
 

@@ -99,12 +99,16 @@ module _ (d : DriverSide) (fill next out : ℕ) (state : DriverState) (h : IsDri
     where
       nothing-back : returned d ≡ length (taken d)
       nothing-back = subst (λ (s : DriverSide). returned s ≡ length (taken s)) (sym was) whole
+
       given-is : taken new ≡ taken d
       given-is = ap (λ (x : RxDriven). x.given) (record-after d new (driver.LoadedHead head) step)
+
       same-size : size ≡ driver_size d
       same-size = sizes ∙ ap driver_size step
+
       next-at : next ≡ length (taken d) % driver_size d
       next-at = h.next_is ∙ ap (λ (j : ℕ). j % driver_size d) nothing-back
+
       counted : left ≡ left_by new head
       counted = is ∙ ap (λ (n : ℕ). (head + n - next) % n) same-size ∙ ap (λ (j : ℕ). (head + driver_size d - j) % driver_size d) next-at
           ∙ ap (λ (xs : List (Segment Bytes)). (head + driver_size d - length xs % driver_size d) % driver_size d) (sym given-is)

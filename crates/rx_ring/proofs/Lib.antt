@@ -9,3 +9,4 @@ pub mod Meeting
 pub mod DriverEnds
 pub mod DriverCalls
 pub mod ControllerEnds
+pub mod Closing

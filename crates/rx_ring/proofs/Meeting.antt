@@ -120,7 +120,7 @@ module _ (d : DriverSide) (c : ControllerSide) (m : Met d c) (same : c.table ≡
       let t : length (taken d) ≡ given_count m.queue.queue = ap (λ (x : RxDriven). length x.given) m.driver in let s : length (stored_now d c) ≡ served_count m.queue.queue = ap length stored-is in
       let a = ahead (driver_size d) (given_count m.queue.queue) (served_count m.queue.queue) (omega arith) gs (omega arith) in
       let b : left_by d head ≡ (served_count m.queue.queue % driver_size d + driver_size d - given_count m.queue.queue % driver_size d) % driver_size d =
-          ap (λ (x : ℕ). (head + driver_size d - x % driver_size d) % driver_size d) t ∙ ap (λ (x : ℕ). (x + driver_size d - given_count m.queue.queue % driver_size d) % driver_size d) h.1 in
+      ap (λ (x : ℕ). (head + driver_size d - x % driver_size d) % driver_size d) t ∙ ap (λ (x : ℕ). (x + driver_size d - given_count m.queue.queue % driver_size d) % driver_size d) h.1 in
       omega arith
 
   pub met-drained : is_drained d ≡ true → taken d ≡ stored_now d c

@@ -328,6 +328,7 @@ module _ (n : ℕ) (q : RxRing Bytes) (ds : List DriverStep) (cs : List Controll
       early_asked Asked e f = refl
       early_asked On e f = absurd (f refl)
       early_asked _ e f = absurd (false≢true e)
+
       -- an enabling is answered before the driver has seen it
       enabling : (d : DriverState) (s : ControllerState) (control seen : ℕ) → seen ≡ 1 → ShakesAs d s control seen → ¬ (is_on d ≡ true)
       enabling On at.Off control seen e h f = h

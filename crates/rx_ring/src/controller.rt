@@ -26,10 +26,10 @@ use std::marker::Model;
 #[derive(Drop)]
 pub struct RxControllerEnd {
     pub(crate) seat: ControllerSeat,
-    serve: u16,
+    pub(crate) serve: u16,
     free: u16,
     head: u16,
-    held: bool,
+    pub(crate) held: bool,
     whole: bool,
     state: ControllerState,
     seen: Control,

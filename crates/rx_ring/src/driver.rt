@@ -38,8 +38,8 @@ pub enum Poll {
 pub struct RxDriverEnd {
     pub(crate) seat: DriverSeat,
     fill: u16,
-    next: u16,
-    out: u16,
+    pub(crate) next: u16,
+    pub(crate) out: u16,
     state: DriverState,
 }
 
@@ -161,7 +161,8 @@ impl RxDriverEnd {
     #[inline]
     pub fn poll(&mut self, ring: &RxRing) -> Poll
         requires own { self.old.table ≡ ring.now }
-        ensures { Polled self.old result self.new }
+        ensures found { Polled self.old result self.new }
+        ensures own { self.new.table ≡ self.old.table }
     {
         if !self.state.is_live() {
             return Poll::Off;
@@ -249,7 +250,8 @@ impl RxDriverEnd {
     pub fn reclaim(&mut self, ring: &RxRing) -> Option<Buf>
         requires own { self.old.table ≡ ring.now }
         requires stopped { is_stopped (driver_state self.old) ≡ true }
-        ensures { Reclaimed self.old result self.new }
+        ensures back { Reclaimed self.old result self.new }
+        ensures own { self.new.table ≡ self.old.table }
     {
         if self.out == 0 {
             return None;

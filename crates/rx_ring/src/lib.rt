@@ -22,6 +22,6 @@ mod steps;
 pub use controller::RxControllerEnd;
 pub use driver::{Poll, RxDriverEnd};
 pub use events::{RxControllerEvent, RxControllerOwn, RxDriverEvent, RxDriverOwn};
-pub use ring::meet_rx;
-pub use steps::{RxRing, RxRule};
+pub use ring::{close, meet_rx};
 pub use shared_ring::{Control, ControllerEvent, DriverEvent, RingError, View};
+pub use steps::{RxRing, RxRule};

@@ -1,15 +1,16 @@
-//! The making of a ring, and the meeting of its ends.
+//! The making of a ring, the meeting of its ends, and its closing.
 ghost use Rattle.std.specs.Prelude.{◌≡◌, ◌↔◌, ◌+◌, ◌<◌, true, length, Some, IfOk, IsTrue};
 ghost use Rattle.limits.specs.RingLength.{IsRingLength};
 ghost use Rattle.ring_model.specs.receive.Lawful.{IsLawfulRxLedger};
 ghost use Rattle.ring_model.specs.shared.Frames.{Bytes};
 ghost use Rattle.rx_ring.specs.Ends.{driver_size, taken, is_drained};
 ghost use Rattle.rx_ring.specs.Calls.{told_left, IsTold};
-ghost use Rattle.rx_ring.specs.Meeting.{MadeSeats, ledger_of, stored_now, Met};
+ghost use Rattle.rx_ring.specs.Meeting.{MadeSeats, ledger_of, stored_now, Met, IsClosed};
 
 use crate::controller::RxControllerEnd;
 use crate::driver::RxDriverEnd;
 use crate::steps::{self, RxRing};
+use buffer_pool::Buf;
 use limits::is_ring_length;
 use shared_ring::RingError;
 use std::alloc::Global;
@@ -54,4 +55,28 @@ pub fn meet_rx(ring: &RxRing, driver: &mut RxDriverEnd, controller: &mut RxContr
 {
     let _size = driver.size();
     steps::meet(ring, &mut driver.seat, &mut controller.seat);
+}
+
+/// Closes a ring, wherever its two ends stand: one entry a place, with the buffer that lay there where one did, be it
+/// posted, published or written back. A place whose buffer the controller has fetched, and those of the driver, have
+/// none. The list stands in the room that `new` reserved, so this takes no memory.
+pub fn close(ring: RxRing, driver: RxDriverEnd, controller: RxControllerEnd) -> Vec<Option<Buf>>
+    requires driver { driver.table ≡ ring }
+    requires controller { controller.table ≡ ring }
+    ensures { IsClosed driver controller result.items }
+{
+    let _size = driver.size();
+    let RxDriverEnd {
+        seat,
+        next,
+        out,
+        ..
+    } = driver;
+    let RxControllerEnd {
+        seat: served,
+        serve,
+        held,
+        ..
+    } = controller;
+    steps::take_apart(ring, seat, served, next, out, serve, held)
 }

@@ -1,22 +1,17 @@
 //! Every access to a ring's table. Its fields are named nowhere else, and each function below makes one kind of step,
 //! by which its end's record grows: so a step that no record tells of can't be made.
 
-
 mod controller;
 mod driver;
 mod gathering;
 
-
-pub(crate) use gathering::meet;
-
 use crate::events::{RxControllerEvent, RxDriverEvent};
 use atomic_table::{Play, Seat, Shared, Table, TableRule};
 use buffer_pool::Buf;
+pub(crate) use gathering::{meet, take_apart};
 use shared_ring::View;
 use std::alloc::Global;
 use std::marker::Model;
-
-
 
 /// What a seat knows: the record of an end.
 pub(crate) type RxView = View<RxDriverEvent, RxControllerEvent>;

@@ -15,9 +15,7 @@ ghost use Rattle.rx_ring.specs.Steps.{FoundTail, CameOut};
 use super::{ControllerSeat, FetchLoad, QuietStore, RxRing, TailLoad, WriteBackStore};
 use buffer_pool::Buf;
 use descriptor::RxBack;
-use shared_ring::{
-    Control, DisableStore, EnableStore, HeadStore, RequestLoad, put_in, take_out,
-};
+use shared_ring::{Control, DisableStore, EnableStore, HeadStore, RequestLoad, put_in, take_out};
 
 impl ControllerSeat {
     /// The ring's length.

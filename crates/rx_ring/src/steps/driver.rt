@@ -11,14 +11,12 @@ ghost use Rattle.rx_ring.specs.Ends.{driver_size, posted, taken, returned, drive
 ghost use Rattle.rx_ring.specs.Steps.{Found, CameBack};
 ghost use Rattle.shared_ring.specs.Slots.{empty_slots};
 
-use super::{
-    ClearQuietStore, DriverSeat, QuietLoad, ReclaimStore, RxRing, RxSeat, StatusLoad,
-};
+use super::{ClearQuietStore, DriverSeat, QuietLoad, ReclaimStore, RxRing, RxSeat, StatusLoad};
 use buffer_pool::Buf;
 use descriptor::RxBack;
 use shared_ring::{
-    AskDisableStore, AskEnableStore, ClearHeadStore, ClearTailStore, Control, ControlLoad, HeadLoad,
-    PostStore, PublishStore, put_in, take_out,
+    AskDisableStore, AskEnableStore, ClearHeadStore, ClearTailStore, Control, ControlLoad,
+    HeadLoad, PostStore, PublishStore, put_in, take_out,
 };
 
 impl DriverSeat {

@@ -2,11 +2,14 @@
 ghost use Rattle.std.specs.Prelude.{◌≡◌, ◌↔◌, ◌+◌, ◌<◌, ◌≤◌, [], length, IfOk, replicate};
 ghost use Rattle.limits.specs.RingLength.{IsRingLength};
 ghost use Rattle.rx_ring.specs.Ends.{driver_size};
-ghost use Rattle.rx_ring.specs.Meeting.{MadeSeats, Met};
+ghost use Rattle.std.specs.Prelude.{true, vec_capacity};
+ghost use Rattle.std.specs.Mem.Slots.{slots_items, slots_len, IsFull};
+ghost use Rattle.rx_ring.specs.Meeting.{MadeSeats, Met, LeftIn, TakenApart};
 
 use super::{ControllerSeat, DriverSeat, MeetLoad, RxRing};
-use atomic_table::Table;
+use atomic_table::{Closed, Table};
 use buffer_pool::Buf;
+use ring_model::places_between;
 use shared_ring::{Deal, Halve, Lend, Return, Unite};
 use std::alloc::{AllocError, Global};
 
@@ -59,4 +62,58 @@ pub(crate) fn meet(ring: &RxRing, driver: &mut DriverSeat, controller: &mut Cont
     table.load::<MeetLoad>(&mut driver.seat, 0);
     let lent = table.split_seat::<Halve>(&mut driver.seat);
     table.join_seat::<Return>(&mut controller.seat, lent);
+}
+
+/// Both seats come together, and the table is closed: what is left are its slots, and the room for their buffers.
+fn gather(
+    ring: RxRing,
+    driver: DriverSeat,
+    controller: ControllerSeat,
+) -> (Closed<Buf, Global>, Vec<Option<Buf>>)
+    requires driver { driver.table ≡ ring }
+    requires controller { controller.table ≡ ring }
+    ensures slots { IsFull result.0.slots × (slots_len result.0.slots ≡ driver_size driver) }
+    ensures left { LeftIn driver controller (slots_items result.0.slots) }
+    ensures room { (result.1.items ≡ []) × (driver_size driver ≤ vec_capacity result.1) }
+{
+    let DriverSeat { mut seat, size: _ } = driver;
+    let ControllerSeat {
+        seat: mut other,
+        size: _,
+    } = controller;
+    let table = &ring.table.shared;
+    let lent = table.split_seat::<Lend>(&mut other);
+    table.join_seat::<Unite>(&mut seat, lent);
+    let RxRing { table, room } = ring;
+    (table.close_with(seat), room)
+}
+
+/// Takes the buffers out of a ring's slots, place by place: of each place that lies fewer than `out` after `next`, but
+/// that of a held buffer.
+pub(crate) fn take_apart(
+    ring: RxRing,
+    driver: DriverSeat,
+    controller: ControllerSeat,
+    next: u16,
+    out: u16,
+    serve: u16,
+    holding: bool,
+) -> Vec<Option<Buf>>
+    requires driver { driver.table ≡ ring }
+    requires controller { controller.table ≡ ring }
+    requires next { next < driver_size driver }
+    ensures { TakenApart driver controller next out serve holding result.items }
+{
+    let size = driver.size();
+    let (mut closed, mut buffers) = gather(ring, driver, controller);
+    for place in 0..size {
+        let buf = closed.take(place as usize);
+        if places_between(next, place, size) < out && !(holding && place == serve) {
+            buffers.push_reserved(Some(buf));
+        } else {
+            buffers.push_reserved(None);
+        }
+    }
+    closed.free();
+    buffers
 }

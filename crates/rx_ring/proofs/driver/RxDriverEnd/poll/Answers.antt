@@ -12,8 +12,8 @@ pub invariant_of-self-in-Some : goal.invariant_of-self-in-Some
 invariant_of-self-in-Some c = let i = c.self.inside in let f = c.in-Some.ensures in segment-keeps i.seat i.fill i.next i.out i.state c.self.invariant c.args.self.now c.self.view_is (sym c.if-not-is_live.ensures) c.if-self-eq0.false c.take.new.self c.in-Some.buf c.in-Some.eop c.place_after-self-inside.result c.in-Some.ensures
     (c.place_after-self-inside.ensures.value ∙ ap (λ n. if (i.next + 1) == n then 0 else (i.next + 1)) (c.size.ensures.value ∙ ap driver_size f.step))
 
-pub returns-in-None : goal.returns-in-None
-returns-in-None c = let i = c.self.inside in none-seen i.seat i.fill i.next i.out i.state c.self.invariant c.args.self.now c.self.view_is (sym c.if-not-is_live.ensures) c.if-self-eq0.false c.take.new.self c.in-None.ensures
+pub returns-in-None-clause-found : goal.returns-in-None-clause-found
+returns-in-None-clause-found c = let i = c.self.inside in none-seen i.seat i.fill i.next i.out i.state c.self.invariant c.args.self.now c.self.view_is (sym c.if-not-is_live.ensures) c.if-self-eq0.false c.take.new.self c.in-None.ensures
 
-pub returns-in-Some : goal.returns-in-Some
-returns-in-Some c = let i = c.self.inside in segment-taken i.seat i.fill i.next i.out i.state c.self.invariant c.args.self.now c.self.view_is (sym c.if-not-is_live.ensures) c.if-self-eq0.false c.take.new.self c.in-Some.buf c.in-Some.eop c.in-Some.ensures
+pub returns-in-Some-clause-found : goal.returns-in-Some-clause-found
+returns-in-Some-clause-found c = let i = c.self.inside in segment-taken i.seat i.fill i.next i.out i.state c.self.invariant c.args.self.now c.self.view_is (sym c.if-not-is_live.ensures) c.if-self-eq0.false c.take.new.self c.in-Some.buf c.in-Some.eop c.in-Some.ensures
