@@ -14,3 +14,4 @@ pub mod ControllerEnds
 pub mod DriverEnds
 pub mod DriverCalls
 pub mod Renewing
+pub mod Closing

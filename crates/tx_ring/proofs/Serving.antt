@@ -41,7 +41,7 @@ use Rattle.tx_ring.proofs.Reporting.{report_status-lies, report_head-lies}
 use Rattle.tx_ring.proofs.Driving.{control-value}
 
 -- a posting that is there
-posting_at : (ps : List Posting) (k : ℕ) → k < length ps → (p : Posting) × (slice_get ps k ≡ Some p)
+pub posting_at : (ps : List Posting) (k : ℕ) → k < length ps → (p : Posting) × (slice_get ps k ≡ Some p)
 posting_at [] k h = absurd (omega arith)
 posting_at (p ∷ ps) zero h = (p, refl)
 posting_at (p ∷ ps) (suc k) h = posting_at ps k (omega arith)

@@ -1,12 +1,20 @@
--- What both ends know together: as they are made, and as they meet.
-use Rattle.std.specs.Prelude.{◌≡◌, ℕ, ◌+◌, ◌-◌, ◌%◌, ◌<◌, ◌≤◌, Bool, true, false, ◌&&◌, List, [], length, Option, Some, None, if◌then◌else◌}
+-- What both ends know together: as they are made, as they meet, and as the ring is closed.
+use Rattle.std.specs.Prelude.{◌≡◌, ℕ, zero, suc, ◌+◌, ◌-◌, ◌%◌, ◌<◌, ◌≤◌, Bool, true, false, not, ◌&&◌, ◌==◌, nat_lt, List, [], ◌∷◌, ◌++◌, length, Option, Some, None, slice_get, if◌then◌else◌}
+use mathlib.Core.Option as maybe
+use mathlib.Core.Option.{some, none}
+use lib.ListN.{get_elem?}
 use Rattle.atomic_table.specs.Seated.{TableId}
+use Rattle.buffer_pool.specs.Buffer.{Buffer}
 use Rattle.limits.specs.RingLength.{IsRingLength}
 use Rattle.ring_model.specs.declared.states.Completion.{Completion}
+use Rattle.ring_model.specs.declared.states.Owner.TheVariants.{Ring}
 use Rattle.ring_model.specs.transmit.Ring.{TxLedger}
 use Rattle.ring_model.specs.shared.Frames.{Bytes}
 use Rattle.ring_model.specs.shared.Handshakes.{is_open, is_ended}
+use Rattle.ring_model.specs.shared.Places.{between_places}
+use Rattle.ring_model.specs.shared.Queue.{posted_count, served_count, returned_count}
 use Rattle.tx_ring.specs.Records.{Posting}
+use Rattle.tx_ring.specs.Rule.{filled, lies_there}
 use Rattle.tx_ring.specs.Ends.{DriverSide, driver_size, posted, cleaned, driver_state, known_of, ControllerSide, sent, controller_state}
 use Rattle.tx_ring.specs.Plays.{AreOf}
 
@@ -53,3 +61,37 @@ told_left d = left_at d (known_of d).head
 abbrev pub IsTold : Option ℕ → ℕ → ℕ → Type 0
 IsTold None sent posted = Unit {0}
 IsTold (Some left) sent posted = posted ≡ sent + left
+
+-- what lies in the slots as the table is closed: the buffer of each item that is out and not held
+pub record LeftIn (d : DriverSide) (c : ControllerSide) (slots : List Buffer) : Type 0 where
+  pub of_one_ring : AreOf (driver_size d) d.events c.events
+  pub buffers : (k : ℕ) (b : Buffer) → returned_count of_one_ring.queue.queue ≤ k → k < posted_count of_one_ring.queue.queue → (of_one_ring.queue.held ≡ true → ¬ (k ≡ served_count of_one_ring.queue.queue))
+      → lies_there (slice_get of_one_ring.queue.ledger.posted k) (slice_get of_one_ring.queue.ledger.served k) ≡ Some b → get_elem? slots (k % driver_size d) ≡ some b
+
+-- the slot at a place, where one lies in the ring: fewer than `out` places after `next`, and not held
+abbrev pub slot_of : maybe.Option Buffer → Option Buffer
+slot_of none = None
+slot_of (some b) = Some b
+
+abbrev pub is_kept : ℕ → ℕ → ℕ → ℕ → Bool → ℕ → Bool
+is_kept n next out serve holding place = nat_lt (between_places n next place) out && not (holding && (place == serve))
+
+abbrev pub kept_at : ℕ → ℕ → ℕ → ℕ → Bool → List Buffer → ℕ → Option Buffer
+kept_at n next out serve holding slots place = if is_kept n next out serve holding place then slot_of (get_elem? slots place) else None
+
+abbrev pub kept_upto : (ℕ → Option Buffer) → ℕ → List (Option Buffer)
+kept_upto f zero = []
+kept_upto f (suc k) = kept_upto f k ++ f k ∷ []
+
+-- the buffers of the places that are kept, in order
+pub record TakenApart (d : DriverSide) (c : ControllerSide) (next out serve : ℕ) (holding : Bool) (buffers : List (Option Buffer)) : Type 0 where
+  pub slots : List Buffer
+  pub left : LeftIn d c slots
+  pub kept : buffers ≡ kept_upto (kept_at (driver_size d) next out serve holding slots) (driver_size d)
+
+-- A closed ring gave a buffer back at exactly the places that were with Ring, with what was posted there
+pub record IsClosed (d : DriverSide) (c : ControllerSide) (buffers : List (Option Buffer)) : Type 0 where
+  pub of_one_ring : AreOf (driver_size d) d.events c.events
+  pub count : length buffers ≡ driver_size d
+  pub ring : (place : ℕ) → slice_get of_one_ring.queue.owners place ≡ Some Ring → (k : ℕ) × (b : Buffer) × ((k % driver_size d ≡ place) × (slice_get buffers place ≡ Some (Some b)) × ((p : Posting) × ((slice_get (posted d) k ≡ Some p) × (b ≡ filled p))))
+  pub others : (place : ℕ) → place < driver_size d → ¬ (slice_get of_one_ring.queue.owners place ≡ Some Ring) → slice_get buffers place ≡ Some None

@@ -25,10 +25,10 @@ use std::marker::Model;
 #[derive(Drop)]
 pub struct TxControllerEnd {
     pub(crate) seat: ControllerSeat,
-    serve: u16,
+    pub(crate) serve: u16,
     ready: u16,
     last: u16,
-    held: bool,
+    pub(crate) held: bool,
     whole: bool,
     ends: bool,
     asks: bool,

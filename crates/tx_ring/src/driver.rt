@@ -28,8 +28,8 @@ use std::marker::Model;
 pub struct TxDriverEnd {
     pub(crate) seat: DriverSeat,
     fill: u16,
-    next: u16,
-    out: u16,
+    pub(crate) next: u16,
+    pub(crate) out: u16,
     seen: u16,
     done: u16,
     unseen: u16,

@@ -11,7 +11,7 @@ mod steps;
 pub use controller::TxControllerEnd;
 pub use driver::TxDriverEnd;
 pub use events::{TxControllerEvent, TxControllerOwn, TxDriverEvent, TxDriverOwn};
-pub use ring::meet_tx;
+pub use ring::{close, meet_tx};
 pub use ring_model::Completion;
 pub use shared_ring::{Control, ControllerEvent, DriverEvent, RingError, View};
 pub use steps::{TxRing, TxRule};

@@ -1,15 +1,16 @@
-//! The making of a ring, and the meeting of its ends.
+//! The making of a ring, the meeting of its ends, and its closing.
 ghost use Rattle.std.specs.Prelude.{◌≡◌, ◌↔◌, ◌≤◌, length, IfOk};
 ghost use Rattle.limits.specs.RingLength.{IsRingLength};
 ghost use Rattle.ring_model.specs.declared.states.Completion.TheVariants as completion;
 ghost use Rattle.ring_model.specs.transmit.Lawful.{IsLawfulTxLedger};
 ghost use Rattle.ring_model.specs.shared.Frames.{Bytes};
 ghost use Rattle.tx_ring.specs.Ends.{driver_size, posted, cleaned};
-ghost use Rattle.tx_ring.specs.Meeting.{MadeSeats, ledger_of, sent_now, Met, told_left, IsTold};
+ghost use Rattle.tx_ring.specs.Meeting.{MadeSeats, ledger_of, sent_now, Met, told_left, IsTold, IsClosed};
 
 use crate::controller::TxControllerEnd;
 use crate::driver::TxDriverEnd;
 use crate::steps::{self, TxRing};
+use buffer_pool::Buf;
 use limits::is_ring_length;
 use ring_model::Completion;
 use shared_ring::RingError;
@@ -69,4 +70,28 @@ pub fn meet_tx(ring: &TxRing, driver: &mut TxDriverEnd, controller: &mut TxContr
 {
     let _size = driver.size();
     steps::meet(ring, &mut driver.seat, &mut controller.seat);
+}
+
+/// Closes a ring, wherever its two ends stand: one entry a place, with the buffer that lay there where one did, be it
+/// posted, published or sent. A place whose buffer the controller has fetched, and those of the driver, have
+/// none. The list stands in the room that `new` reserved, so this takes no memory.
+pub fn close(ring: TxRing, driver: TxDriverEnd, controller: TxControllerEnd) -> Vec<Option<Buf>>
+    requires driver { driver.table ≡ ring }
+    requires controller { controller.table ≡ ring }
+    ensures { IsClosed driver controller result.items }
+{
+    let _size = driver.size();
+    let TxDriverEnd {
+        seat,
+        next,
+        out,
+        ..
+    } = driver;
+    let TxControllerEnd {
+        seat: served,
+        serve,
+        held,
+        ..
+    } = controller;
+    steps::take_apart(ring, seat, served, next, out, serve, held)
 }

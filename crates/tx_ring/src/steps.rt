@@ -5,7 +5,7 @@ mod controller;
 mod driver;
 mod gathering;
 
-pub(crate) use gathering::meet;
+pub(crate) use gathering::{meet, take_apart};
 
 use crate::events::{TxControllerEvent, TxDriverEvent};
 use atomic_table::{Play, Seat, Shared, Table, TableRule};
