@@ -15,3 +15,4 @@ pub mod DriverEnds
 pub mod DriverCalls
 pub mod Renewing
 pub mod Closing
+pub mod Whole

@@ -3,6 +3,8 @@
 ghost use Rattle.std.specs.Prelude.{◌≡◌, ◌+◌, ◌%◌, ◌<◌, ◌≤◌, ◌↔◌, true, false, [], ◌∷◌, ◌++◌, length, Some, None, IsTrue};
 ghost use Rattle.limits.specs.RingLength.{IsRingLength};
 ghost use Rattle.ring_model.specs.shared.Handshakes.{is_serving};
+ghost use Rattle.ring_model.specs.shared.Frames.{unfinished};
+ghost use Rattle.ring_model.specs.transmit.Ring.{carried};
 ghost use Rattle.shared_ring.specs.Words.{control_word};
 ghost use Rattle.shared_ring.specs.declared.events.ControllerEvent.TheVariants.{LoadedRequest, Own};
 ghost use Rattle.tx_ring.specs.declared.events.TxControllerOwn.TheVariants.{Sent};
@@ -105,7 +107,8 @@ impl TxControllerEnd {
     /// Whether the last that was sent ends a frame, or none is sent.
     #[inline]
     pub fn is_between_frames(&self) -> bool
-        ensures { result ≡ is_between self.now }
+        ensures value { result ≡ is_between self.now }
+        ensures rest { result ≡ true → unfinished carried (sent self.now) ≡ [] }
     {
         self.whole
     }

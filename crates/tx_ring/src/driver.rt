@@ -140,7 +140,8 @@ impl TxDriverEnd {
     /// Whether the last that was posted ends a frame, or nothing is posted.
     #[inline]
     pub fn is_whole(&self) -> bool
-        ensures { result ≡ are_whole (posted self.now) }
+        ensures value { result ≡ are_whole (posted self.now) }
+        ensures rest { result ≡ true → unfinished carried (posted self.now) ≡ [] }
     {
         self.whole
     }
