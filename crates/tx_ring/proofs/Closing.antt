@@ -1,16 +1,16 @@
 -- A ring's end: what its slots have, and which of them lie in the ring.
-use Rattle.std.proofs.Common.{◌≡◌, ◌≢◌, ℕ, zero, suc, ◌+◌, ◌-◌, ◌%◌, ◌<◌, ◌≤◌, ◌⊎◌, inl, inr, ⊎_elim, Bool, true, false, not, ◌&&◌, if◌then◌else◌, List, [], ◌∷◌, ◌++◌, length, Option, Some, None, sym, refl, ap, ◌∙◌, subst, arith, mod-lt, mod-eq_of_lt, length-append}
-use Rattle.std.specs.Prelude.{slice_get, slice_index, ◌==◌, nat_lt}
+use Rattle.std.proofs.Common.{◌≡◌, ◌≢◌, ℕ, zero, suc, ◌+◌, ◌-◌, ◌%◌, ◌<◌, ◌≤◌, ⊎_elim, Bool, true, false, not, ◌&&◌, if◌then◌else◌, List, [], ◌∷◌, ◌++◌, length, Option, Some, None, sym, refl, ap, ◌∙◌, subst, arith, mod-lt, mod-eq_of_lt, length-append}
+use Rattle.std.specs.Prelude.{slice_get, ◌==◌, nat_lt}
 use Rattle.std.proofs.Math.Nat.{mod-add-mod, add-mod-mod, add-mod_right}
-use Rattle.std.proofs.lemmas.Bool.{cases_Bool, and_parts, and_from, and_left, and_right, ltb-true, lt-ltb, eqb-true, eqb-false, eq-eqb, not-true, not_from_false, both_ways, false≢true, true≢false, cases_lt}
-use Rattle.std.proofs.lemmas.Option.{none-some, same_Some, slice_get_within}
+use Rattle.std.proofs.lemmas.Bool.{cases_Bool, and_parts, and_from, ltb-true, lt-ltb, eqb-true, eq-eqb, not-true, not_from_false, both_ways, cases_lt}
+use Rattle.std.proofs.lemmas.Option.{same_Some, slice_get_within}
 use Rattle.ring_model.proofs.shared.Stepping.{returned_served, held_below}
 use mathlib.Core.Option as maybe
 use mathlib.Core.Option.{some, none}
 use lib.ListN.{get_elem?}
-use Rattle.atomic_table.specs.Table.{State, Final, Seen}
+use Rattle.atomic_table.specs.Table.{Final, Seen}
 use Rattle.atomic_table.specs.Seated.{TableId}
-use Rattle.buffer_pool.specs.Buffer.{Buffer, buffer}
+use Rattle.buffer_pool.specs.Buffer.{Buffer}
 use Rattle.ring_model.specs.declared.states.Owner.{Owner}
 use Rattle.ring_model.specs.declared.states.Owner.TheVariants.{Driver, Ring, Controller}
 use Rattle.ring_model.specs.transmit.Ring.{TxRing, ends_posting}
@@ -18,21 +18,18 @@ use Rattle.ring_model.specs.shared.Frames.{Bytes}
 use Rattle.ring_model.specs.shared.Handshakes.{is_serving}
 use Rattle.ring_model.specs.shared.Lawful.{IsLawfulMap, window, holder}
 use Rattle.ring_model.specs.shared.Places.{between_places}
-use Rattle.ring_model.specs.shared.Queue.{posted_count, served_count, given_count, returned_count}
+use Rattle.ring_model.specs.shared.Queue.{posted_count, served_count, returned_count}
 use Rattle.ring_model.proofs.transmit.Kept.{IsTxKept}
 use Rattle.ring_model.proofs.transmit.Reached.{tx_kept, tx_lawful}
-use Rattle.ring_model.proofs.shared.Beginnings.{beginning-refl}
 use Rattle.ring_model.proofs.shared.Places.{ahead, same_item}
 use Rattle.shared_ring.specs.declared.events.View.TheVariants.{Both}
-use Rattle.shared_ring.specs.Slots.{home_at}
-use Rattle.shared_ring.proofs.Laying.{home-full, slice_get-past, slice_get-last}
+use Rattle.shared_ring.proofs.Laying.{home-full, slice_get-last}
 use Rattle.shared_ring.proofs.Allowing.{running}
 use Rattle.shared_ring.proofs.Seating.{both_are}
-use Rattle.tx_ring.specs.Records.{Posting, TxView, TxDriven, DriverStep, ControllerStep, driving, controlling}
+use Rattle.tx_ring.specs.Records.{Posting, TxView, TxDriven, DriverStep, ControllerStep, controlling}
 use Rattle.tx_ring.specs.Rule.{IsRuled, LiesAs, lies_there, filled, words_of}
 use Rattle.tx_ring.proofs.Serving.{posting_at}
 use Rattle.ring_model.specs.declared.states.Completion.{Completion}
-use Rattle.tx_ring.specs.Plays.{AreOf}
 use Rattle.ring_model.specs.declared.states.DriverState.{DriverState}
 use Rattle.ring_model.specs.declared.states.ControllerState.{ControllerState}
 use Rattle.shared_ring.specs.declared.control.Control.{Control}

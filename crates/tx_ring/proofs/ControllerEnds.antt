@@ -1,19 +1,17 @@
 -- What the fields of a controller's end keep as its record grows.
-use Rattle.std.proofs.Common.{◌≡◌, ℕ, ◌+◌, ◌-◌, ◌%◌, ◌<◌, ◌≤◌, ◌⊎◌, inl, inr, ⊎_elim, Bool, true, false, if◌then◌else◌, List, [], ◌∷◌, ◌++◌, length, Option, Some, None, sym, refl, ap, ◌∙◌, subst, arith, length-append, mod-lt}
+use Rattle.std.proofs.Common.{◌≡◌, ℕ, ◌+◌, ◌-◌, ◌%◌, ◌<◌, ◌≤◌, inl, inr, ⊎_elim, Bool, true, false, if◌then◌else◌, List, [], ◌∷◌, ◌++◌, length, Option, Some, None, sym, refl, ap, ◌∙◌, subst, arith, length-append, mod-lt}
 use Rattle.std.specs.Prelude.{◌==◌}
 use Rattle.std.proofs.Math.Nat.{zero-mod}
 use Rattle.std.proofs.lemmas.Bool.{both_ways, false≢true}
 use Rattle.buffer_pool.specs.Buffer.{Buffer}
 use Rattle.descriptor.specs.declared.tx_read.TxRead.{TxRead}
-use Rattle.limits.specs.RingLength.{IsRingLength}
-use Rattle.ring_model.specs.declared.states.Completion.{Completion}
 use Rattle.ring_model.specs.declared.states.ControllerState.{ControllerState}
-use Rattle.ring_model.specs.declared.states.ControllerState.TheVariants.{Off, Serving, Ended}
+use Rattle.ring_model.specs.declared.states.ControllerState.TheVariants.{Serving, Ended}
 use Rattle.ring_model.specs.shared.Frames.{ends_frame}
 use Rattle.ring_model.specs.shared.Handshakes.{is_serving}
 use Rattle.ring_model.specs.shared.Places.{between_places}
 use Rattle.ring_model.specs.transmit.Agreement.{tx_word}
-use Rattle.ring_model.specs.transmit.Ring.{are_whole, ends_posting}
+use Rattle.ring_model.specs.transmit.Ring.{ends_posting}
 use Rattle.ring_model.proofs.shared.Places.{next_place}
 use Rattle.shared_ring.specs.declared.control.Control.{Control}
 use Rattle.shared_ring.specs.declared.control.Control.TheVariants as control_is

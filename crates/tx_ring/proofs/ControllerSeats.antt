@@ -1,10 +1,9 @@
 -- The controller's seat: what each of its steps asks of the table, and what the seat keeps.
-use Rattle.std.proofs.Common.{◌≡◌, ℕ, ◌+◌, ◌-◌, ◌%◌, ◌<◌, ◌≤◌, Bool, true, false, List, [], ◌∷◌, ◌++◌, length, Option, Some, None, sym, refl, ap, ◌∙◌, subst, arith, length-append, mod-lt}
+use Rattle.std.proofs.Common.{◌≡◌, ℕ, ◌+◌, ◌-◌, ◌%◌, ◌<◌, ◌≤◌, true, false, List, [], ◌∷◌, ◌++◌, length, Some, None, sym, refl, ap, ◌∙◌, subst, arith, mod-lt}
 use mathlib.Core.Option.{none}
 use Rattle.atomic_table.specs.Table.{Allows, Step, step, rest}
 use Rattle.atomic_table.specs.Seated.{TableId}
-use Rattle.buffer_pool.specs.Buffer.{Buffer, buffer, blank}
-use Rattle.limits.specs.RingLength.{IsRingLength}
+use Rattle.buffer_pool.specs.Buffer.{Buffer, blank}
 use Rattle.ring_model.specs.declared.states.Completion.{Completion}
 use Rattle.ring_model.specs.shared.Frames.{unfinished}
 use Rattle.ring_model.specs.shared.Handshakes.{is_serving}
@@ -18,7 +17,7 @@ use Rattle.shared_ring.specs.Plays.{controller_does, LoadsRequest, enables, disa
 use Rattle.shared_ring.specs.Records.{controller_slots, uncontrolled, count_at}
 use Rattle.shared_ring.specs.Slots.{slots_while, front_buffer}
 use Rattle.shared_ring.proofs.Folds.{controlling-snoc}
-use Rattle.tx_ring.specs.declared.events.TxControllerOwn.TheVariants.{Sent, Reported}
+use Rattle.tx_ring.specs.declared.events.TxControllerOwn.TheVariants.{Sent}
 use Rattle.tx_ring.specs.Records.{TxControlled, TxView, ControllerStep, controllers_of, controlling, control, control_own, fetched_word, posting_of}
 use Rattle.tx_ring.specs.Rule.{IsRuled, IsTableOf, words_of}
 use Rattle.tx_ring.specs.Plays.{Seated, LoadsTail, Fetches, sends, reports}

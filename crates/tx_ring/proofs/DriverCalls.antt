@@ -1,7 +1,7 @@
 -- What the driver's calls answer whose answer depends on what was loaded.
-use Rattle.std.proofs.Common.{◌≡◌, ℕ, zero, suc, ◌+◌, ◌-◌, ◌%◌, ◌<◌, ◌≤◌, ◌⊎◌, inl, inr, Bool, true, false, if◌then◌else◌, List, [], ◌∷◌, ◌++◌, length, Option, Some, None, sym, refl, ap, ◌∙◌, subst, arith, length-append, mod-lt, get_or}
+use Rattle.std.proofs.Common.{◌≡◌, ℕ, zero, suc, ◌+◌, ◌-◌, ◌%◌, ◌<◌, ◌≤◌, Bool, true, false, if◌then◌else◌, List, [], ◌∷◌, ◌++◌, length, Option, Some, None, sym, refl, ap, ◌∙◌, subst, arith, mod-lt, get_or}
 use Rattle.std.specs.Prelude.{slice_get, slice_set, ◌==◌}
-use Rattle.std.proofs.Math.Nat.{add-mod-mod, mod-add-mod}
+use Rattle.std.proofs.Math.Nat.{mod-add-mod}
 use Rattle.std.proofs.lemmas.Option.{same_Some, get_or_from_slice_get}
 use Rattle.buffer_pool.specs.Buffer.{Buffer, buffer}
 use Rattle.ring_model.specs.declared.states.Completion.{Completion}
@@ -9,7 +9,7 @@ use Rattle.ring_model.specs.declared.states.Completion.TheVariants.{Status, Head
 use Rattle.ring_model.specs.declared.states.DriverState.{DriverState}
 use Rattle.ring_model.specs.declared.states.DriverState.TheVariants.{New}
 use Rattle.ring_model.specs.shared.Frames.{unfinished}
-use Rattle.ring_model.specs.shared.Handshakes.{is_open, is_live, is_stopped, is_cleared, is_tailed}
+use Rattle.ring_model.specs.shared.Handshakes.{is_open, is_live, is_stopped}
 use Rattle.ring_model.specs.shared.Places.{between_places}
 use Rattle.ring_model.specs.transmit.Agreement.{tx_word}
 use Rattle.ring_model.specs.transmit.Frames.{MayFollow}
@@ -20,11 +20,10 @@ use Rattle.ring_model.proofs.shared.Shakes.{live_unanswered}
 use Rattle.shared_ring.specs.declared.events.DriverEvent.TheVariants as driver
 use Rattle.shared_ring.specs.Records.{undriven}
 use Rattle.tx_ring.specs.declared.events.TxDriverOwn.TheVariants.{NoReport, SawReport, Cleaned, EndedEpoch, ClearedReport}
-use Rattle.tx_ring.specs.Records.{Posting, TxDriven, DriverStep, drive, posting_of, Knowing, know, unknown, seen_after}
-use Rattle.tx_ring.specs.Rule.{filled, word_of}
+use Rattle.tx_ring.specs.Records.{Posting, TxDriven, drive, posting_of, Knowing, know, unknown, seen_after}
 use Rattle.tx_ring.specs.Plays.{report_word}
-use Rattle.tx_ring.specs.Ends.{DriverSide, driver_size, driver_record, posted, cleaned, reclaimed, returned, seen_reported, outstanding, driver_state, known_of, fill_place, next_place, appended}
-use Rattle.tx_ring.specs.Meeting.{left_by, left_at, told_left}
+use Rattle.tx_ring.specs.Ends.{DriverSide, driver_size, driver_record, posted, cleaned, reclaimed, returned, seen_reported, outstanding, driver_state, known_of, appended}
+use Rattle.tx_ring.specs.Meeting.{left_by, left_at}
 use Rattle.tx_ring.specs.Steps.{OldestAt, Looked, CameClean, CameBack}
 use Rattle.tx_ring.specs.Calls.{IsEndOf, IsDriverEnd, OldestAhead, SawReported, SawUnreported, CleanedOne, CameHome, FoundLeft, GoneOver, gone_over, item_of}
 use Rattle.tx_ring.proofs.Words.{posting-posted}
@@ -123,6 +122,7 @@ module _ (d : DriverSide) (fill next out seen done unseen : ℕ) (whole : Bool) 
     where
       posted-is : posted new ≡ posted d
       posted-is = ap (λ (x : TxDriven). x.posted) (record-after d new (driver.LoadedHead head) step)
+
       counted : left ≡ left_by new head
       counted = is ∙ ap (λ (n : ℕ). (fill + n - head) % n) (sizes ∙ ap driver_size step) ∙ ap (λ (j : ℕ). (j + driver_size d - head) % driver_size d) h.fill_is
           ∙ ap (λ (xs : List Posting). (length xs % driver_size d + driver_size d - head) % driver_size d) (sym posted-is)

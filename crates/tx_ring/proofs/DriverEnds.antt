@@ -1,31 +1,23 @@
 -- What the fields of a driver's end keep as its record grows.
-use Rattle.std.proofs.Common.{◌≡◌, ◌≢◌, ℕ, zero, suc, ◌+◌, ◌-◌, ◌%◌, ◌<◌, ◌≤◌, ◌⊎◌, inl, inr, ⊎_elim, Bool, true, false, if◌then◌else◌, List, [], ◌∷◌, ◌++◌, length, Option, Some, None, sym, refl, ap, ◌∙◌, subst, arith, length-append, mod-lt, length-set}
+use Rattle.std.proofs.Common.{◌≡◌, ℕ, ◌+◌, ◌-◌, ◌%◌, ◌<◌, ◌≤◌, ⊎_elim, Bool, true, false, if◌then◌else◌, List, [], ◌∷◌, ◌++◌, length, Option, Some, sym, refl, ap, ◌∙◌, subst, arith, length-append, mod-lt, length-set}
 use Rattle.std.specs.Prelude.{slice_get, slice_set, ◌==◌}
 use Rattle.std.proofs.Math.Nat.{zero-mod}
 use Rattle.std.proofs.lemmas.Bool.{both_ways, cases_eq}
-use Rattle.std.proofs.lemmas.Option.{none-some}
-use Rattle.buffer_pool.specs.Buffer.{Buffer, buffer}
-use Rattle.limits.specs.RingLength.{IsRingLength}
 use Rattle.ring_model.specs.declared.states.DriverState.{DriverState}
 use Rattle.ring_model.specs.declared.states.DriverState.TheVariants.{New}
 use Rattle.ring_model.specs.shared.Handshakes.{is_answered, is_open, is_live, is_stopped}
 use Rattle.ring_model.specs.shared.Frames.{ends_frame}
-use Rattle.ring_model.specs.shared.Places.{between_places}
-use Rattle.ring_model.specs.transmit.Agreement.{tx_word}
-use Rattle.ring_model.specs.transmit.Ring.{are_whole, ends_posting}
-use Rattle.ring_model.specs.transmit.Steps.{asks_report, first_report}
-use Rattle.ring_model.proofs.shared.Places.{next_place, apart, Writes, slice_set-writes}
+use Rattle.ring_model.specs.transmit.Ring.{ends_posting}
+use Rattle.ring_model.specs.transmit.Steps.{asks_report}
+use Rattle.ring_model.proofs.shared.Places.{next_place, apart, slice_set-writes}
 use Rattle.ring_model.proofs.shared.Beginnings.{slice_get-front}
 use Rattle.ring_model.proofs.shared.Shakes.{open_unanswered, live_unanswered, stopped_answered}
-use Rattle.shared_ring.specs.declared.events.DriverEvent.TheVariants as driver
 use Rattle.shared_ring.specs.Records.{undriven}
 use Rattle.shared_ring.proofs.Folds.{driving-snoc}
 use Rattle.shared_ring.proofs.Laying.{slice_get-last}
-use Rattle.tx_ring.specs.declared.events.TxDriverOwn.TheVariants.{NoReport, SawReport, Cleaned, EndedEpoch, ClearedReport}
-use Rattle.tx_ring.specs.Records.{Posting, TxDriven, DriverStep, driving, drive, posting_of, drive_own, Knowing, unknown, know, knowing, seen_after}
-use Rattle.tx_ring.specs.Rule.{filled, word_of}
-use Rattle.tx_ring.specs.Ends.{DriverSide, driver_size, driver_record, known_of, posted, returned, appended}
-use Rattle.tx_ring.specs.Calls.{IsEndOf, IsDriverEnd, AskedAt, item_of}
+use Rattle.tx_ring.specs.Records.{Posting, TxDriven, DriverStep, drive, posting_of, drive_own, Knowing, unknown, know}
+use Rattle.tx_ring.specs.Ends.{DriverSide, driver_size, driver_record, known_of, appended}
+use Rattle.tx_ring.specs.Calls.{IsEndOf, IsDriverEnd, AskedAt}
 use Rattle.tx_ring.proofs.Learning.{knowing-snoc}
 
 pub recorded : (d : DriverSide) (e : DriverStep) → driver_record (appended d e) ≡ drive (driver_record d) e

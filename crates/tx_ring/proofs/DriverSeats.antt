@@ -1,13 +1,12 @@
 -- The driver's seat: what each of its steps asks of the table, and what the seat keeps.
-use Rattle.std.proofs.Common.{◌≡◌, ◌≢◌, ℕ, ◌+◌, ◌-◌, ◌%◌, ◌<◌, ◌≤◌, Bool, true, false, List, [], ◌∷◌, ◌++◌, length, Option, Some, None, sym, refl, ap, ◌∙◌, subst, arith, length-append, mod-lt}
+use Rattle.std.proofs.Common.{◌≡◌, ℕ, ◌+◌, ◌-◌, ◌%◌, ◌<◌, ◌≤◌, Bool, true, false, List, [], ◌∷◌, ◌++◌, length, Option, Some, sym, refl, ap, ◌∙◌, subst, arith, length-append, mod-lt}
 use Rattle.std.specs.Prelude.{slice_get, not, nat_lt, if◌then◌else◌}
 use Rattle.std.proofs.Math.Nat.{mod-mod}
 use Rattle.std.proofs.lemmas.Bool.{false≢true, lt-ltb, le-ltb}
 use mathlib.Core.Option.{none}
 use Rattle.atomic_table.specs.Table.{Allows, Step, step, rest, turned}
 use Rattle.atomic_table.specs.Seated.{TableId}
-use Rattle.buffer_pool.specs.Buffer.{Buffer, buffer, blank}
-use Rattle.limits.specs.RingLength.{IsRingLength}
+use Rattle.buffer_pool.specs.Buffer.{Buffer, blank}
 use Rattle.ring_model.specs.declared.states.Completion.{Completion}
 use Rattle.ring_model.specs.declared.states.Completion.TheVariants.{Status, Head}
 use Rattle.ring_model.specs.shared.Frames.{unfinished}
@@ -23,7 +22,7 @@ use Rattle.shared_ring.specs.Plays.{driver_does, posts, publishes, asks_enable, 
 use Rattle.shared_ring.specs.Records.{driver_slots, undriven}
 use Rattle.shared_ring.specs.Slots.{empty_slots, front_buffer}
 use Rattle.shared_ring.proofs.Folds.{driving-snoc, slots-post, slots-return, slots-alike}
-use Rattle.tx_ring.specs.declared.events.TxDriverOwn.TheVariants.{NoReport, SawReport, Cleaned, EndedEpoch, ClearedReport}
+use Rattle.tx_ring.specs.declared.events.TxDriverOwn.TheVariants.{NoReport, SawReport, Cleaned}
 use Rattle.tx_ring.specs.Records.{Posting, TxDriven, TxView, DriverStep, drivers_of, driving, drive, posting_of, drive_own}
 use Rattle.tx_ring.specs.Rule.{IsRuled, IsTableOf, filled, word_of, words_of}
 use Rattle.tx_ring.specs.Plays.{Seated, is_done, report_word, reports_item, shows_report, LoadsReport, Cleans, Reclaims, ends_epoch, clears_report}

@@ -1,27 +1,23 @@
 -- The steps of the driver's end: each keeps the rule, and tells what its play says.
-use Rattle.std.proofs.Common.{◌≡◌, ℕ, zero, suc, ◌+◌, ◌-◌, ◌%◌, ◌<◌, ◌≤◌, Bool, true, false, not, ◌&&◌, if◌then◌else◌, List, [], ◌∷◌, ◌++◌, map, length, set, Option, Some, None, sym, refl, ap, ◌∙◌, subst, ⊎_elim, arith, mod-lt, mod-eq_of_lt}
+use Rattle.std.proofs.Common.{◌≡◌, ℕ, zero, suc, ◌+◌, ◌%◌, ◌<◌, ◌≤◌, Bool, true, false, ◌&&◌, if◌then◌else◌, List, [], ◌∷◌, ◌++◌, length, Option, Some, None, sym, refl, ap, ◌∙◌, subst, arith, mod-lt}
 use Rattle.std.specs.Prelude.{slice_get, slice_index, slice_set, ◌==◌, nat_lt}
 use Rattle.std.proofs.lemmas.Bool.{eqb-true, both_ways, ltb-true, true≢false, false≢true}
-use Rattle.std.proofs.lemmas.Option.{slice_get_within, none-some}
+use Rattle.std.proofs.lemmas.Option.{none-some}
 use mathlib.Core.Option as maybe
 use mathlib.Core.Option.{some, none}
 use lib.ListN.{get_elem?}
 use Rattle.atomic_table.specs.Table.{keeps, takes, gives, step, Allows}
-use Rattle.buffer_pool.specs.Buffer.{Buffer, buffer}
+use Rattle.buffer_pool.specs.Buffer.{Buffer}
 use Rattle.ring_model.specs.declared.states.Completion.{Completion}
-use Rattle.ring_model.specs.declared.states.Completion.TheVariants.{Status, Head}
 use Rattle.ring_model.specs.declared.steps.ControlStep.TheVariants.{AskEnable, LookAnswered, AskDisable}
 use Rattle.ring_model.specs.declared.steps.TxStep.TheVariants as tx
 use Rattle.ring_model.specs.transmit.Ring.{TxRing, are_whole, carried, ends_posting, next_sent}
 use Rattle.ring_model.specs.transmit.Frames.{MayFollow}
-use Rattle.ring_model.specs.transmit.Agreement.{done_word, is_told, posting_word}
 use Rattle.ring_model.specs.transmit.Steps.{by_head, cleaned_one, oldest_report, tx_changed, tx_cleared, tx_renewed}
 use Rattle.ring_model.specs.shared.Frames.{Bytes, unfinished}
-use Rattle.ring_model.specs.shared.Handshakes.{is_open, is_live, is_new, is_on, is_stopped, is_cleared, is_tailed, is_answered}
-use Rattle.ring_model.specs.shared.Places.{between_places}
+use Rattle.ring_model.specs.shared.Handshakes.{is_open, is_live, is_new, is_on, is_stopped, is_cleared, is_tailed}
 use Rattle.ring_model.specs.shared.Queue.{posted_count, served_count, given_count, returned_count}
 use Rattle.ring_model.proofs.shared.Beginnings.{beginning_at}
-use Rattle.ring_model.proofs.shared.Places.{ahead}
 use Rattle.ring_model.proofs.shared.Shakes.{live_unanswered, open_unanswered, stopped_answered, answered_closed, stopped_full}
 use Rattle.ring_model.proofs.shared.Stepping.{shook, answered_over, answered_unheld}
 use Rattle.ring_model.proofs.transmit.Stepping.{seen_sent}
@@ -35,9 +31,8 @@ use Rattle.shared_ring.proofs.Shaking.{control_value}
 use Rattle.shared_ring.proofs.Allowing.{DriverGoes, allow_driver}
 use Rattle.tx_ring.specs.declared.events.TxDriverOwn.TheVariants.{NoReport, SawReport, Cleaned, EndedEpoch, ClearedReport}
 use Rattle.tx_ring.specs.Records.{Posting, TxDriven, DriverStep, ControllerStep, driving, knowing, outstanding}
-use Rattle.tx_ring.specs.Rule.{IsRuled, LiesAs, filled, says, lies_there, word_of, words_of}
+use Rattle.tx_ring.specs.Rule.{IsRuled, LiesAs, filled, lies_there, word_of, words_of}
 use Rattle.tx_ring.specs.Plays.{Seated, report_word, reports_item, shows_report, LoadsReport, Cleans, Reclaims, ends_epoch, clears_report}
-use Rattle.tx_ring.proofs.Words.{undone-tx_word, done-done_word}
 use Rattle.tx_ring.proofs.Lying.{keeps_it, unreclaimed}
 use Rattle.tx_ring.proofs.Moving.{post-lies, publish-lies, no_report-lies, saw_report-lies, clean-lies, head_loaded-lies, ask_enable-lies, look_answered-lies, ask_disable-lies, reclaim-lies, clear_head-lies, clear_tail-lies, end_epoch-lies, clear_report-lies}
 use Rattle.tx_ring.proofs.Reported.{reports-shown, head-place}

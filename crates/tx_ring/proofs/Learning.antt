@@ -1,15 +1,15 @@
 -- What the driver has learnt stays so, whatever step is made.
-use Rattle.std.proofs.Common.{◌≡◌, ℕ, ◌+◌, ◌%◌, ◌<◌, ◌≤◌, ⊎_elim, Bool, true, false, not, ◌&&◌, List, [], ◌∷◌, ◌++◌, length, Option, Some, None, sym, refl, ap, ◌∙◌, subst, arith, length-append}
+use Rattle.std.proofs.Common.{◌≡◌, ℕ, ◌+◌, ◌%◌, ⊎_elim, true, not, List, [], ◌∷◌, ◌++◌, length, Some, sym, refl, ap, ◌∙◌, subst, arith, length-append}
 use Rattle.std.proofs.lemmas.Bool.{and_from, not_from_false}
 use Rattle.std.proofs.lemmas.Option.{none-some, same_Some}
 use Rattle.ring_model.specs.declared.steps.TxStep.{TxStep}
 use Rattle.ring_model.specs.shared.Handshakes.{is_answered, is_ended, is_open, is_stopped}
 use Rattle.ring_model.specs.shared.Frames.{Bytes}
-use Rattle.ring_model.specs.shared.Laws.{SameEpoch, NewEpoch}
+use Rattle.ring_model.specs.shared.Laws.{SameEpoch}
 use Rattle.ring_model.specs.shared.Queue.{served_count}
 use Rattle.ring_model.specs.transmit.Laws.{TxLater, tx_over}
 use Rattle.ring_model.specs.transmit.Ring.{TxRing, ends_posting}
-use Rattle.ring_model.specs.transmit.Steps.{tx_can, tx_changed, loaded_report, oldest_report}
+use Rattle.ring_model.specs.transmit.Steps.{tx_can, tx_changed}
 use Rattle.ring_model.proofs.transmit.Kept.{IsTxKept}
 use Rattle.ring_model.proofs.transmit.Reached.{tx_later-all}
 use Rattle.ring_model.proofs.shared.Reaching.{next-happens}

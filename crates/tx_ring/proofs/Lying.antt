@@ -1,6 +1,6 @@
 -- What a ring's records, words and slots that lie as it has them give to each step: the parts that all steps of a transmit ring share.
-use Rattle.std.proofs.Common.{◌≡◌, ◌≢◌, ℕ, ◌+◌, ◌%◌, ◌<◌, ◌≤◌, Bool, true, false, not, ◌&&◌, List, [], ◌∷◌, ◌++◌, length, set, Option, Some, None, sym, refl, ap, ◌∙◌, subst, arith, length-set, get_or-set_other}
-use Rattle.std.specs.Prelude.{slice_get, slice_index, slice_set, nat_lt}
+use Rattle.std.proofs.Common.{◌≡◌, ◌≢◌, ℕ, ◌+◌, ◌<◌, ◌≤◌, Bool, true, false, not, ◌&&◌, List, [], ◌∷◌, ◌++◌, length, Option, sym, refl, ap, ◌∙◌, subst, arith, length-set, get_or-set_other}
+use Rattle.std.specs.Prelude.{slice_index, slice_set, nat_lt}
 use Rattle.std.proofs.lemmas.Bool.{le-ltb, false≢true}
 use mathlib.Core.Option as maybe
 use Rattle.buffer_pool.specs.Buffer.{Buffer}
@@ -9,8 +9,7 @@ use Rattle.ring_model.specs.declared.states.Completion.TheVariants.{Status, Head
 use Rattle.ring_model.specs.declared.steps.TxStep.{TxStep}
 use Rattle.ring_model.specs.shared.Frames.{Bytes}
 use Rattle.ring_model.specs.shared.Handshakes.{is_answered}
-use Rattle.ring_model.specs.shared.Queue.{Queue, served_count, given_count, returned_count}
-use Rattle.ring_model.specs.shared.Agreement.{HasItems, HasRegisters, registers_of}
+use Rattle.ring_model.specs.shared.Queue.{Queue, given_count, returned_count}
 use Rattle.ring_model.specs.transmit.Agreement.{is_told}
 use Rattle.ring_model.specs.transmit.Ring.{TxRing, tx_opening, ends_posting}
 use Rattle.ring_model.specs.transmit.Steps.{IsTxReachable, by_head, tx_can, tx_changed}

@@ -8,7 +8,7 @@ use Rattle.buffer_pool.specs.Buffer.{Buffer}
 use Rattle.ring_model.specs.declared.states.Completion.{Completion}
 use Rattle.ring_model.specs.declared.states.ControllerState.{ControllerState}
 use Rattle.ring_model.specs.declared.states.ControllerState.TheVariants.{Ended}
-use Rattle.ring_model.specs.transmit.Ring.{TxRing, TxLedger, tx_opening}
+use Rattle.ring_model.specs.transmit.Ring.{TxLedger, tx_opening}
 use Rattle.ring_model.specs.transmit.Lawful.{IsLawfulTxLedger}
 use Rattle.ring_model.specs.shared.Frames.{Bytes}
 use Rattle.ring_model.specs.shared.Handshakes.{is_open, is_ended, is_serving, is_between}
@@ -24,7 +24,7 @@ use Rattle.shared_ring.proofs.Allowing.{allow_both, splits-halve, splits-lend, j
 use Rattle.shared_ring.proofs.Gathering.{allow_deal}
 use Rattle.tx_ring.specs.Records.{Posting, TxView, TxDriven, TxControlled, DriverStep, ControllerStep, controlling}
 use Rattle.tx_ring.specs.Rule.{IsRuled, IsTableOf, LiesAs, words_of}
-use Rattle.tx_ring.specs.Plays.{Seated, Meets, AreOf}
+use Rattle.tx_ring.specs.Plays.{Seated, Meets}
 use Rattle.tx_ring.specs.Ends.{DriverSide, driver_size, posted, cleaned, driver_state, known_of, ControllerSide, sent, controller_state}
 use Rattle.tx_ring.specs.Meeting.{ledger_of, sent_now, left_by, left_at, told_left, IsTold, Met}
 use Rattle.tx_ring.proofs.Lying.{words-big}
@@ -113,7 +113,7 @@ module _ (d : DriverSide) (c : ControllerSide) (m : Met d c) (same : c.table ≡
       let t : length (posted d) ≡ posted_count m.queue.queue = ap (λ (x : TxDriven). length x.posted) m.driver in let s : length (sent_now d c) ≡ served_count m.queue.queue = ap length sent-is in
       let a = ahead (driver_size d) (served_count m.queue.queue) (posted_count m.queue.queue) (omega arith) sp (omega arith) in
       let b : left_by d head ≡ (posted_count m.queue.queue % driver_size d + driver_size d - served_count m.queue.queue % driver_size d) % driver_size d =
-          ap (λ (x : ℕ). (x % driver_size d + driver_size d - head) % driver_size d) t ∙ ap (λ (x : ℕ). (posted_count m.queue.queue % driver_size d + driver_size d - x) % driver_size d) h.1 in
+      ap (λ (x : ℕ). (x % driver_size d + driver_size d - head) % driver_size d) t ∙ ap (λ (x : ℕ). (posted_count m.queue.queue % driver_size d + driver_size d - x) % driver_size d) h.1 in
       omega arith
 
   told-is : (o : Option ℕ) → (known_of d).head ≡ o → IsTold (left_at d o) (length (sent_now d c)) (length (posted d))

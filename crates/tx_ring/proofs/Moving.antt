@@ -1,19 +1,18 @@
 -- What each step of the driver makes of words, slots and records that lie as a ring has them: they lie as the stepped ring has them.
-use Rattle.std.proofs.Common.{◌≡◌, ℕ, ◌+◌, ◌%◌, ◌<◌, ◌≤◌, Bool, true, false, not, ◌&&◌, List, [], ◌∷◌, ◌++◌, length, set, take, map, Option, Some, None, sym, refl, ap, ◌∙◌, subst, arith, mod-lt, mod-eq_of_lt, get_or-set_same, if◌then◌else◌}
-use Rattle.std.specs.Prelude.{slice_get, slice_index, slice_set, ◌==◌, ◌-◌, nat_lt}
-use Rattle.std.proofs.lemmas.Bool.{and_from, lt-ltb, eq-eqb, ltb-true, both_ways, false≢true}
+use Rattle.std.proofs.Common.{◌≡◌, ℕ, ◌+◌, ◌%◌, ◌<◌, ◌≤◌, Bool, true, false, List, [], ◌∷◌, ◌++◌, length, set, Option, Some, None, sym, refl, ap, ◌∙◌, subst, arith, mod-lt, mod-eq_of_lt, get_or-set_same, if◌then◌else◌}
+use Rattle.std.specs.Prelude.{slice_set, ◌-◌}
+use Rattle.std.proofs.lemmas.Bool.{and_from, lt-ltb, eq-eqb, both_ways, false≢true}
 use Rattle.std.proofs.lemmas.Option.{none-some}
 use Rattle.std.proofs.lemmas.List.{take-append-le}
 use mathlib.Core.Option as maybe
 use mathlib.Core.Option.{some, none}
-use Rattle.buffer_pool.specs.Buffer.{Buffer, buffer}
+use Rattle.buffer_pool.specs.Buffer.{Buffer}
 use Rattle.ring_model.specs.declared.states.Completion.{Completion}
-use Rattle.ring_model.specs.declared.states.Completion.TheVariants.{Status, Head}
 use Rattle.ring_model.specs.declared.states.DriverState.{DriverState}
 use Rattle.ring_model.specs.declared.states.DriverState.TheVariants.{Tailed}
 use Rattle.ring_model.specs.declared.steps.ControlStep.TheVariants.{AskEnable, LookAnswered, AskDisable}
 use Rattle.ring_model.specs.declared.steps.TxStep.TheVariants as tx
-use Rattle.ring_model.specs.shared.Handshakes.{is_open, is_live, is_serving, is_new, is_on, is_stopped, is_cleared, is_tailed, is_ended}
+use Rattle.ring_model.specs.shared.Handshakes.{is_open, is_live, is_serving, is_new, is_on, is_stopped, is_cleared, is_tailed}
 use Rattle.ring_model.specs.shared.Frames.{Bytes, unfinished}
 use Rattle.ring_model.specs.shared.Queue.{posted_count, served_count, given_count, returned_count, by}
 use Rattle.ring_model.specs.shared.QueueSteps as queue
@@ -32,7 +31,7 @@ use Rattle.shared_ring.specs.Lies.{driven, is_early, IsControlled, LiesIn}
 use Rattle.shared_ring.proofs.Lying.{lies-post, lies-publish, lies-give, lies-reclaim, lies-ask_enable, lies-ask_disable, lies-look_answered, lies-clear_head, lies-clear_tail}
 use Rattle.shared_ring.proofs.Controlling.{ctl-post, ctl-publish, ctl-give, ctl-reclaim, ctl-ask_enable, ctl-look_answered, ctl-ask_disable, ctl-clear_head, ctl-clear_tail, ctl-renew}
 use Rattle.tx_ring.specs.declared.events.TxDriverOwn.TheVariants.{NoReport, SawReport, Cleaned, EndedEpoch, ClearedReport}
-use Rattle.tx_ring.specs.Records.{Posting, TxDriven, TxControlled, DriverStep, ControllerStep, controlling, drive, Knowing, know, knowing, outstanding, seen_after, fetched_word}
+use Rattle.tx_ring.specs.Records.{Posting, TxDriven, TxControlled, DriverStep, ControllerStep, controlling, drive, Knowing, knowing, outstanding, seen_after, fetched_word}
 use Rattle.tx_ring.specs.Rule.{LiesAs, Learnt, IsFetched, IsReady, TellsReports, filled, says, lies_there, word_of, words_of}
 use Rattle.tx_ring.proofs.Words.{posting-posted}
 use Rattle.tx_ring.proofs.Learning.{learnt-step, learnt-head, learnt-report, learnt-unknown}

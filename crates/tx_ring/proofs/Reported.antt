@@ -10,7 +10,7 @@ use Rattle.ring_model.specs.declared.states.Completion.TheVariants.{Status, Head
 use Rattle.ring_model.specs.shared.Frames.{Bytes}
 use Rattle.ring_model.specs.shared.Handshakes.{is_live}
 use Rattle.ring_model.specs.shared.Places.{between_places}
-use Rattle.ring_model.specs.shared.Queue.{posted_count, given_count, returned_count}
+use Rattle.ring_model.specs.shared.Queue.{posted_count}
 use Rattle.ring_model.specs.transmit.Agreement.{done_word, is_told, posting_word}
 use Rattle.ring_model.specs.transmit.Ring.{TxRing}
 use Rattle.ring_model.specs.transmit.Steps.{by_head, asks_report, first_report, oldest_report}

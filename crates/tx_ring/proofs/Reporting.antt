@@ -1,36 +1,32 @@
 -- A report, by its descriptor or by the head word, leaves words and records as the ring has them that is reported.
-use Rattle.std.proofs.Common.{◌≡◌, ◌≢◌, ℕ, zero, suc, ◌+◌, ◌-◌, ◌%◌, ◌<◌, ◌≤◌, Bool, true, false, not, ◌&&◌, List, [], ◌∷◌, ◌++◌, length, set, replicate, Option, Some, None, sym, refl, ap, ◌∙◌, subst, ⊎_elim, arith, mod-lt, mod-eq_of_lt, length-set, get_or-set_same, if◌then◌else◌}
+use Rattle.std.proofs.Common.{◌≡◌, ◌≢◌, ℕ, zero, suc, ◌+◌, ◌-◌, ◌%◌, ◌<◌, ◌≤◌, Bool, true, false, not, ◌&&◌, List, [], ◌∷◌, ◌++◌, length, replicate, Option, Some, None, sym, refl, ap, ◌∙◌, subst, ⊎_elim, arith, mod-lt, mod-eq_of_lt, length-set, get_or-set_same, if◌then◌else◌}
 use Rattle.std.specs.Prelude.{slice_get, slice_index, slice_set, nat_lt}
 use Rattle.std.proofs.lemmas.Bool.{and_right, lt-ltb, le-ltb, cases_lt, false≢true}
-use Rattle.std.proofs.lemmas.Option.{none-some, slice_get_within}
 use Rattle.std.proofs.lemmas.List.{length-replicate}
 use mathlib.Core.Option as maybe
 use Rattle.buffer_pool.specs.Buffer.{Buffer}
 use Rattle.ring_model.specs.declared.states.Completion.{Completion}
-use Rattle.ring_model.specs.declared.states.Completion.TheVariants.{Status, Head}
 use Rattle.ring_model.specs.declared.steps.TxStep.TheVariants as tx
-use Rattle.ring_model.specs.shared.Lists.{EachItem}
 use Rattle.ring_model.specs.shared.Frames.{Bytes}
 use Rattle.ring_model.specs.shared.Handshakes.{is_serving}
-use Rattle.ring_model.specs.shared.Queue.{posted_count, served_count, given_count, returned_count}
-use Rattle.ring_model.specs.shared.Agreement.{HasItems, registers_of, wanted_word}
+use Rattle.ring_model.specs.shared.Queue.{posted_count, served_count, returned_count}
+use Rattle.ring_model.specs.shared.Agreement.{registers_of, wanted_word}
 use Rattle.ring_model.specs.transmit.Agreement.{done_word, is_told, posting_word}
 use Rattle.ring_model.specs.transmit.Ring.{TxRing, TxBeginning, tx_opening, ends_posting}
 use Rattle.ring_model.specs.transmit.Steps.{by_head, asks_report, tx_can, tx_changed}
 use Rattle.ring_model.proofs.transmit.Kept.{IsTxKept}
 use Rattle.ring_model.proofs.transmit.Postings.{AllMayFollow-nil}
-use Rattle.ring_model.proofs.shared.Beginnings.{beginning_at, slice_get-front}
+use Rattle.ring_model.proofs.shared.Beginnings.{slice_get-front}
 use Rattle.ring_model.proofs.shared.Places.{Writes, each_item-set, each_item-same, slice_index-writes}
 use Rattle.ring_model.proofs.shared.Reaching.{reached-opening}
 use Rattle.ring_model.proofs.shared.Shakes.{serving_unanswered}
 use Rattle.ring_model.proofs.shared.Stepping.{shook}
 use Rattle.shared_ring.specs.declared.events.ControllerEvent.TheVariants as controller
-use Rattle.shared_ring.specs.Slots.{home_at}
-use Rattle.shared_ring.specs.Lies.{IsControlled, LiesIn}
+use Rattle.shared_ring.specs.Lies.{LiesIn}
 use Rattle.shared_ring.proofs.Laying.{registers-stay}
 use Rattle.tx_ring.specs.declared.events.TxControllerOwn.TheVariants.{Reported}
-use Rattle.tx_ring.specs.Records.{Posting, TxControlled, DriverStep, ControllerStep, controlling, fetched_word, knowing}
-use Rattle.tx_ring.specs.Rule.{LiesAs, IsFetched, TellsReports, filled, says, lies_there, word_of, words_of}
+use Rattle.tx_ring.specs.Records.{Posting, DriverStep, ControllerStep, knowing}
+use Rattle.tx_ring.specs.Rule.{LiesAs, TellsReports, filled, says, lies_there, word_of, words_of}
 use Rattle.tx_ring.proofs.Learning.{learnt-step, learnt-unknown}
 use Rattle.tx_ring.proofs.Lying.{keeps_it, goes_on, control_is, fetched-snoc, unreclaimed, lies-beyond, head-within, words-big}
 
@@ -125,8 +121,8 @@ module _ (n : ℕ) (mode : Completion) (q : TxRing Bytes) (ds : List DriverStep)
   report_status-lies alone p place = let m = l.lies in let i = m.items in let t = counts in let o = k.queue.order in let big = words-big n mode in let wc = m.word_count in
       let below : p < n = let b : (served_count q.queue - 1) % n < n = mod-lt (served_count q.queue - 1) (omega arith) in omega arith in
       let writes : Writes n (slice_index words) (slice_index (slice_set words p done_word)) (last % n) (wanted_word {Given = ℕ} (says after) lies_there q.queue last) =
-          subst (λ (v : ℕ). Writes n (slice_index words) (slice_index (slice_set words p done_word)) (last % n) v) (sym (last-done alone))
-          (subst (λ (j : ℕ). Writes n (slice_index words) (slice_index (slice_set words p done_word)) j done_word) place (slice_index-writes words n p done_word (omega arith))) in
+      subst (λ (v : ℕ). Writes n (slice_index words) (slice_index (slice_set words p done_word)) (last % n) v) (sym (last-done alone))
+      (subst (λ (j : ℕ). Writes n (slice_index words) (slice_index (slice_set words p done_word)) j done_word) place (slice_index-writes words n p done_word (omega arith))) in
       reported-lies p done_word
       (record {
         word_count = length-set words p done_word ∙ m.word_count;

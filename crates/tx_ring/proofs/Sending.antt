@@ -1,38 +1,36 @@
 -- What each step of the controller makes of words, slots and records that lie as a ring has them: they lie as the stepped ring has them.
-use Rattle.std.proofs.Common.{◌≡◌, ◌≢◌, ℕ, ◌+◌, ◌-◌, ◌%◌, ◌<◌, ◌≤◌, Bool, true, false, not, ◌&&◌, ◌||◌, List, [], ◌∷◌, ◌++◌, length, set, take, Option, Some, None, sym, refl, ap, ◌∙◌, subst, ⊎_elim, arith, mod-lt, length-append, get_or-set_same, length-set, if◌then◌else◌}
-use Rattle.std.specs.Prelude.{slice_get, slice_index, slice_set, ◌==◌, nat_lt}
-use Rattle.std.proofs.lemmas.Bool.{and_from, and_parts, or_left, or_right, lt-ltb, eq-eqb, both_ways, false≢true}
-use Rattle.std.proofs.lemmas.Option.{none-some, same_Some}
+use Rattle.std.proofs.Common.{◌≡◌, ℕ, ◌+◌, ◌%◌, ◌<◌, ◌≤◌, Bool, true, false, not, ◌&&◌, List, [], ◌∷◌, ◌++◌, length, set, Option, Some, None, sym, refl, ap, ◌∙◌, subst, arith, length-append, if◌then◌else◌}
+use Rattle.std.specs.Prelude.{slice_get, slice_index, slice_set, ◌==◌}
+use Rattle.std.proofs.lemmas.Bool.{and_from, and_parts, or_left, or_right, lt-ltb, eq-eqb, false≢true}
+use Rattle.std.proofs.lemmas.Option.{same_Some}
 use mathlib.Core.Option as maybe
 use mathlib.Core.Option.{some, none}
-use Rattle.buffer_pool.specs.Buffer.{Buffer, buffer}
+use Rattle.buffer_pool.specs.Buffer.{Buffer}
 use Rattle.ring_model.specs.declared.states.Completion.{Completion}
 use Rattle.ring_model.specs.declared.states.DriverState.{DriverState}
 use Rattle.ring_model.specs.declared.states.DriverState.TheVariants.{New, Asked, On}
 use Rattle.ring_model.specs.declared.states.ControllerState.{ControllerState}
 use Rattle.ring_model.specs.declared.states.ControllerState.TheVariants as at
 use Rattle.ring_model.specs.declared.steps.ControlStep.TheVariants.{LookAsked, Answer}
-use Rattle.ring_model.specs.declared.steps.TxStep.{TxStep}
 use Rattle.ring_model.specs.declared.steps.TxStep.TheVariants as tx
 use Rattle.ring_model.specs.shared.Handshakes.{is_open, is_on, is_serving, can_enable, can_disable, enable, disable}
 use Rattle.ring_model.specs.shared.Frames.{Bytes}
-use Rattle.ring_model.specs.shared.Queue.{posted_count, served_count, given_count, returned_count, by}
+use Rattle.ring_model.specs.shared.Queue.{served_count, by}
 use Rattle.ring_model.specs.shared.QueueSteps as queue
-use Rattle.ring_model.specs.transmit.Ring.{TxRing, are_whole, ends_posting, next_posting}
+use Rattle.ring_model.specs.transmit.Ring.{TxRing, ends_posting, next_posting}
 use Rattle.ring_model.specs.transmit.Steps.{IsTxReachable, sent_one, tx_can, tx_changed, tx_settled}
 use Rattle.ring_model.proofs.transmit.Kept.{IsTxKept}
 use Rattle.ring_model.proofs.shared.Kept.{ShakesAs}
 use Rattle.ring_model.proofs.shared.Shakes.{shakes-enable}
 use Rattle.ring_model.proofs.shared.Stepping.{shook, kept-by, held_below, returned_served}
 use Rattle.shared_ring.specs.declared.events.ControllerEvent.TheVariants as controller
-use Rattle.shared_ring.specs.Records.{count_at}
-use Rattle.shared_ring.specs.Lies.{driven, is_early, IsControlled, LiesIn}
+use Rattle.shared_ring.specs.Lies.{is_early, IsControlled, LiesIn}
 use Rattle.shared_ring.proofs.Laying.{set-same}
 use Rattle.shared_ring.proofs.Lying.{lies-look, lies-fetch, lies-serve, lies-head, lies-look_asked, lies-enable, lies-disable}
 use Rattle.shared_ring.proofs.Controlling.{ctl-look, ctl-fetch, ctl-serve, ctl-head, ctl-look_asked, ctl-enable, ctl-disable}
-use Rattle.tx_ring.specs.declared.events.TxControllerOwn.TheVariants.{Sent, Reported}
+use Rattle.tx_ring.specs.declared.events.TxControllerOwn.TheVariants.{Sent}
 use Rattle.tx_ring.specs.Records.{Posting, TxControlled, DriverStep, ControllerStep, control, controlling, fetch_word, fetched_word, Knowing, knowing, posting_of, rs_of}
-use Rattle.tx_ring.specs.Rule.{LiesAs, Learnt, IsFetched, IsReady, TellsReports, filled, says, lies_there, word_of, words_of}
+use Rattle.tx_ring.specs.Rule.{LiesAs, Learnt, IsFetched, filled, says, lies_there, word_of, words_of}
 use Rattle.tx_ring.proofs.Words.{posting-posted, rs_of-tx_word}
 use Rattle.tx_ring.proofs.Learning.{learnt-step}
 use Rattle.tx_ring.proofs.Lying.{keeps_it, big, goes_on, control_is, fetched-snoc, reports-else}
@@ -116,8 +114,8 @@ module _ (n : ℕ) (mode : Completion) (q : TxRing Bytes) (ds : List DriverStep)
       let served = kept-by n ends_posting q.queue k.queue (queue.Serve p) tt held in
       let w = slice_index words at in
       let one = subst (λ (ws : List ℕ). LiesIn {Given = ℕ} (says q) lies_there n (words_of n mode) (by q.queue (queue.Serve p)) 0 ws (set homes at (some (filled p)))) (set-same words at)
-          (lies-serve (says q) lies_there ends_posting n (words_of n mode) q.queue k.queue 0 words homes l.lies wide p (filled p) w at place held (word-stays p at is place held)
-          (ap (λ (o : Option Posting). lies_there o (Some p)) is)) in
+      (lies-serve (says q) lies_there ends_posting n (words_of n mode) q.queue k.queue 0 words homes l.lies wide p (filled p) w at place held (word-stays p at is place held)
+      (ap (λ (o : Option Posting). lies_there o (Some p)) is)) in
       let more = length-append q.ledger.served (p ∷ []) in
       let there : h ≡ served_count (by q.queue (queue.Serve p)) % n = next ∙ ap (λ (j : ℕ). j % n) (sym more) in
       let can = and_from (is_serving q.handshake.controller) true serving refl in
@@ -189,6 +187,7 @@ module _ (n : ℕ) (mode : Completion) (q : TxRing Bytes) (ds : List DriverStep)
       early_asked Asked e f = refl
       early_asked On e f = absurd (f refl)
       early_asked _ e f = absurd (false≢true e)
+
       -- an enabling is answered before the driver has seen it
       enabling : (d : DriverState) (s : ControllerState) (control seen : ℕ) → seen ≡ 1 → ShakesAs d s control seen → ¬ (is_on d ≡ true)
       enabling On at.Off control seen e h f = h

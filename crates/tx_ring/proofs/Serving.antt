@@ -1,40 +1,38 @@
 -- The steps of the controller's end: each keeps the rule, and tells what its play says.
-use Rattle.std.proofs.Common.{◌≡◌, ℕ, zero, suc, ◌+◌, ◌-◌, ◌%◌, ◌<◌, ◌≤◌, Bool, true, false, not, ◌&&◌, List, [], ◌∷◌, ◌++◌, length, set, take, Option, Some, None, sym, refl, ap, ◌∙◌, subst, ⊎_elim, arith, mod-lt}
-use Rattle.std.specs.Prelude.{slice_get, slice_index, slice_set, ◌==◌}
-use Rattle.std.proofs.lemmas.Bool.{and_from, and_parts, eq-eqb, cases_eq, cases_Bool, both_ways, true≢false, false≢true}
+use Rattle.std.proofs.Common.{◌≡◌, ℕ, zero, suc, ◌+◌, ◌-◌, ◌%◌, ◌<◌, ◌≤◌, Bool, true, false, not, List, [], ◌∷◌, ◌++◌, length, set, take, Option, Some, None, sym, refl, ap, ◌∙◌, subst, ⊎_elim, arith, mod-lt}
+use Rattle.std.specs.Prelude.{slice_get, slice_index, slice_set}
+use Rattle.std.proofs.lemmas.Bool.{and_from, and_parts, eq-eqb, cases_eq, true≢false}
 use Rattle.std.proofs.lemmas.Option.{none-some, same_Some}
 use mathlib.Core.Option as maybe
 use mathlib.Core.Option.{some, none}
 use Rattle.atomic_table.specs.Table.{keeps, takes, gives, step, Allows}
-use Rattle.buffer_pool.specs.Buffer.{Buffer, buffer}
+use Rattle.buffer_pool.specs.Buffer.{Buffer}
 use Rattle.ring_model.specs.declared.states.Completion.{Completion}
-use Rattle.ring_model.specs.declared.states.Completion.TheVariants.{Status, Head}
-use Rattle.ring_model.specs.declared.steps.ControlStep.TheVariants.{LookAsked, Answer}
+use Rattle.ring_model.specs.declared.steps.ControlStep.TheVariants.{LookAsked}
 use Rattle.ring_model.specs.declared.steps.TxStep.TheVariants as tx
 use Rattle.ring_model.specs.transmit.Ring.{TxRing, are_whole, carried, ends_posting, next_posting}
 use Rattle.ring_model.specs.transmit.Frames.{MayFollow}
-use Rattle.ring_model.specs.transmit.Agreement.{done_word, is_told, posting_word, tx_word}
+use Rattle.ring_model.specs.transmit.Agreement.{done_word, posting_word}
 use Rattle.ring_model.specs.transmit.Steps.{by_head, sent_one, tx_changed, tx_settled}
 use Rattle.ring_model.specs.shared.Frames.{Bytes, unfinished, ends_frame}
 use Rattle.ring_model.specs.shared.Handshakes.{is_serving}
-use Rattle.ring_model.specs.shared.Queue.{posted_count, served_count, returned_count, next_head}
+use Rattle.ring_model.specs.shared.Queue.{posted_count, served_count, next_head}
 use Rattle.ring_model.proofs.shared.Stepping.{held_below, returned_served}
 use Rattle.ring_model.proofs.transmit.Kept.{IsTxKept}
 use Rattle.ring_model.proofs.transmit.Postings.{may_follow_next}
 use Rattle.shared_ring.specs.declared.events.ControllerEvent.TheVariants as controller
 use Rattle.shared_ring.specs.declared.events.View.TheVariants.{Controller}
-use Rattle.shared_ring.specs.Records.{count_at}
 use Rattle.shared_ring.specs.Slots.{home_at}
 use Rattle.shared_ring.specs.Plays.{LoadsRequest, enables, disables}
-use Rattle.shared_ring.proofs.Laying.{set-same, home-full, slice_get-past}
-use Rattle.shared_ring.proofs.Items.{fetch_lies, fetch_facts}
+use Rattle.shared_ring.proofs.Laying.{set-same, home-full}
+use Rattle.shared_ring.proofs.Items.{fetch_lies}
 use Rattle.shared_ring.proofs.Controlling.{of-serving, of-served, of-known, of-held, of-unheld, known-looked}
 use Rattle.shared_ring.proofs.Allowing.{ControllerGoes, allow_controller}
 use Rattle.tx_ring.specs.declared.events.TxControllerOwn.TheVariants.{Sent, Reported}
-use Rattle.tx_ring.specs.Records.{Posting, TxControlled, DriverStep, ControllerStep, controlling, fetched_word, eop_of, rs_of, paylen_of, posting_of}
+use Rattle.tx_ring.specs.Records.{Posting, TxControlled, DriverStep, ControllerStep, controlling, fetched_word, posting_of}
 use Rattle.tx_ring.specs.Rule.{IsRuled, LiesAs, filled, says, lies_there, word_of, words_of}
 use Rattle.tx_ring.specs.Plays.{Seated, LoadsTail, Fetches, sends, reports}
-use Rattle.tx_ring.proofs.Words.{posting-posted, eop_of-tx_word}
+use Rattle.tx_ring.proofs.Words.{posting-posted}
 use Rattle.tx_ring.proofs.Lying.{keeps_it, untold}
 use Rattle.tx_ring.proofs.Sending.{look-lies, can-fetch, fetch-lies, send-lies, look_asked-lies, enable-lies, disable-lies, enabled, disabled}
 use Rattle.tx_ring.proofs.Reporting.{report_status-lies, report_head-lies}

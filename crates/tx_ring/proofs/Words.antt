@@ -1,10 +1,9 @@
 -- The second words of transmit descriptors: what was written is read back, and DD is in the write-back alone.
-use Rattle.std.proofs.Common.{◌≡◌, ℕ, ◌+◌, ◌*◌, ◌/◌, ◌%◌, ◌^◌, ◌≤◌, Bool, true, false, length, sym, refl, ap, ◌∙◌, arith}
+use Rattle.std.proofs.Common.{◌≡◌, ℕ, ◌+◌, ◌*◌, ◌/◌, ◌%◌, ◌^◌, ◌≤◌, Bool, true, false, length, refl, ap, ◌∙◌, arith}
 use Rattle.std.specs.Prelude.{◌==◌}
 use Rattle.std.proofs.lemmas.Bool.{eq-eqb, eqb-true, false≢true, false_from_ne_true}
 use Rattle.descriptor.specs.Layout.{bit as descriptor_bit}
 use Rattle.descriptor.specs.declared.tx_read.TxRead.{TxRead}
-use Rattle.buffer_pool.specs.Buffer.{Buffer, buffer}
 use Rattle.ring_model.specs.shared.Agreement.{bit}
 use Rattle.ring_model.specs.transmit.Agreement.{tx_word, done_word}
 use Rattle.tx_ring.specs.Records.{Posting, eop_of, rs_of, paylen_of, posting_of}

@@ -19,14 +19,14 @@ use Rattle.shared_ring.specs.declared.events.ControllerEvent.TheVariants as cont
 use Rattle.shared_ring.specs.declared.control.Control.{Control}
 use Rattle.shared_ring.specs.Words.{control_word}
 use Rattle.tx_ring.specs.declared.events.TxControllerOwn.{TxControllerOwn}
-use Rattle.tx_ring.specs.declared.events.TxControllerOwn.TheVariants.{Sent, Reported}
+use Rattle.tx_ring.specs.declared.events.TxControllerOwn.TheVariants.{Reported}
 use Rattle.tx_ring.specs.Meeting.{told_left}
 use Rattle.tx_ring.specs.Rule.{filled}
 use Rattle.tx_ring.specs.Steps.{Looked}
 use Rattle.tx_ring.specs.declared.events.TxDriverOwn.TheVariants.{Cleaned, EndedEpoch, ClearedReport}
 use Rattle.shared_ring.specs.Records.{undriven}
-use Rattle.tx_ring.specs.Records.{Posting, TxDriven, TxControlled, Knowing, unknown, eop_of, rs_of, paylen_of, posting_of}
-use Rattle.tx_ring.specs.Ends.{DriverSide, driver_size, driver_record, posted, cleaned, reclaimed, returned, seen_reported, outstanding, driver_state, known_of, next_place, appended, ControllerSide, controller_size, controller_record, sent, known_ready, held, held_word, controller_state, seen, head_stored, is_owed, is_between, serve_place, answered}
+use Rattle.tx_ring.specs.Records.{Posting, TxDriven, TxControlled, Knowing, unknown, eop_of, rs_of, posting_of}
+use Rattle.tx_ring.specs.Ends.{DriverSide, driver_size, driver_record, posted, cleaned, reclaimed, returned, seen_reported, outstanding, driver_state, known_of, next_place, appended, ControllerSide, controller_size, controller_record, sent, known_ready, held, held_word, controller_state, seen, is_owed, is_between, serve_place, answered}
 
 -- B3: the tail was loaded, and the result is how far it is ahead
 pub record FoundReady (old : ControllerSide) (ready : ℕ) (new : ControllerSide) : Type 0 where

@@ -1,7 +1,7 @@
 -- What contracts see of a ring's two ends: its identity, how it reports, and the record of the end's own steps, with words on what it amounts to.
-use Rattle.std.specs.Prelude.{◌≡◌, ℕ, ◌+◌, ◌-◌, ◌%◌, ◌<◌, ◌≤◌, Bool, true, false, ◌&&◌, List, [], ◌∷◌, ◌++◌, length, Option, Some, None}
+use Rattle.std.specs.Prelude.{ℕ, ◌+◌, ◌-◌, ◌%◌, Bool, List, [], ◌∷◌, ◌++◌, length, Option}
 use Rattle.atomic_table.specs.Seated.{TableId}
-use Rattle.buffer_pool.specs.Buffer.{Buffer, buffer}
+use Rattle.buffer_pool.specs.Buffer.{Buffer}
 use Rattle.ring_model.specs.declared.states.Completion.{Completion}
 use Rattle.ring_model.specs.declared.states.DriverState.{DriverState}
 use Rattle.ring_model.specs.declared.states.ControllerState.{ControllerState}

@@ -1,5 +1,5 @@
 -- What each step of a transmit ring's own tells: its end's record has one more event, with what was found and what the rule says of that.
-use Rattle.std.specs.Prelude.{◌≡◌, ℕ, ◌+◌, ◌/◌, ◌%◌, ◌^◌, ◌<◌, ◌≤◌, Bool, true, false, not, nat_lt, ◌==◌, List, [], ◌∷◌, ◌++◌, length, Option, Some, None, slice_get, if◌then◌else◌}
+use Rattle.std.specs.Prelude.{◌≡◌, ℕ, ◌+◌, ◌/◌, ◌%◌, ◌^◌, ◌<◌, ◌≤◌, Bool, true, false, not, nat_lt, ◌==◌, List, ◌∷◌, length, Option, Some, None, slice_get, if◌then◌else◌}
 use Rattle.atomic_table.specs.Table.{Step, rest}
 use Rattle.buffer_pool.specs.Buffer.{Buffer, buffer}
 use Rattle.ring_model.specs.declared.states.Completion.{Completion}
@@ -20,7 +20,7 @@ use Rattle.shared_ring.specs.Records.{count_at}
 use Rattle.shared_ring.specs.Slots.{front_buffer}
 use Rattle.tx_ring.specs.declared.events.TxDriverOwn.TheVariants.{NoReport, SawReport, Cleaned, EndedEpoch, ClearedReport}
 use Rattle.tx_ring.specs.declared.events.TxControllerOwn.TheVariants.{Sent, Reported}
-use Rattle.tx_ring.specs.Records.{Posting, TxView, DriverStep, ControllerStep, drivers_of, controllers_of, driving, controlling, knowing, outstanding, fetched_word, eop_of, rs_of, paylen_of, posting_of}
+use Rattle.tx_ring.specs.Records.{Posting, DriverStep, ControllerStep, drivers_of, controllers_of, driving, controlling, knowing, outstanding, fetched_word, eop_of, rs_of, paylen_of, posting_of}
 use Rattle.tx_ring.specs.Rule.{Learnt, filled, says, lies_there}
 
 abbrev pub Seated : Type 0

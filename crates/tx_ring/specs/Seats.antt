@@ -6,7 +6,7 @@ use Rattle.limits.specs.RingLength.{IsRingLength}
 use Rattle.ring_model.specs.declared.states.Completion.{Completion}
 use Rattle.shared_ring.specs.declared.events.View.TheVariants.{Driver, Controller}
 use Rattle.shared_ring.specs.Records.{driver_slots, controller_slots}
-use Rattle.tx_ring.specs.Records.{TxDriven, TxControlled, drivers_of, controllers_of, driving, controlling}
+use Rattle.tx_ring.specs.Records.{TxDriven, drivers_of, controllers_of, driving, controlling}
 use Rattle.tx_ring.specs.Rule.{IsTableOf, words_of}
 use Rattle.tx_ring.specs.Plays.{Seated}
 

@@ -12,8 +12,8 @@ ghost use Rattle.tx_ring.specs.Records.{posting_of, rs_of};
 ghost use Rattle.tx_ring.specs.Ends.{controller_size, controller_record, sent, known_ready, held, held_word, controller_state, is_owed, is_between, serve_place, answered};
 ghost use Rattle.tx_ring.specs.Calls.{IsFreshController, FoundReady, Fetched, MayAnswer, IsSettled, Answered, report_of};
 
-use crate::steps::{ControllerSeat, TxRing};
 use crate::reading::{eop_bit, paylen, rs_bit};
+use crate::steps::{ControllerSeat, TxRing};
 use buffer_pool::Buf;
 use descriptor::TxRead;
 use ring_model::{ControllerState, place_after, places_between};

@@ -5,11 +5,10 @@ mod controller;
 mod driver;
 mod gathering;
 
-pub(crate) use gathering::{meet, take_apart};
-
 use crate::events::{TxControllerEvent, TxDriverEvent};
 use atomic_table::{Play, Seat, Shared, Table, TableRule};
 use buffer_pool::Buf;
+pub(crate) use gathering::{meet, take_apart};
 use ring_model::Completion;
 use shared_ring::View;
 use std::alloc::Global;

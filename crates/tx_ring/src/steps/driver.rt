@@ -17,14 +17,15 @@ ghost use Rattle.tx_ring.specs.Calls.{gone_over};
 ghost use Rattle.tx_ring.specs.Steps.{OldestAt, Looked, CameClean, CameBack};
 
 use super::{
-    CleanStore, ClearReportStore, DriverSeat, EndEpochStore, ReclaimStore, ReportLoad, TxRing, TxSeat,
+    CleanStore, ClearReportStore, DriverSeat, EndEpochStore, ReclaimStore, ReportLoad, TxRing,
+    TxSeat,
 };
 use buffer_pool::Buf;
 use descriptor::{TxBack, TxRead};
 use ring_model::{Completion, place_after, places_between};
 use shared_ring::{
-    AskDisableStore, AskEnableStore, ClearHeadStore, ClearTailStore, Control, ControlLoad, HeadLoad,
-    PostStore, PublishStore, put_in, take_out,
+    AskDisableStore, AskEnableStore, ClearHeadStore, ClearTailStore, Control, ControlLoad,
+    HeadLoad, PostStore, PublishStore, put_in, take_out,
 };
 
 impl DriverSeat {
@@ -47,7 +48,15 @@ impl DriverSeat {
 
     /// B1: a buffer goes into the next slot, and its descriptor says what is in it.
     #[inline]
-    pub(crate) fn post(&mut self, ring: &TxRing, place: u16, buf: Buf, eop: bool, rs: bool, paylen: u16)
+    pub(crate) fn post(
+        &mut self,
+        ring: &TxRing,
+        place: u16,
+        buf: Buf,
+        eop: bool,
+        rs: bool,
+        paylen: u16,
+    )
         requires own { self.old.table ≡ ring.now }
         requires place { place ≡ fill_place self.old }
         requires open { is_open (driver_state self.old) ≡ true }

@@ -51,7 +51,11 @@ impl TxRing {
 }
 
 /// The words of a ring as it is made, all 0: one more where it reports by a head word.
-fn opening_words(alloc: Global, count: usize, completion: Completion) -> Result<Vec<u64>, AllocError>
+fn opening_words(
+    alloc: Global,
+    count: usize,
+    completion: Completion,
+) -> Result<Vec<u64>, AllocError>
     requires { count ≤ 4096 }
     ensures { IfOk result (λ v. v.items ≡ replicate (words_of count completion) 0) }
 {
@@ -92,7 +96,8 @@ fn gather(
 {
     let DriverSeat { mut seat, .. } = driver;
     let ControllerSeat {
-        seat: mut other, ..
+        seat: mut other,
+        ..
     } = controller;
     let table = &ring.table.shared;
     let lent = table.split_seat::<Lend>(&mut other);

@@ -1,5 +1,5 @@
 -- The two ends' own places tell which buffers come back.
-use Rattle.std.proofs.Common.{◌≡◌, sym, ap, ◌∙◌, subst}
+use Rattle.std.proofs.Common.{sym, ap, ◌∙◌, subst}
 use Rattle.tx_ring.specs.Ends.{DriverSide, ControllerSide}
 use Rattle.tx_ring.specs.Meeting.{IsClosed}
 use Rattle.tx_ring.proofs.Closing.{closed-by}

@@ -1,6 +1,6 @@
 -- What the two records of one ring tell together.
-use Rattle.std.proofs.Common.{◌≡◌, ◌<◌, ◌≤◌, length, sym, ap, ◌∙◌, subst, arith}
-use Rattle.tx_ring.specs.Ends.{DriverSide, ControllerSide, driver_size}
+use Rattle.std.proofs.Common.{◌≤◌, sym, ◌∙◌, subst, arith}
+use Rattle.tx_ring.specs.Ends.{DriverSide, ControllerSide}
 use Rattle.tx_ring.specs.Meeting.{Met}
 use Rattle.tx_ring.proofs.Meeting.{met-lawful, met-told, met-all}
 use Rattle.tx_ring.proofs.ring.meet_tx.Goals as goal

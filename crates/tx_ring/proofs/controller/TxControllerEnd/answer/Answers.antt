@@ -1,6 +1,5 @@
 -- Which of the two is asked goes by whether the end serves.
-use Rattle.std.proofs.Common.{◌≡◌, ◌+◌, ap, sym, refl, ◌∙◌, if◌then◌else◌}
-use Rattle.std.specs.Prelude.{◌==◌}
+use Rattle.std.proofs.Common.{sym, ◌∙◌}
 use Rattle.tx_ring.proofs.ControllerEnds.{enable-keeps, disable-keeps, enabled-is, disabled-is}
 use Rattle.tx_ring.proofs.controller.TxControllerEnd.answer.Goals as goal
 

@@ -1,5 +1,5 @@
 -- The next buffer came out, and its descriptor's word is read.
-use Rattle.std.proofs.Common.{◌∙◌, sym}
+use Rattle.std.proofs.Common.{◌∙◌}
 use Rattle.tx_ring.proofs.ControllerEnds.{fetch-keeps, fetched}
 use Rattle.tx_ring.proofs.controller.TxControllerEnd.fetch.Goals as goal
 

@@ -1,7 +1,6 @@
 -- The record has what the descriptor and the buffer say.
-use Rattle.std.proofs.Common.{◌≡◌, ◌+◌, ap, sym, refl, ◌∙◌, if◌then◌else◌}
+use Rattle.std.proofs.Common.{◌+◌, ap, ◌∙◌, if◌then◌else◌}
 use Rattle.std.specs.Prelude.{◌==◌}
-use Rattle.tx_ring.specs.Ends.{controller_size}
 use Rattle.tx_ring.proofs.ControllerEnds.{send-head, send-keeps, send-step, send-record}
 use Rattle.tx_ring.proofs.controller.TxControllerEnd.give_back.Goals as goal
 

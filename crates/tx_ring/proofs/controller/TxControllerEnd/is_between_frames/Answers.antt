@@ -1,5 +1,5 @@
 -- A record whose last posting ends a frame has nothing unfinished.
-use Rattle.std.proofs.Common.{◌≡◌, true, [], sym, ◌∙◌, subst}
+use Rattle.std.proofs.Common.{◌≡◌, [], sym, ◌∙◌, subst}
 use Rattle.ring_model.specs.shared.Frames.{unfinished}
 use Rattle.ring_model.specs.transmit.Ring.{carried}
 use Rattle.tx_ring.specs.Ends.{ControllerSide, sent}

@@ -1,8 +1,8 @@
 -- The oldest buffer that is reported came back.
-use Rattle.std.proofs.Common.{◌≡◌, ◌+◌, ap, sym, refl, ◌∙◌, if◌then◌else◌}
+use Rattle.std.proofs.Common.{◌+◌, ap, ◌∙◌, if◌then◌else◌}
 use Rattle.std.specs.Prelude.{◌==◌}
 use Rattle.tx_ring.specs.Ends.{driver_size}
-use Rattle.tx_ring.proofs.DriverCalls.{clean-out, clean-keeps, cleaned-one}
+use Rattle.tx_ring.proofs.DriverCalls.{clean-keeps, cleaned-one}
 use Rattle.tx_ring.proofs.driver.TxDriverEnd.clean.Goals as goal
 
 pub invariant_of-self : goal.invariant_of-self

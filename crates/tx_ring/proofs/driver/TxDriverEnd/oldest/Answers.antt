@@ -1,5 +1,5 @@
 -- The first of those not seen reported that asked for a report.
-use Rattle.std.proofs.Common.{◌≡◌, ◌+◌, Some, None, ap, sym, ◌∙◌, subst}
+use Rattle.std.proofs.Common.{◌≡◌, ◌+◌, Some, ap, sym, ◌∙◌, subst}
 use Rattle.tx_ring.specs.Ends.{DriverSide, outstanding, seen_reported}
 use Rattle.tx_ring.proofs.DriverCalls.{from-first, found-ahead, further-ahead, none-ahead}
 use Rattle.tx_ring.proofs.driver.TxDriverEnd.oldest.Goals as goal

@@ -1,7 +1,7 @@
 -- The oldest outstanding report is looked for at its place; where it is made, all up to it is seen reported.
-use Rattle.std.proofs.Common.{◌≡◌, ◌+◌, ◌%◌, ◌<◌, ◌≤◌, ◌⊎◌, inl, inr, Some, None, ap, sym, refl, ◌∙◌, subst, arith, if◌then◌else◌}
+use Rattle.std.proofs.Common.{◌+◌, ◌%◌, inl, Some, ap, sym, refl, ◌∙◌, subst, arith, if◌then◌else◌}
 use Rattle.std.specs.Prelude.{◌==◌}
-use Rattle.tx_ring.specs.Ends.{DriverSide, driver_size}
+use Rattle.tx_ring.specs.Ends.{DriverSide}
 use Rattle.tx_ring.specs.Calls.{OldestAhead}
 use Rattle.tx_ring.proofs.DriverCalls.{few-ahead, oldest-at, unseen-keeps, saw-nothing, seen-keeps, saw-report}
 use Rattle.tx_ring.proofs.driver.TxDriverEnd.poll_report.Goals as goal

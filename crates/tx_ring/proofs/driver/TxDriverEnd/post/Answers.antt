@@ -1,5 +1,5 @@
 -- The record has one more event, and the fields follow it.
-use Rattle.std.proofs.Common.{◌≡◌, ◌+◌, ap, sym, refl, ◌∙◌, if◌then◌else◌}
+use Rattle.std.proofs.Common.{◌+◌, ap, ◌∙◌, if◌then◌else◌}
 use Rattle.std.specs.Prelude.{◌==◌}
 use Rattle.tx_ring.specs.Ends.{driver_size}
 use Rattle.tx_ring.proofs.DriverCalls.{post-keeps, post-record, post-known}

@@ -1,6 +1,5 @@
 -- The step keeps the rule, and the record has one more event.
 use Rattle.std.proofs.Common.{refl}
-use Rattle.ring_model.specs.transmit.Agreement.{done_word}
 use Rattle.shared_ring.specs.declared.events.ControllerEvent.TheVariants as controller
 use Rattle.tx_ring.specs.declared.events.TxControllerOwn.TheVariants as own
 use Rattle.tx_ring.proofs.ControllerSeats.{report_status-asks, same-keeps}

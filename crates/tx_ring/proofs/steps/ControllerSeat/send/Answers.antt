@@ -1,6 +1,6 @@
 -- The step keeps the rule, and the record has what was fetched.
 use Rattle.std.proofs.Common.{◌∙◌}
-use Rattle.tx_ring.proofs.ControllerSeats.{send-empty, send-asks, send-keeps, send-steps}
+use Rattle.tx_ring.proofs.ControllerSeats.{send-asks, send-keeps, send-steps}
 use Rattle.tx_ring.proofs.steps.ControllerSeat.send.Goals as goal
 
 pub store-requires : goal.store-requires

@@ -1,5 +1,5 @@
 -- The step keeps the rule, and the buffer that lies there comes out.
-use Rattle.std.proofs.Common.{refl, ◌∙◌, ◌+◌, ◌≡◌, length, arith, length-append, [], ◌∷◌}
+use Rattle.std.proofs.Common.{refl, ◌∙◌, arith, length-append, [], ◌∷◌}
 use Rattle.shared_ring.specs.declared.events.DriverEvent.TheVariants as driver
 use Rattle.tx_ring.specs.declared.events.TxDriverOwn.TheVariants as own
 use Rattle.tx_ring.specs.Rule.{filled}

@@ -1,8 +1,8 @@
 -- The step keeps the rule, and the slots are turned until that of place 0 stands in front.
-use Rattle.std.proofs.Common.{◌∙◌, ap, refl}
+use Rattle.std.proofs.Common.{◌∙◌, refl}
 use Rattle.shared_ring.specs.declared.events.DriverEvent.TheVariants as driver
 use Rattle.tx_ring.specs.declared.events.TxDriverOwn.TheVariants as own
-use Rattle.tx_ring.proofs.DriverSeats.{clear_report-asks, turn-asks, turn-below, renew-keeps, renew-steps}
+use Rattle.tx_ring.proofs.DriverSeats.{clear_report-asks, turn-asks, renew-keeps, renew-steps}
 use Rattle.tx_ring.proofs.steps.DriverSeat.clear_report.Goals as goal
 
 pub store-requires : goal.store-requires

@@ -2,7 +2,7 @@
 use Rattle.std.proofs.Common.{◌+◌, ap, sym, ◌∙◌}
 use Rattle.std.specs.Prelude.{not, nat_lt}
 use Rattle.ring_model.specs.shared.Places.{between_places}
-use Rattle.tx_ring.proofs.DriverSeats.{report-asks, report-keeps, looked, head-at, head-shows, place-below, seen-below, loaded-below}
+use Rattle.tx_ring.proofs.DriverSeats.{report-asks, report-keeps, looked, head-at, head-shows}
 use Rattle.tx_ring.proofs.steps.DriverSeat.load_report.Goals as goal
 
 pub load-head-requires : goal.load-head-requires

@@ -1,6 +1,6 @@
 -- The load keeps the rule, and DD tells whether the report is made.
 use Rattle.tx_ring.proofs.Words.{done-word}
-use Rattle.tx_ring.proofs.DriverSeats.{report-asks, report-is, report-keeps, looked, status-at, status-shows}
+use Rattle.tx_ring.proofs.DriverSeats.{report-asks, report-keeps, looked, status-at, status-shows}
 use Rattle.tx_ring.proofs.steps.DriverSeat.load_status.Goals as goal
 
 pub load-word-requires : goal.load-word-requires

@@ -1,7 +1,7 @@
 -- The seat's own slot is in front; the step keeps the rule, and the record has one more event.
 use Rattle.std.proofs.Common.{◌∙◌, length}
 use Rattle.tx_ring.proofs.Words.{word-is}
-use Rattle.tx_ring.proofs.DriverSeats.{post-empty, post-asks, post-keeps, post-steps}
+use Rattle.tx_ring.proofs.DriverSeats.{post-asks, post-keeps, post-steps}
 use Rattle.tx_ring.proofs.steps.DriverSeat.post.Goals as goal
 
 pub store-requires : goal.store-requires

@@ -1,8 +1,7 @@
 -- The step keeps the rule, and the buffer that lies there comes out.
-use Rattle.std.proofs.Common.{refl, ◌∙◌, ◌+◌, ◌≡◌, length, arith}
+use Rattle.std.proofs.Common.{refl, ◌∙◌, arith}
 use Rattle.shared_ring.specs.declared.events.DriverEvent.TheVariants as driver
 use Rattle.tx_ring.specs.Rule.{filled}
-use Rattle.tx_ring.specs.Records.{driving, drivers_of}
 use Rattle.tx_ring.proofs.DriverSeats.{reclaim-asks, back-keeps, came_back}
 use Rattle.tx_ring.proofs.steps.DriverSeat.reclaim.Goals as goal
 

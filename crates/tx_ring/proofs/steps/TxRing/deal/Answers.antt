@@ -1,5 +1,5 @@
 -- The first seat takes all slots, and is cut into the seats of the two ends.
-use Rattle.std.proofs.Common.{◌≡◌, ◌+◌, ◌≤◌, [], length, ap, ◌∙◌, arith}
+use Rattle.std.proofs.Common.{◌≡◌, ◌≤◌, [], length, ap, ◌∙◌, arith}
 use Rattle.std.proofs.lemmas.List.{length-replicate}
 use Rattle.buffer_pool.specs.Buffer.{blank}
 use Rattle.tx_ring.specs.Rule.{words_of}

@@ -1,6 +1,5 @@
 -- Place after place, a buffer comes out of its slot, and goes into the room that was reserved.
-use Rattle.std.proofs.Common.{◌≡◌, ◌<◌, ◌≤◌, length, ap, ◌∙◌, arith}
-use Rattle.std.specs.Prelude.{vec_capacity}
+use Rattle.std.proofs.Common.{◌≡◌, length, ap, ◌∙◌, arith}
 use Rattle.std.specs.Mem.Slots.{slots_items}
 use Rattle.tx_ring.specs.Meeting.{kept_at}
 use Rattle.tx_ring.proofs.Closing.{kept-length}
