@@ -6,3 +6,4 @@ pub mod Controlling
 pub mod Folds
 pub mod Allowing
 pub mod Gathering
+pub mod Shaking
