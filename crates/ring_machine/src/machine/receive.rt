@@ -55,30 +55,6 @@ impl RxMachine {
         self.make(&step)
     }
 
-    // Whether the queue has the step, as far as words and places tell.
-    fn may(&self, step: &RxStep<SegmentLength>) -> bool
-        ensures told { result ≡ rx_may self.now step.now }
-        ensures sound { IsSound self.now.queue }
-    {
-        let handshake = self.queue.handshake();
-        match step {
-            RxStep::Post(_) => self.queue.can_post(),
-            RxStep::Publish => handshake.driver.is_open(),
-            RxStep::Look => handshake.controller.is_serving(),
-            RxStep::Fetch => self.queue.can_fetch() && !self.still,
-            RxStep::Store(_, _) => self.queue.is_holding(),
-            RxStep::Take => handshake.driver.is_live() && !self.queue.are_all_back(),
-            RxStep::Head => self.queue.is_idle(),
-            RxStep::Control(control) => handshake.may_shake(*control, self.queue.is_settled()),
-            RxStep::Reclaim => handshake.driver.is_stopped() && !self.queue.are_all_back(),
-            RxStep::StoreQuiet => self.queue.is_idle() && self.queue.is_whole(),
-            RxStep::LoadQuiet => true,
-            RxStep::ClearHead => handshake.driver.is_stopped() && self.queue.are_all_back(),
-            RxStep::ClearTail => handshake.driver.is_cleared(),
-            RxStep::ClearQuiet => handshake.driver.is_tailed(),
-        }
-    }
-
     fn fetch(&mut self) -> Result<Note, MachineError>
         ensures told { result ≡ rx_told self.old step.Fetch }
         ensures moved { self.new ≡ rx_moved self.old step.Fetch }
@@ -169,6 +145,30 @@ impl RxMachine {
         self.queue.renew();
         self.quiet = 0;
         Note::Quiet(0)
+    }
+
+    // Whether the queue has the step, as far as words and places tell.
+    fn may(&self, step: &RxStep<SegmentLength>) -> bool
+        ensures told { result ≡ rx_may self.now step.now }
+        ensures sound { IsSound self.now.queue }
+    {
+        let handshake = self.queue.handshake();
+        match step {
+            RxStep::Post(_) => self.queue.can_post(),
+            RxStep::Publish => handshake.driver.is_open(),
+            RxStep::Look => handshake.controller.is_serving(),
+            RxStep::Fetch => self.queue.can_fetch() && !self.still,
+            RxStep::Store(_, _) => self.queue.is_holding(),
+            RxStep::Take => handshake.driver.is_live() && !self.queue.are_all_back(),
+            RxStep::Head => self.queue.is_idle(),
+            RxStep::Control(control) => handshake.may_shake(*control, self.queue.is_settled()),
+            RxStep::Reclaim => handshake.driver.is_stopped() && !self.queue.are_all_back(),
+            RxStep::StoreQuiet => self.queue.is_idle() && self.queue.is_whole(),
+            RxStep::LoadQuiet => true,
+            RxStep::ClearHead => handshake.driver.is_stopped() && self.queue.are_all_back(),
+            RxStep::ClearTail => handshake.driver.is_cleared(),
+            RxStep::ClearQuiet => handshake.driver.is_tailed(),
+        }
     }
 
     // The step, where the queue has it.

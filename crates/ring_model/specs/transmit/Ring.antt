@@ -12,15 +12,15 @@ pub record Posting (Payload : Type 0) : Type 0 where
   pub rs : Bool
   pub paylen : ℕ
 
--- what a posting carries, whatever its buffer
-abbrev pub carried : Posting Bytes → Piece
-carried p = record { bytes = p.payload; eop = p.eop }
-
 abbrev pub ends_posting : {Payload : Type 0} → Posting Payload → Bool
 ends_posting p = p.eop
 
 abbrev pub number_of_posting : {Payload : Type 0} → Posting Payload → ℕ
 number_of_posting p = p.number
+
+-- what a posting carries, whatever its buffer
+abbrev pub carried : Posting Bytes → Piece
+carried p = record { bytes = p.payload; eop = p.eop }
 
 -- What the driver posted, what of it the controller sent, and the numbers of the buffers that the driver took back
 abbrev pub TxLedger : Type 0 → Type 0
