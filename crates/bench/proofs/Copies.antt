@@ -1,5 +1,5 @@
 -- Segments that are each the whole frame: what they leave unfinished, and the frames that they are.
-use Rattle.std.proofs.Common.{◌≡◌, ◌∙◌, Bool, true, List, [], ◌∷◌, ◌++◌, length, map, ap, refl, append-nil, if◌then◌else◌}
+use Rattle.std.proofs.Common.{◌≡◌, ◌∙◌, Bool, true, false, List, [], ◌∷◌, ◌++◌, length, map, ap, refl, append-nil, if◌then◌else◌}
 use Rattle.std.specs.Prelude.{All, replicate}
 use Rattle.std.proofs.lemmas.List.Elements.{All-nil, All-cons, All-head, All-tail, All-same}
 use Rattle.ring_model.specs.shared.Lists.{IsBeginning}
@@ -18,6 +18,11 @@ All-beginning P [] ys before all = All-nil P
 All-beginning P (x ∷ xs) ys before all =
     let whole : All P (x ∷ (xs ++ before.0)) = All-same P (x ∷ (xs ++ before.0)) ys before.1 all in
     All-cons P x xs (All-head P x (xs ++ before.0) whole) (All-beginning P xs (xs ++ before.0) (before.0, refl) (All-tail P x (xs ++ before.0) whole))
+
+-- what holds of each item holds of each item where there may be none
+pub All-unless : {X : Type 0} (P : X → Type 0) (xs : List X) (none : Bool) → All P xs → All P (if none then [] else xs)
+All-unless P xs true all = All-nil P
+All-unless P xs false all = all
 
 -- whole frames are so many copies of the frame
 pub copies : (frame : Bytes) (ss : List (Segment Bytes)) → All (IsWhole frame) ss → frames piece_of ss ≡ replicate (length ss) frame

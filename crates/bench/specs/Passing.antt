@@ -1,13 +1,14 @@
 -- What the threads at the two ends of a ring keep while frames are passed, and what was passed at the end.
-use Rattle.std.specs.Prelude.{◌≡◌, ℕ, ◌+◌, ◌≤◌, true, false, [], All, length, replicate, None}
+use Rattle.std.specs.Prelude.{◌≡◌, ℕ, ◌≤◌, true, false, [], All, length, replicate, None}
 use Rattle.atomic_table.specs.Seated.{TableId}
 use Rattle.limits.specs.declared.profile.TheConstants.{BUFFER_BYTES, LEAST_FRAME}
 use Rattle.ring_model.specs.declared.states.DriverState.TheVariants.{On}
 use Rattle.ring_model.specs.receive.Ring.{Segment, piece_of}
-use Rattle.ring_model.specs.shared.Handshakes.{is_serving}
+use Rattle.ring_model.specs.shared.Handshakes.{is_new, is_serving}
 use Rattle.ring_model.specs.shared.Frames.{Bytes, frames, unfinished}
 use Rattle.ring_model.specs.receive.Lawful.{IsLawfulRxLedger}
-use Rattle.rx_ring.specs.Ends.{DriverSide, ControllerSide, driver_size, posted, taken, driver_state, stored, held_number, controller_state, is_quiet, ledger_of}
+use Rattle.rx_ring.specs.Ends.{DriverSide, ControllerSide, driver_size, taken, driver_state, stored, held_number, controller_state, is_quiet}
+use Rattle.rx_ring.specs.Meeting.{ledger_of}
 
 -- at least an Ethernet header, and no more than a buffer has room for
 abbrev pub IsFrameLength : ℕ → Type 0
@@ -23,6 +24,20 @@ pub record StoredOnly (ring : TableId) (frame : Bytes) (controller : ControllerS
   pub own : controller.table ≡ ring
   pub only : All (IsWhole frame) (stored controller)
 
+-- the controller does not serve the ring, and holds no buffer
+pub record CanServe (ring : TableId) (controller : ControllerSide) : Type 0 where
+  pub own : controller.table ≡ ring
+  pub idle : is_serving (controller_state controller) ≡ false
+  pub none_held : held_number controller ≡ None
+
+-- the controller serves the ring, and has stored nothing yet
+pub record HasBegun (ring : TableId) (controller : ControllerSide) : Type 0 where
+  pub own : controller.table ≡ ring
+  pub none_stored : stored controller ≡ []
+  pub none_held : held_number controller ≡ None
+  pub serving : is_serving (controller_state controller) ≡ true
+  pub not_quiet : is_quiet controller ≡ false
+
 -- the controller stored nothing but the frame at the ring, and can store it again where a descriptor is free
 pub record CanStore (ring : TableId) (frame : Bytes) (controller : ControllerSide) : Type 0 where
   pub stored_only : StoredOnly ring frame controller
@@ -31,11 +46,16 @@ pub record CanStore (ring : TableId) (frame : Bytes) (controller : ControllerSid
   pub serving : is_serving (controller_state controller) ≡ true
   pub not_quiet : is_quiet controller ≡ false
 
--- the driver's queue is enabled, and what it takes it can post again
+-- the driver took nothing, and may ask for its queue to be enabled
+pub record CanAsk (ring : TableId) (driver : DriverSide) : Type 0 where
+  pub own : driver.table ≡ ring
+  pub new : is_new (driver_state driver) ≡ true
+  pub none_taken : taken driver ≡ []
+
+-- the driver saw its queue enabled
 pub record CanTake (ring : TableId) (driver : DriverSide) : Type 0 where
   pub own : driver.table ≡ ring
   pub on : driver_state driver ≡ On
-  pub room : length (posted driver) + 1 ≤ driver_size driver + length (taken driver)
 
 -- the driver took so many segments at the ring
 pub record TookAll (ring : TableId) (count : ℕ) (driver : DriverSide) : Type 0 where

@@ -1,8 +1,8 @@
 //! A ring is made, its two ends run in threads of their own, and the time is taken.
-ghost use Rattle.std.specs.Prelude.{◌≡◌, ◌+◌, ◌≤◌, [], length, replicate, IfOk};
+ghost use Rattle.std.specs.Prelude.{◌≡◌, ◌≤◌, length, replicate, IfOk};
 ghost use Rattle.limits.specs.RingLength.{IsRingLength};
-ghost use Rattle.rx_ring.specs.Ends.{taken, IsFreshController, IsFreshDriver};
-ghost use Rattle.bench.specs.Passing.{CanTake, HasPassed, IsFrameLength, StoredOnly, TookAll};
+ghost use Rattle.rx_ring.specs.Calls.{IsFreshDriver};
+ghost use Rattle.bench.specs.Passing.{CanAsk, CanServe, HasPassed, IsFrameLength, StoredOnly, TookAll};
 
 use crate::storing::store_all;
 use crate::taking::{Reception, Tally, take_all};
@@ -82,9 +82,8 @@ fn in_threads<R: Threads + Wait + Sync>(
     plan: Plan,
 ) -> Result<(Reception, RxControllerEnd)>
     requires size { IsRingLength ring.now.slots }
-    requires driver { CanTake ring.now driver }
-    requires none { taken driver ≡ [] }
-    requires controller { IsFreshController ring.now controller }
+    requires driver { CanAsk ring.now driver }
+    requires controller { CanServe ring.now controller }
     requires frame { IsFrameLength (length frame.now) }
     ensures driver { IfOk result (λ ends. TookAll ring.now plan.frames ends.0.driver) }
     ensures controller { IfOk result (λ ends. StoredOnly ring.now frame.now ends.1) }
@@ -94,9 +93,8 @@ fn in_threads<R: Threads + Wait + Sync>(
         rt,
         move |scope| -> Result<(Reception, RxControllerEnd)>
             requires size { IsRingLength ring.now.slots }
-            requires driver { CanTake ring.now driver }
-            requires none { taken driver ≡ [] }
-            requires controller { IsFreshController ring.now controller }
+            requires driver { CanAsk ring.now driver }
+            requires controller { CanServe ring.now controller }
             requires frame { IsFrameLength (length frame.now) }
             ensures driver { IfOk result (λ ends. TookAll ring.entry.now plan.frames ends.0.driver) }
             ensures controller { IfOk result (λ ends. StoredOnly ring.entry.now frame.entry.now ends.1) }
@@ -115,10 +113,10 @@ fn in_threads<R: Threads + Wait + Sync>(
 
 /// Posts a buffer of the stock at each place that there is room for, and publishes them.
 fn post_all(ring: &RxRing, driver: &mut RxDriverEnd, stock: &mut Stock)
-    requires fresh { IsFreshDriver ring.now driver.old }
+    requires own { driver.old.table ≡ ring.now }
+    requires fresh { IsFreshDriver driver.old }
     requires stock { ring.now.slots ≤ length stock.old.numbers }
-    ensures can { CanTake ring.now driver.new }
-    ensures none { taken driver.new ≡ [] }
+    ensures { CanAsk ring.now driver.new }
 {
     for _ in 0..driver.room() {
         let Some(buf) = stock.take() else {

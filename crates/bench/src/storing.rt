@@ -1,15 +1,15 @@
 //! The controller's thread.
 ghost use Rattle.std.specs.Prelude.{◌<◌, length};
 ghost use Rattle.limits.specs.RingLength.{IsRingLength};
-ghost use Rattle.rx_ring.specs.Ends.{known_free, IsFreshController};
-ghost use Rattle.bench.specs.Passing.{CanStore, IsFrameLength, StoredOnly};
+ghost use Rattle.rx_ring.specs.Ends.{known_free};
+ghost use Rattle.bench.specs.Passing.{CanServe, CanStore, HasBegun, IsFrameLength, StoredOnly};
 
 use crate::patience::Patience;
 use rx_ring::{RxControllerEnd, RxRing};
 use std::sync::Wait;
 
-/// Stores the frame so many times, each as soon as a descriptor is free. It looks at the tail only where it knows of
-/// no free descriptor.
+/// Answers the enabling, and stores the frame so many times, each as soon as a descriptor is free. It looks at the tail
+/// only where it knows of no free descriptor.
 pub fn store_all<R: Wait>(
     rt: &R,
     ring: &RxRing,
@@ -18,10 +18,11 @@ pub fn store_all<R: Wait>(
     frames: u32,
 ) -> RxControllerEnd
     requires size { IsRingLength ring.now.slots }
-    requires fresh { IsFreshController ring.now controller }
+    requires can { CanServe ring.now controller }
     requires frame { IsFrameLength (length frame.now) }
     ensures { StoredOnly ring.now frame.now result }
 {
+    serve(rt, ring, &mut controller);
     let mut patience = Patience::new();
     let mut left = frames;
     for _ in rt.forever() {
@@ -35,6 +36,23 @@ pub fn store_all<R: Wait>(
         patience.reset();
         store(ring, &mut controller, frame);
         left -= 1;
+    }
+    unreachable!()
+}
+
+/// Waits until the enabling is asked, and answers it.
+fn serve<R: Wait>(rt: &R, ring: &RxRing, controller: &mut RxControllerEnd)
+    requires can { CanServe ring.now controller.old }
+    ensures { HasBegun ring.now controller.new }
+{
+    let mut patience = Patience::new();
+    for _ in rt.forever() {
+        controller.asked(ring);
+        if controller.can_answer() {
+            controller.answer(ring);
+            return;
+        }
+        patience.wait();
     }
     unreachable!()
 }

@@ -1,7 +1,7 @@
 //! The driver's thread.
 ghost use Rattle.std.specs.Prelude.{◌≡◌, ◌+◌, ◌≤◌, [], length};
 ghost use Rattle.rx_ring.specs.Ends.{taken};
-ghost use Rattle.bench.specs.Passing.{CanTake, TookAll};
+ghost use Rattle.bench.specs.Passing.{CanAsk, CanTake, TookAll};
 
 use crate::patience::Patience;
 use rx_ring::{Poll, RxDriverEnd, RxRing};
@@ -41,8 +41,8 @@ pub struct Reception {
     pub tally: Tally,
 }
 
-/// Takes so many frames and posts each buffer again. What is posted is published once a batch, and where nothing more
-/// is done.
+/// Has the queue enabled, takes so many frames and posts each buffer again. What is posted is published once a batch,
+/// and where nothing more is done.
 pub fn take_all<R: Wait>(
     rt: &R,
     ring: &RxRing,
@@ -50,10 +50,10 @@ pub fn take_all<R: Wait>(
     frames: u32,
     batch: u32,
 ) -> Reception
-    requires can { CanTake ring.now driver }
-    requires none { taken driver ≡ [] }
+    requires can { CanAsk ring.now driver }
     ensures { TookAll ring.now frames result.driver }
 {
+    await_on(rt, ring, &mut driver);
     let mut patience = Patience::new();
     let mut tally = Tally {
         bytes: 0,
@@ -72,6 +72,24 @@ pub fn take_all<R: Wait>(
         patience.reset();
         driver.publish(ring);
         left -= got;
+    }
+    unreachable!()
+}
+
+/// Asks for the queue to be enabled, and waits until it is seen enabled.
+fn await_on<R: Wait>(rt: &R, ring: &RxRing, driver: &mut RxDriverEnd)
+    requires can { CanAsk ring.now driver.old }
+    ensures can { CanTake ring.now driver.new }
+    ensures none { taken driver.new ≡ [] }
+{
+    driver.ask_enable(ring);
+    let mut patience = Patience::new();
+    for _ in rt.forever() {
+        driver.state(ring);
+        if driver.is_on() {
+            return;
+        }
+        patience.wait();
     }
     unreachable!()
 }

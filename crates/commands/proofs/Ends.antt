@@ -1,36 +1,37 @@
 -- What the records of the two ends amount to, from their making on.
-use Rattle.std.proofs.Common.{◌≡◌, ◌∙◌, ℕ, List, [], ◌∷◌, ◌++◌, length, ap}
+use Rattle.std.proofs.Common.{◌≡◌, ◌∙◌, ℕ, List, [], ◌∷◌, ◌++◌, ◌+◌, length, ap}
 use Rattle.atomic_table.specs.Seated.{TableId}
-use Rattle.ring_model.specs.declared.states.DriverState.TheVariants.{On}
+use Rattle.ring_model.specs.declared.states.DriverState.TheVariants.{New}
 use Rattle.ring_model.specs.shared.Frames.{Bytes}
 use Rattle.ring_model.specs.receive.Ring.{Segment}
-use Rattle.ring_model.specs.shared.Handshakes.{is_serving}
 use Rattle.rx_ring.specs.Records.{driving, controlling}
-use Rattle.rx_ring.specs.Ends.{DriverSide, ControllerSide, posted, taken, driver_state, stored, IsFreshDriver, IsFreshController}
+use Rattle.rx_ring.specs.Ends.{DriverSide, ControllerSide, posted, taken, returned, driver_state, stored, number_in}
+use Rattle.rx_ring.specs.Calls.{IsFreshDriver, IsFreshController}
 use Rattle.commands.specs.Passing.{CanServe, StoredOnly, whole}
 
--- the driver posted so many buffers at the ring, took none, and may go on
+-- the driver posted so many buffers at the ring, had none back, and asked nothing
 pub record HasPosted (ring : TableId) (count : ℕ) (driver : DriverSide) : Type 0 where
   pub own : driver.table ≡ ring
   pub count_is : length (posted driver) ≡ count
   pub none_taken : taken driver ≡ []
-  pub on : driver_state driver ≡ On
+  pub none_back : returned driver ≡ 0
+  pub new : driver_state driver ≡ New
 
-pub fresh_posts : (ring : TableId) (driver : DriverSide) → IsFreshDriver ring driver → HasPosted ring 0 driver
-fresh_posts ring driver fresh = record {
-  own = fresh.own;
-  count_is = ap (λ es. length (driving es).posted) fresh.empty;
-  none_taken = ap (λ es. (driving es).taken) fresh.empty;
-  on = ap (λ es. (driving es).state) fresh.empty;
+pub fresh_posts : (ring : TableId) (driver : DriverSide) → driver.table ≡ ring → IsFreshDriver driver → HasPosted ring 0 driver
+fresh_posts ring driver own fresh = record {
+  own = own;
+  count_is = ap (λ es. length (driving es).posted) fresh;
+  none_taken = ap (λ es. (driving es).given) fresh;
+  none_back = ap (λ es. length (driving es).given + (driving es).reclaimed) fresh;
+  new = ap (λ es. (driving es).state) fresh;
 }
 
-pub fresh_serves : (ring : TableId) (controller : ControllerSide) → IsFreshController ring controller → CanServe ring controller
-fresh_serves ring controller fresh = record {
-  own = fresh.own;
-  none_stored = ap (λ es. (controlling controller.table.slots es).stored) fresh.empty;
-  none_held = ap (λ es. (controlling controller.table.slots es).held) fresh.empty;
-  serving = ap (λ es. is_serving (controlling controller.table.slots es).state) fresh.empty;
-  not_quiet = ap (λ es. (controlling controller.table.slots es).still) fresh.empty;
+pub fresh_serves : (ring : TableId) (controller : ControllerSide) → controller.table ≡ ring → IsFreshController controller → CanServe ring controller
+fresh_serves ring controller own fresh = record {
+  own = own;
+  none_stored = ap (λ es. (controlling controller.table.slots es).served) fresh;
+  none_held = ap (λ es. number_in (controlling controller.table.slots es).held) fresh;
+  not_quiet = ap (λ es. (controlling controller.table.slots es).barred) fresh;
 }
 
 -- a controller that never stored

@@ -3,8 +3,8 @@ use Rattle.std.proofs.Common.{◌≡◌, ◌⊎◌, refl, ap, inl, inr, arith}
 use lib.Count.{ones}
 use Rattle.buffer_pool.specs.declared.error.PoolError.{PoolError}
 use Rattle.buffer_pool.specs.declared.error.PoolError.TheVariants as pool
-use Rattle.rx_ring.specs.declared.error.RingError.{RingError}
-use Rattle.rx_ring.specs.declared.error.RingError.TheVariants as ring
+use Rattle.shared_ring.specs.declared.error.RingError.{RingError}
+use Rattle.shared_ring.specs.declared.error.RingError.TheVariants as ring
 use Rattle.limits.specs.RingLength.{IsRingLength}
 use Rattle.commands.specs.declared.refusal.Refusal.TheVariants.{Ring, Stock}
 use Rattle.commands.specs.Refusals.{IsUnmade}

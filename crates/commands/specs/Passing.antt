@@ -5,10 +5,11 @@ use Rattle.buffer_pool.specs.Buffer.{Buffer}
 use Rattle.ring_model.specs.shared.Lists.{IsBeginning}
 use Rattle.ring_model.specs.shared.Frames.{Bytes}
 use Rattle.ring_model.specs.receive.Ring.{Segment}
-use Rattle.ring_model.specs.shared.Handshakes.{is_serving}
 use Rattle.ring_model.specs.receive.Lawful.{IsLawfulRxLedger}
 use Rattle.limits.specs.RingLength.{IsRingLength}
-use Rattle.rx_ring.specs.Ends.{DriverSide, ControllerSide, IsFreshDriver, IsFreshController, driver_size, taken, stored, held_number, controller_state, is_quiet, ledger_of}
+use Rattle.rx_ring.specs.Ends.{DriverSide, ControllerSide, driver_size, taken, stored, held_number, is_quiet}
+use Rattle.rx_ring.specs.Calls.{IsFreshDriver, IsFreshController}
+use Rattle.rx_ring.specs.Meeting.{ledger_of}
 use Rattle.commands.specs.Frame.{IsFrameLength}
 
 -- a stock has a buffer for each place of a ring of n
@@ -22,8 +23,10 @@ whole number frame = record { number = number; payload = frame; eop = true }
 -- two ends of the ring have done nothing yet, and there are buffers and a frame for them
 pub record CanPass (ring : TableId) (driver : DriverSide) (controller : ControllerSide) (numbers : List ℕ) (frame : Bytes) : Type 0 where
   pub size : IsRingLength ring.slots
-  pub fresh_driver : IsFreshDriver ring driver
-  pub fresh_controller : IsFreshController ring controller
+  pub driver_own : driver.table ≡ ring
+  pub fresh_driver : IsFreshDriver driver
+  pub controller_own : controller.table ≡ ring
+  pub fresh_controller : IsFreshController controller
   pub buffers : HasBuffers ring.slots numbers
   pub frame_length : IsFrameLength (length frame)
 
@@ -39,12 +42,11 @@ pub record StoredOnly (ring : TableId) (frame : Bytes) (controller : ControllerS
   pub number : ℕ
   pub only : IsBeginning (stored controller) (whole number frame ∷ [])
 
--- the controller stored nothing yet at the ring, and may fetch a buffer as soon as it knows one
+-- the controller stored nothing yet at the ring, and may fetch a buffer as soon as it serves and knows one
 pub record CanServe (ring : TableId) (controller : ControllerSide) : Type 0 where
   pub own : controller.table ≡ ring
   pub none_stored : stored controller ≡ []
   pub none_held : held_number controller ≡ None
-  pub serving : is_serving (controller_state controller) ≡ true
   pub not_quiet : is_quiet controller ≡ false
 
 -- The frame went through one ring: the controller stored it and nothing else, the driver took it and nothing else, and it lies in the buffer that the driver took

@@ -4,8 +4,8 @@ use Rattle.commands.specs.declared.refusal.Refusal.{Refusal}
 use Rattle.commands.specs.declared.refusal.Refusal.TheVariants.{Descriptor, Machine, Ring, Stock, FrameLength, Thread, Hex, Move, Input, Memory, Output}
 use Rattle.descriptor.specs.Refusal.{refusal_number as descriptor_number}
 use Rattle.ring_machine.specs.MachineErrors.{number_of_error}
-use Rattle.rx_ring.specs.declared.error.RingError.TheVariants.{Memory as RingMemory}
-use Rattle.rx_ring.specs.Refusal.{refusal_number as ring_number}
+use Rattle.shared_ring.specs.declared.error.RingError.TheVariants.{Memory as RingMemory}
+use Rattle.shared_ring.specs.Refusal.{refusal_number as ring_number}
 use Rattle.buffer_pool.specs.declared.error.PoolError.TheVariants.{Memory as StockMemory}
 use Rattle.buffer_pool.specs.Refusal.{refusal_number as stock_number}
 

@@ -1,8 +1,9 @@
 //! One frame through a receive ring, whose two ends are in threads of their own.
-ghost use Rattle.std.specs.Prelude.{◌≡◌, ◌+◌, ◌<◌, true, [], ◌∷◌, ◌++◌, length, Bool, IfOk, IfErr};
-ghost use Rattle.ring_model.specs.shared.Handshakes.{is_live};
+ghost use Rattle.std.specs.Prelude.{◌≡◌, ◌+◌, ◌<◌, true, false, [], ◌∷◌, ◌++◌, length, Bool, IfOk, IfErr};
+ghost use Rattle.ring_model.specs.shared.Handshakes.{is_live, is_new, is_serving};
 ghost use Rattle.limits.specs.RingLength.{IsRingLength};
-ghost use Rattle.rx_ring.specs.Ends.{driver_state, known_free, posted, published, taken, IsFreshController, IsFreshDriver};
+ghost use Rattle.rx_ring.specs.Calls.{IsFreshController, IsFreshDriver};
+ghost use Rattle.rx_ring.specs.Ends.{controller_state, driver_state, known_free, posted, published, taken};
 ghost use Rattle.commands.specs.Frame.{IsFrameLength};
 ghost use Rattle.commands.specs.Refusals.{IsUnmade};
 ghost use Rattle.commands.specs.Passing.{CanPass, CanServe, HasBuffers, HasPassed, StoredOnly, TookOne};
@@ -119,27 +120,30 @@ fn in_threads<R: Threads + Wait + Sync>(
     )
 }
 
-/// The driver's thread: posts empty buffers, publishes them, and takes the first segment.
+/// The driver's thread: posts empty buffers, publishes them, has the queue enabled, and takes the first segment.
 fn receive<R: Wait>(rt: &R, ring: &RxRing, mut driver: RxDriverEnd, mut stock: Stock) -> Reception
     requires size { IsRingLength ring.now.slots }
-    requires fresh { IsFreshDriver ring.now driver }
+    requires own { driver.table ≡ ring.now }
+    requires fresh { IsFreshDriver driver }
     requires stock { HasBuffers ring.now.slots stock.numbers }
     ensures { TookOne ring.now result.driver result.buf }
 {
     post_all(ring, &mut driver, &mut stock);
+    enable(rt, ring, &mut driver);
     let buf = take_segment(rt, ring, &mut driver);
     Reception { driver, buf }
 }
 
 /// Posts a buffer of the stock at each place that there is room for, and publishes them.
 fn post_all(ring: &RxRing, driver: &mut RxDriverEnd, stock: &mut Stock)
-    requires fresh { IsFreshDriver ring.now driver.old }
+    requires own { driver.old.table ≡ ring.now }
+    requires fresh { IsFreshDriver driver.old }
     requires stock { HasBuffers ring.now.slots stock.old.numbers }
     ensures own { driver.new.table ≡ ring.now }
     ensures posted { length (posted driver.new) + 1 ≡ ring.now.slots }
     ensures published { published driver.new ≡ length (posted driver.new) }
     ensures taken { taken driver.new ≡ [] }
-    ensures live { is_live (driver_state driver.new) ≡ true }
+    ensures new { is_new (driver_state driver.new) ≡ true }
 {
     for _ in 0..driver.room() {
         let Some(buf) = stock.take() else {
@@ -148,6 +152,26 @@ fn post_all(ring: &RxRing, driver: &mut RxDriverEnd, stock: &mut Stock)
         driver.post(ring, buf);
     }
     driver.publish(ring);
+}
+
+/// Asks for the queue to be enabled, and waits until it is.
+fn enable<R: Wait>(rt: &R, ring: &RxRing, driver: &mut RxDriverEnd)
+    requires own { driver.old.table ≡ ring.now }
+    requires new { is_new (driver_state driver.old) ≡ true }
+    ensures own { driver.new.table ≡ ring.now }
+    ensures posted { posted driver.new ≡ posted driver.old }
+    ensures taken { taken driver.new ≡ taken driver.old }
+    ensures live { is_live (driver_state driver.new) ≡ true }
+{
+    driver.ask_enable(ring);
+    for _ in rt.forever() {
+        driver.state(ring);
+        if driver.is_live() {
+            return;
+        }
+        thread::yield_now();
+    }
+    unreachable!()
 }
 
 /// Polls until a segment comes.
@@ -168,8 +192,8 @@ fn take_segment<R: Wait>(rt: &R, ring: &RxRing, driver: &mut RxDriverEnd) -> Buf
     unreachable!()
 }
 
-/// The controller's thread: looks until a descriptor is free, and stores the frame. Where `stop` is set before that,
-/// no driver will come, and it stores nothing.
+/// The controller's thread: enables the queue as soon as that is asked, looks until a descriptor is free, and stores
+/// the frame. Where `stop` is set before that, no driver will come, and it stores nothing.
 fn serve<R: Wait>(
     rt: &R,
     ring: &RxRing,
@@ -178,12 +202,15 @@ fn serve<R: Wait>(
     stop: &AtomicBool,
 ) -> RxControllerEnd
     requires size { IsRingLength ring.now.slots }
-    requires fresh { IsFreshController ring.now controller }
+    requires own { controller.table ≡ ring.now }
+    requires fresh { IsFreshController controller }
     requires frame { IsFrameLength (length frame.now) }
     ensures { StoredOnly ring.now frame.now result }
 {
     for _ in rt.forever() {
-        if 0 < controller.look(ring) {
+        if !controller.is_serving() {
+            answer(ring, &mut controller);
+        } else if 0 < controller.look(ring) {
             store(ring, &mut controller, frame);
             return controller;
         }
@@ -195,10 +222,23 @@ fn serve<R: Wait>(
     unreachable!()
 }
 
-/// Stores a frame in the next descriptor.
+/// Enables the queue where that is asked.
+fn answer(ring: &RxRing, controller: &mut RxControllerEnd)
+    requires can { CanServe ring.now controller.old }
+    requires idle { is_serving (controller_state controller.old) ≡ false }
+    ensures { CanServe ring.now controller.new }
+{
+    controller.asked(ring);
+    if controller.can_answer() {
+        controller.answer(ring);
+    }
+}
+
+/// Stores a frame in the next descriptor, and the head after it.
 fn store(ring: &RxRing, controller: &mut RxControllerEnd, frame: &[u8])
     requires size { IsRingLength ring.now.slots }
     requires can { CanServe ring.now controller.old }
+    requires serving { is_serving (controller_state controller.old) ≡ true }
     requires free { 0 < known_free controller.old }
     requires frame { IsFrameLength (length frame.now) }
     ensures { StoredOnly ring.now frame.now controller.new }
@@ -206,4 +246,5 @@ fn store(ring: &RxRing, controller: &mut RxControllerEnd, frame: &[u8])
     let mut buf = controller.fetch(ring);
     buf.fill(frame);
     controller.write_back(ring, buf, true);
+    controller.set_head(ring);
 }

@@ -1,9 +1,14 @@
-//! Rows of the pure machines, the queues, and the texts of moves and notes: what no contract says, or says otherwise.
-//!
-//! They stand in a crate of their own, so that `ring_machine` is proved once.
+//! Tests of queues: machines and their texts beside worked rows, and the running rings on threads and by calls, so that
+//! the crates below are proved without tests.
 #![tactic(auto)]
 
 #[cfg(test)]
+mod hands;
+#[cfg(test)]
 mod machine_tests;
 #[cfg(test)]
+mod rows;
+#[cfg(test)]
 mod text_tests;
+#[cfg(test)]
+mod threads;

@@ -1,154 +1,156 @@
--- The driver's calls, over the fields of its end: what each step asks, and what the end keeps.
-use Rattle.std.proofs.Common.{◌≡◌, ℕ, ◌+◌, ◌-◌, ◌%◌, ◌<◌, true, List, [], ◌∷◌, ◌++◌, length, sym, ap, ◌∙◌, subst, arith, if◌then◌else◌, length-append, mod-lt}
+-- What the driver's calls answer whose answer depends on what was loaded.
+use Rattle.std.proofs.Common.{◌≡◌, ℕ, ◌+◌, ◌-◌, ◌%◌, ◌<◌, ◌≤◌, Bool, true, false, if◌then◌else◌, List, [], ◌∷◌, ◌++◌, length, Option, Some, None, sym, refl, ap, ◌∙◌, subst, arith, length-append}
 use Rattle.std.specs.Prelude.{◌==◌}
-use mathlib.Core.Option.{none}
-use Rattle.atomic_table.specs.Table.{Allows, step, rest}
-use Rattle.atomic_table.specs.Seated.{TableId}
-use Rattle.buffer_pool.specs.Buffer.{blank, Buffer, buffer}
+use Rattle.std.proofs.lemmas.Bool.{or_right}
+use Rattle.buffer_pool.specs.Buffer.{Buffer}
 use Rattle.ring_model.specs.declared.states.DriverState.{DriverState}
+use Rattle.ring_model.specs.declared.states.DriverState.TheVariants.{New}
+use Rattle.ring_model.specs.receive.Agreement.{rx_word}
 use Rattle.ring_model.specs.receive.Ring.{Segment}
 use Rattle.ring_model.specs.shared.Frames.{Bytes}
-use Rattle.ring_model.specs.shared.Handshakes.{is_open, is_live}
-use Rattle.ring_model.proofs.shared.Places.{next_place}
-use Rattle.rx_ring.specs.declared.view.DriverEvent.{DriverEvent}
-use Rattle.rx_ring.specs.declared.view.DriverEvent.TheVariants.{Posted}
-use Rattle.rx_ring.specs.declared.view.View.TheVariants.{Driver}
-use Rattle.rx_ring.specs.Records.{RxView, drivers_of, Driven, drive, driving, driver_slots, empty_slots, front_buffer}
-use Rattle.limits.specs.RingLength.{IsRingLength}
-use Rattle.rx_ring.specs.Rule.{IsRuled, IsTableOf}
-use Rattle.rx_ring.specs.Plays.{Seated, driver_does, posts, publishes, LoadsStatus}
-use Rattle.rx_ring.specs.Ends.{IsDriverEnd}
-use Rattle.rx_ring.proofs.Folds.{driving-snoc, slots-post}
-use Rattle.rx_ring.proofs.Driving.{allow-post, allow-publish, allow-status}
-use Rattle.rx_ring.proofs.Calls.{some-places, key-is, slots-are, word-within, allow-at, front-is}
+use Rattle.ring_model.specs.shared.Handshakes.{is_live, is_stopped, is_cleared, is_tailed}
+use Rattle.ring_model.specs.shared.Places.{between_places}
+use Rattle.ring_model.proofs.shared.Shakes.{live_unanswered}
+use Rattle.shared_ring.specs.declared.events.DriverEvent.TheVariants as driver
+use Rattle.shared_ring.specs.Records.{undriven}
+use Rattle.rx_ring.specs.declared.events.RxDriverOwn.TheVariants.{NotDone, Taken, ClearedQuiet}
+use Rattle.rx_ring.specs.Records.{RxDriven, DriverStep, drive, segment_of, Knowing, know, unknown}
+use Rattle.rx_ring.specs.Ends.{DriverSide, driver_size, driver_record, posted, taken, reclaimed, returned, driver_state, known_of, fill_place, next_place, appended}
+use Rattle.rx_ring.specs.Meeting.{left_by}
+use Rattle.rx_ring.specs.Steps.{FoundNothing, FoundSegment, CameBack}
+use Rattle.rx_ring.specs.Calls.{IsEndOf, IsDriverEnd, SawNotDone, TookSegment, CameHome, FoundLeft, left_at, told_left, GoneOver, segment}
+use Rattle.rx_ring.proofs.Words.{eop_of-rx_word}
+use Rattle.rx_ring.proofs.DriverEnds.{record-after, known-after, end-after, end-not_done, end-taken, end-reclaimed, end-renewed, end-known}
 
--- the record after a step
-pub driving-did : (v : RxView) (m : Seated) (e : DriverEvent) → v ≡ driver_does m e → driving (drivers_of v) ≡ drive (driving (drivers_of m.0)) e
-driving-did v m e h = ap (λ (w : RxView). driving (drivers_of w)) h ∙ driving-snoc (drivers_of m.0) e
-
--- an end whose record amounts to d
-pub driver-end : (table : TableId) (es : List DriverEvent) (slots : List (ℕ × Buffer)) (size fill next out : ℕ) (state : DriverState) (d : Driven) → driving es ≡ d
-    → table.slots ≡ size → table.words ≡ size + 4 → IsRingLength size → slots ≡ driver_slots size d → fill ≡ length d.posted % size → next ≡ length d.taken % size → out + length d.taken ≡ length d.posted → out < size → state ≡ d.state
-    → IsDriverEnd table (Driver es, slots) size fill next out state
-driver-end table es slots size fill next out state d e size_is words lawful slots_are fill_is next_is out_is room state_is = record {
-  size_is = size_is;
-  words = words;
-  lawful = lawful;
-  me_is = ap (λ (xs : List (ℕ × Buffer)). let m : Seated = (Driver es, xs) in m) (slots_are ∙ ap (driver_slots size) (sym e));
-  fill_is = fill_is ∙ ap (λ (x : Driven). length x.posted % size) (sym e);
-  next_is = next_is ∙ ap (λ (x : Driven). length x.taken % size) (sym e);
-  out_is = subst (λ (x : Driven). out + length x.taken ≡ length x.posted) (sym e) out_is;
-  room = room;
-  state_is = state_is ∙ ap (λ (x : Driven). x.state) (sym e);
-}
-
-pub same-end : (table table' : TableId) (me me' : Seated) (size fill next out : ℕ) (state : DriverState) → table' ≡ table → me' ≡ me → IsDriverEnd table me size fill next out state → IsDriverEnd table' me' size fill next out state
-same-end table table' me me' size fill next out state t m e = subst (λ (x : TableId). IsDriverEnd x me' size fill next out state) (sym t) (subst (λ (x : Seated). IsDriverEnd table x size fill next out state) (sym m) e)
-
-module _ (table : TableId) (me : Seated) (size fill next out : ℕ) (state : DriverState) (inv : IsDriverEnd table me size fill next out state) where
-  abbrev d : Driven
-  d = driving (drivers_of me.0)
-
-  abbrev p : ℕ
-  p = length d.posted
-
-  abbrev t : ℕ
-  t = length d.taken
-
-  pub big : 1 < size
-  big = some-places inv.lawful
-
-  view-is : me.0 ≡ Driver (drivers_of me.0)
-  view-is = ap (λ (m : Seated). m.0) inv.me_is
-
-  pub slots-are-its : me.1 ≡ driver_slots size d
-  slots-are-its = ap (λ (m : Seated). m.1) inv.me_is
-
-  fill-below : fill < size
-  fill-below = let b = big in let m : p % size < size = mod-lt p (omega arith) in let f = inv.fill_is in omega arith
-
-  next-below : next < size
-  next-below = let b = big in let m : t % size < size = mod-lt t (omega arith) in let f = inv.next_is in omega arith
-
-  module _ (room : p + 1 < size + t) where
-    front : me.1 ≡ (fill, blank) ∷ empty_slots size (p + 1) (t + size - (p + 1))
-    front = slots-are-its ∙ slots-post size p t (omega arith) ∙ ap (λ (j : ℕ). (j, blank) ∷ empty_slots size (p + 1) (t + size - (p + 1))) (sym inv.fill_is)
-
-    pub post-empty : me.1 ≡ (fill, blank) ∷ rest me.1
-    post-empty = front-is me.1 _ (fill, blank) front
-
-    pub post-asks : (ring table' : TableId) (key id : ℕ) (b : Buffer) (me' : Seated) → table ≡ ring → IsTableOf ring key → table' ≡ table → me' ≡ (me.0, (fill, b) ∷ rest me.1)
-        → is_open d.state ≡ true → b ≡ buffer b.number []
-        → (table' ≡ ring) × (fill < ring.words) × Allows (IsRuled key) ring.slots id me' fill (λ _. 0) (λ _ m. posts (step ring.slots fill 0 0 none) me' 0 m)
-    post-asks ring table' key id b me' own of_key same put opened empty = (
-      same ∙ own,
-      word-within table ring key size fill own of_key inv.size_is (let f = fill-below in omega arith),
-      allow-at (λ k m r m'. posts (step k fill 0 0 none) m 0 m') size key ring.slots id fill (λ _. 0) (Driver (drivers_of me.0), (fill, b) ∷ rest me.1) me'
-          (key-is table ring key size own of_key inv.size_is) (slots-are table ring key size own of_key inv.size_is)
-          (put ∙ ap (λ (v : RxView). let m : Seated = (v, (fill, b) ∷ rest me.1) in m) view-is)
-          (allow-post size id (drivers_of me.0) b (rest me.1) fill inv.fill_is opened (omega arith) empty),
-    )
-
-    posted-more : (b : ℕ) → length (d.posted ++ b ∷ []) ≡ p + 1
-    posted-more b = length-append d.posted (b ∷ [])
-
-    after-post : (b : Buffer) → IsDriverEnd table (Driver (drivers_of me.0 ++ Posted fill 0 b ∷ []), rest me.1) size (if (fill + 1) == size then 0 else (fill + 1)) next (out + 1) state
-    after-post b = let o = inv.out_is in let g = big in
-        driver-end table (drivers_of me.0 ++ Posted fill 0 b ∷ []) (rest me.1) size _ next (out + 1) state (drive d (Posted fill 0 b)) (driving-snoc (drivers_of me.0) (Posted fill 0 b))
-        inv.size_is inv.words inv.lawful
-        (ap rest front ∙ ap (λ (j : ℕ). empty_slots size j (t + size - j)) (sym (posted-more b.number)))
-        (ap (λ (j : ℕ). if (j + 1) == size then 0 else (j + 1)) inv.fill_is ∙ next_place size p (omega arith) ∙ ap (λ (j : ℕ). j % size) (sym (posted-more b.number)))
-        inv.next_is
-        (let e = posted-more b.number in omega arith)
-        (omega arith)
-        inv.state_is
-
-    -- the seat after a post
-    pub post-seat : (b : Buffer) (me' me'' : Seated) → me' ≡ (me.0, (fill, b) ∷ rest me.1) → me'' ≡ (driver_does me' (Posted fill 0 (front_buffer me'.1)), rest me'.1)
-        → me'' ≡ (Driver (drivers_of me.0 ++ Posted fill 0 b ∷ []), rest me.1)
-    post-seat b me' me'' put stored = stored ∙ ap (λ (m : Seated). let x : Seated = (driver_does m (Posted fill 0 (front_buffer m.1)), rest m.1) in x) put
-
-    pub post-keeps : (b : Buffer) (table' table'' : TableId) (me' me'' : Seated) (fill' : ℕ) → table' ≡ table → table'' ≡ table' → me' ≡ (me.0, (fill, b) ∷ rest me.1) → me'' ≡ (driver_does me' (Posted fill 0 (front_buffer me'.1)), rest me'.1)
-        → fill' ≡ (if (fill + 1) == size then 0 else (fill + 1)) → IsDriverEnd table'' me'' size fill' next (out + 1) state
-    post-keeps b table' table'' me' me'' fill' a c put stored f =
-        subst (λ (j : ℕ). IsDriverEnd table'' me'' size j next (out + 1) state) (sym f)
-        (same-end table table'' (Driver (drivers_of me.0 ++ Posted fill 0 b ∷ []), rest me.1) me'' size _ next (out + 1) state (c ∙ a) (post-seat b me' me'' put stored) (after-post b))
-
-    pub post-driven : (b : Buffer) (me' me'' : Seated) → me' ≡ (me.0, (fill, b) ∷ rest me.1) → me'' ≡ (driver_does me' (Posted fill 0 (front_buffer me'.1)), rest me'.1)
-        → driving (drivers_of me''.0) ≡ drive d (Posted fill 0 b)
-    post-driven b me' me'' put stored = ap (λ (m : Seated). driving (drivers_of m.0)) (post-seat b me' me'' put stored) ∙ driving-snoc (drivers_of me.0) (Posted fill 0 b)
-
-  -- A2
-  pub publish-asks : (ring : TableId) (key id : ℕ) → table ≡ ring → IsTableOf ring key → is_open d.state ≡ true
-      → (table ≡ ring) × ((size + 1) < ring.words) × Allows (IsRuled key) ring.slots id me (size + 1) (λ _. fill) (λ _ m. publishes (step ring.slots (size + 1) fill 0 none) me fill m)
-  publish-asks ring key id own of_key opened = (
-    own,
-    word-within table ring key size (size + 1) own of_key inv.size_is (omega arith),
-    allow-at (λ k m r m'. publishes (step k (size + 1) fill 0 none) m fill m') size key ring.slots id (size + 1) (λ _. fill) (Driver (drivers_of me.0), driver_slots size d) me
-        (key-is table ring key size own of_key inv.size_is) (slots-are table ring key size own of_key inv.size_is) inv.me_is
-        (allow-publish size id (drivers_of me.0) (driver_slots size d) fill inv.fill_is opened),
-  )
-
-  -- a step that leaves the slots and the counts
-  pub quiet-keeps : (e : DriverEvent) (table' : TableId) (me' : Seated) → table' ≡ table → me' ≡ (driver_does me e, me.1) → (drive d e).posted ≡ d.posted → (drive d e).taken ≡ d.taken → (drive d e).state ≡ d.state
-      → IsDriverEnd table' me' size fill next out state
-  quiet-keeps e table' me' a did same_posted same_taken same_state =
-      same-end table table' (Driver (drivers_of me.0 ++ e ∷ []), me.1) me' size fill next out state a did
-      (driver-end table (drivers_of me.0 ++ e ∷ []) me.1 size fill next out state (drive d e) (driving-snoc (drivers_of me.0) e) inv.size_is inv.words inv.lawful
-      (slots-are-its ∙ ap (λ (x : List ℕ). empty_slots size (length x) (t + size - length x)) (sym same_posted) ∙ ap (λ (x : List (Segment Bytes)). empty_slots size (length (drive d e).posted) (length x + size - length (drive d e).posted)) (sym same_taken))
-      (inv.fill_is ∙ ap (λ (x : List ℕ). length x % size) (sym same_posted))
-      (inv.next_is ∙ ap (λ (x : List (Segment Bytes)). length x % size) (sym same_taken))
-      (ap (λ (x : List (Segment Bytes)). out + length x) same_taken ∙ inv.out_is ∙ ap (length {A = ℕ}) (sym same_posted))
-      inv.room
-      (inv.state_is ∙ sym same_state))
+module _ (d : DriverSide) (fill next out : ℕ) (state : DriverState) (h : IsDriverEnd d fill next out state) (now : DriverSide) (was : d ≡ now) where
+  big : 8 ≤ driver_size d
+  big = h.lawful.0
 
   -- A6
-  pub status-asks : (ring : TableId) (key id : ℕ) → table ≡ ring → IsTableOf ring key → is_live d.state ≡ true → 0 < out
-      → (table ≡ ring) × (next < ring.words) × Allows (IsRuled key) ring.slots id me next (λ x. x) (LoadsStatus (step ring.slots next 0 0 none) me)
-  status-asks ring key id own of_key live some_out = (
-    own,
-    word-within table ring key size next own of_key inv.size_is (let f = next-below in omega arith),
-    allow-at (λ k m r m'. LoadsStatus (step k next 0 0 none) m r m') size key ring.slots id next (λ x. x) (Driver (drivers_of me.0), driver_slots size d) me
-        (key-is table ring key size own of_key inv.size_is) (slots-are table ring key size own of_key inv.size_is) inv.me_is
-        (allow-status size id (drivers_of me.0) (driver_slots size d) next inv.next_is live (let o = inv.out_is in omega arith)),
-  )
+  module _ (live : is_live state ≡ true) (some : ¬ (out ≡ 0)) where
+    is-live : is_live (driver_state d) ≡ true
+    is-live = sym (ap is_live h.state_is) ∙ live
+
+    some-out : length (taken d) < length (posted d)
+    some-out = let o = h.out_is in omega arith
+
+    pub none-keeps : (new : DriverSide) → FoundNothing d next new → IsDriverEnd new fill next out state
+    none-keeps new f = end-after d new (driver.Own (NotDone next f.word)) fill next out state f.step (end-not_done (driver_size d) (driver_record d) (known_of d) fill next out state h next f.word)
+
+    pub none-seen : (new : DriverSide) → FoundNothing d next new → SawNotDone now new
+    none-seen new f = subst (λ (s : DriverSide). SawNotDone s new) was (record {
+      live = is-live;
+      some_out = some-out;
+      word = f.word;
+      clear = f.clear;
+      step = f.step ∙ ap (λ (p : ℕ). appended d (driver.Own (NotDone p f.word))) h.next_is;
+      same = record-after d new (driver.Own (NotDone next f.word)) f.step;
+      drained = λ q. ap (λ (k : Knowing). k.drained) (known-after d new (driver.Own (NotDone next f.word)) f.step) ∙ or_right (known_of d).drained (known_of d).quiet q;
+    })
+
+    pub segment-keeps : (new : DriverSide) (buf : Buffer) (eop : Bool) (next' : ℕ) → FoundSegment d next buf eop new → next' ≡ (if (next + 1) == driver_size d then 0 else (next + 1)) → IsDriverEnd new fill next' (out - 1) state
+    segment-keeps new buf eop next' f e = end-after d new (driver.Own (Taken next (rx_word (length buf.bytes) eop) buf)) fill next' (out - 1) state f.step
+        (end-taken (driver_size d) (driver_record d) (known_of d) fill next out state h next (rx_word (length buf.bytes) eop) next' buf (omega arith) e)
+
+    grew : (buf : Buffer) (eop : Bool) → (let x : RxDriven = record (driver_record d) { given = taken d ++ segment_of (rx_word (length buf.bytes) eop) buf ∷ [] } in x) ≡ record (driver_record d) { given = taken d ++ segment buf eop ∷ [] }
+    grew buf eop = ap (λ (e : Bool). let x : RxDriven = record (driver_record d) { given = taken d ++ (let s : Segment Bytes = record { number = buf.number; payload = buf.bytes; eop = e } in s) ∷ [] } in x) (eop_of-rx_word (length buf.bytes) eop)
+
+    pub segment-taken : (new : DriverSide) (buf : Buffer) (eop : Bool) → FoundSegment d next buf eop new → TookSegment now buf eop new
+    segment-taken new buf eop f = subst (λ (s : DriverSide). TookSegment s buf eop new) was (record {
+      live = is-live;
+      some_out = some-out;
+      step = f.step ∙ ap (λ (p : ℕ). appended d (driver.Own (Taken p (rx_word (length buf.bytes) eop) buf))) h.next_is;
+      number = f.number;
+      real = f.real;
+      follows = f.follows;
+      grew = record-after d new (driver.Own (Taken next (rx_word (length buf.bytes) eop) buf)) f.step ∙ grew buf eop;
+      room = let o = h.out_is in let r = h.room in let len = length-append (taken d) (segment_of (rx_word (length buf.bytes) eop) buf ∷ []) in let z : driver_size new ≡ driver_size d = ap driver_size f.step in
+          subst (λ (x : RxDriven). length x.posted + 1 < length x.given + x.reclaimed + driver_size new) (sym (record-after d new (driver.Own (Taken next (rx_word (length buf.bytes) eop) buf)) f.step)) (omega arith);
+    })
+
+  -- C6
+  module _ (stopped : is_stopped (driver_state now) ≡ true) where
+    is-stopped : is_stopped (driver_state d) ≡ true
+    is-stopped = ap (λ (s : DriverSide). is_stopped (driver_state s)) was ∙ stopped
+
+    pub back-keeps : (new : DriverSide) (buf : Buffer) (next' : ℕ) → ¬ (out ≡ 0) → CameBack d next buf new → next' ≡ (if (next + 1) == driver_size d then 0 else (next + 1)) → IsDriverEnd new fill next' (out - 1) state
+    back-keeps new buf next' some f e = end-after d new (driver.Reclaimed next buf) fill next' (out - 1) state f.step (end-reclaimed (driver_size d) (driver_record d) (known_of d) fill next out state h next next' buf (omega arith) is-stopped e)
+
+    pub back-home : (new : DriverSide) (buf : Buffer) → CameBack d next buf new → CameHome now buf new
+    back-home new buf f = subst (λ (s : DriverSide). CameHome s buf new) was (record {
+      step = f.step ∙ ap (λ (p : ℕ). appended d (driver.Reclaimed p buf)) h.next_is;
+      number = f.number;
+      real = f.real;
+      same = record-after d new (driver.Reclaimed next buf) f.step;
+      known = known-after d new (driver.Reclaimed next buf) f.step;
+    })
+
+  -- the load of the head
+  pub left-keeps : (new : DriverSide) (head : ℕ) → new ≡ appended d (driver.LoadedHead head) → IsDriverEnd new fill next out state
+  left-keeps new head step = end-after d new (driver.LoadedHead head) fill next out state step (end-known (driver_size d) (driver_record d) (known_of d) fill next out state h (record (known_of d) { head = Some head }) h.sure)
+
+  pub left-found : (new : DriverSide) (head left size : ℕ) → new ≡ appended d (driver.LoadedHead head) → returned now ≡ length (taken now) → size ≡ driver_size new → left ≡ between_places size next head → FoundLeft now left new
+  left-found new head left size step whole sizes is = subst (λ (s : DriverSide). FoundLeft s left new) was (record {
+    head = head;
+    step = step;
+    same = record-after d new (driver.LoadedHead head) step;
+    told = ap (left_at new) (ap (λ (k : Knowing). k.head) (known-after d new (driver.LoadedHead head) step)) ∙ ap Some (sym counted);
+  })
+    where
+      nothing-back : returned d ≡ length (taken d)
+      nothing-back = subst (λ (s : DriverSide). returned s ≡ length (taken s)) (sym was) whole
+
+      given-is : taken new ≡ taken d
+      given-is = ap (λ (x : RxDriven). x.given) (record-after d new (driver.LoadedHead head) step)
+
+      same-size : size ≡ driver_size d
+      same-size = sizes ∙ ap driver_size step
+
+      next-at : next ≡ length (taken d) % driver_size d
+      next-at = h.next_is ∙ ap (λ (j : ℕ). j % driver_size d) nothing-back
+
+      counted : left ≡ left_by new head
+      counted = is ∙ ap (λ (n : ℕ). (head + n - next) % n) same-size ∙ ap (λ (j : ℕ). (head + driver_size d - j) % driver_size d) next-at
+          ∙ ap (λ (xs : List (Segment Bytes)). (head + driver_size d - length xs % driver_size d) % driver_size d) (sym given-is)
+          ∙ ap (λ (n : ℕ). (head + n - length (taken new) % n) % n) (sym (ap driver_size step))
+
+  -- C9, C10 and C11
+  pub renew-cleared : (d1 : DriverSide) → d1 ≡ appended d driver.ClearedHead → is_cleared (driver_state d1) ≡ true
+  renew-cleared d1 one = ap (λ (x : RxDriven). is_cleared x.state) (record-after d d1 driver.ClearedHead one)
+
+  module _ (d1 d2 d3 : DriverSide) (one : d1 ≡ appended d driver.ClearedHead) (two : d2 ≡ appended d1 driver.ClearedTail) (back : returned now ≡ length (posted now)) where
+    first : driver_record d1 ≡ drive (driver_record d) driver.ClearedHead
+    first = record-after d d1 driver.ClearedHead one
+
+    second : driver_record d2 ≡ drive (drive (driver_record d) driver.ClearedHead) driver.ClearedTail
+    second = record-after d1 d2 driver.ClearedTail two ∙ ap (λ (x : RxDriven). drive x driver.ClearedTail) first
+
+    pub renew-tailed : is_tailed (driver_state d2) ≡ true
+    renew-tailed = ap (λ (x : RxDriven). is_tailed x.state) second
+
+    same-size : driver_size d2 ≡ driver_size d
+    same-size = ap driver_size two ∙ ap driver_size one
+
+    pub renew-place : fill ≡ fill_place d2
+    renew-place = h.fill_is ∙ ap (λ (n : ℕ). length (posted d) % n) (sym same-size) ∙ ap (λ (x : RxDriven). length x.posted % driver_size d2) (sym second)
+
+    all-back : returned d ≡ length (posted d)
+    all-back = subst (λ (s : DriverSide). returned s ≡ length (posted s)) (sym was) back
+
+    pub renew-back : returned d2 ≡ length (posted d2)
+    renew-back = subst (λ (x : RxDriven). length x.given + x.reclaimed ≡ length x.posted) (sym second) all-back
+
+    module _ (three : d3 ≡ appended d2 (driver.Own ClearedQuiet)) where
+      pub renew-keeps : IsDriverEnd d3 0 0 out New
+      renew-keeps = let o = h.out_is in let b = all-back in
+          end-after d2 d3 (driver.Own ClearedQuiet) 0 0 out New three
+          (subst (λ (n : ℕ). IsEndOf n (drive (driver_record d2) (driver.Own ClearedQuiet)) unknown 0 0 out New) (sym same-size)
+          (subst (λ (j : ℕ). IsEndOf (driver_size d) (drive (driver_record d2) (driver.Own ClearedQuiet)) unknown 0 0 j New) (let z : 0 ≡ out = omega arith in z)
+          (end-renewed (driver_size d) (driver_record d) (known_of d) fill next out state h (driver_record d2).published)))
+
+      pub renewed : GoneOver now d3
+      renewed = record {
+        step = three ∙ ap (λ (s : DriverSide). appended s (driver.Own ClearedQuiet)) (two ∙ ap (λ (s : DriverSide). appended s driver.ClearedTail) (one ∙ ap (λ (s : DriverSide). appended s driver.ClearedHead) was));
+        fresh = record-after d2 d3 (driver.Own ClearedQuiet) three ∙ ap (λ (x : RxDriven). drive x (driver.Own ClearedQuiet)) second;
+        unlearnt = known-after d2 d3 (driver.Own ClearedQuiet) three;
+      }

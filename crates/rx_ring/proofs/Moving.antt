@@ -1,340 +1,378 @@
 -- What each step makes of words, slots and records that lie as a ring has them: they lie as the stepped ring has them.
-use Rattle.std.proofs.Common.{◌≡◌, ◌≢◌, ℕ, ◌+◌, ◌-◌, ◌*◌, ◌/◌, ◌%◌, ◌<◌, ◌≤◌, Bool, true, false, not, ◌&&◌, List, [], ◌∷◌, ◌++◌, length, set, Option, Some, None, sym, refl, ap, ◌∙◌, subst, arith, if◌then◌else◌, length-append, length-set, mod-lt, get_or-set_same, get_or-set_other}
-use Rattle.std.specs.Prelude.{slice_get, slice_index, slice_set, ◌==◌}
-use Rattle.std.proofs.lemmas.Bool.{and_from, lt-ltb, eq-eqb, eqb-true}
-use Rattle.std.proofs.lemmas.Option.{slice_get_within}
+use Rattle.std.proofs.Common.{◌≡◌, ℕ, zero, suc, ◌+◌, ◌%◌, ◌<◌, ◌≤◌, Bool, true, false, not, ◌&&◌, ◌||◌, List, [], ◌∷◌, ◌++◌, length, set, replicate, Option, Some, None, sym, refl, ap, ◌∙◌, subst, ⊎_elim, arith, if◌then◌else◌, length-append, mod-eq_of_lt}
+use Rattle.std.specs.Prelude.{slice_get, slice_index, slice_set, ◌==◌, ◌-◌, nat_lt}
+use Rattle.std.proofs.lemmas.Bool.{and_parts, and_from, and_left, or_left, or_right, or_cases, lt-ltb, eq-eqb, eqb-true, both_ways, not_from_false, cases_Bool, not-true, false≢true}
+use Rattle.std.proofs.lemmas.Option.{none-some, slice_get_within}
+use Rattle.std.proofs.lemmas.List.{length-replicate}
 use mathlib.Core.Option as maybe
 use mathlib.Core.Option.{some, none}
 use Rattle.buffer_pool.specs.Buffer.{Buffer, buffer}
+use Rattle.ring_model.specs.declared.states.DriverState.{DriverState}
+use Rattle.ring_model.specs.declared.states.DriverState.TheVariants.{New, Asked, On}
+use Rattle.ring_model.specs.declared.states.ControllerState.{ControllerState}
+use Rattle.ring_model.specs.declared.states.ControllerState.TheVariants as at
+use Rattle.ring_model.specs.declared.handshake.Handshake.{Handshake}
+use Rattle.ring_model.specs.declared.steps.ControlStep.TheVariants.{AskEnable, LookAsked, Answer, LookAnswered, AskDisable}
 use Rattle.ring_model.specs.declared.steps.RxStep.{RxStep}
-use Rattle.ring_model.specs.declared.steps.RxStep.TheVariants.{Post, Publish, Look, Fetch, Store, Take}
-use Rattle.ring_model.specs.receive.Agreement.{rx_word, rx_registers_of}
-use Rattle.ring_model.specs.receive.Ring.{Segment, RxRing, rx_opening, due, piece_of}
-use Rattle.ring_model.specs.receive.Steps.{IsRxReachable, rx_can, rx_changed, took}
-use Rattle.ring_model.specs.shared.Agreement.{bit, wanted_word, wanted_slot, HasItems}
-use Rattle.ring_model.specs.shared.Frames.{Bytes, Follows, unfinished}
-use Rattle.ring_model.specs.shared.Handshakes.{is_open, is_live, is_answered, is_serving}
-use Rattle.ring_model.specs.shared.Queue.{posted_count, served_count, given_count, returned_count}
+use Rattle.ring_model.specs.declared.steps.RxStep.TheVariants as rx
+use Rattle.ring_model.specs.shared.Handshakes.{is_open, is_live, is_answered, is_serving, is_ended, is_new, is_on, is_stopped, is_cleared, is_tailed, can_enable, can_disable, enable, disable, enables, shaken}
+use Rattle.ring_model.specs.shared.Frames.{Bytes, Follows, unfinished, ends_frame}
+use Rattle.ring_model.specs.shared.Queue.{posted_count, served_count, given_count, returned_count, next_head, is_settled, by}
+use Rattle.ring_model.specs.shared.QueueSteps as queue
+use Rattle.ring_model.specs.shared.Laws.{SameEpoch}
+use Rattle.ring_model.specs.receive.Laws.{rx_over}
+use Rattle.ring_model.specs.receive.Agreement.{rx_word}
+use Rattle.ring_model.specs.receive.Ring.{RxRing, Segment, rx_opening, due, ends_segment, is_whole, next_segment, piece_of}
+use Rattle.ring_model.specs.receive.Steps.{IsRxReachable, rx_can, rx_changed, rx_settled, took}
 use Rattle.ring_model.proofs.receive.Kept.{IsRxKept}
 use Rattle.ring_model.proofs.receive.Reached.{rx_kept}
-use Rattle.ring_model.proofs.shared.Beginnings.{next_number, slice_get-front}
-use Rattle.ring_model.proofs.shared.FrameLaws.{AllFollow-snoc}
-use Rattle.ring_model.proofs.shared.Places.{ahead, Writes, each_item-set, each_item-push, each_item-drop, slice_index-writes}
-use Rattle.ring_model.proofs.shared.Reaching.{reached-changed}
-use Rattle.ring_model.proofs.shared.Shakes.{live_unanswered, serving_unanswered}
-use Rattle.rx_ring.specs.declared.view.DriverEvent.{DriverEvent}
-use Rattle.rx_ring.specs.declared.view.DriverEvent.TheVariants.{Posted, Published, NotDone, Taken}
-use Rattle.rx_ring.specs.declared.view.ControllerEvent.{ControllerEvent}
-use Rattle.rx_ring.specs.declared.view.ControllerEvent.TheVariants.{Looked, Fetched, WroteBack}
-use Rattle.rx_ring.specs.Records.{Driven, drive, Controlled, control, count_at, segment_of, eop_of}
-use Rattle.rx_ring.specs.Rule.{LiesAs, controlled, says, holds, home_at}
-use Rattle.rx_ring.proofs.Folds.{driving-snoc, controlling-snoc}
-use Rattle.rx_ring.proofs.Laying.{registers-stay, descriptors-stay, home-given, home-taken, home-left, slice_get-snoc_other, slice_get-past, slice_get-last, slice_index-front}
+use Rattle.ring_model.proofs.shared.Beginnings.{next_number}
+use Rattle.ring_model.proofs.shared.FrameLaws.{AllFollow-nil, AllFollow-snoc}
+use Rattle.ring_model.proofs.shared.Reaching.{reached-changed, reached-opening}
+use Rattle.ring_model.proofs.shared.Kept.{ShakesAs}
+use Rattle.ring_model.proofs.receive.Stepping.{rx_kept-opening}
+use Rattle.ring_model.proofs.shared.Shakes.{live_unanswered, open_unanswered, shakes-enable, serving_unended, tailed_emptied, emptied_answered}
+use Rattle.ring_model.proofs.shared.Stepping.{shook, held_below, answered_over}
+use Rattle.shared_ring.specs.declared.events.DriverEvent.TheVariants as driver
+use Rattle.shared_ring.specs.declared.events.ControllerEvent.TheVariants as controller
+use Rattle.shared_ring.specs.Records.{count_at, uncontrolled, undriven}
+use Rattle.shared_ring.specs.Slots.{home_at}
+use Rattle.shared_ring.specs.Lies.{driven, IsControlled, LiesIn, is_early}
+use Rattle.shared_ring.proofs.Folds.{driving-snoc, controlling-snoc}
+use Rattle.shared_ring.proofs.Items.{fetch_lies}
+use Rattle.shared_ring.proofs.Lying.{lies-post, lies-publish, lies-look, lies-fetch, lies-serve, lies-head, lies-give, lies-reclaim, lies-ask_enable, lies-ask_disable, lies-look_asked, lies-look_answered, lies-enable, lies-disable, lies-clear_head, lies-clear_tail, lies-renew, lies-quiet}
+use Rattle.shared_ring.proofs.Controlling.{ctl-post, ctl-publish, ctl-give, ctl-reclaim, ctl-ask_enable, ctl-look_answered, ctl-ask_disable, ctl-clear_head, ctl-clear_tail, ctl-renew, ctl-look, ctl-fetch, ctl-serve, ctl-head, ctl-look_asked, ctl-enable, ctl-disable, ctl-bar}
+use Rattle.rx_ring.specs.declared.events.RxDriverOwn.TheVariants.{NotDone, Taken, LoadedQuiet, ClearedQuiet}
+use Rattle.rx_ring.specs.declared.events.RxControllerOwn.TheVariants.{WroteBack, SaidQuiet}
+use Rattle.rx_ring.specs.Records.{RxDriven, RxControlled, DriverStep, ControllerStep, posting, drive_own, drive, driving, control_own, control, controlling, segment_of, Knowing, know, know_own, knowing}
+use Rattle.rx_ring.specs.Rule.{LiesAs, Learnt, says, lies_there}
+use Rattle.rx_ring.proofs.Words.{eop_of-rx_word, segment-taken}
+use Rattle.rx_ring.proofs.Learning.{knowing-snoc, same-epoch, learnt-step, learnt-head, learnt-not_done, learnt-quiet, learnt-taken, learnt-unknown}
 
-abbrev pub fresh : ℕ → Buffer
-fresh b = buffer b []
+abbrev pub Segments : Type 0
+Segments = Segment Bytes
 
--- the word and the slot that item k is to have
-abbrev pub word_at : RxRing Bytes → ℕ → ℕ
-word_at q k = wanted_word {Given = Segment Bytes} says holds q.queue k
-
-abbrev pub slot_of : RxRing Bytes → ℕ → Option Buffer
-slot_of q k = wanted_slot {Given = Segment Bytes} says holds q.queue k
-
--- a slot that the controller does not hold has its buffer
-pub slot_unheld : (held : Bool) (k s : ℕ) (o : Option Buffer) → (held ≡ true → k ≢ s) → (if held && (k == s) then None else o) ≡ o
-slot_unheld true k s o h = slot_other (k == s) refl
-  where
-    slot_other : (same : Bool) → (k == s) ≡ same → (if same then None else o) ≡ o
-    slot_other true e = absurd (h refl (eqb-true k s e))
-    slot_other false e = refl
-slot_unheld false k s o h = refl
-
-slot_held : (held : Bool) (k s : ℕ) (o : Option Buffer) → held ≡ true → k ≡ s → (if held && (k == s) then None else o) ≡ None
-slot_held held k s o h e = rw (h, eq-eqb k s e) refl
-
--- the word of an item is told by what was stored there
-says-alike : (k : ℕ) (x y : Option ℕ) (stored : Option (Segment Bytes)) → says k x stored ≡ says k y stored
-says-alike k x y None = refl
-says-alike k x y (Some s) = refl
-
--- the number of the held buffer stays as more is posted
-held_stays : (held : Bool) (xs : List ℕ) (x k : ℕ) → (held ≡ true → k < length xs) → (if held then Some (slice_index (xs ++ x ∷ []) k) else None) ≡ (if held then Some (slice_index xs k) else None)
-held_stays true xs x k h = ap Some (slice_index-front xs (x ∷ []) k (h refl))
-held_stays false xs x k h = refl
-
--- a write-back is odd, and has the EOP that was written
-pub rx_word-odd : (len : ℕ) (eop : Bool) → rx_word len eop % 2 ≡ 1
-rx_word-odd len eop = odd len (bit eop)
-  where
-    odd : (len b : ℕ) → (1 + 2 * b + len * 4294967296) % 2 ≡ 1
-    odd len b = omega arith
-
-half : (len b : ℕ) → (1 + 2 * b + len * 4294967296) / 2 ≡ b + len * 2147483648
-half len b = omega arith
-
-eop_of-bit : (len : ℕ) (eop : Bool) (w : ℕ) → w ≡ 1 + 2 * bit eop + len * 4294967296 → (w / 2) % 2 ≡ bit eop
-eop_of-bit len true w e = let h : w / 2 ≡ 1 + len * 2147483648 = ap (λ (v : ℕ). v / 2) e ∙ half len 1 in omega arith
-eop_of-bit len false w e = let h : w / 2 ≡ 0 + len * 2147483648 = ap (λ (v : ℕ). v / 2) e ∙ half len 0 in omega arith
-
-bit-eop : (eop : Bool) → (bit eop == 1) ≡ eop
-bit-eop true = refl
-bit-eop false = refl
-
-pub eop_of-rx_word : (len : ℕ) (eop : Bool) → eop_of (rx_word len eop) ≡ eop
-eop_of-rx_word len eop = ap (λ (v : ℕ). v == 1) (eop_of-bit len eop (rx_word len eop) refl) ∙ bit-eop eop
-
-module _ (n : ℕ) (q : RxRing Bytes) (ds : List DriverEvent) (cs : List ControllerEvent) (words : List ℕ) (homes : List (maybe.Option Buffer)) (pos : 1 < n) (l : LiesAs n q ds cs words homes) where
+module _ (n : ℕ) (q : RxRing Bytes) (ds : List DriverStep) (cs : List ControllerStep) (words : List ℕ) (homes : List (maybe.Option Buffer)) (pos : 1 < n) (l : LiesAs n q ds cs words homes) where
   pub keeps_it : IsRxKept Bytes n q
   keeps_it = rx_kept n q pos l.reachable
 
-  below_held : q.held ≡ true → served_count q.queue < posted_count q.queue
-  below_held h = let k = keeps_it in let o = k.queue.order in let a = o.held_known h in let b = o.known_published (o.held_serving h) in let c = o.published_posted in omega arith
+  abbrev x : Knowing
+  x = knowing ds
 
-  within : posted_count q.queue ≤ returned_count q.queue + n
-  within = let k = keeps_it in let o = k.queue.order in let a = o.room in omega arith
+  abbrev c : RxControlled
+  c = controlling n cs
 
-  served_posted : served_count q.queue ≤ posted_count q.queue
-  served_posted = let k = keeps_it in let o = k.queue.order in o.served_posted
+  big : n + 4 ≤ n + 4
+  big = omega arith
 
-  -- the number that was posted as the next item to be stored
-  pub next_posted : served_count q.queue < posted_count q.queue → slice_get q.ledger.posted (served_count q.queue) ≡ Some (slice_index q.ledger.posted (served_count q.queue))
-  next_posted h = next_number q.ledger.served q.ledger.posted h
-
-  -- a step that can happen leads to a ring that a schedule makes
   goes_on : (step : RxStep Bytes) → rx_can q step ≡ true → IsRxReachable Bytes n (rx_changed q step)
   goes_on step may = reached-changed rx_can rx_changed (rx_opening n) q step may l.reachable
 
-  controlled-post : (b : ℕ) → controlled q ≡ controlled (rx_changed q (Post b))
-  controlled-post b = ap (λ (h : Option ℕ). let c : Controlled = record { stored = q.ledger.served; known = q.known; held = h; state = q.handshake.controller; still = q.still } in c)
-      (sym (held_stays q.held q.ledger.posted b (served_count q.queue) below_held))
+  drove : (e : DriverStep) → driving (ds ++ e ∷ []) ≡ drive (driven q.queue) e
+  drove e = driving-snoc posting drive_own undriven ds e ∙ ap (λ (d : RxDriven). drive d e) l.driver
 
-  can-post : is_open q.handshake.driver ≡ true → posted_count q.queue + 1 < given_count q.queue + n → (b : ℕ) → rx_can q (Post b) ≡ true
-  can-post opened room b = let k = keeps_it in let e = k.queue.size_is in let o = k.queue.order in let ts = o.given_served in let sp = o.served_posted in
-      and_from _ _ opened (lt-ltb (posted_count q.queue - given_count q.queue) (q.size - 1) (omega arith))
+  controlled : (e : ControllerStep) → controlling n (cs ++ e ∷ []) ≡ control n c e
+  controlled e = controlling-snoc n control_own uncontrolled cs e
 
-  length-posted : (b : ℕ) → posted_count (rx_changed q (Post b)).queue ≡ posted_count q.queue + 1
-  length-posted b = length-append q.ledger.posted (b ∷ [])
+  knew : (e : DriverStep) → knowing (ds ++ e ∷ []) ≡ know (driven q.queue) x e
+  knew e = knowing-snoc ds e ∙ ap (λ (d : RxDriven). know d x e) l.driver
 
-  slot-posted : (b k : ℕ) → k < posted_count q.queue → slot_of (rx_changed q (Post b)) k ≡ slot_of q k
-  slot-posted b k h = ap (λ (x : Option ℕ). if q.held && (k == served_count q.queue) then None else holds x (slice_get q.ledger.served k))
-      (slice_get-front q.ledger.posted (b ∷ []) k h)
+  control_is : (p : RxRing Bytes) (e : ControllerStep) → IsControlled {Given = Segments} says lies_there p.queue p.still (control n c e) → IsControlled {Given = Segments} says lies_there p.queue p.still (controlling n (cs ++ e ∷ []))
+  control_is p e h = subst (λ (y : RxControlled). IsControlled {Given = Segments} says lies_there p.queue p.still y) (sym (controlled e)) h
 
-  slot-last : (b : ℕ) → slot_of (rx_changed q (Post b)) (posted_count q.queue) ≡ Some (fresh b)
-  slot-last b =
-      slot_unheld q.held (posted_count q.queue) (served_count q.queue) (holds (slice_get (q.ledger.posted ++ b ∷ []) (posted_count q.queue)) (slice_get q.ledger.served (posted_count q.queue)))
-      (λ h e. let m = below_held h in omega arith)
-      ∙ ap (holds (slice_get (q.ledger.posted ++ b ∷ []) (posted_count q.queue))) (slice_get-past q.ledger.served (posted_count q.queue) served_posted)
-      ∙ ap (λ (x : Option ℕ). holds x None) (slice_get-last q.ledger.posted b)
+  knows_is : (p : RxRing Bytes) (e : DriverStep) → Learnt n p (know (driven q.queue) x e) → Learnt n p (knowing (ds ++ e ∷ []))
+  knows_is p e h = subst (λ (y : Knowing). Learnt n p y) (sym (knew e)) h
 
-  word-last : (b : ℕ) → word_at (rx_changed q (Post b)) (posted_count q.queue) ≡ 0
-  word-last b = ap (says (posted_count q.queue) (slice_get (q.ledger.posted ++ b ∷ []) (posted_count q.queue))) (slice_get-past q.ledger.served (posted_count q.queue) served_posted)
-
-  -- what is posted later leaves the words of the items before
-  word-posted : (b k : ℕ) → word_at (rx_changed q (Post b)) k ≡ word_at q k
-  word-posted b k = says-alike k (slice_get (q.ledger.posted ++ b ∷ []) k) (slice_get q.ledger.posted k) (slice_get q.ledger.served k)
-
-  post-items : (b : Buffer) (p : ℕ) → p ≡ posted_count q.queue % n → posted_count q.queue + 1 < given_count q.queue + n → b ≡ fresh b.number → p < length words → p < length homes
-      → HasItems {Given = Segment Bytes} says holds n (rx_changed q (Post b.number)).queue (slice_index (slice_set words p 0)) (home_at (set homes p (some b)))
-  post-items b p at room empty in_words in_homes = let k = keeps_it in let o = k.queue.order in let rp = o.returned_posted in record {
-    words = subst (λ (past : ℕ). (k : ℕ) → returned_count q.queue ≤ k → k < past → slice_index (slice_set words p 0) (k % n) ≡ word_at (rx_changed q (Post b.number)) k) (sym (length-posted b.number))
-        (each_item-push n (returned_count q.queue) (posted_count q.queue) (slice_index words) (slice_index (slice_set words p 0)) (word_at q) (word_at (rx_changed q (Post b.number))) (omega arith) (omega arith)
-        (subst (λ (x : ℕ). Writes n (slice_index words) (slice_index (slice_set words p 0)) (posted_count q.queue % n) x) (sym (word-last b.number))
-        (subst (λ (j : ℕ). Writes n (slice_index words) (slice_index (slice_set words p 0)) j 0) at (slice_index-writes words n p 0 in_words)))
-        (λ k a c. word-posted b.number k) rp l.items.words);
-    slots = subst (λ (past : ℕ). (k : ℕ) → returned_count q.queue ≤ k → k < past → home_at (set homes p (some b)) (k % n) ≡ slot_of (rx_changed q (Post b.number)) k) (sym (length-posted b.number))
-        (each_item-push n (returned_count q.queue) (posted_count q.queue) (home_at homes) (home_at (set homes p (some b))) (slot_of q) (slot_of (rx_changed q (Post b.number))) (omega arith) (omega arith)
-        (subst (λ (x : Option Buffer). Writes n (home_at homes) (home_at (set homes p (some b))) (posted_count q.queue % n) x) (ap Some empty ∙ sym (slot-last b.number))
-        (subst (λ (j : ℕ). Writes n (home_at homes) (home_at (set homes p (some b))) j (Some b)) at (home-given homes n p b b.number [] empty in_homes)))
-        (λ k a c. slot-posted b.number k c) rp l.items.slots);
+  -- a step of the driver that leaves what is learnt, and one of the controller
+  driver-goes : (s : RxStep Bytes) (e : DriverStep) (ws : List ℕ) (hs : List (maybe.Option Buffer)) → rx_can q s ≡ true → drive (driven q.queue) e ≡ driven (rx_changed q s).queue → know (driven q.queue) x e ≡ x
+      → (rx_changed q s).past ≡ q.past → (rx_changed q s).ledger.given ≡ q.ledger.given → (rx_changed q s).ledger.served ≡ q.ledger.served
+      → IsControlled {Given = Segments} says lies_there (rx_changed q s).queue (rx_changed q s).still c → LiesIn {Given = Segments} says lies_there n (n + 4) (rx_changed q s).queue (rx_changed q s).quiet ws hs
+      → LiesAs n (rx_changed q s) (ds ++ e ∷ []) cs ws hs
+  driver-goes s e ws hs can drives knows past given served ctl lies = record {
+    reachable = goes_on s can;
+    driver = drove e ∙ drives;
+    controller = ctl;
+    lies = lies;
+    follow = rw served l.follow;
+    learnt = knows_is (rx_changed q s) e (subst (λ (y : Knowing). Learnt n (rx_changed q s) y) (sym knows) (learnt-step n q keeps_it x l.learnt s can past given));
   }
 
-  -- A1
-  pub post-lies : (b : Buffer) (p : ℕ) → p ≡ posted_count q.queue % n → is_open q.handshake.driver ≡ true → posted_count q.queue + 1 < given_count q.queue + n → b ≡ fresh b.number
-      → LiesAs n (rx_changed q (Post b.number)) (ds ++ Posted p 0 b ∷ []) cs (slice_set words p 0) (set homes p (some b))
-  post-lies b p at opened room empty = let wc = l.word_count in let sc = l.slot_count in
-      let small : posted_count q.queue % n < n = mod-lt (posted_count q.queue) (omega arith) in
-      let below : p < n = omega arith in
-      let in_words : p < length words = omega arith in
-      let in_homes : p < length homes = omega arith in record {
-        word_count = length-set words p 0 ∙ l.word_count;
-        slot_count = length-set homes p (some b) ∙ l.slot_count;
-        reachable = goes_on (Post b.number) (can-post opened room b.number);
-        driver = driving-snoc ds (Posted p 0 b) ∙ ap (λ (d : Driven). drive d (Posted p 0 b)) l.driver;
-        controller = l.controller ∙ controlled-post b.number;
-        registers = registers-stay n p 0 (rx_registers_of q) words below l.registers;
-        items = post-items b p at room empty in_words in_homes;
-        follow = l.follow;
-      }
+  controller-goes : (s : RxStep Bytes) (e : ControllerStep) (ws : List ℕ) (hs : List (maybe.Option Buffer)) → rx_can q s ≡ true → driven q.queue ≡ driven (rx_changed q s).queue
+      → (rx_changed q s).past ≡ q.past → (rx_changed q s).ledger.given ≡ q.ledger.given → (rx_changed q s).ledger.served ≡ q.ledger.served
+      → IsControlled {Given = Segments} says lies_there (rx_changed q s).queue (rx_changed q s).still (control n c e) → LiesIn {Given = Segments} says lies_there n (n + 4) (rx_changed q s).queue (rx_changed q s).quiet ws hs
+      → LiesAs n (rx_changed q s) ds (cs ++ e ∷ []) ws hs
+  controller-goes s e ws hs can drives past given served ctl lies = record {
+    reachable = goes_on s can;
+    driver = l.driver ∙ drives;
+    controller = control_is (rx_changed q s) e ctl;
+    lies = lies;
+    follow = rw served l.follow;
+    learnt = learnt-step n q keeps_it x l.learnt s can past given;
+  }
 
   pub unreclaimed : is_answered q.handshake.driver ≡ false → returned_count q.queue ≡ given_count q.queue
   unreclaimed h = let k = keeps_it in let o = k.queue.order in let z = o.not_reclaimed h in omega arith
 
+  -- A1
+  pub can-post : is_open q.handshake.driver ≡ true → posted_count q.queue + 1 < returned_count q.queue + n → (b : ℕ) → rx_can q (rx.Post b) ≡ true
+  can-post opened room b = let k = keeps_it in let none = unreclaimed (open_unanswered q.handshake.driver opened) in let e = k.queue.size_is in let o = k.queue.order in let ts = o.given_served in let sp = o.served_posted in
+      and_from _ _ opened (lt-ltb (posted_count q.queue - given_count q.queue) (q.size - 1) (omega arith))
+
+  pub post-lies : (b : Buffer) (p : ℕ) → p ≡ posted_count q.queue % n → is_open q.handshake.driver ≡ true → posted_count q.queue + 1 < returned_count q.queue + n → b ≡ buffer b.number []
+      → LiesAs n (rx_changed q (rx.Post b.number)) (ds ++ driver.Posted p 0 b ∷ []) cs (slice_set words p 0) (set homes p (some b))
+  post-lies b p at opened room empty = let k = keeps_it in let can = can-post opened room b.number in
+      driver-goes (rx.Post b.number) (driver.Posted p 0 b) (slice_set words p 0) (set homes p (some b)) can refl refl refl refl refl
+      (ctl-post says lies_there ends_segment n q.queue k.queue q.still c l.controller b.number)
+      (lies-post says lies_there ends_segment n (n + 4) q.queue k.queue q.quiet words homes l.lies big b.number b 0 p at can refl (ap Some (sym empty)))
+
   -- A2
-  pub publish-lies : (t : ℕ) → t ≡ posted_count q.queue % n → is_open q.handshake.driver ≡ true
-      → LiesAs n (rx_changed q Publish) (ds ++ Published t ∷ []) cs (slice_set words (n + 1) t) homes
-  publish-lies t at opened = let k = keeps_it in let wc = l.word_count in let g = l.registers in
-      let in_words : n + 1 < length words = omega arith in record {
-        word_count = length-set words (n + 1) t ∙ l.word_count;
-        slot_count = l.slot_count;
-        reachable = goes_on Publish opened;
-        driver = driving-snoc ds (Published t) ∙ ap (λ (d : Driven). drive d (Published t)) l.driver;
-        controller = l.controller;
-        registers = record {
-          head = get_or-set_other words (n + 1) n t 0 (λ e. omega arith) ∙ g.head;
-          tail = get_or-set_same words (n + 1) t 0 in_words ∙ at ∙ ap (λ (m : ℕ). posted_count q.queue % m) (sym k.queue.size_is);
-          control = get_or-set_other words (n + 1) (n + 2) t 0 (λ e. omega arith) ∙ g.control;
-          quiet = get_or-set_other words (n + 1) (n + 3) t 0 (λ e. omega arith) ∙ g.quiet;
-        };
-        items = record {
-          words = λ k a b. descriptors-stay n (n + 1) t (k % n) words (omega arith) (mod-lt k (omega arith)) ∙ l.items.words k a b;
-          slots = l.items.slots;
-        };
-        follow = l.follow;
-      }
+  pub publish-lies : (t : ℕ) → t ≡ posted_count q.queue % n → is_open q.handshake.driver ≡ true → LiesAs n (rx_changed q rx.Publish) (ds ++ driver.Published t ∷ []) cs (slice_set words (n + 1) t) homes
+  publish-lies t at opened = let k = keeps_it in driver-goes rx.Publish (driver.Published t) (slice_set words (n + 1) t) homes opened refl refl refl refl refl
+      (ctl-publish says lies_there ends_segment n q.queue k.queue q.still c l.controller)
+      (lies-publish says lies_there ends_segment n (n + 4) q.queue k.queue q.quiet words homes l.lies big t at)
 
   -- A6, with no DD
-  pub not_done-lies : (p r : ℕ) → LiesAs n q (ds ++ NotDone p r ∷ []) cs words homes
-  not_done-lies p r = record {
-    word_count = l.word_count;
-    slot_count = l.slot_count;
+  pub not_done-lies : (p r : ℕ) → due q ≡ None → LiesAs n q (ds ++ driver.Own (NotDone p r) ∷ []) cs words homes
+  not_done-lies p r nothing = record {
     reachable = l.reachable;
-    driver = driving-snoc ds (NotDone p r) ∙ l.driver;
+    driver = drove (driver.Own (NotDone p r));
     controller = l.controller;
-    registers = l.registers;
-    items = l.items;
+    lies = l.lies;
     follow = l.follow;
+    learnt = knows_is q (driver.Own (NotDone p r)) (learnt-not_done n q keeps_it x l.learnt p r nothing);
   }
 
-  can-take : (s : Segment Bytes) → due q ≡ Some s → is_live q.handshake.driver ≡ true → rx_can q Take ≡ true
-  can-take s is live = let below : given_count q.queue < served_count q.queue = slice_get_within q.ledger.served (given_count q.queue) s is in let sp = served_posted in
+  pub can-take : (s : Segments) → due q ≡ Some s → is_live q.handshake.driver ≡ true → rx_can q rx.Take ≡ true
+  can-take s is live = let below : given_count q.queue < served_count q.queue = slice_get_within q.ledger.served (given_count q.queue) s is in let k = keeps_it in let o = k.queue.order in let sp = o.served_posted in
       and_from _ _ live (lt-ltb (given_count q.queue) (posted_count q.queue) (omega arith))
 
-  segment-taken : (s : Segment Bytes) (r : ℕ) → r ≡ rx_word (length s.payload) s.eop → segment_of r (buffer s.number s.payload) ≡ s
-  segment-taken s r word = ap (λ (e : Bool). let x : Segment Bytes = record { number = s.number; payload = s.payload; eop = e } in x) (ap eop_of word ∙ eop_of-rx_word (length s.payload) s.eop)
-
-  take-items : (s : Segment Bytes) (p : ℕ) → due q ≡ Some s → p ≡ given_count q.queue % n → is_live q.handshake.driver ≡ true
-      → HasItems {Given = Segment Bytes} says holds n (took q (Some s)).queue (slice_index words) (home_at (set homes p none))
-  take-items s p is at live = let e0 = unreclaimed (live_unanswered q.handshake.driver live) in
-      let below : given_count q.queue < served_count q.queue = slice_get_within q.ledger.served (given_count q.queue) s is in let sp = served_posted in let w = within in
-      let grew : returned_count (took q (Some s)).queue ≡ returned_count q.queue + 1 = let e = length-append q.ledger.given (s ∷ []) in omega arith in
-      let place : p ≡ returned_count q.queue % n = at ∙ ap (λ (j : ℕ). j % n) (sym e0) in
-      record {
-        words = subst (λ (first : ℕ). (k : ℕ) → first ≤ k → k < posted_count q.queue → slice_index words (k % n) ≡ word_at q k) (sym grew)
-            (each_item-drop n (returned_count q.queue) (posted_count q.queue) (slice_index words) (slice_index words) (word_at q) (omega arith) w (omega arith) (λ j a b. refl) l.items.words);
-        slots = subst (λ (first : ℕ). (k : ℕ) → first ≤ k → k < posted_count q.queue → home_at (set homes p none) (k % n) ≡ slot_of q k) (sym grew)
-            (each_item-drop n (returned_count q.queue) (posted_count q.queue) (home_at homes) (home_at (set homes p none)) (slot_of q) (omega arith) w (omega arith)
-            (λ j a b. home-left homes p j (λ e. b (e ∙ place))) l.items.slots);
-      }
+  took-past : (o : Option Segments) → (took q o).past ≡ q.past
+  took-past None = refl
+  took-past (Some y) = refl
 
   -- A6, with DD
-  pub take-lies : (s : Segment Bytes) (p r : ℕ) → due q ≡ Some s → p ≡ given_count q.queue % n → is_live q.handshake.driver ≡ true → r ≡ rx_word (length s.payload) s.eop
-      → LiesAs n (took q (Some s)) (ds ++ Taken p r (buffer s.number s.payload) ∷ []) cs words (set homes p none)
-  take-lies s p r is at live word = record {
-    word_count = l.word_count;
-    slot_count = length-set homes p none ∙ l.slot_count;
-    reachable = subst (λ (o : Option (Segment Bytes)). IsRxReachable Bytes n (took q o)) is (goes_on Take (can-take s is live));
-    driver = driving-snoc ds (Taken p r (buffer s.number s.payload)) ∙ ap (λ (d : Driven). drive d (Taken p r (buffer s.number s.payload))) l.driver
-        ∙ ap (λ (x : Segment Bytes). let d : Driven = record { posted = q.ledger.posted; published = q.published; taken = q.ledger.given ++ x ∷ []; state = q.handshake.driver } in d) (segment-taken s r word);
+  pub take-lies : (s : Segments) (p r : ℕ) → due q ≡ Some s → p ≡ returned_count q.queue % n → is_live q.handshake.driver ≡ true → r ≡ rx_word (length s.payload) s.eop
+      → LiesAs n (took q (Some s)) (ds ++ driver.Own (Taken p r (buffer s.number s.payload)) ∷ []) cs (slice_set words p r) (set homes p none)
+  take-lies s p r is at live word = let k = keeps_it in let o = k.queue.order in
+      let below : given_count q.queue < served_count q.queue = slice_get_within q.ledger.served (given_count q.queue) s is in let sp = o.served_posted in let un = unreclaimed (live_unanswered q.handshake.driver live) in
+      let can = can-take s is live in record {
+        reachable = subst (λ (o : Option Segments). IsRxReachable Bytes n (took q o)) is (goes_on rx.Take can);
+        driver = drove (driver.Own (Taken p r (buffer s.number s.payload)))
+            ∙ ap (λ (y : Segments). let d : RxDriven = record (driven q.queue) { given = q.ledger.given ++ y ∷ [] } in d) (segment-taken s r word);
+        controller = ctl-give says lies_there ends_segment n q.queue k.queue q.still c l.controller s;
+        lies = lies-give says lies_there ends_segment n (n + 4) q.queue k.queue q.quiet words homes l.lies big s r p at (omega arith);
+        follow = l.follow;
+        learnt = knows_is (took q (Some s)) (driver.Own (Taken p r (buffer s.number s.payload)))
+            (learnt-taken n q keeps_it x l.learnt s p r (buffer s.number s.payload) is
+            (subst (λ (o : Option Segments). SameEpoch q.queue (rx_over q) (took q o).queue (rx_over (took q o))) is (same-epoch n q keeps_it rx.Take can (took-past (due q)))));
+      }
+
+  -- C8
+  pub quiet-lies : (r : ℕ) → r ≡ q.quiet → LiesAs n q (ds ++ driver.Own (LoadedQuiet r) ∷ []) cs words homes
+  quiet-lies r e = record {
+    reachable = l.reachable;
+    driver = drove (driver.Own (LoadedQuiet r));
     controller = l.controller;
-    registers = l.registers;
-    items = take-items s p is at live;
+    lies = l.lies;
     follow = l.follow;
+    learnt = knows_is q (driver.Own (LoadedQuiet r)) (learnt-quiet n q keeps_it x l.learnt r e);
   }
+
+  -- the driver's load of the head
+  pub head_loaded-lies : (r : ℕ) → r ≡ q.head → is_stopped q.handshake.driver ≡ true → LiesAs n q (ds ++ driver.LoadedHead r ∷ []) cs words homes
+  head_loaded-lies r e stopped = record {
+    reachable = l.reachable;
+    driver = drove (driver.LoadedHead r);
+    controller = l.controller;
+    lies = l.lies;
+    follow = l.follow;
+    learnt = knows_is q (driver.LoadedHead r) (learnt-head n q keeps_it x l.learnt r stopped e);
+  }
+
+  -- C1
+  pub ask_enable-lies : is_new q.handshake.driver ≡ true → LiesAs n (rx_changed q (rx.Control AskEnable)) (ds ++ driver.AskedEnable ∷ []) cs (slice_set words (n + 2) 1) homes
+  ask_enable-lies new = let k = keeps_it in driver-goes (rx.Control AskEnable) driver.AskedEnable (slice_set words (n + 2) 1) homes new refl refl refl refl refl
+      (ctl-ask_enable says lies_there ends_segment n q.queue k.queue q.still c l.controller (rx_settled q) new)
+      (lies-ask_enable says lies_there ends_segment n (n + 4) q.queue k.queue q.quiet words homes l.lies big (rx_settled q) new)
+
+  -- C4
+  pub look_answered-lies : (r : ℕ) → r ≡ q.handshake.control → LiesAs n (rx_changed q (rx.Control LookAnswered)) (ds ++ driver.LoadedControl r ∷ []) cs words homes
+  look_answered-lies r e = let k = keeps_it in driver-goes (rx.Control LookAnswered) (driver.LoadedControl r) words homes refl
+      (ap (λ (v : ℕ). drive (driven q.queue) (driver.LoadedControl v)) e) refl refl refl refl
+      (ctl-look_answered says lies_there ends_segment n q.queue k.queue q.still c l.controller (rx_settled q))
+      (lies-look_answered says lies_there ends_segment n (n + 4) q.queue k.queue q.quiet words homes l.lies big (rx_settled q))
+
+  -- C5
+  pub ask_disable-lies : is_on q.handshake.driver ≡ true → LiesAs n (rx_changed q (rx.Control AskDisable)) (ds ++ driver.AskedDisable ∷ []) cs (slice_set words (n + 2) 3) homes
+  ask_disable-lies on = let k = keeps_it in driver-goes (rx.Control AskDisable) driver.AskedDisable (slice_set words (n + 2) 3) homes on refl refl refl refl refl
+      (ctl-ask_disable says lies_there ends_segment n q.queue k.queue q.still c l.controller (rx_settled q) on)
+      (lies-ask_disable says lies_there ends_segment n (n + 4) q.queue k.queue q.quiet words homes l.lies big (rx_settled q))
+
+  -- C6
+  pub reclaim-lies : (b : Buffer) (p : ℕ) → p ≡ returned_count q.queue % n → is_stopped q.handshake.driver ≡ true → returned_count q.queue < posted_count q.queue
+      → LiesAs n (rx_changed q rx.Reclaim) (ds ++ driver.Reclaimed p b ∷ []) cs (slice_set words p 0) (set homes p none)
+  reclaim-lies b p at stopped more = let k = keeps_it in
+      driver-goes rx.Reclaim (driver.Reclaimed p b) (slice_set words p 0) (set homes p none) (and_from _ _ stopped (lt-ltb (returned_count q.queue) (posted_count q.queue) more)) refl refl refl refl refl
+      (ctl-reclaim says lies_there ends_segment n q.queue k.queue q.still c l.controller)
+      (lies-reclaim says lies_there ends_segment n (n + 4) q.queue k.queue q.quiet words homes l.lies big 0 p at more)
+
+  -- C9
+  pub clear_head-lies : is_stopped q.handshake.driver ≡ true → returned_count q.queue ≡ posted_count q.queue → LiesAs n (rx_changed q rx.ClearHead) (ds ++ driver.ClearedHead ∷ []) cs (slice_set words n 0) homes
+  clear_head-lies stopped back = let k = keeps_it in driver-goes rx.ClearHead driver.ClearedHead (slice_set words n 0) homes (and_from _ _ stopped (eq-eqb (returned_count q.queue) (posted_count q.queue) back)) refl refl refl refl refl
+      (ctl-clear_head says lies_there ends_segment n q.queue k.queue q.still c l.controller stopped)
+      (lies-clear_head says lies_there ends_segment n (n + 4) q.queue k.queue q.quiet words homes l.lies big)
+
+  -- C10
+  pub clear_tail-lies : is_cleared q.handshake.driver ≡ true → LiesAs n (rx_changed q rx.ClearTail) (ds ++ driver.ClearedTail ∷ []) cs (slice_set words (n + 1) 0) homes
+  clear_tail-lies cleared = let k = keeps_it in driver-goes rx.ClearTail driver.ClearedTail (slice_set words (n + 1) 0) homes cleared refl refl refl refl refl
+      (ctl-clear_tail says lies_there ends_segment n q.queue k.queue q.still c l.controller cleared)
+      (lies-clear_tail says lies_there ends_segment n (n + 4) q.queue k.queue q.quiet words homes l.lies big cleared)
+
+  -- C11: the epoch ends, and what was learnt in it is forgotten
+  pub clear_quiet-lies : is_tailed q.handshake.driver ≡ true → LiesAs n (rx_changed q rx.ClearQuiet) (ds ++ driver.Own ClearedQuiet ∷ []) cs (slice_set words (n + 3) 0) homes
+  clear_quiet-lies tailed = let k = keeps_it in let after = rx_changed q rx.ClearQuiet in let reach = goes_on rx.ClearQuiet tailed in
+      let cleared = lies-quiet says lies_there ends_segment n (n + 4) q.queue k.queue q.quiet words homes l.lies big 0 in record {
+        reachable = reach;
+        driver = drove (driver.Own ClearedQuiet);
+        controller = ctl-renew says lies_there ends_segment n q.queue k.queue q.still c l.controller tailed (answered_over n ends_segment q.queue k.queue (emptied_answered q.handshake.driver (tailed_emptied q.handshake.driver tailed)));
+        lies = lies-renew says lies_there ends_segment n (n + 4) q.queue k.queue 0 (slice_set words (n + 3) 0) homes cleared big tailed;
+        follow = AllFollow-nil piece_of n;
+        learnt = knows_is (rx_changed q rx.ClearQuiet) (driver.Own ClearedQuiet) (learnt-unknown n (rx_changed q rx.ClearQuiet) (rx_kept n (rx_changed q rx.ClearQuiet) pos reach));
+      }
 
   -- A3
-  pub known-looked : (t : ℕ) → t ≡ q.published % n → is_serving q.handshake.controller ≡ true → count_at n (served_count q.queue) t ≡ q.published
-  known-looked t at serving = let k = keeps_it in let o = k.queue.order in let a = o.served_known serving in let b = o.known_published serving in let c = o.published_posted in let d = o.room in let e = o.given_served in
-      ap (λ (j : ℕ). served_count q.queue + (j + n - served_count q.queue % n) % n) at
-      ∙ ap (λ (j : ℕ). served_count q.queue + j) (ahead n (served_count q.queue) q.published (omega arith) (omega arith) (omega arith))
-      ∙ (let f : served_count q.queue + (q.published - served_count q.queue) ≡ q.published = omega arith in f)
+  pub look-lies : (t : ℕ) → t ≡ q.published % n → is_serving q.handshake.controller ≡ true → LiesAs n (rx_changed q rx.Look) ds (cs ++ controller.Looked t ∷ []) words homes
+  look-lies t at serving = let k = keeps_it in controller-goes rx.Look (controller.Looked t) words homes serving refl refl refl refl
+      (ctl-look says lies_there ends_segment n q.queue k.queue q.still c l.controller t at serving)
+      (lies-look says lies_there ends_segment n (n + 4) q.queue k.queue q.quiet words homes l.lies big)
 
-  pub look-lies : (t : ℕ) → t ≡ q.published % n → is_serving q.handshake.controller ≡ true → LiesAs n (rx_changed q Look) ds (cs ++ Looked t ∷ []) words homes
-  look-lies t at serving = record {
-    word_count = l.word_count;
-    slot_count = l.slot_count;
-    reachable = goes_on Look serving;
-    driver = l.driver;
-    controller = controlling-snoc n cs (Looked t) ∙ ap (λ (c : Controlled). control n c (Looked t)) l.controller
-        ∙ ap (λ (j : ℕ). let c : Controlled = record (controlled q) { known = j } in c) (known-looked t at serving);
-    registers = l.registers;
-    items = record { words = l.items.words; slots = l.items.slots };
-    follow = l.follow;
-  }
-
-  pub returned_stored : is_serving q.handshake.controller ≡ true → returned_count q.queue ≤ served_count q.queue
-  returned_stored serving = let k = keeps_it in let o = k.queue.order in let s = k.queue.shaken in let a = o.given_served in
-      let e0 = unreclaimed (serving_unanswered q.handshake.driver q.handshake.controller q.handshake.control q.handshake.seen serving s.shakes) in omega arith
-
-  -- the slot of an item that is not the next to be stored, whoever holds that
-  slot-other : (held : Bool) (k : ℕ) → k ≢ served_count q.queue → (if held && (k == served_count q.queue) then None else holds (slice_get q.ledger.posted k) (slice_get q.ledger.served k)) ≡ slot_of q k
-  slot-other held k ne = slot_unheld held k (served_count q.queue) _ (λ h. ne) ∙ sym (slot_unheld q.held k (served_count q.queue) (holds (slice_get q.ledger.posted k) (slice_get q.ledger.served k)) (λ h. ne))
-
-  fetch-items : (p : ℕ) → p ≡ served_count q.queue % n → is_serving q.handshake.controller ≡ true → served_count q.queue < q.known → p < length homes
-      → HasItems {Given = Segment Bytes} says holds n (rx_changed q Fetch).queue (slice_index words) (home_at (set homes p none))
-  fetch-items p at serving some_known in_homes = let k = keeps_it in let o = k.queue.order in let rs = returned_stored serving in let b = o.known_published serving in let c = o.published_posted in let w = within in record {
-    words = l.items.words;
-    slots = each_item-set n (returned_count q.queue) (posted_count q.queue) (served_count q.queue) (home_at homes) (home_at (set homes p none)) (slot_of q) (slot_of (rx_changed q Fetch)) (omega arith) w rs (omega arith)
-        (subst (λ (x : Option Buffer). Writes n (home_at homes) (home_at (set homes p none)) (served_count q.queue % n) x)
-        (sym (slot_held true (served_count q.queue) (served_count q.queue) (holds (slice_get q.ledger.posted (served_count q.queue)) (slice_get q.ledger.served (served_count q.queue))) refl refl))
-        (subst (λ (j : ℕ). Writes n (home_at homes) (home_at (set homes p none)) j None) at (home-taken homes n p in_homes)))
-        (λ k a b ne. slot-other true k ne) l.items.slots;
-  }
+  pub can-fetch : is_serving q.handshake.controller ≡ true → q.held ≡ false → served_count q.queue < q.known → q.still ≡ false → rx_can q rx.Fetch ≡ true
+  can-fetch serving unheld some_known moving = and_from _ _ (and_from _ _ (and_from _ _ serving (ap not unheld)) (lt-ltb (served_count q.queue) q.known some_known)) (ap not moving)
 
   -- A4
-  pub fetch-lies : (p r : ℕ) → p ≡ served_count q.queue % n → is_serving q.handshake.controller ≡ true → q.held ≡ false → served_count q.queue < q.known → q.still ≡ false
-      → LiesAs n (rx_changed q Fetch) ds (cs ++ Fetched p r (fresh (slice_index q.ledger.posted (served_count q.queue))) ∷ []) words (set homes p none)
-  fetch-lies p r at serving unheld some_known moving = let sc = l.slot_count in
-      let small : served_count q.queue % n < n = mod-lt (served_count q.queue) (omega arith) in record {
-        word_count = l.word_count;
-        slot_count = length-set homes p none ∙ l.slot_count;
-        reachable = goes_on Fetch (and_from _ _ (and_from _ _ (and_from _ _ serving (ap not unheld)) (lt-ltb (served_count q.queue) q.known some_known)) (ap not moving));
-        driver = l.driver;
-        controller = controlling-snoc n cs (Fetched p r (fresh (slice_index q.ledger.posted (served_count q.queue)))) ∙ ap (λ (c : Controlled). control n c (Fetched p r (fresh (slice_index q.ledger.posted (served_count q.queue))))) l.controller;
-        registers = l.registers;
-        items = fetch-items p at serving some_known (omega arith);
-        follow = l.follow;
-      }
-
-  -- what is stored at another place as one more segment is stored
-  stored-other : (s : Segment Bytes) (k : ℕ) → k ≢ served_count q.queue → slice_get (q.ledger.served ++ s ∷ []) k ≡ slice_get q.ledger.served k
-  stored-other s k ne = slice_get-snoc_other q.ledger.served s k ne
-
-  store-items : (b : Buffer) (eop : Bool) (p : ℕ) → p ≡ served_count q.queue % n → q.held ≡ true → b ≡ buffer b.number b.bytes → b.number ≡ slice_index q.ledger.posted (served_count q.queue) → p < length words → p < length homes
-      → HasItems {Given = Segment Bytes} says holds n (rx_changed q (Store b.bytes eop)).queue (slice_index (slice_set words p (rx_word (length b.bytes) eop))) (home_at (set homes p (some b)))
-  store-items b eop p at held real number in_words in_homes = let k = keeps_it in let o = k.queue.order in let rs = returned_stored (o.held_serving held) in let bh = below_held held in let w = within in
-      let s : Segment Bytes = record { number = slice_index q.ledger.posted (served_count q.queue); payload = b.bytes; eop = eop } in record {
-        words = each_item-set n (returned_count q.queue) (posted_count q.queue) (served_count q.queue) (slice_index words) (slice_index (slice_set words p (rx_word (length b.bytes) eop))) (word_at q) (word_at (rx_changed q (Store b.bytes eop))) (omega arith) w rs bh
-            (subst (λ (x : ℕ). Writes n (slice_index words) (slice_index (slice_set words p (rx_word (length b.bytes) eop))) (served_count q.queue % n) x)
-            (sym (ap (says (served_count q.queue) (slice_get q.ledger.posted (served_count q.queue))) (slice_get-last q.ledger.served s)))
-            (subst (λ (j : ℕ). Writes n (slice_index words) (slice_index (slice_set words p (rx_word (length b.bytes) eop))) j (rx_word (length b.bytes) eop)) at (slice_index-writes words n p (rx_word (length b.bytes) eop) in_words)))
-            (λ k a c ne. ap (says k (slice_get q.ledger.posted k)) (stored-other s k ne)) l.items.words;
-        slots = each_item-set n (returned_count q.queue) (posted_count q.queue) (served_count q.queue) (home_at homes) (home_at (set homes p (some b))) (slot_of q) (slot_of (rx_changed q (Store b.bytes eop))) (omega arith) w rs bh
-            (subst (λ (x : Option Buffer). Writes n (home_at homes) (home_at (set homes p (some b))) (served_count q.queue % n) x)
-            (ap Some (real ∙ ap (λ (j : ℕ). buffer j b.bytes) number) ∙ sym (ap (λ (x : Option ℕ). holds x (Some s)) (next_posted bh)) ∙ sym (ap (holds (slice_get q.ledger.posted (served_count q.queue))) (slice_get-last q.ledger.served s)))
-            (subst (λ (j : ℕ). Writes n (home_at homes) (home_at (set homes p (some b))) j (Some b)) at (home-given homes n p b b.number b.bytes real in_homes)))
-            (λ k a c ne. ap (holds (slice_get q.ledger.posted k)) (stored-other s k ne) ∙ slot-other false k ne) l.items.slots;
-      }
-
-  segment-stored : (b : Buffer) (eop : Bool) → b.number ≡ slice_index q.ledger.posted (served_count q.queue)
-      → (let c : Controlled = record (controlled q) { stored = q.ledger.served ++ segment_of (rx_word (length b.bytes) eop) b ∷ []; held = None } in c) ≡ controlled (rx_changed q (Store b.bytes eop))
-  segment-stored b eop number =
-      ap (λ (e : Bool). let c : Controlled = record (controlled q) { stored = q.ledger.served ++ (let s : Segment Bytes = record { number = b.number; payload = b.bytes; eop = e } in s) ∷ []; held = None } in c) (eop_of-rx_word (length b.bytes) eop)
-      ∙ ap (λ (j : ℕ). let c : Controlled = record (controlled q) { stored = q.ledger.served ++ (let s : Segment Bytes = record { number = j; payload = b.bytes; eop = eop } in s) ∷ []; held = None } in c) number
+  pub fetch-lies : (p r : ℕ) (b : Buffer) → p ≡ served_count q.queue % n → is_serving q.handshake.controller ≡ true → q.held ≡ false → served_count q.queue < q.known → q.still ≡ false
+      → lies_there (slice_get q.ledger.posted (served_count q.queue)) None ≡ Some b → LiesAs n (rx_changed q rx.Fetch) ds (cs ++ controller.Fetched p r b ∷ []) words (set homes p none)
+  fetch-lies p r b at serving unheld some_known moving is = let k = keeps_it in let can = can-fetch serving unheld some_known moving in let t = and_parts _ (not q.still) can in
+      controller-goes rx.Fetch (controller.Fetched p r b) words (set homes p none) can refl refl refl refl
+      (ctl-fetch says lies_there ends_segment n q.queue k.queue q.still c l.controller b is)
+      (lies-fetch says lies_there ends_segment n (n + 4) q.queue k.queue q.quiet words homes l.lies big p at t.0)
 
   -- A5
-  pub store-lies : (b : Buffer) (eop : Bool) (p : ℕ) → p ≡ served_count q.queue % n → q.held ≡ true → b ≡ buffer b.number b.bytes → b.number ≡ slice_index q.ledger.posted (served_count q.queue)
+  pub store-lies : (b : Buffer) (eop : Bool) (p : ℕ) → p ≡ served_count q.queue % n → q.held ≡ true → b ≡ buffer b.number b.bytes → slice_get q.ledger.posted (served_count q.queue) ≡ Some b.number → b.number ≡ slice_index q.ledger.posted (served_count q.queue)
       → Follows piece_of n (unfinished piece_of q.ledger.served) b.bytes eop
-      → LiesAs n (rx_changed q (Store b.bytes eop)) ds (cs ++ WroteBack p (rx_word (length b.bytes) eop) b ∷ []) (slice_set words p (rx_word (length b.bytes) eop)) (set homes p (some b))
-  store-lies b eop p at held real number follows = let sc = l.slot_count in let wc = l.word_count in
-      let small : served_count q.queue % n < n = mod-lt (served_count q.queue) (omega arith) in
-      let w : ℕ = rx_word (length b.bytes) eop in record {
-        word_count = length-set words p (rx_word (length b.bytes) eop) ∙ l.word_count;
-        slot_count = length-set homes p (some b) ∙ l.slot_count;
-        reachable = goes_on (Store b.bytes eop) held;
+      → LiesAs n (rx_changed q (rx.Store b.bytes eop)) ds (cs ++ controller.Own (WroteBack p (rx_word (length b.bytes) eop) b) ∷ []) (slice_set words p (rx_word (length b.bytes) eop)) (set homes p (some b))
+  store-lies b eop p at held real there number follows = let k = keeps_it in let s : Segments = next_segment q b.bytes eop in let w : ℕ = rx_word (length b.bytes) eop in record {
+    reachable = goes_on (rx.Store b.bytes eop) held;
+    driver = l.driver;
+    controller = control_is (rx_changed q (rx.Store b.bytes eop)) (controller.Own (WroteBack p (rx_word (length b.bytes) eop) b))
+        (subst (λ (y : Segments). IsControlled {Given = Segments} says lies_there (rx_changed q (rx.Store b.bytes eop)).queue q.still (record c { served = c.served ++ y ∷ []; held = None })) (sym (stored-is b eop number))
+        (ctl-serve says lies_there ends_segment n q.queue k.queue q.still c l.controller (next_segment q b.bytes eop)));
+    lies = lies-serve says lies_there ends_segment n (n + 4) q.queue k.queue q.quiet words homes l.lies big (next_segment q b.bytes eop) b (rx_word (length b.bytes) eop) p at held refl
+        (ap (λ (o : Option ℕ). lies_there o (Some (next_segment q b.bytes eop))) there ∙ ap Some (ap (λ (j : ℕ). buffer j b.bytes) (sym number) ∙ sym real));
+    follow = AllFollow-snoc piece_of n q.ledger.served (next_segment q b.bytes eop) l.follow follows;
+    learnt = learnt-step n q keeps_it x l.learnt (rx.Store b.bytes eop) held refl refl;
+  }
+    where
+      stored-is : (b : Buffer) (eop : Bool) → b.number ≡ slice_index q.ledger.posted (served_count q.queue) → segment_of (rx_word (length b.bytes) eop) b ≡ next_segment q b.bytes eop
+      stored-is b eop number =
+          ap (λ (e : Bool). let y : Segments = record { number = b.number; payload = b.bytes; eop = e } in y) (eop_of-rx_word (length b.bytes) eop)
+          ∙ ap (λ (j : ℕ). let y : Segments = record { number = j; payload = b.bytes; eop = eop } in y) number
+
+  -- A7
+  pub head-lies : (h : ℕ) → h ≡ served_count q.queue % n → is_serving q.handshake.controller ≡ true → q.held ≡ false → LiesAs n (rx_changed q rx.Head) ds (cs ++ controller.StoredHead h ∷ []) (slice_set words n h) homes
+  head-lies h at serving unheld = let k = keeps_it in let can = and_from _ _ serving (ap not unheld) in controller-goes rx.Head (controller.StoredHead h) (slice_set words n h) homes can refl refl refl refl
+      (ctl-head says lies_there ends_segment n q.queue k.queue q.still c l.controller h at)
+      (lies-head says lies_there ends_segment n (n + 4) q.queue k.queue q.quiet words homes l.lies big h at can)
+
+  -- C2
+  pub look_asked-lies : (r : ℕ) → r ≡ q.handshake.control → LiesAs n (rx_changed q (rx.Control LookAsked)) ds (cs ++ controller.LoadedRequest r ∷ []) words homes
+  look_asked-lies r e = let k = keeps_it in controller-goes (rx.Control LookAsked) (controller.LoadedRequest r) words homes refl refl refl refl refl
+      (ctl-look_asked says lies_there ends_segment n q.queue k.queue q.still c l.controller (rx_settled q) r e)
+      (lies-look_asked says lies_there ends_segment n (n + 4) q.queue k.queue q.quiet words homes l.lies big (rx_settled q))
+
+  -- C7
+  pub say_quiet-lies : is_serving q.handshake.controller ≡ true → q.held ≡ false → is_whole q ≡ true → LiesAs n (rx_changed q rx.StoreQuiet) ds (cs ++ controller.Own SaidQuiet ∷ []) (slice_set words (n + 3) 1) homes
+  say_quiet-lies serving unheld whole = let k = keeps_it in let can = and_from _ _ (and_from _ _ serving (ap not unheld)) whole in controller-goes rx.StoreQuiet (controller.Own SaidQuiet) (slice_set words (n + 3) 1) homes can refl refl refl refl
+      (ctl-bar says lies_there ends_segment n q.queue k.queue q.still c l.controller)
+      (lies-quiet says lies_there ends_segment n (n + 4) q.queue k.queue q.quiet words homes l.lies big 1)
+
+  -- C3: what the answer makes, where it enables and where it disables
+  abbrev pub enabled : RxRing Bytes
+  enabled = record q { queue = record q.queue { known = 0; handshake = enable q.handshake }; still = false }
+
+  abbrev pub disabled : RxRing Bytes
+  disabled = record q { queue = record q.queue { handshake = disable q.handshake } }
+
+  answered-if : (on : Bool) → RxRing Bytes
+  answered-if on = record q { queue = record q.queue { known = if on then 0 else q.known; handshake = if on then enable q.handshake else disable q.handshake }; still = not on && q.still }
+
+  enabled-is : can_enable q.handshake ≡ true → rx_changed q (rx.Control Answer) ≡ enabled
+  enabled-is e = ap (λ (on : Bool). let r : RxRing Bytes = record q { queue = record q.queue { known = if on then 0 else q.known; handshake = if on then enable q.handshake else disable q.handshake }; still = not on && q.still } in r) e
+
+  disabled-is : can_enable q.handshake ≡ false → rx_changed q (rx.Control Answer) ≡ disabled
+  disabled-is e = ap (λ (on : Bool). let r : RxRing Bytes = record q { queue = record q.queue { known = if on then 0 else q.known; handshake = if on then enable q.handshake else disable q.handshake }; still = not on && q.still } in r) e
+
+  pub enable-lies : q.handshake.seen ≡ 1 → is_serving q.handshake.controller ≡ false → LiesAs n enabled ds (cs ++ controller.Enabled ∷ []) (slice_set words (n + 2) 2) homes
+  enable-lies seen idle = let k = keeps_it in let h = q.handshake in let m = l.lies in let can : can_enable h ≡ true = and_from _ _ (eq-eqb h.seen 1 seen) (ap not idle) in let may = or_left (can_enable h) (can_disable h && rx_settled q) can in
+      let opened = shakes-enable h.driver h.controller h.control h.seen seen (shook n ends_segment q.queue k.queue) in record {
+        reachable = subst (λ (r : RxRing Bytes). IsRxReachable Bytes n r) (enabled-is can) (goes_on (rx.Control Answer) may);
         driver = l.driver;
-        controller = controlling-snoc n cs (WroteBack p (rx_word (length b.bytes) eop) b) ∙ ap (λ (c : Controlled). control n c (WroteBack p (rx_word (length b.bytes) eop) b)) l.controller ∙ segment-stored b eop number;
-        registers = registers-stay n p (rx_word (length b.bytes) eop) (rx_registers_of q) words (omega arith) l.registers;
-        items = store-items b eop p at held real number (omega arith) (omega arith);
-        follow = AllFollow-snoc piece_of n q.ledger.served (record { number = slice_index q.ledger.posted (served_count q.queue); payload = b.bytes; eop = eop }) l.follow follows;
+        controller = control_is enabled controller.Enabled (ctl-enable says lies_there ends_segment n q.queue k.queue q.still c l.controller idle opened.1 (m.cleared (early_asked h.driver opened.1 (enabling h.driver h.controller h.control h.seen seen (shook n ends_segment q.queue k.queue))) idle));
+        lies = lies-enable says lies_there ends_segment n (n + 4) q.queue k.queue q.quiet words homes l.lies big;
+        follow = l.follow;
+        learnt = subst (λ (r : RxRing Bytes). Learnt n r x) (enabled-is can) (learnt-step n q keeps_it x l.learnt (rx.Control Answer) may refl refl);
       }
+    where
+      early_asked : (d : DriverState) → is_open d ≡ true → ¬ (is_on d ≡ true) → is_early d ≡ true
+      early_asked New e f = refl
+      early_asked Asked e f = refl
+      early_asked On e f = absurd (f refl)
+      early_asked _ e f = absurd (false≢true e)
+
+      -- an enabling is answered before the driver has seen it
+      enabling : (d : DriverState) (s : ControllerState) (control seen : ℕ) → seen ≡ 1 → ShakesAs d s control seen → ¬ (is_on d ≡ true)
+      enabling On at.Off control seen e h f = h
+      enabling On at.Serving control seen e h f = omega (arith, h.1, e)
+      enabling On at.Ended control seen e h f = h
+      enabling _ s control seen e h f = absurd (false≢true f)
+
+  pub disable-lies : q.handshake.seen ≡ 3 → is_serving q.handshake.controller ≡ true → rx_settled q ≡ true → LiesAs n disabled ds (cs ++ controller.Disabled ∷ []) (slice_set words (n + 2) 0) homes
+  disable-lies seen serving settled = let k = keeps_it in let h = q.handshake in let off : can_enable h ≡ false = ap (λ (v : ℕ). (v == 1) && not (is_serving h.controller)) seen in
+      let can : can_disable h ≡ true = and_from _ _ (eq-eqb h.seen 3 seen) serving in let may = or_right (can_enable h) (can_disable h && rx_settled q) (and_from _ _ can settled) in record {
+        reachable = subst (λ (r : RxRing Bytes). IsRxReachable Bytes n r) (disabled-is off) (goes_on (rx.Control Answer) may);
+        driver = l.driver;
+        controller = control_is disabled controller.Disabled (ctl-disable says lies_there ends_segment n q.queue k.queue q.still c l.controller serving);
+        lies = lies-disable says lies_there ends_segment n (n + 4) q.queue k.queue q.quiet words homes l.lies big seen serving;
+        follow = l.follow;
+        learnt = subst (λ (r : RxRing Bytes). Learnt n r x) (disabled-is off) (learnt-step n q keeps_it x l.learnt (rx.Control Answer) may refl refl);
+      }
+
+-- a made ring, whose ends have done nothing yet
+zero-words : (m k : ℕ) → slice_index (replicate m 0) k ≡ 0
+zero-words zero k = refl
+zero-words (suc m) zero = refl
+zero-words (suc m) (suc k) = zero-words m k
+
+at_zero : (words : List ℕ) (m k : ℕ) → words ≡ replicate m 0 → slice_index words k ≡ 0
+at_zero words m k e = ap (λ (ws : List ℕ). slice_index ws k) e ∙ zero-words m k
+
+pub opening-lies : (n : ℕ) (words : List ℕ) (homes : List (maybe.Option Buffer)) → 1 < n → words ≡ replicate (n + 4) 0 → length homes ≡ n → LiesAs n (rx_opening n false) [] [] words homes
+opening-lies n words homes pos w count = record {
+  reachable = reached-opening rx_can rx_changed (rx_opening n) false;
+  driver = refl;
+  controller = record { served = λ e. refl; known = λ e. refl; held = refl; head = λ e. absurd (false≢true e); state = refl; seen = refl; barred = refl };
+  lies = record {
+    word_count = ap length w ∙ length-replicate (n + 4) 0;
+    slot_count = count;
+    registers = record {
+      head = at_zero words (n + 4) n w;
+      tail = at_zero words (n + 4) (n + 1) w ∙ (let h : 0 < n = omega arith in sym (mod-eq_of_lt h));
+      control = at_zero words (n + 4) (n + 2) w;
+      quiet = at_zero words (n + 4) (n + 3) w;
+    };
+    items = record { words = λ k a b. absurd (omega arith); slots = λ k a b. absurd (omega arith) };
+    cleared = λ a b. refl;
+  };
+  follow = AllFollow-nil piece_of n;
+  learnt = learnt-unknown n (rx_opening n false) (rx_kept-opening n false pos);
+}

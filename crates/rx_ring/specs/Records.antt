@@ -1,27 +1,41 @@
--- What the records of the two ends amount to.
-use Rattle.std.specs.Prelude.{ℕ, zero, suc, ◌+◌, ◌-◌, ◌/◌, ◌%◌, Bool, false, List, [], ◌∷◌, ◌++◌, length, Option, Some, None, ◌==◌}
-use Rattle.buffer_pool.specs.Buffer.{Buffer, blank}
-use Rattle.ring_model.specs.declared.states.DriverState.{DriverState}
-use Rattle.ring_model.specs.declared.states.DriverState.TheVariants.{On}
-use Rattle.ring_model.specs.declared.states.ControllerState.{ControllerState}
-use Rattle.ring_model.specs.declared.states.ControllerState.TheVariants.{Serving}
-use Rattle.ring_model.specs.receive.Ring.{Segment}
+-- What the records of a receive ring's two ends amount to.
+use Rattle.std.specs.Prelude.{◌≡◌, ℕ, ◌+◌, ◌/◌, ◌%◌, Bool, true, false, ◌||◌, ◌&&◌, List, [], ◌∷◌, ◌++◌, length, Option, Some, None, ◌==◌}
+use Rattle.buffer_pool.specs.Buffer.{Buffer}
+use Rattle.ring_model.specs.declared.states.DriverState.TheVariants.{New}
 use Rattle.ring_model.specs.shared.Frames.{Bytes}
-use Rattle.rx_ring.specs.declared.view.DriverEvent.{DriverEvent}
-use Rattle.rx_ring.specs.declared.view.DriverEvent.TheVariants.{Posted, Published, NotDone, Taken}
-use Rattle.rx_ring.specs.declared.view.ControllerEvent.{ControllerEvent}
-use Rattle.rx_ring.specs.declared.view.ControllerEvent.TheVariants.{Looked, Fetched, WroteBack}
-use Rattle.rx_ring.specs.declared.view.View.{View}
-use Rattle.rx_ring.specs.Seats.{driver_part, controller_part}
+use Rattle.ring_model.specs.receive.Ring.{Segment}
+use Rattle.shared_ring.specs.declared.events.DriverEvent.{DriverEvent}
+use Rattle.shared_ring.specs.declared.events.DriverEvent.TheVariants as driver
+use Rattle.shared_ring.specs.declared.events.ControllerEvent.{ControllerEvent}
+use Rattle.shared_ring.specs.declared.events.View.{View}
+use Rattle.shared_ring.specs.Seats.{driver_part, controller_part}
+use Rattle.shared_ring.specs.Records as shared
+use Rattle.shared_ring.specs.Records.{Driven, Controlled, undriven, uncontrolled}
+use Rattle.rx_ring.specs.declared.events.RxDriverOwn.{RxDriverOwn}
+use Rattle.rx_ring.specs.declared.events.RxDriverOwn.TheVariants.{NotDone, Taken, LoadedQuiet, ClearedQuiet}
+use Rattle.rx_ring.specs.declared.events.RxControllerOwn.{RxControllerOwn}
+use Rattle.rx_ring.specs.declared.events.RxControllerOwn.TheVariants.{WroteBack, SaidQuiet}
+
+abbrev pub DriverStep : Type 0
+DriverStep = DriverEvent RxDriverOwn
+
+abbrev pub ControllerStep : Type 0
+ControllerStep = ControllerEvent RxControllerOwn
 
 abbrev pub RxView : Type 0
-RxView = View DriverEvent ControllerEvent
+RxView = View DriverStep ControllerStep
 
-abbrev pub drivers_of : RxView → List DriverEvent
+abbrev pub drivers_of : RxView → List DriverStep
 drivers_of v = driver_part v
 
-abbrev pub controllers_of : RxView → List ControllerEvent
+abbrev pub controllers_of : RxView → List ControllerStep
 controllers_of v = controller_part v
+
+abbrev pub RxDriven : Type 0
+RxDriven = Driven ℕ (Segment Bytes)
+
+abbrev pub RxControlled : Type 0
+RxControlled = Controlled (Segment Bytes)
 
 -- EOP of a write-back
 abbrev pub eop_of : ℕ → Bool
@@ -30,69 +44,64 @@ eop_of word = (word / 2) % 2 == 1
 abbrev pub segment_of : ℕ → Buffer → Segment Bytes
 segment_of word b = record { number = b.number; payload = b.bytes; eop = eop_of word }
 
--- What the driver did: the numbers that it posted, how many of them it published, and the segments that it took
-pub record Driven : Type 0 where
-  pub posted : List ℕ
-  pub published : ℕ
-  pub taken : List (Segment Bytes)
-  pub state : DriverState
+-- a receive driver posts numbers of buffers
+abbrev pub posting : ℕ → Buffer → ℕ
+posting word b = b.number
 
-abbrev pub drive : Driven → DriverEvent → Driven
-drive d (Posted place word b) = record d { posted = d.posted ++ b.number ∷ [] }
-drive d (Published tail) = record d { published = length d.posted }
-drive d (NotDone place word) = d
-drive d (Taken place word b) = record d { taken = d.taken ++ segment_of word b ∷ [] }
+-- the clearing of the quiet word ends the epoch: a new one begins, and is empty
+abbrev pub drive_own : RxDriven → RxDriverOwn → RxDriven
+drive_own d (NotDone place word) = d
+drive_own d (Taken place word b) = record d { given = d.given ++ segment_of word b ∷ [] }
+drive_own d (LoadedQuiet word) = d
+drive_own d ClearedQuiet = record d { posted = []; given = []; reclaimed = 0; state = New }
 
-abbrev pub driving_from : Driven → List DriverEvent → Driven
-driving_from d [] = d
-driving_from d (e ∷ es) = driving_from (drive d e) es
+abbrev pub drive : RxDriven → DriverStep → RxDriven
+drive = shared.drive posting drive_own
 
--- an end begins with its queue enabled
-abbrev pub driving : List DriverEvent → Driven
-driving es = driving_from (record { posted = []; published = 0; taken = []; state = On }) es
+abbrev pub driving : List DriverStep → RxDriven
+driving es = shared.driving_from posting drive_own undriven es
 
--- What the controller did: the segments that it stored, how many posted items it knows of, the number of the buffer that it holds, and whether it said that it stores no more
-pub record Controlled : Type 0 where
-  pub stored : List (Segment Bytes)
-  pub known : ℕ
-  pub held : Option ℕ
-  pub state : ControllerState
-  pub still : Bool
+abbrev pub control_own : RxControlled → RxControllerOwn → RxControlled
+control_own c (WroteBack place word b) = record c { served = c.served ++ segment_of word b ∷ []; held = None }
+control_own c SaidQuiet = record c { barred = true }
 
--- the count of items up to a loaded tail, in a ring of n places where so many are stored
-abbrev pub count_at : ℕ → ℕ → ℕ → ℕ
-count_at n stored tail = stored + (tail + n - stored % n) % n
+abbrev pub control : ℕ → RxControlled → ControllerStep → RxControlled
+control n = shared.control n control_own
 
-abbrev pub control : ℕ → Controlled → ControllerEvent → Controlled
-control n c (Looked tail) = record c { known = count_at n (length c.stored) tail }
-control n c (Fetched place word b) = record c { held = Some b.number }
-control n c (WroteBack place word b) = record c { stored = c.stored ++ segment_of word b ∷ []; held = None }
+abbrev pub controlling : ℕ → List ControllerStep → RxControlled
+controlling n es = shared.controlling_from n control_own uncontrolled es
 
-abbrev pub controlling_from : ℕ → Controlled → List ControllerEvent → Controlled
-controlling_from n c [] = c
-controlling_from n c (e ∷ es) = controlling_from n (control n c e) es
+-- What the driver has learnt of the controller in this epoch: the head that it loaded, that the quiet word was 1, and that no stored segment is left to take
+pub record Knowing : Type 0 where
+  pub head : Option ℕ
+  pub quiet : Bool
+  pub drained : Bool
 
-abbrev pub controlling : ℕ → List ControllerEvent → Controlled
-controlling n es = controlling_from n (record { stored = []; known = 0; held = None; state = Serving; still = false }) es
+abbrev pub unknown : Knowing
+unknown = record { head = None; quiet = false; drained = false }
 
--- the slots of so many items from item k on, all empty
-abbrev pub empty_slots : ℕ → ℕ → ℕ → List (ℕ × Buffer)
-empty_slots n k zero = []
-empty_slots n k (suc more) = (k % n, blank) ∷ empty_slots n (k + 1) more
+-- how many were taken, and how many posted, tell whether anything is out
+abbrev pub know_own : RxDriven → Knowing → RxDriverOwn → Knowing
+know_own d k (NotDone place word) = record k { drained = k.drained || k.quiet }
+know_own d k (Taken place word b) = record k { drained = k.drained || (k.quiet && (length d.given + 1 == length d.posted)) }
+know_own d k (LoadedQuiet word) = record k { quiet = k.quiet || (word == 1); drained = k.drained || ((k.quiet || (word == 1)) && (length d.given == length d.posted)) }
+know_own d k ClearedQuiet = unknown
 
--- the slots that the driver has, in the order in which it posts into them: those of the items that are not out
-abbrev pub driver_slots : ℕ → Driven → List (ℕ × Buffer)
-driver_slots n d = empty_slots n (length d.posted) (length d.taken + n - length d.posted)
+abbrev pub know : RxDriven → Knowing → DriverStep → Knowing
+know d k (driver.Posted place word b) = k
+know d k (driver.Published tail) = k
+know d k driver.AskedEnable = k
+know d k (driver.LoadedControl word) = k
+know d k driver.AskedDisable = k
+know d k (driver.LoadedHead word) = record k { head = Some word }
+know d k (driver.Reclaimed place b) = k
+know d k driver.ClearedHead = k
+know d k driver.ClearedTail = k
+know d k (driver.Own o) = know_own d k o
 
--- the slot that the controller has: that of the fetched buffer
-abbrev pub slots_while : ℕ → Option ℕ → List (ℕ × Buffer)
-slots_while place None = []
-slots_while place (Some b) = (place, blank) ∷ []
+abbrev pub knowing_from : RxDriven → Knowing → List DriverStep → Knowing
+knowing_from d k [] = k
+knowing_from d k (e ∷ es) = knowing_from (drive d e) (know d k e) es
 
-abbrev pub controller_slots : ℕ → Controlled → List (ℕ × Buffer)
-controller_slots n c = slots_while (length c.stored % n) c.held
-
--- what is in the slot that a seat took last
-abbrev pub front_buffer : List (ℕ × Buffer) → Buffer
-front_buffer [] = blank
-front_buffer (x ∷ xs) = x.1
+abbrev pub knowing : List DriverStep → Knowing
+knowing es = knowing_from undriven unknown es

@@ -1,36 +1,35 @@
--- Whose record each seat at a ring's table has, for any kinds of events: one seat has the driver's, one the controller's, and the others none.
-use Rattle.std.specs.Prelude.{◌≡◌, ℕ, List, []}
-use mathlib.Core.Option.{some}
-use lib.ListN.{get_elem?}
-use Rattle.rx_ring.specs.declared.view.View.{View}
-use Rattle.rx_ring.specs.declared.view.View.TheVariants.{Maker, Driver, Controller, Both, Nobody}
+-- What the fields of a ring and of the two seats keep.
+use Rattle.std.specs.Prelude.{◌≡◌, ℕ, ◌+◌, ◌<◌, ◌≤◌, [], length, List, Option}
+use Rattle.atomic_table.specs.Seated.{TableId}
+use Rattle.buffer_pool.specs.Buffer.{Buffer}
+use Rattle.limits.specs.RingLength.{IsRingLength}
+use Rattle.shared_ring.specs.declared.events.View.TheVariants.{Driver, Controller}
+use Rattle.shared_ring.specs.Records.{driver_slots, controller_slots}
+use Rattle.rx_ring.specs.Records.{RxDriven, RxControlled, drivers_of, controllers_of, driving, controlling}
+use Rattle.rx_ring.specs.Rule.{IsTableOf}
+use Rattle.rx_ring.specs.Plays.{Seated}
 
-module _ {D C : Type 0} where
-  -- the driver's record in a view, and the controller's; empty where there is none
-  abbrev pub driver_part : View D C → List D
-  driver_part Maker = []
-  driver_part (Driver ds) = ds
-  driver_part (Controller cs) = []
-  driver_part (Both ds cs) = ds
-  driver_part Nobody = []
+-- a ring's table, and room for all its buffers
+pub record IsRing (table : TableId) (key : ℕ) (room : List (Option Buffer)) (capacity : ℕ) : Type 0 where
+  pub of_key : IsTableOf table key
+  pub empty : room ≡ []
+  pub room_is : key ≤ capacity
 
-  abbrev pub controller_part : View D C → List C
-  controller_part Maker = []
-  controller_part (Driver ds) = []
-  controller_part (Controller cs) = cs
-  controller_part (Both ds cs) = cs
-  controller_part Nobody = []
+-- fewer than n buffers are out
+pub record IsWindow (n : ℕ) (d : RxDriven) : Type 0 where
+  pub back : length d.given + d.reclaimed ≤ length d.posted
+  pub room : length d.posted < length d.given + d.reclaimed + n
 
-  -- the seat j has the view v, where the seat i has the driver's record ds and the seat k the controller's record cs
-  abbrev pub Fits : List D → List C → ℕ → ℕ → ℕ → View D C → Type 0
-  Fits ds cs i k j Maker = ⊥
-  Fits ds cs i k j (Driver es) = (j ≡ i) × (es ≡ ds)
-  Fits ds cs i k j (Controller es) = (j ≡ k) × (es ≡ cs)
-  Fits ds cs i k j (Both es fs) = (j ≡ i) × (es ≡ ds) × (j ≡ k) × (fs ≡ cs)
-  Fits ds cs i k j Nobody = Unit {0}
+-- the seat has the slots that the record tells
+pub record IsDriverSeat (table : TableId) (me : Seated) (size : ℕ) : Type 0 where
+  pub size_is : table.slots ≡ size
+  pub words : table.words ≡ size + 4
+  pub lawful : IsRingLength size
+  pub me_is : me ≡ (Driver (drivers_of me.0), driver_slots size (driving (drivers_of me.0)))
+  pub window : IsWindow size (driving (drivers_of me.0))
 
-  -- the records are the driver's and the controller's, and each seat fits them
-  pub record HasSeats (ds : List D) (cs : List C) (views : List (View D C)) : Type 0 where
-    pub driver_seat : ℕ
-    pub controller_seat : ℕ
-    pub fits : (j : ℕ) (v : View D C) → get_elem? views j ≡ some v → Fits ds cs driver_seat controller_seat j v
+pub record IsControllerSeat (table : TableId) (me : Seated) (size : ℕ) : Type 0 where
+  pub size_is : table.slots ≡ size
+  pub words : table.words ≡ size + 4
+  pub lawful : IsRingLength size
+  pub me_is : me ≡ (Controller (controllers_of me.0), controller_slots size (controlling size (controllers_of me.0)))

@@ -1,52 +1,68 @@
-//! The controller's end: it loads the tail, fetches posted buffers, and writes them back filled.
-ghost use Rattle.std.specs.Prelude.{◌≡◌, ◌+◌, ◌<◌, ◌≤◌, true, false, [], ◌∷◌, ◌++◌, length, Some, None};
+//! The controller's end: it answers enabling and disabling, loads the tail, fetches posted buffers, writes them back
+//! filled, and stores the head.
+ghost use Rattle.std.specs.Prelude.{◌≡◌, ◌+◌, ◌<◌, ◌≤◌, ◌↔◌, true, false, [], ◌∷◌, ◌++◌, length, Some, None, IsTrue};
 ghost use Rattle.buffer_pool.specs.Buffer.{buffer};
+ghost use Rattle.limits.specs.RingLength.{IsRingLength};
+ghost use Rattle.ring_model.specs.receive.Agreement.{rx_word};
 ghost use Rattle.ring_model.specs.receive.Ring.{piece_of};
 ghost use Rattle.ring_model.specs.shared.Frames.{Follows, unfinished};
 ghost use Rattle.ring_model.specs.shared.Handshakes.{is_serving};
-ghost use Rattle.limits.specs.RingLength.{IsRingLength};
-ghost use Rattle.rx_ring.specs.Ends.{controller_size, stored, known_free, held_number, controller_state, is_quiet, IsFreshController, MakesController, Looked, Fetched, WroteBack};
+ghost use Rattle.shared_ring.specs.Words.{control_word};
+ghost use Rattle.shared_ring.specs.declared.events.ControllerEvent.TheVariants.{StoredHead, LoadedRequest, Own};
+ghost use Rattle.rx_ring.specs.declared.events.RxControllerOwn.TheVariants.{WroteBack, SaidQuiet};
+ghost use Rattle.rx_ring.specs.Ends.{controller_size, controller_record, stored, known_free, held_number, controller_state, is_quiet, is_between, serve_place, answered};
+ghost use Rattle.rx_ring.specs.Calls.{IsFreshController, FoundFree, Fetched, MayAnswer, IsSettled, Answered, segment};
 
-use crate::exchange::{put_in, take_out};
-use crate::plays::{FetchLoad, TailLoad, WriteBackStep};
-use crate::ring::{RxRing, RxSeat};
+use crate::steps::{ControllerSeat, RxRing};
 use buffer_pool::Buf;
-use descriptor::RxBack;
 use ring_model::{ControllerState, place_after, places_between};
+use shared_ring::Control;
 use std::marker::Model;
 
 /// The controller's end of a receive ring. Contracts see the ring's identity and the record of the end's own steps.
+///
+/// Whether a call's condition holds is told by `is_serving`, `is_holding`, `is_between_frames`, `has_finished`,
+/// `can_answer` and `free`.
 #[derive(Drop)]
 pub struct RxControllerEnd {
-    pub(crate) seat: RxSeat,
-    size: u16,
-    serve: u16,
+    pub(crate) seat: ControllerSeat,
+    pub(crate) serve: u16,
     free: u16,
+    head: u16,
+    pub(crate) held: bool,
+    whole: bool,
     state: ControllerState,
+    seen: Control,
+    finished: bool,
 }
 
 impl Model for RxControllerEnd {
-    ghost use Rattle.rx_ring.specs.Ends.{ControllerSide, IsControllerEnd};
-    ghost use Rattle.rx_ring.specs.Records.{controllers_of};
+    ghost use Rattle.rx_ring.specs.Ends.{ControllerSide};
+    ghost use Rattle.rx_ring.specs.Calls.{IsControllerEnd};
 
     ghost Value = { ControllerSide };
 
-    ghost view = { λ e. record { table = e.seat.table_id; events = controllers_of e.seat.me.0 } };
+    ghost view = { λ e. e.seat };
 
-    ghost invariant = { λ e. IsControllerEnd e.seat.table_id e.seat.me e.size e.serve e.free e.state };
+    ghost invariant = { λ e. IsControllerEnd e.seat e.serve e.free e.head e.held e.whole e.state e.seen e.finished };
 }
 
 impl RxControllerEnd {
-    pub(crate) fn new(seat: RxSeat, size: u16) -> RxControllerEnd
-        requires seat { MakesController size seat.table_id seat.me }
-        ensures { IsFreshController seat.table_id result }
+    pub(crate) fn new(seat: ControllerSeat) -> RxControllerEnd
+        requires { IsFreshController seat }
+        ensures { result ≡ seat }
     {
+        let _size = seat.size();
         RxControllerEnd {
             seat,
-            size,
             serve: 0,
             free: 0,
-            state: ControllerState::Serving,
+            head: 0,
+            held: false,
+            whole: true,
+            state: ControllerState::Off,
+            seen: Control::Disabled,
+            finished: false,
         }
     }
 
@@ -56,7 +72,7 @@ impl RxControllerEnd {
         ensures value { result ≡ controller_size self.now }
         ensures lawful { IsRingLength result }
     {
-        self.size as u32
+        self.seat.size() as u32
     }
 
     /// How many descriptors the end knows to be free: from the next one up to the tail that it loaded last.
@@ -67,24 +83,70 @@ impl RxControllerEnd {
         self.free as u32
     }
 
+    /// Whether the end answered the enabling of this epoch, and no disabling since.
+    #[inline]
+    pub fn is_serving(&self) -> bool
+        ensures { result ≡ is_serving (controller_state self.now) }
+    {
+        self.state.is_serving()
+    }
+
+    /// Whether a fetched buffer is not written back yet.
+    #[inline]
+    pub fn is_holding(&self) -> bool
+        ensures { (result ≡ false) ↔ (held_number self.now ≡ None) }
+    {
+        self.held
+    }
+
+    /// Whether the last stored segment ends a frame, or none is stored.
+    #[inline]
+    pub fn is_between_frames(&self) -> bool
+        ensures value { result ≡ is_between self.now }
+        ensures rest { result ≡ true → unfinished piece_of (stored self.now) ≡ [] }
+    {
+        self.whole
+    }
+
+    /// Whether the end said that it stores no more in this epoch.
+    #[inline]
+    pub fn has_finished(&self) -> bool
+        ensures { result ≡ is_quiet self.now }
+    {
+        self.finished
+    }
+
+    /// Whether `answer` may be called: an enabling was loaded last and the end does not serve, or a disabling and the
+    /// end stands between two frames with the head stored.
+    #[inline]
+    pub fn can_answer(&self) -> bool
+        ensures { IsTrue result ↔ MayAnswer self.now }
+    {
+        match self.seen {
+            Control::EnableAsked => !self.state.is_serving(),
+            Control::DisableAsked => self.can_disable(),
+            Control::Disabled | Control::Enabled => false,
+        }
+    }
+
+    // Whether a disabling may be answered, where one was loaded last.
+    #[inline]
+    fn can_disable(&self) -> bool
+        ensures { IsTrue result ↔ IsSettled self.now }
+    {
+        self.state.is_serving() && !self.held && self.whole && self.head == self.serve
+    }
+
     /// Loads the tail (RDT), and answers how many descriptors are free (82599 datasheet, 7.1.9).
     #[inline]
     pub fn look(&mut self, ring: &RxRing) -> u32
         requires own { self.old.table ≡ ring.now }
         requires serving { is_serving (controller_state self.old) ≡ true }
-        ensures step { Looked self.old result self.new }
+        ensures step { FoundFree self.old result self.new }
         ensures free { known_free self.new ≡ result }
-        ensures grows { known_free self.old ≤ result }
-        ensures stored { stored self.new ≡ stored self.old }
-        ensures held { held_number self.new ≡ held_number self.old }
-        ensures state { controller_state self.new ≡ controller_state self.old }
-        ensures quiet { is_quiet self.new ≡ is_quiet self.old }
     {
-        let tail = ring
-            .table
-            .shared
-            .load::<TailLoad>(&mut self.seat, self.size as usize + 1) as u16;
-        self.free = places_between(self.serve, tail, self.size);
+        let tail = self.seat.look(ring);
+        self.free = places_between(self.serve, tail, self.seat.size());
         self.free as u32
     }
 
@@ -96,17 +158,11 @@ impl RxControllerEnd {
         requires free { 0 < known_free self.old }
         requires held { held_number self.old ≡ None }
         requires quiet { is_quiet self.old ≡ false }
-        ensures step { Fetched self.old result self.new }
-        ensures empty { result ≡ buffer result.number [] }
-        ensures free { known_free self.new ≡ known_free self.old }
-        ensures stored { stored self.new ≡ stored self.old }
-        ensures held { held_number self.new ≡ Some result.number }
-        ensures state { controller_state self.new ≡ controller_state self.old }
-        ensures quiet { is_quiet self.new ≡ is_quiet self.old }
+        ensures { Fetched self.old result self.new }
     {
-        let place = self.serve as usize;
-        ring.table.shared.load::<FetchLoad>(&mut self.seat, place);
-        take_out(&ring.table.shared, &mut self.seat, place)
+        let buf = self.seat.fetch(ring, self.serve);
+        self.held = true;
+        buf
     }
 
     /// Puts the fetched buffer back, and stores the write-back of its bytes: DD, the length, and EOP where they end
@@ -117,20 +173,75 @@ impl RxControllerEnd {
         requires held { held_number self.old ≡ Some buf.number }
         requires real { buf ≡ buffer buf.number buf.bytes }
         requires follows { Follows piece_of (controller_size self.old) (unfinished piece_of (stored self.old)) buf.bytes eop }
-        ensures step { WroteBack self.old buf eop self.new }
-        ensures free { known_free self.new + 1 ≡ known_free self.old }
-        ensures stored { stored self.new ≡ stored self.old ++ record { number = buf.number; payload = buf.bytes; eop = eop } ∷ [] }
-        ensures held { held_number self.new ≡ None }
-        ensures state { controller_state self.new ≡ controller_state self.old }
-        ensures quiet { is_quiet self.new ≡ is_quiet self.old }
+        ensures step { self.new ≡ answered self.old (Own (WroteBack (serve_place self.old) (rx_word (length buf.bytes) eop) buf)) }
+        ensures record { controller_record self.new ≡ record (controller_record self.old) { served = stored self.old ++ segment buf eop ∷ []; held = None } }
     {
-        let place = self.serve as usize;
-        let word = RxBack::new(buf.len() as u16, eop).second_word();
-        put_in(&ring.table.shared, &mut self.seat, place, buf);
-        ring.table
-            .shared
-            .store::<WriteBackStep>(&mut self.seat, place, word);
-        self.serve = place_after(self.serve, self.size);
+        self.seat.write_back(ring, self.serve, buf, eop);
+        self.serve = place_after(self.serve, self.seat.size());
         self.free -= 1;
+        self.held = false;
+        self.whole = eop;
+    }
+
+    /// Stores the head (RDH): the place after that of the last stored segment.
+    #[inline]
+    pub fn set_head(&mut self, ring: &RxRing)
+        requires own { self.old.table ≡ ring.now }
+        requires serving { is_serving (controller_state self.old) ≡ true }
+        requires held { held_number self.old ≡ None }
+        ensures step { self.new ≡ answered self.old (StoredHead (serve_place self.old)) }
+        ensures record { controller_record self.new ≡ record (controller_record self.old) { head = serve_place self.old } }
+    {
+        self.seat.set_head(ring, self.serve);
+        self.head = self.serve;
+    }
+
+    /// Loads the control word: whether an enabling or a disabling is asked.
+    #[inline]
+    pub fn asked(&mut self, ring: &RxRing) -> Control
+        requires own { self.old.table ≡ ring.now }
+        ensures step { self.new ≡ answered self.old (LoadedRequest (control_word result)) }
+        ensures record { controller_record self.new ≡ record (controller_record self.old) { seen = control_word result } }
+    {
+        self.seen = self.seat.load_request(ring);
+        self.seen
+    }
+
+    /// Answers the enabling or the disabling that was loaded last: once after each load, and a disabling between two
+    /// frames alone, with the head stored.
+    #[inline]
+    pub fn answer(&mut self, ring: &RxRing)
+        requires own { self.old.table ≡ ring.now }
+        requires asked { MayAnswer self.old }
+        ensures { Answered self.old self.new }
+    {
+        if self.state.is_serving() {
+            self.seat.disable(ring);
+            self.state = ControllerState::Ended;
+            self.seen = Control::Disabled;
+        } else {
+            self.seat.enable(ring);
+            self.serve = 0;
+            self.free = 0;
+            self.head = 0;
+            self.whole = true;
+            self.state = ControllerState::Serving;
+            self.seen = Control::Enabled;
+            self.finished = false;
+        }
+    }
+
+    /// Stores the quiet word as 1: the end stores no more in this epoch.
+    #[inline]
+    pub fn set_quiet(&mut self, ring: &RxRing)
+        requires own { self.old.table ≡ ring.now }
+        requires serving { is_serving (controller_state self.old) ≡ true }
+        requires held { held_number self.old ≡ None }
+        requires between { is_between self.old ≡ true }
+        ensures step { self.new ≡ answered self.old (Own SaidQuiet) }
+        ensures record { controller_record self.new ≡ record (controller_record self.old) { barred = true } }
+    {
+        self.seat.say_quiet(ring);
+        self.finished = true;
     }
 }

@@ -5,6 +5,9 @@
 //! exchanged only by the end to which that step gave it. No call takes a lock or waits: none is passed what it would
 //! need for that.
 //!
+//! A ring begins disabled. The driver asks for it to be enabled and disabled, and the controller answers; once all
+//! buffers of a disabled ring are reclaimed, it can be renewed and enabled again.
+//!
 //! Each end keeps a record of the words that it loaded and stored, in proofs alone. Between any two steps the words,
 //! the slots and both records agree with a ring of `ring_model` that some schedule of steps makes, and so with a
 //! lawful one: what is taken is a beginning of what is stored, byte for byte, in order, each once.
@@ -12,18 +15,13 @@
 
 mod controller;
 mod driver;
-mod error;
-mod exchange;
-mod meet;
-mod plays;
+mod events;
 mod ring;
-#[cfg(test)]
-mod tests;
-mod view;
+mod steps;
 
 pub use controller::RxControllerEnd;
 pub use driver::{Poll, RxDriverEnd};
-pub use error::RingError;
-pub use meet::meet_rx;
-pub use ring::{RxRing, RxRule};
-pub use view::{ControllerEvent, DriverEvent, View};
+pub use events::{RxControllerEvent, RxControllerOwn, RxDriverEvent, RxDriverOwn};
+pub use ring::{close, meet_rx};
+pub use shared_ring::{Control, ControllerEvent, DriverEvent, RingError, View};
+pub use steps::{RxRing, RxRule};

@@ -1,92 +1,82 @@
-//! The ring, and the rule that every step on it keeps.
-ghost use Rattle.std.specs.Prelude.{◌≡◌, ◌≤◌, ◌↔◌, IfOk};
-ghost use Rattle.limits.specs.declared.profile.TheConstants.{MOST_RING};
+//! The making of a ring, the meeting of its ends, and its closing.
+ghost use Rattle.std.specs.Prelude.{◌≡◌, ◌↔◌, ◌+◌, ◌<◌, true, length, Some, IfOk, IsTrue};
 ghost use Rattle.limits.specs.RingLength.{IsRingLength};
-ghost use Rattle.rx_ring.specs.Rule.{opening_words_of};
-ghost use Rattle.rx_ring.specs.Ends.{Made};
+ghost use Rattle.ring_model.specs.receive.Lawful.{IsLawfulRxLedger};
+ghost use Rattle.ring_model.specs.shared.Frames.{Bytes};
+ghost use Rattle.rx_ring.specs.Ends.{driver_size, taken, is_drained};
+ghost use Rattle.rx_ring.specs.Calls.{told_left, IsTold};
+ghost use Rattle.rx_ring.specs.Meeting.{MadeSeats, ledger_of, stored_now, Met, IsClosed};
 
 use crate::controller::RxControllerEnd;
 use crate::driver::RxDriverEnd;
-use crate::error::RingError;
-use crate::plays::{Deal, Halve};
-use crate::view::{ControllerEvent, DriverEvent, View};
-use atomic_table::{Seat, Shared, Table, TableRule};
+use crate::steps::{self, RxRing};
 use buffer_pool::Buf;
 use limits::is_ring_length;
-use std::alloc::{AllocError, Global};
-use std::marker::Model;
-
-/// What a seat knows: the record of an end.
-pub(crate) type RxView = View<DriverEvent, ControllerEvent>;
-
-pub(crate) type RxSeat = Seat<Buf, RxView>;
-
-pub(crate) type RxTable = Shared<Buf, RxView, usize, RxRule>;
-
-/// Between any two steps, the words, the slots and both records agree with one ring that a schedule makes.
-pub struct RxRule;
-
-impl TableRule<Buf, RxView, usize> for RxRule {
-    ghost use Rattle.rx_ring.specs.declared.view.View.TheVariants.{Maker};
-    ghost use Rattle.rx_ring.specs.Rule.{IsRuled};
-
-    ghost holds = { IsRuled };
-
-    ghost first = { λ _. Maker };
-}
-
-/// A receive ring. Its two ends are made with it, and each call on an end takes the ring that the end was made with.
-/// Contracts see it as the identity of its table, whose `slots` are the ring's length.
-#[derive(Drop)]
-pub struct RxRing {
-    pub(crate) table: Table<Buf, RxView, usize, RxRule, Global>,
-}
-
-impl Model for RxRing {
-    ghost use Rattle.atomic_table.specs.Seated.{TableId};
-    ghost use Rattle.rx_ring.specs.Rule.{IsTableOf};
-
-    ghost Value = { TableId };
-
-    ghost view = { λ r. r.table.shared.table_id };
-
-    ghost invariant = { λ r. IsTableOf r.table.shared.table_id r.table.shared.key };
-}
+use shared_ring::RingError;
+use std::alloc::Global;
 
 impl RxRing {
-    /// A ring of `n` descriptors, enabled, with nothing posted. It answers `RingLength` where a ring may not be so long
-    /// (`limits::is_ring_length`), and `Memory` only where memory was refused.
+    /// A ring of `n` descriptors, disabled, with nothing posted. It answers `RingLength` where `n` is no power of two
+    /// from 8 to 4,096, and `Memory` only where memory was refused.
     pub fn new(alloc: Global, n: u32) -> Result<(RxRing, RxDriverEnd, RxControllerEnd), RingError>
         ensures refused { (result ≡ Err RingError.RingLength) ↔ ¬ (IsRingLength n) }
-        ensures made { IfOk result (λ r. Made n r.0 r.1 r.2) }
+        ensures made { IfOk result (λ r. MadeSeats n r.0 r.1 r.2) }
     {
-        let size = n as usize;
-        if !is_ring_length(size) {
+        if !is_ring_length(n as usize) {
             return Err(RingError::RingLength);
         }
-        let Ok(words) = opening_words(alloc, size) else {
+        let Ok((ring, driver, controller)) = RxRing::deal(alloc, n as u16) else {
             return Err(RingError::Memory);
         };
-        let Ok(slots) = Buf::blanks(alloc, size) else {
-            return Err(RingError::Memory);
-        };
-        let Ok((table, mut seat)) = Table::new(alloc, words.as_slice(), slots, &size) else {
-            return Err(RingError::Memory);
-        };
-        table.shared.load::<Deal>(&mut seat, size + 2);
-        let served = table.shared.split_seat::<Halve>(&mut seat);
-        let driver = RxDriverEnd::new(seat, n as u16);
-        let controller = RxControllerEnd::new(served, n as u16);
-        Ok((RxRing { table }, driver, controller))
+        Ok((
+            ring,
+            RxDriverEnd::new(driver),
+            RxControllerEnd::new(controller),
+        ))
     }
 }
 
-/// The words of a ring as it is made: all 0 but the control word, which says that the queue is enabled.
-fn opening_words(alloc: Global, size: usize) -> Result<Vec<u64>, AllocError>
-    requires { size ≤ MOST_RING }
-    ensures { IfOk result (λ v. v.items ≡ opening_words_of size) }
+/// Both ends, in one place, learn that their records are those of one lawful ring. It changes nothing of the ring and
+/// of the ends. Its loads are kept in no record.
+///
+/// What is said of the ledger is of the driver's epoch: as long as the controller has not answered its enabling,
+/// nothing is stored in it. What the driver has learnt in this epoch is so: where it loaded the head after its
+/// disabling was answered, so many segments were left as that told; where it saw the queue quiet and drained, all that
+/// is stored is taken.
+pub fn meet_rx(ring: &RxRing, driver: &mut RxDriverEnd, controller: &mut RxControllerEnd)
+    requires driver { driver.old.table ≡ ring.now }
+    requires controller { controller.old.table ≡ ring.now }
+    ensures same_driver { driver.new ≡ driver.old }
+    ensures same_controller { controller.new ≡ controller.old }
+    ensures lawful { IsLawfulRxLedger Bytes (driver_size driver.old) (ledger_of driver.old controller.old) }
+    ensures places { Met driver.old controller.old }
+    ensures left { IsTold (told_left driver.old) (length (taken driver.old)) (length (stored_now driver.old controller.old)) }
+    ensures drained { is_drained driver.old ≡ true → taken driver.old ≡ stored_now driver.old controller.old }
 {
-    let mut words = vec![in alloc; 0u64; size + 4]?;
-    words[size + 2] = 2;
-    Ok(words)
+    let _size = driver.size();
+    steps::meet(ring, &mut driver.seat, &mut controller.seat);
+}
+
+/// Closes a ring, wherever its two ends stand: one entry a place, with the buffer that lay there where one did, be it
+/// posted, published or written back. A place whose buffer the controller has fetched, and those of the driver, have
+/// none. The list stands in the room that `new` reserved, so this takes no memory.
+pub fn close(ring: RxRing, driver: RxDriverEnd, controller: RxControllerEnd) -> Vec<Option<Buf>>
+    requires driver { driver.table ≡ ring }
+    requires controller { controller.table ≡ ring }
+    ensures { IsClosed driver controller result.items }
+{
+    let _size = driver.size();
+    let RxDriverEnd {
+        seat,
+        next,
+        out,
+        ..
+    } = driver;
+    let RxControllerEnd {
+        seat: served,
+        serve,
+        held,
+        ..
+    } = controller;
+    steps::take_apart(ring, seat, served, next, out, serve, held)
 }

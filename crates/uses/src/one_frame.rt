@@ -9,14 +9,22 @@ use std::alloc::Global;
 pub fn passed(alloc: Global, frame: &[u8; 60]) -> Result<Option<Buf>> {
     let (ring, mut driver, mut controller) = RxRing::new(alloc, 8)?;
     let mut stock = Stock::new(alloc, 0, 16)?;
-    if let Some(buf) = stock.take() {
-        driver.post(&ring, buf); // the descriptor becomes 0, the buffer lies in its slot
-        driver.publish(&ring); // RDT
+    let Some(buf) = stock.take() else {
+        return Ok(None);
+    };
+    driver.post(&ring, buf); // the descriptor becomes 0, the buffer lies in its slot
+    driver.publish(&ring); // RDT
+    driver.ask_enable(&ring); // RXDCTL.ENABLE
+    controller.asked(&ring);
+    if controller.can_answer() {
+        controller.answer(&ring); // the queue is enabled
     }
-    if 0 < controller.look(&ring) {
+    driver.state(&ring); // and seen enabled
+    if controller.is_serving() && 0 < controller.look(&ring) {
         let mut buf = controller.fetch(&ring);
         buf.fill(frame);
         controller.write_back(&ring, buf, true); // DD, EOP and the length
+        controller.set_head(&ring); // RDH
     }
     let taken = match driver.poll(&ring) {
         Poll::Segment(buf, _eop) => Some(buf), // DD was set

@@ -1,5 +1,6 @@
--- Which posting may follow an unfinished frame: its bytes may, and PAYLEN is the whole frame's length in each descriptor of the frame.
+-- Which posting may follow an unfinished frame: its bytes may, and PAYLEN is the whole frame's length in each descriptor of the frame, from the least to the most that a frame may have.
 use Rattle.std.specs.Prelude.{◌≡◌, ℕ, ◌+◌, ◌≤◌, true, List, Some, length, slice_get, take}
+use Rattle.limits.specs.declared.profile.TheConstants.{LEAST_FRAME, MOST_FRAME}
 use Rattle.ring_model.specs.shared.Frames.{Bytes, Follows, join, unfinished}
 use Rattle.ring_model.specs.transmit.Ring.{Posting, carried}
 
@@ -7,6 +8,8 @@ use Rattle.ring_model.specs.transmit.Ring.{Posting, carried}
 pub record MayFollow (n : ℕ) (before : List (Posting Bytes)) (p : Posting Bytes) : Type 0 where
   pub follows : Follows carried n before p.payload p.eop
   pub asks_at_end : p.rs ≡ true → p.eop ≡ true
+  pub long_enough : LEAST_FRAME ≤ p.paylen
+  pub short_enough : p.paylen ≤ MOST_FRAME
   pub same_frame : (k : ℕ) (q : Posting Bytes) → slice_get before k ≡ Some q → q.paylen ≡ p.paylen
   pub within : length (join carried before) + length p.payload ≤ p.paylen
   pub whole : p.eop ≡ true → length (join carried before) + length p.payload ≡ p.paylen

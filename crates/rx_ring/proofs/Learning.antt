@@ -1,0 +1,109 @@
+-- What the driver has learnt stays so, whatever step is made.
+use Rattle.std.proofs.Common.{◌≡◌, ℕ, zero, suc, ◌+◌, ◌%◌, ◌<◌, ◌≤◌, ◌⊎◌, inl, inr, ⊎_elim, Bool, true, false, not, ◌&&◌, ◌||◌, List, [], ◌∷◌, ◌++◌, length, Option, Some, None, sym, refl, ap, ◌∙◌, subst, arith, length-append}
+use Rattle.std.specs.Prelude.{slice_get, ◌==◌}
+use Rattle.std.proofs.lemmas.Bool.{and_parts, and_from, or_cases, eqb-true, both_ways, not_from_false, false≢true}
+use Rattle.std.proofs.lemmas.Option.{none-some, same_Some, slice_get_within}
+use Rattle.ring_model.specs.declared.steps.RxStep.{RxStep}
+use Rattle.ring_model.specs.declared.steps.RxStep.TheVariants as rx
+use Rattle.ring_model.specs.shared.Handshakes.{is_answered, is_ended, is_open, is_serving, is_stopped, has_ended}
+use Rattle.ring_model.specs.shared.Frames.{Bytes}
+use Rattle.ring_model.specs.shared.Laws.{SameEpoch, NewEpoch}
+use Rattle.ring_model.specs.shared.Queue.{Ledger, posted_count, served_count, given_count}
+use Rattle.ring_model.specs.receive.Laws.{RxLater, rx_over}
+use Rattle.ring_model.specs.receive.Ring.{RxRing, Segment, ends_segment, due}
+use Rattle.ring_model.specs.receive.Steps.{rx_can, rx_changed, rx_next, took}
+use Rattle.ring_model.proofs.receive.Kept.{IsRxKept}
+use Rattle.ring_model.proofs.receive.Reached.{rx_later-all}
+use Rattle.ring_model.proofs.receive.Over.{over-ended}
+use Rattle.ring_model.proofs.shared.Reaching.{next-happens}
+use Rattle.ring_model.proofs.shared.Shakes.{answered_closed, stopped_answered, stopped_full}
+use Rattle.ring_model.proofs.shared.Stepping.{answered_over}
+use Rattle.rx_ring.specs.declared.events.RxDriverOwn.TheVariants.{NotDone, Taken, LoadedQuiet, ClearedQuiet}
+use Rattle.rx_ring.specs.Records.{RxDriven, DriverStep, drive, driving, Knowing, unknown, know, know_own, knowing_from, knowing, posting, drive_own}
+use Rattle.rx_ring.specs.Rule.{Learnt}
+use Rattle.shared_ring.specs.Records as shared
+use Rattle.shared_ring.specs.Records.{undriven}
+use Rattle.shared_ring.specs.Lies.{driven}
+
+knowing_from-snoc : (d : RxDriven) (k : Knowing) (es : List DriverStep) (e : DriverStep) → knowing_from d k (es ++ e ∷ []) ≡ know (shared.driving_from posting drive_own d es) (knowing_from d k es) e
+knowing_from-snoc d k [] e = refl
+knowing_from-snoc d k (x ∷ es) e = knowing_from-snoc (drive d x) (know d k x) es e
+
+pub knowing-snoc : (es : List DriverStep) (e : DriverStep) → knowing (es ++ e ∷ []) ≡ know (driving es) (knowing es) e
+knowing-snoc es e = knowing_from-snoc undriven unknown es e
+
+longer : {X : Type 0} (xs ys : List X) (y : X) (zs : List X) → xs ++ (y ∷ ys) ≡ zs → zs ≡ xs → ⊥
+longer xs ys y zs e f = let a : length (xs ++ (y ∷ ys)) ≡ length xs = ap length (e ∙ f) in let b = length-append xs (y ∷ ys) in omega arith
+
+module _ (n : ℕ) (q : RxRing Bytes) (k : IsRxKept Bytes n q) where
+  later-one : (s : RxStep Bytes) → rx_can q s ≡ true → RxLater q (rx_changed q s)
+  later-one s may = subst (λ (p : RxRing Bytes). RxLater q p) (next-happens rx_can rx_changed q s may) (rx_later-all n q (s ∷ []) k)
+
+  -- no step but a renewal ends the epoch
+  pub same-epoch : (s : RxStep Bytes) → rx_can q s ≡ true → (rx_changed q s).past ≡ q.past → SameEpoch q.queue (rx_over q) (rx_changed q s).queue (rx_over (rx_changed q s))
+  same-epoch s may past = ⊎_elim (λ f. absurd (longer q.past f.more f.ended (rx_changed q s).past f.past past)) (λ e. e) (later-one s may)
+
+  pub answered_rx_over : is_answered q.handshake.driver ≡ true → rx_over q ≡ true
+  answered_rx_over a = let o = k.queue in
+      over-ended q.handshake q.still (and_from (is_ended q.handshake.controller) (not (is_open q.handshake.driver)) (answered_over n ends_segment q.queue o a) (not_from_false (is_open q.handshake.driver) (answered_closed q.handshake.driver a)))
+
+  module _ (x : Knowing) (l : Learnt n q x) where
+    -- a step that leaves what was taken
+    pub learnt-on : (p : RxRing Bytes) → SameEpoch q.queue (rx_over q) p.queue (rx_over p) → p.ledger.given ≡ q.ledger.given → Learnt n p x
+    learnt-on p e same = record {
+      head = λ place f. let h = l.head place f in let s = e.served (answered_rx_over h.0) in let g = e.given h.0 in (g.1, h.1 ∙ ap (λ (xs : List (Segment Bytes)). length xs % n) (sym s.0));
+      quiet = λ f. let s = e.served (l.quiet f) in s.1;
+      drained = λ f. let h = l.drained f in let s = e.served h.0 in (s.1, ap length same ∙ h.1 ∙ ap length (sym s.0));
+    }
+
+    pub learnt-step : (s : RxStep Bytes) → rx_can q s ≡ true → (rx_changed q s).past ≡ q.past → (rx_changed q s).ledger.given ≡ q.ledger.given → Learnt n (rx_changed q s) x
+    learnt-step s may past given = learnt-on (rx_changed q s) (same-epoch s may past) given
+
+    -- the head, once the disabling was seen answered
+    pub learnt-head : (w : ℕ) → is_stopped q.handshake.driver ≡ true → w ≡ q.head → Learnt n q (record x { head = Some w })
+    learnt-head w stopped e = let a = stopped_answered q.handshake.driver stopped in let o = k.queue in record {
+      head = λ place f. (a, sym (same_Some w place f) ∙ e ∙ o.told (answered_over n ends_segment q.queue o a) (answered_closed q.handshake.driver a) (stopped_full q.handshake.driver stopped) ∙ ap (λ (j : ℕ). served_count q.queue % j) o.size_is);
+      quiet = l.quiet;
+      drained = l.drained;
+    }
+
+    -- nothing was due where no DD was found
+    pub learnt-not_done : (p w : ℕ) → due q ≡ None → Learnt n q (know_own (driven q.queue) x (NotDone p w))
+    learnt-not_done p w e = record {
+      head = l.head;
+      quiet = l.quiet;
+      drained = λ f. ⊎_elim (λ a. l.drained a) (λ b. (l.quiet b, let o = k.queue.order in let gs = o.given_served in let none = none_past q.ledger.served (given_count q.queue) e in omega arith)) (or_cases x.drained x.quiet f);
+    }
+      where
+        none_past : (xs : List (Segment Bytes)) (j : ℕ) → slice_get xs j ≡ None → length xs ≤ j
+        none_past [] j f = omega arith
+        none_past (y ∷ ys) zero f = absurd (none-some y (sym f))
+        none_past (y ∷ ys) (suc j) f = let h = none_past ys j f in omega arith
+
+    quiet_learnt : (w : ℕ) → w ≡ q.quiet → (x.quiet || (w == 1)) ≡ true → rx_over q ≡ true
+    quiet_learnt w e f = ⊎_elim (λ a. l.quiet a) (λ b. k.quiet (sym e ∙ eqb-true w 1 b)) (or_cases x.quiet (w == 1) f)
+
+    all_taken : length q.ledger.given ≡ length q.ledger.posted → given_count q.queue ≡ served_count q.queue
+    all_taken e = let o = k.queue.order in let a = o.given_served in let b = o.served_posted in omega arith
+
+    pub learnt-quiet : (w : ℕ) → w ≡ q.quiet → Learnt n q (know_own (driven q.queue) x (LoadedQuiet w))
+    learnt-quiet w e = record {
+      head = l.head;
+      quiet = λ f. quiet_learnt w e f;
+      drained = λ f. ⊎_elim (λ a. l.drained a)
+          (λ b. let t = and_parts (x.quiet || (w == 1)) (length q.ledger.given == length q.ledger.posted) b in (quiet_learnt w e t.0, all_taken (eqb-true (length q.ledger.given) (length q.ledger.posted) t.1)))
+          (or_cases x.drained ((x.quiet || (w == 1)) && (length q.ledger.given == length q.ledger.posted)) f);
+    }
+
+    pub learnt-taken : (s : Segment Bytes) (p w : ℕ) (b : _) → due q ≡ Some s → SameEpoch q.queue (rx_over q) (took q (Some s)).queue (rx_over (took q (Some s))) → Learnt n (took q (Some s)) (know_own (driven q.queue) x (Taken p w b))
+    learnt-taken s p w b is e = let below : given_count q.queue < served_count q.queue = slice_get_within q.ledger.served (given_count q.queue) s is in let more = length-append q.ledger.given (s ∷ []) in record {
+      head = λ place f. let h = l.head place f in let t = e.served (answered_rx_over h.0) in let g = e.given h.0 in (g.1, h.1 ∙ ap (λ (xs : List (Segment Bytes)). length xs % n) (sym t.0));
+      quiet = λ f. let t = e.served (l.quiet f) in t.1;
+      drained = λ f. ⊎_elim (λ a. let h = l.drained a in let c = h.1 in absurd (omega arith))
+          (λ c. let t = and_parts x.quiet (length q.ledger.given + 1 == length q.ledger.posted) c in let full = eqb-true (length q.ledger.given + 1) (length q.ledger.posted) t.1 in
+          let o = k.queue.order in let sp = o.served_posted in let u = e.served (l.quiet t.0) in (u.1, omega arith))
+          (or_cases x.drained (x.quiet && (length q.ledger.given + 1 == length q.ledger.posted)) f);
+    }
+
+  pub learnt-unknown : Learnt n q unknown
+  learnt-unknown = record { head = λ place f. absurd (none-some place f); quiet = λ f. absurd (false≢true f); drained = λ f. absurd (false≢true f) }

@@ -1,0 +1,135 @@
+-- What the steps of a meeting and of a making ask, over the seats that they are made with.
+use Rattle.std.proofs.Common.{◌≡◌, ℕ, ◌+◌, ◌-◌, ◌%◌, ◌<◌, ◌≤◌, Bool, true, false, ◌&&◌, if◌then◌else◌, List, [], length, Option, Some, None, replicate, sym, refl, ap, ◌∙◌, subst, ⊎_elim, arith, mod-lt, ◌++◌, append-nil, length-append}
+use Rattle.std.proofs.lemmas.Bool.{cases_Bool, and_left, and_right, and_parts, true≢false, false≢true}
+use mathlib.Core.Option.{none}
+use Rattle.atomic_table.specs.Table.{Allows, Splits, Joins, step}
+use Rattle.atomic_table.specs.Seated.{TableId}
+use Rattle.buffer_pool.specs.Buffer.{Buffer}
+use Rattle.ring_model.specs.shared.Lists.{IsBeginning}
+use Rattle.ring_model.specs.declared.states.ControllerState.{ControllerState}
+use Rattle.ring_model.specs.declared.states.ControllerState.TheVariants.{Ended}
+use Rattle.ring_model.specs.receive.Ring.{RxRing, RxLedger, Segment, ends_segment}
+use Rattle.ring_model.specs.receive.Lawful.{IsLawfulRxLedger}
+use Rattle.ring_model.specs.shared.Frames.{Bytes}
+use Rattle.ring_model.specs.shared.Handshakes.{is_open, is_ended, is_serving, is_between}
+use Rattle.ring_model.specs.shared.Queue.{served_count, given_count}
+use Rattle.ring_model.specs.receive.Ring.{rx_opening}
+use Rattle.ring_model.proofs.receive.Kept.{IsRxKept}
+use Rattle.ring_model.proofs.receive.Reached.{rx_kept, rx_lawful}
+use Rattle.ring_model.proofs.shared.Places.{ahead}
+use Rattle.shared_ring.specs.declared.events.View.TheVariants.{Maker, Driver, Controller, Both, Nobody}
+use Rattle.shared_ring.specs.Seats.{driver_half, controller_half, both_halves}
+use Rattle.shared_ring.specs.Lies.{driven, IsControlled}
+use Rattle.shared_ring.specs.Plays.{Deals}
+use Rattle.shared_ring.proofs.Laying.{none-empty}
+use Rattle.shared_ring.proofs.Allowing.{allow_both, splits-halve, splits-lend, joins-unite, joins-return}
+use Rattle.shared_ring.proofs.Gathering.{allow_deal}
+use Rattle.rx_ring.specs.Records.{RxView, RxDriven, RxControlled, DriverStep, ControllerStep, driving, controlling}
+use Rattle.rx_ring.specs.Rule.{IsRuled, IsTableOf, LiesAs, says, lies_there}
+use Rattle.rx_ring.specs.Plays.{Seated, Meets, AreOf}
+use Rattle.rx_ring.specs.Ends.{DriverSide, driver_size, posted, taken, driver_state, known_of, is_drained, ControllerSide, stored, controller_state}
+use Rattle.rx_ring.specs.Calls.{IsTold, left_at, told_left}
+use Rattle.rx_ring.specs.Meeting.{ledger_of, stored_now, left_by, Met}
+use Rattle.rx_ring.proofs.Moving.{opening-lies}
+
+-- a ring's table has a word
+pub some-words : (ring : TableId) (key : ℕ) → IsTableOf ring key → 0 < ring.words
+some-words ring key t = let w = t.words in omega arith
+
+pub lend-asks : (key id : ℕ) (v : RxView) (cs : List ControllerStep) → v ≡ Controller cs → Splits {S = Buffer} (IsRuled key) id v Nobody v
+lend-asks key id v cs e = subst (λ (w : RxView). Splits {S = Buffer} (IsRuled key) id w Nobody w) (sym e) (splits-lend (LiesAs key) key (key + 4) id cs)
+
+pub unite-asks : (key id other : ℕ) (v w : RxView) (ds : List DriverStep) (cs : List ControllerStep) → v ≡ Driver ds → w ≡ Controller cs → Joins {S = Buffer} (IsRuled key) id v other w (both_halves v w) Nobody
+unite-asks key id other v w ds cs e f =
+    subst (λ (x : RxView). Joins {S = Buffer} (IsRuled key) id x other w (both_halves x w) Nobody) (sym e)
+    (subst (λ (y : RxView). Joins {S = Buffer} (IsRuled key) id (Driver ds) other y (both_halves (Driver ds) y) Nobody) (sym f) (joins-unite (LiesAs key) key (key + 4) id other ds cs))
+
+pub halve-asks : (key id : ℕ) (v : RxView) (ds : List DriverStep) (cs : List ControllerStep) → v ≡ Both ds cs → Splits {S = Buffer} (IsRuled key) id v (driver_half v) (controller_half v)
+halve-asks key id v ds cs e = subst (λ (w : RxView). Splits {S = Buffer} (IsRuled key) id w (driver_half w) (controller_half w)) (sym e) (splits-halve (LiesAs key) key (key + 4) id ds cs)
+
+pub return-asks : (key id other : ℕ) (v w : RxView) (cs : List ControllerStep) → v ≡ Nobody → w ≡ Controller cs → Joins {S = Buffer} (IsRuled key) id v other w w Nobody
+return-asks key id other v w cs e f =
+    subst (λ (x : RxView). Joins {S = Buffer} (IsRuled key) id x other w w Nobody) (sym e)
+    (subst (λ (y : RxView). Joins {S = Buffer} (IsRuled key) id Nobody other y y Nobody) (sym f) (joins-return (LiesAs key) key (key + 4) id other cs))
+
+-- both ends meet
+allow-meet : (n id : ℕ) (ds : List DriverStep) (cs : List ControllerStep) (slots : List (ℕ × Buffer)) → Allows (IsRuled n) n id (Both ds cs, slots) 0 (λ x. x) (Meets (step n 0 0 0 none) (Both ds cs, slots))
+allow-meet n id ds cs slots = allow_both (LiesAs n) n (n + 4) id ds cs slots 0 (Meets (step n 0 0 0 none) (Both ds cs, slots))
+    (λ q words homes pos l. let k = rx_kept n q pos l.reachable in let o = k.queue in record {
+      same = refl;
+      of_one_ring = record { queue = q; reachable = l.reachable; driver = l.driver; controller = l.controller; learnt = l.learnt; lawful = rx_lawful n q k; size_is = o.size_is };
+    })
+
+pub meet-asks : (key slots id : ℕ) (me : Seated) (ds : List DriverStep) (cs : List ControllerStep) (carried : List (ℕ × Buffer)) → slots ≡ key → me ≡ (Both ds cs, carried) → Allows (IsRuled key) slots id me 0 (λ x. x) (Meets (step slots 0 0 0 none) me)
+meet-asks key slots id me ds cs carried s e =
+    subst (λ (k : ℕ). Allows (IsRuled key) k id me 0 (λ x. x) (Meets (step k 0 0 0 none) me)) (sym s)
+    (subst (λ (m : Seated). Allows (IsRuled key) key id m 0 (λ x. x) (Meets (step key 0 0 0 none) m)) (sym e) (allow-meet key id ds cs carried))
+
+pub deal-asks : (n key slots id : ℕ) (me : Seated) → 1 < n → key ≡ n → slots ≡ n → me ≡ (Maker, []) → Allows (IsRuled key) slots id me (n + 2) (λ x. x) (Deals (step slots (n + 2) 0 0 none) me)
+deal-asks n key slots id me big k s e =
+    subst (λ (x : ℕ). Allows (IsRuled x) slots id me (n + 2) (λ x. x) (Deals (step slots (n + 2) 0 0 none) me)) (sym k)
+    (subst (λ (x : ℕ). Allows (IsRuled n) x id me (n + 2) (λ x. x) (Deals (step x (n + 2) 0 0 none) me)) (sym s)
+    (subst (λ (m : Seated). Allows (IsRuled n) n id m (n + 2) (λ x. x) (Deals (step n (n + 2) 0 0 none) m)) (sym e)
+    (allow_deal (LiesAs n) n (n + 4) id (n + 2) (rx_opening n false) big (λ words homes w c. opening-lies n words homes big w c))))
+
+ended_idle : (s : ControllerState) → is_ended s ≡ true → is_serving s ≡ false
+ended_idle Ended e = refl
+ended_idle _ e = absurd (false≢true e)
+
+-- a beginning that is as long is the whole
+beginning-whole : {X : Type 0} (xs ys : List X) → IsBeginning xs ys → length xs ≡ length ys → xs ≡ ys
+beginning-whole xs ys b e = let len = length-append xs b.0 in let l : length (xs ++ b.0) ≡ length ys = ap length b.1 in
+    sym (append-nil xs) ∙ ap (λ zs. xs ++ zs) (sym (none-empty b.0 (omega arith))) ∙ b.1
+
+-- What two ends that met know of their ledger
+module _ (d : DriverSide) (c : ControllerSide) (m : Met d c) (same : c.table ≡ d.table) (big : 1 < driver_size d) where
+  state-is : driver_state d ≡ m.queue.handshake.driver
+  state-is = ap (λ (x : RxDriven). x.state) m.driver
+
+  its : {Y : Type 0} (f : RxControlled → Y) → f (controlling c.table.slots c.events) ≡ f (controlling (driver_size d) c.events)
+  its f = ap (λ (z : TableId). f (controlling z.slots c.events)) same
+
+  its-state : controller_state c ≡ m.queue.handshake.controller
+  its-state = let l = m.controller in its (λ x. x.state) ∙ l.state
+
+  kept : IsRxKept Bytes (driver_size d) m.queue
+  kept = rx_kept (driver_size d) m.queue big m.reachable
+
+  unanswered-is : (is_ended (controller_state c) && is_open (driver_state d)) ≡ is_between m.queue.handshake
+  unanswered-is = ap (λ (x : Bool). x && is_open (driver_state d)) (ap is_ended its-state) ∙ ap (λ (x : Bool). is_ended m.queue.handshake.controller && x) (ap is_open state-is)
+
+  chosen : (b : Bool) → is_between m.queue.handshake ≡ b → (if b then [] else stored c) ≡ m.queue.ledger.served
+  chosen true e = let k = kept in let o = k.queue.order in let t = and_parts (is_ended m.queue.handshake.controller) (is_open m.queue.handshake.driver) e in sym (none-empty m.queue.ledger.served (o.none_served (ended_idle m.queue.handshake.controller t.0) t.1))
+  chosen false e = let l = m.controller in its (λ x. x.served) ∙ l.served e
+
+  pub stored-is : stored_now d c ≡ m.queue.ledger.served
+  stored-is = ap (λ (b : Bool). if b then [] else stored c) unanswered-is ∙ chosen (is_between m.queue.handshake) refl
+
+  ledger-is : ledger_of d c ≡ m.queue.ledger
+  ledger-is = ap (λ (x : RxDriven). let l : RxLedger Bytes = record { posted = x.posted; served = stored_now d c; given = x.given } in l) m.driver
+      ∙ ap (λ (xs : List (Segment Bytes)). let l : RxLedger Bytes = record { posted = m.queue.ledger.posted; served = xs; given = m.queue.ledger.given } in l) stored-is
+
+  pub met-lawful : IsLawfulRxLedger Bytes (driver_size d) (ledger_of d c)
+  met-lawful = let a = m.lawful in let e = a.ledger in let f = m.driver in
+      subst (λ (n : ℕ). IsLawfulRxLedger Bytes n (ledger_of d c)) m.size_is
+      (subst (λ (l : RxLedger Bytes). IsLawfulRxLedger Bytes m.queue.size l) (sym ledger-is) e)
+
+  -- what was learnt of the head
+  pub met-left : (head : ℕ) → (known_of d).head ≡ Some head → length (stored_now d c) ≡ length (taken d) + left_by d head
+  met-left head e = let l = m.learnt in let h = l.head head e in let k = kept in let o = k.queue.order in let gs = o.given_served in let sp = o.served_posted in let r = o.room in
+      let t : length (taken d) ≡ given_count m.queue.queue = ap (λ (x : RxDriven). length x.given) m.driver in let s : length (stored_now d c) ≡ served_count m.queue.queue = ap length stored-is in
+      let a = ahead (driver_size d) (given_count m.queue.queue) (served_count m.queue.queue) (omega arith) gs (omega arith) in
+      let b : left_by d head ≡ (served_count m.queue.queue % driver_size d + driver_size d - given_count m.queue.queue % driver_size d) % driver_size d =
+      ap (λ (x : ℕ). (head + driver_size d - x % driver_size d) % driver_size d) t ∙ ap (λ (x : ℕ). (x + driver_size d - given_count m.queue.queue % driver_size d) % driver_size d) h.1 in
+      omega arith
+
+  pub met-drained : is_drained d ≡ true → taken d ≡ stored_now d c
+  met-drained e = let l = m.learnt in let h = l.drained e in let k = kept in
+      ap (λ (x : RxDriven). x.given) m.driver ∙ beginning-whole m.queue.ledger.given m.queue.ledger.served k.taken h.1 ∙ sym stored-is
+
+  told-is : (o : Option ℕ) → (known_of d).head ≡ o → IsTold (left_at d o) (length (taken d)) (length (stored_now d c))
+  told-is None e = tt
+  told-is (Some head) e = met-left head e
+
+  pub met-told : IsTold (told_left d) (length (taken d)) (length (stored_now d c))
+  met-told = told-is (known_of d).head refl

@@ -1,0 +1,198 @@
+-- What the calls of both ends do, where their answer depends on what was loaded; and what the fields of an end keep.
+use Rattle.std.specs.Prelude.{◌≡◌, ℕ, ◌+◌, ◌-◌, ◌%◌, ◌<◌, ◌≤◌, ◌⊎◌, Bool, true, false, List, [], ◌∷◌, ◌++◌, length, Option, Some, None, slice_get}
+use Rattle.atomic_table.specs.Seated.{TableId}
+use Rattle.buffer_pool.specs.Buffer.{Buffer, buffer}
+use Rattle.limits.specs.RingLength.{IsRingLength}
+use Rattle.ring_model.specs.declared.states.DriverState.{DriverState}
+use Rattle.ring_model.specs.declared.states.ControllerState.{ControllerState}
+use Rattle.ring_model.specs.declared.states.ControllerState.TheVariants as state
+use Rattle.ring_model.specs.receive.Agreement.{rx_word}
+use Rattle.ring_model.specs.receive.Ring.{Segment, ends_segment, piece_of}
+use Rattle.ring_model.specs.shared.Frames.{Bytes, Follows, unfinished, ends_frame}
+use Rattle.ring_model.specs.shared.Handshakes.{is_answered, is_live, is_serving}
+use Rattle.shared_ring.specs.declared.events.DriverEvent.TheVariants as driver
+use Rattle.shared_ring.specs.declared.events.ControllerEvent.TheVariants as controller
+use Rattle.shared_ring.specs.Words.{control_word}
+use Rattle.shared_ring.specs.declared.control.Control.{Control}
+use Rattle.shared_ring.specs.Records.{undriven, count_at}
+use Rattle.rx_ring.specs.declared.events.RxDriverOwn.TheVariants.{NotDone, Taken, ClearedQuiet}
+use Rattle.rx_ring.specs.declared.events.RxControllerOwn.TheVariants.{WroteBack}
+use Rattle.rx_ring.specs.declared.driver.Poll.{Poll}
+use Rattle.rx_ring.specs.declared.driver.Poll.TheVariants as poll
+use Rattle.rx_ring.specs.Records.{RxDriven, RxControlled, Knowing, unknown, segment_of}
+use Rattle.rx_ring.specs.Ends.{DriverSide, driver_size, driver_record, posted, taken, reclaimed, returned, driver_state, known_of, saw_quiet, is_drained, next_place, appended, ControllerSide, controller_size, controller_record, stored, held_number, serve_place, answered, seen, head_stored, controller_state, is_between, known_free}
+use Rattle.rx_ring.specs.Meeting.{left_by}
+
+abbrev pub segment : Buffer → Bool → Segment Bytes
+segment buf eop = record { number = buf.number; payload = buf.bytes; eop = eop }
+
+-- the next descriptor was loaded, and had no DD. Where the queue was seen quiet, nothing is left to take
+pub record SawNotDone (old new : DriverSide) : Type 0 where
+  pub live : is_live (driver_state old) ≡ true
+  pub some_out : length (taken old) < length (posted old)
+  pub word : ℕ
+  pub clear : word % 2 ≡ 0
+  pub step : new ≡ appended old (driver.Own (NotDone (next_place old) word))
+  pub same : driver_record new ≡ driver_record old
+  pub drained : saw_quiet old ≡ true → is_drained new ≡ true
+
+-- the next descriptor was loaded, and had DD: the segment lies in the buffer that was posted next in order, with the length and EOP of the word, and it follows the frame so far; so there is room for one more
+pub record TookSegment (old : DriverSide) (buf : Buffer) (eop : Bool) (new : DriverSide) : Type 0 where
+  pub live : is_live (driver_state old) ≡ true
+  pub some_out : length (taken old) < length (posted old)
+  pub step : new ≡ appended old (driver.Own (Taken (next_place old) (rx_word (length buf.bytes) eop) buf))
+  pub number : slice_get (posted old) (length (taken old)) ≡ Some buf.number
+  pub real : buf ≡ buffer buf.number buf.bytes
+  pub follows : Follows piece_of (driver_size old) (unfinished piece_of (taken old)) buf.bytes eop
+  pub grew : driver_record new ≡ record (driver_record old) { given = taken old ++ segment buf eop ∷ [] }
+  pub room : length (posted new) + 1 < returned new + driver_size new
+
+-- all that is posted is taken. Where the queue was seen quiet, nothing is left to take
+pub record SawEmpty (old new : DriverSide) : Type 0 where
+  pub live : is_live (driver_state old) ≡ true
+  pub none_out : length (taken old) ≡ length (posted old)
+  pub same : new ≡ old
+  pub drained : saw_quiet old ≡ true → is_drained new ≡ true
+
+pub record SawOff (old new : DriverSide) : Type 0 where
+  pub off : is_live (driver_state old) ≡ false
+  pub same : new ≡ old
+
+abbrev pub Polled : DriverSide → Poll → DriverSide → Type 0
+Polled old (poll.Segment buf eop) new = TookSegment old buf eop new
+Polled old poll.NotDone new = SawNotDone old new
+Polled old poll.Empty new = SawEmpty old new
+Polled old poll.Off new = SawOff old new
+
+-- how many segments were left to take, if the head was loaded after the disabling was seen answered
+abbrev pub left_at : DriverSide → Option ℕ → Option ℕ
+left_at d None = None
+left_at d (Some head) = Some (left_by d head)
+
+abbrev pub told_left : DriverSide → Option ℕ
+told_left d = left_at d (known_of d).head
+
+pub record FoundLeft (old : DriverSide) (left : ℕ) (new : DriverSide) : Type 0 where
+  pub head : ℕ
+  pub step : new ≡ appended old (driver.LoadedHead head)
+  pub same : driver_record new ≡ driver_record old
+  pub told : told_left new ≡ Some left
+
+-- the oldest buffer that was out came back
+pub record CameHome (old : DriverSide) (buf : Buffer) (new : DriverSide) : Type 0 where
+  pub step : new ≡ appended old (driver.Reclaimed (next_place old) buf)
+  pub number : slice_get (posted old) (returned old) ≡ Some buf.number
+  pub real : buf ≡ buffer buf.number buf.bytes
+  pub same : driver_record new ≡ record (driver_record old) { reclaimed = reclaimed old + 1 }
+  pub known : known_of new ≡ known_of old
+
+pub record NoneOut (old new : DriverSide) : Type 0 where
+  pub none_out : returned old ≡ length (posted old)
+  pub same : new ≡ old
+
+abbrev pub Reclaimed : DriverSide → Option Buffer → DriverSide → Type 0
+Reclaimed old None new = NoneOut old new
+Reclaimed old (Some buf) new = CameHome old buf new
+
+-- head, tail and quiet word are cleared, and an epoch begins in which nothing is done and nothing learnt
+pub record GoneOver (old new : DriverSide) : Type 0 where
+  pub step : new ≡ appended (appended (appended old driver.ClearedHead) driver.ClearedTail) (driver.Own ClearedQuiet)
+  pub fresh : driver_record new ≡ undriven
+  pub unlearnt : known_of new ≡ unknown
+
+abbrev pub IsFreshDriver : DriverSide → Type 0
+IsFreshDriver d = d.events ≡ []
+
+-- What the fields of a driver's end keep, over its record and what it has learnt
+pub record IsEndOf (n : ℕ) (x : RxDriven) (k : Knowing) (fill next out : ℕ) (state : DriverState) : Type 0 where
+  pub lawful : IsRingLength n
+  pub fill_is : fill ≡ length x.posted % n
+  pub next_is : next ≡ (length x.given + x.reclaimed) % n
+  pub out_is : out + (length x.given + x.reclaimed) ≡ length x.posted
+  pub room : out < n
+  pub state_is : state ≡ x.state
+  pub unreclaimed : is_answered x.state ≡ false → x.reclaimed ≡ 0
+  pub sure : k.quiet ≡ true → length x.given ≡ length x.posted → k.drained ≡ true
+
+abbrev pub IsDriverEnd : DriverSide → ℕ → ℕ → ℕ → DriverState → Type 0
+IsDriverEnd d fill next out state = IsEndOf (driver_size d) (driver_record d) (known_of d) fill next out state
+
+-- A3: the tail was loaded, and the result is how far it is ahead
+pub record FoundFree (old : ControllerSide) (free : ℕ) (new : ControllerSide) : Type 0 where
+  pub tail : ℕ
+  pub step : new ≡ answered old (controller.Looked tail)
+  pub ahead : free ≡ (tail + controller_size old - serve_place old) % controller_size old
+  pub same : controller_record new ≡ record (controller_record old) { known = length (stored old) + free }
+  pub grows : known_free old ≤ free
+
+-- A4: the next descriptor was loaded, and this empty buffer came out of its slot
+pub record Fetched (old : ControllerSide) (buf : Buffer) (new : ControllerSide) : Type 0 where
+  pub word : ℕ
+  pub step : new ≡ answered old (controller.Fetched (serve_place old) word buf)
+  pub empty : buf ≡ buffer buf.number []
+  pub same : controller_record new ≡ record (controller_record old) { held = Some buf }
+
+-- an enabling is asked, and may be answered
+pub record MayEnable (c : ControllerSide) : Type 0 where
+  pub asked : seen c ≡ 1
+  pub idle : is_serving (controller_state c) ≡ false
+
+-- the end serves, nothing is held, the last stored segment ends a frame, and the head is stored after it
+pub record IsSettled (c : ControllerSide) : Type 0 where
+  pub serving : is_serving (controller_state c) ≡ true
+  pub held : held_number c ≡ None
+  pub between : is_between c ≡ true
+  pub head : head_stored c ≡ serve_place c
+
+-- a disabling is asked, and may be answered
+pub record MayDisable (c : ControllerSide) : Type 0 where
+  pub asked : seen c ≡ 3
+  pub settled : IsSettled c
+  pub open settled use *
+
+abbrev pub MayAnswer : ControllerSide → Type 0
+MayAnswer c = MayEnable c ⊎ MayDisable c
+
+-- a new epoch begins: nothing is stored in it, and nothing known
+pub record AnsweredEnabling (old new : ControllerSide) : Type 0 where
+  pub was : is_serving (controller_state old) ≡ false
+  pub step : new ≡ answered old controller.Enabled
+  pub same : controller_record new ≡ record (controller_record old) { served = []; known = 0; head = 0; state = state.Serving; seen = 2; barred = false }
+
+pub record AnsweredDisabling (old new : ControllerSide) : Type 0 where
+  pub was : is_serving (controller_state old) ≡ true
+  pub step : new ≡ answered old controller.Disabled
+  pub same : controller_record new ≡ record (controller_record old) { state = state.Ended; seen = 0 }
+
+abbrev pub Answered : ControllerSide → ControllerSide → Type 0
+Answered old new = AnsweredEnabling old new ⊎ AnsweredDisabling old new
+
+abbrev pub IsFreshController : ControllerSide → Type 0
+IsFreshController c = c.events ≡ []
+
+abbrev pub is_there : Option Buffer → Bool
+is_there None = false
+is_there (Some b) = true
+
+-- What the fields of a controller's end keep, over its record
+pub record IsServerOf (n : ℕ) (x : RxControlled) (serve free place : ℕ) (holding between : Bool) (side : ControllerState) (asked : Control) (finished : Bool) : Type 0 where
+  pub lawful : IsRingLength n
+  pub serve_is : serve ≡ length x.served % n
+  pub free_is : free + length x.served ≡ x.known
+  pub free_below : free < n
+  pub held_is : holding ≡ is_there x.held
+  pub held_free : holding ≡ true → 0 < free
+  pub held_serving : holding ≡ true → is_serving x.state ≡ true
+  pub head_is : place ≡ x.head
+  pub between_is : between ≡ ends_frame ends_segment true x.served
+  pub state_is : side ≡ x.state
+  pub seen_is : control_word asked ≡ x.seen
+  pub quiet_is : finished ≡ x.barred
+
+abbrev pub IsControllerEnd : ControllerSide → ℕ → ℕ → ℕ → Bool → Bool → ControllerState → Control → Bool → Type 0
+IsControllerEnd c serve free place holding between side asked finished = IsServerOf (controller_size c) (controller_record c) serve free place holding between side asked finished
+
+-- where it was told how many are left, as many are stored as are taken and left
+abbrev pub IsTold : Option ℕ → ℕ → ℕ → Type 0
+IsTold None taken stored = Unit {0}
+IsTold (Some left) taken stored = stored ≡ taken + left

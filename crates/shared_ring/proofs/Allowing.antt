@@ -1,0 +1,112 @@
+-- Each step of an end keeps the rule, whatever the table is when it happens, and tells what its play says. It goes for any ring.
+use Rattle.std.proofs.Common.{◌≡◌, ◌≢◌, ℕ, zero, suc, ◌<◌, List, [], ◌∷◌, ◌++◌, sym, refl, subst, ⊎_elim, inr}
+use Rattle.std.specs.Prelude.{slice_index, slice_set}
+use mathlib.Core.Option as maybe
+use mathlib.Core.Option.{some, none, some-injective, some-ne-none}
+use lib.ListN.{get_elem?}
+use Rattle.atomic_table.specs.Table.{State, Act, keeps, Valid, homes_after, carried_after, Allows, Splits, Joins}
+use Rattle.buffer_pool.specs.Buffer.{Buffer}
+use Rattle.shared_ring.specs.declared.events.View.{View}
+use Rattle.shared_ring.specs.declared.events.View.TheVariants.{Maker, Driver, Controller, Both, Nobody}
+use Rattle.shared_ring.specs.Tables.{Runs, IsRuledBy}
+use Rattle.shared_ring.specs.Plays.{Seated}
+use Rattle.shared_ring.proofs.Laying.{set-same}
+use Rattle.shared_ring.proofs.Seating.{drivers_are, controllers_are, both_are, driver_seated, controller_seated, same_seated, halve_seated, lend_seated, unite_seated, return_seated}
+
+module _ {Ring D C : Type 0} (Lies : Ring → List D → List C → List ℕ → List (maybe.Option Buffer) → Type 0) (n m : ℕ) where
+  -- in a table that is being made no seat has a record
+  no_record : (views : List (View D C)) (id : ℕ) (v : View D C) → views ≡ Maker ∷ [] → get_elem? views id ≡ some v → v ≡ Maker
+  no_record views id v e f = made id (subst (λ (vs : List (View D C)). get_elem? vs id ≡ some v) e f)
+    where
+      made : (j : ℕ) → get_elem? (Maker ∷ []) j ≡ some v → v ≡ Maker
+      made zero g = sym (some-injective Maker v g)
+      made (suc j) g = absurd (some-ne-none v (sym g))
+
+  pub running : (s : State Buffer (View D C)) (id : ℕ) (v : View D C) → IsRuledBy Lies n m s → get_elem? s.views id ≡ some v → v ≢ Maker → Runs Lies s
+  running s id v ruled at ne = ⊎_elim (λ b. absurd (ne (no_record s.views id v b.views at))) (λ r. r) ruled.1
+
+  -- What a step of the driver does where words and slots lie as the ring q has them
+  pub record DriverGoes (es : List D) (carried : List (ℕ × Buffer)) (i : ℕ) (f : ℕ → ℕ) (tells : ℕ → Seated D C → Type 0) (cs : List C) (words : List ℕ) (homes : List (maybe.Option Buffer)) : Type 0 where
+    pub event : D
+    pub act : Act Buffer
+    pub valid : Valid homes carried act
+    pub later : Ring
+    pub lies : Lies later (es ++ event ∷ []) cs (slice_set words i (f (slice_index words i))) (homes_after homes carried act)
+    pub told : tells (slice_index words i) (Driver (es ++ event ∷ []), carried_after carried act)
+
+  pub allow_driver : (id : ℕ) (es : List D) (carried : List (ℕ × Buffer)) (i : ℕ) (f : ℕ → ℕ) (tells : ℕ → Seated D C → Type 0)
+      → ((q : Ring) (cs : List C) (words : List ℕ) (homes : List (maybe.Option Buffer)) → 1 < n → Lies q es cs words homes → DriverGoes es carried i f tells cs words homes)
+      → Allows (IsRuledBy Lies n m) n id (Driver es, carried) i f tells
+  allow_driver id es carried i f tells goes s ruled count at small =
+      let r = running s id (Driver es) ruled at (λ e. cc) in
+      let same : es ≡ r.ds = drivers_are r.ds es r.cs s.views id r.seats at in
+      let g = goes r.ring r.cs s.words s.homes ruled.0 (subst (λ (xs : List D). Lies r.ring xs r.cs s.words s.homes) (sym same) r.lies) in (
+        Driver (es ++ g.event ∷ []),
+        g.act,
+        g.valid,
+        (ruled.0, inr (record { ring = g.later; ds = es ++ g.event ∷ []; cs = r.cs; lies = g.lies; seats = driver_seated r.ds (es ++ g.event ∷ []) es r.cs s.views id r.seats at })),
+        g.told,
+      )
+
+  pub record ControllerGoes (es : List C) (carried : List (ℕ × Buffer)) (i : ℕ) (f : ℕ → ℕ) (tells : ℕ → Seated D C → Type 0) (ds : List D) (words : List ℕ) (homes : List (maybe.Option Buffer)) : Type 0 where
+    pub event : C
+    pub act : Act Buffer
+    pub valid : Valid homes carried act
+    pub later : Ring
+    pub lies : Lies later ds (es ++ event ∷ []) (slice_set words i (f (slice_index words i))) (homes_after homes carried act)
+    pub told : tells (slice_index words i) (Controller (es ++ event ∷ []), carried_after carried act)
+
+  pub allow_controller : (id : ℕ) (es : List C) (carried : List (ℕ × Buffer)) (i : ℕ) (f : ℕ → ℕ) (tells : ℕ → Seated D C → Type 0)
+      → ((q : Ring) (ds : List D) (words : List ℕ) (homes : List (maybe.Option Buffer)) → 1 < n → Lies q ds es words homes → ControllerGoes es carried i f tells ds words homes)
+      → Allows (IsRuledBy Lies n m) n id (Controller es, carried) i f tells
+  allow_controller id es carried i f tells goes s ruled count at small =
+      let r = running s id (Controller es) ruled at (λ e. cc) in
+      let same : es ≡ r.cs = controllers_are r.ds r.cs es s.views id r.seats at in
+      let g = goes r.ring r.ds s.words s.homes ruled.0 (subst (λ (xs : List C). Lies r.ring r.ds xs s.words s.homes) (sym same) r.lies) in (
+        Controller (es ++ g.event ∷ []),
+        g.act,
+        g.valid,
+        (ruled.0, inr (record { ring = g.later; ds = r.ds; cs = es ++ g.event ∷ []; lies = g.lies; seats = controller_seated r.ds r.cs (es ++ g.event ∷ []) es s.views id r.seats at })),
+        g.told,
+      )
+
+  -- the load of two ends that meet
+  pub allow_both : (id : ℕ) (ds : List D) (cs : List C) (carried : List (ℕ × Buffer)) (i : ℕ) (tells : ℕ → Seated D C → Type 0)
+      → ((q : Ring) (words : List ℕ) (homes : List (maybe.Option Buffer)) → 1 < n → Lies q ds cs words homes → tells (slice_index words i) (Both ds cs, carried))
+      → Allows (IsRuledBy Lies n m) n id (Both ds cs, carried) i (λ x. x) tells
+  allow_both id ds cs carried i tells goes s ruled count at small =
+      let r = running s id (Both ds cs) ruled at (λ e. cc) in
+      let both = both_are r.ds ds r.cs cs s.views id r.seats at in
+      let l = subst (λ (xs : List D). Lies r.ring xs cs s.words s.homes) (sym both.0) (subst (λ (ys : List C). Lies r.ring r.ds ys s.words s.homes) (sym both.1) r.lies) in (
+        Both ds cs,
+        keeps,
+        tt,
+        (
+          ruled.0,
+          inr (record {
+            ring = r.ring;
+            ds = r.ds;
+            cs = r.cs;
+            lies = subst (λ (ws : List ℕ). Lies r.ring r.ds r.cs ws s.homes) (sym (set-same s.words i)) r.lies;
+            seats = same_seated r.ds r.cs s.views id (Both ds cs) r.seats at;
+          }),
+        ),
+        goes r.ring s.words s.homes ruled.0 l,
+      )
+
+  -- seats that are cut and joined
+  pub splits-halve : (id : ℕ) (ds : List D) (cs : List C) → Splits {S = Buffer} (IsRuledBy Lies n m) id (Both ds cs) (Driver ds) (Controller cs)
+  splits-halve id ds cs s ruled at = let r = running s id (Both ds cs) ruled at (λ e. cc) in
+      (ruled.0, inr (record { ring = r.ring; ds = r.ds; cs = r.cs; lies = r.lies; seats = halve_seated r.ds ds r.cs cs s.views id r.seats at }))
+
+  pub splits-lend : (id : ℕ) (cs : List C) → Splits {S = Buffer} (IsRuledBy Lies n m) id (Controller cs) Nobody (Controller cs)
+  splits-lend id cs s ruled at = let r = running s id (Controller cs) ruled at (λ e. cc) in
+      (ruled.0, inr (record { ring = r.ring; ds = r.ds; cs = r.cs; lies = r.lies; seats = lend_seated r.ds r.cs cs s.views id r.seats at }))
+
+  pub joins-unite : (id other : ℕ) (ds : List D) (cs : List C) → Joins {S = Buffer} (IsRuledBy Lies n m) id (Driver ds) other (Controller cs) (Both ds cs) Nobody
+  joins-unite id other ds cs s ruled at ne there = let r = running s id (Driver ds) ruled at (λ e. cc) in
+      (ruled.0, inr (record { ring = r.ring; ds = r.ds; cs = r.cs; lies = r.lies; seats = unite_seated r.ds ds r.cs cs s.views id other r.seats at ne there }))
+
+  pub joins-return : (id other : ℕ) (cs : List C) → Joins {S = Buffer} (IsRuledBy Lies n m) id Nobody other (Controller cs) (Controller cs) Nobody
+  joins-return id other cs s ruled at ne there = let r = running s id Nobody ruled at (λ e. cc) in
+      (ruled.0, inr (record { ring = r.ring; ds = r.ds; cs = r.cs; lies = r.lies; seats = return_seated r.ds r.cs cs s.views id other r.seats at ne there }))

@@ -1,0 +1,42 @@
+-- How words, slots and both records agree with a queue.
+use Rattle.std.specs.Prelude.{◌≡◌, ℕ, Bool, true, false, List, length, Option, slice_index}
+use mathlib.Core.Option as maybe
+use Rattle.buffer_pool.specs.Buffer.{Buffer}
+use Rattle.ring_model.specs.declared.states.DriverState.{DriverState}
+use Rattle.ring_model.specs.declared.states.DriverState.TheVariants.{New, Asked, Cleared, Tailed}
+use Rattle.ring_model.specs.shared.Handshakes.{is_serving, is_between}
+use Rattle.ring_model.specs.shared.Queue.{Queue}
+use Rattle.ring_model.specs.shared.Agreement.{HasRegisters, HasItems, registers_of, held_buffer}
+use Rattle.shared_ring.specs.Slots.{home_at}
+use Rattle.shared_ring.specs.Records.{Driven, Controlled}
+
+-- what the driver has of a queue
+abbrev pub driven : {Posted Served Given : Type 0} → Queue Posted Served Given → Driven Posted Given
+driven q = record { posted = q.ledger.posted; published = q.published; given = q.ledger.given; reclaimed = q.reclaimed; state = q.handshake.driver }
+
+-- an epoch has not begun for the controller yet
+abbrev pub is_early : DriverState → Bool
+is_early New = true
+is_early Asked = true
+is_early Cleared = true
+is_early Tailed = true
+is_early _ = false
+
+module _ {Posted Served Given : Type 0} (says : ℕ → Option Posted → Option Served → ℕ) (lies : Option Posted → Option Served → Option Buffer) where
+  -- what the controller has of it. Between a renewal and the answer to it, the controller still has its record of the epoch before
+  pub record IsControlled (q : Queue Posted Served Given) (bars : Bool) (c : Controlled Served) : Type 0 where
+    pub served : is_between q.handshake ≡ false → c.served ≡ q.ledger.served
+    pub known : is_between q.handshake ≡ false → c.known ≡ q.known
+    pub held : c.held ≡ held_buffer {Given = Given} says lies q
+    pub head : is_serving q.handshake.controller ≡ true → c.head ≡ q.head
+    pub state : c.state ≡ q.handshake.controller
+    pub seen : c.seen ≡ q.handshake.seen
+    pub barred : c.barred ≡ bars
+
+  -- Words and slots lie as the queue has them: m words, of which those beyond n are registers
+  pub record LiesIn (n m : ℕ) (q : Queue Posted Served Given) (quiet : ℕ) (words : List ℕ) (homes : List (maybe.Option Buffer)) : Type 0 where
+    pub word_count : length words ≡ m
+    pub slot_count : length homes ≡ n
+    pub registers : HasRegisters n (registers_of q quiet) words
+    pub items : HasItems {Given = Given} says lies n q (slice_index words) (home_at homes)
+    pub cleared : is_early q.handshake.driver ≡ true → is_serving q.handshake.controller ≡ false → q.head ≡ 0

@@ -1,0 +1,82 @@
+-- What the records of the two ends amount to.
+use Rattle.std.specs.Prelude.{◌≡◌, ℕ, ◌+◌, ◌-◌, ◌%◌, Bool, true, false, List, [], ◌∷◌, ◌++◌, length, Option, Some, None}
+use Rattle.buffer_pool.specs.Buffer.{Buffer}
+use Rattle.ring_model.specs.declared.states.DriverState.{DriverState}
+use Rattle.ring_model.specs.declared.states.DriverState.TheVariants.{New, Asked, Stopping, Cleared, Tailed}
+use Rattle.ring_model.specs.declared.states.ControllerState.{ControllerState}
+use Rattle.ring_model.specs.declared.states.ControllerState.TheVariants.{Off, Serving, Ended}
+use Rattle.ring_model.specs.shared.Handshakes.{learned}
+use Rattle.shared_ring.specs.declared.events.DriverEvent.{DriverEvent}
+use Rattle.shared_ring.specs.declared.events.DriverEvent.TheVariants as driver
+use Rattle.shared_ring.specs.declared.events.ControllerEvent.{ControllerEvent}
+use Rattle.shared_ring.specs.declared.events.ControllerEvent.TheVariants as controller
+use Rattle.shared_ring.specs.Slots.{empty_slots, slots_while}
+
+-- What the driver did in this epoch: what it posted, how much of that it published, what was given back, how many buffers it reclaimed; and how far it is
+pub record Driven (Posted Given : Type 0) : Type 0 where
+  pub posted : List Posted
+  pub published : ℕ
+  pub given : List Given
+  pub reclaimed : ℕ
+  pub state : DriverState
+
+-- What the controller did since it was enabled: what it served, how many posted items it knows of, the buffer that it holds, the head that it stored; and how far it is, the control value that it loaded or answered last, and whether it may fetch no more for now
+pub record Controlled (Served : Type 0) : Type 0 where
+  pub served : List Served
+  pub known : ℕ
+  pub held : Option Buffer
+  pub head : ℕ
+  pub state : ControllerState
+  pub seen : ℕ
+  pub barred : Bool
+
+-- `posting` is what a driver posts with a word and a buffer, and `own` what a step of one direction makes
+module _ {Posted Given Own : Type 0} (posting : ℕ → Buffer → Posted) (own : Driven Posted Given → Own → Driven Posted Given) where
+  abbrev pub drive : Driven Posted Given → DriverEvent Own → Driven Posted Given
+  drive d (driver.Posted place word b) = record d { posted = d.posted ++ posting word b ∷ [] }
+  drive d (driver.Published tail) = record d { published = length d.posted }
+  drive d driver.AskedEnable = record d { state = Asked }
+  drive d (driver.LoadedControl word) = record d { state = learned d.state word }
+  drive d driver.AskedDisable = record d { state = Stopping }
+  drive d (driver.LoadedHead word) = d
+  drive d (driver.Reclaimed place b) = record d { reclaimed = d.reclaimed + 1 }
+  drive d driver.ClearedHead = record d { state = Cleared }
+  drive d driver.ClearedTail = record d { published = 0; state = Tailed }
+  drive d (driver.Own o) = own d o
+
+  abbrev pub driving_from : Driven Posted Given → List (DriverEvent Own) → Driven Posted Given
+  driving_from d [] = d
+  driving_from d (e ∷ es) = driving_from (drive d e) es
+
+abbrev pub undriven : {Posted Given : Type 0} → Driven Posted Given
+undriven = record { posted = []; published = 0; given = []; reclaimed = 0; state = New }
+
+-- the count of items up to a loaded tail, in a ring of n places where so many are served
+abbrev pub count_at : ℕ → ℕ → ℕ → ℕ
+count_at n served tail = served + (tail + n - served % n) % n
+
+-- an answered enabling begins the record anew
+module _ {Served Own : Type 0} (n : ℕ) (own : Controlled Served → Own → Controlled Served) where
+  abbrev pub control : Controlled Served → ControllerEvent Own → Controlled Served
+  control c (controller.Looked tail) = record c { known = count_at n (length c.served) tail }
+  control c (controller.Fetched place word b) = record c { held = Some b }
+  control c (controller.StoredHead place) = record c { head = place }
+  control c (controller.LoadedRequest word) = record c { seen = word }
+  control c controller.Enabled = record c { served = []; known = 0; head = 0; state = Serving; seen = 2; barred = false }
+  control c controller.Disabled = record c { state = Ended; seen = 0 }
+  control c (controller.Own o) = own c o
+
+  abbrev pub controlling_from : Controlled Served → List (ControllerEvent Own) → Controlled Served
+  controlling_from c [] = c
+  controlling_from c (e ∷ es) = controlling_from (control c e) es
+
+abbrev pub uncontrolled : {Served : Type 0} → Controlled Served
+uncontrolled = record { served = []; known = 0; held = None; head = 0; state = Off; seen = 0; barred = false }
+
+-- the slots that the driver has, in the order in which it posts into them: those of the items that are not out
+abbrev pub driver_slots : {Posted Given : Type 0} → ℕ → Driven Posted Given → List (ℕ × Buffer)
+driver_slots n d = empty_slots n (length d.posted) (length d.given + d.reclaimed + n - length d.posted)
+
+-- the slot that the controller has: that of the fetched buffer
+abbrev pub controller_slots : {Served : Type 0} → ℕ → Controlled Served → List (ℕ × Buffer)
+controller_slots n c = slots_while (length c.served % n) c.held

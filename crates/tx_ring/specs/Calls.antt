@@ -1,0 +1,222 @@
+-- What the calls of both ends do, where their answer depends on what was loaded; and what the fields of an end keep. It is the same for both ways to report.
+use Rattle.std.specs.Prelude.{◌≡◌, ℕ, ◌+◌, ◌-◌, ◌%◌, ◌<◌, ◌≤◌, ◌⊎◌, Bool, true, false, List, [], ◌∷◌, ◌++◌, length, Option, Some, None, slice_get}
+use Rattle.buffer_pool.specs.Buffer.{Buffer, buffer}
+use Rattle.descriptor.specs.declared.tx_read.TxRead.{TxRead}
+use Rattle.limits.specs.RingLength.{IsRingLength}
+use Rattle.ring_model.specs.declared.states.Completion.{Completion}
+use Rattle.ring_model.specs.declared.states.Completion.TheVariants.{Status, Head}
+use Rattle.ring_model.specs.declared.states.DriverState.{DriverState}
+use Rattle.ring_model.specs.declared.states.ControllerState.{ControllerState}
+use Rattle.ring_model.specs.declared.states.ControllerState.TheVariants as state
+use Rattle.ring_model.specs.shared.Frames.{unfinished}
+use Rattle.ring_model.specs.shared.Handshakes.{is_answered, is_live, is_serving}
+use Rattle.ring_model.specs.transmit.Agreement.{done_word, tx_word}
+use Rattle.ring_model.specs.transmit.Frames.{MayFollow}
+use Rattle.ring_model.specs.transmit.Ring.{are_whole, carried}
+use Rattle.ring_model.specs.transmit.Steps.{asks_report}
+use Rattle.shared_ring.specs.declared.events.DriverEvent.TheVariants as driver
+use Rattle.shared_ring.specs.declared.events.ControllerEvent.TheVariants as controller
+use Rattle.shared_ring.specs.declared.control.Control.{Control}
+use Rattle.shared_ring.specs.Words.{control_word}
+use Rattle.tx_ring.specs.declared.events.TxControllerOwn.{TxControllerOwn}
+use Rattle.tx_ring.specs.declared.events.TxControllerOwn.TheVariants.{Reported}
+use Rattle.tx_ring.specs.Meeting.{told_left}
+use Rattle.tx_ring.specs.Rule.{filled}
+use Rattle.tx_ring.specs.Steps.{Looked}
+use Rattle.tx_ring.specs.declared.events.TxDriverOwn.TheVariants.{Cleaned, EndedEpoch, ClearedReport}
+use Rattle.shared_ring.specs.Records.{undriven}
+use Rattle.tx_ring.specs.Records.{Posting, TxDriven, TxControlled, Knowing, unknown, eop_of, rs_of, posting_of}
+use Rattle.tx_ring.specs.Ends.{DriverSide, driver_size, driver_record, posted, cleaned, reclaimed, returned, seen_reported, outstanding, driver_state, known_of, next_place, appended, ControllerSide, controller_size, controller_record, sent, known_ready, held, held_word, controller_state, seen, is_owed, is_between, serve_place, answered}
+
+-- B3: the tail was loaded, and the result is how far it is ahead
+pub record FoundReady (old : ControllerSide) (ready : ℕ) (new : ControllerSide) : Type 0 where
+  pub tail : ℕ
+  pub step : new ≡ answered old (controller.Looked tail)
+  pub ahead : ready ≡ (tail + controller_size old - serve_place old) % controller_size old
+  pub same : controller_record new ≡ record (controller_record old) { known = length (sent old) + ready }
+  pub grows : known_ready old ≤ ready
+
+-- B4: the next descriptor was loaded, and its buffer came out with the bytes that were posted. What the descriptor says may follow the frame so far; and where it does not end its frame, more is known to be ready
+pub record Fetched (old : ControllerSide) (buf : Buffer) (read : TxRead) (new : ControllerSide) : Type 0 where
+  pub word : ℕ
+  pub step : new ≡ answered old (controller.Fetched (serve_place old) word buf)
+  pub says : word ≡ tx_word (length buf.bytes) read.eop read.rs read.paylen
+  pub number : read.number ≡ buf.number
+  pub len : read.len ≡ length buf.bytes
+  pub real : buf ≡ buffer buf.number buf.bytes
+  pub follows : MayFollow (controller_size old) (unfinished carried (sent old)) (posting_of word buf)
+  pub ready : read.eop ≡ false → 1 < known_ready old
+  pub same : controller_record new ≡ record (controller_record old) { held = Some buf }
+  pub held_is : held_word new ≡ word
+
+-- B6, of the last that was sent
+abbrev pub report_of : ℕ → Completion → ℕ → TxControllerOwn
+report_of n Status count = Reported ((count - 1) % n) done_word
+report_of n Head count = Reported (n + 4) (count % n)
+
+-- an enabling is asked, and may be answered
+pub record MayEnable (c : ControllerSide) : Type 0 where
+  pub asked : seen c ≡ 1
+  pub idle : is_serving (controller_state c) ≡ false
+
+-- the end serves, nothing is held and no report owed, and the last that was sent ends a frame
+pub record IsSettled (c : ControllerSide) : Type 0 where
+  pub serving : is_serving (controller_state c) ≡ true
+  pub unheld : held c ≡ None
+  pub between : is_between c ≡ true
+  pub paid : is_owed c ≡ false
+
+-- a disabling is asked, and may be answered
+pub record MayDisable (c : ControllerSide) : Type 0 where
+  pub asked : seen c ≡ 3
+  pub settled : IsSettled c
+  pub open settled use *
+
+abbrev pub MayAnswer : ControllerSide → Type 0
+MayAnswer c = MayEnable c ⊎ MayDisable c
+
+-- a new epoch begins: nothing is sent in it, and nothing known
+pub record AnsweredEnabling (old new : ControllerSide) : Type 0 where
+  pub was : is_serving (controller_state old) ≡ false
+  pub step : new ≡ answered old controller.Enabled
+  pub same : controller_record new ≡ record (controller_record old) { served = []; known = 0; head = 0; state = state.Serving; seen = 2; barred = false }
+
+pub record AnsweredDisabling (old new : ControllerSide) : Type 0 where
+  pub was : is_serving (controller_state old) ≡ true
+  pub step : new ≡ answered old controller.Disabled
+  pub same : controller_record new ≡ record (controller_record old) { state = state.Ended; seen = 0 }
+
+abbrev pub Answered : ControllerSide → ControllerSide → Type 0
+Answered old new = AnsweredEnabling old new ⊎ AnsweredDisabling old new
+
+abbrev pub IsFreshController : ControllerSide → Type 0
+IsFreshController c = c.events ≡ []
+
+abbrev pub is_there : Option Buffer → Bool
+is_there None = false
+is_there (Some b) = true
+
+-- What the fields of a controller's end keep, over its record and the word that it fetched last
+pub record IsServerOf (n : ℕ) (x : TxControlled) (word : ℕ) (serve ready last : ℕ) (holding between ends asks owing : Bool) (side : ControllerState) (asked : Control) : Type 0 where
+  pub lawful : IsRingLength n
+  pub serve_is : serve ≡ length x.served % n
+  pub ready_is : ready + length x.served ≡ x.known
+  pub ready_below : ready < n
+  pub held_is : holding ≡ is_there x.held
+  pub held_ready : holding ≡ true → 0 < ready
+  pub held_serving : holding ≡ true → is_serving x.state ≡ true
+  pub head_is : is_serving x.state ≡ true → x.head ≡ length x.served % n
+  pub between_is : between ≡ are_whole x.served
+  pub ends_is : holding ≡ true → ends ≡ eop_of word
+  pub asks_is : holding ≡ true → asks ≡ rs_of word
+  pub owing_is : owing ≡ x.barred
+  pub owing_serving : owing ≡ true → is_serving x.state ≡ true
+  pub last_is : owing ≡ true → last ≡ (length x.served - 1) % n
+  pub state_is : side ≡ x.state
+  pub seen_is : control_word asked ≡ x.seen
+
+abbrev pub IsControllerEnd : ControllerSide → ℕ → ℕ → ℕ → Bool → Bool → Bool → Bool → Bool → ControllerState → Control → Type 0
+IsControllerEnd c serve ready last holding between ends asks owing side asked = IsServerOf (controller_size c) (controller_record c) (held_word c) serve ready last holding between ends asks owing side asked
+
+-- what is posted with a buffer
+abbrev pub item_of : Buffer → Bool → Bool → ℕ → Posting
+item_of buf eop rs paylen = record { number = buf.number; payload = buf.bytes; eop = eop; rs = rs; paylen = paylen }
+
+-- how many places the oldest outstanding report is ahead of those that are seen reported
+abbrev pub OldestAhead : DriverSide → Option ℕ → Type 0
+OldestAhead d None = outstanding d ≡ None
+OldestAhead d (Some ahead) = outstanding d ≡ Some (seen_reported d + ahead)
+
+-- B7: the oldest report that was asked for is made, and so are all before it
+pub record SawReported (old new : DriverSide) : Type 0 where
+  pub live : is_live (driver_state old) ≡ true
+  pub looked : Looked old new true
+  pub same : driver_record new ≡ driver_record old
+  pub seen : seen_reported new ≡ looked.item + 1
+
+-- B7: it is not made yet
+pub record SawUnreported (old new : DriverSide) : Type 0 where
+  pub live : is_live (driver_state old) ≡ true
+  pub looked : Looked old new false
+  pub same : driver_record new ≡ driver_record old
+  pub known : known_of new ≡ known_of old
+
+-- no report is outstanding, or the queue is not live
+pub record NoneOutstanding (old new : DriverSide) : Type 0 where
+  pub none : is_live (driver_state old) ≡ true → outstanding old ≡ None
+  pub same : new ≡ old
+
+abbrev pub Polled : DriverSide → Bool → DriverSide → Type 0
+Polled old true new = SawReported old new
+Polled old false new = SawUnreported old new ⊎ NoneOutstanding old new
+
+-- B8: the oldest buffer that was not cleaned came back, as it was posted
+pub record CleanedOne (old : DriverSide) (buf : Buffer) (new : DriverSide) : Type 0 where
+  pub item : Posting
+  pub step : new ≡ appended old (driver.Own (Cleaned (next_place old) buf))
+  pub there : slice_get (posted old) (length (cleaned old)) ≡ Some item
+  pub is : buf ≡ filled item
+  pub same : driver_record new ≡ record (driver_record old) { given = cleaned old ++ buf.number ∷ [] }
+  pub known : known_of new ≡ known_of old
+
+-- the head was loaded, and tells how many of the postings were not sent
+pub record FoundLeft (old : DriverSide) (left : ℕ) (new : DriverSide) : Type 0 where
+  pub head : ℕ
+  pub step : new ≡ appended old (driver.LoadedHead head)
+  pub same : driver_record new ≡ driver_record old
+  pub told : told_left new ≡ Some left
+
+-- the oldest buffer that was out came back, as it was posted
+pub record CameHome (old : DriverSide) (buf : Buffer) (new : DriverSide) : Type 0 where
+  pub item : Posting
+  pub step : new ≡ appended old (driver.Reclaimed (next_place old) buf)
+  pub there : slice_get (posted old) (returned old) ≡ Some item
+  pub is : buf ≡ filled item
+  pub same : driver_record new ≡ record (driver_record old) { reclaimed = reclaimed old + 1 }
+  pub known : known_of new ≡ known_of old
+
+pub record NoneOut (old new : DriverSide) : Type 0 where
+  pub none_out : returned old ≡ length (posted old)
+  pub same : new ≡ old
+
+abbrev pub Reclaimed : DriverSide → Option Buffer → DriverSide → Type 0
+Reclaimed old None new = NoneOut old new
+Reclaimed old (Some buf) new = CameHome old buf new
+
+-- head and tail are cleared, and the head word of reports where there is one
+abbrev pub gone_over : Completion → DriverSide → DriverSide
+gone_over Status d = appended (appended d driver.ClearedHead) (driver.Own EndedEpoch)
+gone_over Head d = appended (appended (appended d driver.ClearedHead) driver.ClearedTail) (driver.Own ClearedReport)
+
+-- an epoch begins in which nothing is done and nothing learnt
+pub record GoneOver (old new : DriverSide) : Type 0 where
+  pub step : new ≡ gone_over old.completion old
+  pub fresh : driver_record new ≡ undriven
+  pub unlearnt : known_of new ≡ unknown
+
+abbrev pub IsFreshDriver : DriverSide → Type 0
+IsFreshDriver d = d.events ≡ []
+
+-- at the place of each item that is not seen reported stands whether it asked for a report
+abbrev pub AskedAt : ℕ → List Posting → ℕ → List Bool → Type 0
+AskedAt n posted seen asks = (j : ℕ) → seen ≤ j → j < length posted → slice_get asks (j % n) ≡ Some (asks_report (slice_get posted j))
+
+-- What the fields of a driver's end keep, over its record and what it has learnt
+pub record IsEndOf (n : ℕ) (x : TxDriven) (k : Knowing) (fill next out seen done unseen : ℕ) (whole : Bool) (asks : List Bool) (state : DriverState) : Type 0 where
+  pub lawful : IsRingLength n
+  pub fill_is : fill ≡ length x.posted % n
+  pub next_is : next ≡ (length x.given + x.reclaimed) % n
+  pub out_is : out + (length x.given + x.reclaimed) ≡ length x.posted
+  pub room : out < n
+  pub seen_is : seen ≡ k.seen % n
+  pub done_is : done + length x.given ≡ k.seen
+  pub unseen_is : unseen + k.seen ≡ length x.posted
+  pub few : length x.posted < length x.given + n
+  pub whole_is : whole ≡ are_whole x.posted
+  pub asks_count : length asks ≡ n
+  pub asks_are : AskedAt n x.posted k.seen asks
+  pub state_is : state ≡ x.state
+  pub unreclaimed : is_answered x.state ≡ false → x.reclaimed ≡ 0
+
+abbrev pub IsDriverEnd : DriverSide → ℕ → ℕ → ℕ → ℕ → ℕ → ℕ → Bool → List Bool → DriverState → Type 0
+IsDriverEnd d fill next out seen done unseen whole asks state = IsEndOf (driver_size d) (driver_record d) (known_of d) fill next out seen done unseen whole asks state

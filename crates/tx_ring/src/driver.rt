@@ -1,0 +1,322 @@
+//! The driver's end: it enables and disables the queue, posts frames, publishes them by the tail, looks for reports, and
+//! cleans up after what is reported.
+ghost use Rattle.std.specs.Prelude.{◌≡◌, ◌+◌, ◌-◌, ◌%◌, ◌<◌, true, false, [], ◌∷◌, ◌++◌, length};
+ghost use Rattle.buffer_pool.specs.Buffer.{buffer};
+ghost use Rattle.limits.specs.RingLength.{IsRingLength};
+ghost use Rattle.ring_model.specs.declared.states.DriverState.TheVariants as state;
+ghost use Rattle.ring_model.specs.shared.Frames.{unfinished};
+ghost use Rattle.ring_model.specs.shared.Handshakes.{is_open, is_live, is_new, is_on, is_stopped, learned};
+ghost use Rattle.ring_model.specs.transmit.Agreement.{tx_word};
+ghost use Rattle.ring_model.specs.transmit.Frames.{MayFollow};
+ghost use Rattle.ring_model.specs.transmit.Ring.{are_whole, carried};
+ghost use Rattle.shared_ring.specs.Words.{control_word};
+ghost use Rattle.shared_ring.specs.declared.events.DriverEvent.TheVariants.{Posted, Published, AskedEnable, LoadedControl, AskedDisable};
+ghost use Rattle.tx_ring.specs.Ends.{driver_size, driver_record, posted, cleaned, returned, seen_reported, driver_state, known_of, fill_place, appended};
+ghost use Rattle.tx_ring.specs.Calls.{IsFreshDriver, item_of, OldestAhead, Polled, CleanedOne, Reclaimed, FoundLeft, GoneOver};
+
+use crate::steps::{DriverSeat, TxRing};
+use buffer_pool::Buf;
+use ring_model::{DriverState, place_after, places_between};
+use shared_ring::Control;
+use std::marker::Model;
+
+/// The driver's end of a transmit ring. Contracts see the ring's identity and the record of the end's own steps.
+///
+/// Whether a call's condition on the state holds is told by `is_new`, `is_open`, `is_live`, `is_on`, `is_stopped`,
+/// `is_whole` and `reported`.
+#[derive(Drop)]
+pub struct TxDriverEnd {
+    pub(crate) seat: DriverSeat,
+    fill: u16,
+    pub(crate) next: u16,
+    pub(crate) out: u16,
+    seen: u16,
+    done: u16,
+    unseen: u16,
+    whole: bool,
+    // at each place, whether a report was asked for
+    asks: Vec<bool>,
+    state: DriverState,
+}
+
+impl Model for TxDriverEnd {
+    ghost use Rattle.tx_ring.specs.Ends.{DriverSide};
+    ghost use Rattle.tx_ring.specs.Calls.{IsDriverEnd};
+
+    ghost Value = { DriverSide };
+
+    ghost view = { λ e. e.seat };
+
+    ghost invariant = { λ e. IsDriverEnd e.seat e.fill e.next e.out e.seen e.done e.unseen e.whole e.asks.items e.state };
+}
+
+impl TxDriverEnd {
+    pub(crate) fn new(seat: DriverSeat, asks: Vec<bool>) -> TxDriverEnd
+        requires fresh { IsFreshDriver seat }
+        requires asks { length asks.items ≡ driver_size seat }
+        ensures { result ≡ seat }
+    {
+        let _size = seat.size();
+        TxDriverEnd {
+            seat,
+            fill: 0,
+            next: 0,
+            out: 0,
+            seen: 0,
+            done: 0,
+            unseen: 0,
+            whole: true,
+            asks,
+            state: DriverState::New,
+        }
+    }
+
+    /// The ring's length.
+    #[inline]
+    pub fn size(&self) -> u32
+        ensures value { result ≡ driver_size self.now }
+        ensures lawful { IsRingLength result }
+    {
+        self.seat.size() as u32
+    }
+
+    /// How many more buffers can be posted: `n - 1` less those posted and neither cleaned nor reclaimed, since head
+    /// equal to tail means an empty ring (82599 datasheet, 7.2.3.4).
+    #[inline]
+    pub fn room(&self) -> u32
+        ensures { result + length (posted self.now) + 1 ≡ driver_size self.now + returned self.now }
+    {
+        (self.seat.size() - 1 - self.out) as u32
+    }
+
+    /// How many buffers are seen reported and not cleaned.
+    #[inline]
+    pub fn reported(&self) -> u32
+        ensures { result + length (cleaned self.now) ≡ seen_reported self.now }
+    {
+        self.done as u32
+    }
+
+    /// Whether nothing was asked yet in this epoch.
+    #[inline]
+    pub fn is_new(&self) -> bool
+        ensures { result ≡ is_new (driver_state self.now) }
+    {
+        self.state.is_new()
+    }
+
+    /// Whether the end may post and publish: no disabling was asked in this epoch.
+    #[inline]
+    pub fn is_open(&self) -> bool
+        ensures { result ≡ is_open (driver_state self.now) }
+    {
+        self.state.is_open()
+    }
+
+    /// Whether the queue was seen enabled, and its disabling not yet seen answered.
+    #[inline]
+    pub fn is_live(&self) -> bool
+        ensures { result ≡ is_live (driver_state self.now) }
+    {
+        self.state.is_live()
+    }
+
+    /// Whether the queue was seen enabled, and no disabling asked.
+    #[inline]
+    pub fn is_on(&self) -> bool
+        ensures { result ≡ is_on (driver_state self.now) }
+    {
+        self.state.is_on()
+    }
+
+    /// Whether the disabling was seen answered.
+    #[inline]
+    pub fn is_stopped(&self) -> bool
+        ensures { result ≡ is_stopped (driver_state self.now) }
+    {
+        self.state.is_stopped()
+    }
+
+    /// Whether the last that was posted ends a frame, or nothing is posted.
+    #[inline]
+    pub fn is_whole(&self) -> bool
+        ensures value { result ≡ are_whole (posted self.now) }
+        ensures rest { result ≡ true → unfinished carried (posted self.now) ≡ [] }
+    {
+        self.whole
+    }
+
+    /// Posts a buffer with the next segment of a frame: it goes into the slot, and the descriptor says its length, EOP
+    /// where it ends the frame, RS where a report is asked for, and the whole frame's length (82599 datasheet,
+    /// 7.2.3.2.4). The controller sees it once it is published.
+    #[inline]
+    pub fn post(&mut self, ring: &TxRing, buf: Buf, eop: bool, rs: bool, paylen: u16)
+        requires own { self.old.table ≡ ring.now }
+        requires open { is_open (driver_state self.old) ≡ true }
+        requires room { length (posted self.old) + 1 < returned self.old + driver_size self.old }
+        requires real { buf ≡ buffer buf.number buf.bytes }
+        requires follows { MayFollow (driver_size self.old) (unfinished carried (posted self.old)) (item_of buf eop rs paylen) }
+        ensures step { self.new ≡ appended self.old (Posted (fill_place self.old) (tx_word (length buf.bytes) eop rs paylen) buf) }
+        ensures record { driver_record self.new ≡ record (driver_record self.old) { posted = posted self.old ++ item_of buf eop rs paylen ∷ [] } }
+        ensures known { known_of self.new ≡ known_of self.old }
+    {
+        self.seat.post(ring, self.fill, buf, eop, rs, paylen);
+        self.asks[self.fill as usize] = rs;
+        self.fill = place_after(self.fill, self.seat.size());
+        self.out += 1;
+        self.unseen += 1;
+        self.whole = eop;
+    }
+
+    /// Stores the tail (TDT): all that is posted is the controller's to send.
+    #[inline]
+    pub fn publish(&mut self, ring: &TxRing)
+        requires own { self.old.table ≡ ring.now }
+        requires open { is_open (driver_state self.old) ≡ true }
+        requires whole { are_whole (posted self.old) ≡ true }
+        ensures step { self.new ≡ appended self.old (Published (fill_place self.old)) }
+        ensures record { driver_record self.new ≡ record (driver_record self.old) { published = length (posted self.old) } }
+        ensures known { known_of self.new ≡ known_of self.old }
+    {
+        self.seat.publish(ring, self.fill);
+    }
+
+    // How many places the oldest outstanding report is ahead of those that are seen reported.
+    fn oldest(&self) -> Option<u16>
+        ensures { OldestAhead self.now result }
+    {
+        for ahead in 0..self.unseen {
+            if self.asks[((self.seen + ahead) % self.seat.size()) as usize] {
+                return Some(ahead);
+            }
+        }
+        None
+    }
+
+    /// Looks for the oldest report that was asked for and not seen, and answers whether it is made: then all up to it
+    /// can be cleaned (82599 datasheet, 7.2.3.5). Without a step where no report is outstanding, or the queue isn't
+    /// live.
+    #[inline]
+    pub fn poll_report(&mut self, ring: &TxRing) -> bool
+        requires own { self.old.table ≡ ring.now }
+        ensures { Polled self.old result self.new }
+    {
+        if !self.state.is_live() {
+            return false;
+        }
+        let Some(ahead) = self.oldest() else {
+            return false;
+        };
+        let size = self.seat.size();
+        let place = (self.seen + ahead) % size;
+        if !self.seat.find_report(ring, place, self.seen) {
+            return false;
+        }
+        self.seen = place_after(place, size);
+        self.done += ahead + 1;
+        self.unseen -= ahead + 1;
+        true
+    }
+
+    /// Takes the oldest buffer that is reported back, with the bytes that were posted.
+    #[inline]
+    pub fn clean(&mut self, ring: &TxRing) -> Buf
+        requires own { self.old.table ≡ ring.now }
+        requires live { is_live (driver_state self.old) ≡ true }
+        requires reported { length (cleaned self.old) < seen_reported self.old }
+        ensures { CleanedOne self.old result self.new }
+    {
+        let buf = self.seat.clean(ring, self.next);
+        self.next = place_after(self.next, self.seat.size());
+        self.out -= 1;
+        self.done -= 1;
+        buf
+    }
+
+    /// Asks the controller to enable the queue (82599 datasheet, TXDCTL.ENABLE).
+    #[inline]
+    pub fn ask_enable(&mut self, ring: &TxRing)
+        requires own { self.old.table ≡ ring.now }
+        requires new { is_new (driver_state self.old) ≡ true }
+        ensures step { self.new ≡ appended self.old AskedEnable }
+        ensures record { driver_record self.new ≡ record (driver_record self.old) { state = state.Asked } }
+        ensures known { known_of self.new ≡ known_of self.old }
+    {
+        self.seat.ask_enable(ring);
+        self.state = DriverState::Asked;
+    }
+
+    /// Loads the control word. By it the end sees whether an enabling or a disabling that it asked was answered.
+    #[inline]
+    pub fn state(&mut self, ring: &TxRing) -> Control
+        requires own { self.old.table ≡ ring.now }
+        ensures step { self.new ≡ appended self.old (LoadedControl (control_word result)) }
+        ensures record { driver_record self.new ≡ record (driver_record self.old) { state = learned (driver_state self.old) (control_word result) } }
+        ensures known { known_of self.new ≡ known_of self.old }
+    {
+        let control = self.seat.load_control(ring);
+        self.state = self.state.learned(control.word());
+        control
+    }
+
+    /// Asks the controller to disable the queue.
+    #[inline]
+    pub fn ask_disable(&mut self, ring: &TxRing)
+        requires own { self.old.table ≡ ring.now }
+        requires on { is_on (driver_state self.old) ≡ true }
+        ensures step { self.new ≡ appended self.old AskedDisable }
+        ensures record { driver_record self.new ≡ record (driver_record self.old) { state = state.Stopping } }
+        ensures known { known_of self.new ≡ known_of self.old }
+    {
+        self.seat.ask_disable(ring);
+        self.state = DriverState::Stopping;
+    }
+
+    /// Loads the head, and answers how many of the postings were not sent when the disabling was answered. It stays
+    /// so: nothing more is sent in this epoch.
+    #[inline]
+    pub fn left(&mut self, ring: &TxRing) -> u32
+        requires own { self.old.table ≡ ring.now }
+        requires stopped { is_stopped (driver_state self.old) ≡ true }
+        ensures { FoundLeft self.old result self.new }
+    {
+        let head = self.seat.load_head(ring);
+        places_between(head, self.fill, self.seat.size()) as u32
+    }
+
+    /// Takes the oldest buffer that is out back, of a queue whose disabling was seen answered; none where all came
+    /// back. Its bytes are those that were posted.
+    #[inline]
+    pub fn reclaim(&mut self, ring: &TxRing) -> Option<Buf>
+        requires own { self.old.table ≡ ring.now }
+        requires stopped { is_stopped (driver_state self.old) ≡ true }
+        ensures { Reclaimed self.old result self.new }
+    {
+        if self.out == 0 {
+            return None;
+        }
+        let buf = self.seat.reclaim(ring, self.next);
+        self.next = place_after(self.next, self.seat.size());
+        self.out -= 1;
+        Some(buf)
+    }
+
+    /// Clears head and tail of a queue from which all buffers came back, and the head word of reports where there is
+    /// one, so that it can be enabled again: a new epoch begins.
+    pub fn renew(&mut self, ring: &TxRing)
+        requires own { self.old.table ≡ ring.now }
+        requires stopped { is_stopped (driver_state self.old) ≡ true }
+        requires back { returned self.old ≡ length (posted self.old) }
+        ensures { GoneOver self.old self.new }
+    {
+        self.seat.go_over(ring, self.fill);
+        self.fill = 0;
+        self.next = 0;
+        self.out = 0;
+        self.seen = 0;
+        self.done = 0;
+        self.unseen = 0;
+        self.whole = true;
+        self.state = DriverState::New;
+    }
+}
