@@ -7,7 +7,7 @@ use Rattle.atomic_table.specs.Seated.{TableId}
 use Rattle.buffer_pool.specs.Stocked.{Stocked, full_stock}
 use Rattle.ring_model.specs.declared.states.DriverState.TheVariants.{On}
 use Rattle.ring_model.specs.receive.Lawful.{IsLawfulRxLedger}
-use Rattle.ring_model.specs.receive.Ring.{Segment, piece_of}
+use Rattle.ring_model.specs.shared.Segments.{Segment, piece_of}
 use Rattle.ring_model.specs.shared.Handshakes.{is_serving}
 use Rattle.ring_model.specs.shared.Frames.{Bytes, unfinished}
 use Rattle.rx_ring.specs.Records.{driving, controlling}

@@ -9,7 +9,8 @@ use Rattle.atomic_table.specs.Table.{Act, keeps, takes, chain, Valid, homes_afte
 use Rattle.atomic_table.proofs.Lists.{at_set, set_else}
 use Rattle.buffer_pool.specs.Buffer.{blank, Buffer}
 use Rattle.ring_model.specs.receive.Agreement.{rx_registers_of}
-use Rattle.ring_model.specs.receive.Ring.{rx_opening, piece_of}
+use Rattle.ring_model.specs.receive.Ring.{rx_opening}
+use Rattle.ring_model.specs.shared.Segments.{piece_of}
 use Rattle.ring_model.specs.receive.Steps.{rx_can, rx_changed}
 use Rattle.ring_model.specs.shared.Agreement.{HasRegisters}
 use Rattle.ring_model.specs.shared.Frames.{Bytes}

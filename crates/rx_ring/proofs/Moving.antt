@@ -9,7 +9,8 @@ use Rattle.buffer_pool.specs.Buffer.{Buffer, buffer}
 use Rattle.ring_model.specs.declared.steps.RxStep.{RxStep}
 use Rattle.ring_model.specs.declared.steps.RxStep.TheVariants.{Post, Publish, Look, Fetch, Store, Take}
 use Rattle.ring_model.specs.receive.Agreement.{rx_word, rx_registers_of}
-use Rattle.ring_model.specs.receive.Ring.{Segment, RxRing, rx_opening, due, piece_of}
+use Rattle.ring_model.specs.receive.Ring.{RxRing, rx_opening, due}
+use Rattle.ring_model.specs.shared.Segments.{Segment, piece_of}
 use Rattle.ring_model.specs.receive.Steps.{IsRxReachable, rx_can, rx_changed, took}
 use Rattle.ring_model.specs.shared.Agreement.{bit, wanted_word, wanted_slot, HasItems}
 use Rattle.ring_model.specs.shared.Frames.{Bytes, Follows, unfinished}

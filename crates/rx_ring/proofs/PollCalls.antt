@@ -7,7 +7,7 @@ use Rattle.atomic_table.specs.Table.{step, rest, turned}
 use Rattle.atomic_table.specs.Seated.{TableId}
 use Rattle.buffer_pool.specs.Buffer.{blank, Buffer}
 use Rattle.ring_model.specs.declared.states.DriverState.{DriverState}
-use Rattle.ring_model.specs.receive.Ring.{Segment, piece_of}
+use Rattle.ring_model.specs.shared.Segments.{Segment, piece_of}
 use Rattle.ring_model.specs.shared.Frames.{Bytes, Follows, unfinished}
 use Rattle.ring_model.specs.shared.Handshakes.{is_live}
 use Rattle.ring_model.proofs.shared.Places.{next_place}

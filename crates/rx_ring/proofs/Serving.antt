@@ -9,7 +9,8 @@ use Rattle.atomic_table.specs.Table.{keeps, takes, gives, step, Allows}
 use Rattle.buffer_pool.specs.Buffer.{Buffer, buffer}
 use Rattle.ring_model.specs.declared.steps.RxStep.TheVariants.{Look, Fetch, Store}
 use Rattle.ring_model.specs.receive.Agreement.{rx_word}
-use Rattle.ring_model.specs.receive.Ring.{RxRing, piece_of}
+use Rattle.ring_model.specs.receive.Ring.{RxRing}
+use Rattle.ring_model.specs.shared.Segments.{piece_of}
 use Rattle.ring_model.specs.receive.Steps.{rx_changed}
 use Rattle.ring_model.specs.shared.Frames.{Bytes, Follows, unfinished}
 use Rattle.ring_model.specs.shared.Handshakes.{is_serving}

@@ -5,7 +5,8 @@ use Rattle.buffer_pool.specs.Buffer.{Buffer, buffer}
 use Rattle.ring_model.specs.declared.states.DriverState.{DriverState}
 use Rattle.ring_model.specs.declared.states.ControllerState.{ControllerState}
 use Rattle.ring_model.specs.receive.Agreement.{rx_word}
-use Rattle.ring_model.specs.receive.Ring.{Segment, RxLedger, piece_of}
+use Rattle.ring_model.specs.receive.Ring.{RxLedger}
+use Rattle.ring_model.specs.shared.Segments.{Segment, piece_of}
 use Rattle.ring_model.specs.shared.Frames.{Bytes, Follows, unfinished}
 use Rattle.ring_model.specs.shared.Handshakes.{is_open, is_live, is_serving}
 use Rattle.rx_ring.specs.declared.view.DriverEvent.{DriverEvent}

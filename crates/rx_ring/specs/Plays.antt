@@ -4,7 +4,8 @@ use Rattle.atomic_table.specs.Table.{Me, Step, rest}
 use Rattle.buffer_pool.specs.Buffer.{Buffer, buffer}
 use Rattle.ring_model.specs.receive.Agreement.{rx_word}
 use Rattle.ring_model.specs.receive.Lawful.{IsLawfulRx}
-use Rattle.ring_model.specs.receive.Ring.{RxRing, piece_of}
+use Rattle.ring_model.specs.receive.Ring.{RxRing}
+use Rattle.ring_model.specs.shared.Segments.{piece_of}
 use Rattle.ring_model.specs.receive.Steps.{IsRxReachable}
 use Rattle.ring_model.specs.shared.Frames.{Bytes, Follows, unfinished}
 use Rattle.rx_ring.specs.declared.view.DriverEvent.TheVariants.{Posted, Published, NotDone, Taken}

@@ -5,7 +5,7 @@ use Rattle.ring_model.specs.declared.states.DriverState.{DriverState}
 use Rattle.ring_model.specs.declared.states.DriverState.TheVariants.{On}
 use Rattle.ring_model.specs.declared.states.ControllerState.{ControllerState}
 use Rattle.ring_model.specs.declared.states.ControllerState.TheVariants.{Serving}
-use Rattle.ring_model.specs.receive.Ring.{Segment}
+use Rattle.ring_model.specs.shared.Segments.{Segment}
 use Rattle.ring_model.specs.shared.Frames.{Bytes}
 use Rattle.rx_ring.specs.declared.view.DriverEvent.{DriverEvent}
 use Rattle.rx_ring.specs.declared.view.DriverEvent.TheVariants.{Posted, Published, NotDone, Taken}

@@ -1,7 +1,7 @@
 //! The controller's end: it loads the tail, fetches posted buffers, and writes them back filled.
 ghost use Rattle.std.specs.Prelude.{◌≡◌, ◌+◌, ◌<◌, ◌≤◌, true, false, [], ◌∷◌, ◌++◌, length, Some, None};
 ghost use Rattle.buffer_pool.specs.Buffer.{buffer};
-ghost use Rattle.ring_model.specs.receive.Ring.{piece_of};
+ghost use Rattle.ring_model.specs.shared.Segments.{piece_of};
 ghost use Rattle.ring_model.specs.shared.Frames.{Follows, unfinished};
 ghost use Rattle.ring_model.specs.shared.Handshakes.{is_serving};
 ghost use Rattle.limits.specs.RingLength.{IsRingLength};

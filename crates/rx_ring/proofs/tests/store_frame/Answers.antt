@@ -1,6 +1,6 @@
 -- A segment that ends its frame leaves nothing unfinished.
 use Rattle.std.proofs.Common.{arith, length, ◌<◌, ◌≡◌, true, sym, ap, ◌∙◌}
-use Rattle.ring_model.specs.receive.Ring.{piece_of}
+use Rattle.ring_model.specs.shared.Segments.{piece_of}
 use Rattle.ring_model.specs.shared.Frames.{unfinished}
 use Rattle.ring_model.specs.shared.Handshakes.{is_serving}
 use Rattle.ring_model.proofs.shared.FrameLaws.{unfinished-snoc}

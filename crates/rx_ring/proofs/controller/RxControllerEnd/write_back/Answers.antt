@@ -1,7 +1,7 @@
 -- The step keeps the rule, and the record has the segment that the buffer carries.
 use Rattle.std.proofs.Common.{length, ◌≡◌, ℕ, [], ◌∷◌, ◌++◌, sym, ap, ◌∙◌, subst}
 use Rattle.std.specs.Prelude.{Some}
-use Rattle.ring_model.specs.receive.Ring.{piece_of}
+use Rattle.ring_model.specs.shared.Segments.{piece_of}
 use Rattle.ring_model.specs.shared.Frames.{Follows, unfinished}
 use Rattle.rx_ring.specs.Records.{Controlled, controlling, controllers_of}
 use Rattle.rx_ring.specs.Ends.{ControllerSide, controller_size, stored, held_number, controller_state, is_quiet}
