@@ -12,8 +12,8 @@ pub record Posting (Payload : Type 0) : Type 0 where
   pub rs : Bool
   pub paylen : ℕ
 
-abbrev pub posting : {Payload : Type 0} → ℕ → Payload → Bool → Bool → ℕ → Posting Payload
-posting number payload eop rs paylen = record { segment = record { number = number; payload = payload; eop = eop }; rs = rs; paylen = paylen }
+abbrev pub new_posting : {Payload : Type 0} → ℕ → Payload → Bool → Bool → ℕ → Posting Payload
+new_posting number payload eop rs paylen = record { segment = record { number = number; payload = payload; eop = eop }; rs = rs; paylen = paylen }
 
 abbrev pub ends_posting : {Payload : Type 0} → Posting Payload → Bool
 ends_posting p = ends_segment p.segment
