@@ -3,7 +3,7 @@ use Rattle.std.proofs.Common.{◌≡◌, ◌∙◌, Bool, true, false, List, [],
 use Rattle.std.specs.Prelude.{All, replicate}
 use Rattle.std.proofs.lemmas.List.Elements.{All-nil, All-cons, All-head, All-tail, All-same}
 use Rattle.ring_model.specs.shared.Lists.{IsBeginning}
-use Rattle.ring_model.specs.receive.Ring.{Segment, piece_of}
+use Rattle.ring_model.specs.shared.Segments.{Segment, piece_of}
 use Rattle.ring_model.specs.shared.Frames.{Bytes, join, chains_from, frames, unfinished}
 use Rattle.ring_model.proofs.shared.FrameLaws.{unfinished-snoc}
 use Rattle.bench.specs.Passing.{IsWhole}

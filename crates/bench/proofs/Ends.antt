@@ -9,7 +9,7 @@ use Rattle.buffer_pool.specs.Stocked.{Stocked, full_stock}
 use Rattle.ring_model.specs.declared.states.DriverState.{DriverState}
 use Rattle.ring_model.specs.declared.states.DriverState.TheVariants.{New, On}
 use Rattle.ring_model.specs.receive.Lawful.{IsLawfulRxLedger}
-use Rattle.ring_model.specs.receive.Ring.{Segment, piece_of}
+use Rattle.ring_model.specs.shared.Segments.{Segment, piece_of}
 use Rattle.ring_model.specs.shared.Handshakes.{is_on, is_serving}
 use Rattle.ring_model.specs.shared.Frames.{Bytes, unfinished}
 use Rattle.rx_ring.specs.Records.{driving, controlling}

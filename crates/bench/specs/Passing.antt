@@ -3,7 +3,7 @@ use Rattle.std.specs.Prelude.{◌≡◌, ℕ, ◌≤◌, true, false, [], All, l
 use Rattle.atomic_table.specs.Seated.{TableId}
 use Rattle.limits.specs.declared.profile.TheConstants.{BUFFER_BYTES, LEAST_FRAME}
 use Rattle.ring_model.specs.declared.states.DriverState.TheVariants.{On}
-use Rattle.ring_model.specs.receive.Ring.{Segment, piece_of}
+use Rattle.ring_model.specs.shared.Segments.{Segment, piece_of}
 use Rattle.ring_model.specs.shared.Handshakes.{is_new, is_serving}
 use Rattle.ring_model.specs.shared.Frames.{Bytes, frames, unfinished}
 use Rattle.ring_model.specs.receive.Lawful.{IsLawfulRxLedger}

@@ -3,7 +3,7 @@ use Rattle.std.proofs.Common.{◌≡◌, ◌∙◌, ℕ, List, [], ◌∷◌, �
 use Rattle.atomic_table.specs.Seated.{TableId}
 use Rattle.ring_model.specs.declared.states.DriverState.TheVariants.{New}
 use Rattle.ring_model.specs.shared.Frames.{Bytes}
-use Rattle.ring_model.specs.receive.Ring.{Segment}
+use Rattle.ring_model.specs.shared.Segments.{Segment}
 use Rattle.rx_ring.specs.Records.{driving, controlling}
 use Rattle.rx_ring.specs.Ends.{DriverSide, ControllerSide, posted, taken, returned, driver_state, stored, number_in}
 use Rattle.rx_ring.specs.Calls.{IsFreshDriver, IsFreshController}

@@ -1,4 +1,3 @@
-pub mod Decoded
 pub mod Ends
 pub mod Passed
 pub mod Unmade

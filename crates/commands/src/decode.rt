@@ -1,12 +1,14 @@
 //! The line of a descriptor, from the hex digits of its bytes.
 ghost use Rattle.std.specs.Prelude.{◌≡◌, ◌⊎◌, ◌↔◌, ◌∷◌, [], ◌++◌, Some, IfOk, IfErr, IfSome};
 ghost use Rattle.std.specs.String.{string_bytes};
+ghost use Rattle.descriptor.specs.Layout.{AreBytes, KeepsBytes};
+ghost use Rattle.descriptor.specs.Refusal.{IsLowest};
 ghost use Rattle.commands.specs.Digits.{bytes_in};
 ghost use Rattle.commands.specs.Decoding.{IsDecoded, IsRead, format_word, ring_word};
 
 use crate::digits::bytes_of;
 use crate::refusal::Refusal;
-use descriptor::{DescError, RxBack, RxRead, TxBack, TxRead};
+use descriptor::{DescError, Descriptor, RxBack, RxRead, TxBack, TxRead};
 use std::alloc::Global;
 use std::fmt::Display;
 
@@ -57,20 +59,22 @@ fn read_as(alloc: Global, form: Form, bytes: &[u8]) -> Result<String, Refusal>
     ensures err { IfErr result (λ e. (e ≡ Refusal.Memory) ⊎ IsRead form bytes.now (Err e)) }
 {
     match form {
-        Form::RxRead => line_of(alloc, RxRead::from_bytes(bytes)),
-        Form::RxBack => line_of(alloc, RxBack::from_bytes(bytes)),
-        Form::TxRead => line_of(alloc, TxRead::from_bytes(bytes)),
-        Form::TxBack => line_of(alloc, TxBack::from_bytes(bytes)),
+        Form::RxRead => line_of::<RxRead>(alloc, bytes),
+        Form::RxBack => line_of::<RxBack>(alloc, bytes),
+        Form::TxRead => line_of::<TxRead>(alloc, bytes),
+        Form::TxBack => line_of::<TxBack>(alloc, bytes),
     }
 }
 
-/// What is printed of a value, in a line of its own, if there is one.
-fn line_of<D: Display + Drop>(alloc: Global, value: Result<D, DescError>) -> Result<String, Refusal>
-    ensures ok { IfOk result (λ line. (d : D) × (value ≡ Ok d)
+/// What is printed, in a line of its own, of the descriptor whose bytes these are.
+fn line_of<D: Descriptor + Display + Drop>(alloc: Global, bytes: &[u8]) -> Result<String, Refusal>
+    ensures ok { IfOk result (λ line. (d : D) × AreBytes D.form (D.numbers d) bytes.now
         × IfSome (D.output d) (λ text. string_bytes line ≡ text ++ 10 ∷ [])) }
-    ensures err { IfErr result (λ e. (e ≡ Refusal.Memory)
-        ⊎ ((refused : DescError) × (value ≡ Err refused) × (e ≡ Refusal.Descriptor refused))) }
+    ensures err { IfErr result (λ e. (e ≡ Refusal.Memory) ⊎ ((refused : DescError)
+        × (e ≡ Refusal.Descriptor refused) × IsLowest (KeepsBytes D.form bytes.now) refused)) }
 {
-    let value = value?;
-    Ok(format!(in alloc; "{value}\n")?)
+    match D::from_bytes(bytes) {
+        Ok(value) => Ok(format!(in alloc; "{value}\n")?),
+        Err(refused) => Err(Refusal::Descriptor(refused)),
+    }
 }

@@ -1,12 +1,12 @@
 -- What a call that decodes answers, for a form and the descriptors that have it.
-use Rattle.std.proofs.Common.{◌≡◌, ℕ, ◌<◌, ◌↔◌, List, [], ◌∷◌, length, drop, Result, Ok, Err, sym, ap, ◌∙◌, arith}
+use Rattle.std.proofs.Common.{◌≡◌, ℕ, ◌<◌, ◌^◌, ◌↔◌, List, [], ◌∷◌, length, drop, Result, Ok, Err, sym, ap, ◌∙◌, arith}
 use Rattle.byteorder.specs.Endian.{little_number}
 use Rattle.descriptor.specs.declared.error.DescError.{DescError}
 use Rattle.descriptor.specs.declared.error.DescError.TheVariants.{Length, Reserved, Kind, Size}
 use Rattle.descriptor.specs.Refusal.{refusal_number, IsLowest}
-use Rattle.descriptor.specs.Layout.{Name, Form, Field, Content, Keeps, KeepsField, KeepsWords, KeepsBytes, HasWords, EachField, read, first_word, second_word, bytes_of}
+use Rattle.descriptor.specs.Layout.{Name, Form, Field, Content, Keeps, KeepsField, KeepsWords, KeepsBytes, HasWords, EachField, AreWords, AreBytes, read, first_word, second_word}
 use Rattle.descriptor.proofs.Bytes.{first-read, second-read}
-use Rattle.descriptor.proofs.Fields.{IsWhole, IsNarrow, IsKept, AreSame, keeps-form, words-same, first-lt, second-lt}
+use Rattle.descriptor.proofs.Fields.{IsWhole, IsNarrow, IsKept, AreSame, keeps-form, words-same}
 use Rattle.descriptor.proofs.Refusals.{Decodes, Decodes-ok, Decodes-err}
 
 -- ---- the lowest refusal of two words
@@ -68,37 +68,32 @@ pub record IsCodec {D : Type 0} (form : Form) (numbers : D → Name → ℕ) : T
   pub alone : (d other : D) → AreSame form (numbers d) (numbers other) → d ≡ other
 
 module _ {D : Type 0} (form : Form) (numbers : D → Name → ℕ) (codec : IsCodec form numbers) where
-  abbrev pub AreWords : ℕ → ℕ → D → Type 0
-  AreWords first second d = (first ≡ first_word form (numbers d)) × (second ≡ second_word form (numbers d))
-
-  abbrev pub AreBytes : List ℕ → D → Type 0
-  AreBytes bytes d = bytes ≡ bytes_of (first_word form (numbers d)) (second_word form (numbers d))
-
-  keeps : (first second : ℕ) (d : D) → AreWords first second d → (e : DescError) → KeepsWords form first second e
+  keeps : (first second : ℕ) (d : D) → AreWords form (numbers d) first second → (e : DescError) → KeepsWords form first second e
   keeps first second d words e =
       keeps-form form (numbers d) codec.whole (codec.narrow d) e (codec.kept d e) first second words.0 words.1
 
-  pub words-accepted : (first second : ℕ) (d : D) → AreWords first second d → Decodes (AreWords first second) (KeepsWords form first second) (Ok d)
+  pub words-accepted : (first second : ℕ) (d : D) → AreWords form (numbers d) first second → Decodes (λ d. AreWords form (numbers d) first second) (KeepsWords form first second) (Ok d)
   words-accepted first second d words =
-      Decodes-ok (AreWords first second) (KeepsWords form first second) d words
+      Decodes-ok (λ d. AreWords form (numbers d) first second) (KeepsWords form first second) d words
       (λ other same. codec.alone d other
       (words-same form (numbers d) (numbers other) codec.whole (codec.narrow d) (codec.narrow other)
       (sym words.0 ∙ same.0) (sym words.1 ∙ same.1)))
       (keeps first second d words)
 
   pub words-refused : (first second : ℕ) (e : DescError) → IsLowest (KeepsWords form first second) e
-      → Decodes {D = D} (AreWords first second) (KeepsWords form first second) (Err e)
+      → Decodes {D = D} (λ d. AreWords form (numbers d) first second) (KeepsWords form first second) (Err e)
   words-refused first second e lowest =
-      Decodes-err (AreWords first second) (KeepsWords form first second) e lowest (keeps first second)
+      Decodes-err (λ d. AreWords form (numbers d) first second) (KeepsWords form first second) e lowest (keeps first second)
 
-  -- ---- in bytes
+-- ---- in bytes: each word has 64 bits, so of 16 bytes the words decide
 
-  words-of : (bytes : List ℕ) (d : D) → AreBytes bytes d → AreWords (little_number 8 bytes) (little_number 8 (drop 8 bytes)) d
+module _ {D : Type 0} (form : Form) (numbers : D → Name → ℕ) (fits : (d : D) → (first_word form (numbers d) < 2 ^ 64) × (second_word form (numbers d) < 2 ^ 64)) where
+  words-of : (bytes : List ℕ) (d : D) → AreBytes form (numbers d) bytes → AreWords form (numbers d) (little_number 8 bytes) (little_number 8 (drop 8 bytes))
   words-of bytes d same =
       let a : ℕ = first_word form (numbers d) in
       let b : ℕ = second_word form (numbers d) in (
-        ap (little_number 8) same ∙ first-read a b (first-lt form (numbers d) codec.whole (codec.narrow d)),
-        ap (λ (xs : List ℕ). little_number 8 (drop 8 xs)) same ∙ second-read a b (second-lt form (numbers d) codec.whole (codec.narrow d)),
+        ap (little_number 8) same ∙ first-read a b (fits d).0,
+        ap (λ (xs : List ℕ). little_number 8 (drop 8 xs)) same ∙ second-read a b (fits d).1,
       )
 
   keeps-bytes : (bytes : List ℕ) → length bytes ≡ 16 → (e : DescError)
@@ -114,14 +109,8 @@ module _ {D : Type 0} (form : Form) (numbers : D → Name → ℕ) (codec : IsCo
   keeps-words bytes Kind h = h
   keeps-words bytes Size h = h
 
-  keeps-all : (bytes : List ℕ) (d : D) → AreBytes bytes d → (e : DescError) → KeepsBytes form bytes e
-  keeps-all bytes d same e =
-      let len : length bytes ≡ 16 = ap length same in
-      keeps-bytes bytes len e (keeps (little_number 8 bytes) (little_number 8 (drop 8 bytes)) d (words-of bytes d same) e)
-
-  -- of 16 bytes the words decide
   module _ (bytes : List ℕ) {first second : ℕ} (words : HasWords bytes first second) (r : Result D DescError) where
-    pub bytes-read_back : ((d : D) → AreWords first second d → r ≡ Ok d) → (d : D) → AreBytes bytes d → r ≡ Ok d
+    pub bytes-read_back : ((d : D) → AreWords form (numbers d) first second → r ≡ Ok d) → (d : D) → AreBytes form (numbers d) bytes → r ≡ Ok d
     bytes-read_back reads_back d same = let given = words-of bytes d same in reads_back d (words.first_is ∙ given.0, words.second_is ∙ given.1)
 
     onto : (e : DescError) → KeepsWords form first second e → KeepsBytes form bytes e

@@ -5,12 +5,12 @@ use Rattle.limits.specs.declared.profile.TheConstants.{BUFFER_BYTES}
 use Rattle.descriptor.specs.declared.error.DescError.{DescError}
 use Rattle.descriptor.specs.declared.error.DescError.TheVariants.{Length, Reserved, Kind, Size}
 use Rattle.descriptor.specs.declared.rx_back.RxBack.{RxBack}
-use Rattle.descriptor.specs.Layout.{KeepsWords, word_of, bit}
+use Rattle.descriptor.specs.Layout.{KeepsWords, word_of, bit, bit_lt}
 use Rattle.descriptor.specs.Receive.{rx_back_form, rx_back_numbers, rx_back_first, rx_back_second}
 use Rattle.descriptor.proofs.Fields.{IsWhole, IsNarrow, IsKept, AreSame, settled, word_of-settled}
 use Rattle.descriptor.proofs.Codec.{IsCodec, lowest-reserved, words-accepted, words-refused}
 use Rattle.descriptor.proofs.Refusals.{Decodes}
-use Rattle.descriptor.proofs.Bits.{bit-lt, bit-same}
+use Rattle.descriptor.proofs.Bits.{bit-same}
 
 rx_back-whole : IsWhole rx_back_form
 rx_back-whole = record { first = (refl, (refl, (refl, (refl, (refl, (refl, refl)))))); second = (refl, (refl, (refl, (refl, (refl, (refl, refl)))))) }
@@ -18,7 +18,7 @@ rx_back-whole = record { first = (refl, (refl, (refl, (refl, (refl, (refl, refl)
 rx_back-narrow : (len : ℕ) (eop : Bool) → len < 2 ^ 16 → IsNarrow rx_back_form (rx_back_numbers len eop)
 rx_back-narrow len eop h = record {
   first = search rules;
-  second = (omega arith, (bit-lt eop, (omega arith, (omega arith, (h, (omega arith, tt))))));
+  second = (omega arith, (bit_lt eop, (omega arith, (omega arith, (h, (omega arith, tt))))));
 }
 
 rx_back-reserved : (len : ℕ) (eop : Bool) → IsKept rx_back_form (rx_back_numbers len eop) Reserved

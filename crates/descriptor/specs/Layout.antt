@@ -1,5 +1,6 @@
 -- A descriptor as the datasheet draws it: two words of 64 bits, each of fields that lie side by side and take all of it.
-use Rattle.std.specs.Prelude.{◌≡◌, ℕ, ◌+◌, ◌*◌, ◌/◌, ◌%◌, ◌^◌, ◌≤◌, ⊤, Bool, true, false, List, [], ◌∷◌, ◌++◌, length, drop}
+use Rattle.std.specs.Prelude.{◌≡◌, ℕ, ◌+◌, ◌*◌, ◌/◌, ◌%◌, ◌^◌, ◌<◌, ◌≤◌, ⊤, Bool, true, false, List, [], ◌∷◌, ◌++◌, length, drop}
+use Rattle.std.proofs.Common.{arith}
 use Rattle.byteorder.specs.Endian.{little_bytes, little_number}
 use Rattle.descriptor.specs.declared.error.DescError.{DescError}
 use Rattle.descriptor.specs.declared.error.DescError.TheVariants.{Length, Reserved, Kind, Size}
@@ -65,6 +66,10 @@ abbrev pub bit : Bool → ℕ
 bit true = 1
 bit false = 0
 
+pub bit_lt : (b : Bool) → bit b < 2
+bit_lt true = omega arith
+bit_lt false = omega arith
+
 -- ---- the word of a descriptor
 
 -- a fixed field has its own number, and another the descriptor's
@@ -95,6 +100,13 @@ second_word form numbers = word_of (number_in numbers) form.second
 -- two words in bytes, each with its lowest byte first
 abbrev pub bytes_of : ℕ → ℕ → List ℕ
 bytes_of first second = little_bytes 8 first ++ little_bytes 8 second
+
+-- they are a form's words, or its bytes, with a descriptor's numbers in it
+abbrev pub AreWords : Form → (Name → ℕ) → ℕ → ℕ → Type 0
+AreWords form numbers first second = (first ≡ first_word form numbers) × (second ≡ second_word form numbers)
+
+abbrev pub AreBytes : Form → (Name → ℕ) → List ℕ → Type 0
+AreBytes form numbers bytes = bytes ≡ bytes_of (first_word form numbers) (second_word form numbers)
 
 -- 16 bytes, and the two words in them
 pub record HasWords (bytes : List ℕ) (first second : ℕ) : Type 0 where

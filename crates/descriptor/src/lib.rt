@@ -6,13 +6,15 @@
 //! do not tell the form, so a caller names it. A value of these types is always one that the
 //! project's profile of the controller allows, and each has exactly one form in bytes.
 //!
-//! `to_bytes` gives that form. `from_bytes` accepts exactly the forms, and says of any other bytes
-//! which refusal with the lowest number applies. A ring keeps words and no bytes: `first_word`,
-//! `second_word` and `from_words` are for it, and so are the calls that read a status word.
+//! What all four have in common is the trait [`Descriptor`]. `to_bytes` gives that form. `from_bytes`
+//! accepts exactly the forms, and says of any other bytes which refusal with the lowest number
+//! applies. A ring keeps words and no bytes: `words`, `second_word` and `from_words` are for it, and
+//! so are the calls that read a status word.
 #![tactic(auto)]
 
 mod address;
 mod error;
+mod form;
 mod rx_back;
 mod rx_read;
 #[cfg(test)]
@@ -22,6 +24,7 @@ mod tx_read;
 mod words;
 
 pub use error::DescError;
+pub use form::Descriptor;
 pub use rx_back::RxBack;
 pub use rx_read::RxRead;
 pub use tx_back::TxBack;

@@ -3,8 +3,8 @@ ghost use Rattle.std.specs.Prelude.{◌≡◌, ℕ, ◌+◌, ◌*◌, ◌/◌, �
 ghost use Rattle.limits.specs.declared.profile.TheConstants.{BUFFER_BYTES};
 ghost use Rattle.descriptor.specs.Layout.{bit};
 
-use crate::DescError;
-use crate::words::{bits, bytes_from_words, is_set, words_from_bytes};
+use crate::words::{bits, is_set};
+use crate::{DescError, Descriptor};
 use limits::BUFFER_BYTES;
 use std::fmt;
 
@@ -25,8 +25,8 @@ pub struct RxBack {
 
 impl RxBack {
     ghost use Rattle.descriptor.specs.Refusal.{IsLowest};
-    ghost use Rattle.descriptor.specs.Layout.{KeepsWords, KeepsBytes};
-    ghost use Rattle.descriptor.specs.Receive.{rx_back_form, rx_back_first, rx_back_second, rx_back_bytes};
+    ghost use Rattle.descriptor.specs.Layout.{KeepsWords};
+    ghost use Rattle.descriptor.specs.Receive.{rx_back_form, rx_back_second};
 
     /// A write-back of `len` bytes, 1 to `BUFFER_BYTES`.
     #[inline]
@@ -63,15 +63,6 @@ impl RxBack {
         bits(word, 32, 16) as u16
     }
 
-    /// The first word: 0 in this profile.
-    #[inline]
-    pub fn first_word(&self) -> u64
-        ensures layout { result ≡ rx_back_first self.now }
-        ensures value { result ≡ 0 }
-    {
-        FIRST_WORD
-    }
-
     /// The second word, which a ring's table keeps.
     #[inline]
     pub fn second_word(&self) -> u64
@@ -81,20 +72,38 @@ impl RxBack {
         second_word_of(self.len, self.eop)
     }
 
-    /// The descriptor in 16 bytes: its two words, each with its lowest byte first.
-    pub fn to_bytes(&self) -> [u8; 16]
-        ensures { result ≡ rx_back_bytes self.now }
+    /// The descriptor whose second word this is, its first word being 0. A ring's table keeps that
+    /// word alone. The refusals are those of `from_words`.
+    #[inline]
+    pub fn from_second_word(word: u64) -> Result<Self, DescError>
+        ensures accepted { IfOk result (λ d. word ≡ 1 + 2 * bit d.eop + d.len * 2 ^ 32) }
+        ensures reads_back { (d : RxBack) → word ≡ 1 + 2 * bit d.eop + d.len * 2 ^ 32 → result ≡ Ok d }
+        ensures refused { (e : DescError) → (result ≡ Err e) ↔ IsLowest (KeepsWords rx_back_form 0 word) e }
     {
-        bytes_from_words(self.first_word(), self.second_word())
+        Self::from_words(FIRST_WORD, word)
+    }
+}
+
+impl Descriptor for RxBack {
+    ghost use Rattle.std.proofs.Common.{arith};
+    ghost use Rattle.descriptor.specs.Layout.{AreWords, bit_lt};
+    ghost use Rattle.descriptor.specs.Receive.{rx_back_form, rx_back_numbers};
+
+    ghost form = { rx_back_form };
+
+    ghost numbers = { λ d. rx_back_numbers d.len d.eop };
+
+    /// 0, and the second word.
+    #[inline]
+    fn words(&self) -> (u64, u64)
+        ensures layout { AreWords rx_back_form (rx_back_numbers self.now.len self.now.eop) result.0 result.1 }
+        ensures value { result ≡ (0, 1 + 2 * bit self.now.eop + self.now.len * 2 ^ 32) }
+    {
+        (FIRST_WORD, self.second_word())
     }
 
-    /// The descriptor whose two words these are. Refused are `Reserved`, and `Size` for a length
-    /// that is 0 or above `BUFFER_BYTES`.
-    pub fn from_words(first: u64, second: u64) -> Result<Self, DescError>
-        ensures accepted { IfOk result (λ d. (first ≡ rx_back_first d) × (second ≡ rx_back_second d)) }
-        ensures reads_back { (d : RxBack) → (first ≡ rx_back_first d) × (second ≡ rx_back_second d) → result ≡ Ok d }
-        ensures refused { (e : DescError) → (result ≡ Err e) ↔ IsLowest (KeepsWords rx_back_form first second) e }
-    {
+    /// Refused are `Reserved`, and `Size` for a length that is 0 or above `BUFFER_BYTES`.
+    fn from_words(first: u64, second: u64) -> Result<Self, DescError> {
         if first != FIRST_WORD {
             return Err(DescError::Reserved);
         }
@@ -109,27 +118,7 @@ impl RxBack {
         Ok(Self { len, eop })
     }
 
-    /// The descriptor whose second word this is, its first word being 0. A ring's table keeps that
-    /// word alone. The refusals are those of `from_words`.
-    #[inline]
-    pub fn from_second_word(word: u64) -> Result<Self, DescError>
-        ensures accepted { IfOk result (λ d. word ≡ 1 + 2 * bit d.eop + d.len * 2 ^ 32) }
-        ensures reads_back { (d : RxBack) → word ≡ 1 + 2 * bit d.eop + d.len * 2 ^ 32 → result ≡ Ok d }
-        ensures refused { (e : DescError) → (result ≡ Err e) ↔ IsLowest (KeepsWords rx_back_form 0 word) e }
-    {
-        Self::from_words(FIRST_WORD, word)
-    }
-
-    /// The descriptor whose 16 bytes these are, so `from_bytes` undoes `to_bytes`. Refused are `Length`,
-    /// where there are not 16, and what `from_words` refuses.
-    pub fn from_bytes(bytes: &[u8]) -> Result<Self, DescError>
-        ensures accepted { IfOk result (λ d. bytes.now ≡ rx_back_bytes d) }
-        ensures reads_back { (d : RxBack) → bytes.now ≡ rx_back_bytes d → result ≡ Ok d }
-        ensures refused { (e : DescError) → (result ≡ Err e) ↔ IsLowest (KeepsBytes rx_back_form bytes.now) e }
-    {
-        let (first, second) = words_from_bytes(bytes)?;
-        Self::from_words(first, second)
-    }
+    ghost fits = { λ d. let h = d.fits in let e = bit_lt d.eop in (Prim.omega arith, Prim.omega arith) };
 }
 
 /// The second word of a write-back of `len` bytes.

@@ -1,9 +1,8 @@
 //! The receive descriptor as the driver posts it (82599 datasheet, 7.1.6.1).
 ghost use Rattle.std.specs.Prelude.{◌≡◌, ◌*◌, ◌^◌, ◌<◌, ◌↔◌, IfOk};
 
-use crate::DescError;
 use crate::address::{address_of, number_at};
-use crate::words::{bytes_from_words, words_from_bytes};
+use crate::{DescError, Descriptor};
 use std::fmt;
 
 /// The second word: no header buffer, so DD is not set either.
@@ -19,18 +18,7 @@ pub struct RxRead {
 }
 
 impl RxRead {
-    ghost use Rattle.descriptor.specs.Refusal.{IsLowest};
-    ghost use Rattle.descriptor.specs.Layout.{KeepsWords, KeepsBytes};
-    ghost use Rattle.descriptor.specs.Receive.{rx_read_form, rx_read_first, rx_read_second, rx_read_bytes};
-
-    /// The first word: the buffer's address.
-    #[inline]
-    pub fn first_word(&self) -> u64
-        ensures layout { result ≡ rx_read_first self.now }
-        ensures value { result ≡ 2048 * self.now.number }
-    {
-        address_of(self.number)
-    }
+    ghost use Rattle.descriptor.specs.Receive.{rx_read_second};
 
     /// The second word, which a ring's table keeps: 0, so DD is not set.
     #[inline]
@@ -40,20 +28,28 @@ impl RxRead {
     {
         SECOND_WORD
     }
+}
 
-    /// The descriptor in 16 bytes: its two words, each with its lowest byte first.
-    pub fn to_bytes(&self) -> [u8; 16]
-        ensures { result ≡ rx_read_bytes self.now }
+impl Descriptor for RxRead {
+    ghost use Rattle.descriptor.specs.Layout.{AreWords};
+    ghost use Rattle.descriptor.specs.Receive.{rx_read_form, rx_read_numbers};
+    ghost use Rattle.std.proofs.Common.{arith};
+
+    ghost form = { rx_read_form };
+
+    ghost numbers = { λ d. rx_read_numbers d.number };
+
+    /// The buffer's address, and 0.
+    #[inline]
+    fn words(&self) -> (u64, u64)
+        ensures layout { AreWords rx_read_form (rx_read_numbers self.now.number) result.0 result.1 }
+        ensures value { result ≡ (2048 * self.now.number, 0) }
     {
-        bytes_from_words(self.first_word(), self.second_word())
+        (address_of(self.number), self.second_word())
     }
 
-    /// The descriptor whose two words these are. The refusal is `Reserved`.
-    pub fn from_words(first: u64, second: u64) -> Result<Self, DescError>
-        ensures accepted { IfOk result (λ d. (first ≡ rx_read_first d) × (second ≡ rx_read_second d)) }
-        ensures reads_back { (d : RxRead) → (first ≡ rx_read_first d) × (second ≡ rx_read_second d) → result ≡ Ok d }
-        ensures refused { (e : DescError) → (result ≡ Err e) ↔ IsLowest (KeepsWords rx_read_form first second) e }
-    {
+    /// The refusal is `Reserved`.
+    fn from_words(first: u64, second: u64) -> Result<Self, DescError> {
         let Some(number) = number_at(first) else {
             return Err(DescError::Reserved);
         };
@@ -63,16 +59,7 @@ impl RxRead {
         Ok(RxRead { number })
     }
 
-    /// The descriptor whose 16 bytes these are, so `from_bytes` undoes `to_bytes`. Refused are `Length`,
-    /// where there are not 16, and what `from_words` refuses.
-    pub fn from_bytes(bytes: &[u8]) -> Result<Self, DescError>
-        ensures accepted { IfOk result (λ d. bytes.now ≡ rx_read_bytes d) }
-        ensures reads_back { (d : RxRead) → bytes.now ≡ rx_read_bytes d → result ≡ Ok d }
-        ensures refused { (e : DescError) → (result ≡ Err e) ↔ IsLowest (KeepsBytes rx_read_form bytes.now) e }
-    {
-        let (first, second) = words_from_bytes(bytes)?;
-        Self::from_words(first, second)
-    }
+    ghost fits = { λ d. let h = d.in_range in (Prim.omega arith, Prim.omega arith) };
 }
 
 /// What a program prints of it, as `buffer 5`.

@@ -52,38 +52,37 @@ fn each_form_is_coded_both_ways(rt: HostRuntime) {
     assert_eq!(rt; TxBack::from_bytes(&TX_BACK), Ok(TxBack));
 }
 
+// How many of the 128 forms with one bit turned get this refusal, or 0 for none.
+fn refused_alike<D: Descriptor + Drop>(bytes: [u8; 16], wanted: u8) -> usize {
+    (0..128)
+        .filter(|bit| refusal(D::from_bytes(&flipped(bytes, *bit))) == wanted)
+        .count()
+}
+
 #[test]
-fn each_flipped_bit_of_a_receive_write_back_is_judged(rt: HostRuntime) {
+fn each_flipped_bit_is_judged(rt: HostRuntime) {
     for (wanted, times) in [(0, 12), (1, 0), (2, 111), (3, 0), (4, 5)] {
-        let count = (0..128)
-            .filter(|bit| refusal(RxBack::from_bytes(&flipped(RX_BACK, *bit))) == wanted)
-            .count();
-        assert_eq!(rt; count, times, "of {wanted}");
+        assert_eq!(rt;
+            refused_alike::<RxBack>(RX_BACK, wanted),
+            times,
+            "of {wanted}"
+        );
     }
-}
-
-#[test]
-fn each_flipped_bit_of_a_transmit_read_is_judged(rt: HostRuntime) {
     for (wanted, times) in [(0, 42), (1, 0), (2, 72), (3, 5), (4, 9)] {
-        let count = (0..128)
-            .filter(|bit| refusal(TxRead::from_bytes(&flipped(TX_READ, *bit))) == wanted)
-            .count();
-        assert_eq!(rt; count, times, "of {wanted}");
+        assert_eq!(rt;
+            refused_alike::<TxRead>(TX_READ, wanted),
+            times,
+            "of {wanted}"
+        );
     }
-}
-
-#[test]
-fn each_flipped_bit_of_an_address_is_judged(rt: HostRuntime) {
     for (wanted, times) in [(0, 16), (2, 112)] {
-        let count = (0..128)
-            .filter(|bit| refusal(RxRead::from_bytes(&flipped(RX_READ, *bit))) == wanted)
-            .count();
-        assert_eq!(rt; count, times, "of {wanted}");
+        assert_eq!(rt;
+            refused_alike::<RxRead>(RX_READ, wanted),
+            times,
+            "of {wanted}"
+        );
     }
-    let count = (0..128)
-        .filter(|bit| refusal(TxBack::from_bytes(&flipped(TX_BACK, *bit))) == 2)
-        .count();
-    assert_eq!(rt; count, 128);
+    assert_eq!(rt; refused_alike::<TxBack>(TX_BACK, 2), 128);
 }
 
 #[test]

@@ -3,9 +3,9 @@ ghost use Rattle.std.specs.Prelude.{◌≡◌, ◌+◌, ◌*◌, ◌/◌, ◌%�
 ghost use Rattle.limits.specs.declared.profile.TheConstants.{BUFFER_BYTES, LEAST_FRAME, MOST_FRAME};
 ghost use Rattle.descriptor.specs.Layout.{bit};
 
-use crate::DescError;
 use crate::address::{address_of, number_at};
-use crate::words::{bits, bytes_from_words, is_set, words_from_bytes};
+use crate::words::{bits, is_set};
+use crate::{DescError, Descriptor};
 use limits::{BUFFER_BYTES, LEAST_FRAME, MOST_FRAME};
 use std::fmt;
 
@@ -33,9 +33,8 @@ pub struct TxRead {
 }
 
 impl TxRead {
-    ghost use Rattle.descriptor.specs.Refusal.{IsLowest};
-    ghost use Rattle.descriptor.specs.Layout.{EachField, KeepsField, KeepsWords, KeepsBytes};
-    ghost use Rattle.descriptor.specs.Transmit.{tx_read_form, tx_read_first, tx_read_second, tx_read_bytes};
+    ghost use Rattle.descriptor.specs.Layout.{EachField, KeepsField};
+    ghost use Rattle.descriptor.specs.Transmit.{tx_read_form, tx_read_second};
 
     /// A descriptor of `len` bytes in buffer `number`, of a frame of `paylen` bytes.
     #[inline]
@@ -60,15 +59,6 @@ impl TxRead {
         }
     }
 
-    /// The first word: the buffer's address.
-    #[inline]
-    pub fn first_word(&self) -> u64
-        ensures layout { result ≡ tx_read_first self.now }
-        ensures value { result ≡ 2048 * self.now.number }
-    {
-        address_of(self.number)
-    }
-
     /// The second word, which a ring's table keeps. It does not have the bit that DD of a `TxBack` is.
     #[inline]
     pub fn second_word(&self) -> u64
@@ -84,52 +74,6 @@ impl TxRead {
             + u64::from(self.rs) * (1 << 27)
             + (1 << 29)
             + u64::from(self.paylen) * (1 << 46)
-    }
-
-    /// The descriptor in 16 bytes: its two words, each with its lowest byte first.
-    pub fn to_bytes(&self) -> [u8; 16]
-        ensures { result ≡ tx_read_bytes self.now }
-    {
-        bytes_from_words(self.first_word(), self.second_word())
-    }
-
-    /// The descriptor whose two words these are. Refused are `Reserved`, `Kind`, and `Size` for a
-    /// data length or PAYLEN out of range.
-    pub fn from_words(first: u64, second: u64) -> Result<Self, DescError>
-        ensures accepted { IfOk result (λ d. (first ≡ tx_read_first d) × (second ≡ tx_read_second d)) }
-        ensures reads_back { (d : TxRead) → (first ≡ tx_read_first d) × (second ≡ tx_read_second d) → result ≡ Ok d }
-        ensures refused { (e : DescError) → (result ≡ Err e) ↔ IsLowest (KeepsWords tx_read_form first second) e }
-    {
-        let Some(number) = number_at(first) else {
-            return Err(DescError::Reserved);
-        };
-        if !Self::has_fixed_bits(second) {
-            return Err(DescError::Reserved);
-        }
-        if !Self::is_data_descriptor(second) {
-            return Err(DescError::Kind);
-        }
-        if !Self::is_in_range(second) {
-            return Err(DescError::Size);
-        }
-        Ok(TxRead {
-            number,
-            len: bits(second, 0, 16) as u16,
-            eop: is_set(second, 24),
-            rs: is_set(second, 27),
-            paylen: bits(second, 46, 18) as u16,
-        })
-    }
-
-    /// The descriptor whose 16 bytes these are, so `from_bytes` undoes `to_bytes`. Refused are `Length`,
-    /// where there are not 16, and what `from_words` refuses.
-    pub fn from_bytes(bytes: &[u8]) -> Result<Self, DescError>
-        ensures accepted { IfOk result (λ d. bytes.now ≡ tx_read_bytes d) }
-        ensures reads_back { (d : TxRead) → bytes.now ≡ tx_read_bytes d → result ≡ Ok d }
-        ensures refused { (e : DescError) → (result ≡ Err e) ↔ IsLowest (KeepsBytes tx_read_form bytes.now) e }
-    {
-        let (first, second) = words_from_bytes(bytes)?;
-        Self::from_words(first, second)
     }
 
     /// Whether each bit of a second word that the profile fixes is right, but for DTYP and DEXT: the
@@ -171,6 +115,50 @@ impl TxRead {
             && LEAST_FRAME as u64 <= paylen
             && paylen <= MOST_FRAME as u64
     }
+}
+
+impl Descriptor for TxRead {
+    ghost use Rattle.std.proofs.Common.{arith};
+    ghost use Rattle.descriptor.specs.Layout.{AreWords, bit_lt};
+    ghost use Rattle.descriptor.specs.Transmit.{tx_read_form, tx_read_numbers};
+
+    ghost form = { tx_read_form };
+
+    ghost numbers = { λ d. tx_read_numbers d.number d.len d.eop d.rs d.paylen };
+
+    /// The buffer's address, and the second word.
+    #[inline]
+    fn words(&self) -> (u64, u64)
+        ensures layout { AreWords tx_read_form (tx_read_numbers self.now.number self.now.len self.now.eop self.now.rs self.now.paylen) result.0 result.1 }
+        ensures address { result.0 ≡ 2048 * self.now.number }
+    {
+        (address_of(self.number), self.second_word())
+    }
+
+    /// Refused are `Reserved`, `Kind`, and `Size` for a data length or PAYLEN out of range.
+    fn from_words(first: u64, second: u64) -> Result<Self, DescError> {
+        let Some(number) = number_at(first) else {
+            return Err(DescError::Reserved);
+        };
+        if !Self::has_fixed_bits(second) {
+            return Err(DescError::Reserved);
+        }
+        if !Self::is_data_descriptor(second) {
+            return Err(DescError::Kind);
+        }
+        if !Self::is_in_range(second) {
+            return Err(DescError::Size);
+        }
+        Ok(TxRead {
+            number,
+            len: bits(second, 0, 16) as u16,
+            eop: is_set(second, 24),
+            rs: is_set(second, 27),
+            paylen: bits(second, 46, 18) as u16,
+        })
+    }
+
+    ghost fits = { λ d. let e = bit_lt d.eop in let r = bit_lt d.rs in (Prim.omega arith, Prim.omega arith) };
 }
 
 /// What a program prints of it, as `buffer 5 length 60 eop 1 rs 1 paylen 60`.

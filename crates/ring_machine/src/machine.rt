@@ -1,6 +1,5 @@
 //! One queue as a machine, in either direction.
 
-mod places;
 mod queue;
 mod receive;
 mod transmit;

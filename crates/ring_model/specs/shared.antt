@@ -1,5 +1,6 @@
 pub mod Lists
 pub mod Frames
+pub mod Segments
 pub mod Places
 pub mod Rows
 pub mod Told

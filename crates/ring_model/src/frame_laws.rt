@@ -2,7 +2,7 @@
 ghost use Rattle.std.specs.Prelude.{◌≡◌, ℕ, ◌<◌, List, [], ◌∷◌, map, length, Some, slice_get};
 ghost use Rattle.ring_model.specs.shared.Lists.{IsBeginning};
 ghost use Rattle.ring_model.specs.shared.Frames.{Bytes, cut, itself, join, chains, frames, AllFollow, HasFrameLength, IsCutBy};
-ghost use Rattle.ring_model.specs.receive.Ring.{Segment, piece_of};
+ghost use Rattle.ring_model.specs.shared.Segments.{Segment, piece_of};
 ghost use Rattle.ring_model.specs.transmit.Ring.{Posting, carried};
 ghost use Rattle.ring_model.specs.transmit.Frames.{AllMayFollow};
 

@@ -10,7 +10,7 @@ use Rattle.limits.specs.RingLength.{IsRingLength}
 use Rattle.ring_model.specs.shared.Frames.{Follows, unfinished, ends_frame}
 use Rattle.ring_model.specs.shared.Handshakes.{is_serving}
 use Rattle.ring_model.specs.receive.Agreement.{rx_word}
-use Rattle.ring_model.specs.receive.Ring.{piece_of, ends_segment}
+use Rattle.ring_model.specs.shared.Segments.{piece_of, ends_segment}
 use Rattle.shared_ring.specs.declared.events.ControllerEvent.TheVariants as controller
 use Rattle.shared_ring.specs.declared.events.View.TheVariants.{Controller}
 use Rattle.shared_ring.specs.Plays.{controller_does, stores_head, LoadsRequest, enables, disables}

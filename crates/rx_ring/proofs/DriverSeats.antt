@@ -9,7 +9,7 @@ use Rattle.limits.specs.RingLength.{IsRingLength}
 use Rattle.ring_model.specs.shared.Frames.{Follows, unfinished}
 use Rattle.ring_model.specs.shared.Handshakes.{is_open, is_live, is_new, is_on, is_stopped, is_cleared, is_tailed}
 use Rattle.ring_model.specs.receive.Agreement.{rx_word}
-use Rattle.ring_model.specs.receive.Ring.{piece_of}
+use Rattle.ring_model.specs.shared.Segments.{piece_of}
 use Rattle.shared_ring.specs.declared.events.DriverEvent.TheVariants as driver
 use Rattle.shared_ring.specs.declared.events.View.TheVariants.{Driver}
 use Rattle.shared_ring.specs.Plays.{driver_does, posts, publishes, asks_enable, LoadsControl, asks_disable, LoadsHead, clears_head, clears_tail}

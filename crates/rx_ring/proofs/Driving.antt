@@ -14,7 +14,8 @@ use Rattle.ring_model.specs.declared.states.ControllerState.TheVariants.{Off, Se
 use Rattle.ring_model.specs.declared.states.DriverState.TheVariants.{New, Asked, On, Stopping, Stopped, Cleared, Tailed}
 use Rattle.ring_model.specs.declared.steps.ControlStep.TheVariants.{AskEnable, LookAnswered, AskDisable}
 use Rattle.ring_model.specs.declared.steps.RxStep.TheVariants as rx
-use Rattle.ring_model.specs.receive.Ring.{RxRing, Segment, due, ends_segment, piece_of, number_of_segment}
+use Rattle.ring_model.specs.receive.Ring.{RxRing, due}
+use Rattle.ring_model.specs.shared.Segments.{Segment, ends_segment, piece_of, number_of_segment}
 use Rattle.ring_model.specs.receive.Agreement.{rx_word}
 use Rattle.ring_model.specs.receive.Steps.{rx_changed, took}
 use Rattle.ring_model.specs.shared.Frames.{Bytes, Follows, unfinished}

@@ -10,7 +10,8 @@ use Rattle.ring_model.specs.shared.Frames.{Bytes}
 use Rattle.ring_model.specs.shared.Laws.{SameEpoch, NewEpoch}
 use Rattle.ring_model.specs.shared.Queue.{Ledger, posted_count, served_count, given_count}
 use Rattle.ring_model.specs.receive.Laws.{RxLater, rx_over}
-use Rattle.ring_model.specs.receive.Ring.{RxRing, Segment, ends_segment, due}
+use Rattle.ring_model.specs.receive.Ring.{RxRing, due}
+use Rattle.ring_model.specs.shared.Segments.{Segment, ends_segment}
 use Rattle.ring_model.specs.receive.Steps.{rx_can, rx_changed, rx_next, took}
 use Rattle.ring_model.proofs.receive.Kept.{IsRxKept}
 use Rattle.ring_model.proofs.receive.Reached.{rx_later-all}

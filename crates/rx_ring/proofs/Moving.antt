@@ -22,7 +22,8 @@ use Rattle.ring_model.specs.shared.QueueSteps as queue
 use Rattle.ring_model.specs.shared.Laws.{SameEpoch}
 use Rattle.ring_model.specs.receive.Laws.{rx_over}
 use Rattle.ring_model.specs.receive.Agreement.{rx_word}
-use Rattle.ring_model.specs.receive.Ring.{RxRing, Segment, rx_opening, due, ends_segment, is_whole, next_segment, piece_of}
+use Rattle.ring_model.specs.receive.Ring.{RxRing, rx_opening, due, is_whole, next_segment}
+use Rattle.ring_model.specs.shared.Segments.{Segment, ends_segment, piece_of}
 use Rattle.ring_model.specs.receive.Steps.{IsRxReachable, rx_can, rx_changed, rx_settled, took}
 use Rattle.ring_model.proofs.receive.Kept.{IsRxKept}
 use Rattle.ring_model.proofs.receive.Reached.{rx_kept}

@@ -11,7 +11,8 @@ use Rattle.buffer_pool.specs.Buffer.{Buffer, buffer}
 use Rattle.ring_model.specs.declared.states.ControllerState.{ControllerState}
 use Rattle.ring_model.specs.declared.steps.ControlStep.TheVariants.{LookAsked}
 use Rattle.ring_model.specs.declared.steps.RxStep.TheVariants as rx
-use Rattle.ring_model.specs.receive.Ring.{RxRing, Segment, ends_segment, is_whole, piece_of}
+use Rattle.ring_model.specs.receive.Ring.{RxRing, is_whole}
+use Rattle.ring_model.specs.shared.Segments.{Segment, ends_segment, piece_of}
 use Rattle.ring_model.specs.receive.Agreement.{rx_word}
 use Rattle.ring_model.specs.receive.Steps.{rx_changed, rx_settled}
 use Rattle.ring_model.specs.shared.Frames.{Bytes, Follows, unfinished, ends_frame}

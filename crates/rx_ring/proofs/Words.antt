@@ -6,7 +6,7 @@ use Rattle.buffer_pool.specs.Buffer.{buffer}
 use Rattle.ring_model.specs.shared.Agreement.{bit}
 use Rattle.ring_model.specs.shared.Frames.{Bytes}
 use Rattle.ring_model.specs.receive.Agreement.{rx_word}
-use Rattle.ring_model.specs.receive.Ring.{Segment}
+use Rattle.ring_model.specs.shared.Segments.{Segment}
 use Rattle.rx_ring.specs.Records.{eop_of, segment_of}
 
 pub rx_word-odd : (len : ℕ) (eop : Bool) → rx_word len eop % 2 ≡ 1

@@ -7,7 +7,7 @@ use Rattle.ring_model.specs.declared.states.DriverState.{DriverState}
 use Rattle.ring_model.specs.declared.states.ControllerState.{ControllerState}
 use Rattle.ring_model.specs.declared.states.ControllerState.TheVariants as state
 use Rattle.ring_model.specs.receive.Agreement.{rx_word}
-use Rattle.ring_model.specs.receive.Ring.{Segment, ends_segment, piece_of}
+use Rattle.ring_model.specs.shared.Segments.{Segment, ends_segment, piece_of}
 use Rattle.ring_model.specs.shared.Frames.{Bytes, Follows, unfinished, ends_frame}
 use Rattle.ring_model.specs.shared.Handshakes.{is_answered, is_live, is_serving}
 use Rattle.shared_ring.specs.declared.events.DriverEvent.TheVariants as driver

@@ -10,7 +10,8 @@ use Rattle.ring_model.specs.shared.Queue.{posted_count, served_count, returned_c
 use Rattle.rx_ring.specs.Rule.{lies_there}
 use Rattle.atomic_table.specs.Seated.{TableId}
 use Rattle.limits.specs.RingLength.{IsRingLength}
-use Rattle.ring_model.specs.receive.Ring.{RxLedger, Segment}
+use Rattle.ring_model.specs.receive.Ring.{RxLedger}
+use Rattle.ring_model.specs.shared.Segments.{Segment}
 use Rattle.ring_model.specs.shared.Frames.{Bytes}
 use Rattle.ring_model.specs.shared.Handshakes.{is_open, is_ended}
 use Rattle.rx_ring.specs.Ends.{DriverSide, driver_size, posted, taken, driver_state, known_of, ControllerSide, stored, controller_state}

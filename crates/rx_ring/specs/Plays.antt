@@ -3,7 +3,8 @@ use Rattle.std.specs.Prelude.{◌≡◌, ℕ, ◌+◌, ◌%◌, ◌<◌, ◌≤�
 use Rattle.atomic_table.specs.Table.{Step, rest}
 use Rattle.buffer_pool.specs.Buffer.{Buffer, buffer}
 use Rattle.ring_model.specs.shared.Frames.{Bytes, Follows, unfinished}
-use Rattle.ring_model.specs.receive.Ring.{RxRing, piece_of}
+use Rattle.ring_model.specs.receive.Ring.{RxRing}
+use Rattle.ring_model.specs.shared.Segments.{piece_of}
 use Rattle.ring_model.specs.receive.Agreement.{rx_word}
 use Rattle.ring_model.specs.receive.Steps.{IsRxReachable}
 use Rattle.ring_model.specs.receive.Lawful.{IsLawfulRx}

@@ -6,7 +6,8 @@ use Rattle.atomic_table.specs.Seated.{TableId}
 use Rattle.buffer_pool.specs.Buffer.{Buffer, buffer}
 use Rattle.limits.specs.RingLength.{IsRingLength}
 use Rattle.ring_model.specs.receive.Agreement.{rx_says, rx_lies}
-use Rattle.ring_model.specs.receive.Ring.{RxRing, Segment, piece_of}
+use Rattle.ring_model.specs.receive.Ring.{RxRing}
+use Rattle.ring_model.specs.shared.Segments.{Segment, piece_of}
 use Rattle.ring_model.specs.receive.Steps.{IsRxReachable}
 use Rattle.ring_model.specs.receive.Laws.{rx_over}
 use Rattle.ring_model.specs.shared.Frames.{Bytes, AllFollow}

@@ -4,7 +4,7 @@ ghost use Rattle.std.specs.Prelude.{◌≡◌, ◌+◌, ◌<◌, ◌≤◌, ◌�
 ghost use Rattle.buffer_pool.specs.Buffer.{buffer};
 ghost use Rattle.limits.specs.RingLength.{IsRingLength};
 ghost use Rattle.ring_model.specs.receive.Agreement.{rx_word};
-ghost use Rattle.ring_model.specs.receive.Ring.{piece_of};
+ghost use Rattle.ring_model.specs.shared.Segments.{piece_of};
 ghost use Rattle.ring_model.specs.shared.Frames.{Follows, unfinished};
 ghost use Rattle.ring_model.specs.shared.Handshakes.{is_serving};
 ghost use Rattle.shared_ring.specs.Words.{control_word};

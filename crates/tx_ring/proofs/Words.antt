@@ -6,6 +6,7 @@ use Rattle.descriptor.specs.Layout.{bit as descriptor_bit}
 use Rattle.descriptor.specs.declared.tx_read.TxRead.{TxRead}
 use Rattle.ring_model.specs.shared.Agreement.{bit}
 use Rattle.ring_model.specs.transmit.Agreement.{tx_word, done_word}
+use Rattle.ring_model.specs.transmit.Ring.{new_posting}
 use Rattle.tx_ring.specs.Records.{Posting, eop_of, rs_of, paylen_of, posting_of}
 use Rattle.tx_ring.specs.Rule.{filled, word_of}
 use Rattle.tx_ring.specs.Plays.{is_done}
@@ -50,9 +51,9 @@ done-done_word = refl
 -- the posting that a descriptor and its buffer say
 pub posting-posted : (p : Posting) → length p.payload ≤ 2048 → posting_of (word_of p) (filled p) ≡ p
 posting-posted p small =
-    ap (λ (e : Bool). let x : Posting = record { number = p.number; payload = p.payload; eop = e; rs = rs_of (word_of p); paylen = paylen_of (word_of p) } in x) (eop_of-tx_word (length p.payload) p.eop p.rs p.paylen small)
-    ∙ ap (λ (e : Bool). let x : Posting = record { number = p.number; payload = p.payload; eop = p.eop; rs = e; paylen = paylen_of (word_of p) } in x) (rs_of-tx_word (length p.payload) p.eop p.rs p.paylen small)
-    ∙ ap (λ (v : ℕ). let x : Posting = record { number = p.number; payload = p.payload; eop = p.eop; rs = p.rs; paylen = v } in x) (paylen_of-tx_word (length p.payload) p.eop p.rs p.paylen small)
+    ap (λ (e : Bool). let x : Posting = new_posting p.number p.payload e (rs_of (word_of p)) (paylen_of (word_of p)) in x) (eop_of-tx_word (length p.payload) p.eop p.rs p.paylen small)
+    ∙ ap (λ (e : Bool). let x : Posting = new_posting p.number p.payload p.eop e (paylen_of (word_of p)) in x) (rs_of-tx_word (length p.payload) p.eop p.rs p.paylen small)
+    ∙ ap (λ (v : ℕ). let x : Posting = new_posting p.number p.payload p.eop p.rs v in x) (paylen_of-tx_word (length p.payload) p.eop p.rs p.paylen small)
 
 -- the second word of a descriptor with these fields
 bit-same : (b : Bool) → descriptor_bit b ≡ bit b

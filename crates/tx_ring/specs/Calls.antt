@@ -12,7 +12,7 @@ use Rattle.ring_model.specs.shared.Frames.{unfinished}
 use Rattle.ring_model.specs.shared.Handshakes.{is_answered, is_live, is_serving}
 use Rattle.ring_model.specs.transmit.Agreement.{done_word, tx_word}
 use Rattle.ring_model.specs.transmit.Frames.{MayFollow}
-use Rattle.ring_model.specs.transmit.Ring.{are_whole, carried}
+use Rattle.ring_model.specs.transmit.Ring.{are_whole, carried, new_posting}
 use Rattle.ring_model.specs.transmit.Steps.{asks_report}
 use Rattle.shared_ring.specs.declared.events.DriverEvent.TheVariants as driver
 use Rattle.shared_ring.specs.declared.events.ControllerEvent.TheVariants as controller
@@ -120,7 +120,7 @@ IsControllerEnd c serve ready last holding between ends asks owing side asked = 
 
 -- what is posted with a buffer
 abbrev pub item_of : Buffer → Bool → Bool → ℕ → Posting
-item_of buf eop rs paylen = record { number = buf.number; payload = buf.bytes; eop = eop; rs = rs; paylen = paylen }
+item_of buf eop rs paylen = new_posting buf.number buf.bytes eop rs paylen
 
 -- how many places the oldest outstanding report is ahead of those that are seen reported
 abbrev pub OldestAhead : DriverSide → Option ℕ → Type 0

@@ -5,6 +5,7 @@ use Rattle.ring_model.specs.declared.states.DriverState.TheVariants.{New}
 use Rattle.ring_model.specs.shared.Frames.{Bytes}
 use Rattle.ring_model.specs.transmit.Ring as ring
 use Rattle.ring_model.specs.transmit.Steps.{first_report}
+use Rattle.ring_model.specs.transmit.Ring.{new_posting}
 use Rattle.shared_ring.specs.declared.events.DriverEvent.{DriverEvent}
 use Rattle.shared_ring.specs.declared.events.DriverEvent.TheVariants as driver
 use Rattle.shared_ring.specs.declared.events.ControllerEvent.{ControllerEvent}
@@ -54,7 +55,7 @@ paylen_of word = word / 2 ^ 46
 
 -- what a driver posts with a word and a buffer
 abbrev pub posting_of : ℕ → Buffer → Posting
-posting_of word b = record { number = b.number; payload = b.bytes; eop = eop_of word; rs = rs_of word; paylen = paylen_of word }
+posting_of word b = new_posting b.number b.bytes (eop_of word) (rs_of word) (paylen_of word)
 
 -- the clearing of the last word ends the epoch: a new one begins, and is empty
 abbrev pub drive_own : TxDriven → TxDriverOwn → TxDriven

@@ -3,10 +3,13 @@
 
 mod moves;
 mod one_frame;
+mod worker;
 
 use anyhow::Result;
 use moves::told;
 use one_frame::passed;
+use pool::Pool;
+use worker::work;
 
 const MOVES: [&str; 3] = ["r0 A1 5", "r0 A2", "r0 A6"];
 
@@ -15,6 +18,9 @@ fn main(rt: HostRuntime) -> Result<()> {
     if let Some(buf) = passed(rt.alloc(), &frame)? {
         println!(rt; "took {} bytes in buffer {}", buf.len(), buf.number())?;
     }
+    let (pool, mut pass) = Pool::new(&rt, rt.alloc(), 64)?;
+    let given = work(&rt, &pool, &mut pass, &frame, 4);
+    println!(rt; "gave {given} buffers back")?;
     print!(rt; "{}", told(rt.alloc(), MOVES.as_slice())?)?;
     Ok(())
 }

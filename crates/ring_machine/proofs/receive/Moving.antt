@@ -11,7 +11,8 @@ use Rattle.ring_model.specs.shared.Handshakes.{enables, is_live}
 use Rattle.ring_model.specs.shared.QueueSteps as queue
 use Rattle.ring_model.specs.shared.Queue.{served_count, given_count, posted_count, returned_count, may, by}
 use Rattle.ring_model.specs.shared.Agreement.{Agrees, Wrapped}
-use Rattle.ring_model.specs.receive.Ring.{Segment, RxRing, RxQueue, due, ends_segment, next_segment}
+use Rattle.ring_model.specs.receive.Ring.{RxRing, RxQueue, due, next_segment}
+use Rattle.ring_model.specs.shared.Segments.{Segment, ends_segment}
 use Rattle.ring_model.specs.receive.Steps.{rx_can, rx_changed, rx_settled, took}
 use Rattle.ring_model.specs.receive.Agreement.{rx_word}
 use Rattle.ring_model.proofs.receive.Kept.{IsRxKept}

@@ -4,7 +4,8 @@ use Rattle.std.specs.Prelude.{Result, Ok, Err}
 use Rattle.ring_model.specs.declared.steps.RxStep.{RxStep}
 use Rattle.ring_model.specs.declared.steps.RxStep.TheVariants.{Post, Publish, Look, Fetch, Store, Take, Head, Control, Reclaim, StoreQuiet, LoadQuiet, ClearHead, ClearTail, ClearQuiet}
 use Rattle.ring_model.specs.declared.notes.Note.{Note}
-use Rattle.ring_model.specs.receive.Ring.{Segment, RxRing, due, ends_segment, rx_opening}
+use Rattle.ring_model.specs.receive.Ring.{RxRing, due, rx_opening}
+use Rattle.ring_model.specs.shared.Segments.{Segment, ends_segment}
 use Rattle.ring_model.specs.receive.Steps.{IsRxReachable, rx_can, rx_changed, rx_note_of, took}
 use Rattle.ring_model.proofs.shared.Reaching.{kept-reached, reached-more}
 use Rattle.ring_model.proofs.receive.Kept.{IsRxKept}

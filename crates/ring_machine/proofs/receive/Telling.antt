@@ -11,7 +11,8 @@ use Rattle.ring_model.specs.shared.Handshakes.{control_value, is_cleared, is_liv
 use Rattle.ring_model.specs.shared.Lists.{slot_at}
 use Rattle.ring_model.specs.shared.QueueSteps as queue
 use Rattle.ring_model.specs.shared.Queue.{posted_count, served_count, given_count, returned_count, next_head, may}
-use Rattle.ring_model.specs.receive.Ring.{Segment, RxRing, due, ends_segment, is_whole, next_segment}
+use Rattle.ring_model.specs.receive.Ring.{RxRing, due, is_whole, next_segment}
+use Rattle.ring_model.specs.shared.Segments.{Segment, ends_segment}
 use Rattle.ring_model.specs.receive.Steps.{rx_can, rx_note_of, rx_settled, taken_segment}
 use Rattle.ring_model.specs.receive.Agreement.{rx_word}
 use Rattle.ring_model.proofs.shared.Beginnings.{number_at}

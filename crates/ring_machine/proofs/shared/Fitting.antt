@@ -15,7 +15,8 @@ use Rattle.ring_model.proofs.shared.Kept.{IsKept}
 use Rattle.ring_model.proofs.shared.Shakes.{live_unanswered, serving_unended}
 use Rattle.ring_model.proofs.shared.Stepping.{held_below, returned_served}
 use Rattle.ring_machine.specs.shared.Machine.{IsSound}
-use Rattle.ring_machine.specs.shared.Moves.{place_next, word_put, after_post, after_fetch, after_serve, after_out}
+use Rattle.ring_model.specs.shared.Places.{place_next}
+use Rattle.ring_machine.specs.shared.Moves.{word_put, after_post, after_fetch, after_serve, after_out}
 use Rattle.ring_machine.proofs.shared.Snoc.{snoc_end, snoc_rest, past_end, ends_frame-snoc}
 use Rattle.ring_machine.proofs.shared.Slots.{slot-writes, put-writes, put-here, empty-write, none_to-ring}
 

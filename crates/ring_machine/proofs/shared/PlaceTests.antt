@@ -2,7 +2,7 @@
 use Rattle.std.proofs.Common.{◌≡◌, ◌≢◌, ℕ, ◌+◌, ◌-◌, ◌%◌, ◌<◌, ◌≤◌, Bool, true, false, not, ◌&&◌, sym, refl, ap, ◌∙◌, ⊎_elim, arith}
 use Rattle.std.specs.Prelude.{◌==◌, nat_lt}
 use Rattle.std.proofs.lemmas.Bool.{cases_lt, eqb-true, eqb-false, eq-eqb, ne_eqb, ltb-true, lt-ltb, not-true, not_from_false}
-use Rattle.ring_machine.specs.shared.Moves.{place_next}
+use Rattle.ring_model.specs.shared.Places.{place_next}
 use Rattle.ring_model.proofs.shared.Places.{same_item, next_place, lap}
 
 -- two tests that hold together are one

@@ -16,7 +16,8 @@ use Rattle.ring_model.proofs.shared.Places.{ahead, next_place}
 use Rattle.ring_model.proofs.shared.Kept.{IsKept}
 use Rattle.ring_model.proofs.shared.Shakes.{open_unanswered, live_unanswered, stopped_answered, serving_unended}
 use Rattle.ring_model.proofs.shared.Stepping.{answered_unheld, held_below, returned_served}
-use Rattle.ring_machine.specs.shared.Moves.{place_next, between_places, can_post, is_idle, can_fetch, are_all_back, looks_settled}
+use Rattle.ring_model.specs.shared.Places.{place_next, between_places}
+use Rattle.ring_machine.specs.shared.Moves.{can_post, is_idle, can_fetch, are_all_back, looks_settled}
 use Rattle.ring_machine.proofs.shared.PlaceTests.{and_same, room_told, same_told, left_told}
 use Rattle.ring_machine.proofs.shared.Snoc.{found, past_end}
 

@@ -21,7 +21,8 @@ use Rattle.ring_model.proofs.shared.Kept.{IsKept}
 use Rattle.ring_model.proofs.shared.Shakes.{serving_unanswered}
 use Rattle.ring_model.proofs.shared.Stepping.{kept-clear_tail, kept-serve, shook}
 use Rattle.ring_model.proofs.transmit.Kept.{IsTxKept}
-use Rattle.ring_machine.specs.shared.Moves.{after_clear_tail, after_serve, place_next}
+use Rattle.ring_model.specs.shared.Places.{place_next}
+use Rattle.ring_machine.specs.shared.Moves.{after_clear_tail, after_serve}
 use Rattle.ring_machine.specs.transmit.Machine.{IsTxSound, StepFits, TxAgrees, TxParts, lies_tx, says_tx}
 use Rattle.ring_machine.specs.transmit.Words.{place_before, word_eop, word_rs}
 use Rattle.ring_machine.specs.transmit.Moves.{after_load, after_report, after_send, serve_word, tx_after_clear, tx_after_renew, tx_moved}

@@ -19,7 +19,8 @@ use Rattle.ring_model.proofs.shared.Places.{ahead, next_place}
 use Rattle.ring_model.proofs.shared.Stepping.{returned_served}
 use Rattle.ring_model.proofs.transmit.Kept.{IsTxKept}
 use Rattle.ring_model.proofs.transmit.Stepping.{first_report-above}
-use Rattle.ring_machine.specs.shared.Moves.{between_places, can_fetch, looks_settled, place_next, refused_empty}
+use Rattle.ring_model.specs.shared.Places.{between_places, place_next}
+use Rattle.ring_machine.specs.shared.Moves.{can_fetch, looks_settled, refused_empty}
 use Rattle.ring_machine.specs.transmit.Machine.{TxAgrees, TxParts, lies_tx, says_tx}
 use Rattle.ring_machine.specs.transmit.Words.{first_asking, place_before, word_asks}
 use Rattle.ring_machine.specs.transmit.Moves.{is_made, next_slot, oldest_place, report_told, reported_told, sending_told, serve_word, tx_may, tx_told}

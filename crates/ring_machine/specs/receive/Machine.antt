@@ -4,7 +4,8 @@ use Rattle.ring_model.specs.declared.states.Owner.{Owner}
 use Rattle.ring_model.specs.declared.steps.RxStep.{RxStep}
 use Rattle.ring_model.specs.declared.notes.Note.{Note}
 use Rattle.ring_model.specs.shared.Agreement.{Agrees, Wrapped}
-use Rattle.ring_model.specs.receive.Ring.{Segment, RxRing, ends_segment}
+use Rattle.ring_model.specs.receive.Ring.{RxRing}
+use Rattle.ring_model.specs.shared.Segments.{Segment, ends_segment}
 use Rattle.ring_model.specs.receive.Steps.{rx_can, rx_changed, rx_note_of, IsRxReachable}
 use Rattle.ring_model.specs.receive.Agreement.{rx_lies, rx_says}
 use Rattle.ring_machine.specs.declared.error.MachineError.{MachineError}

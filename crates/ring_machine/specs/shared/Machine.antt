@@ -30,3 +30,4 @@ pub record IsSound (w : Wrapped ℕ) : Type 0 where
   pub fill : w.fill < w.size
   pub next : w.next < w.size
   pub serve : w.serve < w.size
+  pub tail : w.tail < w.size

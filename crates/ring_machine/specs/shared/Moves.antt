@@ -1,5 +1,5 @@
 -- What a queue's machine computes of each step that both directions share, over its places and words.
-use Rattle.std.specs.Prelude.{ℕ, nat_lt, replicate, ◌+◌, ◌-◌, ◌%◌, Bool, true, not, ◌&&◌, ◌==◌, List, Option, Some, None, Result, Ok, Err, is_none, slice_set, if◌then◌else◌}
+use Rattle.std.specs.Prelude.{ℕ, nat_lt, replicate, Bool, true, not, ◌&&◌, ◌==◌, List, Option, Some, None, Result, Ok, Err, is_none, slice_set, if◌then◌else◌}
 use Rattle.ring_model.specs.declared.states.DriverState.TheVariants.{New, Cleared, Tailed}
 use Rattle.ring_model.specs.declared.states.Owner.{Owner}
 use Rattle.ring_model.specs.declared.states.Owner.TheVariants.{Driver, Ring, Controller}
@@ -7,15 +7,9 @@ use Rattle.ring_model.specs.declared.steps.ControlStep.{ControlStep}
 use Rattle.ring_model.specs.declared.notes.Note.{Note}
 use Rattle.ring_model.specs.shared.Handshakes.{is_open, is_serving, first_handshake, enables, shaken}
 use Rattle.ring_model.specs.shared.Agreement.{Wrapped}
+use Rattle.ring_model.specs.shared.Places.{place_next, between_places}
 use Rattle.ring_machine.specs.declared.error.MachineError.{MachineError}
 use Rattle.ring_machine.specs.declared.error.MachineError.TheVariants as refusal
-
-abbrev pub place_next : ℕ → ℕ → ℕ
-place_next n p = if (p + 1) == n then 0 else (p + 1)
-
--- how many places lie from the one up to the other
-abbrev pub between_places : ℕ → ℕ → ℕ → ℕ
-between_places n from to = (to + n - from) % n
 
 -- the words, with this one stored at a place, if there is one to store
 abbrev pub word_put : List ℕ → ℕ → Option ℕ → List ℕ

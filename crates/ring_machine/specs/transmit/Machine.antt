@@ -27,10 +27,11 @@ pub record TxParts : Type 0 where
 abbrev pub tx_parts_of : Inside → TxParts
 tx_parts_of m = record { queue = m.queue; completion = m.completion; report = m.report; rep = m.rep; ends = m.ends; owed = m.owed }
 
--- the place of reports is one of the ring's too
+-- the places of reports are of the ring's too
 pub record IsTxSound (p : TxParts) : Type 0 where
   pub queue : IsSound p.queue
   pub rep : p.rep < p.queue.size
+  pub report : p.report < p.queue.size
 
 -- a payload is the number of its bytes, and a buffer its number; `told` says whether the report of an item stands in its descriptor
 abbrev pub says_tx : (ℕ → Bool) → ℕ → Option (Posting ℕ) → Option (Posting ℕ) → ℕ

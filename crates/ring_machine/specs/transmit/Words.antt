@@ -1,7 +1,7 @@
 -- What the words of transmit descriptors say, and where the first of them stands that asks for a report.
 use Rattle.std.specs.Prelude.{ℕ, zero, suc, ◌-◌, ◌/◌, ◌%◌, ◌^◌, Bool, ◌||◌, ◌==◌, List, Option, Some, None, slice_index, if◌then◌else◌}
 use Rattle.ring_model.specs.transmit.Agreement.{done_word}
-use Rattle.ring_machine.specs.shared.Moves.{place_next}
+use Rattle.ring_model.specs.shared.Places.{place_next}
 
 abbrev pub place_before : ℕ → ℕ → ℕ
 place_before n p = if p == 0 then n - 1 else (p - 1)

@@ -8,12 +8,12 @@ ghost use Rattle.ring_model.specs.shared.Handshakes.{control_value, enables};
 ghost use Rattle.ring_model.specs.shared.Lists.{slot_at};
 ghost use Rattle.ring_machine.specs.declared.error.MachineError.TheVariants.{Memory, RingLength};
 ghost use Rattle.ring_machine.specs.shared.Machine.{IsSound};
-ghost use Rattle.ring_machine.specs.shared.Moves.{after_clear_head, after_clear_tail, after_fetch, after_head, after_look, after_out, after_post, after_publish, after_renew, after_serve, after_shake, are_all_back, begun, between_places, can_fetch, can_post, is_idle, looks_settled, told_owner, word_put};
+ghost use Rattle.ring_model.specs.shared.Places.{between_places};
+ghost use Rattle.ring_machine.specs.shared.Moves.{after_clear_head, after_clear_tail, after_fetch, after_head, after_look, after_out, after_post, after_publish, after_renew, after_serve, after_shake, are_all_back, begun, can_fetch, can_post, is_idle, looks_settled, told_owner, word_put};
 
 use crate::error::MachineError;
-use crate::machine::places::{place_after, places_between};
 use limits::is_ring_length;
-use ring_model::{ControlStep, DriverState, Handshake, Owner};
+use ring_model::{ControlStep, DriverState, Handshake, Owner, place_after, places_between};
 use std::alloc::Global;
 use std::marker::Model;
 
@@ -163,6 +163,7 @@ impl QueueMachine {
 
     /// Who has this place.
     pub(crate) fn owner(&self, place: u16) -> Owner
+        requires { place < self.now.size }
         ensures told { result ≡ told_owner self.now place }
         ensures sound { IsSound self.now }
     {

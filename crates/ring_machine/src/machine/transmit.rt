@@ -12,11 +12,12 @@ ghost use Rattle.ring_machine.specs.transmit.Moves.{is_made, oldest_place, tx_af
 
 use crate::counting::count_of;
 use crate::error::MachineError;
-use crate::machine::places::{place_after, places_between};
 use crate::machine::queue::QueueMachine;
 use crate::machine::words::{DONE, eop_in, first_asking, len_in, place_before, rs_in};
 use crate::moves::arguments::Descriptor;
-use ring_model::{Completion, ControlStep, FetchedSegment, Note, Owner, TxStep};
+use ring_model::{
+    Completion, ControlStep, FetchedSegment, Note, Owner, TxStep, place_after, places_between,
+};
 use std::alloc::Global;
 use std::marker::Model;
 

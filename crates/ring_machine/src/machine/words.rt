@@ -3,7 +3,7 @@
 ghost use Rattle.std.specs.Prelude.{◌≡◌, ◌<◌, IfSome, length};
 ghost use Rattle.ring_machine.specs.transmit.Words.{first_asking, place_before, word_asks, word_eop, word_len, word_rs};
 
-use crate::machine::places::place_after;
+use ring_model::place_after;
 
 // The second word of a transmit write-back: DD.
 pub(crate) const DONE: u64 = 0x1_0000_0000;

@@ -58,11 +58,11 @@ pub struct Descriptor {
 
 impl Model for Descriptor {
     ghost use Rattle.std.specs.Prelude.{◌≡◌, ℕ, ◌<◌, ◌≤◌, true};
-    ghost use Rattle.ring_model.specs.transmit.Ring.{Posting};
+    ghost use Rattle.ring_model.specs.transmit.Ring.{Posting, new_posting};
 
     ghost Value = { Posting ℕ };
 
-    ghost view = { λ d. record { number = d.number; payload = d.len; eop = d.eop; rs = d.rs; paylen = d.paylen } };
+    ghost view = { λ d. new_posting d.number d.len d.eop d.rs d.paylen };
 
     ghost use Rattle.ring_machine.specs.text.Arguments.{IsDescriptor};
 
@@ -74,11 +74,12 @@ impl Model for Descriptor {
 impl Descriptor {
     ghost use Rattle.ring_machine.specs.text.Arguments.{IsDescriptor};
     ghost use Rattle.ring_model.specs.transmit.Agreement.{tx_word};
+    ghost use Rattle.ring_model.specs.transmit.Ring.{new_posting};
 
     /// These values, if a descriptor may have them.
     pub fn new(number: u16, len: u16, eop: bool, rs: bool, paylen: u16) -> Option<Descriptor>
         ensures lawful { IsSome result ↔ IsDescriptor len eop rs paylen }
-        ensures value { IfSome result (λ d. d ≡ record { number = number; payload = len; eop = eop; rs = rs; paylen = paylen }) }
+        ensures value { IfSome result (λ d. d ≡ new_posting number len eop rs paylen) }
     {
         let bytes = usize::from(len);
         let frame = usize::from(paylen);

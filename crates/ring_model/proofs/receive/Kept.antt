@@ -3,7 +3,8 @@ use Rattle.std.proofs.Common.{◌≡◌, ℕ, ◌≤◌, true, false, map, Some}
 use Rattle.std.specs.Prelude.{slice_get}
 use Rattle.ring_model.specs.shared.Lists.{IsBeginning}
 use Rattle.ring_model.specs.shared.Handshakes.{is_serving}
-use Rattle.ring_model.specs.receive.Ring.{RxLedger, RxRing, ends_segment, is_whole, number_of_segment}
+use Rattle.ring_model.specs.receive.Ring.{RxLedger, RxRing, is_whole}
+use Rattle.ring_model.specs.shared.Segments.{ends_segment, number_of_segment}
 use Rattle.ring_model.specs.receive.Lawful.{IsLawfulRxLedger}
 use Rattle.ring_model.specs.receive.Laws.{rx_over}
 use Rattle.ring_model.proofs.shared.Kept.{IsKept}

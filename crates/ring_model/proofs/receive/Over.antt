@@ -4,7 +4,8 @@ use Rattle.std.proofs.lemmas.Bool.{cases_Bool, both_ways, and_parts, and_from, o
 use Rattle.ring_model.specs.declared.handshake.Handshake.{Handshake}
 use Rattle.ring_model.specs.declared.steps.ControlStep.{ControlStep}
 use Rattle.ring_model.specs.shared.Handshakes.{is_ended, is_open, is_serving, has_ended, may_shake, shaken, enables}
-use Rattle.ring_model.specs.receive.Ring.{RxRing, ends_segment}
+use Rattle.ring_model.specs.receive.Ring.{RxRing}
+use Rattle.ring_model.specs.shared.Segments.{ends_segment}
 use Rattle.ring_model.specs.receive.Steps.{rx_settled}
 use Rattle.ring_model.specs.receive.Laws.{rx_over}
 use Rattle.ring_model.proofs.shared.Stepping.{unended}

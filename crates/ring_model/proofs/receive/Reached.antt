@@ -9,7 +9,8 @@ use Rattle.ring_model.specs.declared.steps.RxStep.TheVariants as rx
 use Rattle.ring_model.specs.shared.Handshakes.{is_live, is_serving}
 use Rattle.ring_model.specs.shared.QueueSteps.{Post, Publish, Look, Fetch, Serve, Head, Give, Shake, Reclaim, ClearHead, ClearTail, Renew}
 use Rattle.ring_model.specs.shared.Queue.{posted_count, served_count, given_count, may}
-use Rattle.ring_model.specs.receive.Ring.{Segment, RxRing, rx_opening, due, is_whole, next_segment}
+use Rattle.ring_model.specs.receive.Ring.{RxRing, rx_opening, due, is_whole, next_segment}
+use Rattle.ring_model.specs.shared.Segments.{Segment}
 use Rattle.ring_model.specs.receive.Steps.{IsRxReachable, rx_after_all, rx_can, rx_changed, rx_settled, took}
 use Rattle.ring_model.specs.receive.Lawful.{IsLawfulRx, IsLawfulRxLedger}
 use Rattle.ring_model.specs.receive.Laws.{IsRxConcluded, RxLater, rx_over}

@@ -12,7 +12,8 @@ use Rattle.ring_model.specs.declared.steps.RxStep.TheVariants as rx
 use Rattle.ring_model.specs.shared.Handshakes.{is_live, is_serving, can_enable, enable, disable, shaken, enables}
 use Rattle.ring_model.specs.shared.QueueSteps.{QueueStep, Post, Publish, Look, Fetch, Serve, Head, Give, Shake, Reclaim, ClearHead, ClearTail, Renew}
 use Rattle.ring_model.specs.shared.Queue.{posted_count, served_count, given_count, may, by}
-use Rattle.ring_model.specs.receive.Ring.{Segment, RxLedger, RxRing, rx_opening, due, ends_segment, is_whole, next_segment, number_of_segment}
+use Rattle.ring_model.specs.receive.Ring.{RxLedger, RxRing, rx_opening, due, is_whole, next_segment}
+use Rattle.ring_model.specs.shared.Segments.{Segment, ends_segment, number_of_segment}
 use Rattle.ring_model.specs.receive.Steps.{rx_can, rx_changed, rx_settled, took}
 use Rattle.ring_model.specs.receive.Lawful.{IsLawfulRxLedger}
 use Rattle.ring_model.specs.receive.Laws.{rx_over}

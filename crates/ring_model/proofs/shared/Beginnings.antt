@@ -4,7 +4,7 @@ use Rattle.std.specs.Prelude.{slice_get, slice_index}
 use Rattle.std.proofs.lemmas.Option.{same_Some, none-some, slice_get-get_or, slice_get_within, slice_get-map, get_or_from_slice_get}
 use Rattle.std.proofs.lemmas.List.{length-map, map-append}
 use Rattle.ring_model.specs.shared.Lists.{IsBeginning}
-use Rattle.ring_model.specs.receive.Ring.{Segment, number_of_segment}
+use Rattle.ring_model.specs.shared.Segments.{Segment, number_of_segment}
 
 module _ {X : Type 0} where
   pub same_head : (x y : X) (xs ys : List X) → x ∷ xs ≡ y ∷ ys → x ≡ y

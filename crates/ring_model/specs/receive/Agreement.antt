@@ -1,7 +1,8 @@
 -- What a receive ring's words and slots have.
 use Rattle.std.specs.Prelude.{ℕ, ◌+◌, ◌*◌, ◌^◌, Bool, Option, Some, None}
 use Rattle.ring_model.specs.shared.Agreement.{Registers, bit, registers_of}
-use Rattle.ring_model.specs.receive.Ring.{Segment, RxRing}
+use Rattle.ring_model.specs.receive.Ring.{RxRing}
+use Rattle.ring_model.specs.shared.Segments.{Segment}
 
 -- the second word of a write-back (82599 datasheet, 7.1.6.2): DD in bit 0, EOP in bit 1, the length in bits 47:32
 abbrev pub rx_word : ℕ → Bool → ℕ

@@ -1,23 +1,8 @@
 -- A receive ring: a queue of buffers' numbers, filled to segments that the driver takes.
 use Rattle.std.specs.Prelude.{ℕ, Bool, true, false, Option, slice_get, slice_index}
-use Rattle.ring_model.specs.shared.Frames.{Bytes, Piece, ends_frame}
+use Rattle.ring_model.specs.shared.Frames.{ends_frame}
 use Rattle.ring_model.specs.shared.Queue.{Ledger, Queue, opening, given_count, served_count}
-
--- What one descriptor carries: the buffer's number, its payload, and whether it ends its frame
-pub record Segment (Payload : Type 0) : Type 0 where
-  pub number : ℕ
-  pub payload : Payload
-  pub eop : Bool
-
--- what a segment carries, whatever its buffer
-abbrev pub piece_of : Segment Bytes → Piece
-piece_of s = record { bytes = s.payload; eop = s.eop }
-
-abbrev pub ends_segment : {Payload : Type 0} → Segment Payload → Bool
-ends_segment s = s.eop
-
-abbrev pub number_of_segment : {Payload : Type 0} → Segment Payload → ℕ
-number_of_segment s = s.number
+use Rattle.ring_model.specs.shared.Segments.{Segment, ends_segment}
 
 -- The numbers of posted buffers, the segments that the controller stored, and those that the driver took
 abbrev pub RxLedger : Type 0 → Type 0

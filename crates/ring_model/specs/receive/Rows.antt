@@ -6,7 +6,8 @@ use Rattle.ring_model.specs.declared.steps.RxStep.TheVariants.{Post, Publish, Lo
 use Rattle.ring_model.specs.declared.notes.Note.{Note}
 use Rattle.ring_model.specs.declared.notes.Note.TheVariants as note
 use Rattle.ring_model.specs.shared.Told.{place, tail, head, buffer, control}
-use Rattle.ring_model.specs.receive.Ring.{RxRing, Segment, rx_opening}
+use Rattle.ring_model.specs.receive.Ring.{RxRing, rx_opening}
+use Rattle.ring_model.specs.shared.Segments.{Segment}
 use Rattle.ring_model.specs.receive.Steps.{rx_after_all, rx_happened, rx_notes}
 
 abbrev on_8 : RxRing ℕ

@@ -9,7 +9,8 @@ use Rattle.ring_model.specs.shared.Handshakes.{is_live, is_serving, control_valu
 use Rattle.ring_model.specs.shared.Queue.{posted_count, served_count, given_count, returned_count, next_head, is_settled, may, by}
 use Rattle.ring_model.specs.shared.QueueSteps as queue
 use Rattle.ring_model.specs.shared.Schedules.{after_all, happened, next, told_by, IsReached}
-use Rattle.ring_model.specs.receive.Ring.{Segment, RxRing, rx_opening, due, ends_segment, is_whole, next_segment}
+use Rattle.ring_model.specs.receive.Ring.{RxRing, rx_opening, due, is_whole, next_segment}
+use Rattle.ring_model.specs.shared.Segments.{Segment, ends_segment}
 
 module _ {Payload : Type 0} where
   -- a load shows the next segment, if it is stored yet

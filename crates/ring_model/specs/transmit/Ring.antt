@@ -3,24 +3,26 @@ use Rattle.std.specs.Prelude.{ℕ, Bool, true, false, List, Option, slice_get}
 use Rattle.ring_model.specs.declared.states.Completion.{Completion}
 use Rattle.ring_model.specs.shared.Frames.{Bytes, Piece, ends_frame}
 use Rattle.ring_model.specs.shared.Queue.{Ledger, Queue, opening, given_count, served_count}
+use Rattle.ring_model.specs.shared.Segments.{Segment, piece_of, ends_segment, number_of_segment}
 
--- What the driver posts: the buffer's number, its payload, whether it ends its frame, whether a report is asked for, and the length of the whole frame
+-- What the driver posts: a segment, whether a report is asked for, and the length of the whole frame
 pub record Posting (Payload : Type 0) : Type 0 where
-  pub number : ℕ
-  pub payload : Payload
-  pub eop : Bool
+  pub segment : Segment Payload
+  pub open segment use *
   pub rs : Bool
   pub paylen : ℕ
 
+abbrev pub new_posting : {Payload : Type 0} → ℕ → Payload → Bool → Bool → ℕ → Posting Payload
+new_posting number payload eop rs paylen = record { segment = record { number = number; payload = payload; eop = eop }; rs = rs; paylen = paylen }
+
 abbrev pub ends_posting : {Payload : Type 0} → Posting Payload → Bool
-ends_posting p = p.eop
+ends_posting p = ends_segment p.segment
 
 abbrev pub number_of_posting : {Payload : Type 0} → Posting Payload → ℕ
-number_of_posting p = p.number
+number_of_posting p = number_of_segment p.segment
 
--- what a posting carries, whatever its buffer
 abbrev pub carried : Posting Bytes → Piece
-carried p = record { bytes = p.payload; eop = p.eop }
+carried p = piece_of p.segment
 
 -- What the driver posted, what of it the controller sent, and the numbers of the buffers that the driver took back
 abbrev pub TxLedger : Type 0 → Type 0

@@ -7,7 +7,7 @@ use Rattle.ring_model.specs.declared.steps.TxStep.TheVariants.{Post, Publish, Lo
 use Rattle.ring_model.specs.declared.notes.Note.{Note}
 use Rattle.ring_model.specs.declared.notes.Note.TheVariants as note
 use Rattle.ring_model.specs.shared.Told.{place, tail, head, buffer, control}
-use Rattle.ring_model.specs.transmit.Ring.{Posting, TxRing, tx_opening}
+use Rattle.ring_model.specs.transmit.Ring.{Posting, new_posting, TxRing, tx_opening}
 use Rattle.ring_model.specs.transmit.Steps.{tx_after_all, tx_happened, tx_notes}
 
 abbrev by_status : TxRing ℕ
@@ -21,11 +21,11 @@ off = tx_opening 8 (record { enabled = false; completion = by.Status })
 
 -- a frame of 60 bytes in one segment
 abbrev frame : ℕ → Bool → Posting ℕ
-frame b rs = record { number = b; payload = 60; eop = true; rs = rs; paylen = 60 }
+frame b rs = new_posting b 60 true rs 60
 
 -- the first 60 bytes of a frame of 120
 abbrev half : Posting ℕ
-half = record { number = 3; payload = 60; eop = false; rs = false; paylen = 120 }
+half = new_posting 3 60 false false 120
 
 abbrev ready : ℕ → Option Note
 ready k = Some (note.Ready k)

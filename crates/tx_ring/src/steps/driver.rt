@@ -6,7 +6,7 @@ ghost use Rattle.ring_model.specs.shared.Frames.{unfinished};
 ghost use Rattle.ring_model.specs.shared.Handshakes.{is_open, is_live, is_new, is_on, is_stopped, is_cleared, is_tailed};
 ghost use Rattle.ring_model.specs.transmit.Frames.{MayFollow};
 ghost use Rattle.ring_model.specs.transmit.Agreement.{tx_word};
-ghost use Rattle.ring_model.specs.transmit.Ring.{are_whole, carried};
+ghost use Rattle.ring_model.specs.transmit.Ring.{are_whole, carried, new_posting};
 ghost use Rattle.ring_model.specs.transmit.Steps.{by_head};
 ghost use Rattle.shared_ring.specs.Slots.{empty_slots};
 ghost use Rattle.shared_ring.specs.Words.{control_word};
@@ -62,7 +62,7 @@ impl DriverSeat {
         requires open { is_open (driver_state self.old) ≡ true }
         requires room { length (posted self.old) + 1 < returned self.old + driver_size self.old }
         requires real { buf ≡ buffer buf.number buf.bytes }
-        requires follows { MayFollow (driver_size self.old) (unfinished carried (posted self.old)) (record { number = buf.number; payload = buf.bytes; eop = eop; rs = rs; paylen = paylen }) }
+        requires follows { MayFollow (driver_size self.old) (unfinished carried (posted self.old)) (new_posting buf.number buf.bytes eop rs paylen) }
         ensures { self.new ≡ appended self.old (Posted place (tx_word (length buf.bytes) eop rs paylen) buf) }
     {
         let place = place as usize;

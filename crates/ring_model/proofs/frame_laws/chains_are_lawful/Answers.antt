@@ -1,5 +1,5 @@
 -- What follows lawfully is joined to lawful frames.
-use Rattle.ring_model.specs.receive.Ring.{piece_of}
+use Rattle.ring_model.specs.shared.Segments.{piece_of}
 use Rattle.ring_model.proofs.shared.FrameLaws.{AllFollow-lengths}
 use Rattle.ring_model.proofs.transmit.Postings.{AllMayFollow-lengths, chains-paylen}
 use Rattle.ring_model.proofs.frame_laws.chains_are_lawful.Goals as goal

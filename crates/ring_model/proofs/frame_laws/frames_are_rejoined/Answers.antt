@@ -1,5 +1,5 @@
 -- Each clause is a law of frames.
-use Rattle.ring_model.specs.receive.Ring.{piece_of}
+use Rattle.ring_model.specs.shared.Segments.{piece_of}
 use Rattle.ring_model.specs.transmit.Ring.{carried}
 use Rattle.ring_model.proofs.shared.FrameLaws.{frames-beginning}
 use Rattle.ring_model.proofs.shared.Cuts.{cut_by, join-cut, frames-cut}

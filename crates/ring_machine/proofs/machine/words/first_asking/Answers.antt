@@ -1,7 +1,7 @@
 -- A place that asks for no report is passed over.
 use Rattle.std.proofs.Common.{◌≡◌, ℕ, suc, ◌+◌, ◌-◌, false, List, refl, sym, ap, ◌∙◌, arith}
 use Rattle.std.specs.Prelude.{slice_index}
-use Rattle.ring_machine.specs.shared.Moves.{place_next}
+use Rattle.ring_model.specs.shared.Places.{place_next}
 use Rattle.ring_machine.specs.transmit.Words.{first_asking, word_asks}
 use Rattle.ring_machine.proofs.machine.words.first_asking.Goals as goal
 

@@ -1,6 +1,6 @@
 use Rattle.std.proofs.Common.{arith}
 use Rattle.descriptor.proofs.ReceiveBack.{rx_back-first_refused, rx_back-second_refused, rx_back-accepted}
-use Rattle.descriptor.proofs.rx_back.RxBack.from_words.Goals as goal
+use Rattle.descriptor.proofs.rx_back.RxBackDescriptor.from_words.Goals as goal
 
 pub returns-then-first-ne-FIRST_WORD-clause-refused : goal.returns-then-first-ne-FIRST_WORD-clause-refused
 returns-then-first-ne-FIRST_WORD-clause-refused c =

@@ -1,5 +1,5 @@
 use Rattle.descriptor.proofs.ReceiveRead.{rx_read-accepted}
-use Rattle.descriptor.proofs.rx_read.RxRead.from_words.Goals as goal
+use Rattle.descriptor.proofs.rx_read.RxReadDescriptor.from_words.Goals as goal
 
 pub returns-clause-reads_back : goal.returns-clause-reads_back
 returns-clause-reads_back c =

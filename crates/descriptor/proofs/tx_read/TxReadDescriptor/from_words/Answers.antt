@@ -1,7 +1,7 @@
 use Rattle.std.proofs.Common.{arith}
 use Rattle.descriptor.proofs.TransmitRead.{tx_read-first_refused, tx_read-second_refused, tx_read-kind_refused, tx_read-size_refused, tx_read-accepted}
 use Rattle.descriptor.proofs.Bits.{not-when_false, when_true}
-use Rattle.descriptor.proofs.tx_read.TxRead.from_words.Goals as goal
+use Rattle.descriptor.proofs.tx_read.TxReadDescriptor.from_words.Goals as goal
 
 pub returns-in_default-clause-refused : goal.returns-in_default-clause-refused
 returns-in_default-clause-refused c =
