@@ -8,7 +8,6 @@ use Rattle.ring_model.proofs.shared.Stepping.{returned_served, held_below}
 use mathlib.Core.Option as maybe
 use mathlib.Core.Option.{some, none}
 use lib.ListN.{get_elem?}
-use Rattle.atomic_table.specs.Table.{State, Final, Seen}
 use Rattle.atomic_table.specs.Seated.{TableId}
 use Rattle.buffer_pool.specs.Buffer.{Buffer, buffer}
 use Rattle.ring_model.specs.declared.states.Owner.{Owner}
@@ -24,14 +23,9 @@ use Rattle.ring_model.proofs.receive.Kept.{IsRxKept}
 use Rattle.ring_model.proofs.receive.Reached.{rx_kept, rx_lawful}
 use Rattle.ring_model.proofs.shared.Beginnings.{number_at, next_number}
 use Rattle.ring_model.proofs.shared.Places.{ahead, same_item}
-use Rattle.shared_ring.specs.declared.events.View.TheVariants.{Both}
-use Rattle.shared_ring.specs.Slots.{home_at}
-use Rattle.shared_ring.proofs.Laying.{home-full, slice_get-past, slice_get-last}
-use Rattle.shared_ring.proofs.Allowing.{running}
-use Rattle.shared_ring.proofs.Seating.{both_are}
-use Rattle.rx_ring.specs.Records.{RxView, RxDriven, DriverStep, ControllerStep, driving, controlling}
-use Rattle.rx_ring.specs.Rule.{IsRuled, LiesAs, lies_there}
-use Rattle.rx_ring.specs.Plays.{AreOf}
+use Rattle.rx_ring.specs.Records.{RxDriven, controlling}
+use Rattle.rx_ring.specs.Rule.{lies_there}
+use Rattle.rx_ring.specs.Form.{LeftIn}
 use Rattle.ring_model.specs.declared.states.DriverState.{DriverState}
 use Rattle.ring_model.specs.declared.states.ControllerState.{ControllerState}
 use Rattle.shared_ring.specs.declared.control.Control.{Control}
@@ -39,65 +33,14 @@ use Rattle.shared_ring.proofs.Controlling.{serving_settled}
 use Rattle.rx_ring.specs.Records.{RxControlled}
 use Rattle.rx_ring.specs.Ends.{DriverSide, driver_size, posted, returned, ControllerSide, controller_record}
 use Rattle.rx_ring.specs.Calls.{IsDriverEnd, IsControllerEnd, is_there}
-use Rattle.rx_ring.specs.Meeting.{LeftIn, TakenApart, IsClosed, slot_of, is_kept, kept_at, kept_upto}
-
--- a slot that the controller does not hold has its buffer
-unheld : (held : Bool) (k s : ℕ) (o : Option Buffer) → (held ≡ true → ¬ (k ≡ s)) → (if held && (k == s) then None else o) ≡ o
-unheld true k s o h = unheld_other (k == s) refl
-  where
-    unheld_other : (same : Bool) → (k == s) ≡ same → (if same then None else o) ≡ o
-    unheld_other true e = absurd (h refl (eqb-true k s e))
-    unheld_other false e = refl
-unheld false k s o h = refl
-
-abbrev pub driver_of : TableId → List DriverStep → DriverSide
-driver_of t ds = record { table = t; events = ds }
-
-abbrev pub controller_of : TableId → List ControllerStep → ControllerSide
-controller_of t cs = record { table = t; events = cs }
-
-left-lies : (t u : TableId) (ds : List DriverStep) (cs : List ControllerStep) (slots : List Buffer) (q : RxRing Bytes) (ws : List ℕ) (homes : List (maybe.Option Buffer)) → LiesAs t.slots q ds cs ws homes → 1 < t.slots
-    → ((k : ℕ) (y : Buffer) → get_elem? homes k ≡ some (some y) → get_elem? slots k ≡ some y) → LeftIn (driver_of t ds) (controller_of u cs) slots
-left-lies t u ds cs slots q ws homes l pos back = let n : ℕ = t.slots in let k = rx_kept n q pos l.reachable in let o = k.queue in let m = l.lies in let i = m.items in record {
-  of_one_ring = record { queue = q; reachable = l.reachable; driver = l.driver; controller = l.controller; learnt = l.learnt; lawful = rx_lawful n q k; size_is = o.size_is };
-  buffers = λ j b first past free is. back (j % t.slots) b (home-full homes (j % t.slots) b (i.slots j first past ∙ unheld q.held j (served_count q.queue) _ free ∙ is));
-}
-
--- the last state of a table whose seat has both records
-pub left-in : (t u : TableId) (id : ℕ) (ds : List DriverStep) (cs : List ControllerStep) (words : List ℕ) (slots : List Buffer) → Final (Seen (IsRuled t.slots) id (Both ds cs)) words slots → LeftIn (driver_of t ds) (controller_of u cs) slots
-left-in t u id ds cs words slots f =
-    let s = f.0 in let seen = f.1 in let r = running (LiesAs t.slots) t.slots (t.slots + 4) s id (Both ds cs) seen.0 seen.1 (λ e. cc) in
-    let both = both_are r.ds ds r.cs cs s.views id r.seats seen.1 in let ruled = seen.0 in
-    let l = subst (λ (xs : List DriverStep). LiesAs t.slots r.ring xs cs s.words s.homes) (sym both.0) (subst (λ (ys : List ControllerStep). LiesAs t.slots r.ring r.ds ys s.words s.homes) (sym both.1) r.lies) in
-    left-lies t u ds cs slots r.ring s.words s.homes l ruled.0 f.4
-
--- the same, of a seat whose view is that, and of the rule at an equal key
-pub left-at : (t u : TableId) (id key : ℕ) (v : RxView) (ds : List DriverStep) (cs : List ControllerStep) (words : List ℕ) (slots : List Buffer) (d : DriverSide) (c : ControllerSide) → v ≡ Both ds cs → key ≡ t.slots → driver_of t ds ≡ d → controller_of u cs ≡ c
-    → Final (Seen (IsRuled key) id v) words slots → LeftIn d c slots
-left-at t u id key v ds cs words slots d c e k a b f = subst (λ (x : DriverSide). LeftIn x c slots) a (subst (λ (y : ControllerSide). LeftIn (driver_of t ds) y slots) b
-    (left-in t u id ds cs words slots (subst (λ (w : RxView). Final (Seen (IsRuled t.slots) id w) words slots) e (subst (λ (j : ℕ). Final (Seen (IsRuled j) id v) words slots) k f))))
+use Rattle.shared_ring.specs.Meeting.{TakenApart, slot_of, is_kept, kept_at, kept_upto}
+use Rattle.shared_ring.proofs.Meeting.{kept-length, kept-get}
+use Rattle.rx_ring.specs.Meeting.{IsClosed}
 
 -- A place, counted from the oldest that is out
 around : (n r p : ℕ) → 0 < n → p < n → (r + (p + n - r % n) % n) % n ≡ p
 around n r p pos below = let m : r % n < n = mod-lt r pos in
     add-mod-mod r (p + n - r % n) n ∙ sym (mod-add-mod r n (p + n - r % n)) ∙ ap (λ (j : ℕ). j % n) (let e : r % n + (p + n - r % n) ≡ p + n = omega arith in e) ∙ add-mod_right p n ∙ mod-eq_of_lt below
-
--- reading what a loop put together
-pub kept-length : (f : ℕ → Option Buffer) (k : ℕ) → length (kept_upto f k) ≡ k
-kept-length f zero = refl
-kept-length f (suc k) = let h = kept-length f k in let e = length-append (kept_upto f k) (f k ∷ []) in omega arith
-
-get-front : {X : Type 0} (xs ys : List X) (k : ℕ) → k < length xs → slice_get (xs ++ ys) k ≡ slice_get xs k
-get-front [] ys k h = absurd (omega arith)
-get-front (x ∷ xs) ys zero h = refl
-get-front (x ∷ xs) ys (suc k) h = get-front xs ys k (omega arith)
-
-pub kept-get : (f : ℕ → Option Buffer) (k p : ℕ) → p < k → slice_get (kept_upto f k) p ≡ Some (f p)
-kept-get f zero p h = absurd (omega arith)
-kept-get f (suc k) p h = ⊎_elim
-    (λ lt. get-front (kept_upto f k) (f k ∷ []) p (let e = kept-length f k in omega arith) ∙ kept-get f k p lt)
-    (λ le. let e : p ≡ k = omega arith in ap (slice_get (kept_upto f k ++ f k ∷ [])) (e ∙ sym (kept-length f k)) ∙ slice_get-last (kept_upto f k) (f k) ∙ ap (λ (j : ℕ). Some (f j)) (sym e))
-    (cases_lt p k)
 
 holder-held : (held : Bool) (k s : ℕ) → held ≡ true → k ≡ s → (if held && (k == s) then Controller else Ring) ≡ Controller
 holder-held held k s h e = rw (h, eq-eqb k s e) refl
@@ -106,7 +49,7 @@ ring_not : (o p : Owner) → o ≡ p → p ≢ Ring → ¬ (Some o ≡ Some Ring
 ring_not o p e ne f = ne (sym e ∙ same_Some o Ring f)
 
 -- What a closed ring gives back, by the places of its two ends
-module _ (d : DriverSide) (c : ControllerSide) (slots : List Buffer) (l : LeftIn d c slots) (next out serve : ℕ) (holding : Bool) (big : 1 < driver_size d)
+module _ (d : DriverSide) (c : ControllerSide) (slots : List Buffer) (l : LeftIn (driver_size d) d.events c.events slots) (next out serve : ℕ) (holding : Bool) (big : 1 < driver_size d)
     (next_is : next ≡ returned d % driver_size d) (out_is : out + returned d ≡ length (posted d))
     (held_is : holding ≡ (l.of_one_ring).queue.held) (serve_is : holding ≡ true → serve ≡ served_count (l.of_one_ring).queue.queue % driver_size d) where
   abbrev n : ℕ
@@ -238,7 +181,7 @@ there-some : (o : Option ℕ) (k : ℕ) → o ≡ Some k → is_there (lies_ther
 there-some o k e = ap (λ (x : Option ℕ). is_there (lies_there x None)) e
 
 -- what the controller's end keeps, over the ring
-module _ (d : DriverSide) (c : ControllerSide) (slots : List Buffer) (l : LeftIn d c slots) (big : 1 < driver_size d) (same : c.table ≡ d.table)
+module _ (d : DriverSide) (c : ControllerSide) (slots : List Buffer) (l : LeftIn (driver_size d) d.events c.events slots) (big : 1 < driver_size d) (same : c.table ≡ d.table)
     (serve free place : ℕ) (holding between : Bool) (side : ControllerState) (asked : Control) (finished : Bool) (h : IsControllerEnd c serve free place holding between side asked finished) where
   ours : RxRing Bytes
   ours = (l.of_one_ring).queue

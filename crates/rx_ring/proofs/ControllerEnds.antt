@@ -23,7 +23,7 @@ use Rattle.shared_ring.proofs.Folds.{controlling-snoc}
 use Rattle.rx_ring.specs.declared.events.RxControllerOwn.TheVariants.{WroteBack, SaidQuiet}
 use Rattle.rx_ring.specs.Records.{RxControlled, ControllerStep, control, control_own, segment_of}
 use Rattle.rx_ring.specs.Ends.{ControllerSide, controller_size, controller_record, stored, known_free, number_in, held_number, controller_state, seen, head_stored, is_quiet, is_between, serve_place, answered}
-use Rattle.rx_ring.specs.Steps.{FoundTail, CameOut}
+use Rattle.shared_ring.specs.Steps.{FoundTail, CameOut}
 use Rattle.rx_ring.specs.Calls.{IsServerOf, IsControllerEnd, is_there, FoundFree, Fetched, MayEnable, MayDisable, MayAnswer, AnsweredEnabling, AnsweredDisabling, Answered, segment}
 use Rattle.rx_ring.proofs.Words.{eop_of-rx_word}
 
@@ -139,9 +139,9 @@ module _ (c : ControllerSide) (serve free place : ℕ) (holding between : Bool) 
     look-free = let k = known-is in ap (λ (y : RxControlled). y.known - length y.served) (record-after c new (controller.Looked tail) f.step) ∙ (let e : count_at n (length x.served) tail - length x.served ≡ free' = omega arith in e)
 
   -- A4
-  pub fetch-keeps : (new : ControllerSide) (buf : Buffer) → CameOut c serve buf new → is_serving (controller_state now) ≡ true → 0 < known_free now → IsControllerEnd new serve free place true between side asked finished
-  fetch-keeps new buf f serving some = let i = h.free_is in let s : 0 < known_free c = subst (λ (s : ControllerSide). 0 < known_free s) (sym was) some in
-      end-after c new (controller.Fetched serve f.word buf) serve free place true between side asked finished f.step (record {
+  pub fetch-keeps : (new : ControllerSide) (buf : Buffer) (word : ℕ) → CameOut c serve buf word new → is_serving (controller_state now) ≡ true → 0 < known_free now → IsControllerEnd new serve free place true between side asked finished
+  fetch-keeps new buf word f serving some = let i = h.free_is in let s : 0 < known_free c = subst (λ (s : ControllerSide). 0 < known_free s) (sym was) some in
+      end-after c new (controller.Fetched serve word buf) serve free place true between side asked finished f.step (record {
         lawful = h.lawful;
         serve_is = h.serve_is;
         free_is = h.free_is;
@@ -156,12 +156,12 @@ module _ (c : ControllerSide) (serve free place : ℕ) (holding between : Bool) 
         quiet_is = h.quiet_is;
       })
 
-  pub fetched : (new : ControllerSide) (buf : Buffer) → CameOut c serve buf new → Fetched now buf new
-  fetched new buf f = subst (λ (s : ControllerSide). Fetched s buf new) was (record {
-    word = f.word;
-    step = f.step ∙ ap (λ (p : ℕ). answered c (controller.Fetched p f.word buf)) h.serve_is;
-    empty = f.empty;
-    same = record-after c new (controller.Fetched serve f.word buf) f.step;
+  pub fetched : (new : ControllerSide) (buf : Buffer) (word : ℕ) → CameOut c serve buf word new → Fetched now buf new
+  fetched new buf word f = subst (λ (s : ControllerSide). Fetched s buf new) was (record {
+    word = word;
+    step = f.step ∙ ap (λ (p : ℕ). answered c (controller.Fetched p word buf)) h.serve_is;
+    empty = f.fetched;
+    same = record-after c new (controller.Fetched serve word buf) f.step;
   })
 
   -- A5

@@ -17,7 +17,8 @@ use Rattle.rx_ring.specs.declared.events.RxDriverOwn.TheVariants.{NotDone, Taken
 use Rattle.rx_ring.specs.Records.{RxDriven, DriverStep, drive, segment_of, Knowing, know, unknown}
 use Rattle.rx_ring.specs.Ends.{DriverSide, driver_size, driver_record, posted, taken, reclaimed, returned, driver_state, known_of, fill_place, next_place, appended}
 use Rattle.rx_ring.specs.Meeting.{left_by}
-use Rattle.rx_ring.specs.Steps.{FoundNothing, FoundSegment, CameBack}
+use Rattle.shared_ring.specs.Steps.{CameBack}
+use Rattle.rx_ring.specs.Steps.{FoundNothing, FoundSegment}
 use Rattle.rx_ring.specs.Calls.{IsEndOf, IsDriverEnd, SawNotDone, TookSegment, CameHome, FoundLeft, left_at, told_left, GoneOver, segment}
 use Rattle.rx_ring.proofs.Words.{eop_of-rx_word}
 use Rattle.rx_ring.proofs.DriverEnds.{record-after, known-after, end-after, end-not_done, end-taken, end-reclaimed, end-renewed, end-known}
@@ -79,8 +80,8 @@ module _ (d : DriverSide) (fill next out : ℕ) (state : DriverState) (h : IsDri
     pub back-home : (new : DriverSide) (buf : Buffer) → CameBack d next buf new → CameHome now buf new
     back-home new buf f = subst (λ (s : DriverSide). CameHome s buf new) was (record {
       step = f.step ∙ ap (λ (p : ℕ). appended d (driver.Reclaimed p buf)) h.next_is;
-      number = f.number;
-      real = f.real;
+      number = f.there ∙ ap Some f.is_of.0;
+      real = f.is_of.1;
       same = record-after d new (driver.Reclaimed next buf) f.step;
       known = known-after d new (driver.Reclaimed next buf) f.step;
     })

@@ -1,10 +1,8 @@
 pub mod Words
 pub mod Learning
 pub mod Moving
-pub mod Driving
-pub mod Serving
-pub mod DriverSeats
-pub mod ControllerSeats
+pub mod Lawful
+pub mod Owning
 pub mod Meeting
 pub mod DriverEnds
 pub mod DriverCalls

@@ -1,4 +1,4 @@
--- What the steps of a meeting and of a making ask, over the seats that they are made with.
+-- What two ends that met know of their ledger.
 use Rattle.std.proofs.Common.{◌≡◌, ℕ, ◌+◌, ◌-◌, ◌%◌, ◌<◌, ◌≤◌, Bool, true, false, ◌&&◌, if◌then◌else◌, List, [], length, Option, Some, None, replicate, sym, refl, ap, ◌∙◌, subst, ⊎_elim, arith, mod-lt, ◌++◌, append-nil, length-append}
 use Rattle.std.proofs.lemmas.Bool.{cases_Bool, and_left, and_right, and_parts, true≢false, false≢true}
 use mathlib.Core.Option.{none}
@@ -18,60 +18,11 @@ use Rattle.ring_model.specs.receive.Ring.{rx_opening}
 use Rattle.ring_model.proofs.receive.Kept.{IsRxKept}
 use Rattle.ring_model.proofs.receive.Reached.{rx_kept, rx_lawful}
 use Rattle.ring_model.proofs.shared.Places.{ahead}
-use Rattle.shared_ring.specs.declared.events.View.TheVariants.{Maker, Driver, Controller, Both, Nobody}
-use Rattle.shared_ring.specs.Seats.{driver_half, controller_half, both_halves}
-use Rattle.shared_ring.specs.Lies.{driven, IsControlled}
-use Rattle.shared_ring.specs.Plays.{Deals}
 use Rattle.shared_ring.proofs.Laying.{none-empty}
-use Rattle.shared_ring.proofs.Allowing.{allow_both, splits-halve, splits-lend, joins-unite, joins-return}
-use Rattle.shared_ring.proofs.Gathering.{allow_deal}
-use Rattle.rx_ring.specs.Records.{RxView, RxDriven, RxControlled, DriverStep, ControllerStep, driving, controlling}
-use Rattle.rx_ring.specs.Rule.{IsRuled, IsTableOf, LiesAs, says, lies_there}
-use Rattle.rx_ring.specs.Plays.{Seated, Meets, AreOf}
+use Rattle.rx_ring.specs.Records.{RxDriven, RxControlled, DriverStep, ControllerStep, driving, controlling}
 use Rattle.rx_ring.specs.Ends.{DriverSide, driver_size, posted, taken, driver_state, known_of, is_drained, ControllerSide, stored, controller_state}
 use Rattle.rx_ring.specs.Calls.{IsTold, left_at, told_left}
 use Rattle.rx_ring.specs.Meeting.{ledger_of, stored_now, left_by, Met}
-use Rattle.rx_ring.proofs.Moving.{opening-lies}
-
--- a ring's table has a word
-pub some-words : (ring : TableId) (key : ℕ) → IsTableOf ring key → 0 < ring.words
-some-words ring key t = let w = t.words in omega arith
-
-pub lend-asks : (key id : ℕ) (v : RxView) (cs : List ControllerStep) → v ≡ Controller cs → Splits {S = Buffer} (IsRuled key) id v Nobody v
-lend-asks key id v cs e = subst (λ (w : RxView). Splits {S = Buffer} (IsRuled key) id w Nobody w) (sym e) (splits-lend (LiesAs key) key (key + 4) id cs)
-
-pub unite-asks : (key id other : ℕ) (v w : RxView) (ds : List DriverStep) (cs : List ControllerStep) → v ≡ Driver ds → w ≡ Controller cs → Joins {S = Buffer} (IsRuled key) id v other w (both_halves v w) Nobody
-unite-asks key id other v w ds cs e f =
-    subst (λ (x : RxView). Joins {S = Buffer} (IsRuled key) id x other w (both_halves x w) Nobody) (sym e)
-    (subst (λ (y : RxView). Joins {S = Buffer} (IsRuled key) id (Driver ds) other y (both_halves (Driver ds) y) Nobody) (sym f) (joins-unite (LiesAs key) key (key + 4) id other ds cs))
-
-pub halve-asks : (key id : ℕ) (v : RxView) (ds : List DriverStep) (cs : List ControllerStep) → v ≡ Both ds cs → Splits {S = Buffer} (IsRuled key) id v (driver_half v) (controller_half v)
-halve-asks key id v ds cs e = subst (λ (w : RxView). Splits {S = Buffer} (IsRuled key) id w (driver_half w) (controller_half w)) (sym e) (splits-halve (LiesAs key) key (key + 4) id ds cs)
-
-pub return-asks : (key id other : ℕ) (v w : RxView) (cs : List ControllerStep) → v ≡ Nobody → w ≡ Controller cs → Joins {S = Buffer} (IsRuled key) id v other w w Nobody
-return-asks key id other v w cs e f =
-    subst (λ (x : RxView). Joins {S = Buffer} (IsRuled key) id x other w w Nobody) (sym e)
-    (subst (λ (y : RxView). Joins {S = Buffer} (IsRuled key) id Nobody other y y Nobody) (sym f) (joins-return (LiesAs key) key (key + 4) id other cs))
-
--- both ends meet
-allow-meet : (n id : ℕ) (ds : List DriverStep) (cs : List ControllerStep) (slots : List (ℕ × Buffer)) → Allows (IsRuled n) n id (Both ds cs, slots) 0 (λ x. x) (Meets (step n 0 0 0 none) (Both ds cs, slots))
-allow-meet n id ds cs slots = allow_both (LiesAs n) n (n + 4) id ds cs slots 0 (Meets (step n 0 0 0 none) (Both ds cs, slots))
-    (λ q words homes pos l. let k = rx_kept n q pos l.reachable in let o = k.queue in record {
-      same = refl;
-      of_one_ring = record { queue = q; reachable = l.reachable; driver = l.driver; controller = l.controller; learnt = l.learnt; lawful = rx_lawful n q k; size_is = o.size_is };
-    })
-
-pub meet-asks : (key slots id : ℕ) (me : Seated) (ds : List DriverStep) (cs : List ControllerStep) (carried : List (ℕ × Buffer)) → slots ≡ key → me ≡ (Both ds cs, carried) → Allows (IsRuled key) slots id me 0 (λ x. x) (Meets (step slots 0 0 0 none) me)
-meet-asks key slots id me ds cs carried s e =
-    subst (λ (k : ℕ). Allows (IsRuled key) k id me 0 (λ x. x) (Meets (step k 0 0 0 none) me)) (sym s)
-    (subst (λ (m : Seated). Allows (IsRuled key) key id m 0 (λ x. x) (Meets (step key 0 0 0 none) m)) (sym e) (allow-meet key id ds cs carried))
-
-pub deal-asks : (n key slots id : ℕ) (me : Seated) → 1 < n → key ≡ n → slots ≡ n → me ≡ (Maker, []) → Allows (IsRuled key) slots id me (n + 2) (λ x. x) (Deals (step slots (n + 2) 0 0 none) me)
-deal-asks n key slots id me big k s e =
-    subst (λ (x : ℕ). Allows (IsRuled x) slots id me (n + 2) (λ x. x) (Deals (step slots (n + 2) 0 0 none) me)) (sym k)
-    (subst (λ (x : ℕ). Allows (IsRuled n) x id me (n + 2) (λ x. x) (Deals (step x (n + 2) 0 0 none) me)) (sym s)
-    (subst (λ (m : Seated). Allows (IsRuled n) n id m (n + 2) (λ x. x) (Deals (step n (n + 2) 0 0 none) m)) (sym e)
-    (allow_deal (LiesAs n) n (n + 4) id (n + 2) (rx_opening n false) big (λ words homes w c. opening-lies n words homes big w c))))
 
 ended_idle : (s : ControllerState) → is_ended s ≡ true → is_serving s ≡ false
 ended_idle Ended e = refl
@@ -82,7 +33,6 @@ beginning-whole : {X : Type 0} (xs ys : List X) → IsBeginning xs ys → length
 beginning-whole xs ys b e = let len = length-append xs b.0 in let l : length (xs ++ b.0) ≡ length ys = ap length b.1 in
     sym (append-nil xs) ∙ ap (λ zs. xs ++ zs) (sym (none-empty b.0 (omega arith))) ∙ b.1
 
--- What two ends that met know of their ledger
 module _ (d : DriverSide) (c : ControllerSide) (m : Met d c) (same : c.table ≡ d.table) (big : 1 < driver_size d) where
   state-is : driver_state d ≡ m.queue.handshake.driver
   state-is = ap (λ (x : RxDriven). x.state) m.driver

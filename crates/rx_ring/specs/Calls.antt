@@ -21,6 +21,7 @@ use Rattle.rx_ring.specs.declared.driver.Poll.{Poll}
 use Rattle.rx_ring.specs.declared.driver.Poll.TheVariants as poll
 use Rattle.rx_ring.specs.Records.{RxDriven, RxControlled, Knowing, unknown, segment_of}
 use Rattle.rx_ring.specs.Ends.{DriverSide, driver_size, driver_record, posted, taken, reclaimed, returned, driver_state, known_of, saw_quiet, is_drained, next_place, appended, ControllerSide, controller_size, controller_record, stored, held_number, serve_place, answered, seen, head_stored, controller_state, is_between, known_free}
+pub use Rattle.shared_ring.specs.Meeting.{IsTold}
 use Rattle.rx_ring.specs.Meeting.{left_by}
 
 abbrev pub segment : Buffer → Bool → Segment Bytes
@@ -191,8 +192,3 @@ pub record IsServerOf (n : ℕ) (x : RxControlled) (serve free place : ℕ) (hol
 
 abbrev pub IsControllerEnd : ControllerSide → ℕ → ℕ → ℕ → Bool → Bool → ControllerState → Control → Bool → Type 0
 IsControllerEnd c serve free place holding between side asked finished = IsServerOf (controller_size c) (controller_record c) serve free place holding between side asked finished
-
--- where it was told how many are left, as many are stored as are taken and left
-abbrev pub IsTold : Option ℕ → ℕ → ℕ → Type 0
-IsTold None taken stored = Unit {0}
-IsTold (Some left) taken stored = stored ≡ taken + left

@@ -38,15 +38,3 @@ pub record LiesAs (n : ℕ) (q : RxRing Bytes) (ds : List DriverStep) (cs : List
   pub lies : LiesIn {Given = Segment Bytes} says lies_there n (n + 4) q.queue q.quiet words homes
   pub follow : AllFollow piece_of n q.ledger.served
   pub learnt : Learnt n q (knowing ds)
-
-abbrev pub Table : Type 0
-Table = State Buffer RxView
-
-abbrev pub IsRuled : ℕ → Table → Type 0
-IsRuled n s = IsRuledBy (LiesAs n) n (n + 4) s
-
--- a ring's table: n slots, n + 4 words, and the rule at n
-pub record IsTableOf (table : TableId) (n : ℕ) : Type 0 where
-  pub slots : table.slots ≡ n
-  pub words : table.words ≡ n + 4
-  pub length_is : IsRingLength n

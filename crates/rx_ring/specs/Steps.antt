@@ -5,10 +5,8 @@ use Rattle.ring_model.specs.receive.Agreement.{rx_word}
 use Rattle.ring_model.specs.shared.Segments.{piece_of}
 use Rattle.ring_model.specs.shared.Frames.{Follows, unfinished}
 use Rattle.shared_ring.specs.declared.events.DriverEvent.TheVariants as driver
-use Rattle.shared_ring.specs.declared.events.ControllerEvent.TheVariants as controller
-use Rattle.rx_ring.specs.declared.events.RxDriverOwn.TheVariants.{NotDone, Taken, LoadedQuiet}
-use Rattle.rx_ring.specs.Ends.{DriverSide, driver_size, posted, taken, returned, appended, ControllerSide, answered, controller_size, controller_record}
-use Rattle.shared_ring.specs.Records.{count_at}
+use Rattle.rx_ring.specs.declared.events.RxDriverOwn.TheVariants.{NotDone, Taken}
+use Rattle.rx_ring.specs.Ends.{DriverSide, driver_size, posted, taken, appended}
 
 -- A6: the descriptor had no DD
 pub record FoundNothing (old : DriverSide) (place : ℕ) (new : DriverSide) : Type 0 where
@@ -26,21 +24,3 @@ pub record FoundSegment (old : DriverSide) (place : ℕ) (buf : Buffer) (eop : B
 abbrev pub Found : DriverSide → ℕ → Option (Buffer × Bool) → DriverSide → Type 0
 Found old place None new = FoundNothing old place new
 Found old place (Some x) new = FoundSegment old place x.0 x.1 new
-
--- C6
-pub record CameBack (old : DriverSide) (place : ℕ) (buf : Buffer) (new : DriverSide) : Type 0 where
-  pub step : new ≡ appended old (driver.Reclaimed place buf)
-  pub number : slice_get (posted old) (returned old) ≡ Some buf.number
-  pub real : buf ≡ buffer buf.number buf.bytes
-
--- A3
-pub record FoundTail (old : ControllerSide) (tail : ℕ) (new : ControllerSide) : Type 0 where
-  pub step : new ≡ answered old (controller.Looked tail)
-  pub below : tail < controller_size old
-  pub grows : (controller_record old).known ≤ count_at (controller_size old) (length (controller_record old).served) tail
-
--- A4
-pub record CameOut (old : ControllerSide) (place : ℕ) (buf : Buffer) (new : ControllerSide) : Type 0 where
-  pub word : ℕ
-  pub step : new ≡ answered old (controller.Fetched place word buf)
-  pub empty : buf ≡ buffer buf.number []

@@ -11,9 +11,13 @@ ghost use Rattle.shared_ring.specs.Words.{control_word};
 ghost use Rattle.shared_ring.specs.declared.events.ControllerEvent.TheVariants.{StoredHead, LoadedRequest, Own};
 ghost use Rattle.rx_ring.specs.declared.events.RxControllerOwn.TheVariants.{WroteBack, SaidQuiet};
 ghost use Rattle.rx_ring.specs.Ends.{controller_size, controller_record, stored, known_free, held_number, controller_state, is_quiet, is_between, serve_place, answered};
+ghost use Rattle.shared_ring.specs.Ends.{controller_of};
+ghost use Rattle.rx_ring.specs.Form.{rx};
 ghost use Rattle.rx_ring.specs.Calls.{IsFreshController, FoundFree, Fetched, MayAnswer, IsSettled, Answered, segment};
 
-use crate::steps::{ControllerSeat, RxRing};
+use crate::direction::RxControllerSeat;
+use crate::ring::RxRing;
+use crate::steps;
 use buffer_pool::Buf;
 use ring_model::{ControllerState, place_after, places_between};
 use shared_ring::Control;
@@ -25,7 +29,7 @@ use std::marker::Model;
 /// `can_answer` and `free`.
 #[derive(Drop)]
 pub struct RxControllerEnd {
-    pub(crate) seat: ControllerSeat,
+    pub(crate) seat: RxControllerSeat,
     pub(crate) serve: u16,
     free: u16,
     head: u16,
@@ -37,20 +41,22 @@ pub struct RxControllerEnd {
 }
 
 impl Model for RxControllerEnd {
+    ghost use Rattle.shared_ring.specs.Ends.{controller_of};
     ghost use Rattle.rx_ring.specs.Ends.{ControllerSide};
+    ghost use Rattle.rx_ring.specs.Form.{rx};
     ghost use Rattle.rx_ring.specs.Calls.{IsControllerEnd};
 
     ghost Value = { ControllerSide };
 
-    ghost view = { λ e. e.seat };
+    ghost view = { λ e. controller_of rx e.seat };
 
-    ghost invariant = { λ e. IsControllerEnd e.seat e.serve e.free e.head e.held e.whole e.state e.seen e.finished };
+    ghost invariant = { λ e. IsControllerEnd (controller_of rx e.seat) e.serve e.free e.head e.held e.whole e.state e.seen e.finished };
 }
 
 impl RxControllerEnd {
-    pub(crate) fn new(seat: ControllerSeat) -> RxControllerEnd
-        requires { IsFreshController seat }
-        ensures { result ≡ seat }
+    pub(crate) fn new(seat: RxControllerSeat) -> RxControllerEnd
+        requires { IsFreshController (controller_of rx seat) }
+        ensures { result ≡ controller_of rx seat }
     {
         let _size = seat.size();
         RxControllerEnd {
@@ -145,7 +151,7 @@ impl RxControllerEnd {
         ensures step { FoundFree self.old result self.new }
         ensures free { known_free self.new ≡ result }
     {
-        let tail = self.seat.look(ring);
+        let tail = self.seat.look(&ring.ring);
         self.free = places_between(self.serve, tail, self.seat.size());
         self.free as u32
     }
@@ -160,7 +166,7 @@ impl RxControllerEnd {
         requires quiet { is_quiet self.old ≡ false }
         ensures { Fetched self.old result self.new }
     {
-        let buf = self.seat.fetch(ring, self.serve);
+        let (buf, _) = self.seat.fetch(&ring.ring, self.serve);
         self.held = true;
         buf
     }
@@ -176,7 +182,7 @@ impl RxControllerEnd {
         ensures step { self.new ≡ answered self.old (Own (WroteBack (serve_place self.old) (rx_word (length buf.bytes) eop) buf)) }
         ensures record { controller_record self.new ≡ record (controller_record self.old) { served = stored self.old ++ segment buf eop ∷ []; held = None } }
     {
-        self.seat.write_back(ring, self.serve, buf, eop);
+        steps::write_back(&mut self.seat, &ring.ring, self.serve, buf, eop);
         self.serve = place_after(self.serve, self.seat.size());
         self.free -= 1;
         self.held = false;
@@ -192,7 +198,7 @@ impl RxControllerEnd {
         ensures step { self.new ≡ answered self.old (StoredHead (serve_place self.old)) }
         ensures record { controller_record self.new ≡ record (controller_record self.old) { head = serve_place self.old } }
     {
-        self.seat.set_head(ring, self.serve);
+        steps::set_head(&mut self.seat, &ring.ring, self.serve);
         self.head = self.serve;
     }
 
@@ -203,7 +209,7 @@ impl RxControllerEnd {
         ensures step { self.new ≡ answered self.old (LoadedRequest (control_word result)) }
         ensures record { controller_record self.new ≡ record (controller_record self.old) { seen = control_word result } }
     {
-        self.seen = self.seat.load_request(ring);
+        self.seen = self.seat.load_request(&ring.ring);
         self.seen
     }
 
@@ -216,11 +222,11 @@ impl RxControllerEnd {
         ensures { Answered self.old self.new }
     {
         if self.state.is_serving() {
-            self.seat.disable(ring);
+            self.seat.disable(&ring.ring);
             self.state = ControllerState::Ended;
             self.seen = Control::Disabled;
         } else {
-            self.seat.enable(ring);
+            self.seat.enable(&ring.ring);
             self.serve = 0;
             self.free = 0;
             self.head = 0;
@@ -241,7 +247,7 @@ impl RxControllerEnd {
         ensures step { self.new ≡ answered self.old (Own SaidQuiet) }
         ensures record { controller_record self.new ≡ record (controller_record self.old) { barred = true } }
     {
-        self.seat.say_quiet(ring);
+        steps::say_quiet(&mut self.seat, &ring.ring);
         self.finished = true;
     }
 }

@@ -10,9 +10,13 @@ ghost use Rattle.shared_ring.specs.Words.{control_word};
 ghost use Rattle.shared_ring.specs.declared.events.DriverEvent.TheVariants.{Posted, Published, AskedEnable, LoadedControl, AskedDisable, LoadedHead, ClearedHead, ClearedTail, Own};
 ghost use Rattle.rx_ring.specs.declared.events.RxDriverOwn.TheVariants.{LoadedQuiet, ClearedQuiet};
 ghost use Rattle.rx_ring.specs.Ends.{driver_size, driver_record, posted, taken, returned, driver_state, known_of, saw_quiet, fill_place, appended};
+ghost use Rattle.shared_ring.specs.Ends.{driver_of};
+ghost use Rattle.rx_ring.specs.Form.{rx};
 ghost use Rattle.rx_ring.specs.Calls.{IsFreshDriver, Polled, Reclaimed, FoundLeft, GoneOver};
 
-use crate::steps::{DriverSeat, RxRing};
+use crate::direction::RxDriverSeat;
+use crate::ring::RxRing;
+use crate::steps;
 use buffer_pool::Buf;
 use ring_model::{DriverState, place_after, places_between};
 use shared_ring::Control;
@@ -36,7 +40,7 @@ pub enum Poll {
 /// Whether a call's condition on the state holds is told by `is_new`, `is_open`, `is_live`, `is_on` and `is_stopped`.
 #[derive(Drop)]
 pub struct RxDriverEnd {
-    pub(crate) seat: DriverSeat,
+    pub(crate) seat: RxDriverSeat,
     fill: u16,
     pub(crate) next: u16,
     pub(crate) out: u16,
@@ -44,20 +48,22 @@ pub struct RxDriverEnd {
 }
 
 impl Model for RxDriverEnd {
+    ghost use Rattle.shared_ring.specs.Ends.{driver_of};
     ghost use Rattle.rx_ring.specs.Ends.{DriverSide};
+    ghost use Rattle.rx_ring.specs.Form.{rx};
     ghost use Rattle.rx_ring.specs.Calls.{IsDriverEnd};
 
     ghost Value = { DriverSide };
 
-    ghost view = { λ e. e.seat };
+    ghost view = { λ e. driver_of rx e.seat };
 
-    ghost invariant = { λ e. IsDriverEnd e.seat e.fill e.next e.out e.state };
+    ghost invariant = { λ e. IsDriverEnd (driver_of rx e.seat) e.fill e.next e.out e.state };
 }
 
 impl RxDriverEnd {
-    pub(crate) fn new(seat: DriverSeat) -> RxDriverEnd
-        requires { IsFreshDriver seat }
-        ensures { result ≡ seat }
+    pub(crate) fn new(seat: RxDriverSeat) -> RxDriverEnd
+        requires { IsFreshDriver (driver_of rx seat) }
+        ensures { result ≡ driver_of rx seat }
     {
         let _size = seat.size();
         RxDriverEnd {
@@ -139,7 +145,7 @@ impl RxDriverEnd {
         ensures record { driver_record self.new ≡ record (driver_record self.old) { posted = posted self.old ++ buf.number ∷ [] } }
         ensures known { known_of self.new ≡ known_of self.old }
     {
-        self.seat.post(ring, self.fill, buf);
+        self.seat.post(&ring.ring, self.fill, 0, buf);
         self.fill = place_after(self.fill, self.seat.size());
         self.out += 1;
     }
@@ -153,7 +159,7 @@ impl RxDriverEnd {
         ensures record { driver_record self.new ≡ record (driver_record self.old) { published = length (posted self.old) } }
         ensures known { known_of self.new ≡ known_of self.old }
     {
-        self.seat.publish(ring, self.fill);
+        self.seat.publish(&ring.ring, self.fill);
     }
 
     /// Loads the next descriptor, and takes its buffer where DD is set. A chain of segments that ends with EOP is a
@@ -170,7 +176,7 @@ impl RxDriverEnd {
         if self.out == 0 {
             return Poll::Empty;
         }
-        match self.seat.take(ring, self.next) {
+        match steps::take(&mut self.seat, &ring.ring, self.next) {
             None => Poll::NotDone,
             Some((buf, eop)) => {
                 self.next = place_after(self.next, self.seat.size());
@@ -189,7 +195,7 @@ impl RxDriverEnd {
         ensures record { driver_record self.new ≡ record (driver_record self.old) { state = state.Asked } }
         ensures known { known_of self.new ≡ known_of self.old }
     {
-        self.seat.ask_enable(ring);
+        self.seat.ask_enable(&ring.ring);
         self.state = DriverState::Asked;
     }
 
@@ -201,7 +207,7 @@ impl RxDriverEnd {
         ensures record { driver_record self.new ≡ record (driver_record self.old) { state = learned (driver_state self.old) (control_word result) } }
         ensures known { known_of self.new ≡ known_of self.old }
     {
-        let control = self.seat.load_control(ring);
+        let control = self.seat.load_control(&ring.ring);
         self.state = self.state.learned(control.word());
         control
     }
@@ -215,7 +221,7 @@ impl RxDriverEnd {
         ensures record { driver_record self.new ≡ record (driver_record self.old) { state = state.Stopping } }
         ensures known { known_of self.new ≡ known_of self.old }
     {
-        self.seat.ask_disable(ring);
+        self.seat.ask_disable(&ring.ring);
         self.state = DriverState::Stopping;
     }
 
@@ -228,7 +234,7 @@ impl RxDriverEnd {
         ensures record { driver_record self.new ≡ driver_record self.old }
         ensures seen { result ≡ true → saw_quiet self.new ≡ true }
     {
-        self.seat.load_quiet(ring)
+        steps::load_quiet(&mut self.seat, &ring.ring)
     }
 
     /// Loads the head, and answers how many segments were stored and not taken when the disabling was answered. It
@@ -240,7 +246,7 @@ impl RxDriverEnd {
         requires whole { returned self.old ≡ length (taken self.old) }
         ensures { FoundLeft self.old result self.new }
     {
-        let head = self.seat.load_head(ring);
+        let head = self.seat.load_head(&ring.ring);
         places_between(self.next, head, self.seat.size()) as u32
     }
 
@@ -256,7 +262,7 @@ impl RxDriverEnd {
         if self.out == 0 {
             return None;
         }
-        let buf = self.seat.reclaim(ring, self.next);
+        let buf = self.seat.reclaim(&ring.ring, self.next);
         self.next = place_after(self.next, self.seat.size());
         self.out -= 1;
         Some(buf)
@@ -270,9 +276,9 @@ impl RxDriverEnd {
         requires back { returned self.old ≡ length (posted self.old) }
         ensures { GoneOver self.old self.new }
     {
-        self.seat.clear_head(ring);
-        self.seat.clear_tail(ring);
-        self.seat.clear_quiet(ring, self.fill);
+        self.seat.clear_head(&ring.ring);
+        self.seat.clear_tail(&ring.ring);
+        steps::clear_quiet(&mut self.seat, &ring.ring, self.fill);
         self.fill = 0;
         self.next = 0;
         self.state = DriverState::New;

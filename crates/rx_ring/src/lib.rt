@@ -14,14 +14,15 @@
 #![tactic(auto)]
 
 mod controller;
+mod direction;
 mod driver;
 mod events;
 mod ring;
 mod steps;
 
 pub use controller::RxControllerEnd;
+pub use direction::RxRule;
 pub use driver::{Poll, RxDriverEnd};
 pub use events::{RxControllerEvent, RxControllerOwn, RxDriverEvent, RxDriverOwn};
-pub use ring::{close, meet_rx};
+pub use ring::{RxRing, close, meet_rx};
 pub use shared_ring::{Control, ControllerEvent, DriverEvent, RingError, View};
-pub use steps::{RxRing, RxRule};

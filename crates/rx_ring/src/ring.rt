@@ -9,11 +9,28 @@ ghost use Rattle.rx_ring.specs.Meeting.{MadeSeats, ledger_of, stored_now, Met, I
 
 use crate::controller::RxControllerEnd;
 use crate::driver::RxDriverEnd;
-use crate::steps::{self, RxRing};
+use crate::direction::RxShared;
 use buffer_pool::Buf;
 use limits::is_ring_length;
+use ring_model::Completion;
 use shared_ring::RingError;
 use std::alloc::Global;
+use std::marker::Model;
+
+/// A receive ring. Its two ends are made with it, and each call on an end takes the ring that the end was made with.
+/// Contracts see it as the identity of its table, whose `slots` are the ring's length.
+#[derive(Drop)]
+pub struct RxRing {
+    pub(crate) ring: RxShared,
+}
+
+impl Model for RxRing {
+    ghost use Rattle.atomic_table.specs.Seated.{TableId};
+
+    ghost Value = { TableId };
+
+    ghost view = { λ r. r.ring };
+}
 
 impl RxRing {
     /// A ring of `n` descriptors, disabled, with nothing posted. It answers `RingLength` where `n` is no power of two
@@ -25,11 +42,12 @@ impl RxRing {
         if !is_ring_length(n as usize) {
             return Err(RingError::RingLength);
         }
-        let Ok((ring, driver, controller)) = RxRing::deal(alloc, n as u16) else {
+        let Ok((ring, driver, controller)) = RxShared::deal(alloc, n as u16, Completion::Status)
+        else {
             return Err(RingError::Memory);
         };
         Ok((
-            ring,
+            RxRing { ring },
             RxDriverEnd::new(driver),
             RxControllerEnd::new(controller),
         ))
@@ -54,7 +72,8 @@ pub fn meet_rx(ring: &RxRing, driver: &mut RxDriverEnd, controller: &mut RxContr
     ensures drained { is_drained driver.old ≡ true → taken driver.old ≡ stored_now driver.old controller.old }
 {
     let _size = driver.size();
-    steps::meet(ring, &mut driver.seat, &mut controller.seat);
+    ring.ring
+        .meet(&mut driver.seat, &mut controller.seat);
 }
 
 /// Closes a ring, wherever its two ends stand: one entry a place, with the buffer that lay there where one did, be it
@@ -78,5 +97,6 @@ pub fn close(ring: RxRing, driver: RxDriverEnd, controller: RxControllerEnd) -> 
         held,
         ..
     } = controller;
-    steps::take_apart(ring, seat, served, next, out, serve, held)
+    ring.ring
+        .take_apart(seat, served, next, out, serve, held)
 }

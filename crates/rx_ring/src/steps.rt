@@ -1,172 +1,189 @@
-//! Every access to a ring's table. Its fields are named nowhere else, and each function below makes one kind of step,
-//! by which its end's record grows: so a step that no record tells of can't be made.
+//! The steps of the receive ring's own, each by the event that its end's record grows by. All others are those that
+//! both directions share, and all stand on the seats of `shared_ring`, whose fields nothing here can name.
+ghost use Rattle.std.specs.Prelude.{◌≡◌, ◌+◌, ◌<◌, true, false, length, None, Some};
+ghost use Rattle.buffer_pool.specs.Buffer.{buffer};
+ghost use Rattle.ring_model.specs.receive.Agreement.{rx_word};
+ghost use Rattle.ring_model.specs.shared.Segments.{piece_of};
+ghost use Rattle.ring_model.specs.shared.Agreement.{bit};
+ghost use Rattle.ring_model.specs.shared.Frames.{Follows, unfinished};
+ghost use Rattle.ring_model.specs.shared.Handshakes.{is_live, is_serving, is_tailed};
+ghost use Rattle.shared_ring.specs.declared.events.DriverEvent.TheVariants as driver;
+ghost use Rattle.shared_ring.specs.declared.events.ControllerEvent.TheVariants as controller;
+ghost use Rattle.shared_ring.specs.Ends.{driver_of, controller_of};
+ghost use Rattle.rx_ring.specs.declared.events.RxDriverOwn.TheVariants.{LoadedQuiet, ClearedQuiet};
+ghost use Rattle.rx_ring.specs.declared.events.RxControllerOwn.TheVariants.{WroteBack, SaidQuiet};
+ghost use Rattle.rx_ring.specs.Ends.{controller_size, posted, returned, driver_state, fill_place, next_place, appended, stored, held_number, controller_state, is_between, serve_place, answered};
+ghost use Rattle.rx_ring.specs.Form.{rx};
+ghost use Rattle.rx_ring.specs.Steps.{Found};
 
-mod controller;
-mod driver;
-mod gathering;
-
+use crate::direction::{RxControllerSeat, RxDriverSeat, RxShared};
 use crate::events::{RxControllerEvent, RxDriverEvent};
-use atomic_table::{Play, Seat, Shared, Table, TableRule};
 use buffer_pool::Buf;
-pub(crate) use gathering::{meet, take_apart};
-use shared_ring::View;
-use std::alloc::Global;
-use std::marker::Model;
-
-/// What a seat knows: the record of an end.
-pub(crate) type RxView = View<RxDriverEvent, RxControllerEvent>;
-
-type RxSeat = Seat<Buf, RxView>;
-
-type RxShared = Shared<Buf, RxView, usize, RxRule>;
-
-/// Between any two steps, the words, the slots and both records agree with one ring that a schedule makes.
-pub struct RxRule;
-
-impl TableRule<Buf, RxView, usize> for RxRule {
-    ghost use Rattle.shared_ring.specs.declared.events.View.TheVariants.{Maker};
-    ghost use Rattle.rx_ring.specs.Rule.{IsRuled};
-
-    ghost holds = { IsRuled };
-
-    ghost first = { λ _. Maker };
-}
-
-/// A receive ring. Its two ends are made with it, and each call on an end takes the ring that the end was made with.
-/// Contracts see it as the identity of its table, whose `slots` are the ring's length.
-#[derive(Drop)]
-pub struct RxRing {
-    table: Table<Buf, RxView, usize, RxRule, Global>,
-    room: Vec<Option<Buf>>,
-}
-
-impl Model for RxRing {
-    ghost use Rattle.atomic_table.specs.Seated.{TableId};
-    ghost use Rattle.rx_ring.specs.Seats.{IsRing};
-    ghost use Rattle.std.specs.Prelude.{vec_capacity};
-
-    ghost Value = { TableId };
-
-    ghost view = { λ r. r.table.shared.table_id };
-
-    ghost invariant = { λ r. IsRing r.table.shared.table_id r.table.shared.key r.room.items (vec_capacity r.room) };
-}
-
-/// A driver's seat at a ring's table, with the slots of the places that are not out.
-#[derive(Drop)]
-pub(crate) struct DriverSeat {
-    seat: RxSeat,
-    size: u16,
-}
-
-impl Model for DriverSeat {
-    ghost use Rattle.rx_ring.specs.Ends.{DriverSide};
-    ghost use Rattle.rx_ring.specs.Records.{drivers_of};
-    ghost use Rattle.rx_ring.specs.Seats.{IsDriverSeat};
-
-    ghost Value = { DriverSide };
-
-    ghost view = { λ s. record { table = s.seat.table_id; events = drivers_of s.seat.me.0 } };
-
-    ghost invariant = { λ s. IsDriverSeat s.seat.table_id s.seat.me s.size };
-}
-
-/// A controller's seat at a ring's table, with the slot of the buffer that it fetched.
-#[derive(Drop)]
-pub(crate) struct ControllerSeat {
-    seat: RxSeat,
-    size: u16,
-}
-
-impl Model for ControllerSeat {
-    ghost use Rattle.rx_ring.specs.Ends.{ControllerSide};
-    ghost use Rattle.rx_ring.specs.Records.{controllers_of};
-    ghost use Rattle.rx_ring.specs.Seats.{IsControllerSeat};
-
-    ghost Value = { ControllerSide };
-
-    ghost view = { λ s. record { table = s.seat.table_id; events = controllers_of s.seat.me.0 } };
-
-    ghost invariant = { λ s. IsControllerSeat s.seat.table_id s.seat.me s.size };
-}
+use descriptor::RxBack;
+use shared_ring::{OwnStep, OwnTake};
 
 /// A6.
 struct StatusLoad;
 
-impl Play<Buf, RxView> for StatusLoad {
-    ghost use Rattle.rx_ring.specs.Plays.{LoadsStatus};
+impl OwnStep<RxDriverEvent> for StatusLoad {
+    ghost use Rattle.rx_ring.specs.Plays.{takes, TakesOut};
 
-    ghost then = { LoadsStatus };
+    ghost event = { takes };
+
+    ghost tells = { TakesOut };
 }
 
-/// C6.
-struct ReclaimStore;
+impl OwnTake<RxDriverEvent> for StatusLoad {
+    ghost use Rattle.rx_ring.specs.Plays.{finds_none, is_done};
 
-impl Play<Buf, RxView> for ReclaimStore {
-    ghost use Rattle.rx_ring.specs.Plays.{Reclaims};
+    ghost missed = { finds_none };
 
-    ghost then = { Reclaims };
+    ghost done = { is_done };
+
+    #[inline]
+    fn is_done(word: u64) -> bool {
+        RxBack::is_done(word)
+    }
 }
 
 /// C8.
 struct QuietLoad;
 
-impl Play<Buf, RxView> for QuietLoad {
-    ghost use Rattle.rx_ring.specs.Plays.{LoadsQuiet};
+impl OwnStep<RxDriverEvent> for QuietLoad {
+    ghost use Rattle.rx_ring.specs.Plays.{loads_quiet, IsBit};
 
-    ghost then = { LoadsQuiet };
+    ghost event = { loads_quiet };
+
+    ghost tells = { IsBit };
 }
 
 /// C11.
 struct ClearQuietStore;
 
-impl Play<Buf, RxView> for ClearQuietStore {
+impl OwnStep<RxDriverEvent> for ClearQuietStore {
     ghost use Rattle.rx_ring.specs.Plays.{clears_quiet};
 
-    ghost then = { clears_quiet };
+    ghost event = { clears_quiet };
+
+    ghost tells = { λ n es place r b. Unit {0} };
 }
 
-/// A3.
-struct TailLoad;
-
-impl Play<Buf, RxView> for TailLoad {
-    ghost use Rattle.rx_ring.specs.Plays.{LoadsTail};
-
-    ghost then = { LoadsTail };
-}
-
-/// A4.
-struct FetchLoad;
-
-impl Play<Buf, RxView> for FetchLoad {
-    ghost use Rattle.rx_ring.specs.Plays.{Fetches};
-
-    ghost then = { Fetches };
-}
-
-/// A5, with the buffer in the slot that the seat took last.
+/// A5.
 struct WriteBackStore;
 
-impl Play<Buf, RxView> for WriteBackStore {
+impl OwnStep<RxControllerEvent> for WriteBackStore {
     ghost use Rattle.rx_ring.specs.Plays.{writes_back};
 
-    ghost then = { writes_back };
+    ghost event = { writes_back };
+
+    ghost tells = { λ n es place r b. Unit {0} };
+}
+
+/// A7.
+struct HeadStore;
+
+impl OwnStep<RxControllerEvent> for HeadStore {
+    ghost use Rattle.rx_ring.specs.Plays.{stores_head};
+
+    ghost event = { stores_head };
+
+    ghost tells = { λ n es place r b. Unit {0} };
 }
 
 /// C7.
 struct QuietStore;
 
-impl Play<Buf, RxView> for QuietStore {
+impl OwnStep<RxControllerEvent> for QuietStore {
     ghost use Rattle.rx_ring.specs.Plays.{says_quiet};
 
-    ghost then = { says_quiet };
+    ghost event = { says_quiet };
+
+    ghost tells = { λ n es place r b. Unit {0} };
 }
 
-/// The load of two ends that meet.
-struct MeetLoad;
+/// A6: the oldest descriptor that is out is loaded, and its buffer taken where DD is set.
+#[inline]
+pub(crate) fn take(seat: &mut RxDriverSeat, ring: &RxShared, place: u16) -> Option<(Buf, bool)>
+    requires own { seat.old.table ≡ ring.now }
+    requires place { place ≡ next_place (driver_of rx seat.old) }
+    requires live { is_live (driver_state (driver_of rx seat.old)) ≡ true }
+    requires out { returned (driver_of rx seat.old) < length (posted (driver_of rx seat.old)) }
+    ensures { Found (driver_of rx seat.old) place result (driver_of rx seat.new) }
+{
+    let (word, taken) = seat.take_own::<StatusLoad>(ring, place);
+    match taken {
+        None => None,
+        Some(buf) => Some((buf, RxBack::ends_frame(word))),
+    }
+}
 
-impl Play<Buf, RxView> for MeetLoad {
-    ghost use Rattle.rx_ring.specs.Plays.{Meets};
+/// C8.
+#[inline]
+pub(crate) fn load_quiet(seat: &mut RxDriverSeat, ring: &RxShared) -> bool
+    requires own { seat.old.table ≡ ring.now }
+    ensures { driver_of rx seat.new ≡ appended (driver_of rx seat.old) (driver.Own (LoadedQuiet (bit result))) }
+{
+    let word = seat.size() as usize + 3;
+    seat.load_own::<QuietLoad>(ring, word) == 1
+}
 
-    ghost then = { Meets };
+/// C11. The epoch ends.
+#[inline]
+pub(crate) fn clear_quiet(seat: &mut RxDriverSeat, ring: &RxShared, fill: u16)
+    requires own { seat.old.table ≡ ring.now }
+    requires place { fill ≡ fill_place (driver_of rx seat.old) }
+    requires tailed { is_tailed (driver_state (driver_of rx seat.old)) ≡ true }
+    requires back { returned (driver_of rx seat.old) ≡ length (posted (driver_of rx seat.old)) }
+    ensures { driver_of rx seat.new ≡ appended (driver_of rx seat.old) (driver.Own ClearedQuiet) }
+{
+    let word = seat.size() as usize + 3;
+    seat.end_own::<ClearQuietStore>(ring, word, fill);
+}
+
+/// A5: the buffer goes back into its slot, and its descriptor becomes the write-back of its bytes.
+#[inline]
+pub(crate) fn write_back(
+    seat: &mut RxControllerSeat,
+    ring: &RxShared,
+    place: u16,
+    buf: Buf,
+    eop: bool,
+)
+    requires own { seat.old.table ≡ ring.now }
+    requires place { place ≡ serve_place (controller_of rx seat.old) }
+    requires serving { is_serving (controller_state (controller_of rx seat.old)) ≡ true }
+    requires held { held_number (controller_of rx seat.old) ≡ Some buf.number }
+    requires real { buf ≡ buffer buf.number buf.bytes }
+    requires follows { Follows piece_of (controller_size (controller_of rx seat.old)) (unfinished piece_of (stored (controller_of rx seat.old))) buf.bytes eop }
+    ensures { controller_of rx seat.new ≡ answered (controller_of rx seat.old) (controller.Own (WroteBack place (rx_word (length buf.bytes) eop) buf)) }
+{
+    let _size = seat.size();
+    let word = RxBack::new(buf.len() as u16, eop).second_word();
+    seat.give_own::<WriteBackStore>(ring, place, buf, place as usize, word);
+}
+
+/// A7: the head.
+#[inline]
+pub(crate) fn set_head(seat: &mut RxControllerSeat, ring: &RxShared, head: u16)
+    requires own { seat.old.table ≡ ring.now }
+    requires head { head ≡ serve_place (controller_of rx seat.old) }
+    requires serving { is_serving (controller_state (controller_of rx seat.old)) ≡ true }
+    requires held { held_number (controller_of rx seat.old) ≡ None }
+    ensures { controller_of rx seat.new ≡ answered (controller_of rx seat.old) (controller.StoredHead head) }
+{
+    let word = seat.size() as usize;
+    seat.store_own::<HeadStore>(ring, word, head as u64);
+}
+
+/// C7.
+#[inline]
+pub(crate) fn say_quiet(seat: &mut RxControllerSeat, ring: &RxShared)
+    requires own { seat.old.table ≡ ring.now }
+    requires serving { is_serving (controller_state (controller_of rx seat.old)) ≡ true }
+    requires held { held_number (controller_of rx seat.old) ≡ None }
+    requires between { is_between (controller_of rx seat.old) ≡ true }
+    ensures { controller_of rx seat.new ≡ answered (controller_of rx seat.old) (controller.Own SaidQuiet) }
+{
+    let word = seat.size() as usize + 3;
+    seat.store_own::<QuietStore>(ring, word, 1);
 }

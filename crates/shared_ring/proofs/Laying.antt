@@ -1,6 +1,7 @@
 -- Words and slots in the table's lists, read by place.
-use Rattle.std.proofs.Common.{◌≡◌, ◌≢◌, ℕ, zero, suc, ◌+◌, ◌<◌, ◌≤◌, List, [], ◌∷◌, ◌++◌, length, set, Option, Some, None, refl, ap, ◌∙◌, arith, get_or-set_same, get_or-set_other}
-use Rattle.std.specs.Prelude.{slice_get, slice_index, slice_set}
+use Rattle.std.proofs.Common.{◌≡◌, ◌≢◌, ℕ, zero, suc, ◌+◌, ◌<◌, ◌≤◌, Bool, true, false, ◌&&◌, if◌then◌else◌, List, [], ◌∷◌, ◌++◌, length, set, Option, Some, None, refl, ap, ◌∙◌, arith, get_or-set_same, get_or-set_other}
+use Rattle.std.specs.Prelude.{slice_get, slice_index, slice_set, ◌==◌}
+use Rattle.std.proofs.lemmas.Bool.{eqb-true}
 use Rattle.std.proofs.lemmas.Option.{none-some}
 use mathlib.Core.Option as maybe
 use mathlib.Core.Option.{some, none}
@@ -115,3 +116,17 @@ module _ {X : Type 0} where
   pub none-empty : (xs : List X) → length xs ≡ 0 → xs ≡ []
   none-empty [] e = refl
   none-empty (x ∷ xs) e = absurd (omega arith)
+
+-- an item that the controller does not hold has its buffer in its slot
+pub unheld_item : (held : Bool) (k s : ℕ) (o : Option Buffer) → (held ≡ true → ¬ (k ≡ s)) → (if held && (k == s) then None else o) ≡ o
+unheld_item true k s o h = other (k == s) refl
+  where
+    other : (same : Bool) → (k == s) ≡ same → (if same then None else o) ≡ o
+    other true e = absurd (h refl (eqb-true k s e))
+    other false e = refl
+unheld_item false k s o h = refl
+
+pub index_there : (xs : List ℕ) (k : ℕ) → k < length xs → slice_get xs k ≡ Some (slice_index xs k)
+index_there [] k h = absurd (omega arith)
+index_there (x ∷ xs) zero h = refl
+index_there (x ∷ xs) (suc k) h = index_there xs k (omega arith)

@@ -5,5 +5,10 @@ pub mod Lying
 pub mod Controlling
 pub mod Folds
 pub mod Allowing
+pub mod Allowed
+pub mod DriverSeats
+pub mod Reclaiming
+pub mod ControllerSeats
 pub mod Gathering
+pub mod Meeting
 pub mod Shaking

@@ -3,6 +3,14 @@ pub mod Words
 pub mod Seats
 pub mod Slots
 pub mod Records
+pub mod Forms
+pub mod Ends
+pub mod Directions
+pub mod Own
 pub mod Lies
 pub mod Tables
 pub mod Plays
+pub mod Keeping
+pub mod Steps
+pub mod Reclaims
+pub mod Meeting

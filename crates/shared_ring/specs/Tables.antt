@@ -1,9 +1,13 @@
 -- The rule of a ring's table, for any ring: `Lies` says that words, slots and both records agree with one.
-use Rattle.std.specs.Prelude.{◌≡◌, ℕ, ◌<◌, ◌⊎◌, List, [], ◌∷◌, map, replicate}
+use Rattle.std.specs.Prelude.{◌≡◌, ℕ, ◌+◌, ◌<◌, ◌⊎◌, List, [], ◌∷◌, map, replicate}
 use mathlib.Core.Option as maybe
 use mathlib.Core.Option.{some}
 use Rattle.atomic_table.specs.Table.{State, Me}
+use Rattle.atomic_table.specs.Seated.{TableId}
 use Rattle.buffer_pool.specs.Buffer.{Buffer, blank}
+use Rattle.limits.specs.RingLength.{IsRingLength}
+use Rattle.ring_model.specs.declared.states.Completion.{Completion}
+use Rattle.ring_model.specs.declared.states.Completion.TheVariants.{Status, Head}
 use Rattle.shared_ring.specs.declared.events.View.{View}
 use Rattle.shared_ring.specs.declared.events.View.TheVariants.{Maker}
 use Rattle.shared_ring.specs.Seats.{HasSeats}
@@ -26,3 +30,14 @@ pub record Begins (D C : Type 0) (n m : ℕ) (s : State Buffer (View D C)) : Typ
 module _ {Ring D C : Type 0} (Lies : Ring → List D → List C → List ℕ → List (maybe.Option Buffer) → Type 0) where
   abbrev pub IsRuledBy : ℕ → ℕ → State Buffer (View D C) → Type 0
   IsRuledBy n m s = (1 < n) × (Begins D C n m s ⊎ Runs Lies s)
+
+-- a ring that reports by a head word has one word more
+abbrev pub words_of : ℕ → Completion → ℕ
+words_of n Status = n + 4
+words_of n Head = n + 5
+
+-- a ring's table: n slots, its words, and the rule at n
+pub record IsTableOf (table : TableId) (n : ℕ) (mode : Completion) : Type 0 where
+  pub slots : table.slots ≡ n
+  pub words : table.words ≡ words_of n mode
+  pub length_is : IsRingLength n

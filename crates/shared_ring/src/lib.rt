@@ -7,18 +7,16 @@
 #![tactic(auto)]
 
 mod control;
+mod direction;
 mod error;
 mod events;
 mod exchange;
 mod lending;
 mod plays;
+mod steps;
 
 pub use control::Control;
+pub use direction::{Direction, OwnStep, OwnTake};
 pub use error::RingError;
 pub use events::{ControllerEvent, DriverEvent, View};
-pub use exchange::{put_in, take_out};
-pub use lending::{Halve, Lend, Return, Unite};
-pub use plays::{
-    AskDisableStore, AskEnableStore, ClearHeadStore, ClearTailStore, ControlLoad, Deal, DisableStore,
-    EnableStore, HeadLoad, HeadStore, PostStore, PublishStore, RequestLoad,
-};
+pub use steps::{ControllerSeat, DriverSeat, Ring, Rule};

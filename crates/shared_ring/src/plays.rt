@@ -1,8 +1,10 @@
 //! What each step on the table tells its caller. These types are for proofs alone.
 
+use crate::direction::{Direction, OwnStep, OwnTake};
 use crate::events::{ControllerEvent, DriverEvent, View};
 use atomic_table::Play;
 use buffer_pool::Buf;
+use std::marker::PhantomData;
 
 /// A1, B1, with the buffer in the slot that the seat took last.
 pub struct PostStore;
@@ -76,15 +78,6 @@ impl<O, C> Play<Buf, View<DriverEvent<O>, C>> for ClearTailStore {
     ghost then = { clears_tail };
 }
 
-/// A7.
-pub struct HeadStore;
-
-impl<D, O> Play<Buf, View<D, ControllerEvent<O>>> for HeadStore {
-    ghost use Rattle.shared_ring.specs.Plays.{stores_head};
-
-    ghost then = { stores_head };
-}
-
 /// C2.
 pub struct RequestLoad;
 
@@ -119,4 +112,85 @@ impl<D, C> Play<Buf, View<D, C>> for Deal {
     ghost use Rattle.shared_ring.specs.Plays.{Deals};
 
     ghost then = { Deals };
+}
+
+/// A3, B3.
+pub struct TailLoad<R>(PhantomData<R>);
+
+impl<D, C, R: Direction<D, C>> Play<Buf, View<DriverEvent<D>, ControllerEvent<C>>> for TailLoad<R> {
+    ghost use Rattle.shared_ring.specs.Plays.{LoadsTail};
+
+    ghost then = { LoadsTail R.form };
+}
+
+/// A4, B4.
+pub struct NextLoad<R>(PhantomData<R>);
+
+impl<D, C, R: Direction<D, C>> Play<Buf, View<DriverEvent<D>, ControllerEvent<C>>> for NextLoad<R> {
+    ghost use Rattle.shared_ring.specs.Plays.{LoadsNext};
+
+    ghost then = { LoadsNext R.form };
+}
+
+/// The load of two ends that meet.
+pub struct MeetLoad<R>(PhantomData<R>);
+
+impl<D, C, R: Direction<D, C>> Play<Buf, View<DriverEvent<D>, ControllerEvent<C>>> for MeetLoad<R> {
+    ghost use Rattle.shared_ring.specs.Plays.{Meets};
+
+    ghost then = { Meets R.form };
+}
+
+/// A driver's own load.
+pub struct OwnLoad<P>(PhantomData<P>);
+
+impl<E, C, P: OwnStep<E>> Play<Buf, View<E, C>> for OwnLoad<P> {
+    ghost use Rattle.shared_ring.specs.Plays.{DriverDoes};
+
+    ghost then = { DriverDoes P.event P.tells };
+}
+
+/// A driver's store by which a buffer comes back.
+pub struct OwnClear<P>(PhantomData<P>);
+
+impl<E, C, P: OwnStep<E>> Play<Buf, View<E, C>> for OwnClear<P> {
+    ghost use Rattle.shared_ring.specs.Plays.{DriverTakes};
+
+    ghost then = { DriverTakes P.event P.tells };
+}
+
+/// A driver's load by which a buffer may come back.
+pub struct OwnFind<P>(PhantomData<P>);
+
+impl<E, C, P: OwnTake<E>> Play<Buf, View<E, C>> for OwnFind<P> {
+    ghost use Rattle.shared_ring.specs.Plays.{DriverFinds};
+
+    ghost then = { DriverFinds P.event P.tells P.missed P.done };
+}
+
+/// A driver's store that ends the epoch.
+pub struct OwnEnd<P>(PhantomData<P>);
+
+impl<E, C, P: OwnStep<E>> Play<Buf, View<E, C>> for OwnEnd<P> {
+    ghost use Rattle.shared_ring.specs.Plays.{driver_ends};
+
+    ghost then = { driver_ends P.event };
+}
+
+/// A controller's own store.
+pub struct OwnStore<P>(PhantomData<P>);
+
+impl<D, E, P: OwnStep<E>> Play<Buf, View<D, E>> for OwnStore<P> {
+    ghost use Rattle.shared_ring.specs.Plays.{controller_stores};
+
+    ghost then = { controller_stores P.event };
+}
+
+/// A controller's own store by which the fetched buffer is given back.
+pub struct OwnGive<P>(PhantomData<P>);
+
+impl<D, E, P: OwnStep<E>> Play<Buf, View<D, E>> for OwnGive<P> {
+    ghost use Rattle.shared_ring.specs.Plays.{controller_gives};
+
+    ghost then = { controller_gives P.event };
 }

@@ -22,7 +22,7 @@ use Rattle.shared_ring.proofs.Folds.{controlling-snoc}
 use Rattle.tx_ring.specs.declared.events.TxControllerOwn.TheVariants.{Sent, Reported}
 use Rattle.tx_ring.specs.Records.{Posting, TxControlled, ControllerStep, control, control_own, fetch_word, eop_of, rs_of, paylen_of, posting_of}
 use Rattle.tx_ring.specs.Ends.{ControllerSide, controller_size, controller_record, sent, known_ready, held, held_word, controller_state, is_owed, serve_place, answered}
-use Rattle.tx_ring.specs.Steps.{FoundTail, CameOut}
+use Rattle.shared_ring.specs.Steps.{FoundTail, CameOut}
 use Rattle.tx_ring.specs.Calls.{IsServerOf, IsControllerEnd, is_there, FoundReady, Fetched, MayEnable, MayDisable, MayAnswer, AnsweredEnabling, AnsweredDisabling, Answered}
 use Rattle.tx_ring.proofs.Lying.{fetched-snoc}
 
@@ -129,12 +129,12 @@ module _ (c : ControllerSide) (serve ready last : ℕ) (holding between ends ask
     fetched read number len e r p = let i = h.ready_is in subst (λ (s : ControllerSide). Fetched s buf read new) was (record {
       word = word;
       step = f.step ∙ ap (λ (k : ℕ). answered c (controller.Fetched k word buf)) h.serve_is;
-      says = f.says ∙ ap (λ (b : Bool). tx_word (length buf.bytes) b (rs_of word) (paylen_of word)) (sym e) ∙ ap (λ (b : Bool). tx_word (length buf.bytes) read.eop b (paylen_of word)) (sym r) ∙ ap (λ (v : ℕ). tx_word (length buf.bytes) read.eop read.rs v) (sym p);
+      says = f.fetched.says ∙ ap (λ (b : Bool). tx_word (length buf.bytes) b (rs_of word) (paylen_of word)) (sym e) ∙ ap (λ (b : Bool). tx_word (length buf.bytes) read.eop b (paylen_of word)) (sym r) ∙ ap (λ (v : ℕ). tx_word (length buf.bytes) read.eop read.rs v) (sym p);
       number = number;
       len = len;
-      real = f.real;
-      follows = f.follows;
-      ready = λ t. let m = f.ready (sym e ∙ t) in omega arith;
+      real = f.fetched.real;
+      follows = f.fetched.follows;
+      ready = λ t. let m = f.fetched.ready (sym e ∙ t) in omega arith;
       same = record-after c new (controller.Fetched serve word buf) f.step;
       held_is = word-after c new (controller.Fetched serve word buf) f.step;
     })

@@ -24,7 +24,8 @@ use Rattle.tx_ring.specs.Records.{Posting, TxDriven, drive, posting_of, Knowing,
 use Rattle.tx_ring.specs.Plays.{report_word}
 use Rattle.tx_ring.specs.Ends.{DriverSide, driver_size, driver_record, posted, cleaned, reclaimed, returned, seen_reported, outstanding, driver_state, known_of, appended}
 use Rattle.tx_ring.specs.Meeting.{left_by, left_at}
-use Rattle.tx_ring.specs.Steps.{OldestAt, Looked, CameClean, CameBack}
+use Rattle.shared_ring.specs.Steps.{CameBack}
+use Rattle.tx_ring.specs.Steps.{OldestAt, Looked, CameClean}
 use Rattle.tx_ring.specs.Calls.{IsEndOf, IsDriverEnd, OldestAhead, SawReported, SawUnreported, CleanedOne, CameHome, FoundLeft, GoneOver, gone_over, item_of}
 use Rattle.tx_ring.proofs.Words.{posting-posted}
 use Rattle.tx_ring.proofs.Reported.{first_report-asks}
@@ -102,7 +103,7 @@ module _ (d : DriverSide) (fill next out seen done unseen : ℕ) (whole : Bool) 
       item = f.item;
       step = f.step ∙ ap (λ (p : ℕ). appended d (driver.Reclaimed p buf)) h.next_is;
       there = f.there;
-      is = f.is;
+      is = f.is_of;
       same = record-after d new (driver.Reclaimed next buf) f.step;
       known = known-after d new (driver.Reclaimed next buf) f.step;
     })

@@ -5,10 +5,9 @@ pub mod Moving
 pub mod Sending
 pub mod Reporting
 pub mod Reported
-pub mod Driving
-pub mod Serving
-pub mod DriverSeats
-pub mod ControllerSeats
+pub mod Lawful
+pub mod Owning
+pub mod Looking
 pub mod Meeting
 pub mod ControllerEnds
 pub mod DriverEnds

@@ -23,7 +23,9 @@ use Rattle.shared_ring.proofs.Folds.{driving-snoc, controlling-snoc}
 use Rattle.shared_ring.proofs.Items.{items-read}
 use Rattle.shared_ring.proofs.Laying.{descriptors-stay}
 use Rattle.tx_ring.specs.Records.{Posting, TxDriven, TxControlled, DriverStep, ControllerStep, posting_of, drive_own, drive, driving, control_own, control, controlling, fetch_word, fetched_from, fetched_word, Knowing, know, knowing}
-use Rattle.tx_ring.specs.Rule.{LiesAs, Learnt, TellsReports, says, lies_there, words_of}
+use Rattle.shared_ring.specs.Tables.{words_of}
+use Rattle.shared_ring.proofs.DriverSeats.{words-big}
+use Rattle.tx_ring.specs.Rule.{LiesAs, Learnt, TellsReports, says, lies_there}
 use Rattle.tx_ring.proofs.Learning.{knowing-snoc, learnt-step}
 
 fetched_from-snoc : (w : ℕ) (es : List ControllerStep) (e : ControllerStep) → fetched_from w (es ++ e ∷ []) ≡ fetch_word (fetched_from w es) e
@@ -32,10 +34,6 @@ fetched_from-snoc w (x ∷ es) e = fetched_from-snoc (fetch_word w x) es e
 
 pub fetched-snoc : (es : List ControllerStep) (e : ControllerStep) → fetched_word (es ++ e ∷ []) ≡ fetch_word (fetched_word es) e
 fetched-snoc es e = fetched_from-snoc 0 es e
-
-pub words-big : (n : ℕ) (mode : Completion) → n + 4 ≤ words_of n mode
-words-big n Status = omega arith
-words-big n Head = omega arith
 
 -- a ring that reports by a head word has that word
 pub head-within : (n : ℕ) (mode : Completion) (words : List ℕ) → by_head mode ≡ true → length words ≡ words_of n mode → n + 4 < length words

@@ -1,4 +1,4 @@
--- What the steps of a meeting and of a making ask, over the seats that they are made with; and what two ends that met know.
+-- What two ends that met know of their ledger.
 use Rattle.std.proofs.Common.{◌≡◌, ℕ, ◌+◌, ◌-◌, ◌%◌, ◌<◌, ◌≤◌, Bool, true, false, ◌&&◌, if◌then◌else◌, List, [], length, Option, Some, None, sym, refl, ap, ◌∙◌, subst, arith}
 use Rattle.std.proofs.lemmas.Bool.{and_parts, false≢true}
 use mathlib.Core.Option.{none}
@@ -16,65 +16,15 @@ use Rattle.ring_model.specs.shared.Queue.{posted_count, served_count}
 use Rattle.ring_model.proofs.transmit.Kept.{IsTxKept}
 use Rattle.ring_model.proofs.transmit.Reached.{tx_kept, tx_lawful, tx_concluded}
 use Rattle.ring_model.proofs.shared.Places.{ahead}
-use Rattle.shared_ring.specs.declared.events.View.TheVariants.{Maker, Driver, Controller, Both, Nobody}
-use Rattle.shared_ring.specs.Seats.{driver_half, controller_half, both_halves}
-use Rattle.shared_ring.specs.Plays.{Deals}
 use Rattle.shared_ring.proofs.Laying.{none-empty}
-use Rattle.shared_ring.proofs.Allowing.{allow_both, splits-halve, splits-lend, joins-unite, joins-return}
-use Rattle.shared_ring.proofs.Gathering.{allow_deal}
-use Rattle.tx_ring.specs.Records.{Posting, TxView, TxDriven, TxControlled, DriverStep, ControllerStep, controlling}
-use Rattle.tx_ring.specs.Rule.{IsRuled, IsTableOf, LiesAs, words_of}
-use Rattle.tx_ring.specs.Plays.{Seated, Meets}
+use Rattle.tx_ring.specs.Records.{Posting, TxDriven, TxControlled, controlling}
 use Rattle.tx_ring.specs.Ends.{DriverSide, driver_size, posted, cleaned, driver_state, known_of, ControllerSide, sent, controller_state}
 use Rattle.tx_ring.specs.Meeting.{ledger_of, sent_now, left_by, left_at, told_left, IsTold, Met}
-use Rattle.tx_ring.proofs.Lying.{words-big}
-use Rattle.tx_ring.proofs.Reporting.{opening-lies, beginning}
-
--- a ring's table has a word
-pub some-words : (ring : TableId) (key : ℕ × Completion) → IsTableOf ring key.0 key.1 → 0 < ring.words
-some-words ring key t = let w = t.words in let b = words-big key.0 key.1 in omega arith
-
-pub lend-asks : (key : ℕ × Completion) (id : ℕ) (v : TxView) (cs : List ControllerStep) → v ≡ Controller cs → Splits {S = Buffer} (IsRuled key.0 key.1) id v Nobody v
-lend-asks key id v cs e = subst (λ (w : TxView). Splits {S = Buffer} (IsRuled key.0 key.1) id w Nobody w) (sym e) (splits-lend (LiesAs key.0 key.1) key.0 (words_of key.0 key.1) id cs)
-
-pub unite-asks : (key : ℕ × Completion) (id other : ℕ) (v w : TxView) (ds : List DriverStep) (cs : List ControllerStep) → v ≡ Driver ds → w ≡ Controller cs → Joins {S = Buffer} (IsRuled key.0 key.1) id v other w (both_halves v w) Nobody
-unite-asks key id other v w ds cs e f =
-    subst (λ (x : TxView). Joins {S = Buffer} (IsRuled key.0 key.1) id x other w (both_halves x w) Nobody) (sym e)
-    (subst (λ (y : TxView). Joins {S = Buffer} (IsRuled key.0 key.1) id (Driver ds) other y (both_halves (Driver ds) y) Nobody) (sym f) (joins-unite (LiesAs key.0 key.1) key.0 (words_of key.0 key.1) id other ds cs))
-
-pub halve-asks : (key : ℕ × Completion) (id : ℕ) (v : TxView) (ds : List DriverStep) (cs : List ControllerStep) → v ≡ Both ds cs → Splits {S = Buffer} (IsRuled key.0 key.1) id v (driver_half v) (controller_half v)
-halve-asks key id v ds cs e = subst (λ (w : TxView). Splits {S = Buffer} (IsRuled key.0 key.1) id w (driver_half w) (controller_half w)) (sym e) (splits-halve (LiesAs key.0 key.1) key.0 (words_of key.0 key.1) id ds cs)
-
-pub return-asks : (key : ℕ × Completion) (id other : ℕ) (v w : TxView) (cs : List ControllerStep) → v ≡ Nobody → w ≡ Controller cs → Joins {S = Buffer} (IsRuled key.0 key.1) id v other w w Nobody
-return-asks key id other v w cs e f =
-    subst (λ (x : TxView). Joins {S = Buffer} (IsRuled key.0 key.1) id x other w w Nobody) (sym e)
-    (subst (λ (y : TxView). Joins {S = Buffer} (IsRuled key.0 key.1) id Nobody other y y Nobody) (sym f) (joins-return (LiesAs key.0 key.1) key.0 (words_of key.0 key.1) id other cs))
-
--- both ends meet
-allow-meet : (n : ℕ) (mode : Completion) (id : ℕ) (ds : List DriverStep) (cs : List ControllerStep) (slots : List (ℕ × Buffer)) → Allows (IsRuled n mode) n id (Both ds cs, slots) 0 (λ x. x) (Meets (step n 0 0 0 none) (Both ds cs, slots))
-allow-meet n mode id ds cs slots = allow_both (LiesAs n mode) n (words_of n mode) id ds cs slots 0 (Meets (step n 0 0 0 none) (Both ds cs, slots))
-    (λ q words homes pos l. let k = tx_kept n q pos l.reachable in let o = k.queue in record {
-      same = refl;
-      of_one_ring = record { queue = q; reachable = l.reachable; driver = l.driver; controller = l.controller; learnt = l.learnt; lawful = tx_lawful n q k; size_is = o.size_is };
-    })
-
-pub meet-asks : (key : ℕ × Completion) (slots id : ℕ) (me : Seated) (ds : List DriverStep) (cs : List ControllerStep) (carried : List (ℕ × Buffer)) → slots ≡ key.0 → me ≡ (Both ds cs, carried) → Allows (IsRuled key.0 key.1) slots id me 0 (λ x. x) (Meets (step slots 0 0 0 none) me)
-meet-asks key slots id me ds cs carried s e =
-    subst (λ (k : ℕ). Allows (IsRuled key.0 key.1) k id me 0 (λ x. x) (Meets (step k 0 0 0 none) me)) (sym s)
-    (subst (λ (m : Seated). Allows (IsRuled key.0 key.1) key.0 id m 0 (λ x. x) (Meets (step key.0 0 0 0 none) m)) (sym e) (allow-meet key.0 key.1 id ds cs carried))
-
-pub deal-asks : (n : ℕ) (mode : Completion) (key : ℕ × Completion) (slots id : ℕ) (me : Seated) → 1 < n → key ≡ (n, mode) → slots ≡ n → me ≡ (Maker, []) → Allows (IsRuled key.0 key.1) slots id me (n + 2) (λ x. x) (Deals (step slots (n + 2) 0 0 none) me)
-deal-asks n mode key slots id me big k s e =
-    subst (λ (x : ℕ × Completion). Allows (IsRuled x.0 x.1) slots id me (n + 2) (λ x. x) (Deals (step slots (n + 2) 0 0 none) me)) (sym k)
-    (subst (λ (x : ℕ). Allows (IsRuled n mode) x id me (n + 2) (λ x. x) (Deals (step x (n + 2) 0 0 none) me)) (sym s)
-    (subst (λ (m : Seated). Allows (IsRuled n mode) n id m (n + 2) (λ x. x) (Deals (step n (n + 2) 0 0 none) m)) (sym e)
-    (allow_deal (LiesAs n mode) n (words_of n mode) id (n + 2) (tx_opening n (beginning mode)) big (λ words homes w c. opening-lies n mode words homes big w c))))
 
 ended_idle : (s : ControllerState) → is_ended s ≡ true → is_serving s ≡ false
 ended_idle Ended e = refl
 ended_idle _ e = absurd (false≢true e)
 
--- What two ends that met know of their ledger
 module _ (d : DriverSide) (c : ControllerSide) (m : Met d c) (same : c.table ≡ d.table) (big : 1 < driver_size d) where
   state-is : driver_state d ≡ m.queue.handshake.driver
   state-is = ap (λ (x : TxDriven). x.state) m.driver

@@ -32,7 +32,8 @@ use Rattle.shared_ring.proofs.Lying.{lies-post, lies-publish, lies-give, lies-re
 use Rattle.shared_ring.proofs.Controlling.{ctl-post, ctl-publish, ctl-give, ctl-reclaim, ctl-ask_enable, ctl-look_answered, ctl-ask_disable, ctl-clear_head, ctl-clear_tail, ctl-renew}
 use Rattle.tx_ring.specs.declared.events.TxDriverOwn.TheVariants.{NoReport, SawReport, Cleaned, EndedEpoch, ClearedReport}
 use Rattle.tx_ring.specs.Records.{Posting, TxDriven, TxControlled, DriverStep, ControllerStep, controlling, drive, Knowing, knowing, outstanding, seen_after, fetched_word}
-use Rattle.tx_ring.specs.Rule.{LiesAs, Learnt, IsFetched, IsReady, TellsReports, filled, says, lies_there, word_of, words_of}
+use Rattle.shared_ring.specs.Tables.{words_of}
+use Rattle.tx_ring.specs.Rule.{LiesAs, Learnt, IsFetched, IsReady, TellsReports, filled, says, lies_there, word_of}
 use Rattle.tx_ring.proofs.Words.{posting-posted}
 use Rattle.tx_ring.proofs.Learning.{learnt-step, learnt-head, learnt-report, learnt-unknown}
 use Rattle.tx_ring.proofs.Lying.{keeps_it, big, goes_on, drove, knows_is, unreclaimed, untold, lies-beyond, reports-else, head-within, controlled-else, Leaves, driver-goes}

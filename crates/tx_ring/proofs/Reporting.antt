@@ -26,9 +26,11 @@ use Rattle.shared_ring.specs.Lies.{LiesIn}
 use Rattle.shared_ring.proofs.Laying.{registers-stay}
 use Rattle.tx_ring.specs.declared.events.TxControllerOwn.TheVariants.{Reported}
 use Rattle.tx_ring.specs.Records.{Posting, DriverStep, ControllerStep, knowing}
-use Rattle.tx_ring.specs.Rule.{LiesAs, TellsReports, filled, says, lies_there, word_of, words_of}
+use Rattle.shared_ring.specs.Tables.{words_of}
+use Rattle.shared_ring.proofs.DriverSeats.{words-big}
+use Rattle.tx_ring.specs.Rule.{LiesAs, TellsReports, filled, says, lies_there, word_of}
 use Rattle.tx_ring.proofs.Learning.{learnt-step, learnt-unknown}
-use Rattle.tx_ring.proofs.Lying.{keeps_it, goes_on, control_is, fetched-snoc, unreclaimed, lies-beyond, head-within, words-big}
+use Rattle.tx_ring.proofs.Lying.{keeps_it, goes_on, control_is, fetched-snoc, unreclaimed, lies-beyond, head-within}
 
 -- the word of an item that is told or is not
 said : Bool → Option Posting → ℕ

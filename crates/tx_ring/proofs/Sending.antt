@@ -30,7 +30,8 @@ use Rattle.shared_ring.proofs.Lying.{lies-look, lies-fetch, lies-serve, lies-hea
 use Rattle.shared_ring.proofs.Controlling.{ctl-look, ctl-fetch, ctl-serve, ctl-head, ctl-look_asked, ctl-enable, ctl-disable}
 use Rattle.tx_ring.specs.declared.events.TxControllerOwn.TheVariants.{Sent}
 use Rattle.tx_ring.specs.Records.{Posting, TxControlled, DriverStep, ControllerStep, control, controlling, fetch_word, fetched_word, Knowing, knowing, posting_of, rs_of}
-use Rattle.tx_ring.specs.Rule.{LiesAs, Learnt, IsFetched, filled, says, lies_there, word_of, words_of}
+use Rattle.shared_ring.specs.Tables.{words_of}
+use Rattle.tx_ring.specs.Rule.{LiesAs, Learnt, IsFetched, filled, says, lies_there, word_of}
 use Rattle.tx_ring.proofs.Words.{posting-posted, rs_of-tx_word}
 use Rattle.tx_ring.proofs.Learning.{learnt-step}
 use Rattle.tx_ring.proofs.Lying.{keeps_it, big, goes_on, control_is, fetched-snoc, reports-else}

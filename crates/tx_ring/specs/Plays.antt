@@ -1,4 +1,4 @@
--- What each step of a transmit ring's own tells: its end's record has one more event, with what was found and what the rule says of that.
+-- The transmit ring's own steps: the event of each, and what it tells beside that.
 use Rattle.std.specs.Prelude.{◌≡◌, ℕ, ◌+◌, ◌/◌, ◌%◌, ◌^◌, ◌<◌, ◌≤◌, Bool, true, false, not, nat_lt, ◌==◌, List, ◌∷◌, length, Option, Some, None, slice_get, if◌then◌else◌}
 use Rattle.atomic_table.specs.Table.{Step, rest}
 use Rattle.buffer_pool.specs.Buffer.{Buffer, buffer}
@@ -23,9 +23,6 @@ use Rattle.tx_ring.specs.declared.events.TxControllerOwn.TheVariants.{Sent, Repo
 use Rattle.tx_ring.specs.Records.{Posting, DriverStep, ControllerStep, drivers_of, controllers_of, driving, controlling, knowing, outstanding, fetched_word, eop_of, rs_of, paylen_of, posting_of}
 use Rattle.tx_ring.specs.Rule.{Learnt, filled, says, lies_there}
 
-abbrev pub Seated : Type 0
-Seated = shared.Seated DriverStep ControllerStep
-
 -- DD of a transmit write-back
 abbrev pub is_done : ℕ → Bool
 is_done word = (word / 2 ^ 32) % 2 == 1
@@ -44,65 +41,34 @@ reports_item n seen (Some j) place word =
 abbrev pub shows_report : ℕ → List DriverStep → ℕ → ℕ → Bool
 shows_report n es place word = reports_item n (knowing es).seen (outstanding (driving es) (knowing es).seen) place word
 
--- B7. A head word has a place of the ring
-pub record LoadsReport (st : Step Buffer) (m : Seated) (r : ℕ) (m' : Seated) : Type 0 where
-  pub none : shows_report st.slots (drivers_of m.0) st.word r ≡ false → m' ≡ (driver_does m (driver.Own (NoReport st.word r)), m.1)
-  pub seen : shows_report st.slots (drivers_of m.0) st.word r ≡ true → m' ≡ (driver_does m (driver.Own (SawReport st.word r)), m.1)
-  pub place : st.slots ≤ st.word → r < st.slots
+-- B7: it is seen by the word whether the oldest outstanding report is made. A head word has a place of the ring
+abbrev pub reports_seen : ℕ → List DriverStep → ℕ → ℕ → Buffer → DriverStep
+reports_seen n es place r b = driver.Own (if shows_report n es place r then SawReport place r else NoReport place r)
+
+abbrev pub IsPlace : ℕ → List DriverStep → ℕ → ℕ → Buffer → Type 0
+IsPlace n es place r b = n ≤ place → r < n
 
 -- B8: the buffer of the oldest item that is not cleaned, as it was posted
-pub record Cleans (st : Step Buffer) (m : Seated) (r : ℕ) (m' : Seated) : Type 0 where
-  pub item : Posting
-  pub seat : m' ≡ (driver_does m (driver.Own (Cleaned st.word (filled item))), (st.word, filled item) ∷ m.1)
-  pub there : slice_get (driving (drivers_of m.0)).posted (length (driving (drivers_of m.0)).given) ≡ Some item
+abbrev pub cleans : ℕ → List DriverStep → ℕ → ℕ → Buffer → DriverStep
+cleans n es place r b = driver.Own (Cleaned place b)
 
--- C6: the buffer of the oldest item that is out, as it was posted
-pub record Reclaims (st : Step Buffer) (m : Seated) (r : ℕ) (m' : Seated) : Type 0 where
+pub record IsCleaned (n : ℕ) (es : List DriverStep) (place r : ℕ) (b : Buffer) : Type 0 where
   pub item : Posting
-  pub seat : m' ≡ (driver_does m (driver.Reclaimed st.word (filled item)), (st.word, filled item) ∷ m.1)
-  pub there : slice_get (driving (drivers_of m.0)).posted (length (driving (drivers_of m.0)).given + (driving (drivers_of m.0)).reclaimed) ≡ Some item
+  pub there : slice_get (driving es).posted (length (driving es).given) ≡ Some item
+  pub is : b ≡ filled item
 
 -- C10, as the last step of an epoch
-abbrev pub ends_epoch : Step Buffer → Seated → ℕ → Seated → Type 0
-ends_epoch st m r m' = m' ≡ (driver_does m (driver.Own EndedEpoch), m.1)
+abbrev pub ends_epoch : ℕ → List DriverStep → ℕ → ℕ → Buffer → DriverStep
+ends_epoch n es place r b = driver.Own EndedEpoch
 
 -- C12
-abbrev pub clears_report : Step Buffer → Seated → ℕ → Seated → Type 0
-clears_report st m r m' = m' ≡ (driver_does m (driver.Own ClearedReport), m.1)
-
--- B3: a place of the ring, at which no fewer items are posted than the controller knew of
-pub record LoadsTail (st : Step Buffer) (m : Seated) (r : ℕ) (m' : Seated) : Type 0 where
-  pub seat : m' ≡ (controller_does m (controller.Looked r), m.1)
-  pub below : r < st.slots
-  pub grows : (controlling st.slots (controllers_of m.0)).known ≤ count_at st.slots (length (controlling st.slots (controllers_of m.0)).served) r
-
--- B4: the next descriptor, whose buffer is out with the seat. The word tells its length, what is posted may follow the frame so far, and where it does not end its frame, the controller knows of more
-pub record Fetches (st : Step Buffer) (m : Seated) (r : ℕ) (m' : Seated) : Type 0 where
-  pub buf : Buffer
-  pub seat : m' ≡ (controller_does m (controller.Fetched st.word r buf), (st.word, buf) ∷ m.1)
-  pub word : r ≡ tx_word (length buf.bytes) (eop_of r) (rs_of r) (paylen_of r)
-  pub real : buf ≡ buffer buf.number buf.bytes
-  pub follows : MayFollow st.slots (unfinished carried (controlling st.slots (controllers_of m.0)).served) (posting_of r buf)
-  pub ready : eop_of r ≡ false → length (controlling st.slots (controllers_of m.0)).served + 1 < (controlling st.slots (controllers_of m.0)).known
+abbrev pub clears_report : ℕ → List DriverStep → ℕ → ℕ → Buffer → DriverStep
+clears_report n es place r b = driver.Own ClearedReport
 
 -- B5: the posting that was fetched is sent
-abbrev pub sends : Step Buffer → Seated → ℕ → Seated → Type 0
-sends st m r m' = m' ≡ (controller_does m (controller.Own (Sent st.first (fetched_word (controllers_of m.0)) (front_buffer m.1))), rest m.1)
+abbrev pub sends : ℕ → List ControllerStep → ℕ → ℕ → Buffer → ControllerStep
+sends n es place r b = controller.Own (Sent r (fetched_word es) b)
 
 -- B6
-abbrev pub reports : Step Buffer → Seated → ℕ → Seated → Type 0
-reports st m r m' = m' ≡ (controller_does m (controller.Own (Reported st.word st.first)), m.1)
-
--- both records are those of one lawful ring that a schedule makes, of which the driver has learnt what it says
-pub record AreOf (n : ℕ) (ds : List DriverStep) (cs : List ControllerStep) : Type 0 where
-  pub queue : TxRing Bytes
-  pub reachable : IsTxReachable Bytes n queue
-  pub driver : driving ds ≡ driven queue.queue
-  pub controller : IsControlled {Given = ℕ} (says queue) lies_there queue.queue queue.owed (controlling n cs)
-  pub learnt : Learnt n queue (knowing ds)
-  pub lawful : IsLawfulTx Bytes queue
-  pub size_is : queue.size ≡ n
-
-pub record Meets (st : Step Buffer) (m : Seated) (r : ℕ) (m' : Seated) : Type 0 where
-  pub same : m' ≡ m
-  pub of_one_ring : AreOf st.slots (drivers_of m.0) (controllers_of m.0)
+abbrev pub reports : ℕ → List ControllerStep → ℕ → ℕ → Buffer → ControllerStep
+reports n es place r b = controller.Own (Reported place r)

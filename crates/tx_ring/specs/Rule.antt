@@ -15,7 +15,7 @@ use Rattle.ring_model.specs.transmit.Frames.{AllMayFollow}
 use Rattle.ring_model.specs.transmit.Ring.{TxRing, are_whole}
 use Rattle.ring_model.specs.transmit.Steps.{IsTxReachable, by_head}
 use Rattle.shared_ring.specs.Lies.{driven, IsControlled, LiesIn}
-use Rattle.shared_ring.specs.Tables.{IsRuledBy}
+use Rattle.shared_ring.specs.Tables.{words_of}
 use Rattle.tx_ring.specs.Records.{Posting, TxView, DriverStep, ControllerStep, driving, controlling, fetched_word, Knowing, knowing}
 
 -- a buffer with what is posted
@@ -32,11 +32,6 @@ says q = tx_says {Payload = Bytes} length filled (is_told q)
 
 abbrev pub lies_there : Option Posting → Option Posting → Option Buffer
 lies_there = tx_lies {Payload = Bytes} length filled
-
--- a ring that reports by a head word has one word more
-abbrev pub words_of : ℕ → Completion → ℕ
-words_of n Status = n + 4
-words_of n Head = n + 5
 
 -- the head word has the place up to which all is reported
 abbrev pub TellsReports : ℕ → Completion → ℕ → List ℕ → Type 0
@@ -67,15 +62,3 @@ pub record LiesAs (n : ℕ) (mode : Completion) (q : TxRing Bytes) (ds : List Dr
   pub ready : IsReady (is_serving q.handshake.controller) q.known q.ledger.posted
   pub follow : AllMayFollow n q.ledger.posted
   pub learnt : Learnt n q (knowing ds)
-
-abbrev pub Table : Type 0
-Table = State Buffer TxView
-
-abbrev pub IsRuled : ℕ → Completion → Table → Type 0
-IsRuled n mode s = IsRuledBy (LiesAs n mode) n (words_of n mode) s
-
--- a ring's table: n slots, its words, and the rule at n
-pub record IsTableOf (table : TableId) (n : ℕ) (mode : Completion) : Type 0 where
-  pub slots : table.slots ≡ n
-  pub words : table.words ≡ words_of n mode
-  pub length_is : IsRingLength n

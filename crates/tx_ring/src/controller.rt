@@ -9,11 +9,15 @@ ghost use Rattle.shared_ring.specs.Words.{control_word};
 ghost use Rattle.shared_ring.specs.declared.events.ControllerEvent.TheVariants.{LoadedRequest, Own};
 ghost use Rattle.tx_ring.specs.declared.events.TxControllerOwn.TheVariants.{Sent};
 ghost use Rattle.tx_ring.specs.Records.{posting_of, rs_of};
+ghost use Rattle.shared_ring.specs.Ends.{controller_of};
+ghost use Rattle.tx_ring.specs.Form.{tx};
 ghost use Rattle.tx_ring.specs.Ends.{controller_size, controller_record, sent, known_ready, held, held_word, controller_state, is_owed, is_between, serve_place, answered};
 ghost use Rattle.tx_ring.specs.Calls.{IsFreshController, FoundReady, Fetched, MayAnswer, IsSettled, Answered, report_of};
 
 use crate::reading::{eop_bit, paylen, rs_bit};
-use crate::steps::{ControllerSeat, TxRing};
+use crate::direction::TxControllerSeat;
+use crate::ring::TxRing;
+use crate::steps;
 use buffer_pool::Buf;
 use descriptor::TxRead;
 use ring_model::{ControllerState, place_after, places_between};
@@ -26,7 +30,7 @@ use std::marker::Model;
 /// `can_answer` and `ready`.
 #[derive(Drop)]
 pub struct TxControllerEnd {
-    pub(crate) seat: ControllerSeat,
+    pub(crate) seat: TxControllerSeat,
     pub(crate) serve: u16,
     ready: u16,
     last: u16,
@@ -40,20 +44,22 @@ pub struct TxControllerEnd {
 }
 
 impl Model for TxControllerEnd {
+    ghost use Rattle.shared_ring.specs.Ends.{controller_of};
     ghost use Rattle.tx_ring.specs.Ends.{ControllerSide};
+    ghost use Rattle.tx_ring.specs.Form.{tx};
     ghost use Rattle.tx_ring.specs.Calls.{IsControllerEnd};
 
     ghost Value = { ControllerSide };
 
-    ghost view = { λ e. e.seat };
+    ghost view = { λ e. controller_of tx e.seat };
 
-    ghost invariant = { λ e. IsControllerEnd e.seat e.serve e.ready e.last e.held e.whole e.ends e.asks e.owed e.state e.seen };
+    ghost invariant = { λ e. IsControllerEnd (controller_of tx e.seat) e.serve e.ready e.last e.held e.whole e.ends e.asks e.owed e.state e.seen };
 }
 
 impl TxControllerEnd {
-    pub(crate) fn new(seat: ControllerSeat) -> TxControllerEnd
-        requires { IsFreshController seat }
-        ensures { result ≡ seat }
+    pub(crate) fn new(seat: TxControllerSeat) -> TxControllerEnd
+        requires { IsFreshController (controller_of tx seat) }
+        ensures { result ≡ controller_of tx seat }
     {
         let _size = seat.size();
         TxControllerEnd {
@@ -150,7 +156,7 @@ impl TxControllerEnd {
         ensures step { FoundReady self.old result self.new }
         ensures ready { known_ready self.new ≡ result }
     {
-        let tail = self.seat.look(ring);
+        let tail = self.seat.look(&ring.ring);
         self.ready = places_between(self.serve, tail, self.seat.size());
         self.ready as u32
     }
@@ -166,7 +172,7 @@ impl TxControllerEnd {
         requires paid { is_owed self.old ≡ false }
         ensures { Fetched self.old result.0 result.1 self.new }
     {
-        let (buf, word) = self.seat.fetch(ring, self.serve);
+        let (buf, word) = self.seat.fetch(&ring.ring, self.serve);
         self.held = true;
         self.ends = eop_bit(word);
         self.asks = rs_bit(word);
@@ -190,7 +196,7 @@ impl TxControllerEnd {
         ensures record { controller_record self.new ≡ record (controller_record self.old) { served = sent self.old ++ posting_of (held_word self.old) buf ∷ []; held = None; head = (length (sent self.old) + 1) % controller_size self.old; barred = rs_of (held_word self.old) } }
     {
         let head = place_after(self.serve, self.seat.size());
-        self.seat.send(ring, self.serve, head, buf);
+        steps::send(&mut self.seat, &ring.ring, self.serve, head, buf);
         self.last = self.serve;
         self.serve = head;
         self.ready -= 1;
@@ -208,10 +214,10 @@ impl TxControllerEnd {
         ensures record { controller_record self.new ≡ record (controller_record self.old) { barred = false } }
     {
         if self.seat.completion().is_by_head() {
-            self.seat.report_head(ring, self.serve);
+            steps::report_head(&mut self.seat, &ring.ring, self.serve);
             self.owed = false;
         } else {
-            self.seat.report_status(ring, self.last);
+            steps::report_status(&mut self.seat, &ring.ring, self.last);
             self.owed = false;
         }
     }
@@ -223,7 +229,7 @@ impl TxControllerEnd {
         ensures step { self.new ≡ answered self.old (LoadedRequest (control_word result)) }
         ensures record { controller_record self.new ≡ record (controller_record self.old) { seen = control_word result } }
     {
-        self.seen = self.seat.load_request(ring);
+        self.seen = self.seat.load_request(&ring.ring);
         self.seen
     }
 
@@ -236,11 +242,11 @@ impl TxControllerEnd {
         ensures { Answered self.old self.new }
     {
         if self.state.is_serving() {
-            self.seat.disable(ring);
+            self.seat.disable(&ring.ring);
             self.state = ControllerState::Ended;
             self.seen = Control::Disabled;
         } else {
-            self.seat.enable(ring);
+            self.seat.enable(&ring.ring);
             self.serve = 0;
             self.ready = 0;
             self.whole = true;

@@ -11,10 +11,14 @@ ghost use Rattle.ring_model.specs.transmit.Frames.{MayFollow};
 ghost use Rattle.ring_model.specs.transmit.Ring.{are_whole, carried};
 ghost use Rattle.shared_ring.specs.Words.{control_word};
 ghost use Rattle.shared_ring.specs.declared.events.DriverEvent.TheVariants.{Posted, Published, AskedEnable, LoadedControl, AskedDisable};
+ghost use Rattle.shared_ring.specs.Ends.{driver_of};
+ghost use Rattle.tx_ring.specs.Form.{tx};
 ghost use Rattle.tx_ring.specs.Ends.{driver_size, driver_record, posted, cleaned, returned, seen_reported, driver_state, known_of, fill_place, appended};
 ghost use Rattle.tx_ring.specs.Calls.{IsFreshDriver, item_of, OldestAhead, Polled, CleanedOne, Reclaimed, FoundLeft, GoneOver};
 
-use crate::steps::{DriverSeat, TxRing};
+use crate::direction::TxDriverSeat;
+use crate::ring::TxRing;
+use crate::steps;
 use buffer_pool::Buf;
 use ring_model::{DriverState, place_after, places_between};
 use shared_ring::Control;
@@ -26,7 +30,7 @@ use std::marker::Model;
 /// `is_whole` and `reported`.
 #[derive(Drop)]
 pub struct TxDriverEnd {
-    pub(crate) seat: DriverSeat,
+    pub(crate) seat: TxDriverSeat,
     fill: u16,
     pub(crate) next: u16,
     pub(crate) out: u16,
@@ -40,21 +44,23 @@ pub struct TxDriverEnd {
 }
 
 impl Model for TxDriverEnd {
+    ghost use Rattle.shared_ring.specs.Ends.{driver_of};
     ghost use Rattle.tx_ring.specs.Ends.{DriverSide};
+    ghost use Rattle.tx_ring.specs.Form.{tx};
     ghost use Rattle.tx_ring.specs.Calls.{IsDriverEnd};
 
     ghost Value = { DriverSide };
 
-    ghost view = { λ e. e.seat };
+    ghost view = { λ e. driver_of tx e.seat };
 
-    ghost invariant = { λ e. IsDriverEnd e.seat e.fill e.next e.out e.seen e.done e.unseen e.whole e.asks.items e.state };
+    ghost invariant = { λ e. IsDriverEnd (driver_of tx e.seat) e.fill e.next e.out e.seen e.done e.unseen e.whole e.asks.items e.state };
 }
 
 impl TxDriverEnd {
-    pub(crate) fn new(seat: DriverSeat, asks: Vec<bool>) -> TxDriverEnd
-        requires fresh { IsFreshDriver seat }
-        requires asks { length asks.items ≡ driver_size seat }
-        ensures { result ≡ seat }
+    pub(crate) fn new(seat: TxDriverSeat, asks: Vec<bool>) -> TxDriverEnd
+        requires fresh { IsFreshDriver (driver_of tx seat) }
+        requires asks { length asks.items ≡ driver_size (driver_of tx seat) }
+        ensures { result ≡ driver_of tx seat }
     {
         let _size = seat.size();
         TxDriverEnd {
@@ -160,7 +166,7 @@ impl TxDriverEnd {
         ensures record { driver_record self.new ≡ record (driver_record self.old) { posted = posted self.old ++ item_of buf eop rs paylen ∷ [] } }
         ensures known { known_of self.new ≡ known_of self.old }
     {
-        self.seat.post(ring, self.fill, buf, eop, rs, paylen);
+        steps::post(&mut self.seat, &ring.ring, self.fill, buf, eop, rs, paylen);
         self.asks[self.fill as usize] = rs;
         self.fill = place_after(self.fill, self.seat.size());
         self.out += 1;
@@ -178,7 +184,7 @@ impl TxDriverEnd {
         ensures record { driver_record self.new ≡ record (driver_record self.old) { published = length (posted self.old) } }
         ensures known { known_of self.new ≡ known_of self.old }
     {
-        self.seat.publish(ring, self.fill);
+        self.seat.publish(&ring.ring, self.fill);
     }
 
     // How many places the oldest outstanding report is ahead of those that are seen reported.
@@ -209,7 +215,7 @@ impl TxDriverEnd {
         };
         let size = self.seat.size();
         let place = (self.seen + ahead) % size;
-        if !self.seat.find_report(ring, place, self.seen) {
+        if !steps::find_report(&mut self.seat, &ring.ring, place, self.seen) {
             return false;
         }
         self.seen = place_after(place, size);
@@ -226,7 +232,7 @@ impl TxDriverEnd {
         requires reported { length (cleaned self.old) < seen_reported self.old }
         ensures { CleanedOne self.old result self.new }
     {
-        let buf = self.seat.clean(ring, self.next);
+        let buf = steps::clean(&mut self.seat, &ring.ring, self.next);
         self.next = place_after(self.next, self.seat.size());
         self.out -= 1;
         self.done -= 1;
@@ -242,7 +248,7 @@ impl TxDriverEnd {
         ensures record { driver_record self.new ≡ record (driver_record self.old) { state = state.Asked } }
         ensures known { known_of self.new ≡ known_of self.old }
     {
-        self.seat.ask_enable(ring);
+        self.seat.ask_enable(&ring.ring);
         self.state = DriverState::Asked;
     }
 
@@ -254,7 +260,7 @@ impl TxDriverEnd {
         ensures record { driver_record self.new ≡ record (driver_record self.old) { state = learned (driver_state self.old) (control_word result) } }
         ensures known { known_of self.new ≡ known_of self.old }
     {
-        let control = self.seat.load_control(ring);
+        let control = self.seat.load_control(&ring.ring);
         self.state = self.state.learned(control.word());
         control
     }
@@ -268,7 +274,7 @@ impl TxDriverEnd {
         ensures record { driver_record self.new ≡ record (driver_record self.old) { state = state.Stopping } }
         ensures known { known_of self.new ≡ known_of self.old }
     {
-        self.seat.ask_disable(ring);
+        self.seat.ask_disable(&ring.ring);
         self.state = DriverState::Stopping;
     }
 
@@ -280,7 +286,7 @@ impl TxDriverEnd {
         requires stopped { is_stopped (driver_state self.old) ≡ true }
         ensures { FoundLeft self.old result self.new }
     {
-        let head = self.seat.load_head(ring);
+        let head = self.seat.load_head(&ring.ring);
         places_between(head, self.fill, self.seat.size()) as u32
     }
 
@@ -295,7 +301,7 @@ impl TxDriverEnd {
         if self.out == 0 {
             return None;
         }
-        let buf = self.seat.reclaim(ring, self.next);
+        let buf = self.seat.reclaim(&ring.ring, self.next);
         self.next = place_after(self.next, self.seat.size());
         self.out -= 1;
         Some(buf)
@@ -309,7 +315,7 @@ impl TxDriverEnd {
         requires back { returned self.old ≡ length (posted self.old) }
         ensures { GoneOver self.old self.new }
     {
-        self.seat.go_over(ring, self.fill);
+        steps::go_over(&mut self.seat, &ring.ring, self.fill);
         self.fill = 0;
         self.next = 0;
         self.out = 0;

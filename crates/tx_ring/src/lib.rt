@@ -17,6 +17,7 @@
 #![tactic(auto)]
 
 mod controller;
+mod direction;
 mod driver;
 mod events;
 mod reading;
@@ -24,9 +25,9 @@ mod ring;
 mod steps;
 
 pub use controller::TxControllerEnd;
+pub use direction::TxRule;
 pub use driver::TxDriverEnd;
 pub use events::{TxControllerEvent, TxControllerOwn, TxDriverEvent, TxDriverOwn};
-pub use ring::{close, meet_tx};
+pub use ring::{TxRing, close, meet_tx};
 pub use ring_model::Completion;
 pub use shared_ring::{Control, ControllerEvent, DriverEvent, RingError, View};
-pub use steps::{TxRing, TxRule};

@@ -9,12 +9,28 @@ ghost use Rattle.tx_ring.specs.Meeting.{MadeSeats, ledger_of, sent_now, Met, tol
 
 use crate::controller::TxControllerEnd;
 use crate::driver::TxDriverEnd;
-use crate::steps::{self, TxRing};
+use crate::direction::TxShared;
 use buffer_pool::Buf;
 use limits::is_ring_length;
 use ring_model::Completion;
 use shared_ring::RingError;
 use std::alloc::Global;
+use std::marker::Model;
+
+/// A transmit ring. Its two ends are made with it, and each call on an end takes the ring that the end was made with.
+/// Contracts see it as the identity of its table, whose `slots` are the ring's length.
+#[derive(Drop)]
+pub struct TxRing {
+    pub(crate) ring: TxShared,
+}
+
+impl Model for TxRing {
+    ghost use Rattle.atomic_table.specs.Seated.{TableId};
+
+    ghost Value = { TableId };
+
+    ghost view = { λ r. r.ring };
+}
 
 impl TxRing {
     /// A ring of `n` descriptors that reports by its descriptors, disabled, with nothing posted. It answers
@@ -41,11 +57,11 @@ impl TxRing {
         let Ok(asks) = vec![in alloc; false; n as usize] else {
             return Err(RingError::Memory);
         };
-        let Ok((ring, driver, controller)) = TxRing::deal(alloc, n as u16, completion) else {
+        let Ok((ring, driver, controller)) = TxShared::deal(alloc, n as u16, completion) else {
             return Err(RingError::Memory);
         };
         Ok((
-            ring,
+            TxRing { ring },
             TxDriverEnd::new(driver, asks),
             TxControllerEnd::new(controller),
         ))
@@ -69,7 +85,8 @@ pub fn meet_tx(ring: &TxRing, driver: &mut TxDriverEnd, controller: &mut TxContr
     ensures all { length (posted driver.old) ≤ length (cleaned driver.old) → sent_now driver.old controller.old ≡ posted driver.old }
 {
     let _size = driver.size();
-    steps::meet(ring, &mut driver.seat, &mut controller.seat);
+    ring.ring
+        .meet(&mut driver.seat, &mut controller.seat);
 }
 
 /// Closes a ring, wherever its two ends stand: one entry a place, with the buffer that lay there where one did, be it
@@ -93,5 +110,6 @@ pub fn close(ring: TxRing, driver: TxDriverEnd, controller: TxControllerEnd) -> 
         held,
         ..
     } = controller;
-    steps::take_apart(ring, seat, served, next, out, serve, held)
+    ring.ring
+        .take_apart(seat, served, next, out, serve, held)
 }

@@ -5,13 +5,15 @@ use Rattle.ring_model.specs.shared.Frames.{Bytes}
 use Rattle.rx_ring.specs.Ends.{DriverSide, ControllerSide, driver_size, taken}
 use Rattle.rx_ring.specs.Calls.{IsTold, told_left}
 use Rattle.rx_ring.specs.Meeting.{ledger_of, stored_now, Met}
+use Rattle.shared_ring.specs.Ends.{driver_of, controller_of}
+use Rattle.rx_ring.specs.Form.{rx}
 use Rattle.rx_ring.proofs.Meeting.{met-lawful, met-told}
 use Rattle.rx_ring.proofs.ring.meet_rx.Goals as goal
 
 pub returns-clause-lawful : goal.returns-clause-lawful
 returns-clause-lawful c = let big : 8 ≤ c.size-size.result = c.size-size.ensures.lawful.0 in let s = c.size-size.ensures.value in
-    met-lawful c.args.driver.now c.args.controller.now (subst (λ (d : DriverSide). Met d c.args.controller.now) c.driver.view_is (subst (λ (e : ControllerSide). Met c.driver.inside.seat e) c.controller.view_is c.meet.ensures.met)) (c.requires.controller ∙ sym c.requires.driver) (omega arith)
+    met-lawful c.args.driver.now c.args.controller.now (subst (λ (d : DriverSide). Met d c.args.controller.now) c.driver.view_is (subst (λ (e : ControllerSide). Met (driver_of rx c.driver.inside.seat) e) c.controller.view_is c.meet.ensures.met)) (c.requires.controller ∙ sym c.requires.driver) (omega arith)
 
 pub returns-clause-left : goal.returns-clause-left
 returns-clause-left c = let big : 8 ≤ c.size-size.result = c.size-size.ensures.lawful.0 in let s = c.size-size.ensures.value in
-    met-told c.args.driver.now c.args.controller.now (subst (λ (d : DriverSide). Met d c.args.controller.now) c.driver.view_is (subst (λ (e : ControllerSide). Met c.driver.inside.seat e) c.controller.view_is c.meet.ensures.met)) (c.requires.controller ∙ sym c.requires.driver) (omega arith)
+    met-told c.args.driver.now c.args.controller.now (subst (λ (d : DriverSide). Met d c.args.controller.now) c.driver.view_is (subst (λ (e : ControllerSide). Met (driver_of rx c.driver.inside.seat) e) c.controller.view_is c.meet.ensures.met)) (c.requires.controller ∙ sym c.requires.driver) (omega arith)

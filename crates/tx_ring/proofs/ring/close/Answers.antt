@@ -2,12 +2,14 @@
 use Rattle.std.proofs.Common.{sym, ap, ◌∙◌, subst}
 use Rattle.tx_ring.specs.Ends.{DriverSide, ControllerSide}
 use Rattle.tx_ring.specs.Meeting.{IsClosed}
+use Rattle.shared_ring.specs.Ends.{driver_of, controller_of}
+use Rattle.tx_ring.specs.Form.{tx}
 use Rattle.tx_ring.proofs.Closing.{closed-by}
 use Rattle.tx_ring.proofs.ring.close.Goals as goal
 
 pub returns : goal.returns
 returns c = let i = c.driver.inside in let j = c.controller.inside in
     subst (λ (d : DriverSide). IsClosed d c.args.controller c.take_apart.result.items) c.driver.view_is
-    (subst (λ (e : ControllerSide). IsClosed c.driver.inside.seat e c.take_apart.result.items) c.controller.view_is
-    (closed-by i.seat j.seat i.fill i.next i.out i.seen i.done i.unseen i.whole i.asks.items i.state c.driver.invariant (ap (λ e. e.table) c.controller.view_is ∙ c.requires.controller ∙ sym c.requires.driver ∙ sym (ap (λ e. e.table) c.driver.view_is))
+    (subst (λ (e : ControllerSide). IsClosed (driver_of tx c.driver.inside.seat) e c.take_apart.result.items) c.controller.view_is
+    (closed-by (driver_of tx i.seat) (controller_of tx j.seat) i.fill i.next i.out i.seen i.done i.unseen i.whole i.asks.items i.state c.driver.invariant (ap (λ e. e.table) c.controller.view_is ∙ c.requires.controller ∙ sym c.requires.driver ∙ sym (ap (λ e. e.table) c.driver.view_is))
     j.serve j.ready j.last j.held j.whole j.ends j.asks j.owed j.state j.seen c.controller.invariant c.take_apart.result.items c.take_apart.ensures))

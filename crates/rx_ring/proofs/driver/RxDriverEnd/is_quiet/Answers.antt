@@ -5,14 +5,16 @@ use Rattle.rx_ring.specs.declared.events.RxDriverOwn.TheVariants as own
 use Rattle.ring_model.specs.shared.Agreement.{bit}
 use Rattle.rx_ring.specs.Records.{RxDriven, drive, know}
 use Rattle.rx_ring.specs.Ends.{DriverSide, driver_size, driver_record, known_of, driver_state, posted, returned}
+use Rattle.shared_ring.specs.Ends.{driver_of}
+use Rattle.rx_ring.specs.Form.{rx}
 use Rattle.rx_ring.proofs.DriverEnds.{record-after, known-after, end-after, end-quiet, quiet-seen}
 use Rattle.rx_ring.proofs.driver.RxDriverEnd.is_quiet.Goals as goal
 
 pub invariant_of-self : goal.invariant_of-self
-invariant_of-self c = let i = c.self.inside in end-after i.seat c.load_quiet.new.self (driver.Own (own.LoadedQuiet (bit c.load_quiet.result))) i.fill i.next i.out i.state c.load_quiet.ensures (end-quiet (driver_size i.seat) (driver_record i.seat) (known_of i.seat) i.fill i.next i.out i.state c.self.invariant (bit c.load_quiet.result))
+invariant_of-self c = let i = c.self.inside in end-after (driver_of rx i.seat) (driver_of rx c.load_quiet.new.seat) (driver.Own (own.LoadedQuiet (bit c.load_quiet.result))) i.fill i.next i.out i.state c.load_quiet.ensures (end-quiet (driver_size (driver_of rx i.seat)) (driver_record (driver_of rx i.seat)) (known_of (driver_of rx i.seat)) i.fill i.next i.out i.state c.self.invariant (bit c.load_quiet.result))
 
 pub returns-clause-record : goal.returns-clause-record
-returns-clause-record c = record-after c.self.inside.seat c.load_quiet.new.self (driver.Own (own.LoadedQuiet (bit c.load_quiet.result))) c.load_quiet.ensures ∙ ap (λ (s : DriverSide). drive (driver_record s) (driver.Own (own.LoadedQuiet (bit c.load_quiet.result)))) c.self.view_is
+returns-clause-record c = record-after (driver_of rx c.self.inside.seat) (driver_of rx c.load_quiet.new.seat) (driver.Own (own.LoadedQuiet (bit c.load_quiet.result))) c.load_quiet.ensures ∙ ap (λ (s : DriverSide). drive (driver_record s) (driver.Own (own.LoadedQuiet (bit c.load_quiet.result)))) c.self.view_is
 
 pub returns-clause-seen : goal.returns-clause-seen
-returns-clause-seen c e = let i = c.self.inside in ap (λ k. k.quiet) (known-after i.seat c.load_quiet.new.self (driver.Own (own.LoadedQuiet (bit c.load_quiet.result))) c.load_quiet.ensures) ∙ quiet-seen (known_of i.seat).quiet c.load_quiet.result e
+returns-clause-seen c e = let i = c.self.inside in ap (λ k. k.quiet) (known-after (driver_of rx i.seat) (driver_of rx c.load_quiet.new.seat) (driver.Own (own.LoadedQuiet (bit c.load_quiet.result))) c.load_quiet.ensures) ∙ quiet-seen (known_of (driver_of rx i.seat)).quiet c.load_quiet.result e

@@ -5,14 +5,16 @@ use Rattle.std.proofs.Common.{if◌then◌else◌}
 use Rattle.std.specs.Prelude.{◌==◌}
 use Rattle.rx_ring.specs.Records.{RxDriven, drive, know}
 use Rattle.rx_ring.specs.Ends.{DriverSide, driver_size, driver_record, known_of, driver_state, posted, returned}
+use Rattle.shared_ring.specs.Ends.{driver_of}
+use Rattle.rx_ring.specs.Form.{rx}
 use Rattle.rx_ring.proofs.DriverEnds.{record-after, known-after, end-after, end-post}
 use Rattle.rx_ring.proofs.driver.RxDriverEnd.post.Goals as goal
 
 pub invariant_of-self : goal.invariant_of-self
-invariant_of-self c = let i = c.self.inside in end-after i.seat c.post.new.self (driver.Posted i.fill 0 c.args.buf) _ i.next (i.out + 1) i.state c.post.ensures (end-post (driver_size i.seat) (driver_record i.seat) (known_of i.seat) i.fill i.next i.out i.state c.self.invariant c.args.buf.number c.place_after-self-inside.result (subst (λ (s : DriverSide). length (posted s) + 1 < returned s + driver_size s) (sym c.self.view_is) c.requires.room) (c.place_after-self-inside.ensures.value ∙ ap (λ n. if (i.fill + 1) == n then 0 else (i.fill + 1)) (c.size.ensures.value ∙ ap driver_size c.post.ensures)))
+invariant_of-self c = let i = c.self.inside in end-after (driver_of rx i.seat) (driver_of rx c.post.new.self) (driver.Posted i.fill 0 c.args.buf) _ i.next (i.out + 1) i.state (ap (driver_of rx) c.post.ensures) (end-post (driver_size (driver_of rx i.seat)) (driver_record (driver_of rx i.seat)) (known_of (driver_of rx i.seat)) i.fill i.next i.out i.state c.self.invariant c.args.buf.number c.place_after-self-inside.result (subst (λ (s : DriverSide). length (posted s) + 1 < returned s + driver_size s) (sym c.self.view_is) c.requires.room) (c.place_after-self-inside.ensures.value ∙ ap (λ n. if (i.fill + 1) == n then 0 else (i.fill + 1)) (c.size.ensures.value ∙ ap driver_size (ap (driver_of rx) c.post.ensures))))
 
 pub returns-clause-record : goal.returns-clause-record
-returns-clause-record c = record-after c.self.inside.seat c.post.new.self (driver.Posted c.self.inside.fill 0 c.args.buf) c.post.ensures ∙ ap (λ (s : DriverSide). drive (driver_record s) (driver.Posted c.self.inside.fill 0 c.args.buf)) c.self.view_is
+returns-clause-record c = record-after (driver_of rx c.self.inside.seat) (driver_of rx c.post.new.self) (driver.Posted c.self.inside.fill 0 c.args.buf) (ap (driver_of rx) c.post.ensures) ∙ ap (λ (s : DriverSide). drive (driver_record s) (driver.Posted c.self.inside.fill 0 c.args.buf)) c.self.view_is
 
 pub returns-clause-known : goal.returns-clause-known
-returns-clause-known c = known-after c.self.inside.seat c.post.new.self (driver.Posted c.self.inside.fill 0 c.args.buf) c.post.ensures ∙ ap (λ (s : DriverSide). know (driver_record s) (known_of s) (driver.Posted c.self.inside.fill 0 c.args.buf)) c.self.view_is
+returns-clause-known c = known-after (driver_of rx c.self.inside.seat) (driver_of rx c.post.new.self) (driver.Posted c.self.inside.fill 0 c.args.buf) (ap (driver_of rx) c.post.ensures) ∙ ap (λ (s : DriverSide). know (driver_record s) (known_of s) (driver.Posted c.self.inside.fill 0 c.args.buf)) c.self.view_is

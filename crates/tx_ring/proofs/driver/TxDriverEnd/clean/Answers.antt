@@ -2,11 +2,13 @@
 use Rattle.std.proofs.Common.{◌+◌, ap, ◌∙◌, if◌then◌else◌}
 use Rattle.std.specs.Prelude.{◌==◌}
 use Rattle.tx_ring.specs.Ends.{driver_size}
+use Rattle.shared_ring.specs.Ends.{driver_of}
+use Rattle.tx_ring.specs.Form.{tx}
 use Rattle.tx_ring.proofs.DriverCalls.{clean-keeps, cleaned-one}
 use Rattle.tx_ring.proofs.driver.TxDriverEnd.clean.Goals as goal
 
 pub invariant_of-self : goal.invariant_of-self
-invariant_of-self c = let i = c.self.inside in let f = c.clean-buf.ensures in clean-keeps i.seat i.fill i.next i.out i.seen i.done i.unseen i.whole i.asks.items i.state c.self.invariant c.args.self.now c.self.view_is c.requires.live c.requires.reported c.clean-buf.new.self c.clean-buf.result c.place_after-self-inside.result c.clean-buf.ensures (c.place_after-self-inside.ensures.value ∙ ap (λ n. if (i.next + 1) == n then 0 else (i.next + 1)) (c.size.ensures.value ∙ ap driver_size f.step))
+invariant_of-self c = let i = c.self.inside in let f = c.clean-buf.ensures in clean-keeps (driver_of tx i.seat) i.fill i.next i.out i.seen i.done i.unseen i.whole i.asks.items i.state c.self.invariant c.args.self.now c.self.view_is c.requires.live c.requires.reported (driver_of tx c.clean-buf.new.seat) c.clean-buf.result c.place_after-self-inside.result c.clean-buf.ensures (c.place_after-self-inside.ensures.value ∙ ap (λ n. if (i.next + 1) == n then 0 else (i.next + 1)) (c.size.ensures.value ∙ ap driver_size f.step))
 
 pub returns : goal.returns
-returns c = let i = c.self.inside in cleaned-one i.seat i.fill i.next i.out i.seen i.done i.unseen i.whole i.asks.items i.state c.self.invariant c.args.self.now c.self.view_is c.requires.live c.requires.reported c.clean-buf.new.self c.clean-buf.result c.clean-buf.ensures
+returns c = let i = c.self.inside in cleaned-one (driver_of tx i.seat) i.fill i.next i.out i.seen i.done i.unseen i.whole i.asks.items i.state c.self.invariant c.args.self.now c.self.view_is c.requires.live c.requires.reported (driver_of tx c.clean-buf.new.seat) c.clean-buf.result c.clean-buf.ensures

@@ -2,14 +2,16 @@
 use Rattle.std.proofs.Common.{◌+◌, ap, ◌∙◌, if◌then◌else◌}
 use Rattle.std.specs.Prelude.{◌==◌}
 use Rattle.tx_ring.specs.Ends.{driver_size}
+use Rattle.shared_ring.specs.Ends.{driver_of}
+use Rattle.tx_ring.specs.Form.{tx}
 use Rattle.tx_ring.proofs.DriverCalls.{post-keeps, post-record, post-known}
 use Rattle.tx_ring.proofs.driver.TxDriverEnd.post.Goals as goal
 
 pub invariant_of-self : goal.invariant_of-self
-invariant_of-self c = let i = c.self.inside in post-keeps i.seat i.fill i.next i.out i.seen i.done i.unseen i.whole i.asks.items i.state c.self.invariant c.args.self.now c.self.view_is c.args.buf c.args.eop c.args.rs c.args.paylen c.requires.real c.requires.follows c.post.new.self c.post.ensures c.place_after-self-inside.result c.requires.open c.requires.room (c.place_after-self-inside.ensures.value ∙ ap (λ n. if (i.fill + 1) == n then 0 else (i.fill + 1)) (c.size.ensures.value ∙ ap driver_size c.post.ensures))
+invariant_of-self c = let i = c.self.inside in post-keeps (driver_of tx i.seat) i.fill i.next i.out i.seen i.done i.unseen i.whole i.asks.items i.state c.self.invariant c.args.self.now c.self.view_is c.args.buf c.args.eop c.args.rs c.args.paylen c.requires.real c.requires.follows (driver_of tx c.post.new.seat) c.post.ensures c.place_after-self-inside.result c.requires.open c.requires.room (c.place_after-self-inside.ensures.value ∙ ap (λ n. if (i.fill + 1) == n then 0 else (i.fill + 1)) (c.size.ensures.value ∙ ap driver_size c.post.ensures))
 
 pub returns-clause-record : goal.returns-clause-record
-returns-clause-record c = let i = c.self.inside in post-record i.seat i.fill i.next i.out i.seen i.done i.unseen i.whole i.asks.items i.state c.self.invariant c.args.self.now c.self.view_is c.args.buf c.args.eop c.args.rs c.args.paylen c.requires.real c.requires.follows c.post.new.self c.post.ensures
+returns-clause-record c = let i = c.self.inside in post-record (driver_of tx i.seat) i.fill i.next i.out i.seen i.done i.unseen i.whole i.asks.items i.state c.self.invariant c.args.self.now c.self.view_is c.args.buf c.args.eop c.args.rs c.args.paylen c.requires.real c.requires.follows (driver_of tx c.post.new.seat) c.post.ensures
 
 pub returns-clause-known : goal.returns-clause-known
-returns-clause-known c = let i = c.self.inside in post-known i.seat i.fill i.next i.out i.seen i.done i.unseen i.whole i.asks.items i.state c.self.invariant c.args.self.now c.self.view_is c.args.buf c.args.eop c.args.rs c.args.paylen c.requires.real c.requires.follows c.post.new.self c.post.ensures
+returns-clause-known c = let i = c.self.inside in post-known (driver_of tx i.seat) i.fill i.next i.out i.seen i.done i.unseen i.whole i.asks.items i.state c.self.invariant c.args.self.now c.self.view_is c.args.buf c.args.eop c.args.rs c.args.paylen c.requires.real c.requires.follows (driver_of tx c.post.new.seat) c.post.ensures

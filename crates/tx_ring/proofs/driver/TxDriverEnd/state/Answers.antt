@@ -7,15 +7,17 @@ use Rattle.shared_ring.specs.Words.{control_word}
 use Rattle.tx_ring.specs.Calls.{IsEndOf}
 use Rattle.tx_ring.specs.Records.{drive, know}
 use Rattle.tx_ring.specs.Ends.{DriverSide, driver_size, driver_record, known_of, driver_state}
+use Rattle.shared_ring.specs.Ends.{driver_of}
+use Rattle.tx_ring.specs.Form.{tx}
 use Rattle.tx_ring.proofs.DriverEnds.{record-after, known-after, end-as, end-state}
 use Rattle.tx_ring.proofs.driver.TxDriverEnd.state.Goals as goal
 
 pub invariant_of-self : goal.invariant_of-self
-invariant_of-self c = let i = c.self.inside in end-as i.seat c.load_control-control.new.self (driver.LoadedControl (control_word c.load_control-control.result)) (record (driver_record i.seat) { state = (learned (driver_state i.seat) (control_word c.load_control-control.result)) }) (known_of i.seat) i.fill i.next i.out i.seen i.done i.unseen i.whole i.asks.items c.learned-self-inside.result c.load_control-control.ensures refl refl
-    (subst (λ s. IsEndOf (driver_size i.seat) (drive (driver_record i.seat) (driver.LoadedControl (control_word c.load_control-control.result))) (known_of i.seat) i.fill i.next i.out i.seen i.done i.unseen i.whole i.asks.items s) (sym (c.learned-self-inside.ensures ∙ ap (learned i.state) c.word.ensures ∙ ap (λ s. learned s (control_word c.load_control-control.result)) c.self.invariant.state_is)) (end-state (driver_size i.seat) (driver_record i.seat) (known_of i.seat) i.fill i.next i.out i.seen i.done i.unseen i.whole i.asks.items i.state c.self.invariant (learned (driver_state i.seat) (control_word c.load_control-control.result)) (driver_record i.seat).published (known_of i.seat).head (learned_unanswered (driver_state i.seat) (control_word c.load_control-control.result))))
+invariant_of-self c = let i = c.self.inside in end-as (driver_of tx i.seat) (driver_of tx c.load_control-control.new.self) (driver.LoadedControl (control_word c.load_control-control.result)) (record (driver_record (driver_of tx i.seat)) { state = (learned (driver_state (driver_of tx i.seat)) (control_word c.load_control-control.result)) }) (known_of (driver_of tx i.seat)) i.fill i.next i.out i.seen i.done i.unseen i.whole i.asks.items c.learned-self-inside.result (ap (driver_of tx) c.load_control-control.ensures) refl refl
+    (subst (λ s. IsEndOf (driver_size (driver_of tx i.seat)) (drive (driver_record (driver_of tx i.seat)) (driver.LoadedControl (control_word c.load_control-control.result))) (known_of (driver_of tx i.seat)) i.fill i.next i.out i.seen i.done i.unseen i.whole i.asks.items s) (sym (c.learned-self-inside.ensures ∙ ap (learned i.state) c.word.ensures ∙ ap (λ s. learned s (control_word c.load_control-control.result)) c.self.invariant.state_is)) (end-state (driver_size (driver_of tx i.seat)) (driver_record (driver_of tx i.seat)) (known_of (driver_of tx i.seat)) i.fill i.next i.out i.seen i.done i.unseen i.whole i.asks.items i.state c.self.invariant (learned (driver_state (driver_of tx i.seat)) (control_word c.load_control-control.result)) (driver_record (driver_of tx i.seat)).published (known_of (driver_of tx i.seat)).head (learned_unanswered (driver_state (driver_of tx i.seat)) (control_word c.load_control-control.result))))
 
 pub returns-clause-record : goal.returns-clause-record
-returns-clause-record c = let i = c.self.inside in record-after i.seat c.load_control-control.new.self (driver.LoadedControl (control_word c.load_control-control.result)) c.load_control-control.ensures ∙ ap (λ (s : DriverSide). drive (driver_record s) (driver.LoadedControl (control_word c.load_control-control.result))) c.self.view_is
+returns-clause-record c = let i = c.self.inside in record-after (driver_of tx i.seat) (driver_of tx c.load_control-control.new.self) (driver.LoadedControl (control_word c.load_control-control.result)) (ap (driver_of tx) c.load_control-control.ensures) ∙ ap (λ (s : DriverSide). drive (driver_record s) (driver.LoadedControl (control_word c.load_control-control.result))) c.self.view_is
 
 pub returns-clause-known : goal.returns-clause-known
-returns-clause-known c = let i = c.self.inside in known-after i.seat c.load_control-control.new.self (driver.LoadedControl (control_word c.load_control-control.result)) c.load_control-control.ensures ∙ ap (λ (s : DriverSide). know (driver_record s) (known_of s) (driver.LoadedControl (control_word c.load_control-control.result))) c.self.view_is
+returns-clause-known c = let i = c.self.inside in known-after (driver_of tx i.seat) (driver_of tx c.load_control-control.new.self) (driver.LoadedControl (control_word c.load_control-control.result)) (ap (driver_of tx) c.load_control-control.ensures) ∙ ap (λ (s : DriverSide). know (driver_record s) (known_of s) (driver.LoadedControl (control_word c.load_control-control.result))) c.self.view_is

@@ -1,0 +1,59 @@
+-- What is of the receive direction.
+use Rattle.std.specs.Prelude.{◌≡◌, ℕ, ◌+◌, ◌%◌, ◌<◌, ◌≤◌, true, List, [], length, Option, Some, slice_get}
+use mathlib.Core.Option as maybe
+use mathlib.Core.Option.{some}
+use lib.ListN.{get_elem?}
+use Rattle.buffer_pool.specs.Buffer.{Buffer, buffer}
+use Rattle.ring_model.specs.declared.states.Completion.{Completion}
+use Rattle.ring_model.specs.declared.states.Completion.TheVariants.{Status}
+use Rattle.ring_model.specs.receive.Ring.{RxRing}
+use Rattle.ring_model.specs.shared.Segments.{Segment, ends_segment}
+use Rattle.ring_model.specs.receive.Steps.{IsRxReachable}
+use Rattle.ring_model.specs.receive.Lawful.{IsLawfulRx}
+use Rattle.ring_model.specs.shared.Frames.{Bytes, ends_frame}
+use Rattle.ring_model.specs.shared.Queue.{posted_count, served_count, returned_count}
+use Rattle.shared_ring.specs.Forms.{Form}
+use Rattle.shared_ring.specs.Lies.{driven, IsControlled}
+use Rattle.rx_ring.specs.declared.events.RxDriverOwn.{RxDriverOwn}
+use Rattle.rx_ring.specs.declared.events.RxControllerOwn.{RxControllerOwn}
+use Rattle.rx_ring.specs.Records.{RxControlled, DriverStep, ControllerStep, driving, controlling, knowing, posting, drive_own, control_own}
+use Rattle.rx_ring.specs.Rule.{Learnt, LiesAs, says, lies_there}
+
+-- both records are those of one lawful ring that a schedule makes, of which the driver has learnt what it says
+pub record AreOf (n : ℕ) (ds : List DriverStep) (cs : List ControllerStep) : Type 0 where
+  pub queue : RxRing Bytes
+  pub reachable : IsRxReachable Bytes n queue
+  pub driver : driving ds ≡ driven queue.queue
+  pub controller : IsControlled {Given = _} says lies_there queue.queue queue.still (controlling n cs)
+  pub learnt : Learnt n queue (knowing ds)
+  pub lawful : IsLawfulRx Bytes queue
+  pub size_is : queue.size ≡ n
+
+-- what lies in the slots as the table is closed: the buffer of each item that is out and not held
+pub record LeftIn (n : ℕ) (ds : List DriverStep) (cs : List ControllerStep) (slots : List Buffer) : Type 0 where
+  pub of_one_ring : AreOf n ds cs
+  pub buffers : (k : ℕ) (b : Buffer) → returned_count of_one_ring.queue.queue ≤ k → k < posted_count of_one_ring.queue.queue → (of_one_ring.queue.held ≡ true → ¬ (k ≡ served_count of_one_ring.queue.queue))
+      → lies_there (slice_get of_one_ring.queue.ledger.posted k) (slice_get of_one_ring.queue.ledger.served k) ≡ Some b → get_elem? slots (k % n) ≡ some b
+
+-- a receive ring reports by its descriptors
+pub record RxLies (n : ℕ) (mode : Completion) (q : RxRing Bytes) (ds : List DriverStep) (cs : List ControllerStep) (words : List ℕ) (homes : List (maybe.Option Buffer)) : Type 0 where
+  pub reports : mode ≡ Status
+  pub lies : LiesAs n q ds cs words homes
+
+-- an empty buffer is posted, and comes back with its number
+abbrev pub rx : Form (RxRing Bytes) ℕ (Segment Bytes) (Segment Bytes) RxDriverOwn RxControllerOwn
+rx = record {
+  posting = posting;
+  drive_own = drive_own;
+  control_own = control_own;
+  Reports = λ mode. mode ≡ Status;
+  MayPost = λ n xs word b. (word ≡ 0) × (b ≡ buffer b.number []);
+  MayPublish = λ xs. Unit {0};
+  MayClearTail = λ mode. Unit {0};
+  MayDisable = λ c. ends_frame ends_segment true c.served ≡ true;
+  IsFetched = λ n c word b. b ≡ buffer b.number [];
+  IsOf = λ k b. (k ≡ b.number) × (b ≡ buffer b.number b.bytes);
+  Lies = RxLies;
+  AreOf = AreOf;
+  LeftIn = LeftIn;
+}

@@ -1,0 +1,30 @@
+//! The receive direction.
+
+use crate::events::{RxControllerOwn, RxDriverOwn};
+use shared_ring::{ControllerSeat, Direction, DriverSeat, Ring};
+
+/// Between any two steps, the words, the slots and both records agree with one ring that a schedule makes.
+pub struct RxRule;
+
+impl Direction<RxDriverOwn, RxControllerOwn> for RxRule {
+    ghost use Rattle.ring_model.specs.shared.Frames.{Bytes};
+    ghost use Rattle.ring_model.specs.receive.Ring as receive;
+    ghost use Rattle.std.specs.Prelude.{ℕ};
+    ghost use Rattle.rx_ring.specs.Form.{rx};
+
+    ghost Ring = { receive.RxRing Bytes };
+
+    ghost Posted = { ℕ };
+
+    ghost Served = { receive.Segment Bytes };
+
+    ghost Given = { receive.Segment Bytes };
+
+    ghost form = { rx };
+}
+
+pub(crate) type RxShared = Ring<RxDriverOwn, RxControllerOwn, RxRule>;
+
+pub(crate) type RxDriverSeat = DriverSeat<RxDriverOwn, RxControllerOwn, RxRule>;
+
+pub(crate) type RxControllerSeat = ControllerSeat<RxDriverOwn, RxControllerOwn, RxRule>;

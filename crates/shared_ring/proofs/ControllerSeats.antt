@@ -1,0 +1,259 @@
+-- The controller's seat: what each of its steps asks of the table, and what the seat keeps.
+use Rattle.std.proofs.Common.{◌≡◌, ℕ, ◌+◌, ◌-◌, ◌%◌, ◌<◌, ◌≤◌, Bool, true, false, List, [], ◌∷◌, ◌++◌, length, Option, Some, None, sym, refl, ap, ◌∙◌, subst, arith, mod-lt}
+use mathlib.Core.Option.{none}
+use Rattle.atomic_table.specs.Table.{Allows, Step, step, rest}
+use Rattle.atomic_table.specs.Seated.{TableId}
+use Rattle.buffer_pool.specs.Buffer.{Buffer, blank}
+use Rattle.limits.specs.RingLength.{IsRingLength}
+use Rattle.ring_model.specs.declared.states.Completion.{Completion}
+use Rattle.ring_model.specs.shared.Handshakes.{is_serving}
+use Rattle.shared_ring.specs.declared.events.DriverEvent.{DriverEvent}
+use Rattle.shared_ring.specs.declared.events.ControllerEvent.{ControllerEvent}
+use Rattle.shared_ring.specs.declared.events.ControllerEvent.TheVariants as controller
+use Rattle.shared_ring.specs.declared.events.View.{View}
+use Rattle.shared_ring.specs.declared.events.View.TheVariants.{Controller}
+use Rattle.shared_ring.specs.Ends.{Side, grown, controller_of}
+use Rattle.shared_ring.specs.Forms.{Form, control, controlling}
+use Rattle.shared_ring.specs.Keeping.{IsRuled, IsControllerSeat}
+use Rattle.shared_ring.specs.Own.{Event, MayStore, MayGive}
+use Rattle.shared_ring.specs.Plays.{Seated, controller_does, LoadsTail, LoadsNext, LoadsRequest, enables, disables, controller_stores, controller_gives}
+use Rattle.shared_ring.specs.Records.{Controlled, controller_slots, uncontrolled, count_at}
+use Rattle.shared_ring.specs.Seats.{controller_part}
+use Rattle.shared_ring.specs.Slots.{slots_while, front_buffer}
+use Rattle.shared_ring.specs.Steps.{FoundTail, CameOut}
+use Rattle.shared_ring.specs.Tables.{IsTableOf, words_of}
+use Rattle.shared_ring.proofs.Allowed.{controller-store, controller-load, controller-take, controller-give}
+use Rattle.shared_ring.proofs.DriverSeats.{same-words, words-big, front-is}
+use Rattle.shared_ring.proofs.Folds.{controlling-snoc}
+
+module _ {Ring Posted Served Given D C : Type 0} (form : Form Ring Posted Served Given D C) where
+  abbrev It : Type 0
+  It = Seated (DriverEvent D) (ControllerEvent C)
+
+  abbrev End : Type 0
+  End = Side (ControllerEvent C)
+
+  abbrev done_by : End → Controlled Served
+  done_by s = controlling form s.table.slots s.events
+
+  did : (n : ℕ) (es : List (ControllerEvent C)) (e : ControllerEvent C) → controlling form n (es ++ e ∷ []) ≡ control form n (controlling form n es) e
+  did n es e = controlling-snoc n form.control_own uncontrolled es e
+
+  module _ (table : TableId) (me : It) (size : ℕ) (mode : Completion) (inv : IsControllerSeat form table me size mode) where
+    abbrev es : List (ControllerEvent C)
+    es = controller_part me.0
+
+    abbrev x : Controlled Served
+    x = controlling form size (controller_part me.0)
+
+    abbrev its : List (ℕ × Buffer)
+    its = controller_slots size (controlling form size (controller_part me.0))
+
+    abbrev side : TableId → It → End
+    side t m = record { table = t; completion = mode; events = controller_part m.0 }
+
+    big : 8 ≤ size
+    big = inv.lawful.0
+
+    view-is : me.0 ≡ Controller (controller_part me.0)
+    view-is = ap (λ (m : It). m.0) inv.me_is
+
+    slots-are : me.1 ≡ controller_slots size (controlling form size (controller_part me.0))
+    slots-are = ap (λ (m : It). m.1) inv.me_is
+
+    made : (table' : TableId) (me' : It) (es' : List (ControllerEvent C)) (slots' : List (ℕ × Buffer)) (x' : Controlled Served) → table' ≡ table → me' ≡ (Controller es', slots') → controlling form size es' ≡ x' → slots' ≡ controller_slots size x' → IsControllerSeat form table' me' size mode
+    made table' me' es' slots' x' t m e s = subst (λ (z : TableId). IsControllerSeat form z me' size mode) (sym t) (subst (λ (z : It). IsControllerSeat form table z size mode) (sym m) (record {
+      law = inv.law;
+      size_is = inv.size_is;
+      words = inv.words;
+      lawful = inv.lawful;
+      me_is = ap (λ (xs : List (ℕ × Buffer)). let z : It = (Controller es', xs) in z) (s ∙ ap (controller_slots size) (sym e));
+    }))
+
+    -- a step that leaves the slot that the controller has
+    pub same-keeps : (e : ControllerEvent C) (table' : TableId) (me' : It) → table' ≡ table → me' ≡ (controller_does me e, me.1) → controller_slots size x ≡ controller_slots size (control form size x e) → IsControllerSeat form table' me' size mode
+    same-keeps e table' me' t m s = made table' me' (es ++ e ∷ []) me.1 (control form size x e) t m (did size es e) (slots-are ∙ s)
+
+    module _ (now : End) (was : side table me ≡ now) where
+      one-more : (e : ControllerEvent C) (table' : TableId) (me' : It) (slots' : List (ℕ × Buffer)) → table' ≡ table → me' ≡ (Controller (es ++ e ∷ []), slots') → side table' me' ≡ grown now e
+      one-more e table' me' slots' t m =
+          ap (λ (z : It). side table' z) m ∙ ap (λ (z : TableId). let s : End = record { table = z; completion = mode; events = es ++ e ∷ [] } in s) t ∙ ap (λ (s : End). grown s e) was
+
+      pub same-steps : (e : ControllerEvent C) (table' : TableId) (me' : It) → table' ≡ table → me' ≡ (controller_does me e, me.1) → side table' me' ≡ grown now e
+      same-steps e table' me' t m = one-more e table' me' me.1 t m
+
+      -- what a contract says of the end goes for the record
+      words-are : {Y : Type 0} (f : Controlled Served → ℕ → Y) → f (done_by now) now.table.slots ≡ f x size
+      words-are f = ap (λ (s : End). f (done_by s) s.table.slots) (sym was) ∙ ap (λ (n : ℕ). f (controlling form n es) n) inv.size_is
+
+      here : (F : ℕ → Completion → List (ControllerEvent C) → Type 0) → F now.table.slots now.completion now.events → F size mode (controller_part me.0)
+      here F y = subst (λ (n : ℕ). F n mode (controller_part me.0)) inv.size_is (subst (λ (s : End). F s.table.slots s.completion s.events) (sym was) y)
+
+      back-there : (F : ℕ → Completion → List (ControllerEvent C) → Type 0) → F size mode (controller_part me.0) → F now.table.slots now.completion now.events
+      back-there F y = subst (λ (s : End). F s.table.slots s.completion s.events) was (subst (λ (n : ℕ). F n mode (controller_part me.0)) (sym inv.size_is) y)
+
+      serves : is_serving (done_by now).state ≡ true → is_serving x.state ≡ true
+      serves e = sym (words-are (λ y n. is_serving y.state)) ∙ e
+
+      at-serve : (place : ℕ) → place ≡ length (done_by now).served % now.table.slots → place ≡ length x.served % size
+      at-serve place e = e ∙ words-are (λ y n. length y.served % n)
+
+      unheld : (done_by now).held ≡ None → x.held ≡ None
+      unheld e = sym (words-are (λ y n. y.held)) ∙ e
+
+      below : (place : ℕ) → place ≡ length x.served % size → place < words_of size mode
+      below place e = let b = big in let w = words-big size mode in let m : length x.served % size < size = mod-lt (length x.served) (omega arith) in omega arith
+
+      module _ (ring : TableId) (key : ℕ × Completion) (ruled : IsTableOf ring key.0 key.1) (ring_now : TableId) (ring_is : ring ≡ ring_now) (mine : now.table ≡ ring_now) where
+        own : table ≡ ring
+        own = ap (λ (s : End). s.table) was ∙ mine ∙ sym ring_is
+
+        key-is : key.0 ≡ size
+        key-is = sym ruled.slots ∙ ap (λ (z : TableId). z.slots) (sym own) ∙ inv.size_is
+
+        counts : ring.slots ≡ size
+        counts = ap (λ (z : TableId). z.slots) (sym own) ∙ inv.size_is
+
+        mode-is : key.1 ≡ mode
+        mode-is = same-words size key.1 mode (ap (λ (n : ℕ). words_of n key.1) (sym key-is) ∙ sym ruled.words ∙ ap (λ (z : TableId). z.words) (sym own) ∙ inv.words)
+
+        within : (i : ℕ) → i < words_of size mode → i < ring.words
+        within i h = let b : ring.words ≡ words_of size mode = ap (λ (z : TableId). z.words) (sym own) ∙ inv.words in omega arith
+
+        low : (i : ℕ) → i < size + 4 → i < words_of size mode
+        low i h = let w = words-big size mode in omega arith
+
+        allow-at : (T : ℕ → It → ℕ → It → Type 0) (id i : ℕ) (f : ℕ → ℕ) (m m' : It) → m' ≡ m → Allows (IsRuled form size mode) size id m i f (T size m) → Allows (IsRuled form key.0 key.1) ring.slots id m' i f (T ring.slots m')
+        allow-at T id i f m m' e a =
+            subst (λ (z : ℕ). Allows (IsRuled form z key.1) ring.slots id m' i f (T ring.slots m')) (sym key-is)
+            (subst (λ (z : Completion). Allows (IsRuled form size z) ring.slots id m' i f (T ring.slots m')) (sym mode-is)
+            (subst (λ (z : ℕ). Allows (IsRuled form size mode) z id m' i f (T z m')) (sym counts)
+            (subst (λ (z : It). Allows (IsRuled form size mode) size id z i f (T size z)) (sym e) a)))
+
+        abbrev Asks : (Step Buffer → It → ℕ → It → Type 0) → ℕ → ℕ → ℕ → Type 0
+        Asks T id i v = (table ≡ ring) × (i < ring.words) × Allows (IsRuled form key.0 key.1) ring.slots id me i (λ _. v) (λ _. T (step ring.slots i v 0 none) me v)
+
+        abbrev LoadAsks : (Step Buffer → It → ℕ → It → Type 0) → ℕ → ℕ → Type 0
+        LoadAsks T id i = (table ≡ ring) × (i < ring.words) × Allows (IsRuled form key.0 key.1) ring.slots id me i (λ y. y) (T (step ring.slots i 0 0 none) me)
+
+        store-asks : (T : Step Buffer → It → ℕ → It → Type 0) (id i v : ℕ) → i < words_of size mode → Allows (IsRuled form size mode) size id (Controller es, its) i (λ _. v) (λ _ m. T (step size i v 0 none) (Controller es, its) v m) → Asks T id i v
+        store-asks T id i v h a = (own, within i h, allow-at (λ n m r m'. T (step n i v 0 none) m v m') id i (λ _. v) (Controller es, its) me inv.me_is a)
+
+        load-asks : (T : Step Buffer → It → ℕ → It → Type 0) (id i : ℕ) → i < words_of size mode → Allows (IsRuled form size mode) size id (Controller es, its) i (λ y. y) (T (step size i 0 0 none) (Controller es, its)) → LoadAsks T id i
+        load-asks T id i h a = (own, within i h, allow-at (λ n m r m'. T (step n i 0 0 none) m r m') id i (λ y. y) (Controller es, its) me inv.me_is a)
+
+        -- A3, B3
+        pub look-asks : (id : ℕ) → is_serving (done_by now).state ≡ true → LoadAsks (LoadsTail form) id (size + 1)
+        look-asks id serving = load-asks (LoadsTail form) id (size + 1) (low (size + 1) (omega arith)) (controller-load form size mode es id its (LoadsTail form) (size + 1) controller.Looked (λ r. (r < size) × (x.known ≤ count_at size (length x.served) r))
+            (λ q ds words homes pos l. let a = inv.law.allowed size mode q ds es words homes pos l in let f = a.controller in let g = f.look (serves serving) in ((g.0, g.1), g.2)) (λ r t. record { seat = refl; below = t.0; grows = t.1 }))
+
+        -- a tail is a place
+        pub look-fits : (r : ℕ) (me' : It) → LoadsTail form (step ring.slots (size + 1) 0 0 none) me r me' → r < size
+        look-fits r me' t = let b = t.below in let c = counts in omega arith
+
+        pub look-steps : (r : ℕ) (table' : TableId) (me' : It) → table' ≡ table → LoadsTail form (step ring.slots (size + 1) 0 0 none) me r me' → FoundTail (controller_of form now) r (controller_of form (side table' me'))
+        look-steps r table' me' t told = record {
+          step = ap (controller_of form) (same-steps (controller.Looked r) table' me' t told.seat);
+          below = back-there (λ n m xs. r < n) (subst (λ (n : ℕ). r < n) counts told.below);
+          grows = back-there (λ n m xs. (controlling form n xs).known ≤ count_at n (length (controlling form n xs).served) r) (subst (λ (n : ℕ). (controlling form n es).known ≤ count_at n (length (controlling form n es).served) r) counts told.grows);
+        }
+
+        -- A4, B4
+        pub fetch-asks : (id place : ℕ) → place ≡ length (done_by now).served % now.table.slots → is_serving (done_by now).state ≡ true → 0 < (done_by now).known - length (done_by now).served → (done_by now).held ≡ None → (done_by now).barred ≡ false
+            → LoadAsks (LoadsNext form) id place
+        fetch-asks id place at serving some none_held free = let f : (done_by now).known - length (done_by now).served ≡ x.known - length x.served = words-are (λ y n. y.known - length y.served) in
+            let more : length x.served < x.known = omega arith in
+            load-asks (LoadsNext form) id place (below place (at-serve place at)) (controller-take form size mode es id its (LoadsNext form) place (λ r b. controller.Fetched place r b) (λ r b. form.IsFetched size x r b)
+            (λ q ds words homes pos l. let a = inv.law.allowed size mode q ds es words homes pos l in let f = a.controller in
+            let g = f.fetch place (at-serve place at) (serves serving) more (unheld none_held) (sym (words-are (λ y n. y.barred)) ∙ free) in (g.buf, g.home, g.fetched, g.agrees)) (λ r b t. record { buf = b; seat = refl; fetched = t }))
+
+        no-slots : (done_by now).held ≡ None → me.1 ≡ []
+        no-slots e = slots-are ∙ ap (slots_while (length x.served % size)) (unheld e)
+
+        fetch-seat : (place r : ℕ) (b : Buffer) (me1 me2 : It) → me1 ≡ (controller_does me (controller.Fetched place r b), (place, b) ∷ me.1) → me2 ≡ (me1.0, (place, blank) ∷ rest me1.1) → me2 ≡ (Controller (es ++ controller.Fetched place r b ∷ []), (place, blank) ∷ me.1)
+        fetch-seat place r b me1 me2 fetched left = left ∙ ap (λ (m : It). let y : It = (m.0, (place, blank) ∷ rest m.1) in y) fetched
+
+        module _ (place r : ℕ) (table' : TableId) (me1 me2 : It) (same : table' ≡ table) (t : LoadsNext form (step ring.slots place 0 0 none) me r me1) (left : me2 ≡ (me1.0, (place, blank) ∷ rest me1.1)) where
+          pub fetch-keeps : place ≡ length (done_by now).served % now.table.slots → (done_by now).held ≡ None → IsControllerSeat form table' me2 size mode
+          fetch-keeps at none_held =
+              made table' me2 (es ++ controller.Fetched place r t.buf ∷ []) ((place, blank) ∷ me.1) (control form size x (controller.Fetched place r t.buf)) same (fetch-seat place r t.buf me1 me2 t.seat left) (did size es (controller.Fetched place r t.buf))
+              (ap (λ (xs : List (ℕ × Buffer)). (place, blank) ∷ xs) (no-slots none_held) ∙ ap (λ (j : ℕ). (j, blank) ∷ []) (at-serve place at))
+
+          pub fetch-steps : (c : Buffer) → c ≡ front_buffer me1.1 → CameOut (controller_of form now) place c r (controller_of form (side table' me2))
+          fetch-steps c got = subst (λ (y : Buffer). CameOut (controller_of form now) place y r (controller_of form (side table' me2))) (sym (got ∙ ap (λ (m : It). front_buffer m.1) t.seat)) (record {
+            step = ap (controller_of form) (one-more (controller.Fetched place r t.buf) table' me2 ((place, blank) ∷ me.1) same (fetch-seat place r t.buf me1 me2 t.seat left));
+            fetched = back-there (λ n m xs. form.IsFetched n (controlling form n xs) r t.buf) (subst (λ (n : ℕ). form.IsFetched n (controlling form n es) r t.buf) counts t.fetched);
+          })
+
+        -- C2
+        pub request-asks : (id : ℕ) → LoadAsks LoadsRequest id (size + 2)
+        request-asks id = load-asks LoadsRequest id (size + 2) (low (size + 2) (omega arith)) (controller-load form size mode es id its LoadsRequest (size + 2) controller.LoadedRequest (λ r. r ≤ 3)
+            (λ q ds words homes pos l. let a = inv.law.allowed size mode q ds es words homes pos l in let f = a.controller in f.request) (λ r v. record { seat = refl; value = v }))
+
+        -- C3
+        pub enable-asks : (id : ℕ) → (done_by now).seen ≡ 1 → is_serving (done_by now).state ≡ false → Asks enables id (size + 2) 2
+        enable-asks id asked idle = store-asks enables id (size + 2) 2 (low (size + 2) (omega arith)) (controller-store form size mode es id its enables (size + 2) 2 controller.Enabled
+            (λ q ds words homes pos l. let a = inv.law.allowed size mode q ds es words homes pos l in let f = a.controller in f.enable (sym (words-are (λ y n. y.seen)) ∙ asked) (sym (words-are (λ y n. is_serving y.state)) ∙ idle)) refl)
+
+        pub enable-slots : (done_by now).held ≡ None → controller_slots size x ≡ controller_slots size (control form size x controller.Enabled)
+        enable-slots e = ap (slots_while (length x.served % size)) (unheld e) ∙ sym (ap (slots_while (0 % size)) (unheld e))
+
+        pub disable-asks : (id : ℕ) → (done_by now).seen ≡ 3 → is_serving (done_by now).state ≡ true → (done_by now).held ≡ None → (done_by now).head ≡ length (done_by now).served % now.table.slots → form.MayDisable (done_by now) → Asks disables id (size + 2) 0
+        disable-asks id asked serving none_held head may = store-asks disables id (size + 2) 0 (low (size + 2) (omega arith)) (controller-store form size mode es id its disables (size + 2) 0 controller.Disabled
+            (λ q ds words homes pos l. let a = inv.law.allowed size mode q ds es words homes pos l in let f = a.controller in f.disable (sym (words-are (λ y n. y.seen)) ∙ asked) (serves serving) (unheld none_held)
+            (sym (words-are (λ y n. y.head)) ∙ head ∙ words-are (λ y n. length y.served % n)) (here (λ n m xs. form.MayDisable (controlling form n xs)) may)) refl)
+
+        -- Steps of one direction's own
+        module _ (event : Event (ControllerEvent C)) (word v : ℕ) where
+          module _ (may : MayStore form event now.table.slots now.completion now.events word v) where
+            store-may : MayStore form event size mode (controller_part me.0) word v
+            store-may = here (λ n m xs. MayStore form event n m xs word v) may
+
+            pub store_own-asks : (id : ℕ) → Asks (controller_stores event) id word v
+            store_own-asks id = let m = store-may in store-asks (controller_stores event) id word v m.word_is (controller-store form size mode es id its (controller_stores event) word v (event size es word v blank) m.goes refl)
+
+            module _ (table' : TableId) (me' : It) (t : table' ≡ table) (stored : me' ≡ (controller_does me (event ring.slots es word v blank), me.1)) where
+              store_own-seat : me' ≡ (controller_does me (event size es word v blank), me.1)
+              store_own-seat = stored ∙ ap (λ (n : ℕ). let y : It = (controller_does me (event n es word v blank), me.1) in y) counts
+
+              pub store_own-keeps : IsControllerSeat form table' me' size mode
+              store_own-keeps = let m = store-may in same-keeps (event size es word v blank) table' me' t store_own-seat
+                  (ap (λ (j : ℕ). slots_while (j % size) x.held) (sym m.served) ∙ ap (slots_while (length (control form size x (event size es word v blank)).served % size)) (sym m.held))
+
+              pub store_own-steps : side table' me' ≡ grown now (event now.table.slots now.events word v blank)
+              store_own-steps = same-steps (event size es word v blank) table' me' t store_own-seat ∙ ap (grown now) (back-there (λ n m xs. event size es word v blank ≡ event n xs word v blank) refl)
+
+          -- the fetched buffer is given back
+          module _ (place : ℕ) (b : Buffer) (at : place ≡ length (done_by now).served % now.table.slots) (holds : (h : Buffer) × ((done_by now).held ≡ Some h)) where
+            held-slot : me.1 ≡ (place, blank) ∷ []
+            held-slot = slots-are ∙ ap (slots_while (length x.served % size)) (sym (words-are (λ y n. y.held)) ∙ holds.1) ∙ ap (λ (j : ℕ). (j, blank) ∷ []) (sym (at-serve place at))
+
+            pub give_own-empty : me.1 ≡ (place, blank) ∷ rest me.1
+            give_own-empty = front-is me.1 [] (place, blank) held-slot
+
+            module _ (may : MayGive form event now.table.slots now.completion now.events place word v b) where
+              give-may : MayGive form event size mode (controller_part me.0) place word v b
+              give-may = here (λ n m xs. MayGive form event n m xs place word v b) may
+
+              pub give_own-asks : (id : ℕ) (table' : TableId) (me' : It) → table' ≡ table → me' ≡ (me.0, (place, b) ∷ rest me.1)
+                  → (table' ≡ ring) × (word < ring.words) × Allows (IsRuled form key.0 key.1) ring.slots id me' word (λ _. v) (λ _. controller_gives event (step ring.slots word v 0 none) me' v)
+              give_own-asks id table' me' t m = let k = give-may in (
+                t ∙ own,
+                within word k.word_is,
+                allow-at (λ n z r z'. controller_gives event (step n word v 0 none) z v z') id word (λ _. v) (Controller es, (place, b) ∷ rest me.1) me'
+                    (m ∙ ap (λ (w : View (DriverEvent D) (ControllerEvent C)). let z : It = (w, (place, b) ∷ rest me.1) in z) view-is)
+                    (controller-give form size mode es id (rest me.1) (controller_gives event) word v place b (event size es word v b) k.goes refl),
+              )
+
+              module _ (table' : TableId) (me1 me2 : It) (t : table' ≡ table) (put : me1 ≡ (me.0, (place, b) ∷ rest me.1)) (gave : me2 ≡ (controller_does me1 (event ring.slots (controller_part me1.0) word v (front_buffer me1.1)), rest me1.1)) where
+                give_own-seat : me2 ≡ (Controller (es ++ event size es word v b ∷ []), [])
+                give_own-seat = gave ∙ ap (λ (m : It). let y : It = (controller_does m (event ring.slots (controller_part m.0) word v (front_buffer m.1)), rest m.1) in y) put
+                    ∙ ap (λ (n : ℕ). let y : It = (Controller (es ++ event n es word v b ∷ []), rest me.1) in y) counts
+                    ∙ ap (λ (xs : List (ℕ × Buffer)). let y : It = (Controller (es ++ event size es word v b ∷ []), rest xs) in y) held-slot
+
+                pub give_own-keeps : IsControllerSeat form table' me2 size mode
+                give_own-keeps = let k = give-may in made table' me2 (es ++ event size es word v b ∷ []) [] (control form size x (event size es word v b)) t give_own-seat (did size es (event size es word v b))
+                    (sym (ap (slots_while (length (control form size x (event size es word v b)).served % size)) k.held))
+
+                pub give_own-steps : side table' me2 ≡ grown now (event now.table.slots now.events word v b)
+                give_own-steps = one-more (event size es word v b) table' me2 [] t give_own-seat ∙ ap (grown now) (back-there (λ n m xs. event size es word v b ≡ event n xs word v b) refl)

@@ -1,0 +1,381 @@
+-- The driver's seat: what each of its steps asks of the table, and what the seat keeps.
+use Rattle.std.proofs.Common.{◌≡◌, ℕ, ◌+◌, ◌-◌, ◌%◌, ◌<◌, ◌≤◌, Bool, true, false, List, [], ◌∷◌, ◌++◌, length, Option, Some, None, sym, refl, ap, ◌∙◌, subst, arith, length-append, mod-lt}
+use Rattle.std.specs.Prelude.{slice_get}
+use Rattle.std.proofs.Math.Nat.{mod-mod}
+use Rattle.std.proofs.lemmas.Bool.{false≢true}
+use mathlib.Core.Option.{none}
+use Rattle.atomic_table.specs.Table.{Allows, Step, step, rest, turned}
+use Rattle.atomic_table.specs.Seated.{TableId}
+use Rattle.buffer_pool.specs.Buffer.{Buffer, blank}
+use Rattle.limits.specs.RingLength.{IsRingLength}
+use Rattle.ring_model.specs.declared.states.Completion.{Completion}
+use Rattle.ring_model.specs.declared.states.Completion.TheVariants.{Status, Head}
+use Rattle.ring_model.specs.shared.Handshakes.{is_open, is_new, is_on, is_stopped, is_cleared}
+use Rattle.shared_ring.specs.declared.events.DriverEvent.{DriverEvent}
+use Rattle.shared_ring.specs.declared.events.DriverEvent.TheVariants as driver
+use Rattle.shared_ring.specs.declared.events.ControllerEvent.{ControllerEvent}
+use Rattle.shared_ring.specs.declared.events.View.{View}
+use Rattle.shared_ring.specs.declared.events.View.TheVariants.{Driver}
+use Rattle.shared_ring.specs.Ends.{Side, grown}
+use Rattle.shared_ring.specs.Forms.{Form, drive, driving}
+use Rattle.shared_ring.specs.Keeping.{IsRuled, IsDriverSeat, IsWindow}
+use Rattle.shared_ring.specs.Own.{Event, Tells, SameOut, OneBack, AllGone, MayLoad, MayClear, MayTake, MayEnd, Missed, Came}
+use Rattle.shared_ring.specs.Plays.{Seated, driver_does, posts, publishes, asks_enable, LoadsControl, asks_disable, LoadsHead, clears_head, clears_tail, DriverDoes, DriverTakes, DriverFinds, driver_ends}
+use Rattle.shared_ring.specs.Records.{Driven, driver_slots, undriven}
+use Rattle.shared_ring.specs.Seats.{driver_part}
+use Rattle.shared_ring.specs.Slots.{empty_slots, front_buffer}
+use Rattle.shared_ring.specs.Tables.{IsTableOf, words_of}
+use Rattle.shared_ring.proofs.Allowed.{driver-store, driver-load, driver-clear, driver-find, driver-give}
+use Rattle.shared_ring.proofs.Folds.{driving-snoc, slots-post, slots-return, slots-alike}
+
+-- a table's words tell how its ring reports
+pub same-words : (n : ℕ) (a b : Completion) → words_of n a ≡ words_of n b → a ≡ b
+same-words n Status Status e = refl
+same-words n Status Head e = absurd (omega arith)
+same-words n Head Status e = absurd (omega arith)
+same-words n Head Head e = refl
+
+pub words-big : (n : ℕ) (mode : Completion) → n + 4 ≤ words_of n mode
+words-big n Status = omega arith
+words-big n Head = omega arith
+
+-- the front slot is what the list says
+pub front-is : (xs ys : List (ℕ × Buffer)) (x : ℕ × Buffer) → xs ≡ x ∷ ys → xs ≡ x ∷ rest xs
+front-is xs ys x e = subst (λ (zs : List (ℕ × Buffer)). zs ≡ x ∷ rest zs) (sym e) refl
+
+module _ {Ring Posted Served Given D C : Type 0} (form : Form Ring Posted Served Given D C) where
+  abbrev It : Type 0
+  It = Seated (DriverEvent D) (ControllerEvent C)
+
+  abbrev End : Type 0
+  End = Side (DriverEvent D)
+
+  -- what an end did
+  abbrev done_by : End → Driven Posted Given
+  done_by s = driving form s.events
+
+  did : (es : List (DriverEvent D)) (e : DriverEvent D) → driving form (es ++ e ∷ []) ≡ drive form (driving form es) e
+  did es e = driving-snoc form.posting form.drive_own undriven es e
+
+  module _ (table : TableId) (me : It) (size : ℕ) (mode : Completion) (inv : IsDriverSeat form table me size mode) where
+    abbrev es : List (DriverEvent D)
+    es = driver_part me.0
+
+    abbrev d : Driven Posted Given
+    d = driving form (driver_part me.0)
+
+    abbrev its : List (ℕ × Buffer)
+    its = driver_slots size (driving form (driver_part me.0))
+
+    abbrev side : TableId → It → End
+    side t m = record { table = t; completion = mode; events = driver_part m.0 }
+
+    big : 8 ≤ size
+    big = inv.lawful.0
+
+    view-is : me.0 ≡ Driver (driver_part me.0)
+    view-is = ap (λ (m : It). m.0) inv.me_is
+
+    slots-are : me.1 ≡ driver_slots size (driving form (driver_part me.0))
+    slots-are = ap (λ (m : It). m.1) inv.me_is
+
+    -- a seat whose record is es' and whose slots are those that it tells
+    made : (table' : TableId) (me' : It) (es' : List (DriverEvent D)) (slots' : List (ℕ × Buffer)) (d' : Driven Posted Given) → table' ≡ table → me' ≡ (Driver es', slots') → driving form es' ≡ d' → slots' ≡ driver_slots size d' → IsWindow size d' → IsDriverSeat form table' me' size mode
+    made table' me' es' slots' d' t m e s w = subst (λ (x : TableId). IsDriverSeat form x me' size mode) (sym t) (subst (λ (x : It). IsDriverSeat form table x size mode) (sym m) (record {
+      law = inv.law;
+      size_is = inv.size_is;
+      words = inv.words;
+      lawful = inv.lawful;
+      me_is = ap (λ (xs : List (ℕ × Buffer)). let x : It = (Driver es', xs) in x) (s ∙ ap (driver_slots size) (sym e));
+      window = subst (IsWindow size) (sym e) w;
+    }))
+
+    -- a step that leaves what is posted and what came back
+    pub same-keeps : (e : DriverEvent D) (table' : TableId) (me' : It) → table' ≡ table → me' ≡ (driver_does me e, me.1) → SameOut d (drive form d e) → IsDriverSeat form table' me' size mode
+    same-keeps e table' me' t m s = let w = inv.window in
+        made table' me' (driver_part me.0 ++ e ∷ []) me.1 (drive form d e) t m (did (driver_part me.0) e) (slots-are ∙ sym (rw (s.posted, s.given, s.reclaimed) refl))
+        (record { back = rw (s.posted, s.given, s.reclaimed) w.back; room = rw (s.posted, s.given, s.reclaimed) w.room })
+
+    module _ (now : End) (was : side table me ≡ now) where
+      -- the record of the end after a step that its table keeps
+      one-more : (e : DriverEvent D) (table' : TableId) (me' : It) (slots' : List (ℕ × Buffer)) → table' ≡ table → me' ≡ (Driver (driver_part me.0 ++ e ∷ []), slots') → side table' me' ≡ grown now e
+      one-more e table' me' slots' t m =
+          ap (λ (x : It). side table' x) m ∙ ap (λ (z : TableId). let s : End = record { table = z; completion = mode; events = driver_part me.0 ++ e ∷ [] } in s) t ∙ ap (λ (s : End). grown s e) was
+
+      pub same-steps : (e : DriverEvent D) (table' : TableId) (me' : It) → table' ≡ table → me' ≡ (driver_does me e, me.1) → side table' me' ≡ grown now e
+      same-steps e table' me' t m = one-more e table' me' me.1 t m
+
+      -- what a contract says of the end goes for the record
+      words-are : {Y : Type 0} (f : Driven Posted Given → ℕ → Y) → f (done_by now) now.table.slots ≡ f d size
+      words-are f = ap (λ (s : End). f (done_by s) s.table.slots) (sym was) ∙ ap (f d) inv.size_is
+
+      at-size : (F : ℕ → Type 0) → F now.table.slots → F size
+      at-size F x = subst F (words-are (λ y n. n)) x
+
+      -- a step's own condition, of the seat
+      here : (F : ℕ → Completion → List (DriverEvent D) → Type 0) → F now.table.slots now.completion now.events → F size mode (driver_part me.0)
+      here F x = subst (λ (n : ℕ). F n mode (driver_part me.0)) inv.size_is (subst (λ (s : End). F s.table.slots s.completion s.events) (sym was) x)
+
+      back-there : (F : ℕ → Completion → List (DriverEvent D) → Type 0) → F size mode (driver_part me.0) → F now.table.slots now.completion now.events
+      back-there F x = subst (λ (s : End). F s.table.slots s.completion s.events) was (subst (λ (n : ℕ). F n mode (driver_part me.0)) (sym inv.size_is) x)
+
+      filled : (place : ℕ) → place ≡ length (done_by now).posted % now.table.slots → place ≡ length d.posted % size
+      filled place e = e ∙ words-are (λ x n. length x.posted % n)
+
+      next-is : (place : ℕ) → place ≡ (length (done_by now).given + (done_by now).reclaimed) % now.table.slots → place ≡ (length d.given + d.reclaimed) % size
+      next-is place e = e ∙ words-are (λ x n. (length x.given + x.reclaimed) % n)
+
+      out-is : length (done_by now).given + (done_by now).reclaimed < length (done_by now).posted → length d.given + d.reclaimed < length d.posted
+      out-is h = subst (λ (x : Driven Posted Given). length x.given + x.reclaimed < length x.posted) (words-are (λ x n. x)) h
+
+      below : (place i : ℕ) → place ≡ i % size → place < words_of size mode
+      below place i e = let b = big in let w = words-big size mode in let m : i % size < size = mod-lt i (omega arith) in omega arith
+
+      pub turn-below : (place : ℕ) → place ≡ length (done_by now).posted % now.table.slots → place < size
+      turn-below place at = let b = big in let f = filled place at in let m : length d.posted % size < size = mod-lt (length d.posted) (omega arith) in omega arith
+
+      module _ (ring : TableId) (key : ℕ × Completion) (ruled : IsTableOf ring key.0 key.1) (ring_now : TableId) (ring_is : ring ≡ ring_now) (mine : now.table ≡ ring_now) where
+        own : table ≡ ring
+        own = ap (λ (s : End). s.table) was ∙ mine ∙ sym ring_is
+
+        key-is : key.0 ≡ size
+        key-is = sym ruled.slots ∙ ap (λ (z : TableId). z.slots) (sym own) ∙ inv.size_is
+
+        pub counts : ring.slots ≡ size
+        counts = ap (λ (z : TableId). z.slots) (sym own) ∙ inv.size_is
+
+        mode-is : key.1 ≡ mode
+        mode-is = same-words size key.1 mode (ap (λ (n : ℕ). words_of n key.1) (sym key-is) ∙ sym ruled.words ∙ ap (λ (z : TableId). z.words) (sym own) ∙ inv.words)
+
+        within : (i : ℕ) → i < words_of size mode → i < ring.words
+        within i h = let b : ring.words ≡ words_of size mode = ap (λ (z : TableId). z.words) (sym own) ∙ inv.words in omega arith
+
+        low : (i : ℕ) → i < size + 4 → i < words_of size mode
+        low i h = let w = words-big size mode in omega arith
+
+        allow-at : (T : ℕ → It → ℕ → It → Type 0) (id i : ℕ) (f : ℕ → ℕ) (m m' : It) → m' ≡ m → Allows (IsRuled form size mode) size id m i f (T size m) → Allows (IsRuled form key.0 key.1) ring.slots id m' i f (T ring.slots m')
+        allow-at T id i f m m' e a =
+            subst (λ (x : ℕ). Allows (IsRuled form x key.1) ring.slots id m' i f (T ring.slots m')) (sym key-is)
+            (subst (λ (x : Completion). Allows (IsRuled form size x) ring.slots id m' i f (T ring.slots m')) (sym mode-is)
+            (subst (λ (x : ℕ). Allows (IsRuled form size mode) x id m' i f (T x m')) (sym counts)
+            (subst (λ (x : It). Allows (IsRuled form size mode) size id x i f (T size x)) (sym e) a)))
+
+        abbrev Asks : (Step Buffer → It → ℕ → It → Type 0) → ℕ → ℕ → ℕ → Type 0
+        Asks T id i v = (table ≡ ring) × (i < ring.words) × Allows (IsRuled form key.0 key.1) ring.slots id me i (λ _. v) (λ _. T (step ring.slots i v 0 none) me v)
+
+        abbrev LoadAsks : (Step Buffer → It → ℕ → It → Type 0) → ℕ → ℕ → Type 0
+        LoadAsks T id i = (table ≡ ring) × (i < ring.words) × Allows (IsRuled form key.0 key.1) ring.slots id me i (λ x. x) (T (step ring.slots i 0 0 none) me)
+
+        store-asks : (T : Step Buffer → It → ℕ → It → Type 0) (id i v : ℕ) → i < words_of size mode → Allows (IsRuled form size mode) size id (Driver es, its) i (λ _. v) (λ _ m. T (step size i v 0 none) (Driver es, its) v m) → Asks T id i v
+        store-asks T id i v h a = (own, within i h, allow-at (λ n m r m'. T (step n i v 0 none) m v m') id i (λ _. v) (Driver es, its) me inv.me_is a)
+
+        load-asks : (T : Step Buffer → It → ℕ → It → Type 0) (id i : ℕ) → i < words_of size mode → Allows (IsRuled form size mode) size id (Driver es, its) i (λ x. x) (T (step size i 0 0 none) (Driver es, its)) → LoadAsks T id i
+        load-asks T id i h a = (own, within i h, allow-at (λ n m r m'. T (step n i 0 0 none) m r m') id i (λ x. x) (Driver es, its) me inv.me_is a)
+
+        -- A1, B1
+        module _ (place word : ℕ) (b : Buffer) (at : place ≡ length (done_by now).posted % now.table.slots)
+            (open_room : length (done_by now).posted + 1 < length (done_by now).given + (done_by now).reclaimed + now.table.slots) where
+          room : length d.posted + 1 < length d.given + d.reclaimed + size
+          room = here (λ n m xs. length (driving form xs).posted + 1 < length (driving form xs).given + (driving form xs).reclaimed + n) open_room
+
+          front : me.1 ≡ (place, blank) ∷ empty_slots size (length d.posted + 1) (length d.given + d.reclaimed + size - (length d.posted + 1))
+          front = let r = room in slots-are ∙ slots-post size (length d.posted) (length d.given + d.reclaimed) (omega arith)
+              ∙ ap (λ (j : ℕ). (j, blank) ∷ empty_slots size (length d.posted + 1) (length d.given + d.reclaimed + size - (length d.posted + 1))) (sym (filled place at))
+
+          pub post-empty : me.1 ≡ (place, blank) ∷ rest me.1
+          post-empty = front-is me.1 _ (place, blank) front
+
+          pub post-asks : (id : ℕ) (table' : TableId) (me' : It) → table' ≡ table → me' ≡ (me.0, (place, b) ∷ rest me.1) → is_open (done_by now).state ≡ true → form.MayPost now.table.slots (done_by now).posted word b
+              → (table' ≡ ring) × (place < ring.words) × Allows (IsRuled form key.0 key.1) ring.slots id me' place (λ _. word) (λ _. posts (step ring.slots place word 0 none) me' word)
+          post-asks id table' me' t m opened may = (
+            t ∙ own,
+            within place (below place (length d.posted) (filled place at)),
+            allow-at (λ n z r z'. posts (step n place word 0 none) z word z') id place (λ _. word) (Driver es, (place, b) ∷ rest me.1) me'
+                (m ∙ ap (λ (v : View (DriverEvent D) (ControllerEvent C)). let x : It = (v, (place, b) ∷ rest me.1) in x) view-is)
+                (driver-give form size mode es id (rest me.1) posts place word place b (driver.Posted place word b)
+                (λ q cs words homes pos l. let a = inv.law.allowed size mode q es cs words homes pos l in let f = a.driver in
+                f.post place word b (filled place at) (sym (words-are (λ x n. is_open x.state)) ∙ opened) room (here (λ n m xs. form.MayPost n (driving form xs).posted word b) may)) refl),
+          )
+
+          post-seat : (me' me'' : It) → me' ≡ (me.0, (place, b) ∷ rest me.1) → me'' ≡ (driver_does me' (driver.Posted place word (front_buffer me'.1)), rest me'.1) → me'' ≡ (Driver (es ++ driver.Posted place word b ∷ []), rest me.1)
+          post-seat me' me'' put stored = stored ∙ ap (λ (m : It). let x : It = (driver_does m (driver.Posted place word (front_buffer m.1)), rest m.1) in x) put
+
+          pub post-keeps : (table' : TableId) (me' me'' : It) → table' ≡ table → me' ≡ (me.0, (place, b) ∷ rest me.1) → me'' ≡ (driver_does me' (driver.Posted place word (front_buffer me'.1)), rest me'.1) → IsDriverSeat form table' me'' size mode
+          post-keeps table' me' me'' t put stored = let e = length-append d.posted (form.posting word b ∷ []) in let w = inv.window in let bk = w.back in let r = room in
+              made table' me'' (es ++ driver.Posted place word b ∷ []) (rest me.1) (drive form d (driver.Posted place word b)) t (post-seat me' me'' put stored) (did es (driver.Posted place word b))
+              (ap rest front ∙ ap (λ (j : ℕ). empty_slots size j (length d.given + d.reclaimed + size - j)) (sym e))
+              (record { back = omega arith; room = omega arith })
+
+          pub post-steps : (table' : TableId) (me' me'' : It) → table' ≡ table → me' ≡ (me.0, (place, b) ∷ rest me.1) → me'' ≡ (driver_does me' (driver.Posted place word (front_buffer me'.1)), rest me'.1) → side table' me'' ≡ grown now (driver.Posted place word b)
+          post-steps table' me' me'' t put stored = one-more (driver.Posted place word b) table' me'' (rest me.1) t (post-seat me' me'' put stored)
+
+        -- A2, B2
+        pub publish-asks : (id t : ℕ) → t ≡ length (done_by now).posted % now.table.slots → is_open (done_by now).state ≡ true → form.MayPublish (done_by now).posted → Asks publishes id (size + 1) t
+        publish-asks id t at opened may = store-asks publishes id (size + 1) t (low (size + 1) (omega arith)) (driver-store form size mode es id its publishes (size + 1) t (driver.Published t)
+            (λ q cs words homes pos l. let a = inv.law.allowed size mode q es cs words homes pos l in let f = a.driver in
+            f.publish t (filled t at) (sym (words-are (λ x n. is_open x.state)) ∙ opened) (here (λ n m xs. form.MayPublish (driving form xs).posted) may)) refl)
+
+        -- C1
+        pub ask_enable-asks : (id : ℕ) → is_new (done_by now).state ≡ true → Asks asks_enable id (size + 2) 1
+        ask_enable-asks id new = store-asks asks_enable id (size + 2) 1 (low (size + 2) (omega arith)) (driver-store form size mode es id its asks_enable (size + 2) 1 driver.AskedEnable
+            (λ q cs words homes pos l. let a = inv.law.allowed size mode q es cs words homes pos l in let f = a.driver in f.ask_enable (sym (words-are (λ x n. is_new x.state)) ∙ new)) refl)
+
+        -- C4
+        pub control-asks : (id : ℕ) → LoadAsks LoadsControl id (size + 2)
+        control-asks id = load-asks LoadsControl id (size + 2) (low (size + 2) (omega arith)) (driver-load form size mode es id its LoadsControl (size + 2) driver.LoadedControl (λ r. r ≤ 3)
+            (λ q cs words homes pos l. let a = inv.law.allowed size mode q es cs words homes pos l in let f = a.driver in f.control) (λ r v. record { seat = refl; value = v }))
+
+        -- C5
+        pub ask_disable-asks : (id : ℕ) → is_on (done_by now).state ≡ true → Asks asks_disable id (size + 2) 3
+        ask_disable-asks id on = store-asks asks_disable id (size + 2) 3 (low (size + 2) (omega arith)) (driver-store form size mode es id its asks_disable (size + 2) 3 driver.AskedDisable
+            (λ q cs words homes pos l. let a = inv.law.allowed size mode q es cs words homes pos l in let f = a.driver in f.ask_disable (sym (words-are (λ x n. is_on x.state)) ∙ on)) refl)
+
+        -- the load of the head
+        pub head-asks : (id : ℕ) → is_stopped (done_by now).state ≡ true → LoadAsks LoadsHead id size
+        head-asks id stopped = load-asks LoadsHead id size (low size (omega arith)) (driver-load form size mode es id its LoadsHead size driver.LoadedHead (λ r. r < size)
+            (λ q cs words homes pos l. let a = inv.law.allowed size mode q es cs words homes pos l in let f = a.driver in f.head (sym (words-are (λ x n. is_stopped x.state)) ∙ stopped)) (λ r v. record { seat = refl; below = v }))
+
+        -- C9
+        pub clear_head-asks : (id : ℕ) → is_stopped (done_by now).state ≡ true → length (done_by now).given + (done_by now).reclaimed ≡ length (done_by now).posted → Asks clears_head id size 0
+        clear_head-asks id stopped back = store-asks clears_head id size 0 (low size (omega arith)) (driver-store form size mode es id its clears_head size 0 driver.ClearedHead
+            (λ q cs words homes pos l. let a = inv.law.allowed size mode q es cs words homes pos l in let f = a.driver in f.clear_head (sym (words-are (λ x n. is_stopped x.state)) ∙ stopped)
+            (sym (words-are (λ x n. length x.given + x.reclaimed)) ∙ back ∙ words-are (λ x n. length x.posted))) refl)
+
+        -- C10
+        pub clear_tail-asks : (id : ℕ) → form.MayClearTail now.completion → is_cleared (done_by now).state ≡ true → Asks clears_tail id (size + 1) 0
+        clear_tail-asks id may cleared = store-asks clears_tail id (size + 1) 0 (low (size + 1) (omega arith)) (driver-store form size mode es id its clears_tail (size + 1) 0 driver.ClearedTail
+            (λ q cs words homes pos l. let a = inv.law.allowed size mode q es cs words homes pos l in let f = a.driver in f.clear_tail (here (λ n m xs. form.MayClearTail m) may) (sym (words-are (λ x n. is_cleared x.state)) ∙ cleared)) refl)
+
+        -- Steps of one direction's own
+        module _ (event : Event (DriverEvent D)) (tells : Tells (DriverEvent D)) where
+          -- a load
+          module _ (word : ℕ) (may : MayLoad form event tells now.table.slots now.completion now.events word) where
+            load-may : MayLoad form event tells size mode (driver_part me.0) word
+            load-may = here (λ n m xs. MayLoad form event tells n m xs word) may
+
+            pub load_own-asks : (id : ℕ) → LoadAsks (DriverDoes event tells) id word
+            load_own-asks id = let m = load-may in load-asks (DriverDoes event tells) id word m.word_is
+                (driver-load form size mode es id its (DriverDoes event tells) word (λ r. event size es word r blank) (λ r. tells size es word r blank) m.goes (λ r t. record { seat = refl; told = t }))
+
+            module _ (r : ℕ) (me' : It) (told : DriverDoes event tells (step ring.slots word 0 0 none) me r me') where
+              load_own-seat : me' ≡ (driver_does me (event size es word r blank), me.1)
+              load_own-seat = told.seat ∙ ap (λ (n : ℕ). let x : It = (driver_does me (event n es word r blank), me.1) in x) counts
+
+              pub load_own-keeps : (table' : TableId) → table' ≡ table → IsDriverSeat form table' me' size mode
+              load_own-keeps table' t = let m = load-may in same-keeps (event size es word r blank) table' me' t load_own-seat (m.same r)
+
+              pub load_own-steps : (table' : TableId) → table' ≡ table → side table' me' ≡ grown now (event now.table.slots now.events word r blank)
+              load_own-steps table' t = same-steps (event size es word r blank) table' me' t load_own-seat ∙ ap (grown now) (back-there (λ n m xs. event size es word r blank ≡ event n xs word r blank) refl)
+
+              pub load_own-told : tells now.table.slots now.events word r blank
+              load_own-told = back-there (λ n m xs. tells n xs word r blank) (subst (λ (n : ℕ). tells n es word r blank) counts told.told)
+
+          -- a buffer comes back
+          module _ (place : ℕ) (at : place ≡ (length (done_by now).given + (done_by now).reclaimed) % now.table.slots) (out : length (done_by now).given + (done_by now).reclaimed < length (done_by now).posted) where
+            back-seat : (e : DriverEvent D) (b : Buffer) (me1 me2 me3 : It) → me1 ≡ (driver_does me e, (place, b) ∷ me.1) → me2 ≡ (me1.0, (place, blank) ∷ rest me1.1) → me3 ≡ (me2.0, turned me2.1) → me3 ≡ (Driver (es ++ e ∷ []), me.1 ++ (place, blank) ∷ [])
+            back-seat e b me1 me2 me3 s l t = t ∙ ap (λ (m : It). let x : It = (m.0, turned m.1) in x) l ∙ ap (λ (m : It). let x : It = (m.0, turned ((place, blank) ∷ rest m.1)) in x) s
+
+            back-keeps : (e : DriverEvent D) (b : Buffer) (table' : TableId) (me1 me2 me3 : It) → table' ≡ table → me1 ≡ (driver_does me e, (place, b) ∷ me.1) → me2 ≡ (me1.0, (place, blank) ∷ rest me1.1) → me3 ≡ (me2.0, turned me2.1)
+                → OneBack d (drive form d e) → IsDriverSeat form table' me3 size mode
+            back-keeps e b table' me1 me2 me3 t s l r one = let w = inv.window in let bk = w.back in let rm = w.room in let o = out-is out in let g = big in let c = one.back in
+                let same : length (drive form d e).posted ≡ length d.posted = ap length one.posted in
+                made table' me3 (es ++ e ∷ []) (me.1 ++ (place, blank) ∷ []) (drive form d e) t (back-seat e b me1 me2 me3 s l r) (did es e)
+                (ap (λ (xs : List (ℕ × Buffer)). xs ++ (place, blank) ∷ []) slots-are
+                ∙ ap (λ (j : ℕ). its ++ (j, blank) ∷ []) (next-is place at)
+                ∙ slots-return size (length d.posted) (length d.given + d.reclaimed) (omega arith)
+                ∙ ap (λ (j : ℕ). empty_slots size (length d.posted) (j + size - length d.posted)) (sym c)
+                ∙ ap (λ (xs : List Posted). empty_slots size (length xs) (length (drive form d e).given + (drive form d e).reclaimed + size - length xs)) (sym one.posted))
+                (record { back = omega arith; room = omega arith })
+
+            -- what the event is, of what was loaded there or stored
+            came-seat : (r : ℕ) (me1 : It) (t : DriverTakes event tells (step ring.slots place 0 0 none) me r me1) → me1 ≡ (driver_does me (event size es place r t.buf), (place, t.buf) ∷ me.1)
+            came-seat r me1 t = t.seat ∙ ap (λ (n : ℕ). let x : It = (driver_does me (event n es place r t.buf), (place, t.buf) ∷ me.1) in x) counts
+
+            module _ (r : ℕ) (b : Buffer) (table' : TableId) (me1 me2 me3 : It) (same : table' ≡ table) (t : DriverTakes event tells (step ring.slots place 0 0 none) me r me1) (l : me2 ≡ (me1.0, (place, blank) ∷ rest me1.1)) (turn : me3 ≡ (me2.0, turned me2.1)) where
+              came-steps : b ≡ front_buffer me1.1 → side table' me3 ≡ grown now (event now.table.slots now.events place r b)
+              came-steps got = let is : b ≡ t.buf = got ∙ ap (λ (m : It). front_buffer m.1) t.seat in
+                  one-more (event size es place r t.buf) table' me3 (me.1 ++ (place, blank) ∷ []) same (back-seat (event size es place r t.buf) t.buf me1 me2 me3 (came-seat r me1 t) l turn)
+                  ∙ ap (λ (y : Buffer). grown now (event size es place r y)) (sym is) ∙ ap (grown now) (back-there (λ n m xs. event size es place r b ≡ event n xs place r b) refl)
+
+              came-told : b ≡ front_buffer me1.1 → tells now.table.slots now.events place r b
+              came-told got = let is : b ≡ t.buf = got ∙ ap (λ (m : It). front_buffer m.1) t.seat in
+                  back-there (λ n m xs. tells n xs place r b) (subst (λ (y : Buffer). tells size es place r y) (sym is) (subst (λ (n : ℕ). tells n es place r t.buf) counts t.told))
+
+            -- a store of 0 into its descriptor
+            module _ (may : MayClear form event tells now.table.slots now.completion now.events place) where
+              clear-may : MayClear form event tells size mode (driver_part me.0) place
+              clear-may = here (λ n m xs. MayClear form event tells n m xs place) may
+
+              pub clear_own-asks : (id : ℕ) → Asks (DriverTakes event tells) id place 0
+              clear_own-asks id = let m = clear-may in store-asks (DriverTakes event tells) id place 0 (below place (length d.given + d.reclaimed) (next-is place at))
+                  (driver-clear form size mode es id its (DriverTakes event tells) place (λ b. event size es place 0 b) (λ b. tells size es place 0 b)
+                  (λ q cs words homes pos l. let o = m.goes q cs words homes pos l in (o.buf, o.home, o.told, o.agrees)) (λ b t. record { buf = b; seat = refl; told = t }))
+
+              module _ (b : Buffer) (table' : TableId) (me1 me2 me3 : It) (same : table' ≡ table) (t : DriverTakes event tells (step ring.slots place 0 0 none) me 0 me1) (l : me2 ≡ (me1.0, (place, blank) ∷ rest me1.1)) (turn : me3 ≡ (me2.0, turned me2.1)) where
+                pub clear_own-keeps : IsDriverSeat form table' me3 size mode
+                clear_own-keeps = let m = clear-may in back-keeps (event size es place 0 t.buf) t.buf table' me1 me2 me3 same (came-seat 0 me1 t) l turn (m.back t.buf)
+
+                pub clear_own-steps : b ≡ front_buffer me1.1 → side table' me3 ≡ grown now (event now.table.slots now.events place 0 b)
+                clear_own-steps got = came-steps 0 b table' me1 me2 me3 same t l turn got
+
+                pub clear_own-told : b ≡ front_buffer me1.1 → tells now.table.slots now.events place 0 b
+                clear_own-told got = came-told 0 b table' me1 me2 me3 same t l turn got
+
+            -- a load of it
+            module _ (missed : ℕ → ℕ → DriverEvent D) (done : ℕ → Bool) (may : MayTake form event tells now.table.slots now.completion now.events missed done place) where
+              take-may : MayTake form event tells size mode (driver_part me.0) missed done place
+              take-may = here (λ n m xs. MayTake form event tells n m xs missed done place) may
+
+              pub take_own-asks : (id : ℕ) → LoadAsks (DriverFinds event tells missed done) id place
+              take_own-asks id = let m = take-may in load-asks (DriverFinds event tells missed done) id place (below place (length d.given + d.reclaimed) (next-is place at))
+                  (driver-find form size mode es id its (DriverFinds event tells missed done) place done (missed place) (λ r b. event size es place r b) (λ r b. tells size es place r b)
+                  m.undone (λ q cs words homes pos l f. let o = m.goes q cs words homes pos l f in (o.buf, o.home, o.told, o.agrees))
+                  (λ r f. record { undone = λ e. refl; taken = λ e. absurd (false≢true (sym f ∙ e)) })
+                  (λ r b f t. record { undone = λ e. absurd (false≢true (sym e ∙ f)); taken = λ e. record { buf = b; seat = refl; told = t } }))
+
+              module _ (r : ℕ) (me1 : It) (t : DriverFinds event tells missed done (step ring.slots place 0 0 none) me r me1) where
+                pub missed-keeps : (table' : TableId) → table' ≡ table → done r ≡ false → IsDriverSeat form table' me1 size mode
+                missed-keeps table' same f = let m = take-may in same-keeps (missed place r) table' me1 same (t.undone f) (m.same r)
+
+                pub missed-steps : (table' : TableId) → table' ≡ table → done r ≡ false → Missed event tells missed done now place r (side table' me1)
+                missed-steps table' same f = record { undone = f; step = same-steps (missed place r) table' me1 same (t.undone f) }
+
+                module _ (b : Buffer) (table' : TableId) (me2 me3 : It) (same : table' ≡ table) (f : done r ≡ true) (l : me2 ≡ (me1.0, (place, blank) ∷ rest me1.1)) (turn : me3 ≡ (me2.0, turned me2.1)) where
+                  pub take_own-keeps : IsDriverSeat form table' me3 size mode
+                  take_own-keeps = let m = take-may in let o = t.taken f in back-keeps (event size es place r o.buf) o.buf table' me1 me2 me3 same (came-seat r me1 o) l turn (m.back r o.buf)
+
+                  pub take_own-steps : b ≡ front_buffer me1.1 → Came event tells missed done now place r b (side table' me3)
+                  take_own-steps got = record { is_done = f; step = came-steps r b table' me1 me2 me3 same (t.taken f) l turn got; told = came-told r b table' me1 me2 me3 same (t.taken f) l turn got }
+
+          -- the epoch ends
+          module _ (word : ℕ) (may : MayEnd form event tells now.table.slots now.completion now.events word) where
+            end-may : MayEnd form event tells size mode (driver_part me.0) word
+            end-may = here (λ n m xs. MayEnd form event tells n m xs word) may
+
+            pub end_own-asks : (id : ℕ) → Asks (driver_ends event) id word 0
+            end_own-asks id = let m = end-may in store-asks (driver_ends event) id word 0 m.word_is (driver-store form size mode es id its (driver_ends event) word 0 (event size es word 0 blank) m.goes refl)
+
+            module _ (me1 : It) (ends : me1 ≡ (driver_does me (event ring.slots es word 0 blank), me.1)) where
+              end-seat : me1 ≡ (driver_does me (event size es word 0 blank), me.1)
+              end-seat = ends ∙ ap (λ (n : ℕ). let x : It = (driver_does me (event n es word 0 blank), me.1) in x) counts
+
+              -- all slots are with the seat, and the one in front is that of the place
+              pub turn-asks : (place : ℕ) → place ≡ length (done_by now).posted % now.table.slots → length (done_by now).given + (done_by now).reclaimed ≡ length (done_by now).posted → me1.1 ≡ empty_slots size place size
+              turn-asks place at back = let b : length d.given + d.reclaimed ≡ length d.posted = sym (words-are (λ x n. length x.given + x.reclaimed)) ∙ back ∙ words-are (λ x n. length x.posted) in
+                  ap (λ (m : It). m.1) end-seat ∙ slots-are ∙ ap (empty_slots size (length d.posted)) (let f : length d.given + d.reclaimed + size - length d.posted ≡ size = omega arith in f)
+                  ∙ slots-alike size (length d.posted) place size (let g = big in let f = filled place at in sym (ap (λ (j : ℕ). j % size) f ∙ mod-mod (length d.posted) size))
+
+              module _ (table' : TableId) (me2 : It) (t : table' ≡ table) (same : me2.0 ≡ me1.0) (slots : me2.1 ≡ empty_slots size 0 size) where
+                renewed-seat : me2 ≡ (Driver (es ++ event size es word 0 blank ∷ []), empty_slots size 0 size)
+                renewed-seat = ap (λ (v : View (DriverEvent D) (ControllerEvent C)). let x : It = (v, me2.1) in x) (same ∙ ap (λ (m : It). m.0) end-seat)
+                    ∙ ap (λ (xs : List (ℕ × Buffer)). let x : It = (Driver (es ++ event size es word 0 blank ∷ []), xs) in x) slots
+
+                pub end_own-keeps : IsDriverSeat form table' me2 size mode
+                end_own-keeps = let b = big in let m = end-may in let g = m.gone in let d' = drive form d (event size es word 0 blank) in
+                    let none : length d'.posted ≡ 0 = ap length g.posted in let back : length d'.given + d'.reclaimed ≡ 0 = (let x : length d'.given ≡ 0 = ap length g.given in let y = g.reclaimed in omega arith) in
+                    made table' me2 (es ++ event size es word 0 blank ∷ []) (empty_slots size 0 size) (drive form d (event size es word 0 blank)) t renewed-seat (did es (event size es word 0 blank))
+                    (ap (empty_slots size 0) (let f : size ≡ length d'.given + d'.reclaimed + size - length d'.posted = omega arith in f)
+                    ∙ ap (λ (j : ℕ). empty_slots size j (length d'.given + d'.reclaimed + size - length d'.posted)) (sym none)) (record { back = omega arith; room = omega arith })
+
+                pub end_own-steps : side table' me2 ≡ grown now (event now.table.slots now.events word 0 blank)
+                end_own-steps = one-more (event size es word 0 blank) table' me2 (empty_slots size 0 size) t renewed-seat ∙ ap (grown now) (back-there (λ n m xs. event size es word 0 blank ≡ event n xs word 0 blank) refl)

@@ -1,0 +1,117 @@
+-- What contracts see of a ring's two ends: its identity, how it reports, and the record of the end's own steps, with words on what it amounts to.
+use Rattle.std.specs.Prelude.{ℕ, ◌+◌, ◌-◌, ◌%◌, Bool, List, [], ◌∷◌, ◌++◌, length, Option}
+use Rattle.atomic_table.specs.Seated.{TableId}
+use Rattle.buffer_pool.specs.Buffer.{Buffer}
+use Rattle.ring_model.specs.declared.states.Completion.{Completion}
+use Rattle.ring_model.specs.declared.states.DriverState.{DriverState}
+use Rattle.ring_model.specs.declared.states.ControllerState.{ControllerState}
+use Rattle.shared_ring.specs.declared.events.DriverEvent.{DriverEvent}
+use Rattle.shared_ring.specs.declared.events.ControllerEvent.{ControllerEvent}
+use Rattle.shared_ring.specs.Records.{Driven, Controlled}
+use Rattle.shared_ring.specs.Forms.{Form, driving, controlling}
+
+-- an end of a ring of either direction
+pub record Side (Event : Type 0) : Type 0 where
+  pub table : TableId
+  pub completion : Completion
+  pub events : List Event
+
+-- its record is one event longer
+abbrev pub grown : {Event : Type 0} → Side Event → Event → Side Event
+grown s e = record s { events = s.events ++ e ∷ [] }
+
+-- an end of a ring of one direction
+module _ {Ring Posted Served Given D C : Type 0} (form : Form Ring Posted Served Given D C) where
+  pub record DriverSide : Type 0 where
+    pub table : TableId
+    pub completion : Completion
+    pub events : List (DriverEvent D)
+
+  pub record ControllerSide : Type 0 where
+    pub table : TableId
+    pub completion : Completion
+    pub events : List (ControllerEvent C)
+
+  abbrev pub driver_of : Side (DriverEvent D) → DriverSide
+  driver_of s = record { table = s.table; completion = s.completion; events = s.events }
+
+  abbrev pub controller_of : Side (ControllerEvent C) → ControllerSide
+  controller_of s = record { table = s.table; completion = s.completion; events = s.events }
+
+module _ {Ring Posted Served Given D C : Type 0} {form : Form Ring Posted Served Given D C} where
+  -- Words on a driver's end
+  abbrev pub driver_size : DriverSide form → ℕ
+  driver_size d = d.table.slots
+
+  -- all that it did in this epoch
+  abbrev pub driver_record : DriverSide form → Driven Posted Given
+  driver_record d = driving form d.events
+
+  abbrev pub posted : DriverSide form → List Posted
+  posted d = (driving form d.events).posted
+
+  abbrev pub published : DriverSide form → ℕ
+  published d = (driving form d.events).published
+
+  abbrev pub given : DriverSide form → List Given
+  given d = (driving form d.events).given
+
+  abbrev pub reclaimed : DriverSide form → ℕ
+  reclaimed d = (driving form d.events).reclaimed
+
+  -- how many buffers came back: given, or reclaimed
+  abbrev pub returned : DriverSide form → ℕ
+  returned d = length (given d) + reclaimed d
+
+  abbrev pub driver_state : DriverSide form → DriverState
+  driver_state d = (driving form d.events).state
+
+  -- the next place to post, and the oldest place that is out
+  abbrev pub fill_place : DriverSide form → ℕ
+  fill_place d = length (posted d) % driver_size d
+
+  abbrev pub next_place : DriverSide form → ℕ
+  next_place d = returned d % driver_size d
+
+  abbrev pub appended : DriverSide form → DriverEvent D → DriverSide form
+  appended d e = record d { events = d.events ++ e ∷ [] }
+
+  -- Words on a controller's end
+  abbrev pub controller_size : ControllerSide form → ℕ
+  controller_size c = c.table.slots
+
+  -- all that it did since it was enabled
+  abbrev pub controller_record : ControllerSide form → Controlled Served
+  controller_record c = controlling form (controller_size c) c.events
+
+  abbrev pub served : ControllerSide form → List Served
+  served c = (controller_record c).served
+
+  -- how many descriptors it knows that it has not served
+  abbrev pub known_ahead : ControllerSide form → ℕ
+  known_ahead c = (controller_record c).known - length (served c)
+
+  -- the buffer that it fetched and still has
+  abbrev pub held : ControllerSide form → Option Buffer
+  held c = (controller_record c).held
+
+  abbrev pub controller_state : ControllerSide form → ControllerState
+  controller_state c = (controller_record c).state
+
+  -- the control value that it loaded or answered last
+  abbrev pub seen : ControllerSide form → ℕ
+  seen c = (controller_record c).seen
+
+  -- the head that it stored last
+  abbrev pub head_stored : ControllerSide form → ℕ
+  head_stored c = (controller_record c).head
+
+  -- whether it may fetch no more for now
+  abbrev pub is_barred : ControllerSide form → Bool
+  is_barred c = (controller_record c).barred
+
+  abbrev pub serve_place : ControllerSide form → ℕ
+  serve_place c = length (served c) % controller_size c
+
+  abbrev pub answered : ControllerSide form → ControllerEvent C → ControllerSide form
+  answered c e = record c { events = c.events ++ e ∷ [] }

@@ -1,0 +1,44 @@
+-- What is of one direction: what its steps make of both records, what each shared step asks and tells, and how words, slots and records agree with its ring.
+use Rattle.std.specs.Prelude.{ℕ, List}
+use mathlib.Core.Option as maybe
+use Rattle.buffer_pool.specs.Buffer.{Buffer}
+use Rattle.ring_model.specs.declared.states.Completion.{Completion}
+use Rattle.shared_ring.specs.declared.events.DriverEvent.{DriverEvent}
+use Rattle.shared_ring.specs.declared.events.ControllerEvent.{ControllerEvent}
+use Rattle.shared_ring.specs.Records as records
+use Rattle.shared_ring.specs.Records.{Driven, Controlled, undriven, uncontrolled}
+
+pub record Form (Ring Posted Served Given D C : Type 0) : Type 1 where
+  -- what a driver posts with a word and a buffer, and what steps of the direction's own make
+  pub posting : ℕ → Buffer → Posted
+  pub drive_own : Driven Posted Given → D → Driven Posted Given
+  pub control_own : Controlled Served → C → Controlled Served
+  -- how its rings may report
+  pub Reports : Completion → Type 0
+  -- in a ring of n places a buffer may be posted with this word after what is posted; so much may be published; the tail may be cleared before the epoch's last step
+  pub MayPost : ℕ → List Posted → ℕ → Buffer → Type 0
+  pub MayPublish : List Posted → Type 0
+  pub MayClearTail : Completion → Type 0
+  -- a disabling may be answered with the head stored and nothing held
+  pub MayDisable : Controlled Served → Type 0
+  -- what is known of a word and its buffer that are fetched, and of a buffer that was posted so
+  pub IsFetched : ℕ → Controlled Served → ℕ → Buffer → Type 0
+  pub IsOf : Posted → Buffer → Type 0
+  -- words, slots and both records agree with a ring; what that tells of both records, and of the slots of a closed table
+  pub Lies : ℕ → Completion → Ring → List (DriverEvent D) → List (ControllerEvent C) → List ℕ → List (maybe.Option Buffer) → Type 0
+  pub AreOf : ℕ → List (DriverEvent D) → List (ControllerEvent C) → Type 0
+  pub LeftIn : ℕ → List (DriverEvent D) → List (ControllerEvent C) → List Buffer → Type 0
+
+module _ {Ring Posted Served Given D C : Type 0} (form : Form Ring Posted Served Given D C) where
+  -- what the records amount to, and one event more of them
+  abbrev pub drive : Driven Posted Given → DriverEvent D → Driven Posted Given
+  drive d e = records.drive form.posting form.drive_own d e
+
+  abbrev pub driving : List (DriverEvent D) → Driven Posted Given
+  driving es = records.driving_from form.posting form.drive_own undriven es
+
+  abbrev pub control : ℕ → Controlled Served → ControllerEvent C → Controlled Served
+  control n c e = records.control n form.control_own c e
+
+  abbrev pub controlling : ℕ → List (ControllerEvent C) → Controlled Served
+  controlling n es = records.controlling_from n form.control_own uncontrolled es

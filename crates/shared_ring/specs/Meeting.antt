@@ -1,0 +1,67 @@
+-- What both ends know together: as they are made, as they meet, and as the ring is closed.
+use Rattle.std.specs.Prelude.{◌≡◌, ℕ, zero, suc, ◌+◌, Bool, not, ◌&&◌, ◌==◌, nat_lt, List, [], ◌∷◌, ◌++◌, Option, Some, None, if◌then◌else◌}
+use mathlib.Core.Option as maybe
+use mathlib.Core.Option.{some, none}
+use lib.ListN.{get_elem?}
+use Rattle.atomic_table.specs.Seated.{TableId}
+use Rattle.buffer_pool.specs.Buffer.{Buffer}
+use Rattle.limits.specs.RingLength.{IsRingLength}
+use Rattle.ring_model.specs.declared.states.Completion.{Completion}
+use Rattle.ring_model.specs.shared.Handshakes.{is_open, is_ended}
+use Rattle.ring_model.specs.shared.Places.{between_places}
+use Rattle.shared_ring.specs.Ends.{DriverSide, driver_size, driver_state, ControllerSide, controller_state, served}
+use Rattle.shared_ring.specs.Forms.{Form}
+
+-- the slot at a place, where one lies in the ring: fewer than `out` places after `next`, and not held
+abbrev pub slot_of : maybe.Option Buffer → Option Buffer
+slot_of none = None
+slot_of (some b) = Some b
+
+abbrev pub is_kept : ℕ → ℕ → ℕ → ℕ → Bool → ℕ → Bool
+is_kept n next out serve holding place = nat_lt (between_places n next place) out && not (holding && (place == serve))
+
+abbrev pub kept_at : ℕ → ℕ → ℕ → ℕ → Bool → List Buffer → ℕ → Option Buffer
+kept_at n next out serve holding slots place = if is_kept n next out serve holding place then slot_of (get_elem? slots place) else None
+
+abbrev pub kept_upto : (ℕ → Option Buffer) → ℕ → List (Option Buffer)
+kept_upto f zero = []
+kept_upto f (suc k) = kept_upto f k ++ f k ∷ []
+
+-- where it was told how many are left, a list is longer than another by as many
+abbrev pub IsTold : Option ℕ → ℕ → ℕ → Type 0
+IsTold None fewer more = Unit {0}
+IsTold (Some left) fewer more = more ≡ fewer + left
+
+module _ {Ring Posted Served Given D C : Type 0} {form : Form Ring Posted Served Given D C} where
+  -- A made ring, whose two ends have done nothing yet: it is disabled
+  pub record MadeSeats (n : ℕ) (mode : Completion) (ring : TableId) (d : DriverSide form) (c : ControllerSide form) : Type 0 where
+    pub length_is : IsRingLength n
+    pub size_is : ring.slots ≡ n
+    pub driver_own : d.table ≡ ring
+    pub controller_own : c.table ≡ ring
+    pub driver_reports : d.completion ≡ mode
+    pub controller_reports : c.completion ≡ mode
+    pub driver_empty : d.events ≡ []
+    pub controller_empty : c.events ≡ []
+
+  -- the driver is in an epoch that the controller has not answered yet
+  abbrev pub is_unanswered : DriverSide form → ControllerSide form → Bool
+  is_unanswered d c = is_ended (controller_state c) && is_open (driver_state d)
+
+  -- what is served in the driver's epoch: nothing, as long as the controller has not answered its enabling
+  abbrev pub served_now : DriverSide form → ControllerSide form → List Served
+  served_now d c = if is_unanswered d c then [] else served c
+
+  -- both records are those of one ring
+  abbrev pub Met : DriverSide form → ControllerSide form → Type 0
+  Met d c = form.AreOf (driver_size d) d.events c.events
+
+  -- what lies in the slots as the table is closed
+  abbrev pub LeftIn : DriverSide form → ControllerSide form → List Buffer → Type 0
+  LeftIn d c slots = form.LeftIn (driver_size d) d.events c.events slots
+
+  -- the buffers of the places that are kept, in order
+  pub record TakenApart (d : DriverSide form) (c : ControllerSide form) (next out serve : ℕ) (holding : Bool) (buffers : List (Option Buffer)) : Type 0 where
+    pub slots : List Buffer
+    pub left : LeftIn d c slots
+    pub kept : buffers ≡ kept_upto (kept_at (driver_size d) next out serve holding slots) (driver_size d)

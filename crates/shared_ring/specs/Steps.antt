@@ -1,0 +1,27 @@
+-- What the shared steps answer whose result depends on what was loaded.
+use Rattle.std.specs.Prelude.{◌≡◌, ℕ, ◌+◌, ◌<◌, ◌≤◌, length, Some, slice_get}
+use Rattle.buffer_pool.specs.Buffer.{Buffer}
+use Rattle.shared_ring.specs.declared.events.DriverEvent.TheVariants as driver
+use Rattle.shared_ring.specs.declared.events.ControllerEvent.TheVariants as controller
+use Rattle.shared_ring.specs.Ends.{DriverSide, posted, returned, appended, ControllerSide, controller_size, controller_record, served, answered}
+use Rattle.shared_ring.specs.Forms.{Form}
+use Rattle.shared_ring.specs.Records.{count_at}
+
+module _ {Ring Posted Served Given D C : Type 0} {form : Form Ring Posted Served Given D C} where
+  -- C6: the buffer of the oldest posting that is out
+  pub record CameBack (old : DriverSide form) (place : ℕ) (buf : Buffer) (new : DriverSide form) : Type 0 where
+    pub step : new ≡ appended old (driver.Reclaimed place buf)
+    pub item : Posted
+    pub there : slice_get (posted old) (returned old) ≡ Some item
+    pub is_of : form.IsOf item buf
+
+  -- A3, B3
+  pub record FoundTail (old : ControllerSide form) (tail : ℕ) (new : ControllerSide form) : Type 0 where
+    pub step : new ≡ answered old (controller.Looked tail)
+    pub below : tail < controller_size old
+    pub grows : (controller_record old).known ≤ count_at (controller_size old) (length (served old)) tail
+
+  -- A4, B4
+  pub record CameOut (old : ControllerSide form) (place : ℕ) (buf : Buffer) (word : ℕ) (new : ControllerSide form) : Type 0 where
+    pub step : new ≡ answered old (controller.Fetched place word buf)
+    pub fetched : form.IsFetched (controller_size old) (controller_record old) word buf

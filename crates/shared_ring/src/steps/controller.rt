@@ -1,0 +1,105 @@
+//! The controller's shared steps.
+ghost use Rattle.std.specs.Prelude.{◌≡◌, ◌<◌, true, false, None};
+ghost use Rattle.limits.specs.RingLength.{IsRingLength};
+ghost use Rattle.ring_model.specs.shared.Handshakes.{is_serving};
+ghost use Rattle.shared_ring.specs.Words.{control_word};
+ghost use Rattle.shared_ring.specs.declared.events.ControllerEvent.TheVariants.{LoadedRequest, Enabled, Disabled};
+ghost use Rattle.shared_ring.specs.Ends.{controller_record, known_ahead, held, head_stored, seen, controller_state, is_barred, serve_place, controller_of, grown};
+ghost use Rattle.shared_ring.specs.Steps.{FoundTail, CameOut};
+
+use super::{ControllerSeat, Ring};
+use crate::control::Control;
+use crate::direction::Direction;
+use crate::exchange::take_out;
+use crate::plays::{DisableStore, EnableStore, NextLoad, RequestLoad, TailLoad};
+use buffer_pool::Buf;
+use ring_model::Completion;
+
+impl<D, C, R: Direction<D, C>> ControllerSeat<D, C, R> {
+    /// The ring's length.
+    #[inline]
+    pub fn size(&self) -> u16
+        ensures value { result ≡ self.now.table.slots }
+        ensures lawful { IsRingLength result }
+    {
+        self.size
+    }
+
+    /// How the ring reports.
+    #[inline]
+    pub fn completion(&self) -> Completion
+        ensures { result ≡ self.now.completion }
+    {
+        self.completion
+    }
+
+    /// A3, B3: the tail.
+    #[inline]
+    pub fn look(&mut self, ring: &Ring<D, C, R>) -> u16
+        requires own { self.old.table ≡ ring.now }
+        requires serving { is_serving (controller_state (controller_of R.form self.old)) ≡ true }
+        ensures { FoundTail (controller_of R.form self.old) result (controller_of R.form self.new) }
+    {
+        let word = self.size as usize + 1;
+        ring.table.shared.load::<TailLoad<R>>(&mut self.seat, word) as u16
+    }
+
+    /// A4, B4: the next descriptor is loaded, and its buffer taken; beside it, the word.
+    #[inline]
+    pub fn fetch(&mut self, ring: &Ring<D, C, R>, place: u16) -> (Buf, u64)
+        requires own { self.old.table ≡ ring.now }
+        requires place { place ≡ serve_place (controller_of R.form self.old) }
+        requires serving { is_serving (controller_state (controller_of R.form self.old)) ≡ true }
+        requires ahead { 0 < known_ahead (controller_of R.form self.old) }
+        requires held { held (controller_of R.form self.old) ≡ None }
+        requires free { is_barred (controller_of R.form self.old) ≡ false }
+        ensures { CameOut (controller_of R.form self.old) place result.0 result.1 (controller_of R.form self.new) }
+    {
+        let place = place as usize;
+        let word = ring.table.shared.load::<NextLoad<R>>(&mut self.seat, place);
+        let buf = take_out(&ring.table.shared, &mut self.seat, place);
+        (buf, word)
+    }
+
+    /// C2.
+    #[inline]
+    pub fn load_request(&mut self, ring: &Ring<D, C, R>) -> Control
+        requires own { self.old.table ≡ ring.now }
+        ensures { self.new ≡ grown self.old (LoadedRequest (control_word result)) }
+    {
+        let word = self.size as usize + 2;
+        Control::of_word(ring.table.shared.load::<RequestLoad>(&mut self.seat, word))
+    }
+
+    /// C3, for an enabling.
+    #[inline]
+    pub fn enable(&mut self, ring: &Ring<D, C, R>)
+        requires own { self.old.table ≡ ring.now }
+        requires asked { seen (controller_of R.form self.old) ≡ 1 }
+        requires idle { is_serving (controller_state (controller_of R.form self.old)) ≡ false }
+        requires held { held (controller_of R.form self.old) ≡ None }
+        ensures { self.new ≡ grown self.old Enabled }
+    {
+        let word = self.size as usize + 2;
+        ring.table
+            .shared
+            .store::<EnableStore>(&mut self.seat, word, 2);
+    }
+
+    /// C3, for a disabling.
+    #[inline]
+    pub fn disable(&mut self, ring: &Ring<D, C, R>)
+        requires own { self.old.table ≡ ring.now }
+        requires asked { seen (controller_of R.form self.old) ≡ 3 }
+        requires serving { is_serving (controller_state (controller_of R.form self.old)) ≡ true }
+        requires held { held (controller_of R.form self.old) ≡ None }
+        requires head { head_stored (controller_of R.form self.old) ≡ serve_place (controller_of R.form self.old) }
+        requires may { R.form.MayDisable (controller_record (controller_of R.form self.old)) }
+        ensures { self.new ≡ grown self.old Disabled }
+    {
+        let word = self.size as usize + 2;
+        ring.table
+            .shared
+            .store::<DisableStore>(&mut self.seat, word, 0);
+    }
+}

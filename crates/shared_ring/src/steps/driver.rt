@@ -1,0 +1,162 @@
+//! The driver's shared steps.
+ghost use Rattle.std.specs.Prelude.{◌≡◌, ◌+◌, ◌<◌, true, length};
+ghost use Rattle.limits.specs.RingLength.{IsRingLength};
+ghost use Rattle.ring_model.specs.shared.Handshakes.{is_open, is_new, is_on, is_stopped, is_cleared};
+ghost use Rattle.shared_ring.specs.Words.{control_word};
+ghost use Rattle.shared_ring.specs.declared.events.DriverEvent.TheVariants.{Posted, Published, AskedEnable, LoadedControl, AskedDisable, LoadedHead, ClearedHead, ClearedTail};
+ghost use Rattle.shared_ring.specs.Directions.{IsDirection};
+ghost use Rattle.shared_ring.specs.Ends.{posted, returned, driver_state, fill_place, next_place, driver_of, grown};
+ghost use Rattle.shared_ring.specs.Steps.{CameBack};
+
+use super::own::Reclaiming;
+use super::{DriverSeat, Ring};
+use crate::control::Control;
+use crate::direction::Direction;
+use crate::exchange::put_in;
+use crate::plays::{
+    AskDisableStore, AskEnableStore, ClearHeadStore, ClearTailStore, ControlLoad, HeadLoad,
+    PostStore, PublishStore,
+};
+use buffer_pool::Buf;
+use ring_model::Completion;
+
+impl<D, C, R: Direction<D, C>> DriverSeat<D, C, R> {
+    /// The ring's length.
+    #[inline]
+    pub fn size(&self) -> u16
+        ensures value { result ≡ self.now.table.slots }
+        ensures lawful { IsRingLength result }
+        ensures law { IsDirection R.form }
+    {
+        self.size
+    }
+
+    /// How the ring reports.
+    #[inline]
+    pub fn completion(&self) -> Completion
+        ensures { result ≡ self.now.completion }
+    {
+        self.completion
+    }
+
+    /// A1, B1: a buffer goes into the next slot, and its descriptor becomes this word.
+    #[inline]
+    pub fn post(&mut self, ring: &Ring<D, C, R>, place: u16, word: u64, buf: Buf)
+        requires own { self.old.table ≡ ring.now }
+        requires place { place ≡ fill_place (driver_of R.form self.old) }
+        requires open { is_open (driver_state (driver_of R.form self.old)) ≡ true }
+        requires room { length (posted (driver_of R.form self.old)) + 1 < returned (driver_of R.form self.old) + self.old.table.slots }
+        requires may { R.form.MayPost self.old.table.slots (posted (driver_of R.form self.old)) word buf }
+        ensures { self.new ≡ grown self.old (Posted place word buf) }
+    {
+        let place = place as usize;
+        put_in(&ring.table.shared, &mut self.seat, place, buf);
+        ring.table
+            .shared
+            .store::<PostStore>(&mut self.seat, place, word);
+    }
+
+    /// A2, B2: the tail is stored.
+    #[inline]
+    pub fn publish(&mut self, ring: &Ring<D, C, R>, tail: u16)
+        requires own { self.old.table ≡ ring.now }
+        requires tail { tail ≡ fill_place (driver_of R.form self.old) }
+        requires open { is_open (driver_state (driver_of R.form self.old)) ≡ true }
+        requires may { R.form.MayPublish (posted (driver_of R.form self.old)) }
+        ensures { self.new ≡ grown self.old (Published tail) }
+    {
+        let word = self.size as usize + 1;
+        ring.table
+            .shared
+            .store::<PublishStore>(&mut self.seat, word, tail as u64);
+    }
+
+    /// C1.
+    #[inline]
+    pub fn ask_enable(&mut self, ring: &Ring<D, C, R>)
+        requires own { self.old.table ≡ ring.now }
+        requires new { is_new (driver_state (driver_of R.form self.old)) ≡ true }
+        ensures { self.new ≡ grown self.old AskedEnable }
+    {
+        let word = self.size as usize + 2;
+        ring.table
+            .shared
+            .store::<AskEnableStore>(&mut self.seat, word, 1);
+    }
+
+    /// C4.
+    #[inline]
+    pub fn load_control(&mut self, ring: &Ring<D, C, R>) -> Control
+        requires own { self.old.table ≡ ring.now }
+        ensures { self.new ≡ grown self.old (LoadedControl (control_word result)) }
+    {
+        let word = self.size as usize + 2;
+        Control::of_word(ring.table.shared.load::<ControlLoad>(&mut self.seat, word))
+    }
+
+    /// C5.
+    #[inline]
+    pub fn ask_disable(&mut self, ring: &Ring<D, C, R>)
+        requires own { self.old.table ≡ ring.now }
+        requires on { is_on (driver_state (driver_of R.form self.old)) ≡ true }
+        ensures { self.new ≡ grown self.old AskedDisable }
+    {
+        let word = self.size as usize + 2;
+        ring.table
+            .shared
+            .store::<AskDisableStore>(&mut self.seat, word, 3);
+    }
+
+    /// The load of the head.
+    #[inline]
+    pub fn load_head(&mut self, ring: &Ring<D, C, R>) -> u16
+        requires own { self.old.table ≡ ring.now }
+        requires stopped { is_stopped (driver_state (driver_of R.form self.old)) ≡ true }
+        ensures step { self.new ≡ grown self.old (LoadedHead result) }
+        ensures below { result < self.old.table.slots }
+    {
+        let word = self.size as usize;
+        ring.table.shared.load::<HeadLoad>(&mut self.seat, word) as u16
+    }
+
+    /// C6: the oldest descriptor that is out becomes 0, and its buffer comes back.
+    #[inline]
+    pub fn reclaim(&mut self, ring: &Ring<D, C, R>, place: u16) -> Buf
+        requires own { self.old.table ≡ ring.now }
+        requires place { place ≡ next_place (driver_of R.form self.old) }
+        requires stopped { is_stopped (driver_state (driver_of R.form self.old)) ≡ true }
+        requires out { returned (driver_of R.form self.old) < length (posted (driver_of R.form self.old)) }
+        ensures { CameBack (driver_of R.form self.old) place result (driver_of R.form self.new) }
+    {
+        let _size = self.size();
+        self.clear_own::<Reclaiming<C, R>>(ring, place)
+    }
+
+    /// C9.
+    #[inline]
+    pub fn clear_head(&mut self, ring: &Ring<D, C, R>)
+        requires own { self.old.table ≡ ring.now }
+        requires stopped { is_stopped (driver_state (driver_of R.form self.old)) ≡ true }
+        requires back { returned (driver_of R.form self.old) ≡ length (posted (driver_of R.form self.old)) }
+        ensures { self.new ≡ grown self.old ClearedHead }
+    {
+        let word = self.size as usize;
+        ring.table
+            .shared
+            .store::<ClearHeadStore>(&mut self.seat, word, 0);
+    }
+
+    /// C10, where the epoch does not end by it.
+    #[inline]
+    pub fn clear_tail(&mut self, ring: &Ring<D, C, R>)
+        requires own { self.old.table ≡ ring.now }
+        requires may { R.form.MayClearTail self.old.completion }
+        requires cleared { is_cleared (driver_state (driver_of R.form self.old)) ≡ true }
+        ensures { self.new ≡ grown self.old ClearedTail }
+    {
+        let word = self.size as usize + 1;
+        ring.table
+            .shared
+            .store::<ClearTailStore>(&mut self.seat, word, 0);
+    }
+}

@@ -1,0 +1,163 @@
+//! The making of a ring, the meeting of its ends, and its end.
+ghost use Rattle.std.specs.Prelude.{◌≡◌, ◌+◌, ◌<◌, ◌≤◌, [], IfOk, replicate, vec_capacity};
+ghost use Rattle.std.specs.Mem.Slots.{slots_items, slots_len, IsFull};
+ghost use Rattle.limits.specs.RingLength.{IsRingLength};
+ghost use Rattle.shared_ring.specs.Directions.{IsDirection};
+ghost use Rattle.shared_ring.specs.Ends.{driver_of, controller_of};
+ghost use Rattle.shared_ring.specs.Meeting.{MadeSeats, Met, LeftIn, TakenApart, kept_at, kept_upto};
+ghost use Rattle.shared_ring.specs.Tables.{words_of};
+
+use super::{ControllerSeat, DriverSeat, Ring};
+use crate::direction::Direction;
+use crate::lending::{Halve, Lend, Return, Unite};
+use crate::plays::{Deal, MeetLoad};
+use atomic_table::{Closed, Table};
+use buffer_pool::Buf;
+use ring_model::{Completion, places_between};
+use std::alloc::{AllocError, Global};
+use std::marker::PhantomData;
+
+impl<D, C, R: Direction<D, C>> Ring<D, C, R> {
+    /// The ring's table, and the seats of its two ends.
+    pub fn deal(
+        alloc: Global,
+        size: u16,
+        completion: Completion,
+    ) -> Result<(Ring<D, C, R>, DriverSeat<D, C, R>, ControllerSeat<D, C, R>), AllocError>
+        requires law { IsDirection R.form }
+        requires length { IsRingLength size }
+        requires reports { R.form.Reports completion }
+        ensures { IfOk result (λ r. MadeSeats size completion r.0 (driver_of R.form r.1) (controller_of R.form r.2)) }
+    {
+        let count = size as usize;
+        let words = opening_words(alloc, count, completion)?;
+        let room = Vec::with_capacity(alloc, count)?;
+        let blanks = Buf::blanks(alloc, count)?;
+        let key = (count, completion);
+        let Ok((table, mut seat)) = Table::new(alloc, words.as_slice(), blanks, &key) else {
+            return Err(AllocError);
+        };
+        table.shared.load::<Deal>(&mut seat, count + 2);
+        let served = table.shared.split_seat::<Halve>(&mut seat);
+        let ring = Ring { table, room };
+        Ok((
+            ring,
+            DriverSeat {
+                seat,
+                size,
+                completion,
+                direction: PhantomData,
+            },
+            ControllerSeat {
+                seat: served,
+                size,
+                completion,
+                direction: PhantomData,
+            },
+        ))
+    }
+
+    /// Both seats, in one place, learn that their records are those of one lawful ring.
+    pub fn meet(&self, driver: &mut DriverSeat<D, C, R>, controller: &mut ControllerSeat<D, C, R>)
+        requires driver { driver.old.table ≡ self.now }
+        requires controller { controller.old.table ≡ self.now }
+        ensures same_driver { driver.new ≡ driver.old }
+        ensures same_controller { controller.new ≡ controller.old }
+        ensures met { Met (driver_of R.form driver.old) (controller_of R.form controller.old) }
+    {
+        let table = &self.table.shared;
+        let lent = table.split_seat::<Lend>(&mut controller.seat);
+        table.join_seat::<Unite>(&mut driver.seat, lent);
+        table.load::<MeetLoad<R>>(&mut driver.seat, 0);
+        let lent = table.split_seat::<Halve>(&mut driver.seat);
+        table.join_seat::<Return>(&mut controller.seat, lent);
+    }
+
+    /// Both seats come together, and the table is closed: what is left are its slots, and the room for their buffers.
+    fn gather(
+        self,
+        driver: DriverSeat<D, C, R>,
+        controller: ControllerSeat<D, C, R>,
+    ) -> (Closed<Buf, Global>, Vec<Option<Buf>>)
+        requires driver { driver.table ≡ self }
+        requires controller { controller.table ≡ self }
+        ensures slots { IsFull result.0.slots × (slots_len result.0.slots ≡ driver.table.slots) }
+        ensures left { LeftIn (driver_of R.form driver) (controller_of R.form controller) (slots_items result.0.slots) }
+        ensures room { (result.1.items ≡ []) × (driver.table.slots ≤ vec_capacity result.1) }
+    {
+        let DriverSeat { mut seat, .. } = driver;
+        let ControllerSeat {
+            seat: mut other, ..
+        } = controller;
+        let table = &self.table.shared;
+        let lent = table.split_seat::<Lend>(&mut other);
+        table.join_seat::<Unite>(&mut seat, lent);
+        let Ring { table, room } = self;
+        (table.close_with(seat), room)
+    }
+
+    /// Takes the buffers out of a ring's slots, place by place: of each place that lies fewer than `out` after `next`,
+    /// but that of a held buffer.
+    pub fn take_apart(
+        self,
+        driver: DriverSeat<D, C, R>,
+        controller: ControllerSeat<D, C, R>,
+        next: u16,
+        out: u16,
+        serve: u16,
+        holding: bool,
+    ) -> Vec<Option<Buf>>
+        requires driver { driver.table ≡ self }
+        requires controller { controller.table ≡ self }
+        requires next { next < driver.table.slots }
+        ensures { TakenApart (driver_of R.form driver) (controller_of R.form controller) next out serve holding result.items }
+    {
+        let size = driver.size();
+        let (closed, room) = self.gather(driver, controller);
+        empty(closed, room, size, next, out, serve, holding)
+    }
+}
+
+/// The buffers of a closed table, in the room that was reserved for them.
+fn empty(
+    mut closed: Closed<Buf, Global>,
+    mut room: Vec<Option<Buf>>,
+    size: u16,
+    next: u16,
+    out: u16,
+    serve: u16,
+    holding: bool,
+) -> Vec<Option<Buf>>
+    requires slots { IsFull closed.slots × (slots_len closed.slots ≡ size) }
+    requires room { (room.items ≡ []) × (size ≤ vec_capacity room) }
+    requires next { next < size }
+    requires lawful { IsRingLength size }
+    ensures { result.items ≡ kept_upto (kept_at size next out serve holding (slots_items closed.slots)) size }
+{
+    for place in 0..size {
+        let buf = closed.take(place as usize);
+        if places_between(next, place, size) < out && !(holding && place == serve) {
+            room.push_reserved(Some(buf));
+        } else {
+            room.push_reserved(None);
+        }
+    }
+    closed.free();
+    room
+}
+
+/// The words of a ring as it is made, all 0: one more where it reports by a head word.
+fn opening_words(
+    alloc: Global,
+    count: usize,
+    completion: Completion,
+) -> Result<Vec<u64>, AllocError>
+    requires { count ≤ 4096 }
+    ensures { IfOk result (λ v. v.items ≡ replicate (words_of count completion) 0) }
+{
+    let words = match completion {
+        Completion::Status => count + 4,
+        Completion::Head => count + 5,
+    };
+    vec![in alloc; 0u64; words]
+}

@@ -1,0 +1,153 @@
+//! The steps of one direction's own, each by the event that its `OwnStep` names: what the direction's agreement says of
+//! them is asked of the caller.
+ghost use Rattle.std.specs.Prelude.{◌≡◌, ◌+◌, ◌<◌, length, IfSome, IfNone, Some};
+ghost use Rattle.buffer_pool.specs.Buffer.{Buffer, blank};
+ghost use Rattle.shared_ring.specs.Ends.{posted, returned, fill_place, next_place, serve_place, held, driver_of, controller_of, grown};
+ghost use Rattle.shared_ring.specs.Own.{MayLoad, MayClear, MayTake, MayEnd, MayStore, MayGive, Missed, Came};
+ghost use Rattle.shared_ring.specs.Slots.{empty_slots};
+
+use super::{ControllerSeat, DriverSeat, Ring};
+use crate::direction::{Direction, OwnStep, OwnTake};
+use crate::events::{ControllerEvent, DriverEvent};
+use crate::exchange::{put_in, take_out};
+use crate::plays::{OwnClear, OwnEnd, OwnFind, OwnGive, OwnLoad, OwnStore};
+use atomic_table::Seat;
+use buffer_pool::Buf;
+use std::marker::PhantomData;
+
+/// C6, as a store by which a buffer comes back.
+pub(crate) struct Reclaiming<C, R>(PhantomData<(C, R)>);
+
+impl<D, C, R: Direction<D, C>> OwnStep<DriverEvent<D>> for Reclaiming<C, R> {
+    ghost use Rattle.shared_ring.specs.Reclaims.{reclaiming, Reclaims};
+
+    ghost event = { reclaiming };
+
+    ghost tells = { Reclaims R.form };
+}
+
+impl<D, C, R: Direction<D, C>> DriverSeat<D, C, R> {
+    /// A load.
+    #[inline]
+    pub fn load_own<P: OwnStep<DriverEvent<D>>>(&mut self, ring: &Ring<D, C, R>, word: usize) -> u64
+        requires own { self.old.table ≡ ring.now }
+        requires may { MayLoad R.form P.event P.tells self.old.table.slots self.old.completion self.old.events word }
+        ensures step { self.new ≡ grown self.old (P.event self.old.table.slots self.old.events word result blank) }
+        ensures told { P.tells self.old.table.slots self.old.events word result blank }
+    {
+        ring.table.shared.load::<OwnLoad<P>>(&mut self.seat, word)
+    }
+
+    /// A store of 0 into the oldest descriptor that is out, whose buffer comes back.
+    #[inline]
+    pub fn clear_own<P: OwnStep<DriverEvent<D>>>(&mut self, ring: &Ring<D, C, R>, place: u16) -> Buf
+        requires own { self.old.table ≡ ring.now }
+        requires place { place ≡ next_place (driver_of R.form self.old) }
+        requires out { returned (driver_of R.form self.old) < length (posted (driver_of R.form self.old)) }
+        requires may { MayClear R.form P.event P.tells self.old.table.slots self.old.completion self.old.events place }
+        ensures step { self.new ≡ grown self.old (P.event self.old.table.slots self.old.events place 0 result) }
+        ensures told { P.tells self.old.table.slots self.old.events place 0 result }
+    {
+        let place = place as usize;
+        ring.table
+            .shared
+            .store::<OwnClear<P>>(&mut self.seat, place, 0);
+        let buf = take_out(&ring.table.shared, &mut self.seat, place);
+        self.seat.turn();
+        buf
+    }
+
+    /// A load of the oldest descriptor that is out, whose buffer comes back where it is done; beside the buffer, the
+    /// word.
+    #[inline]
+    pub fn take_own<P: OwnTake<DriverEvent<D>>>(
+        &mut self,
+        ring: &Ring<D, C, R>,
+        place: u16,
+    ) -> (u64, Option<Buf>)
+        requires own { self.old.table ≡ ring.now }
+        requires place { place ≡ next_place (driver_of R.form self.old) }
+        requires out { returned (driver_of R.form self.old) < length (posted (driver_of R.form self.old)) }
+        requires may { MayTake R.form P.event P.tells self.old.table.slots self.old.completion self.old.events P.missed P.done place }
+        ensures none { IfNone result.1 (Missed P.event P.tells P.missed P.done self.old place result.0 self.new) }
+        ensures some { IfSome result.1 (λ b. Came P.event P.tells P.missed P.done self.old place result.0 b self.new) }
+    {
+        let place = place as usize;
+        let word = ring.table.shared.load::<OwnFind<P>>(&mut self.seat, place);
+        if !P::is_done(word) {
+            return (word, None);
+        }
+        let buf = take_out(&ring.table.shared, &mut self.seat, place);
+        self.seat.turn();
+        (word, Some(buf))
+    }
+
+    /// A store of 0 that ends the epoch. The next one begins with the slot of place 0 in front.
+    #[inline]
+    pub fn end_own<P: OwnStep<DriverEvent<D>>>(&mut self, ring: &Ring<D, C, R>, word: usize, fill: u16)
+        requires own { self.old.table ≡ ring.now }
+        requires place { fill ≡ fill_place (driver_of R.form self.old) }
+        requires back { returned (driver_of R.form self.old) ≡ length (posted (driver_of R.form self.old)) }
+        requires may { MayEnd R.form P.event P.tells self.old.table.slots self.old.completion self.old.events word }
+        ensures { self.new ≡ grown self.old (P.event self.old.table.slots self.old.events word 0 blank) }
+    {
+        ring.table
+            .shared
+            .store::<OwnEnd<P>>(&mut self.seat, word, 0);
+        turn_round(&mut self.seat, fill, self.size);
+    }
+}
+
+impl<D, C, R: Direction<D, C>> ControllerSeat<D, C, R> {
+    /// A store.
+    #[inline]
+    pub fn store_own<P: OwnStep<ControllerEvent<C>>>(
+        &mut self,
+        ring: &Ring<D, C, R>,
+        word: usize,
+        value: u64,
+    )
+        requires own { self.old.table ≡ ring.now }
+        requires may { MayStore R.form P.event self.old.table.slots self.old.completion self.old.events word value }
+        ensures { self.new ≡ grown self.old (P.event self.old.table.slots self.old.events word value blank) }
+    {
+        ring.table
+            .shared
+            .store::<OwnStore<P>>(&mut self.seat, word, value);
+    }
+
+    /// The fetched buffer goes back into its slot, which the store gives to the ring.
+    #[inline]
+    pub fn give_own<P: OwnStep<ControllerEvent<C>>>(
+        &mut self,
+        ring: &Ring<D, C, R>,
+        place: u16,
+        buf: Buf,
+        word: usize,
+        value: u64,
+    )
+        requires own { self.old.table ≡ ring.now }
+        requires place { place ≡ serve_place (controller_of R.form self.old) }
+        requires held { (h : Buffer) × (held (controller_of R.form self.old) ≡ Some h) }
+        requires may { MayGive R.form P.event self.old.table.slots self.old.completion self.old.events place word value buf }
+        ensures { self.new ≡ grown self.old (P.event self.old.table.slots self.old.events word value buf) }
+    {
+        put_in(&ring.table.shared, &mut self.seat, place as usize, buf);
+        ring.table
+            .shared
+            .store::<OwnGive<P>>(&mut self.seat, word, value);
+    }
+}
+
+/// Turns all slots, of which that of `place` stands in front, until that of place 0 does. A seat has no bytes, so this
+/// moves nothing.
+fn turn_round<V>(seat: &mut Seat<Buf, V>, place: u16, size: u16)
+    requires place { place < size }
+    requires all { seat.old.me.1 ≡ empty_slots size place size }
+    ensures same { (seat.new.table_id ≡ seat.old.table_id) × (seat.new.id ≡ seat.old.id) × (seat.new.me.0 ≡ seat.old.me.0) }
+    ensures turned { seat.new.me.1 ≡ empty_slots size 0 size }
+{
+    for _ in place..size {
+        seat.turn();
+    }
+}
