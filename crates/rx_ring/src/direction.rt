@@ -9,6 +9,7 @@ pub struct RxRule;
 impl Direction<RxDriverOwn, RxControllerOwn> for RxRule {
     ghost use Rattle.ring_model.specs.shared.Frames.{Bytes};
     ghost use Rattle.ring_model.specs.receive.Ring as receive;
+    ghost use Rattle.ring_model.specs.shared.Segments.{Segment};
     ghost use Rattle.std.specs.Prelude.{ℕ};
     ghost use Rattle.rx_ring.specs.Form.{rx};
 
@@ -16,9 +17,9 @@ impl Direction<RxDriverOwn, RxControllerOwn> for RxRule {
 
     ghost Posted = { ℕ };
 
-    ghost Served = { receive.Segment Bytes };
+    ghost Served = { Segment Bytes };
 
-    ghost Given = { receive.Segment Bytes };
+    ghost Given = { Segment Bytes };
 
     ghost form = { rx };
 }
