@@ -3,6 +3,10 @@
 #![tactic(auto)]
 
 #[cfg(test)]
+mod beside;
+#[cfg(test)]
+mod both;
+#[cfg(test)]
 mod hands;
 #[cfg(test)]
 mod machine_tests;

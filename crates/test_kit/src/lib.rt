@@ -1,0 +1,13 @@
+//! What the tests of both running rings share: random numbers, frames that tell themselves apart by their bytes, buffers
+//! that are counted, and a running ring beside its pure machine.
+#![tactic(auto)]
+
+mod beside;
+mod buffers;
+mod frames;
+mod random;
+
+pub use beside::{Beside, Lying, random_control, walk, wander, without_place};
+pub use buffers::{Numbers, count_slots, filled, full_stash, put_back};
+pub use frames::{frame, frame_len, is_frame};
+pub use random::Random;
