@@ -1,22 +1,17 @@
 //! A running ring by calls in one thread, beside the pure machine that makes the same moves.
 
-use crate::both::{BUFFERS, Both};
+use crate::both::{BUFFERS, Both, ENABLED, Step};
 use ring_machine::{RxMachine, SegmentLength};
 use ring_model::{ControlStep, Note, RxStep};
 use std::alloc::Global;
 use std::test::Fail;
 use test_kit::{Beside, Lying, Numbers, Random, count_slots, random_control, walk, wander};
 
-type Step = RxStep<SegmentLength>;
-
 #[derive(Drop)]
 struct Pair {
     both: Both,
     machine: RxMachine,
     lying: Lying,
-    // segments of this epoch
-    stored: u32,
-    taken: u32,
     renewals: u32,
 }
 
@@ -26,8 +21,6 @@ impl Pair {
             both: Both::new(alloc, n)?,
             machine: RxMachine::new(alloc, n as usize, false)?,
             lying: Lying::new(),
-            stored: 0,
-            taken: 0,
             renewals: 0,
         })
     }
@@ -40,8 +33,6 @@ impl Pair {
         if tail != Note::Tail(0) || quiet != Note::Quiet(0) {
             return None;
         }
-        self.stored = 0;
-        self.taken = 0;
         self.renewals = self.renewals.saturating_add(1);
         Some(note)
     }
@@ -97,18 +88,12 @@ impl Beside for Pair {
         }
     }
 
-    fn is_told(&mut self, step: Step, note: Note) -> bool {
-        match (step, note) {
-            (RxStep::Store(_, _), _) => self.stored = self.stored.wrapping_add(1),
-            (_, Note::Taken(Some(_))) => self.taken = self.taken.wrapping_add(1),
-            (RxStep::Control(ControlStep::LookAnswered), _) => {
-                if let Some(left) = self.both.left() {
-                    return left == self.stored.wrapping_sub(self.taken);
-                }
-            }
-            _ => {}
+    fn is_told(&mut self, step: Step) -> bool {
+        if step != RxStep::Control(ControlStep::LookAnswered) {
+            return true;
         }
-        true
+        let wanted = self.both.stored_count.wrapping_sub(self.both.taken_count);
+        self.both.left().is_none_or(|left| left == wanted)
     }
 
     fn random_step(random: &mut Random) -> Step {
@@ -173,15 +158,9 @@ fn listed() -> Option<[Step; 19]> {
 // if the ring and its machine told the same.
 fn made_with(alloc: Global, list: &[Step], index: usize) -> Result<Option<usize>, Fail> {
     let mut pair = Pair::new(alloc, 8)?;
-    let enabling = [
-        ControlStep::AskEnable,
-        ControlStep::LookAsked,
-        ControlStep::Answer,
-        ControlStep::LookAnswered,
-    ];
     let disabling = [RxStep::Control(ControlStep::AskDisable)];
     let (before, after) = list.split_at(index.min(list.len()));
-    let enabled = walk(&mut pair, &enabling.map(RxStep::Control));
+    let enabled = walk(&mut pair, &ENABLED);
     let first = walk(&mut pair, before);
     let asked = walk(&mut pair, &disabling);
     let last = walk(&mut pair, after);

@@ -14,10 +14,21 @@ use ring_model::{ControlStep, Note, RxStep, TakenSegment};
 use rx_ring::{Poll, RxControllerEnd, RxDriverEnd, RxRing, close};
 use std::alloc::Global;
 use std::test::Fail;
-use test_kit::{filled, full_stash, put_back, shake};
+use test_kit::{filled, full_stash, is_filled, put_back, shake};
+
+/// A step of a receive ring.
+pub(crate) type Step = RxStep<SegmentLength>;
 
 /// How many buffers there are.
 pub(crate) const BUFFERS: u32 = 32;
+
+/// Asks for the queue to be enabled, answers, and sees it.
+pub(crate) const ENABLED: [Step; 4] = [
+    RxStep::Control(ControlStep::AskEnable),
+    RxStep::Control(ControlStep::LookAsked),
+    RxStep::Control(ControlStep::Answer),
+    RxStep::Control(ControlStep::LookAnswered),
+];
 
 /// A ring with its two ends, and the buffers that are in neither.
 #[derive(Drop)]
@@ -29,6 +40,9 @@ pub(crate) struct Both {
     pub spare: Stash,
     /// The number of the buffer that was posted last.
     pub posted: u16,
+    /// The segments that were stored in this epoch, each filled with its number, and those that were taken.
+    pub stored_count: u32,
+    pub taken_count: u32,
     held: Option<Buf>,
     // of the frame that is begun
     segments: usize,
@@ -51,6 +65,16 @@ impl Both {
         Ok(Both::of(ring, driver, controller, spare))
     }
 
+    /// The same, enabled and seen enabled.
+    pub(crate) fn enabled(alloc: Global, n: u32) -> Result<Both, Fail> {
+        let mut both = Both::new(alloc, n)?;
+        if both.makes(&ENABLED) {
+            Ok(both)
+        } else {
+            Err(Fail::new("not enabled"))
+        }
+    }
+
     fn of(ring: RxRing, driver: RxDriverEnd, controller: RxControllerEnd, spare: Stash) -> Both
         requires driver { driver.table ≡ ring }
         requires controller { controller.table ≡ ring }
@@ -63,6 +87,8 @@ impl Both {
             controller,
             spare,
             posted: 0,
+            stored_count: 0,
+            taken_count: 0,
             held: None,
             segments: 0,
             bytes: 0,
@@ -71,7 +97,7 @@ impl Both {
     }
 
     /// The step, where its condition holds. Clearing the head stands for a whole renewal.
-    pub(crate) fn make(&mut self, step: RxStep<SegmentLength>) -> Option<Note> {
+    pub(crate) fn make(&mut self, step: Step) -> Option<Note> {
         match step {
             RxStep::Post(_) => self.post(),
             RxStep::Publish => self.publish(),
@@ -146,8 +172,9 @@ impl Both {
         if !self.may_follow(len, eop) {
             return None;
         }
-        let buf = filled(self.held.take()?, len.bytes());
+        let buf = filled(self.held.take()?, len.bytes(), self.stored_count);
         self.controller.write_back(&self.ring, buf, eop);
+        self.stored_count = self.stored_count.wrapping_add(1);
         if eop {
             self.segments = 0;
             self.bytes = 0;
@@ -166,8 +193,10 @@ impl Both {
                     len: buf.len() as u32,
                     eop,
                 };
+                let is_next = is_filled(&buf, self.taken_count);
+                self.taken_count = self.taken_count.wrapping_add(1);
                 put_back(&mut self.spare, buf);
-                Some(Note::Taken(Some(taken)))
+                is_next.then_some(Note::Taken(Some(taken)))
             }
             Poll::NotDone => Some(Note::Taken(None)),
             Poll::Empty | Poll::Off => None,
@@ -227,6 +256,8 @@ impl Both {
         }
         self.driver.renew(&self.ring);
         self.untouched = true;
+        self.stored_count = 0;
+        self.taken_count = 0;
         Some(Note::Head(0))
     }
 
@@ -236,6 +267,16 @@ impl Both {
             return None;
         }
         Some(self.driver.left(&self.ring))
+    }
+
+    /// Whether each of these steps can be made in its turn.
+    pub(crate) fn makes(&mut self, steps: &[Step]) -> bool {
+        for step in steps {
+            if self.make(*step).is_none() {
+                return false;
+            }
+        }
+        true
     }
 
     /// Closes the ring: what lay at each place, the buffers at hand, and the number of the one that is held.

@@ -1,103 +1,134 @@
 //! Worked rows of a receive ring, by calls.
-ghost use Rattle.std.specs.Prelude.{◌≡◌, ◌≤◌, length};
 
-use crate::hands::{
-    answer, ask_disable, ask_enable, fill_ring, finish, post_one, reclaim_all, store_frame,
-};
-use buffer_pool::Stock;
-use rx_ring::{Control, Poll, RingError, RxRing, meet_rx};
+use crate::both::{Both, Step};
+use ring_machine::SegmentLength;
+use ring_model::{ControlStep, Note, RxStep, TakenSegment};
+use rx_ring::{Poll, RingError, RxRing, meet_rx};
 use std::test::Fail;
+
+/// Stores a frame of 60 bytes in one segment, and the head.
+fn stored_whole() -> [Step; 4] {
+    let len = SegmentLength::new(60);
+    [
+        RxStep::Look,
+        RxStep::Fetch,
+        len.map_or(RxStep::ClearTail, |len| RxStep::Store(len, true)),
+        RxStep::Head,
+    ]
+}
+
+/// Asks for the queue to be disabled, answers, and sees it.
+const DISABLED: [Step; 4] = [
+    RxStep::Control(ControlStep::AskDisable),
+    RxStep::Control(ControlStep::LookAsked),
+    RxStep::Control(ControlStep::Answer),
+    RxStep::Control(ControlStep::LookAnswered),
+];
+
+fn taken(buffer: u16) -> Option<Note> {
+    let eop = true;
+    Some(Note::Taken(Some(TakenSegment {
+        buffer,
+        len: 60,
+        eop,
+    })))
+}
 
 #[test]
 fn enabling_and_disabling_by_calls(rt: HostRuntime) -> Result<(), Fail> {
-    let (ring, mut driver, mut controller) = RxRing::new(rt.alloc(), 8)?;
-    assert!(rt; driver.is_new() && !driver.is_live() && !controller.is_serving());
-    assert_eq!(rt; driver.state(&ring), Control::Disabled);
-    ask_enable(&ring, &mut driver);
-    assert_eq!(rt; controller.asked(&ring), Control::EnableAsked);
-    assert!(rt; controller.can_answer());
-    answer(&ring, &mut controller);
-    assert!(rt; controller.is_serving() && !controller.can_answer());
-    assert_eq!(rt; driver.state(&ring), Control::Enabled);
-    assert!(rt; driver.is_on());
-    ask_disable(&ring, &mut driver);
-    assert_eq!(rt; controller.asked(&ring), Control::DisableAsked);
-    assert_eq!(rt; driver.state(&ring), Control::DisableAsked);
-    assert!(rt; driver.is_live() && !driver.is_open());
-    answer(&ring, &mut controller);
-    assert_eq!(rt; driver.state(&ring), Control::Disabled);
-    assert!(rt; driver.is_stopped() && !driver.is_live() && !driver.is_new());
+    let mut both = Both::new(rt.alloc(), 8)?;
+    let rows = [
+        (ControlStep::LookAnswered, Some(0), 'n'),
+        (ControlStep::AskDisable, None, 'n'),
+        (ControlStep::Answer, None, 'n'),
+        (ControlStep::AskEnable, Some(1), 'a'),
+        (ControlStep::LookAsked, Some(1), 'a'),
+        (ControlStep::Answer, Some(2), 'a'),
+        (ControlStep::Answer, None, 'a'),
+        (ControlStep::LookAnswered, Some(2), 'o'),
+        (ControlStep::AskDisable, Some(3), 's'),
+        (ControlStep::LookAsked, Some(3), 's'),
+        (ControlStep::LookAnswered, Some(3), 's'),
+        (ControlStep::Answer, Some(0), 's'),
+        (ControlStep::LookAnswered, Some(0), 'd'),
+        (ControlStep::AskEnable, None, 'd'),
+    ];
+    for (k, (step, control, state)) in rows.iter().enumerate() {
+        let told = both.make(RxStep::Control(*step));
+        assert!(rt; told == control.map(Note::Control), "row {k}");
+        let driver = &both.driver;
+        assert!(rt;
+            driver.is_new() == (*state == 'n') && driver.is_on() == (*state == 'o'),
+            "row {k}"
+        );
+        assert!(rt; driver.is_stopped() == (*state == 'd'), "row {k}");
+        assert!(rt; driver.is_live() == matches!(state, 'o' | 's'), "row {k}");
+        assert!(rt;
+            driver.is_open() == matches!(state, 'n' | 'a' | 'o'),
+            "row {k}"
+        );
+    }
+    Ok(())
+}
+
+#[test]
+fn frames_with_heads_go_round(rt: HostRuntime) -> Result<(), Fail> {
+    let mut both = Both::enabled(rt.alloc(), 8)?;
+    assert!(rt; both.makes(&[RxStep::Post(0); 7]) && both.makes(&[RxStep::Publish]));
+    for k in 0..21 {
+        assert!(rt; both.makes(&stored_whole()), "frame {k}");
+        assert!(rt;
+            both.makes(&[RxStep::Take, RxStep::Post(0), RxStep::Publish]),
+            "frame {k}"
+        );
+    }
+    assert!(rt; both.stored_count == 21 && both.taken_count == 21);
+    // the head is 5, as the place to take next
+    assert!(rt; both.makes(&DISABLED) && both.left() == Some(0));
+    let (slots, ..) = both.close();
+    for (place, slot) in slots.iter().enumerate() {
+        assert!(rt; slot.is_none() == (place == 4), "place {place}");
+    }
     Ok(())
 }
 
 #[test]
 fn disabled_with_two_left(rt: HostRuntime) -> Result<(), Fail> {
-    let (ring, mut driver, mut controller) = RxRing::new(rt.alloc(), 8)?;
-    let mut stock = Stock::new(rt.alloc(), 0, 16)?;
-    ask_enable(&ring, &mut driver);
-    answer(&ring, &mut controller);
-    driver.state(&ring);
-    fill_ring(&ring, &mut driver, &mut stock);
-    assert!(rt; driver.room() == 0);
-    assert!(rt; store_frame(&ring, &mut controller, &[7u8; 60]));
-    assert!(rt; store_frame(&ring, &mut controller, &[7u8; 60]));
-    assert!(rt; store_frame(&ring, &mut controller, &[7u8; 60]));
-    let Poll::Segment(buf, true) = driver.poll(&ring) else {
-        panic!(rt; "a segment")
-    };
-    assert!(rt; buf.number() == 0 && buf.len() == 60);
-    fill_ring(&ring, &mut driver, &mut stock);
-    ask_disable(&ring, &mut driver);
-    answer(&ring, &mut controller);
-    driver.state(&ring);
+    let mut both = Both::enabled(rt.alloc(), 8)?;
+    assert!(rt; both.makes(&[RxStep::Post(0); 7]) && both.makes(&[RxStep::Publish]));
+    for _ in 0..3 {
+        assert!(rt; both.makes(&stored_whole()));
+    }
+    assert!(rt; both.make(RxStep::Take) == taken(31));
+    assert!(rt; both.makes(&[RxStep::Post(0), RxStep::Publish]));
+    assert!(rt; both.makes(&DISABLED) && both.left() == Some(2));
+    assert!(rt; both.make(RxStep::Take).is_none() && both.make(RxStep::Look).is_none());
+    assert!(rt; both.makes(&[RxStep::Reclaim; 7]) && both.make(RxStep::Reclaim).is_none());
+    let Both {
+        ring,
+        mut driver,
+        mut controller,
+        ..
+    } = both;
     assert!(rt; matches!(driver.poll(&ring), Poll::Off));
-    assert!(rt; !store_frame(&ring, &mut controller, &[7u8; 60]));
-    assert_eq!(rt; reclaim_all(&ring, &mut driver), 7u32);
-    assert_eq!(rt; reclaim_all(&ring, &mut driver), 0u32);
+    meet_rx(&ring, &mut driver, &mut controller);
     Ok(())
 }
 
 #[test]
 fn quiet_by_calls(rt: HostRuntime) -> Result<(), Fail> {
-    let (ring, mut driver, mut controller) = RxRing::new(rt.alloc(), 8)?;
-    let mut stock = Stock::new(rt.alloc(), 0, 16)?;
-    ask_enable(&ring, &mut driver);
-    assert!(rt; !finish(&ring, &mut controller));
-    answer(&ring, &mut controller);
-    driver.state(&ring);
-    fill_ring(&ring, &mut driver, &mut stock);
-    assert!(rt; store_frame(&ring, &mut controller, &[7u8; 60]));
-    assert!(rt; !driver.is_quiet(&ring));
-    assert!(rt; finish(&ring, &mut controller) && controller.has_finished());
-    assert!(rt; !store_frame(&ring, &mut controller, &[7u8; 60]));
-    assert!(rt; driver.is_quiet(&ring));
-    assert!(rt; matches!(driver.poll(&ring), Poll::Segment(_, true)));
-    assert!(rt; matches!(driver.poll(&ring), Poll::NotDone));
-    Ok(())
-}
-
-#[test]
-fn left_is_what_was_stored_and_not_taken(rt: HostRuntime) -> Result<(), Fail> {
-    let (ring, mut driver, mut controller) = RxRing::new(rt.alloc(), 8)?;
-    let mut stock = Stock::new(rt.alloc(), 0, 16)?;
-    ask_enable(&ring, &mut driver);
-    answer(&ring, &mut controller);
-    driver.state(&ring);
-    post_one(&ring, &mut driver, &mut stock);
-    post_one(&ring, &mut driver, &mut stock);
-    post_one(&ring, &mut driver, &mut stock);
-    assert!(rt; store_frame(&ring, &mut controller, &[7u8; 60]));
-    assert!(rt; store_frame(&ring, &mut controller, &[7u8; 60]));
-    ask_disable(&ring, &mut driver);
-    answer(&ring, &mut controller);
-    driver.state(&ring);
-    if driver.is_stopped() {
-        assert_eq!(rt; driver.left(&ring), 2u32);
-    } else {
-        panic!(rt; "stopped")
-    }
-    assert_eq!(rt; reclaim_all(&ring, &mut driver), 3u32);
-    meet_rx(&ring, &mut driver, &mut controller);
+    let mut both = Both::new(rt.alloc(), 8)?;
+    assert!(rt; both.make(RxStep::StoreQuiet).is_none());
+    let mut both = Both::enabled(rt.alloc(), 8)?;
+    assert!(rt; both.makes(&[RxStep::Post(0), RxStep::Post(0), RxStep::Publish]));
+    assert!(rt; both.makes(&stored_whole()));
+    assert!(rt; both.make(RxStep::LoadQuiet) == Some(Note::Quiet(0)));
+    assert!(rt; both.make(RxStep::StoreQuiet) == Some(Note::Quiet(1)));
+    assert!(rt; both.controller.has_finished() && both.make(RxStep::Look) == Some(Note::Free(1)));
+    assert!(rt; both.make(RxStep::Fetch).is_none());
+    assert!(rt; both.make(RxStep::LoadQuiet) == Some(Note::Quiet(1)));
+    assert!(rt; both.make(RxStep::Take) == taken(31));
+    assert!(rt; both.make(RxStep::Take) == Some(Note::Taken(None)));
     Ok(())
 }
 

@@ -20,7 +20,7 @@ pub trait Beside {
     fn step(&mut self, step: Self::Step) -> Option<Note>;
 
     /// Whether what can be told now besides is so, after a step that was made.
-    fn is_told(&mut self, step: Self::Step, note: Note) -> bool;
+    fn is_told(&mut self, step: Self::Step) -> bool;
 
     /// Any step.
     fn random_step(random: &mut Random) -> Self::Step;
@@ -49,14 +49,10 @@ fn make<B: Beside>(beside: &mut B, step: B::Step) -> Option<bool> {
     if told != note.map(without_place) {
         return None;
     }
-    let Some(note) = note else {
+    if note.is_none() {
         return Some(false);
-    };
-    if beside.is_told(step, note) {
-        Some(true)
-    } else {
-        None
     }
+    beside.is_told(step).then_some(true)
 }
 
 /// Makes the steps on both: how many were made, if both told the same at each.

@@ -7,7 +7,7 @@ use buffer_pool::{Buf, PoolError, Stash, Stock};
 use limits::BUFFER_BYTES;
 use std::alloc::Global;
 
-/// A stash of the buffers `0` to `count - 1`, 16 to 256 of them.
+/// A stash of the buffers `0` to `count - 1`, 16 to 256 of them, of which the last comes out first.
 pub fn full_stash(alloc: Global, count: u32) -> Result<Stash, PoolError> {
     let mut stock = Stock::new(alloc, 0, count)?;
     let mut stash = Stash::new();
@@ -26,16 +26,25 @@ pub fn put_back(stash: &mut Stash, buf: Buf) {
     }
 }
 
-/// The buffer with so many bytes in it, each of them 7.
-pub fn filled(mut buf: Buf, len: u16) -> Buf
+/// The buffer with so many bytes in it, each the last byte of `k`.
+pub fn filled(mut buf: Buf, len: u16, k: u32) -> Buf
     requires room { buf.capacity ≡ BUFFER_BYTES }
     requires fits { len ≤ BUFFER_BYTES }
     ensures real { result ≡ buffer buf.number result.bytes }
     ensures len { length result.bytes ≡ len }
 {
-    let bytes = [7; BUFFER_BYTES];
+    let bytes = [last_byte(k); BUFFER_BYTES];
     buf.fill(&bytes[..usize::from(len)]);
     buf
+}
+
+fn last_byte(k: u32) -> u8 {
+    (k % 256) as u8
+}
+
+/// Whether each byte of the buffer is the last byte of `k`.
+pub fn is_filled(buf: &Buf, k: u32) -> bool {
+    buf.bytes().iter().all(|byte| *byte == last_byte(k))
 }
 
 /// Which numbers below 256 were counted.

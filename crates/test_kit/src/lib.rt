@@ -8,6 +8,6 @@ mod frames;
 mod random;
 
 pub use beside::{Beside, Lying, random_control, walk, wander, without_place};
-pub use buffers::{Numbers, count_slots, filled, full_stash, put_back};
+pub use buffers::{Numbers, count_slots, filled, full_stash, is_filled, put_back};
 pub use frames::{frame, frame_len, is_frame};
 pub use random::Random;
