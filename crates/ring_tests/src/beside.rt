@@ -96,7 +96,7 @@ impl Beside for Pair {
         self.both.left().is_none_or(|left| left == wanted)
     }
 
-    fn random_step(random: &mut Random) -> Step {
+    fn random_step(&self, random: &mut Random) -> Step {
         match random.below(64) {
             0..=6 => RxStep::Post(0),
             7..=10 => RxStep::Publish,

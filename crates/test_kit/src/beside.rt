@@ -22,8 +22,8 @@ pub trait Beside {
     /// Whether what can be told now besides is so, after a step that was made.
     fn is_told(&mut self, step: Self::Step) -> bool;
 
-    /// Any step.
-    fn random_step(random: &mut Random) -> Self::Step;
+    /// Some step, as the random numbers tell, which may not be enabled.
+    fn random_step(&self, random: &mut Random) -> Self::Step;
 }
 
 /// The note with 0 for each place, tail and head, of which the calls of a ring tell nothing.
@@ -70,7 +70,8 @@ pub fn walk<B: Beside>(beside: &mut B, steps: &[B::Step]) -> Option<usize> {
 pub fn wander<B: Beside>(beside: &mut B, random: &mut Random, count: usize) -> Option<usize> {
     let mut made = 0usize;
     for _ in 0..count {
-        if make(beside, B::random_step(random))? {
+        let step = beside.random_step(random);
+        if make(beside, step)? {
             made = made.saturating_add(1);
         }
     }

@@ -2,6 +2,12 @@
 #![tactic(auto)]
 
 #[cfg(test)]
+mod beside;
+#[cfg(test)]
+mod both;
+#[cfg(test)]
 mod hands;
 #[cfg(test)]
 mod rows;
+#[cfg(test)]
+mod threads;
