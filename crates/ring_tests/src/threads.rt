@@ -2,13 +2,17 @@
 ghost use Rattle.std.specs.Prelude.{◌≡◌};
 ghost use Rattle.rx_ring.specs.Ends.{reclaimed};
 
-use crate::hands::{ask_for, fetch, fill_ring, left, receive, reclaim_all, renew, serve};
+mod hands;
+
 use buffer_pool::{Buf, Stash};
+use hands::{ask_for, fetch, fill_ring, left, receive, reclaim_all, renew, serve};
 use rx_ring::{Control, RxControllerEnd, RxDriverEnd, RxRing, close, meet_rx};
+use std::alloc::Global;
 use std::sync::Wait;
 use std::test::Fail;
-use std::thread;
-use test_kit::{Numbers, count_slots, full_stash};
+use std::thread::Threads;
+use std::{mem, thread};
+use test_kit::{Closed, full_stash};
 
 /// How many frames go through in one epoch.
 const FRAMES: u32 = 300;
@@ -23,6 +27,8 @@ struct Driven {
     left: Option<u32>,
     /// How many buffers came back.
     back: u32,
+    /// How many epochs ended with a renewal.
+    epochs: u32,
 }
 
 impl Driven {
@@ -32,6 +38,7 @@ impl Driven {
             good: 0,
             left: None,
             back: 0,
+            epochs: 0,
         }
     }
 }
@@ -69,6 +76,7 @@ fn drive<R: Wait>(
         if !renew(ring, &mut driver) {
             break;
         }
+        told.epochs = told.epochs.saturating_add(1);
     }
     (driver, told)
 }
@@ -128,37 +136,51 @@ fn control_on<R: Wait>(
     unreachable!()
 }
 
-#[test]
-fn stop_while_running(rt: HostRuntime) -> Result<(), Fail> {
-    let (ring, driver, controller) = RxRing::new(rt.alloc(), 8)?;
-    let told = Driven::new(full_stash(rt.alloc(), 16)?);
-    let ((mut controller, stored), (mut driver, told)) = thread::join(
-        &rt,
-        || control(&rt, &ring, controller, 1),
-        || drive(&rt, &ring, driver, told, 1),
+/// What so many epochs of both threads came to.
+#[derive(Drop)]
+struct Ran {
+    told: Driven,
+    /// How many frames the controller stored in the last epoch.
+    stored: u32,
+    /// How many buffers lay in the ring when it was closed.
+    lying: usize,
+    /// Whether each buffer came back once.
+    is_whole: bool,
+}
+
+/// Runs both ends, joins their threads, lets the ends meet, and closes the ring.
+fn run<R: Threads + Wait + Sync>(rt: &R, alloc: Global, epochs: u32) -> Result<Ran, Fail> {
+    let (ring, driver, controller) = RxRing::new(alloc, 8)?;
+    let told = Driven::new(full_stash(alloc, 16)?);
+    let ((mut controller, stored), (mut driver, mut told)) = thread::join(
+        rt,
+        || control(rt, &ring, controller, epochs),
+        || drive(rt, &ring, driver, told, epochs),
     );
     meet_rx(&ring, &mut driver, &mut controller);
-    assert!(rt; told.good == FRAMES && told.back == 7);
-    assert!(rt; stored >= FRAMES && told.left == Some(stored - FRAMES));
+    let spare = mem::take(&mut told.spare);
+    let closed = Closed::of(close(ring, driver, controller), spare, None);
+    Ok(Ran {
+        told,
+        stored,
+        lying: closed.lying(),
+        is_whole: closed.has_each_once(16),
+    })
+}
+
+#[test]
+fn stop_while_running(rt: HostRuntime) -> Result<(), Fail> {
+    let ran = run(&rt, rt.alloc(), 1)?;
+    assert!(rt; ran.told.good == FRAMES && ran.told.back == 7 && ran.stored >= FRAMES);
+    assert!(rt; ran.told.left == Some(ran.stored - FRAMES));
     Ok(())
 }
 
 #[test]
 fn three_epochs(rt: HostRuntime) -> Result<(), Fail> {
-    let (ring, driver, controller) = RxRing::new(rt.alloc(), 8)?;
-    let told = Driven::new(full_stash(rt.alloc(), 16)?);
-    let ((mut controller, _), (mut driver, told)) = thread::join(
-        &rt,
-        || control(&rt, &ring, controller, 3),
-        || drive(&rt, &ring, driver, told, 3),
-    );
-    meet_rx(&ring, &mut driver, &mut controller);
-    assert!(rt; told.good == 3 * FRAMES && told.back == 21 && driver.is_new());
-    let slots = close(ring, driver, controller);
-    assert!(rt; slots.iter().all(|slot| slot.is_none()));
-    let mut numbers = Numbers::new();
-    numbers.count_stash(told.spare);
-    assert!(rt; numbers.are_each_once(16));
+    let ran = run(&rt, rt.alloc(), 3)?;
+    assert!(rt; ran.told.good == 3 * FRAMES && ran.told.back == 21);
+    assert!(rt; ran.told.epochs == 3 && ran.lying == 0 && ran.is_whole);
     Ok(())
 }
 
@@ -171,14 +193,8 @@ fn closed(rt: HostRuntime) -> Result<(), Fail> {
         || control_on(&rt, &ring, controller, 45),
         || drive_on(&rt, &ring, driver, spare, 40),
     );
-    assert!(rt; good == 40 && spare.len() == 9);
-    let slots = close(ring, driver, controller);
-    let mut numbers = Numbers::new();
-    assert!(rt; count_slots(&mut numbers, &slots) == 6);
-    numbers.count_stash(spare);
-    if let Some(buf) = held {
-        numbers.count(buf.number());
-    }
-    assert!(rt; numbers.are_each_once(16));
+    assert!(rt; good == 40 && spare.len() == 9 && held.is_some());
+    let closed = Closed::of(close(ring, driver, controller), spare, held);
+    assert!(rt; closed.lying() == 6 && closed.has_each_once(16));
     Ok(())
 }

@@ -7,6 +7,9 @@ use buffer_pool::{Buf, PoolError, Stash, Stock};
 use limits::BUFFER_BYTES;
 use std::alloc::Global;
 
+/// How many buffers a ring has that is walked beside its machine.
+pub const BUFFERS: u32 = 32;
+
 /// A stash of the buffers `0` to `count - 1`, 16 to 256 of them, of which the last comes out first.
 pub fn full_stash(alloc: Global, count: u32) -> Result<Stash, PoolError> {
     let mut stock = Stock::new(alloc, 0, count)?;
@@ -47,41 +50,75 @@ pub fn is_filled(buf: &Buf, k: u32) -> bool {
     buf.bytes().iter().all(|byte| *byte == last_byte(k))
 }
 
-/// Which numbers below 256 were counted.
+/// What a closed ring and its ends gave back.
 #[derive(Drop)]
-pub struct Numbers {
+pub struct Closed {
+    /// What lay at each place.
+    pub slots: Vec<Option<Buf>>,
+    /// What was at hand.
+    pub spare: Stash,
+    /// What a controller held.
+    pub held: Option<Buf>,
+}
+
+impl Closed {
+    /// All of these.
+    pub fn of(slots: Vec<Option<Buf>>, spare: Stash, held: Option<Buf>) -> Closed {
+        Closed { slots, spare, held }
+    }
+
+    /// Whether the buffers `0` to `count - 1`, 256 at most, are there once each, and no other.
+    pub fn has_each_once(self, count: usize) -> bool {
+        let Closed {
+            slots,
+            mut spare,
+            held,
+        } = self;
+        let mut numbers = Numbers::new();
+        for buf in slots.iter().flatten() {
+            numbers.count(buf.number());
+        }
+        for _ in 0..spare.len() {
+            if let Some(buf) = spare.take() {
+                numbers.count(buf.number());
+            }
+        }
+        if let Some(buf) = held {
+            numbers.count(buf.number());
+        }
+        numbers.are_each_once(count)
+    }
+
+    /// How many places have a buffer.
+    pub fn lying(&self) -> usize {
+        self.slots.iter().flatten().count()
+    }
+}
+
+// Which numbers below 256 were counted.
+#[derive(Drop)]
+struct Numbers {
     counted: [bool; 256],
     twice: bool,
 }
 
 impl Numbers {
-    /// No number is counted.
-    pub fn new() -> Numbers {
+    fn new() -> Numbers {
         Numbers {
             counted: [false; 256],
             twice: false,
         }
     }
 
-    /// Counts a number.
-    pub fn count(&mut self, number: u16) {
+    fn count(&mut self, number: u16) {
         match self.counted.get_mut(usize::from(number)) {
             Some(counted) if !*counted => *counted = true,
             _ => self.twice = true,
         }
     }
 
-    /// Counts all that are in a stash.
-    pub fn count_stash(&mut self, mut stash: Stash) {
-        for _ in 0..stash.len() {
-            if let Some(buf) = stash.take() {
-                self.count(buf.number());
-            }
-        }
-    }
-
-    /// Whether the numbers below `count` were counted once each, and no other.
-    pub fn are_each_once(&self, count: usize) -> bool {
+    // Whether the numbers below `count` were counted once each, and no other.
+    fn are_each_once(&self, count: usize) -> bool {
         !self.twice
             && self
                 .counted
@@ -89,14 +126,4 @@ impl Numbers {
                 .enumerate()
                 .all(|(number, counted)| *counted == (number < count))
     }
-}
-
-/// Counts the buffers that a closed ring gave back, and answers how many they are.
-pub fn count_slots(numbers: &mut Numbers, slots: &[Option<Buf>]) -> usize {
-    let mut found = 0usize;
-    for buf in slots.iter().flatten() {
-        numbers.count(buf.number());
-        found = found.saturating_add(1);
-    }
-    found
 }

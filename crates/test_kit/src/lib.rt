@@ -7,7 +7,9 @@ mod buffers;
 mod frames;
 mod random;
 
-pub use beside::{Beside, Lying, random_control, walk, wander, without_place};
-pub use buffers::{Numbers, count_slots, filled, full_stash, is_filled, put_back};
+pub use beside::{
+    Beside, Lying, Survey, Walk, disable, enable, makes, random_control, without_place,
+};
+pub use buffers::{BUFFERS, Closed, filled, full_stash, is_filled, put_back};
 pub use frames::{frame, frame_len, is_frame};
 pub use random::Random;

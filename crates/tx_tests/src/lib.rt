@@ -2,12 +2,6 @@
 #![tactic(auto)]
 
 #[cfg(test)]
-mod beside;
-#[cfg(test)]
-mod both;
-#[cfg(test)]
-mod hands;
-#[cfg(test)]
-mod rows;
+mod calls;
 #[cfg(test)]
 mod threads;

@@ -1,12 +1,16 @@
 //! Threads that really run over one ring of 8, in both completions.
 ghost use Rattle.std.specs.Prelude.{◌≡◌};
 
-use crate::hands::{Passed, ask_for, drain, fetch, left, renew, serve, transmit};
+mod hands;
+
 use buffer_pool::{Buf, Stash};
+use hands::{Passed, ask_for, drain, fetch, left, renew, serve, transmit};
+use std::alloc::Global;
 use std::sync::Wait;
 use std::test::Fail;
 use std::thread;
-use test_kit::{Numbers, count_slots, full_stash};
+use std::thread::Threads;
+use test_kit::{Closed, full_stash};
 use tx_ring::{Completion, Control, TxControllerEnd, TxDriverEnd, TxRing, close, meet_tx};
 
 /// How many frames are posted in one epoch; the last asks for a report.
@@ -76,7 +80,7 @@ fn control<R: Wait>(
     rt: &R,
     ring: &TxRing,
     mut controller: TxControllerEnd,
-    epochs: u32,
+    epochs: usize,
 ) -> (TxControllerEnd, Passed, u32)
     requires { controller.table ≡ ring.now }
     ensures { result.0.table ≡ ring.now }
@@ -132,35 +136,52 @@ fn control_on<R: Wait>(
     (controller, sent, None)
 }
 
-#[test]
-fn two_threads_tx(rt: HostRuntime) -> Result<(), Fail> {
-    for completion in [Completion::Status, Completion::Head] {
-        let (ring, driver, controller) = TxRing::new_with(rt.alloc(), 8, completion)?;
-        let spare = full_stash(rt.alloc(), 16)?;
-        let ((mut controller, sent, _held), (mut driver, _spare, cleaned)) = thread::join(
-            &rt,
-            || control_on(&rt, &ring, controller, 1_000, false),
-            || drive_on(&rt, &ring, driver, spare, 1_000, 999),
-        );
-        meet_tx(&ring, &mut driver, &mut controller);
-        assert!(rt; sent.good == 1_000 && cleaned.good == 999 && driver.room() == 6);
-    }
-    Ok(())
+/// What so many epochs of both threads came to.
+#[derive(Drop)]
+struct Ran {
+    /// What was sent in the last epoch, and how many were not.
+    sent: Passed,
+    left: Option<u32>,
+    /// How many frames were sent, and how many came back, in all epochs, as they were posted.
+    all_sent: u32,
+    all_back: u32,
+    /// What the closed ring gave back.
+    closed: Closed,
+}
+
+/// Runs both ends, joins their threads, lets the ends meet, and closes the ring. The driver waits in each epoch until so
+/// many frames are cleaned.
+fn run<R: Threads + Wait + Sync>(
+    rt: &R,
+    alloc: Global,
+    completion: Completion,
+    waits: &[u32],
+) -> Result<Ran, Fail> {
+    let (ring, driver, controller) = TxRing::new_with(alloc, 8, completion)?;
+    let told = Driven::new(full_stash(alloc, 16)?);
+    let epochs = waits.len();
+    let ((mut controller, sent, all_sent), (mut driver, told, all_back)) = thread::join(
+        rt,
+        || control(rt, &ring, controller, epochs),
+        || drive(rt, &ring, driver, told, waits),
+    );
+    meet_tx(&ring, &mut driver, &mut controller);
+    let slots = close(ring, driver, controller);
+    Ok(Ran {
+        sent,
+        left: told.left,
+        all_sent,
+        all_back,
+        closed: Closed::of(slots, told.spare, None),
+    })
 }
 
 #[test]
 fn stop_while_running(rt: HostRuntime) -> Result<(), Fail> {
     for completion in [Completion::Status, Completion::Head] {
-        let (ring, driver, controller) = TxRing::new_with(rt.alloc(), 8, completion)?;
-        let told = Driven::new(full_stash(rt.alloc(), 16)?);
-        let ((mut controller, sent, _), (mut driver, told, good)) = thread::join(
-            &rt,
-            || control(&rt, &ring, controller, 1),
-            || drive(&rt, &ring, driver, told, &[0]),
-        );
-        meet_tx(&ring, &mut driver, &mut controller);
-        assert!(rt; sent.good == sent.count && sent.count <= FRAMES && good == FRAMES);
-        assert!(rt; told.left == Some(FRAMES - sent.count) && told.spare.len() == 16);
+        let ran = run(&rt, rt.alloc(), completion, &[0])?;
+        assert!(rt; ran.sent.good == ran.sent.count && ran.sent.count <= FRAMES);
+        assert!(rt; ran.left == Some(FRAMES - ran.sent.count) && ran.all_back == FRAMES);
     }
     Ok(())
 }
@@ -168,20 +189,40 @@ fn stop_while_running(rt: HostRuntime) -> Result<(), Fail> {
 #[test]
 fn three_epochs(rt: HostRuntime) -> Result<(), Fail> {
     for completion in [Completion::Status, Completion::Head] {
-        let (ring, driver, controller) = TxRing::new_with(rt.alloc(), 8, completion)?;
-        let told = Driven::new(full_stash(rt.alloc(), 16)?);
-        let ((mut controller, _, sent), (mut driver, told, good)) = thread::join(
-            &rt,
-            || control(&rt, &ring, controller, 3),
-            || drive(&rt, &ring, driver, told, &[FRAMES; 3]),
-        );
-        meet_tx(&ring, &mut driver, &mut controller);
-        assert!(rt; sent == 3 * FRAMES && good == 3 * FRAMES && driver.is_new());
-        let slots = close(ring, driver, controller);
-        assert!(rt; slots.iter().all(|slot| slot.is_none()));
-        let mut numbers = Numbers::new();
-        numbers.count_stash(told.spare);
-        assert!(rt; numbers.are_each_once(16));
+        let ran = run(&rt, rt.alloc(), completion, &[FRAMES; 3])?;
+        assert!(rt; ran.all_sent == 3 * FRAMES && ran.all_back == 3 * FRAMES);
+        assert!(rt; ran.closed.lying() == 0 && ran.closed.has_each_once(16));
+    }
+    Ok(())
+}
+
+/// A queue that nobody disables, and is closed after so many frames were posted, sent, and cleaned: what was sent, what
+/// was cleaned, and what the closed ring gave back.
+fn run_on<R: Threads + Wait + Sync>(
+    rt: &R,
+    alloc: Global,
+    completion: Completion,
+    posts: u32,
+    sends: u32,
+    cleans: u32,
+) -> Result<(Passed, Passed, Closed), Fail> {
+    let (ring, driver, controller) = TxRing::new_with(alloc, 8, completion)?;
+    let spare = full_stash(alloc, 16)?;
+    let ((controller, sent, held), (driver, spare, cleaned)) = thread::join(
+        rt,
+        || control_on(rt, &ring, controller, sends, sends < posts),
+        || drive_on(rt, &ring, driver, spare, posts, cleans),
+    );
+    let slots = close(ring, driver, controller);
+    Ok((sent, cleaned, Closed::of(slots, spare, held)))
+}
+
+#[test]
+fn two_threads_tx(rt: HostRuntime) -> Result<(), Fail> {
+    for completion in [Completion::Status, Completion::Head] {
+        // the last frame asks for no report
+        let (sent, cleaned, closed) = run_on(&rt, rt.alloc(), completion, 1_000, 1_000, 999)?;
+        assert!(rt; sent.good == 1_000 && cleaned.good == 999 && closed.lying() == 1);
     }
     Ok(())
 }
@@ -189,22 +230,10 @@ fn three_epochs(rt: HostRuntime) -> Result<(), Fail> {
 #[test]
 fn closed(rt: HostRuntime) -> Result<(), Fail> {
     for completion in [Completion::Status, Completion::Head] {
-        let (ring, driver, controller) = TxRing::new_with(rt.alloc(), 8, completion)?;
-        let spare = full_stash(rt.alloc(), 16)?;
-        let ((controller, sent, held), (driver, spare, cleaned)) = thread::join(
-            &rt,
-            || control_on(&rt, &ring, controller, 37, true),
-            || drive_on(&rt, &ring, driver, spare, 40, 36),
-        );
-        assert!(rt; sent.good == 37 && cleaned.good == 36 && spare.len() == 12);
-        let slots = close(ring, driver, controller);
-        let mut numbers = Numbers::new();
-        assert!(rt; count_slots(&mut numbers, &slots) == 3);
-        numbers.count_stash(spare);
-        if let Some(buf) = held {
-            numbers.count(buf.number());
-        }
-        assert!(rt; numbers.are_each_once(16));
+        let (sent, cleaned, closed) = run_on(&rt, rt.alloc(), completion, 40, 37, 36)?;
+        assert!(rt; sent.good == 37 && cleaned.good == 36);
+        assert!(rt; closed.spare.len() == 12 && closed.lying() == 3 && closed.held.is_some());
+        assert!(rt; closed.has_each_once(16));
     }
     Ok(())
 }
