@@ -3,11 +3,9 @@
 #![tactic(auto)]
 
 #[cfg(test)]
-mod hands;
+mod calls;
 #[cfg(test)]
 mod machine_tests;
-#[cfg(test)]
-mod rows;
 #[cfg(test)]
 mod text_tests;
 #[cfg(test)]

@@ -2,6 +2,6 @@
 #![tactic(auto)]
 
 #[cfg(test)]
-mod hands;
+mod calls;
 #[cfg(test)]
-mod rows;
+mod threads;

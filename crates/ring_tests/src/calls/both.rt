@@ -1,0 +1,300 @@
+//! Both ends of a ring in one thread, with what the controller holds, and the pure machine beside them. Each call is made
+//! where its condition holds, and left out where not; it answers its step's note, with 0 for a place, since no call tells
+//! one.
+ghost use Rattle.std.specs.Prelude.{◌≡◌, ◌+◌, ◌<◌, ◌≤◌, true, [], length};
+ghost use Rattle.limits.specs.declared.profile.TheConstants.{LEAST_FRAME, MOST_FRAME, MOST_SEGMENTS};
+ghost use Rattle.ring_model.specs.receive.Ring.{piece_of};
+ghost use Rattle.ring_model.specs.shared.Frames.{join, unfinished};
+ghost use Rattle.rx_ring.specs.Ends.{controller_size, held_number, reclaimed, stored};
+ghost use Rattle.ring_tests.specs.Holding.{held_as};
+
+use buffer_pool::{Buf, Stash};
+use limits::{LEAST_FRAME, MOST_FRAME, MOST_SEGMENTS};
+use ring_machine::{RxMachine, SegmentLength};
+use ring_model::{ControlStep, Note, Owner, RxStep, TakenSegment};
+use rx_ring::{Poll, RxControllerEnd, RxDriverEnd, RxRing, close};
+use std::alloc::Global;
+use std::test::Fail;
+use test_kit::{
+    BUFFERS, Beside, Closed, Random, filled, full_stash, is_filled, put_back, random_control,
+    renewed, shake,
+};
+
+/// A step of a receive ring.
+pub(crate) type Step = RxStep<SegmentLength>;
+
+/// A ring with its two ends, the buffers that are in neither, and the ring's machine.
+#[derive(Drop)]
+pub(crate) struct Both {
+    pub ring: RxRing,
+    pub driver: RxDriverEnd,
+    pub controller: RxControllerEnd,
+    machine: RxMachine,
+    /// The buffers at hand.
+    pub spare: Stash,
+    /// The number of the buffer that was posted last.
+    pub posted: u16,
+    /// The segments that were stored in this epoch, each filled with its number, and those that were taken.
+    pub stored_count: u32,
+    pub taken_count: u32,
+    held: Option<Buf>,
+    // of the frame that is begun
+    segments: usize,
+    bytes: usize,
+    untouched: bool,
+    ghost drives: { driver.table ≡ ring },
+    ghost serves: { controller.table ≡ ring },
+    ghost holds: { held ≡ held_as (held_number controller) },
+    ghost counts: { length (unfinished piece_of (stored controller)) ≡ segments },
+    ghost adds: { length (join piece_of (unfinished piece_of (stored controller))) ≡ bytes },
+    ghost few: { bytes ≤ MOST_FRAME },
+    ghost none_back: { untouched ≡ true → reclaimed driver ≡ 0 },
+}
+
+impl Both {
+    /// A ring of so many places that is not enabled, and all buffers at hand.
+    pub(crate) fn new(alloc: Global, n: u32) -> Result<Both, Fail> {
+        let (ring, driver, controller) = RxRing::new(alloc, n)?;
+        Ok(Both {
+            ring,
+            driver,
+            controller,
+            machine: RxMachine::new(alloc, n as usize, false)?,
+            spare: full_stash(alloc, BUFFERS)?,
+            posted: 0,
+            stored_count: 0,
+            taken_count: 0,
+            held: None,
+            segments: 0,
+            bytes: 0,
+            untouched: true,
+        })
+    }
+
+    fn post(&mut self) -> Option<Note> {
+        if self.driver.room() == 0 || !self.driver.is_open() {
+            return None;
+        }
+        let buf = self.spare.take()?;
+        self.posted = buf.number();
+        self.driver.post(&self.ring, buf);
+        Some(Note::Place(0))
+    }
+
+    fn fetch(&mut self) -> Option<Note> {
+        if !self.controller.is_serving() || self.controller.is_holding() {
+            return None;
+        }
+        if self.controller.has_finished() || self.controller.free() == 0 {
+            return None;
+        }
+        let buf = self.controller.fetch(&self.ring);
+        let note = Note::Fetched(0, buf.number());
+        self.held = Some(buf);
+        Some(note)
+    }
+
+    // Whether so many bytes may follow the frame that is begun.
+    fn may_follow(&self, len: SegmentLength, eop: bool) -> bool
+        ensures segments { result ≡ true → self.now.segments < MOST_SEGMENTS }
+        ensures descriptors { result ≡ true → self.now.segments + 1 < controller_size self.now.controller }
+        ensures most { result ≡ true → self.now.bytes + len ≤ MOST_FRAME }
+        ensures least { result ≡ true → eop ≡ true → LEAST_FRAME ≤ self.now.bytes + len }
+    {
+        let bytes = usize::from(len.bytes());
+        self.segments < MOST_SEGMENTS
+            && self.segments + 1 < self.controller.size() as usize
+            && self.bytes + bytes <= MOST_FRAME
+            && (!eop || LEAST_FRAME <= self.bytes + bytes)
+    }
+
+    fn store(&mut self, len: SegmentLength, eop: bool) -> Option<Note> {
+        if !self.may_follow(len, eop) {
+            return None;
+        }
+        let buf = filled(self.held.take()?, len.bytes(), self.stored_count);
+        self.controller.write_back(&self.ring, buf, eop);
+        self.stored_count = self.stored_count.wrapping_add(1);
+        if eop {
+            self.segments = 0;
+            self.bytes = 0;
+        } else {
+            self.segments += 1;
+            self.bytes += usize::from(len.bytes());
+        }
+        Some(Note::Place(0))
+    }
+
+    fn take(&mut self) -> Option<Note> {
+        match self.driver.poll(&self.ring) {
+            Poll::Segment(buf, eop) => {
+                let taken = TakenSegment {
+                    buffer: buf.number(),
+                    len: buf.len() as u32,
+                    eop,
+                };
+                let is_next = is_filled(&buf, self.taken_count);
+                self.taken_count = self.taken_count.wrapping_add(1);
+                put_back(&mut self.spare, buf);
+                is_next.then_some(Note::Taken(Some(taken)))
+            }
+            Poll::NotDone => Some(Note::Taken(None)),
+            Poll::Empty | Poll::Off => None,
+        }
+    }
+
+    fn answer(&mut self) {
+        if !self.controller.can_answer() {
+            return;
+        }
+        let enables = !self.controller.is_serving();
+        self.controller.answer(&self.ring);
+        if enables {
+            self.segments = 0;
+            self.bytes = 0;
+        }
+    }
+
+    fn reclaim(&mut self) -> Option<Note> {
+        if !self.driver.is_stopped() {
+            return None;
+        }
+        let buf = self.driver.reclaim(&self.ring)?;
+        self.untouched = false;
+        let note = Note::Buffer(buf.number());
+        put_back(&mut self.spare, buf);
+        Some(note)
+    }
+
+    fn set_quiet(&mut self) -> Option<Note> {
+        if !self.controller.is_serving() || self.controller.is_holding() {
+            return None;
+        }
+        if !self.controller.is_between_frames() {
+            return None;
+        }
+        self.controller.set_quiet(&self.ring);
+        Some(Note::Quiet(1))
+    }
+
+    fn renew(&mut self) -> Option<Note> {
+        renewed!(self);
+        self.untouched = true;
+        self.stored_count = 0;
+        self.taken_count = 0;
+        Some(Note::Head(0))
+    }
+}
+
+impl Beside for Both {
+    type Step = Step;
+
+    fn is_lawful(&self, step: Step) -> bool {
+        match step {
+            RxStep::Store(len, eop) => self.may_follow(len, eop),
+            _ => true,
+        }
+    }
+
+    fn call(&mut self, step: Step) -> Option<Note> {
+        match step {
+            RxStep::Post(_) => self.post(),
+            RxStep::Publish if self.driver.is_open() => {
+                self.driver.publish(&self.ring);
+                Some(Note::Tail(0))
+            }
+            RxStep::Look if self.controller.is_serving() => {
+                let free = self.controller.look(&self.ring);
+                u16::try_from(free).ok().map(Note::Free)
+            }
+            RxStep::Fetch => self.fetch(),
+            RxStep::Store(len, eop) => self.store(len, eop),
+            RxStep::Take => self.take(),
+            RxStep::Head if self.controller.is_serving() && !self.controller.is_holding() => {
+                self.controller.set_head(&self.ring);
+                Some(Note::Head(0))
+            }
+            RxStep::Control(control) => shake!(self, control),
+            RxStep::Reclaim => self.reclaim(),
+            RxStep::StoreQuiet => self.set_quiet(),
+            RxStep::LoadQuiet => Some(Note::Quiet(u8::from(self.driver.is_quiet(&self.ring)))),
+            RxStep::ClearHead => self.renew(),
+            _ => None,
+        }
+    }
+
+    fn step(&mut self, step: Step) -> Option<Note> {
+        let machine = &mut self.machine;
+        let note = match step {
+            RxStep::Post(_) => machine.step(RxStep::Post(self.posted)).ok()?,
+            _ => machine.step(step).ok()?,
+        };
+        if step == RxStep::ClearHead {
+            machine.step(RxStep::ClearTail).ok()?;
+            machine.step(RxStep::ClearQuiet).ok()?;
+        }
+        Some(note)
+    }
+
+    fn posted(&self, step: Step) -> Option<u16> {
+        matches!(step, RxStep::Post(_)).then_some(self.posted)
+    }
+
+    // Where none is reclaimed yet.
+    fn left(&mut self) -> Option<(u32, u32)> {
+        if !self.driver.is_stopped() || !self.untouched {
+            return None;
+        }
+        let left = self.driver.left(&self.ring);
+        Some((left, self.stored_count.wrapping_sub(self.taken_count)))
+    }
+
+    fn owner(&self, place: u16) -> Option<Owner> {
+        (place < self.machine.size()).then(|| self.machine.owner(place))
+    }
+
+    fn control(step: ControlStep) -> Step {
+        RxStep::Control(step)
+    }
+
+    fn renews(step: Step) -> bool {
+        step == RxStep::ClearHead
+    }
+
+    fn random_step(&self, random: &mut Random) -> Step {
+        match random.below(64) {
+            0..=6 => RxStep::Post(0),
+            7..=10 => RxStep::Publish,
+            11..=14 => RxStep::Look,
+            15..=19 => RxStep::Fetch,
+            20..=24 => random_store(random),
+            25..=29 => RxStep::Take,
+            30..=34 => RxStep::Head,
+            35 => RxStep::StoreQuiet,
+            36 => RxStep::LoadQuiet,
+            37..=44 => RxStep::Reclaim,
+            45..=48 => RxStep::ClearHead,
+            49 => RxStep::ClearTail,
+            50 => RxStep::ClearQuiet,
+            _ => RxStep::Control(random_control(random)),
+        }
+    }
+
+    fn close(self) -> Closed {
+        let slots = close(self.ring, self.driver, self.controller);
+        Closed::of(slots, self.spare, self.held)
+    }
+}
+
+fn random_store(random: &mut Random) -> Step {
+    let len = match random.below(6) {
+        0 => 1,
+        1 => 13,
+        2 => 14,
+        3 => 60,
+        4 => 1_024,
+        _ => 2_048,
+    };
+    let eop = random.below(8) != 0;
+    SegmentLength::new(len).map_or(RxStep::Head, |len| RxStep::Store(len, eop))
+}

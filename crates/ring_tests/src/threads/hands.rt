@@ -1,0 +1,211 @@
+//! What a thread does with its end of a ring. Each step is made where its condition holds, and left out where not.
+ghost use Rattle.std.specs.Prelude.{◌≡◌, ◌≤◌, true, length};
+ghost use Rattle.rx_ring.specs.Ends.{reclaimed};
+
+use buffer_pool::{Buf, Stash};
+use rx_ring::{Control, Poll, RxControllerEnd, RxDriverEnd, RxRing};
+use std::sync::Wait;
+use std::thread;
+use test_kit::{frame, frame_len, is_frame, put_back};
+
+/// Asks for the queue to be enabled, if nothing was asked in this epoch, or disabled, if it was seen enabled, and waits
+/// until it is.
+pub(crate) fn ask_for<R: Wait>(rt: &R, ring: &RxRing, driver: &mut RxDriverEnd, wanted: Control)
+    requires { driver.old.table ≡ ring.now }
+    ensures own { driver.new.table ≡ ring.now }
+    ensures untouched { reclaimed driver.new ≡ reclaimed driver.old }
+{
+    if driver.is_new() {
+        driver.ask_enable(ring);
+    } else if driver.is_on() {
+        driver.ask_disable(ring);
+    }
+    for _ in rt.forever() {
+        if driver.state(ring) == wanted {
+            return;
+        }
+        thread::yield_now();
+    }
+}
+
+/// Posts what the stash has and the ring has room for, and publishes it.
+pub(crate) fn fill_ring(ring: &RxRing, driver: &mut RxDriverEnd, spare: &mut Stash)
+    requires { driver.old.table ≡ ring.now }
+    ensures own { driver.new.table ≡ ring.now }
+    ensures untouched { reclaimed driver.new ≡ reclaimed driver.old }
+{
+    for _ in 0..driver.room() {
+        if driver.room() == 0 || !driver.is_open() {
+            return;
+        }
+        let Some(buf) = spare.take() else {
+            break;
+        };
+        driver.post(ring, buf);
+    }
+    if driver.is_open() {
+        driver.publish(ring);
+    }
+}
+
+/// Takes frames until so many were taken, posts each buffer again, and answers how many were as they should be.
+pub(crate) fn receive<R: Wait>(rt: &R, ring: &RxRing, driver: &mut RxDriverEnd, most: u32) -> u32
+    requires { driver.old.table ≡ ring.now }
+    ensures own { driver.new.table ≡ ring.now }
+    ensures untouched { reclaimed driver.new ≡ reclaimed driver.old }
+{
+    let mut good = 0u32;
+    let mut k = 0u32;
+    for _ in rt.forever() {
+        if k >= most {
+            break;
+        }
+        if let Poll::Segment(mut buf, eop) = driver.poll(ring) {
+            if eop && is_frame(k, buf.bytes()) {
+                good = good.saturating_add(1);
+            }
+            k = k.saturating_add(1);
+            buf.clear();
+            if driver.is_open() {
+                driver.post(ring, buf);
+                driver.publish(ring);
+            }
+        } else {
+            thread::yield_now();
+        }
+    }
+    good
+}
+
+/// Takes all that is left back, and answers how many buffers that was.
+pub(crate) fn reclaim_all(ring: &RxRing, driver: &mut RxDriverEnd, spare: &mut Stash) -> u32
+    requires { driver.old.table ≡ ring.now }
+    ensures { driver.new.table ≡ ring.now }
+{
+    let mut count = 0u32;
+    for _ in 0..driver.size() {
+        if !driver.is_stopped() {
+            break;
+        }
+        let Some(buf) = driver.reclaim(ring) else {
+            break;
+        };
+        put_back(spare, buf);
+        count = count.saturating_add(1);
+    }
+    count
+}
+
+/// How many segments are left to take, where the disabling was seen answered.
+pub(crate) fn left(ring: &RxRing, driver: &mut RxDriverEnd) -> Option<u32>
+    requires own { driver.old.table ≡ ring.now }
+    requires fresh { reclaimed driver.old ≡ 0 }
+    ensures { driver.new.table ≡ ring.now }
+{
+    if !driver.is_stopped() {
+        return None;
+    }
+    Some(driver.left(ring))
+}
+
+/// Renews the queue, if all its buffers came back.
+pub(crate) fn renew(ring: &RxRing, driver: &mut RxDriverEnd) -> bool
+    requires { driver.old.table ≡ ring.now }
+    ensures own { driver.new.table ≡ ring.now }
+    ensures fresh { result ≡ true → reclaimed driver.new ≡ 0 }
+{
+    let size = driver.size();
+    if size == 0 || !driver.is_stopped() || driver.room() != size - 1 {
+        return false;
+    }
+    driver.renew(ring);
+    true
+}
+
+/// Loads what is asked, and answers it if that can be done now.
+fn answer(ring: &RxRing, controller: &mut RxControllerEnd)
+    requires { controller.old.table ≡ ring.now }
+    ensures { controller.new.table ≡ ring.now }
+{
+    controller.asked(ring);
+    if controller.can_answer() {
+        controller.answer(ring);
+    }
+}
+
+/// Fetches the next buffer, if a descriptor is free and none is held.
+pub(crate) fn fetch(ring: &RxRing, controller: &mut RxControllerEnd) -> Option<Buf>
+    requires { controller.old.table ≡ ring.now }
+    ensures { controller.new.table ≡ ring.now }
+{
+    if !controller.is_serving()
+        || controller.is_holding()
+        || controller.has_finished()
+        || controller.look(ring) == 0
+    {
+        return None;
+    }
+    Some(controller.fetch(ring))
+}
+
+// Stores one frame in one segment, and the head, if a descriptor is free.
+fn store_frame(ring: &RxRing, controller: &mut RxControllerEnd, frame: &[u8]) -> bool
+    requires own { controller.old.table ≡ ring.now }
+    requires frame { (14 ≤ length frame.now) × (length frame.now ≤ 2048) }
+    ensures { controller.new.table ≡ ring.now }
+{
+    let _size = controller.size();
+    if !controller.is_serving() || controller.is_holding() {
+        return false;
+    }
+    if controller.has_finished() || !controller.is_between_frames() {
+        return false;
+    }
+    if controller.look(ring) == 0 {
+        return false;
+    }
+    let mut buf = controller.fetch(ring);
+    buf.fill(frame);
+    controller.write_back(ring, buf, true);
+    controller.set_head(ring);
+    true
+}
+
+/// Stores frame `k` as soon as a descriptor is free, and answers what is asked; false where the queue is disabled.
+fn store_when_free<R: Wait>(rt: &R, ring: &RxRing, controller: &mut RxControllerEnd, k: u32) -> bool
+    requires { controller.old.table ≡ ring.now }
+    ensures { controller.new.table ≡ ring.now }
+{
+    let bytes = frame(k);
+    let mut was_on = controller.is_serving();
+    for _ in rt.forever() {
+        if store_frame(ring, controller, &bytes[..frame_len(k)]) {
+            return true;
+        }
+        answer(ring, controller);
+        if was_on && !controller.is_serving() {
+            return false;
+        }
+        was_on = controller.is_serving();
+        thread::yield_now();
+    }
+    unreachable!()
+}
+
+/// Serves the queue until it is disabled, or so many frames are stored: how many were.
+pub(crate) fn serve<R: Wait>(
+    rt: &R,
+    ring: &RxRing,
+    controller: &mut RxControllerEnd,
+    most: u32,
+) -> u32
+    requires { controller.old.table ≡ ring.now }
+    ensures { controller.new.table ≡ ring.now }
+{
+    for k in 0..most {
+        if !store_when_free(rt, ring, controller, k) {
+            return k;
+        }
+    }
+    most
+}

@@ -1,0 +1,287 @@
+//! A running ring beside its pure machine: both make the same moves, and tell the same.
+
+use crate::buffers::{BUFFERS, Closed};
+use crate::random::Random;
+use buffer_pool::Buf;
+use ring_model::{ControlStep, Note, Owner};
+
+/// A running ring, whose steps are made by calls in one thread, and its pure machine.
+pub trait Beside {
+    /// A step of either.
+    type Step: Copy;
+
+    /// Whether the step's arguments are such as the ring's user may give now, which no test of the ring tells.
+    fn is_lawful(&self, step: Self::Step) -> bool;
+
+    /// Makes the step by a call, and answers what the call told; nothing where its condition doesn't hold, and the call
+    /// is left out. Clearing the head stands for a whole renewal.
+    fn call(&mut self, step: Self::Step) -> Option<Note>;
+
+    /// Makes the machine's step, or its steps; nothing where it isn't enabled.
+    fn step(&mut self, step: Self::Step) -> Option<Note>;
+
+    /// The step of the handshake.
+    fn control(step: ControlStep) -> Self::Step;
+
+    /// Whether this is a renewal.
+    fn renews(step: Self::Step) -> bool;
+
+    /// The number of the buffer that was posted, if this is a post.
+    fn posted(&self, step: Self::Step) -> Option<u16>;
+
+    /// What is left, as the ring tells and as the calls were counted, where it can be told.
+    fn left(&mut self) -> Option<(u32, u32)>;
+
+    /// Who has a place of the machine's.
+    fn owner(&self, place: u16) -> Option<Owner>;
+
+    /// Some step, as the random numbers tell, which may not be enabled.
+    fn random_step(&self, random: &mut Random) -> Self::Step;
+
+    /// Closes the ring.
+    fn close(self) -> Closed;
+}
+
+/// The note with 0 for each place, tail and head, of which the calls of a ring tell nothing.
+pub fn without_place(note: Note) -> Note {
+    match note {
+        Note::Place(_) => Note::Place(0),
+        Note::Tail(_) => Note::Tail(0),
+        Note::Head(_) => Note::Head(0),
+        Note::Fetched(_, buffer) => Note::Fetched(0, buffer),
+        Note::Sending(_, segment) => Note::Sending(0, segment),
+        Note::Reported(Some(_)) => Note::Reported(Some(0)),
+        other => other,
+    }
+}
+
+/// A schedule of steps that a ring and its machine make, one by one.
+#[derive(Drop)]
+pub struct Walk<B: Beside + Drop> {
+    /// The ring with its machine.
+    pub both: B,
+    lying: Lying,
+    /// How many steps were made.
+    pub made: usize,
+    /// How many of them were renewals.
+    pub renewals: usize,
+}
+
+impl<B: Beside + Drop> Walk<B> {
+    /// No step was made.
+    pub fn new(both: B) -> Walk<B> {
+        Walk {
+            both,
+            lying: Lying::new(),
+            made: 0,
+            renewals: 0,
+        }
+    }
+
+    /// Makes the step on both, or on neither: whether both told the same.
+    pub fn make(&mut self, step: B::Step) -> bool {
+        if !self.both.is_lawful(step) {
+            return true;
+        }
+        let told = self.both.call(step);
+        let note = self.both.step(step);
+        if told != note.map(without_place) {
+            return false;
+        }
+        let Some(note) = note else {
+            return true;
+        };
+        if let Some(number) = self.both.posted(step) {
+            self.lying.post(number, &note);
+        }
+        self.made = self.made.saturating_add(1);
+        if B::renews(step) {
+            self.renewals = self.renewals.saturating_add(1);
+        }
+        self.both.left().is_none_or(|left| left.0 == left.1)
+    }
+
+    /// Makes the steps: whether both told the same at each.
+    pub fn walk(&mut self, steps: &[B::Step]) -> bool {
+        for step in steps {
+            if !self.make(*step) {
+                return false;
+            }
+        }
+        true
+    }
+
+    /// Makes so many random steps: whether both told the same at each.
+    pub fn wander(&mut self, random: &mut Random, count: usize) -> bool {
+        for _ in 0..count {
+            let step = self.both.random_step(random);
+            if !self.make(step) {
+                return false;
+            }
+        }
+        true
+    }
+
+    /// Whether the closed ring gives back what the machine has at each place, and each buffer is there once.
+    pub fn closes(self) -> bool {
+        let Walk { both, lying, .. } = self;
+        let mut owners = [None; 16];
+        for (place, owner) in owners.iter_mut().enumerate() {
+            *owner = both.owner(place as u16);
+        }
+        let closed = both.close();
+        for (place, owner) in owners.iter().enumerate() {
+            if let Some(owner) = owner
+                && !lying.is_at(place, *owner, &closed.slots)
+            {
+                return false;
+            }
+        }
+        closed.has_each_once(BUFFERS as usize)
+    }
+}
+
+/// What many random schedules come to.
+#[derive(Drop)]
+pub struct Survey {
+    random: Random,
+    made: usize,
+    renewals: usize,
+}
+
+impl Survey {
+    /// No schedule was made.
+    pub fn new(random: Random) -> Survey {
+        Survey {
+            random,
+            made: 0,
+            renewals: 0,
+        }
+    }
+
+    /// Makes 600 random steps on a new ring and its machine, and closes it: whether both told the same.
+    pub fn agrees<B: Beside + Drop>(&mut self, both: B) -> bool {
+        let mut walk = Walk::new(both);
+        let agrees = walk.wander(&mut self.random, 600);
+        self.made = self.made.saturating_add(walk.made);
+        self.renewals = self.renewals.saturating_add(walk.renewals);
+        agrees && walk.closes()
+    }
+
+    /// Whether there were a renewal and a hundred steps in so many schedules each, and more, on the average.
+    pub fn is_rich(&self, schedules: usize) -> bool {
+        self.made / 100 > schedules && self.renewals > schedules
+    }
+}
+
+/// Makes each of the calls: whether all could be made.
+pub fn makes<B: Beside>(both: &mut B, steps: &[B::Step]) -> bool {
+    for step in steps {
+        if both.call(*step).is_none() {
+            return false;
+        }
+    }
+    true
+}
+
+/// Asks for the queue to be enabled, answers, and sees it: whether all that could be done.
+pub fn enable<B: Beside>(both: &mut B) -> bool {
+    ask(both, ControlStep::AskEnable)
+}
+
+/// The same for a disabling.
+pub fn disable<B: Beside>(both: &mut B) -> bool {
+    ask(both, ControlStep::AskDisable)
+}
+
+fn ask<B: Beside>(both: &mut B, asks: ControlStep) -> bool {
+    both.call(B::control(asks)).is_some()
+        && both.call(B::control(ControlStep::LookAsked)).is_some()
+        && both.call(B::control(ControlStep::Answer)).is_some()
+        && both.call(B::control(ControlStep::LookAnswered)).is_some()
+}
+
+/// A step of the handshake.
+pub fn random_control(random: &mut Random) -> ControlStep {
+    match random.below(7) {
+        0 => ControlStep::AskEnable,
+        1..=2 => ControlStep::LookAsked,
+        3..=4 => ControlStep::Answer,
+        5 => ControlStep::LookAnswered,
+        _ => ControlStep::AskDisable,
+    }
+}
+
+/// Which buffer was posted last at each place of a ring of at most 16, as the machine told it.
+#[derive(Drop)]
+pub struct Lying {
+    numbers: [u16; 16],
+}
+
+impl Lying {
+    /// Nothing was posted.
+    pub fn new() -> Lying {
+        Lying { numbers: [0; 16] }
+    }
+
+    /// Hears the note of a post of this buffer.
+    pub fn post(&mut self, number: u16, note: &Note) {
+        if let Note::Place(place) = note
+            && let Some(lies) = self.numbers.get_mut(usize::from(*place))
+        {
+            *lies = number;
+        }
+    }
+
+    /// Whether a closed ring gave back at this place what the machine has there: the buffer that was posted there, where
+    /// the place is with the ring, and none elsewhere.
+    pub fn is_at(&self, place: usize, owner: Owner, slots: &[Option<Buf>]) -> bool {
+        let Some(slot) = slots.get(place) else {
+            return false;
+        };
+        let number = slot.as_ref().map(|buf| buf.number());
+        if owner == Owner::Ring {
+            number == self.numbers.get(place).copied()
+        } else {
+            number.is_none()
+        }
+    }
+}
+
+/// Renews the queue, where all its buffers came back; else the method that says this returns nothing. It is for a struct
+/// with fields `ring` and `driver`.
+#[macro_export]
+macro_rules! renewed {
+    ($both:expr) => {
+        let size = $both.driver.size();
+        if !$both.driver.is_stopped() || size == 0 || $both.driver.room() != size - 1 {
+            return None;
+        }
+        $both.driver.renew(&$both.ring);
+    };
+}
+
+/// Makes a step of the handshake by a call, where its condition holds, on a struct with fields `ring`, `driver` and
+/// `controller` and a method `answer`.
+#[macro_export]
+macro_rules! shake {
+    ($both:expr, $step:expr) => {
+        match $step {
+            ControlStep::AskEnable if $both.driver.is_new() => {
+                $both.driver.ask_enable(&$both.ring);
+                Some(Note::Control(1))
+            }
+            ControlStep::LookAsked => Some(Note::Control($both.controller.asked(&$both.ring).word())),
+            ControlStep::Answer if $both.controller.can_answer() => {
+                $both.answer();
+                Some(Note::Control(if $both.controller.is_serving() { 2 } else { 0 }))
+            }
+            ControlStep::LookAnswered => Some(Note::Control($both.driver.state(&$both.ring).word())),
+            ControlStep::AskDisable if $both.driver.is_on() => {
+                $both.driver.ask_disable(&$both.ring);
+                Some(Note::Control(3))
+            }
+            _ => None,
+        }
+    };
+}

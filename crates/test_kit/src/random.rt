@@ -1,0 +1,32 @@
+//! Random numbers that a seed determines.
+ghost use Rattle.std.specs.Prelude.{◌<◌};
+
+/// A generator of random numbers (splitmix64).
+#[derive(Drop)]
+pub struct Random {
+    state: u64,
+}
+
+impl Random {
+    /// The generator that begins with this seed.
+    pub fn new(seed: u64) -> Random {
+        Random { state: seed }
+    }
+
+    /// The next number.
+    pub fn next(&mut self) -> u64 {
+        self.state = self.state.wrapping_add(0x9E37_79B9_7F4A_7C15);
+        let mut mixed = self.state;
+        mixed = (mixed ^ (mixed >> 30)).wrapping_mul(0xBF58_476D_1CE4_E5B9);
+        mixed = (mixed ^ (mixed >> 27)).wrapping_mul(0x94D0_49BB_1331_11EB);
+        mixed ^ (mixed >> 31)
+    }
+
+    /// A number below `count`.
+    pub fn below(&mut self, count: u64) -> u64
+        requires { 0 < count }
+        ensures { result < count }
+    {
+        self.next() % count
+    }
+}
