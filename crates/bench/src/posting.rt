@@ -12,6 +12,13 @@ use buffer_pool::Stock;
 use std::sync::Wait;
 use tx_ring::{TxDriverEnd, TxRing};
 
+/// What the driver's thread gives back: all buffers are in the stock again.
+#[derive(Drop)]
+pub struct Posted {
+    pub driver: TxDriverEnd,
+    pub stock: Stock,
+}
+
 /// Has the queue enabled, posts the frames of the plan as there is room for them, and cleans up after what is reported,
 /// until all is cleaned.
 pub fn post_all<R: Wait>(
@@ -21,14 +28,14 @@ pub fn post_all<R: Wait>(
     mut stock: Stock,
     frame: &[u8],
     plan: TxPlan,
-) -> TxDriverEnd
+) -> Posted
     requires can { CanEnable ring.now driver }
     requires way { driver.completion ≡ plan.completion }
     requires full { Shares stock [] }
     requires enough { ring.now.slots ≤ length stock.numbers }
     requires frame { IsFrameLength (length frame.now) }
     requires some { 0 < plan.report }
-    ensures { PostedAll ring.now plan frame.now result }
+    ensures { PostedAll ring.now plan frame.now result.driver }
 {
     await_on(rt, ring, &mut driver);
     let mut course = Course::new(plan);
@@ -41,7 +48,7 @@ pub fn post_all<R: Wait>(
             patience.wait();
         }
         if course.left() == 0 && driver.room() == driver.size() - 1 {
-            return driver;
+            return Posted { driver, stock };
         }
     }
     unreachable!()

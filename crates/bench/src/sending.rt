@@ -6,7 +6,7 @@ ghost use Rattle.bench.specs.Sending.{CanEnable, CanServe, HasSent, HasServed, P
 ghost use Rattle.bench.specs.declared.supply.TheConstants.{BYTE};
 
 use crate::fetching::{Transmission, send_all};
-use crate::posting::post_all;
+use crate::posting::{Posted, post_all};
 use crate::supply::{frame_of, stock_for};
 use crate::tally::Tally;
 use crate::words::TxPlan;
@@ -50,7 +50,7 @@ pub fn send_frames<R: Threads + Wait + Clock + Sync>(
     let (ring, driver, controller) = TxRing::new_with(alloc, plan.load.ring, plan.completion)?;
     let stock = stock_for(alloc, plan.load.ring)?;
     let start = Instant::now(rt)?;
-    let (mut driver, done) = in_threads(
+    let (posted, sent) = in_threads(
         rt,
         &ring,
         driver,
@@ -60,13 +60,10 @@ pub fn send_frames<R: Threads + Wait + Clock + Sync>(
         plan,
     )?;
     let spent = start.elapsed(rt)?;
-    let Transmission {
-        mut controller,
-        tally,
-    } = done;
+    let (mut driver, mut controller) = (posted.driver, sent.controller);
     meet_tx(&ring, &mut driver, &mut controller);
     ensure!(
-        tally == Tally::of(frame.as_slice(), plan.load.frames),
+        sent.tally == Tally::of(frame.as_slice(), plan.load.frames),
         "the frames that were sent are not those that were posted"
     );
     Ok(Dispatch {
@@ -85,7 +82,7 @@ fn in_threads<R: Threads + Wait + Sync>(
     stock: Stock,
     frame: &[u8],
     plan: TxPlan,
-) -> Result<(TxDriverEnd, Transmission)>
+) -> Result<(Posted, Transmission)>
     requires driver { CanEnable ring.now driver }
     requires controller { CanServe ring.now controller }
     requires way { (driver.completion ≡ plan.completion) × (controller.completion ≡ plan.completion) }
@@ -93,13 +90,13 @@ fn in_threads<R: Threads + Wait + Sync>(
     requires enough { ring.now.slots ≤ length stock.numbers }
     requires frame { IsFrameLength (length frame.now) }
     requires some { 0 < plan.report }
-    ensures driver { IfOk result (λ ends. PostedAll ring.now plan frame.now ends.0) }
+    ensures driver { IfOk result (λ ends. PostedAll ring.now plan frame.now ends.0.driver) }
     ensures controller { IfOk result (λ ends. HasServed ring.now plan.completion ends.1.controller) }
 {
     thread::scope(
         thread::scope_env(),
         rt,
-        move |scope| -> Result<(TxDriverEnd, Transmission)>
+        move |scope| -> Result<(Posted, Transmission)>
             requires driver { CanEnable ring.now driver }
             requires controller { CanServe ring.now controller }
             requires way { (driver.completion ≡ plan.completion) × (controller.completion ≡ plan.completion) }
@@ -107,7 +104,7 @@ fn in_threads<R: Threads + Wait + Sync>(
             requires enough { ring.now.slots ≤ length stock.numbers }
             requires frame { IsFrameLength (length frame.now) }
             requires some { 0 < plan.report }
-            ensures driver { IfOk result (λ ends. PostedAll ring.entry.now plan frame.entry.now ends.0) }
+            ensures driver { IfOk result (λ ends. PostedAll ring.entry.now plan frame.entry.now ends.0.driver) }
             ensures controller { IfOk result (λ ends. HasServed ring.entry.now plan.completion ends.1.controller) }
         {
             let serves = Serves(ring, plan.completion);
@@ -117,8 +114,8 @@ fn in_threads<R: Threads + Wait + Sync>(
             let Ok(sending) = sending else {
                 bail!("no thread could be made");
             };
-            let driver = post_all(rt, ring, driver, stock, frame, plan);
-            Ok((driver, sending.join(rt)))
+            let posted = post_all(rt, ring, driver, stock, frame, plan);
+            Ok((posted, sending.join(rt)))
         },
     )
 }
