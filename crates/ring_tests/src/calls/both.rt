@@ -3,7 +3,7 @@
 //! one.
 ghost use Rattle.std.specs.Prelude.{◌≡◌, ◌+◌, ◌<◌, ◌≤◌, true, [], length};
 ghost use Rattle.limits.specs.declared.profile.TheConstants.{LEAST_FRAME, MOST_FRAME, MOST_SEGMENTS};
-ghost use Rattle.ring_model.specs.receive.Ring.{piece_of};
+ghost use Rattle.ring_model.specs.shared.Segments.{piece_of};
 ghost use Rattle.ring_model.specs.shared.Frames.{join, unfinished};
 ghost use Rattle.rx_ring.specs.Ends.{controller_size, held_number, reclaimed, stored};
 ghost use Rattle.ring_tests.specs.Holding.{held_as};

@@ -1,5 +1,5 @@
 use Rattle.std.proofs.Common.{rules, ◌∙◌, ◌+◌, length, ap}
-use Rattle.ring_model.specs.receive.Ring.{piece_of}
+use Rattle.ring_model.specs.shared.Segments.{piece_of}
 use Rattle.ring_model.specs.shared.Frames.{join}
 use Rattle.rx_ring.specs.Records.{RxControlled}
 use Rattle.test_kit.proofs.Begun.{begun_ends, begun_count, begun_bytes}
