@@ -24,7 +24,8 @@ use Rattle.rx_ring.specs.declared.events.RxControllerOwn.TheVariants.{WroteBack,
 use Rattle.rx_ring.specs.Records.{RxControlled, ControllerStep, control, control_own, segment_of}
 use Rattle.rx_ring.specs.Ends.{ControllerSide, controller_size, controller_record, stored, known_free, number_in, held_number, controller_state, seen, head_stored, is_quiet, is_between, serve_place, answered}
 use Rattle.shared_ring.specs.Steps.{FoundTail, CameOut}
-use Rattle.rx_ring.specs.Calls.{IsServerOf, IsControllerEnd, is_there, FoundFree, Fetched, MayEnable, MayDisable, MayAnswer, AnsweredEnabling, AnsweredDisabling, Answered, segment}
+use Rattle.shared_ring.specs.Slots.{is_there}
+use Rattle.rx_ring.specs.Calls.{IsServerOf, IsControllerEnd, FoundFree, Fetched, MayEnable, MayDisable, MayAnswer, AnsweredEnabling, AnsweredDisabling, Answered, segment}
 use Rattle.rx_ring.proofs.Words.{eop_of-rx_word}
 
 pub recorded : (c : ControllerSide) (e : ControllerStep) → controller_record (answered c e) ≡ control (controller_size c) (controller_record c) e

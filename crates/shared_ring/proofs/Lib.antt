@@ -11,4 +11,5 @@ pub mod Reclaiming
 pub mod ControllerSeats
 pub mod Gathering
 pub mod Meeting
+pub mod Closing
 pub mod Shaking

@@ -23,7 +23,8 @@ use Rattle.tx_ring.specs.declared.events.TxControllerOwn.TheVariants.{Sent, Repo
 use Rattle.tx_ring.specs.Records.{Posting, TxControlled, ControllerStep, control, control_own, fetch_word, eop_of, rs_of, paylen_of, posting_of}
 use Rattle.tx_ring.specs.Ends.{ControllerSide, controller_size, controller_record, sent, known_ready, held, held_word, controller_state, is_owed, serve_place, answered}
 use Rattle.shared_ring.specs.Steps.{FoundTail, CameOut}
-use Rattle.tx_ring.specs.Calls.{IsServerOf, IsControllerEnd, is_there, FoundReady, Fetched, MayEnable, MayDisable, MayAnswer, AnsweredEnabling, AnsweredDisabling, Answered}
+use Rattle.shared_ring.specs.Slots.{is_there}
+use Rattle.tx_ring.specs.Calls.{IsServerOf, IsControllerEnd, FoundReady, Fetched, MayEnable, MayDisable, MayAnswer, AnsweredEnabling, AnsweredDisabling, Answered}
 use Rattle.tx_ring.proofs.Lying.{fetched-snoc}
 
 pub recorded : (c : ControllerSide) (e : ControllerStep) → controller_record (answered c e) ≡ control (controller_size c) (controller_record c) e
