@@ -24,6 +24,7 @@ use Rattle.rx_ring.specs.Ends.{DriverSide, driver_size, driver_record, posted, t
 pub use Rattle.shared_ring.specs.Meeting.{IsTold}
 use Rattle.rx_ring.specs.Meeting.{left_by}
 pub use Rattle.shared_ring.specs.Calls.{IsFreshDriver, IsFreshController, NoneOut, MayEnable, AnsweredEnabling, AnsweredDisabling, Answered}
+use Rattle.shared_ring.specs.Calls.{IsServer}
 use Rattle.shared_ring.specs.Slots.{is_there}
 
 abbrev pub segment : Buffer → Bool → Segment Bytes
@@ -146,17 +147,10 @@ MayAnswer c = MayEnable c ⊎ MayDisable c
 
 -- What the fields of a controller's end keep, over its record
 pub record IsServerOf (n : ℕ) (x : RxControlled) (serve free place : ℕ) (holding between : Bool) (side : ControllerState) (asked : Control) (finished : Bool) : Type 0 where
-  pub lawful : IsRingLength n
-  pub serve_is : serve ≡ length x.served % n
-  pub free_is : free + length x.served ≡ x.known
-  pub free_below : free < n
-  pub held_is : holding ≡ is_there x.held
-  pub held_free : holding ≡ true → 0 < free
-  pub held_serving : holding ≡ true → is_serving x.state ≡ true
+  pub server : IsServer n x serve free holding side asked
+  pub open server use *
   pub head_is : place ≡ x.head
   pub between_is : between ≡ ends_frame ends_segment true x.served
-  pub state_is : side ≡ x.state
-  pub seen_is : control_word asked ≡ x.seen
   pub quiet_is : finished ≡ x.barred
 
 abbrev pub IsControllerEnd : ControllerSide → ℕ → ℕ → ℕ → Bool → Bool → ControllerState → Control → Bool → Type 0

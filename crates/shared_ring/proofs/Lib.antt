@@ -12,4 +12,5 @@ pub mod ControllerSeats
 pub mod Gathering
 pub mod Meeting
 pub mod Closing
+pub mod Serving
 pub mod Shaking

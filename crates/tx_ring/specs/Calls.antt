@@ -28,6 +28,7 @@ use Rattle.shared_ring.specs.Records.{undriven}
 use Rattle.tx_ring.specs.Records.{Posting, TxDriven, TxControlled, Knowing, unknown, eop_of, rs_of, posting_of}
 use Rattle.tx_ring.specs.Ends.{DriverSide, driver_size, driver_record, posted, cleaned, reclaimed, returned, seen_reported, outstanding, driver_state, known_of, next_place, appended, ControllerSide, controller_size, controller_record, sent, known_ready, held, held_word, controller_state, seen, is_owed, is_between, serve_place, answered}
 pub use Rattle.shared_ring.specs.Calls.{IsFreshDriver, IsFreshController, NoneOut, MayEnable, AnsweredEnabling, AnsweredDisabling, Answered}
+use Rattle.shared_ring.specs.Calls.{IsServer}
 use Rattle.shared_ring.specs.Slots.{is_there}
 
 -- B3: the tail was loaded, and the result is how far it is ahead
@@ -74,13 +75,8 @@ MayAnswer c = MayEnable c ⊎ MayDisable c
 
 -- What the fields of a controller's end keep, over its record and the word that it fetched last
 pub record IsServerOf (n : ℕ) (x : TxControlled) (word : ℕ) (serve ready last : ℕ) (holding between ends asks owing : Bool) (side : ControllerState) (asked : Control) : Type 0 where
-  pub lawful : IsRingLength n
-  pub serve_is : serve ≡ length x.served % n
-  pub ready_is : ready + length x.served ≡ x.known
-  pub ready_below : ready < n
-  pub held_is : holding ≡ is_there x.held
-  pub held_ready : holding ≡ true → 0 < ready
-  pub held_serving : holding ≡ true → is_serving x.state ≡ true
+  pub server : IsServer n x serve ready holding side asked
+  pub open server use *
   pub head_is : is_serving x.state ≡ true → x.head ≡ length x.served % n
   pub between_is : between ≡ are_whole x.served
   pub ends_is : holding ≡ true → ends ≡ eop_of word
@@ -88,8 +84,6 @@ pub record IsServerOf (n : ℕ) (x : TxControlled) (word : ℕ) (serve ready las
   pub owing_is : owing ≡ x.barred
   pub owing_serving : owing ≡ true → is_serving x.state ≡ true
   pub last_is : owing ≡ true → last ≡ (length x.served - 1) % n
-  pub state_is : side ≡ x.state
-  pub seen_is : control_word asked ≡ x.seen
 
 abbrev pub IsControllerEnd : ControllerSide → ℕ → ℕ → ℕ → Bool → Bool → Bool → Bool → Bool → ControllerState → Control → Type 0
 IsControllerEnd c serve ready last holding between ends asks owing side asked = IsServerOf (controller_size c) (controller_record c) (held_word c) serve ready last holding between ends asks owing side asked
