@@ -20,11 +20,14 @@ use Rattle.shared_ring.specs.declared.events.ControllerEvent.TheVariants as cont
 use Rattle.shared_ring.specs.Words.{control_word}
 use Rattle.shared_ring.specs.Records.{uncontrolled, count_at}
 use Rattle.shared_ring.proofs.Folds.{controlling-snoc}
+use Rattle.shared_ring.proofs.Serving as shared
+use Rattle.shared_ring.proofs.Serving.{server-look, server-fetch, server-served, server-same, server-request, server-enable, server-disable}
 use Rattle.rx_ring.specs.declared.events.RxControllerOwn.TheVariants.{WroteBack, SaidQuiet}
 use Rattle.rx_ring.specs.Records.{RxControlled, ControllerStep, control, control_own, segment_of}
 use Rattle.rx_ring.specs.Ends.{ControllerSide, controller_size, controller_record, stored, known_free, number_in, held_number, controller_state, seen, head_stored, is_quiet, is_between, serve_place, answered}
 use Rattle.shared_ring.specs.Steps.{FoundTail, CameOut}
-use Rattle.rx_ring.specs.Calls.{IsServerOf, IsControllerEnd, is_there, FoundFree, Fetched, MayEnable, MayDisable, MayAnswer, AnsweredEnabling, AnsweredDisabling, Answered, segment}
+use Rattle.shared_ring.specs.Slots.{is_there}
+use Rattle.rx_ring.specs.Calls.{IsServerOf, IsControllerEnd, FoundFree, Fetched, MayEnable, MayDisable, MayAnswer, AnsweredEnabling, AnsweredDisabling, Answered, segment}
 use Rattle.rx_ring.proofs.Words.{eop_of-rx_word}
 
 pub recorded : (c : ControllerSide) (e : ControllerStep) → controller_record (answered c e) ≡ control (controller_size c) (controller_record c) e
@@ -64,17 +67,9 @@ between-rest xs e = rest-none true [] xs (λ f. refl) e
 
 pub server-fresh : (n : ℕ) → IsRingLength n → IsServerOf n uncontrolled 0 0 0 false true Off control_is.Disabled false
 server-fresh n lawful = let g : 8 ≤ n = lawful.0 in record {
-  lawful = lawful;
-  serve_is = sym (zero-mod n);
-  free_is = refl;
-  free_below = omega arith;
-  held_is = refl;
-  held_free = λ e. absurd (false≢true e);
-  held_serving = λ e. absurd (false≢true e);
+  server = shared.server-fresh n lawful;
   head_is = refl;
   between_is = refl;
-  state_is = refl;
-  seen_is = refl;
   quiet_is = refl;
 }
 
@@ -89,7 +84,7 @@ module _ (c : ControllerSide) (serve free place : ℕ) (holding between : Bool) 
   big = h.lawful.0
 
   pub serve-below : serve < controller_size c
-  serve-below = let b = big in let e = h.serve_is in let m : length x.served % n < n = mod-lt (length x.served) (omega arith) in omega arith
+  serve-below = shared.serve-below (controller_size c) (controller_record c) serve free holding side asked h.server
 
   -- what is not held
   pub unheld : held_number now ≡ None → holding ≡ false
@@ -101,28 +96,19 @@ module _ (c : ControllerSide) (serve free place : ℕ) (holding between : Bool) 
   -- A3
   module _ (new : ControllerSide) (tail size free' : ℕ) (f : FoundTail c tail new) (sizes : size ≡ controller_size new) (is : free' ≡ between_places size serve tail) where
     counted : free' ≡ (tail + n - length x.served % n) % n
-    counted = is ∙ ap (λ (m : ℕ). (tail + m - serve) % m) (sizes ∙ ap controller_size f.step) ∙ ap (λ (j : ℕ). (tail + n - j) % n) h.serve_is
+    counted = shared.counted (controller_size c) (controller_record c) serve free holding side asked h.server tail size free' (sizes ∙ ap controller_size f.step) is f.grows
 
     known-is : count_at n (length x.served) tail ≡ length x.served + free'
-    known-is = ap (λ (j : ℕ). length x.served + j) (sym counted)
+    known-is = shared.known-is (controller_size c) (controller_record c) serve free holding side asked h.server tail size free' (sizes ∙ ap controller_size f.step) is f.grows
 
     grew : known_free c ≤ free'
-    grew = let g = f.grows in let k = known-is in omega arith
+    grew = shared.grew (controller_size c) (controller_record c) serve free holding side asked h.server tail size free' (sizes ∙ ap controller_size f.step) is f.grows
 
     pub look-keeps : IsControllerEnd new serve free' place holding between side asked finished
-    look-keeps = let b = big in let k = known-is in let i = counted in let m : (tail + n - length x.served % n) % n < n = mod-lt (tail + n - length x.served % n) (omega arith) in
-        end-after c new (controller.Looked tail) serve free' place holding between side asked finished f.step (record {
-          lawful = h.lawful;
-          serve_is = h.serve_is;
-          free_is = omega arith;
-          free_below = omega arith;
-          held_is = h.held_is;
-          held_free = λ e. let a = h.held_free e in let g = grew in let j = h.free_is in omega arith;
-          held_serving = h.held_serving;
+    look-keeps = end-after c new (controller.Looked tail) serve free' place holding between side asked finished f.step (record {
+          server = server-look (controller_size c) (controller_record c) serve free holding side asked h.server tail size free' (sizes ∙ ap controller_size f.step) is f.grows;
           head_is = h.head_is;
           between_is = h.between_is;
-          state_is = h.state_is;
-          seen_is = h.seen_is;
           quiet_is = h.quiet_is;
         })
 
@@ -140,19 +126,11 @@ module _ (c : ControllerSide) (serve free place : ℕ) (holding between : Bool) 
 
   -- A4
   pub fetch-keeps : (new : ControllerSide) (buf : Buffer) (word : ℕ) → CameOut c serve buf word new → is_serving (controller_state now) ≡ true → 0 < known_free now → IsControllerEnd new serve free place true between side asked finished
-  fetch-keeps new buf word f serving some = let i = h.free_is in let s : 0 < known_free c = subst (λ (s : ControllerSide). 0 < known_free s) (sym was) some in
+  fetch-keeps new buf word f serving some = let i = h.ahead_is in let s : 0 < known_free c = subst (λ (s : ControllerSide). 0 < known_free s) (sym was) some in
       end-after c new (controller.Fetched serve word buf) serve free place true between side asked finished f.step (record {
-        lawful = h.lawful;
-        serve_is = h.serve_is;
-        free_is = h.free_is;
-        free_below = h.free_below;
-        held_is = refl;
-        held_free = λ e. omega arith;
-        held_serving = λ e. ap (λ (s : ControllerSide). is_serving (controller_state s)) was ∙ serving;
+        server = server-fetch (controller_size c) (controller_record c) serve free holding side asked h.server buf (ap (λ (s : ControllerSide). is_serving (controller_state s)) was ∙ serving) s;
         head_is = h.head_is;
         between_is = h.between_is;
-        state_is = h.state_is;
-        seen_is = h.seen_is;
         quiet_is = h.quiet_is;
       })
 
@@ -170,7 +148,7 @@ module _ (c : ControllerSide) (serve free place : ℕ) (holding between : Bool) 
     holds = h.held_is ∙ some-there x.held buf.number (ap held_number was ∙ held)
 
     pub some-free : 0 < free
-    some-free = h.held_free holds
+    some-free = h.held_ahead holds
 
     pub holder-serves : is_serving (controller_state c) ≡ true
     holder-serves = h.held_serving holds
@@ -180,19 +158,11 @@ module _ (c : ControllerSide) (serve free place : ℕ) (holding between : Bool) 
 
     pub write_back-keeps : (new : ControllerSide) (serve' : ℕ) → new ≡ answered c (controller.Own (WroteBack serve (rx_word (length buf.bytes) eop) buf)) → serve' ≡ (if (serve + 1) == controller_size c then 0 else (serve + 1))
         → IsControllerEnd new serve' (free - 1) place false eop side asked finished
-    write_back-keeps new serve' step e = let s = segment_of (rx_word (length buf.bytes) eop) buf in let len = length-append x.served (segment_of (rx_word (length buf.bytes) eop) buf ∷ []) in let sf = some-free in let b = big in let i = h.free_is in let fb = h.free_below in
+    write_back-keeps new serve' step e = let s = segment_of (rx_word (length buf.bytes) eop) buf in let len = length-append x.served (segment_of (rx_word (length buf.bytes) eop) buf ∷ []) in let sf = some-free in let b = big in let i = h.ahead_is in let fb = h.ahead_below in
         end-after c new (controller.Own (WroteBack serve (rx_word (length buf.bytes) eop) buf)) serve' (free - 1) place false eop side asked finished step (record {
-          lawful = h.lawful;
-          serve_is = e ∙ ap (λ (j : ℕ). if (j + 1) == n then 0 else (j + 1)) h.serve_is ∙ next_place n (length x.served) (omega arith) ∙ ap (λ (j : ℕ). j % n) (sym len);
-          free_is = omega arith;
-          free_below = omega arith;
-          held_is = refl;
-          held_free = λ f. absurd (false≢true f);
-          held_serving = λ f. absurd (false≢true f);
+          server = server-served (controller_size c) (controller_record c) serve free holding side asked h.server (segment_of (rx_word (length buf.bytes) eop) buf) serve' holds e x.head x.barred;
           head_is = h.head_is;
           between_is = sym (ends-snoc true x.served (segment_of (rx_word (length buf.bytes) eop) buf) ∙ eop_of-rx_word (length buf.bytes) eop);
-          state_is = h.state_is;
-          seen_is = h.seen_is;
           quiet_is = h.quiet_is;
         })
 
@@ -208,17 +178,9 @@ module _ (c : ControllerSide) (serve free place : ℕ) (holding between : Bool) 
   -- A7
   pub head-keeps : (new : ControllerSide) → new ≡ answered c (controller.StoredHead serve) → IsControllerEnd new serve free serve holding between side asked finished
   head-keeps new step = end-after c new (controller.StoredHead serve) serve free serve holding between side asked finished step (record {
-    lawful = h.lawful;
-    serve_is = h.serve_is;
-    free_is = h.free_is;
-    free_below = h.free_below;
-    held_is = h.held_is;
-    held_free = h.held_free;
-    held_serving = h.held_serving;
+    server = server-same (controller_size c) (controller_record c) serve free holding side asked h.server (record x { head = serve }) refl refl refl refl refl;
     head_is = refl;
     between_is = h.between_is;
-    state_is = h.state_is;
-    seen_is = h.seen_is;
     quiet_is = h.quiet_is;
   })
 
@@ -229,34 +191,18 @@ module _ (c : ControllerSide) (serve free place : ℕ) (holding between : Bool) 
   -- C2
   pub request-keeps : (new : ControllerSide) (v : Control) → new ≡ answered c (controller.LoadedRequest (control_word v)) → IsControllerEnd new serve free place holding between side v finished
   request-keeps new v step = end-after c new (controller.LoadedRequest (control_word v)) serve free place holding between side v finished step (record {
-    lawful = h.lawful;
-    serve_is = h.serve_is;
-    free_is = h.free_is;
-    free_below = h.free_below;
-    held_is = h.held_is;
-    held_free = h.held_free;
-    held_serving = h.held_serving;
+    server = server-request (controller_size c) (controller_record c) serve free holding side asked h.server v;
     head_is = h.head_is;
     between_is = h.between_is;
-    state_is = h.state_is;
-    seen_is = refl;
     quiet_is = h.quiet_is;
   })
 
   -- C7
   pub quiet-keeps : (new : ControllerSide) → new ≡ answered c (controller.Own SaidQuiet) → IsControllerEnd new serve free place holding between side asked true
   quiet-keeps new step = end-after c new (controller.Own SaidQuiet) serve free place holding between side asked true step (record {
-    lawful = h.lawful;
-    serve_is = h.serve_is;
-    free_is = h.free_is;
-    free_below = h.free_below;
-    held_is = h.held_is;
-    held_free = h.held_free;
-    held_serving = h.held_serving;
+    server = server-same (controller_size c) (controller_record c) serve free holding side asked h.server (record x { barred = true }) refl refl refl refl refl;
     head_is = h.head_is;
     between_is = h.between_is;
-    state_is = h.state_is;
-    seen_is = h.seen_is;
     quiet_is = refl;
   })
 
@@ -273,33 +219,17 @@ module _ (c : ControllerSide) (serve free place : ℕ) (holding between : Bool) 
 
     pub enable-keeps : (new : ControllerSide) → is_serving side ≡ false → new ≡ answered c controller.Enabled → IsControllerEnd new 0 0 0 holding true Serving control_is.Enabled false
     enable-keeps new idle step = let b = big in end-after c new controller.Enabled 0 0 0 holding true Serving control_is.Enabled false step (record {
-      lawful = h.lawful;
-      serve_is = sym (zero-mod n);
-      free_is = refl;
-      free_below = omega arith;
-      held_is = h.held_is;
-      held_free = λ e. absurd (both_ways (is_serving x.state) (sym (ap is_serving h.state_is) ∙ idle) (h.held_serving e));
-      held_serving = λ e. refl;
+      server = server-enable (controller_size c) (controller_record c) serve free holding side asked h.server idle;
       head_is = refl;
       between_is = refl;
-      state_is = refl;
-      seen_is = refl;
       quiet_is = refl;
     })
 
     pub disable-keeps : (new : ControllerSide) → is_serving side ≡ true → new ≡ answered c controller.Disabled → IsControllerEnd new serve free place holding between Ended control_is.Disabled finished
     disable-keeps new serving step = let d = asks-disable serving in end-after c new controller.Disabled serve free place holding between Ended control_is.Disabled finished step (record {
-      lawful = h.lawful;
-      serve_is = h.serve_is;
-      free_is = h.free_is;
-      free_below = h.free_below;
-      held_is = h.held_is;
-      held_free = h.held_free;
-      held_serving = λ e. absurd (both_ways holding (h.held_is ∙ there-none x.held d.held) e);
+      server = server-disable (controller_size c) (controller_record c) serve free holding side asked h.server (h.held_is ∙ there-none x.held d.held);
       head_is = h.head_is;
       between_is = h.between_is;
-      state_is = refl;
-      seen_is = refl;
       quiet_is = h.quiet_is;
     })
 

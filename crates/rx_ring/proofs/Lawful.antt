@@ -47,7 +47,7 @@ use Rattle.rx_ring.proofs.Moving.{keeps_it, unreclaimed, post-lies, publish-lies
 use Rattle.rx_ring.proofs.Moving.{look-lies, can-fetch, fetch-lies, store-lies, head-lies, look_asked-lies, say_quiet-lies, enable-lies, disable-lies, enabled, disabled, opening-lies}
 
 -- a posted item has its buffer
-posted-some : (x : Option ℕ) (k : ℕ) → x ≡ Some k → ¬ (lies_there x None ≡ None)
+pub posted-some : (x : Option ℕ) (k : ℕ) → x ≡ Some k → ¬ (lies_there x None ≡ None)
 posted-some x k e f = none-some (buffer k []) (sym f ∙ ap (λ (o : Option ℕ). lies_there o None) e)
 
 -- what lies there is an empty buffer with the number that was posted

@@ -20,21 +20,15 @@ use Rattle.ring_model.proofs.shared.Reaching.{next-happens}
 use Rattle.ring_model.proofs.shared.Shakes.{answered_closed, stopped_answered, stopped_full}
 use Rattle.ring_model.proofs.shared.Stepping.{answered_over}
 use Rattle.rx_ring.specs.declared.events.RxDriverOwn.TheVariants.{NotDone, Taken, LoadedQuiet, ClearedQuiet}
-use Rattle.rx_ring.specs.Records.{RxDriven, DriverStep, drive, driving, Knowing, unknown, know, know_own, knowing_from, knowing, posting, drive_own}
+use Rattle.rx_ring.specs.Records.{RxDriven, DriverStep, drive, driving, Knowing, unknown, know, know_own, saw_head, knowing, posting, drive_own}
 use Rattle.rx_ring.specs.Rule.{Learnt}
-use Rattle.shared_ring.specs.Records as shared
+use Rattle.shared_ring.proofs.Folds as shared
+use Rattle.shared_ring.proofs.Folds.{longer}
 use Rattle.shared_ring.specs.Records.{undriven}
 use Rattle.shared_ring.specs.Lies.{driven}
 
-knowing_from-snoc : (d : RxDriven) (k : Knowing) (es : List DriverStep) (e : DriverStep) → knowing_from d k (es ++ e ∷ []) ≡ know (shared.driving_from posting drive_own d es) (knowing_from d k es) e
-knowing_from-snoc d k [] e = refl
-knowing_from-snoc d k (x ∷ es) e = knowing_from-snoc (drive d x) (know d k x) es e
-
 pub knowing-snoc : (es : List DriverStep) (e : DriverStep) → knowing (es ++ e ∷ []) ≡ know (driving es) (knowing es) e
-knowing-snoc es e = knowing_from-snoc undriven unknown es e
-
-longer : {X : Type 0} (xs ys : List X) (y : X) (zs : List X) → xs ++ (y ∷ ys) ≡ zs → zs ≡ xs → ⊥
-longer xs ys y zs e f = let a : length (xs ++ (y ∷ ys)) ≡ length xs = ap length (e ∙ f) in let b = length-append xs (y ∷ ys) in omega arith
+knowing-snoc es e = shared.knowing-snoc posting drive_own saw_head know_own undriven unknown es e
 
 module _ (n : ℕ) (q : RxRing Bytes) (k : IsRxKept Bytes n q) where
   later-one : (s : RxStep Bytes) → rx_can q s ≡ true → RxLater q (rx_changed q s)

@@ -20,13 +20,11 @@ use Rattle.ring_model.proofs.receive.Reached.{rx_kept, rx_lawful}
 use Rattle.ring_model.proofs.shared.Places.{ahead}
 use Rattle.shared_ring.proofs.Laying.{none-empty}
 use Rattle.rx_ring.specs.Records.{RxDriven, RxControlled, DriverStep, ControllerStep, driving, controlling}
+use Rattle.shared_ring.proofs.Meeting.{served-is}
+use Rattle.rx_ring.specs.Rule.{says, lies_there}
 use Rattle.rx_ring.specs.Ends.{DriverSide, driver_size, posted, taken, driver_state, known_of, is_drained, ControllerSide, stored, controller_state}
 use Rattle.rx_ring.specs.Calls.{IsTold, left_at, told_left}
 use Rattle.rx_ring.specs.Meeting.{ledger_of, stored_now, left_by, Met}
-
-ended_idle : (s : ControllerState) → is_ended s ≡ true → is_serving s ≡ false
-ended_idle Ended e = refl
-ended_idle _ e = absurd (false≢true e)
 
 -- a beginning that is as long is the whole
 beginning-whole : {X : Type 0} (xs ys : List X) → IsBeginning xs ys → length xs ≡ length ys → xs ≡ ys
@@ -34,27 +32,11 @@ beginning-whole xs ys b e = let len = length-append xs b.0 in let l : length (xs
     sym (append-nil xs) ∙ ap (λ zs. xs ++ zs) (sym (none-empty b.0 (omega arith))) ∙ b.1
 
 module _ (d : DriverSide) (c : ControllerSide) (m : Met d c) (same : c.table ≡ d.table) (big : 1 < driver_size d) where
-  state-is : driver_state d ≡ m.queue.handshake.driver
-  state-is = ap (λ (x : RxDriven). x.state) m.driver
-
-  its : {Y : Type 0} (f : RxControlled → Y) → f (controlling c.table.slots c.events) ≡ f (controlling (driver_size d) c.events)
-  its f = ap (λ (z : TableId). f (controlling z.slots c.events)) same
-
-  its-state : controller_state c ≡ m.queue.handshake.controller
-  its-state = let l = m.controller in its (λ x. x.state) ∙ l.state
-
   kept : IsRxKept Bytes (driver_size d) m.queue
   kept = rx_kept (driver_size d) m.queue big m.reachable
 
-  unanswered-is : (is_ended (controller_state c) && is_open (driver_state d)) ≡ is_between m.queue.handshake
-  unanswered-is = ap (λ (x : Bool). x && is_open (driver_state d)) (ap is_ended its-state) ∙ ap (λ (x : Bool). is_ended m.queue.handshake.controller && x) (ap is_open state-is)
-
-  chosen : (b : Bool) → is_between m.queue.handshake ≡ b → (if b then [] else stored c) ≡ m.queue.ledger.served
-  chosen true e = let k = kept in let o = k.queue.order in let t = and_parts (is_ended m.queue.handshake.controller) (is_open m.queue.handshake.driver) e in sym (none-empty m.queue.ledger.served (o.none_served (ended_idle m.queue.handshake.controller t.0) t.1))
-  chosen false e = let l = m.controller in its (λ x. x.served) ∙ l.served e
-
   pub stored-is : stored_now d c ≡ m.queue.ledger.served
-  stored-is = ap (λ (b : Bool). if b then [] else stored c) unanswered-is ∙ chosen (is_between m.queue.handshake) refl
+  stored-is = let k = kept in served-is says lies_there ends_segment (driver_size d) m.queue.queue k.queue m.queue.still d c same m.driver m.controller
 
   ledger-is : ledger_of d c ≡ m.queue.ledger
   ledger-is = ap (λ (x : RxDriven). let l : RxLedger Bytes = record { posted = x.posted; served = stored_now d c; given = x.given } in l) m.driver

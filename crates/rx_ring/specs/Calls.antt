@@ -23,6 +23,9 @@ use Rattle.rx_ring.specs.Records.{RxDriven, RxControlled, Knowing, unknown, segm
 use Rattle.rx_ring.specs.Ends.{DriverSide, driver_size, driver_record, posted, taken, reclaimed, returned, driver_state, known_of, saw_quiet, is_drained, next_place, appended, ControllerSide, controller_size, controller_record, stored, held_number, serve_place, answered, seen, head_stored, controller_state, is_between, known_free}
 pub use Rattle.shared_ring.specs.Meeting.{IsTold}
 use Rattle.rx_ring.specs.Meeting.{left_by}
+pub use Rattle.shared_ring.specs.Calls.{IsFreshDriver, IsFreshController, NoneOut, MayEnable, AnsweredEnabling, AnsweredDisabling, Answered}
+use Rattle.shared_ring.specs.Calls.{IsServer}
+use Rattle.shared_ring.specs.Slots.{is_there}
 
 abbrev pub segment : Buffer → Bool → Segment Bytes
 segment buf eop = record { number = buf.number; payload = buf.bytes; eop = eop }
@@ -87,10 +90,6 @@ pub record CameHome (old : DriverSide) (buf : Buffer) (new : DriverSide) : Type 
   pub same : driver_record new ≡ record (driver_record old) { reclaimed = reclaimed old + 1 }
   pub known : known_of new ≡ known_of old
 
-pub record NoneOut (old new : DriverSide) : Type 0 where
-  pub none_out : returned old ≡ length (posted old)
-  pub same : new ≡ old
-
 abbrev pub Reclaimed : DriverSide → Option Buffer → DriverSide → Type 0
 Reclaimed old None new = NoneOut old new
 Reclaimed old (Some buf) new = CameHome old buf new
@@ -100,9 +99,6 @@ pub record GoneOver (old new : DriverSide) : Type 0 where
   pub step : new ≡ appended (appended (appended old driver.ClearedHead) driver.ClearedTail) (driver.Own ClearedQuiet)
   pub fresh : driver_record new ≡ undriven
   pub unlearnt : known_of new ≡ unknown
-
-abbrev pub IsFreshDriver : DriverSide → Type 0
-IsFreshDriver d = d.events ≡ []
 
 -- What the fields of a driver's end keep, over its record and what it has learnt
 pub record IsEndOf (n : ℕ) (x : RxDriven) (k : Knowing) (fill next out : ℕ) (state : DriverState) : Type 0 where
@@ -133,11 +129,6 @@ pub record Fetched (old : ControllerSide) (buf : Buffer) (new : ControllerSide) 
   pub empty : buf ≡ buffer buf.number []
   pub same : controller_record new ≡ record (controller_record old) { held = Some buf }
 
--- an enabling is asked, and may be answered
-pub record MayEnable (c : ControllerSide) : Type 0 where
-  pub asked : seen c ≡ 1
-  pub idle : is_serving (controller_state c) ≡ false
-
 -- the end serves, nothing is held, the last stored segment ends a frame, and the head is stored after it
 pub record IsSettled (c : ControllerSide) : Type 0 where
   pub serving : is_serving (controller_state c) ≡ true
@@ -154,40 +145,12 @@ pub record MayDisable (c : ControllerSide) : Type 0 where
 abbrev pub MayAnswer : ControllerSide → Type 0
 MayAnswer c = MayEnable c ⊎ MayDisable c
 
--- a new epoch begins: nothing is stored in it, and nothing known
-pub record AnsweredEnabling (old new : ControllerSide) : Type 0 where
-  pub was : is_serving (controller_state old) ≡ false
-  pub step : new ≡ answered old controller.Enabled
-  pub same : controller_record new ≡ record (controller_record old) { served = []; known = 0; head = 0; state = state.Serving; seen = 2; barred = false }
-
-pub record AnsweredDisabling (old new : ControllerSide) : Type 0 where
-  pub was : is_serving (controller_state old) ≡ true
-  pub step : new ≡ answered old controller.Disabled
-  pub same : controller_record new ≡ record (controller_record old) { state = state.Ended; seen = 0 }
-
-abbrev pub Answered : ControllerSide → ControllerSide → Type 0
-Answered old new = AnsweredEnabling old new ⊎ AnsweredDisabling old new
-
-abbrev pub IsFreshController : ControllerSide → Type 0
-IsFreshController c = c.events ≡ []
-
-abbrev pub is_there : Option Buffer → Bool
-is_there None = false
-is_there (Some b) = true
-
 -- What the fields of a controller's end keep, over its record
 pub record IsServerOf (n : ℕ) (x : RxControlled) (serve free place : ℕ) (holding between : Bool) (side : ControllerState) (asked : Control) (finished : Bool) : Type 0 where
-  pub lawful : IsRingLength n
-  pub serve_is : serve ≡ length x.served % n
-  pub free_is : free + length x.served ≡ x.known
-  pub free_below : free < n
-  pub held_is : holding ≡ is_there x.held
-  pub held_free : holding ≡ true → 0 < free
-  pub held_serving : holding ≡ true → is_serving x.state ≡ true
+  pub server : IsServer n x serve free holding side asked
+  pub open server use *
   pub head_is : place ≡ x.head
   pub between_is : between ≡ ends_frame ends_segment true x.served
-  pub state_is : side ≡ x.state
-  pub seen_is : control_word asked ≡ x.seen
   pub quiet_is : finished ≡ x.barred
 
 abbrev pub IsControllerEnd : ControllerSide → ℕ → ℕ → ℕ → Bool → Bool → ControllerState → Control → Bool → Type 0

@@ -72,8 +72,7 @@ pub fn meet_rx(ring: &RxRing, driver: &mut RxDriverEnd, controller: &mut RxContr
     ensures drained { is_drained driver.old ≡ true → taken driver.old ≡ stored_now driver.old controller.old }
 {
     let _size = driver.size();
-    ring.ring
-        .meet(&mut driver.seat, &mut controller.seat);
+    ring.ring.meet(&mut driver.seat, &mut controller.seat);
 }
 
 /// Closes a ring, wherever its two ends stand: one entry a place, with the buffer that lay there where one did, be it
@@ -97,6 +96,5 @@ pub fn close(ring: RxRing, driver: RxDriverEnd, controller: RxControllerEnd) -> 
         held,
         ..
     } = controller;
-    ring.ring
-        .take_apart(seat, served, next, out, serve, held)
+    ring.ring.take_apart(seat, served, next, out, serve, held)
 }

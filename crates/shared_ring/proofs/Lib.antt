@@ -11,4 +11,6 @@ pub mod Reclaiming
 pub mod ControllerSeats
 pub mod Gathering
 pub mod Meeting
+pub mod Closing
+pub mod Serving
 pub mod Shaking

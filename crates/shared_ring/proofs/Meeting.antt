@@ -1,28 +1,36 @@
 -- What the steps of a making, of a meeting and of a closing ask, over the seats that they are made with.
-use Rattle.std.proofs.Common.{◌≡◌, ℕ, zero, suc, ◌+◌, ◌<◌, ◌≤◌, ⊎_elim, List, [], ◌∷◌, ◌++◌, length, Option, Some, sym, refl, ap, ◌∙◌, subst, arith, length-append}
+use Rattle.std.proofs.Common.{◌≡◌, ℕ, zero, suc, ◌+◌, ◌<◌, ◌≤◌, Bool, true, false, ◌&&◌, if◌then◌else◌, ⊎_elim, List, [], ◌∷◌, ◌++◌, length, Option, Some, sym, refl, ap, ◌∙◌, subst, arith, length-append}
 use Rattle.std.specs.Prelude.{slice_get}
-use Rattle.std.proofs.lemmas.Bool.{cases_lt}
+use Rattle.std.proofs.lemmas.Bool.{cases_lt, and_parts, false≢true}
 use mathlib.Core.Option as maybe
 use mathlib.Core.Option.{some, none}
 use Rattle.atomic_table.specs.Table.{Allows, Splits, Joins, Final, Seen, step}
 use Rattle.atomic_table.specs.Seated.{TableId}
 use Rattle.buffer_pool.specs.Buffer.{Buffer}
 use Rattle.ring_model.specs.declared.states.Completion.{Completion}
+use Rattle.ring_model.specs.declared.states.ControllerState.{ControllerState}
+use Rattle.ring_model.specs.declared.states.ControllerState.TheVariants.{Ended}
+use Rattle.ring_model.specs.shared.Handshakes.{is_open, is_ended, is_serving, is_between}
+use Rattle.ring_model.specs.shared.Queue.{Queue}
+use Rattle.ring_model.proofs.shared.Kept.{IsKept}
 use Rattle.shared_ring.specs.declared.events.DriverEvent.{DriverEvent}
 use Rattle.shared_ring.specs.declared.events.ControllerEvent.{ControllerEvent}
 use Rattle.shared_ring.specs.declared.events.View.{View}
 use Rattle.shared_ring.specs.declared.events.View.TheVariants.{Maker, Driver, Controller, Both, Nobody}
 use Rattle.shared_ring.specs.Directions.{IsDirection}
-use Rattle.shared_ring.specs.Forms.{Form}
+use Rattle.shared_ring.specs.Ends.{DriverSide, driver_size, driver_state, ControllerSide, controller_record, served as served_by}
+use Rattle.shared_ring.specs.Forms.{Form, driving, controlling}
 use Rattle.shared_ring.specs.Keeping.{IsRuled}
-use Rattle.shared_ring.specs.Meeting.{kept_upto}
+use Rattle.shared_ring.specs.Lies.{driven, IsControlled}
+use Rattle.shared_ring.specs.Meeting.{kept_upto, is_unanswered, served_now}
 use Rattle.shared_ring.specs.Plays.{Seated, Deals, Meets}
+use Rattle.shared_ring.specs.Records.{Driven, Controlled}
 use Rattle.shared_ring.specs.Seats.{driver_half, controller_half, both_halves}
 use Rattle.shared_ring.specs.Tables.{IsTableOf, words_of}
 use Rattle.shared_ring.proofs.Allowing.{running, allow_both, splits-halve, splits-lend, joins-unite, joins-return}
 use Rattle.shared_ring.proofs.DriverSeats.{words-big}
 use Rattle.shared_ring.proofs.Gathering.{allow_deal}
-use Rattle.shared_ring.proofs.Laying.{slice_get-last}
+use Rattle.shared_ring.proofs.Laying.{slice_get-last, none-empty}
 use Rattle.shared_ring.proofs.Seating.{both_are}
 
 -- reading what a loop put together
@@ -102,3 +110,24 @@ module _ {Ring Posted Served Given D C : Type 0} (form : Form Ring Posted Served
       (subst (λ (xs : List (DriverEvent D)). form.LeftIn key.0 xs cs' slots) a
       (subst (λ (ys : List (ControllerEvent C)). form.LeftIn key.0 ds ys slots) b
       (left-in key id ds cs words slots (subst (λ (w : V). Final (Seen (IsRuled form key.0 key.1) id w) words slots) e f))))
+
+ended_idle : (s : ControllerState) → is_ended s ≡ true → is_serving s ≡ false
+ended_idle Ended e = refl
+ended_idle _ e = absurd (false≢true e)
+
+-- what is served in the driver's epoch is what the ring has served
+module _ {Ring Posted Served Given D C : Type 0} {form : Form Ring Posted Served Given D C} (says : ℕ → Option Posted → Option Served → ℕ) (lies : Option Posted → Option Served → Option Buffer) (ends : Served → Bool) (n : ℕ)
+    (q : Queue Posted Served Given) (kept : IsKept n ends q) (bars : Bool) (d : DriverSide form) (c : ControllerSide form) (same : c.table ≡ d.table) (did : driving form d.events ≡ driven q)
+    (served : IsControlled {Given = Given} says lies q bars (controlling form (driver_size d) c.events)) where
+  its : {Y : Type 0} (f : Controlled Served → Y) → f (controller_record c) ≡ f (controlling form (driver_size d) c.events)
+  its f = ap (λ (z : TableId). f (controlling form z.slots c.events)) same
+
+  unanswered-is : is_unanswered d c ≡ is_between q.handshake
+  unanswered-is = ap (λ (x : Bool). x && is_open (driver_state d)) (its (λ x. is_ended x.state) ∙ ap is_ended served.state) ∙ ap (λ (x : Driven Posted Given). is_ended q.handshake.controller && is_open x.state) did
+
+  chosen : (b : Bool) → is_between q.handshake ≡ b → (if b then [] else served_by c) ≡ q.ledger.served
+  chosen true e = let o = kept.order in let t = and_parts (is_ended q.handshake.controller) (is_open q.handshake.driver) e in sym (none-empty q.ledger.served (o.none_served (ended_idle q.handshake.controller t.0) t.1))
+  chosen false e = its (λ x. x.served) ∙ served.served e
+
+  pub served-is : served_now d c ≡ q.ledger.served
+  served-is = ap (λ (b : Bool). if b then [] else served_by c) unanswered-is ∙ chosen (is_between q.handshake) refl

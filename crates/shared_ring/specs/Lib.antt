@@ -14,3 +14,4 @@ pub mod Keeping
 pub mod Steps
 pub mod Reclaims
 pub mod Meeting
+pub mod Calls

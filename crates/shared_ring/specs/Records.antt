@@ -48,6 +48,17 @@ module _ {Posted Given Own : Type 0} (posting : ℕ → Buffer → Posted) (own 
   driving_from d [] = d
   driving_from d (e ∷ es) = driving_from (drive d e) es
 
+-- What the driver has learnt, of the head that it loaded and by the steps of one direction
+module _ {Posted Given Own Known : Type 0} (posting : ℕ → Buffer → Posted) (own : Driven Posted Given → Own → Driven Posted Given) (saw_head : Known → ℕ → Known) (know_own : Driven Posted Given → Known → Own → Known) where
+  abbrev pub know : Driven Posted Given → Known → DriverEvent Own → Known
+  know d k (driver.LoadedHead word) = saw_head k word
+  know d k (driver.Own o) = know_own d k o
+  know d k _ = k
+
+  abbrev pub knowing_from : Driven Posted Given → Known → List (DriverEvent Own) → Known
+  knowing_from d k [] = k
+  knowing_from d k (e ∷ es) = knowing_from (drive posting own d e) (know d k e) es
+
 abbrev pub undriven : {Posted Given : Type 0} → Driven Posted Given
 undriven = record { posted = []; published = 0; given = []; reclaimed = 0; state = New }
 

@@ -1,5 +1,5 @@
 -- Slots: at home in the table, or out with a seat, in the order in which it took them.
-use Rattle.std.specs.Prelude.{ℕ, zero, suc, ◌+◌, ◌%◌, List, [], ◌∷◌, Option, Some, None}
+use Rattle.std.specs.Prelude.{ℕ, zero, suc, ◌+◌, ◌%◌, List, [], ◌∷◌, Bool, true, false, Option, Some, None}
 use mathlib.Core.Option as maybe
 use mathlib.Core.Option.{some, none}
 use lib.ListN.{get_elem?}
@@ -28,3 +28,7 @@ slots_while place (Some b) = (place, blank) ∷ []
 abbrev pub front_buffer : List (ℕ × Buffer) → Buffer
 front_buffer [] = blank
 front_buffer (x ∷ xs) = x.1
+
+abbrev pub is_there : Option Buffer → Bool
+is_there None = false
+is_there (Some b) = true

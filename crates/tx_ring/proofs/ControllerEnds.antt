@@ -19,11 +19,14 @@ use Rattle.shared_ring.specs.declared.events.ControllerEvent.TheVariants as cont
 use Rattle.shared_ring.specs.Words.{control_word}
 use Rattle.shared_ring.specs.Records.{uncontrolled, count_at}
 use Rattle.shared_ring.proofs.Folds.{controlling-snoc}
+use Rattle.shared_ring.proofs.Serving as shared
+use Rattle.shared_ring.proofs.Serving.{server-look, server-fetch, server-served, server-same, server-request, server-enable, server-disable}
 use Rattle.tx_ring.specs.declared.events.TxControllerOwn.TheVariants.{Sent, Reported}
 use Rattle.tx_ring.specs.Records.{Posting, TxControlled, ControllerStep, control, control_own, fetch_word, eop_of, rs_of, paylen_of, posting_of}
 use Rattle.tx_ring.specs.Ends.{ControllerSide, controller_size, controller_record, sent, known_ready, held, held_word, controller_state, is_owed, serve_place, answered}
 use Rattle.shared_ring.specs.Steps.{FoundTail, CameOut}
-use Rattle.tx_ring.specs.Calls.{IsServerOf, IsControllerEnd, is_there, FoundReady, Fetched, MayEnable, MayDisable, MayAnswer, AnsweredEnabling, AnsweredDisabling, Answered}
+use Rattle.shared_ring.specs.Slots.{is_there}
+use Rattle.tx_ring.specs.Calls.{IsServerOf, IsControllerEnd, FoundReady, Fetched, MayEnable, MayDisable, MayAnswer, AnsweredEnabling, AnsweredDisabling, Answered}
 use Rattle.tx_ring.proofs.Lying.{fetched-snoc}
 
 pub recorded : (c : ControllerSide) (e : ControllerStep) → controller_record (answered c e) ≡ control (controller_size c) (controller_record c) e
@@ -61,24 +64,17 @@ module _ (c : ControllerSide) (serve ready last : ℕ) (holding between ends ask
   -- B3
   module _ (new : ControllerSide) (tail size ready' : ℕ) (f : FoundTail c tail new) (sizes : size ≡ controller_size new) (is : ready' ≡ between_places size serve tail) where
     counted : ready' ≡ (tail + n - length x.served % n) % n
-    counted = is ∙ ap (λ (m : ℕ). (tail + m - serve) % m) (sizes ∙ ap controller_size f.step) ∙ ap (λ (j : ℕ). (tail + n - j) % n) h.serve_is
+    counted = shared.counted (controller_size c) (controller_record c) serve ready holding side asked h.server tail size ready' (sizes ∙ ap controller_size f.step) is f.grows
 
     known-is : count_at n (length x.served) tail ≡ length x.served + ready'
-    known-is = ap (λ (j : ℕ). length x.served + j) (sym counted)
+    known-is = shared.known-is (controller_size c) (controller_record c) serve ready holding side asked h.server tail size ready' (sizes ∙ ap controller_size f.step) is f.grows
 
     grew : known_ready c ≤ ready'
-    grew = let g = f.grows in let k = known-is in omega arith
+    grew = shared.grew (controller_size c) (controller_record c) serve ready holding side asked h.server tail size ready' (sizes ∙ ap controller_size f.step) is f.grows
 
     pub look-keeps : IsControllerEnd new serve ready' last holding between ends asks owing side asked
-    look-keeps = let b = big in let k = known-is in let i = counted in let m : (tail + n - length x.served % n) % n < n = mod-lt (tail + n - length x.served % n) (omega arith) in
-        end-after c new (controller.Looked tail) serve ready' last holding between ends asks owing side asked f.step (record {
-          lawful = h.lawful;
-          serve_is = h.serve_is;
-          ready_is = omega arith;
-          ready_below = omega arith;
-          held_is = h.held_is;
-          held_ready = λ e. let a = h.held_ready e in let g = grew in let j = h.ready_is in omega arith;
-          held_serving = h.held_serving;
+    look-keeps = end-after c new (controller.Looked tail) serve ready' last holding between ends asks owing side asked f.step (record {
+          server = server-look (controller_size c) (controller_record c) serve ready holding side asked h.server tail size ready' (sizes ∙ ap controller_size f.step) is f.grows;
           head_is = h.head_is;
           between_is = h.between_is;
           ends_is = h.ends_is;
@@ -86,8 +82,6 @@ module _ (c : ControllerSide) (serve ready last : ℕ) (holding between ends ask
           owing_is = h.owing_is;
           owing_serving = h.owing_serving;
           last_is = h.last_is;
-          state_is = h.state_is;
-          seen_is = h.seen_is;
         })
 
     pub look-found : FoundReady now ready' new
@@ -105,15 +99,9 @@ module _ (c : ControllerSide) (serve ready last : ℕ) (holding between ends ask
   -- B4
   module _ (new : ControllerSide) (buf : Buffer) (word : ℕ) (f : CameOut c serve buf word new) where
     pub fetch-keeps : (eop rs : Bool) → eop ≡ eop_of word → rs ≡ rs_of word → is_serving (controller_state now) ≡ true → 0 < known_ready now → IsControllerEnd new serve ready last true between eop rs owing side asked
-    fetch-keeps eop rs e r serving some = let i = h.ready_is in let s : 0 < known_ready c = subst (λ (s : ControllerSide). 0 < known_ready s) (sym was) some in
+    fetch-keeps eop rs e r serving some = let i = h.ahead_is in let s : 0 < known_ready c = subst (λ (s : ControllerSide). 0 < known_ready s) (sym was) some in
         end-after c new (controller.Fetched serve word buf) serve ready last true between eop rs owing side asked f.step (record {
-          lawful = h.lawful;
-          serve_is = h.serve_is;
-          ready_is = h.ready_is;
-          ready_below = h.ready_below;
-          held_is = refl;
-          held_ready = λ e. omega arith;
-          held_serving = λ e. ap (λ (s : ControllerSide). is_serving (controller_state s)) was ∙ serving;
+          server = server-fetch (controller_size c) (controller_record c) serve ready holding side asked h.server buf (ap (λ (s : ControllerSide). is_serving (controller_state s)) was ∙ serving) s;
           head_is = h.head_is;
           between_is = h.between_is;
           ends_is = λ t. e;
@@ -121,12 +109,10 @@ module _ (c : ControllerSide) (serve ready last : ℕ) (holding between ends ask
           owing_is = h.owing_is;
           owing_serving = h.owing_serving;
           last_is = h.last_is;
-          state_is = h.state_is;
-          seen_is = h.seen_is;
         })
 
     pub fetched : (read : TxRead) → read.number ≡ buf.number → read.len ≡ length buf.bytes → read.eop ≡ eop_of word → read.rs ≡ rs_of word → read.paylen ≡ paylen_of word → Fetched now buf read new
-    fetched read number len e r p = let i = h.ready_is in subst (λ (s : ControllerSide). Fetched s buf read new) was (record {
+    fetched read number len e r p = let i = h.ahead_is in subst (λ (s : ControllerSide). Fetched s buf read new) was (record {
       word = word;
       step = f.step ∙ ap (λ (k : ℕ). answered c (controller.Fetched k word buf)) h.serve_is;
       says = f.fetched.says ∙ ap (λ (b : Bool). tx_word (length buf.bytes) b (rs_of word) (paylen_of word)) (sym e) ∙ ap (λ (b : Bool). tx_word (length buf.bytes) read.eop b (paylen_of word)) (sym r) ∙ ap (λ (v : ℕ). tx_word (length buf.bytes) read.eop read.rs v) (sym p);
@@ -145,29 +131,23 @@ module _ (c : ControllerSide) (serve ready last : ℕ) (holding between ends ask
     holds = h.held_is ∙ some-there x.held buf (ap held was ∙ holds_it)
 
     pub some-ready : 0 < ready
-    some-ready = h.held_ready holds
+    some-ready = h.held_ahead holds
 
     pub holder-serves : is_serving (controller_state c) ≡ true
     holder-serves = h.held_serving holds
 
     next-is : (head : ℕ) → head ≡ (if (serve + 1) == controller_size c then 0 else (serve + 1)) → head ≡ (length x.served + 1) % n
-    next-is head e = let b = big in e ∙ ap (λ (j : ℕ). if (j + 1) == n then 0 else (j + 1)) h.serve_is ∙ next_place n (length x.served) (omega arith)
+    next-is head e = shared.next-is (controller_size c) (controller_record c) serve ready holding side asked h.server head e
 
     pub send-head : (head : ℕ) → head ≡ (if (serve + 1) == controller_size c then 0 else (serve + 1)) → head ≡ (length (sent c) + 1) % controller_size c
     send-head head e = next-is head e
 
     module _ (new : ControllerSide) (head : ℕ) (at : head ≡ (if (serve + 1) == controller_size c then 0 else (serve + 1))) (step : new ≡ answered c (controller.Own (Sent head (held_word c) buf))) where
       pub send-keeps : IsControllerEnd new head (ready - 1) serve false ends ends asks asks side asked
-      send-keeps = let p : Posting = posting_of (held_word c) buf in let len = length-append x.served (posting_of (held_word c) buf ∷ []) in let sr = some-ready in let b = big in let i = h.ready_is in let rb = h.ready_below in let e = next-is head at in
+      send-keeps = let p : Posting = posting_of (held_word c) buf in let len = length-append x.served (posting_of (held_word c) buf ∷ []) in let sr = some-ready in let b = big in let i = h.ahead_is in let rb = h.ahead_below in let e = next-is head at in
           let more : (length x.served + 1) % n ≡ length (x.served ++ posting_of (held_word c) buf ∷ []) % n = ap (λ (j : ℕ). j % n) (sym len) in
           end-after c new (controller.Own (Sent head (held_word c) buf)) head (ready - 1) serve false ends ends asks asks side asked step (record {
-            lawful = h.lawful;
-            serve_is = e ∙ more;
-            ready_is = omega arith;
-            ready_below = omega arith;
-            held_is = refl;
-            held_ready = λ f. absurd (false≢true f);
-            held_serving = λ f. absurd (false≢true f);
+            server = server-served (controller_size c) (controller_record c) serve ready holding side asked h.server (posting_of (held_word c) buf) head holds at head (rs_of (held_word c));
             head_is = λ f. e ∙ more;
             between_is = h.ends_is holds ∙ sym (ends-snoc true x.served (posting_of (held_word c) buf));
             ends_is = λ f. absurd (false≢true f);
@@ -175,8 +155,6 @@ module _ (c : ControllerSide) (serve ready last : ℕ) (holding between ends ask
             owing_is = h.asks_is holds;
             owing_serving = λ f. h.held_serving holds;
             last_is = λ f. h.serve_is ∙ ap (λ (j : ℕ). j % n) (let g : length x.served ≡ length (x.served ++ posting_of (held_word c) buf ∷ []) - 1 = omega arith in g);
-            state_is = h.state_is;
-            seen_is = h.seen_is;
           })
 
       pub send-step : new ≡ answered now (controller.Own (Sent ((length (sent now) + 1) % controller_size now) (held_word now) buf))
@@ -203,13 +181,7 @@ module _ (c : ControllerSide) (serve ready last : ℕ) (holding between ends ask
 
     pub report-keeps : (new : ControllerSide) (p w : ℕ) → new ≡ answered c (controller.Own (Reported p w)) → IsControllerEnd new serve ready last holding between ends asks false side asked
     report-keeps new p w step = end-after c new (controller.Own (Reported p w)) serve ready last holding between ends asks false side asked step (record {
-      lawful = h.lawful;
-      serve_is = h.serve_is;
-      ready_is = h.ready_is;
-      ready_below = h.ready_below;
-      held_is = h.held_is;
-      held_ready = h.held_ready;
-      held_serving = h.held_serving;
+      server = server-same (controller_size c) (controller_record c) serve ready holding side asked h.server (record x { barred = false }) refl refl refl refl refl;
       head_is = h.head_is;
       between_is = h.between_is;
       ends_is = h.ends_is;
@@ -217,8 +189,6 @@ module _ (c : ControllerSide) (serve ready last : ℕ) (holding between ends ask
       owing_is = refl;
       owing_serving = λ f. absurd (false≢true f);
       last_is = λ f. absurd (false≢true f);
-      state_is = h.state_is;
-      seen_is = h.seen_is;
     })
 
     pub report-record : (new : ControllerSide) (p w : ℕ) → new ≡ answered c (controller.Own (Reported p w)) → controller_record new ≡ record (controller_record now) { barred = false }
@@ -227,13 +197,7 @@ module _ (c : ControllerSide) (serve ready last : ℕ) (holding between ends ask
   -- C2
   pub request-keeps : (new : ControllerSide) (v : Control) → new ≡ answered c (controller.LoadedRequest (control_word v)) → IsControllerEnd new serve ready last holding between ends asks owing side v
   request-keeps new v step = end-after c new (controller.LoadedRequest (control_word v)) serve ready last holding between ends asks owing side v step (record {
-    lawful = h.lawful;
-    serve_is = h.serve_is;
-    ready_is = h.ready_is;
-    ready_below = h.ready_below;
-    held_is = h.held_is;
-    held_ready = h.held_ready;
-    held_serving = h.held_serving;
+    server = server-request (controller_size c) (controller_record c) serve ready holding side asked h.server v;
     head_is = h.head_is;
     between_is = h.between_is;
     ends_is = h.ends_is;
@@ -241,8 +205,6 @@ module _ (c : ControllerSide) (serve ready last : ℕ) (holding between ends ask
     owing_is = h.owing_is;
     owing_serving = h.owing_serving;
     last_is = h.last_is;
-    state_is = h.state_is;
-    seen_is = refl;
   })
 
   -- C3
@@ -261,13 +223,7 @@ module _ (c : ControllerSide) (serve ready last : ℕ) (holding between ends ask
 
     pub enable-keeps : (new : ControllerSide) → is_serving side ≡ false → new ≡ answered c controller.Enabled → IsControllerEnd new 0 0 last holding true ends asks false Serving control_is.Enabled
     enable-keeps new idle step = let b = big in end-after c new controller.Enabled 0 0 last holding true ends asks false Serving control_is.Enabled step (record {
-      lawful = h.lawful;
-      serve_is = sym (zero-mod n);
-      ready_is = refl;
-      ready_below = omega arith;
-      held_is = h.held_is;
-      held_ready = λ e. absurd (both_ways (is_serving x.state) (sym (ap is_serving h.state_is) ∙ idle) (h.held_serving e));
-      held_serving = λ e. refl;
+      server = server-enable (controller_size c) (controller_record c) serve ready holding side asked h.server idle;
       head_is = λ e. sym (zero-mod n);
       between_is = refl;
       ends_is = h.ends_is;
@@ -275,19 +231,11 @@ module _ (c : ControllerSide) (serve ready last : ℕ) (holding between ends ask
       owing_is = refl;
       owing_serving = λ e. refl;
       last_is = λ f. absurd (false≢true f);
-      state_is = refl;
-      seen_is = refl;
     })
 
     pub disable-keeps : (new : ControllerSide) → is_serving side ≡ true → new ≡ answered c controller.Disabled → IsControllerEnd new serve ready last holding between ends asks owing Ended control_is.Disabled
     disable-keeps new serving step = let d = asks-disable serving in end-after c new controller.Disabled serve ready last holding between ends asks owing Ended control_is.Disabled step (record {
-      lawful = h.lawful;
-      serve_is = h.serve_is;
-      ready_is = h.ready_is;
-      ready_below = h.ready_below;
-      held_is = h.held_is;
-      held_ready = h.held_ready;
-      held_serving = λ e. absurd (both_ways holding (h.held_is ∙ ap is_there d.unheld) e);
+      server = server-disable (controller_size c) (controller_record c) serve ready holding side asked h.server (h.held_is ∙ ap is_there d.unheld);
       head_is = λ e. absurd (false≢true e);
       between_is = h.between_is;
       ends_is = h.ends_is;
@@ -295,8 +243,6 @@ module _ (c : ControllerSide) (serve ready last : ℕ) (holding between ends ask
       owing_is = h.owing_is;
       owing_serving = λ e. absurd (both_ways owing (h.owing_is ∙ d.paid) e);
       last_is = h.last_is;
-      state_is = refl;
-      seen_is = refl;
     })
 
     pub enabled-is : (new : ControllerSide) → is_serving side ≡ false → new ≡ answered c controller.Enabled → Answered now new

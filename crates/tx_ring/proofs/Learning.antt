@@ -15,20 +15,14 @@ use Rattle.ring_model.proofs.transmit.Reached.{tx_later-all}
 use Rattle.ring_model.proofs.shared.Reaching.{next-happens}
 use Rattle.ring_model.proofs.shared.Shakes.{answered_closed, stopped_answered, stopped_full}
 use Rattle.ring_model.proofs.shared.Stepping.{answered_over}
-use Rattle.tx_ring.specs.Records.{Posting, TxDriven, DriverStep, drive, driving, Knowing, unknown, know, knowing_from, knowing, posting_of, drive_own}
+use Rattle.tx_ring.specs.Records.{Posting, TxDriven, DriverStep, drive, driving, Knowing, unknown, know, know_own, saw_head, knowing, posting_of, drive_own}
 use Rattle.tx_ring.specs.Rule.{Learnt}
-use Rattle.shared_ring.specs.Records as shared
+use Rattle.shared_ring.proofs.Folds as shared
+use Rattle.shared_ring.proofs.Folds.{longer}
 use Rattle.shared_ring.specs.Records.{undriven}
 
-knowing_from-snoc : (d : TxDriven) (k : Knowing) (es : List DriverStep) (e : DriverStep) → knowing_from d k (es ++ e ∷ []) ≡ know (shared.driving_from posting_of drive_own d es) (knowing_from d k es) e
-knowing_from-snoc d k [] e = refl
-knowing_from-snoc d k (x ∷ es) e = knowing_from-snoc (drive d x) (know d k x) es e
-
 pub knowing-snoc : (es : List DriverStep) (e : DriverStep) → knowing (es ++ e ∷ []) ≡ know (driving es) (knowing es) e
-knowing-snoc es e = knowing_from-snoc undriven unknown es e
-
-longer : {X : Type 0} (xs ys : List X) (y : X) (zs : List X) → xs ++ (y ∷ ys) ≡ zs → zs ≡ xs → ⊥
-longer xs ys y zs e f = let a : length (xs ++ (y ∷ ys)) ≡ length xs = ap length (e ∙ f) in let b = length-append xs (y ∷ ys) in omega arith
+knowing-snoc es e = shared.knowing-snoc posting_of drive_own saw_head know_own undriven unknown es e
 
 module _ (n : ℕ) (q : TxRing Bytes) (k : IsTxKept Bytes n q) where
   later-one : (s : TxStep Posting) → tx_can q s ≡ true → TxLater q (tx_changed q s)

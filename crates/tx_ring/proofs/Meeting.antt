@@ -8,7 +8,7 @@ use Rattle.buffer_pool.specs.Buffer.{Buffer}
 use Rattle.ring_model.specs.declared.states.Completion.{Completion}
 use Rattle.ring_model.specs.declared.states.ControllerState.{ControllerState}
 use Rattle.ring_model.specs.declared.states.ControllerState.TheVariants.{Ended}
-use Rattle.ring_model.specs.transmit.Ring.{TxLedger, tx_opening}
+use Rattle.ring_model.specs.transmit.Ring.{TxLedger, ends_posting}
 use Rattle.ring_model.specs.transmit.Lawful.{IsLawfulTxLedger}
 use Rattle.ring_model.specs.shared.Frames.{Bytes}
 use Rattle.ring_model.specs.shared.Handshakes.{is_open, is_ended, is_serving, is_between}
@@ -18,35 +18,17 @@ use Rattle.ring_model.proofs.transmit.Reached.{tx_kept, tx_lawful, tx_concluded}
 use Rattle.ring_model.proofs.shared.Places.{ahead}
 use Rattle.shared_ring.proofs.Laying.{none-empty}
 use Rattle.tx_ring.specs.Records.{Posting, TxDriven, TxControlled, controlling}
+use Rattle.shared_ring.proofs.Meeting.{served-is}
+use Rattle.tx_ring.specs.Rule.{says, lies_there}
 use Rattle.tx_ring.specs.Ends.{DriverSide, driver_size, posted, cleaned, driver_state, known_of, ControllerSide, sent, controller_state}
 use Rattle.tx_ring.specs.Meeting.{ledger_of, sent_now, left_by, left_at, told_left, IsTold, Met}
 
-ended_idle : (s : ControllerState) → is_ended s ≡ true → is_serving s ≡ false
-ended_idle Ended e = refl
-ended_idle _ e = absurd (false≢true e)
-
 module _ (d : DriverSide) (c : ControllerSide) (m : Met d c) (same : c.table ≡ d.table) (big : 1 < driver_size d) where
-  state-is : driver_state d ≡ m.queue.handshake.driver
-  state-is = ap (λ (x : TxDriven). x.state) m.driver
-
-  its : {Y : Type 0} (f : TxControlled → Y) → f (controlling c.table.slots c.events) ≡ f (controlling (driver_size d) c.events)
-  its f = ap (λ (z : TableId). f (controlling z.slots c.events)) same
-
-  its-state : controller_state c ≡ m.queue.handshake.controller
-  its-state = let l = m.controller in its (λ x. x.state) ∙ l.state
-
   kept : IsTxKept Bytes (driver_size d) m.queue
   kept = tx_kept (driver_size d) m.queue big m.reachable
 
-  unanswered-is : (is_ended (controller_state c) && is_open (driver_state d)) ≡ is_between m.queue.handshake
-  unanswered-is = ap (λ (x : Bool). x && is_open (driver_state d)) (ap is_ended its-state) ∙ ap (λ (x : Bool). is_ended m.queue.handshake.controller && x) (ap is_open state-is)
-
-  chosen : (b : Bool) → is_between m.queue.handshake ≡ b → (if b then [] else sent c) ≡ m.queue.ledger.served
-  chosen true e = let k = kept in let o = k.queue.order in let t = and_parts (is_ended m.queue.handshake.controller) (is_open m.queue.handshake.driver) e in sym (none-empty m.queue.ledger.served (o.none_served (ended_idle m.queue.handshake.controller t.0) t.1))
-  chosen false e = let l = m.controller in its (λ x. x.served) ∙ l.served e
-
   pub sent-is : sent_now d c ≡ m.queue.ledger.served
-  sent-is = ap (λ (b : Bool). if b then [] else sent c) unanswered-is ∙ chosen (is_between m.queue.handshake) refl
+  sent-is = let k = kept in served-is (says m.queue) lies_there ends_posting (driver_size d) m.queue.queue k.queue m.queue.owed d c same m.driver m.controller
 
   ledger-is : ledger_of d c ≡ m.queue.ledger
   ledger-is = ap (λ (x : TxDriven). let l : TxLedger Bytes = record { posted = x.posted; served = sent_now d c; given = x.given } in l) m.driver

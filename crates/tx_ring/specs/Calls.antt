@@ -27,6 +27,9 @@ use Rattle.tx_ring.specs.declared.events.TxDriverOwn.TheVariants.{Cleaned, Ended
 use Rattle.shared_ring.specs.Records.{undriven}
 use Rattle.tx_ring.specs.Records.{Posting, TxDriven, TxControlled, Knowing, unknown, eop_of, rs_of, posting_of}
 use Rattle.tx_ring.specs.Ends.{DriverSide, driver_size, driver_record, posted, cleaned, reclaimed, returned, seen_reported, outstanding, driver_state, known_of, next_place, appended, ControllerSide, controller_size, controller_record, sent, known_ready, held, held_word, controller_state, seen, is_owed, is_between, serve_place, answered}
+pub use Rattle.shared_ring.specs.Calls.{IsFreshDriver, IsFreshController, NoneOut, MayEnable, AnsweredEnabling, AnsweredDisabling, Answered}
+use Rattle.shared_ring.specs.Calls.{IsServer}
+use Rattle.shared_ring.specs.Slots.{is_there}
 
 -- B3: the tail was loaded, and the result is how far it is ahead
 pub record FoundReady (old : ControllerSide) (ready : ℕ) (new : ControllerSide) : Type 0 where
@@ -54,11 +57,6 @@ abbrev pub report_of : ℕ → Completion → ℕ → TxControllerOwn
 report_of n Status count = Reported ((count - 1) % n) done_word
 report_of n Head count = Reported (n + 4) (count % n)
 
--- an enabling is asked, and may be answered
-pub record MayEnable (c : ControllerSide) : Type 0 where
-  pub asked : seen c ≡ 1
-  pub idle : is_serving (controller_state c) ≡ false
-
 -- the end serves, nothing is held and no report owed, and the last that was sent ends a frame
 pub record IsSettled (c : ControllerSide) : Type 0 where
   pub serving : is_serving (controller_state c) ≡ true
@@ -75,36 +73,10 @@ pub record MayDisable (c : ControllerSide) : Type 0 where
 abbrev pub MayAnswer : ControllerSide → Type 0
 MayAnswer c = MayEnable c ⊎ MayDisable c
 
--- a new epoch begins: nothing is sent in it, and nothing known
-pub record AnsweredEnabling (old new : ControllerSide) : Type 0 where
-  pub was : is_serving (controller_state old) ≡ false
-  pub step : new ≡ answered old controller.Enabled
-  pub same : controller_record new ≡ record (controller_record old) { served = []; known = 0; head = 0; state = state.Serving; seen = 2; barred = false }
-
-pub record AnsweredDisabling (old new : ControllerSide) : Type 0 where
-  pub was : is_serving (controller_state old) ≡ true
-  pub step : new ≡ answered old controller.Disabled
-  pub same : controller_record new ≡ record (controller_record old) { state = state.Ended; seen = 0 }
-
-abbrev pub Answered : ControllerSide → ControllerSide → Type 0
-Answered old new = AnsweredEnabling old new ⊎ AnsweredDisabling old new
-
-abbrev pub IsFreshController : ControllerSide → Type 0
-IsFreshController c = c.events ≡ []
-
-abbrev pub is_there : Option Buffer → Bool
-is_there None = false
-is_there (Some b) = true
-
 -- What the fields of a controller's end keep, over its record and the word that it fetched last
 pub record IsServerOf (n : ℕ) (x : TxControlled) (word : ℕ) (serve ready last : ℕ) (holding between ends asks owing : Bool) (side : ControllerState) (asked : Control) : Type 0 where
-  pub lawful : IsRingLength n
-  pub serve_is : serve ≡ length x.served % n
-  pub ready_is : ready + length x.served ≡ x.known
-  pub ready_below : ready < n
-  pub held_is : holding ≡ is_there x.held
-  pub held_ready : holding ≡ true → 0 < ready
-  pub held_serving : holding ≡ true → is_serving x.state ≡ true
+  pub server : IsServer n x serve ready holding side asked
+  pub open server use *
   pub head_is : is_serving x.state ≡ true → x.head ≡ length x.served % n
   pub between_is : between ≡ are_whole x.served
   pub ends_is : holding ≡ true → ends ≡ eop_of word
@@ -112,8 +84,6 @@ pub record IsServerOf (n : ℕ) (x : TxControlled) (word : ℕ) (serve ready las
   pub owing_is : owing ≡ x.barred
   pub owing_serving : owing ≡ true → is_serving x.state ≡ true
   pub last_is : owing ≡ true → last ≡ (length x.served - 1) % n
-  pub state_is : side ≡ x.state
-  pub seen_is : control_word asked ≡ x.seen
 
 abbrev pub IsControllerEnd : ControllerSide → ℕ → ℕ → ℕ → Bool → Bool → Bool → Bool → Bool → ControllerState → Control → Type 0
 IsControllerEnd c serve ready last holding between ends asks owing side asked = IsServerOf (controller_size c) (controller_record c) (held_word c) serve ready last holding between ends asks owing side asked
@@ -175,10 +145,6 @@ pub record CameHome (old : DriverSide) (buf : Buffer) (new : DriverSide) : Type 
   pub same : driver_record new ≡ record (driver_record old) { reclaimed = reclaimed old + 1 }
   pub known : known_of new ≡ known_of old
 
-pub record NoneOut (old new : DriverSide) : Type 0 where
-  pub none_out : returned old ≡ length (posted old)
-  pub same : new ≡ old
-
 abbrev pub Reclaimed : DriverSide → Option Buffer → DriverSide → Type 0
 Reclaimed old None new = NoneOut old new
 Reclaimed old (Some buf) new = CameHome old buf new
@@ -193,9 +159,6 @@ pub record GoneOver (old new : DriverSide) : Type 0 where
   pub step : new ≡ gone_over old.completion old
   pub fresh : driver_record new ≡ undriven
   pub unlearnt : known_of new ≡ unknown
-
-abbrev pub IsFreshDriver : DriverSide → Type 0
-IsFreshDriver d = d.events ≡ []
 
 -- at the place of each item that is not seen reported stands whether it asked for a report
 abbrev pub AskedAt : ℕ → List Posting → ℕ → List Bool → Type 0

@@ -123,21 +123,11 @@ know_own d k (Cleaned place b) = k
 know_own d k EndedEpoch = unknown
 know_own d k ClearedReport = unknown
 
-abbrev pub know : TxDriven → Knowing → DriverStep → Knowing
-know d k (driver.Posted place word b) = k
-know d k (driver.Published tail) = k
-know d k driver.AskedEnable = k
-know d k (driver.LoadedControl word) = k
-know d k driver.AskedDisable = k
-know d k (driver.LoadedHead word) = record k { head = Some word }
-know d k (driver.Reclaimed place b) = k
-know d k driver.ClearedHead = k
-know d k driver.ClearedTail = k
-know d k (driver.Own o) = know_own d k o
+abbrev pub saw_head : Knowing → ℕ → Knowing
+saw_head k word = record k { head = Some word }
 
-abbrev pub knowing_from : TxDriven → Knowing → List DriverStep → Knowing
-knowing_from d k [] = k
-knowing_from d k (e ∷ es) = knowing_from (drive d e) (know d k e) es
+abbrev pub know : TxDriven → Knowing → DriverStep → Knowing
+know = shared.know posting_of drive_own saw_head know_own
 
 abbrev pub knowing : List DriverStep → Knowing
-knowing es = knowing_from undriven unknown es
+knowing es = shared.knowing_from posting_of drive_own saw_head know_own undriven unknown es

@@ -85,8 +85,7 @@ pub fn meet_tx(ring: &TxRing, driver: &mut TxDriverEnd, controller: &mut TxContr
     ensures all { length (posted driver.old) ≤ length (cleaned driver.old) → sent_now driver.old controller.old ≡ posted driver.old }
 {
     let _size = driver.size();
-    ring.ring
-        .meet(&mut driver.seat, &mut controller.seat);
+    ring.ring.meet(&mut driver.seat, &mut controller.seat);
 }
 
 /// Closes a ring, wherever its two ends stand: one entry a place, with the buffer that lay there where one did, be it
@@ -110,6 +109,5 @@ pub fn close(ring: TxRing, driver: TxDriverEnd, controller: TxControllerEnd) -> 
         held,
         ..
     } = controller;
-    ring.ring
-        .take_apart(seat, served, next, out, serve, held)
+    ring.ring.take_apart(seat, served, next, out, serve, held)
 }

@@ -1,0 +1,146 @@
+-- A ring's end: what its slots have, and which of them lie in the ring.
+use Rattle.std.proofs.Common.{◌≡◌, ◌≢◌, ℕ, ◌+◌, ◌-◌, ◌%◌, ◌<◌, ◌≤◌, ⊎_elim, Bool, true, false, not, ◌&&◌, if◌then◌else◌, List, length, Option, Some, None, sym, refl, ap, ◌∙◌, subst, arith, mod-lt, mod-eq_of_lt}
+use Rattle.std.specs.Prelude.{slice_get, ◌==◌, nat_lt}
+use Rattle.std.proofs.Math.Nat.{mod-add-mod, add-mod-mod, add-mod_right}
+use Rattle.std.proofs.lemmas.Bool.{cases_Bool, and_parts, and_from, ltb-true, lt-ltb, eqb-true, eq-eqb, not-true, not_from_false, both_ways, cases_lt}
+use Rattle.std.proofs.lemmas.Option.{same_Some, slice_get_within}
+use mathlib.Core.Option as maybe
+use mathlib.Core.Option.{some, none}
+use lib.ListN.{get_elem?}
+use Rattle.buffer_pool.specs.Buffer.{Buffer}
+use Rattle.ring_model.specs.declared.states.Owner.{Owner}
+use Rattle.ring_model.specs.declared.states.Owner.TheVariants.{Driver, Ring, Controller}
+use Rattle.ring_model.specs.shared.Handshakes.{is_serving}
+use Rattle.ring_model.specs.shared.Lawful.{IsLawfulMap, window, holder}
+use Rattle.ring_model.specs.shared.Places.{between_places}
+use Rattle.ring_model.specs.shared.Queue.{Queue, posted_count, served_count, returned_count}
+use Rattle.ring_model.proofs.shared.Kept.{IsKept}
+use Rattle.ring_model.proofs.shared.Places.{ahead, same_item}
+use Rattle.ring_model.proofs.shared.Stepping.{returned_served, held_below}
+use Rattle.shared_ring.specs.Lies.{IsControlled}
+use Rattle.shared_ring.specs.Meeting.{slot_of, is_kept, kept_at, kept_upto}
+use Rattle.shared_ring.specs.Records.{Controlled}
+use Rattle.shared_ring.specs.Slots.{is_there}
+use Rattle.shared_ring.proofs.Controlling.{serving_settled}
+use Rattle.shared_ring.proofs.Meeting.{kept-length, kept-get}
+
+-- A place, counted from the oldest that is out
+around : (n r p : ℕ) → 0 < n → p < n → (r + (p + n - r % n) % n) % n ≡ p
+around n r p pos below = let m : r % n < n = mod-lt r pos in
+    add-mod-mod r (p + n - r % n) n ∙ sym (mod-add-mod r n (p + n - r % n)) ∙ ap (λ (j : ℕ). j % n) (let e : r % n + (p + n - r % n) ≡ p + n = omega arith in e) ∙ add-mod_right p n ∙ mod-eq_of_lt below
+
+holder-held : (held : Bool) (k s : ℕ) → held ≡ true → k ≡ s → (if held && (k == s) then Controller else Ring) ≡ Controller
+holder-held held k s h e = rw (h, eq-eqb k s e) refl
+
+ring_not : (o p : Owner) → o ≡ p → p ≢ Ring → ¬ (Some o ≡ Some Ring)
+ring_not o p e ne f = ne (sym e ∙ same_Some o Ring f)
+
+-- What a closed ring gives back, by the places of its two ends
+module _ {Posted Served Given : Type 0} (q : Queue Posted Served Given) (n : ℕ) (ends : Served → Bool) (kept : IsKept n ends q) (owners : List Owner) (map : IsLawfulMap (window q) owners) (size_is : q.size ≡ n)
+    (next out serve : ℕ) (holding : Bool) (big : 1 < n) (next_is : next ≡ returned_count q % n) (out_is : out + returned_count q ≡ posted_count q)
+    (held_is : holding ≡ q.held) (serve_is : holding ≡ true → serve ≡ served_count q % n) where
+  window-is : posted_count q < returned_count q + n
+  window-is = let o = kept.order in let r = o.room in omega arith
+
+  item : ℕ → ℕ
+  item p = returned_count q + between_places n next p
+
+  item-place : (p : ℕ) → p < n → item p % n ≡ p
+  unfolding item
+  item-place p below = ap (λ (j : ℕ). (returned_count q + (p + n - j) % n) % n) next_is ∙ around n (returned_count q) p (omega arith) below
+
+  -- the place of an item that is out is as far on as the item
+  item-back : (k : ℕ) → returned_count q ≤ k → k < posted_count q → between_places n next (k % n) ≡ k - returned_count q
+  item-back k first past = let w = window-is in ap (λ (j : ℕ). (k % n + n - j) % n) next_is
+      ∙ ahead n (returned_count q) k (omega arith) first (omega arith)
+
+  -- the owner of the place of an item that is out
+  owner-out : (k : ℕ) → returned_count q ≤ k → k < posted_count q → slice_get owners (k % n) ≡ Some (holder (window q) k)
+  owner-out k first past = let m = map in ap (λ (j : ℕ). slice_get owners (k % j)) (sym size_is) ∙ m.out k first past
+
+  holder-ring : (k : ℕ) → (q.held ≡ true → ¬ (k ≡ served_count q)) → holder (window q) k ≡ Ring
+  holder-ring k free = held_not (q.held && (k == served_count q)) refl
+    where
+      held_not : (b : Bool) → (q.held && (k == served_count q)) ≡ b → (if b then Controller else Ring) ≡ Ring
+      held_not true e = let t = and_parts q.held (k == served_count q) e in absurd (free t.0 (eqb-true k (served_count q) t.1))
+      held_not false e = refl
+
+  -- an item that is out, by its place
+  nth : (p : ℕ) → nat_lt (between_places n next p) out ≡ true → (returned_count q ≤ item p) × (item p < posted_count q)
+  unfolding item
+  nth p e = let h = ltb-true (between_places n next p) out e in let c = out_is in (omega arith, omega arith)
+
+  -- a place that is kept is with Ring
+  kept-ring : (p : ℕ) → p < n → is_kept n next out serve holding p ≡ true → slice_get owners p ≡ Some Ring
+  kept-ring p below e = let t = and_parts (nat_lt (between_places n next p) out) (not (holding && (p == serve))) e in let w = nth p t.0 in let at = item-place p below in
+      ap (slice_get owners) (sym at) ∙ owner-out (item p) w.0 w.1 ∙ ap Some (holder-ring (item p) (λ h same. both_ways (holding && (p == serve)) (not-true (holding && (p == serve)) t.1)
+      (and_from holding (p == serve) (held_is ∙ h) (eq-eqb p serve (sym at ∙ ap (λ (j : ℕ). j % n) same ∙ sym (serve_is (held_is ∙ h)))))))
+
+  -- and one with Ring is kept
+  ring-kept : (p : ℕ) → p < n → slice_get owners p ≡ Some Ring → is_kept n next out serve holding p ≡ true
+  ring-kept p below e = and_from (nat_lt (between_places n next p) out) (not (holding && (p == serve))) within free
+    where
+      within : nat_lt (between_places n next p) out ≡ true
+      within = ⊎_elim (λ lt. lt-ltb (between_places n next p) out lt)
+          (λ le. let m = map in absurd (ring_not Driver Driver refl (λ x. cc)
+          (sym (m.home p (subst (λ (j : ℕ). p < j) (sym size_is) below) (λ k first past at. let a = subst (λ (j : ℕ). (k % j) ≡ p) size_is at in let b = item-back k first past in
+          let f : between_places n next p ≡ k - returned_count q = ap (between_places n next) (sym a) ∙ b in let z = out_is in omega arith)) ∙ e)))
+          (cases_lt (between_places n next p) out)
+
+      free : not (holding && (p == serve)) ≡ true
+      free = ⊎_elim
+          (λ both. let t = and_parts holding (p == serve) both in let w = nth p within in let at = item-place p below in let hold : q.held ≡ true = sym held_is ∙ t.0 in
+          let o = kept.order in let a = o.held_known hold in let b = o.known_published (o.held_serving hold) in let x = o.published_posted in let rs = returned_served n ends q kept (o.held_serving hold) in
+          let same : served_count q ≡ item p = sole (served_count q) (item p) rs (omega arith) w.0 w.1 (sym (serve_is t.0) ∙ sym (eqb-true p serve t.1) ∙ sym at) in
+          absurd (ring_not (holder (window q) (item p)) Controller (holder-held q.held (item p) (served_count q) hold (sym same)) (λ y. cc) (sym (owner-out (item p) w.0 w.1) ∙ ap (slice_get owners) at ∙ e)))
+          (λ no. not_from_false (holding && (p == serve)) no)
+          (cases_Bool (holding && (p == serve)))
+        where
+          sole : (i k : ℕ) → returned_count q ≤ i → i < posted_count q → returned_count q ≤ k → k < posted_count q → i % n ≡ k % n → i ≡ k
+          sole i k a b x y same = let w = window-is in ⊎_elim (λ lt. same_item i k n (omega arith) (omega arith) same) (λ le. sym (same_item k i n le (omega arith) (sym same))) (cases_lt i k)
+
+  free-item : (p : ℕ) → p < n → is_kept n next out serve holding p ≡ true → q.held ≡ true → ¬ (item p ≡ served_count q)
+  free-item p below e h same = let t = and_parts (nat_lt (between_places n next p) out) (not (holding && (p == serve))) e in let at = item-place p below in
+      both_ways (holding && (p == serve)) (not-true (holding && (p == serve)) t.1) (and_from holding (p == serve) (held_is ∙ h) (eq-eqb p serve (sym at ∙ ap (λ (j : ℕ). j % n) same ∙ sym (serve_is (held_is ∙ h)))))
+
+  -- What a list of the kept buffers has at each place, where what lies at an item is known to be `Is`
+  module _ (slots : List Buffer) (Lies : ℕ → Buffer → Type 0) (Is : ℕ → Buffer → Type 0) (lies : (k : ℕ) → k < posted_count q → (b : Buffer) × (Lies k b × Is k b))
+      (left : (k : ℕ) (b : Buffer) → returned_count q ≤ k → k < posted_count q → (q.held ≡ true → ¬ (k ≡ served_count q)) → Lies k b → get_elem? slots (k % n) ≡ some b) where
+    pub kept-count : length (kept_upto (kept_at n next out serve holding slots) n) ≡ n
+    kept-count = kept-length (kept_at n next out serve holding slots) n
+
+    pub kept-there : (p : ℕ) → slice_get owners p ≡ Some Ring → (k : ℕ) × (b : Buffer) × ((k % n ≡ p) × (slice_get (kept_upto (kept_at n next out serve holding slots) n) p ≡ Some (Some b)) × Is k b)
+    kept-there p e = let m = map in let below : p < n = let b = slice_get_within owners p Ring e in let z = m.places in let s = size_is in omega arith in
+        let k = ring-kept p below e in let t = and_parts (nat_lt (between_places n next p) out) (not (holding && (p == serve))) k in let w = nth p t.0 in let at = item-place p below in let b = lies (item p) w.1 in (
+          item p,
+          b.0,
+          (
+            at,
+            kept-get (kept_at n next out serve holding slots) n p below
+                ∙ ap Some (ap (λ (x : Bool). if x then slot_of (get_elem? slots p) else None) k
+                ∙ ap slot_of (ap (get_elem? slots) (sym at) ∙ left (item p) b.0 w.0 w.1 (free-item p below k) b.1.0)),
+            b.1.1,
+          ),
+        )
+
+    pub kept-else : (p : ℕ) → p < n → ¬ (slice_get owners p ≡ Some Ring) → slice_get (kept_upto (kept_at n next out serve holding slots) n) p ≡ Some None
+    kept-else p below ne = kept-get (kept_at n next out serve holding slots) n p below
+        ∙ ap Some (ap (λ (x : Bool). if x then slot_of (get_elem? slots p) else None) (⊎_elim (λ yes. absurd (ne (kept-ring p below yes))) (λ no. no) (cases_Bool (is_kept n next out serve holding p))))
+
+there-if : (held : Bool) (o : Option Buffer) → (held ≡ true → is_there o ≡ true) → is_there (if held then o else None) ≡ held
+there-if true o h = h refl
+there-if false o h = refl
+
+there-some : (o : Option Buffer) → ¬ (o ≡ None) → is_there o ≡ true
+there-some None h = absurd (h refl)
+there-some (Some b) h = refl
+
+-- what the controller's record tells of the ring
+module _ {Posted Served Given : Type 0} (says : ℕ → Option Posted → Option Served → ℕ) (lies : Option Posted → Option Served → Option Buffer) (ends : Served → Bool) (n : ℕ)
+    (q : Queue Posted Served Given) (kept : IsKept n ends q) (bars : Bool) (c : Controlled Served) (l : IsControlled {Given = Given} says lies q bars c) (holding : Bool) (held_is : holding ≡ is_there c.held)
+    (some_there : served_count q < posted_count q → ¬ (lies (slice_get q.ledger.posted (served_count q)) None ≡ None)) where
+  pub holds-is : holding ≡ q.held
+  holds-is = held_is ∙ ap is_there l.held ∙ there-if q.held (lies (slice_get q.ledger.posted (served_count q)) None) (λ e. there-some (lies (slice_get q.ledger.posted (served_count q)) None) (some_there (held_below n ends q kept e)))
+
+  pub serves-is : holding ≡ true → length c.served ≡ served_count q
+  serves-is e = let o = kept.order in let serving : is_serving q.handshake.controller ≡ true = o.held_serving (sym holds-is ∙ e) in ap length (l.served (serving_settled q.handshake serving))
