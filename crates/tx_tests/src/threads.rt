@@ -80,9 +80,9 @@ fn drive<R: Wait>(
 /// The controller's side of so many epochs: what it sent in all.
 fn control<R: Wait>(
     rt: &R,
+    epochs: usize,
     ring: &TxRing,
     mut controller: TxControllerEnd,
-    epochs: usize,
 ) -> (TxControllerEnd, Passed)
     requires { controller.table ≡ ring.now }
     ensures { result.0.table ≡ ring.now }
@@ -159,7 +159,7 @@ fn run<R: Threads + Wait + Sync>(
     let epochs = waits.len();
     let ((mut controller, sent), (mut driver, told)) = thread::join(
         rt,
-        || control(rt, &ring, controller, epochs),
+        || control(rt, epochs, &ring, controller),
         || drive(rt, &ring, driver, told, waits),
     );
     meet_tx(&ring, &mut driver, &mut controller);
