@@ -42,8 +42,8 @@ pub trait Beside {
     fn close(self) -> Closed;
 }
 
-/// The note with 0 for each place, tail and head, of which the calls of a ring tell nothing.
-pub fn without_place(note: Note) -> Note {
+// The note with 0 for each place, tail and head, of which the calls of a ring tell nothing.
+fn without_place(note: Note) -> Note {
     match note {
         Note::Place(_) => Note::Place(0),
         Note::Tail(_) => Note::Tail(0),
@@ -212,20 +212,20 @@ pub fn random_control(random: &mut Random) -> ControlStep {
     }
 }
 
-/// Which buffer was posted last at each place of a ring of at most 16, as the machine told it.
+// Which buffer was posted last at each place of a ring of at most 16, as the machine told it.
 #[derive(Drop)]
-pub struct Lying {
+struct Lying {
     numbers: [u16; 16],
 }
 
 impl Lying {
-    /// Nothing was posted.
-    pub fn new() -> Lying {
+    // Nothing was posted.
+    fn new() -> Lying {
         Lying { numbers: [0; 16] }
     }
 
-    /// Hears the note of a post of this buffer.
-    pub fn post(&mut self, number: u16, note: &Note) {
+    // Hears the note of a post of this buffer.
+    fn post(&mut self, number: u16, note: &Note) {
         if let Note::Place(place) = note
             && let Some(lies) = self.numbers.get_mut(usize::from(*place))
         {
@@ -233,9 +233,9 @@ impl Lying {
         }
     }
 
-    /// Whether a closed ring gave back at this place what the machine has there: the buffer that was posted there, where
-    /// the place is with the ring, and none elsewhere.
-    pub fn is_at(&self, place: usize, owner: Owner, slots: &[Option<Buf>]) -> bool {
+    // Whether a closed ring gave back at this place what the machine has there: the buffer that was posted there, where
+    // the place is with the ring, and none elsewhere.
+    fn is_at(&self, place: usize, owner: Owner, slots: &[Option<Buf>]) -> bool {
         let Some(slot) = slots.get(place) else {
             return false;
         };

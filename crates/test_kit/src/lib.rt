@@ -1,5 +1,6 @@
 //! What the tests of both running rings share: random numbers, frames that tell themselves apart by their bytes, buffers
-//! that are counted, and a running ring beside its pure machine.
+//! that are counted, and a running ring beside its pure machine. Its contracts have what a test needs to call a ring, and
+//! promise nothing else; of a frame that is begun, `proofs/Begun` has how it grows.
 #![tactic(auto)]
 
 mod beside;
@@ -7,9 +8,7 @@ mod buffers;
 mod frames;
 mod random;
 
-pub use beside::{
-    Beside, Lying, Survey, Walk, disable, enable, makes, random_control, without_place,
-};
+pub use beside::{Beside, Survey, Walk, disable, enable, makes, random_control};
 pub use buffers::{BUFFERS, Closed, filled, full_stash, is_filled, put_back};
 pub use frames::{frame, frame_len, is_frame};
 pub use random::Random;

@@ -20,9 +20,9 @@ const FRAMES: u32 = 300;
 #[derive(Drop)]
 struct Driven {
     spare: Stash,
-    /// The frames whose buffers came back by cleaning, and then by reclaiming.
+    /// The frames whose buffers came back by cleaning, and then by reclaiming, in all epochs.
     back: Passed,
-    /// How many were not sent in the last epoch.
+    /// How many were not sent in all epochs, if each told it.
     left: Option<u32>,
 }
 
@@ -31,7 +31,7 @@ impl Driven {
         Driven {
             spare,
             back: Passed::NONE,
-            left: None,
+            left: Some(0),
         }
     }
 }
@@ -49,49 +49,49 @@ fn epoch<R: Wait>(
 {
     let spare = &mut told.spare;
     ask_for(rt, ring, driver, Control::Enabled);
-    told.back = transmit(rt, ring, driver, spare, FRAMES);
-    drain(rt, ring, driver, spare, &mut told.back, waits_for);
+    let mut back = transmit(rt, ring, driver, spare, FRAMES);
+    drain(rt, ring, driver, spare, &mut back, waits_for);
     ask_for(rt, ring, driver, Control::Disabled);
-    told.left = left(ring, driver);
-    renew(ring, driver, spare, &mut told.back);
+    told.left = match (told.left, left(ring, driver)) {
+        (Some(before), Some(left)) => Some(before.saturating_add(left)),
+        _ => None,
+    };
+    renew(ring, driver, spare, &mut back);
+    told.back = told.back.then(back);
 }
 
-/// The driver's side of so many epochs: how many frames came back as they were posted.
+/// The driver's side of so many epochs.
 fn drive<R: Wait>(
     rt: &R,
     ring: &TxRing,
     mut driver: TxDriverEnd,
     mut told: Driven,
     waits: &[u32],
-) -> (TxDriverEnd, Driven, u32)
+) -> (TxDriverEnd, Driven)
     requires { driver.table ≡ ring.now }
     ensures { result.0.table ≡ ring.now }
 {
-    let mut good = 0u32;
     for waits_for in waits {
         epoch(rt, ring, &mut driver, &mut told, *waits_for);
-        good = good.saturating_add(told.back.good);
     }
-    (driver, told, good)
+    (driver, told)
 }
 
-/// The controller's side of so many epochs: what it sent in the last, and how many frames were as they were posted.
+/// The controller's side of so many epochs: what it sent in all.
 fn control<R: Wait>(
     rt: &R,
+    epochs: usize,
     ring: &TxRing,
     mut controller: TxControllerEnd,
-    epochs: usize,
-) -> (TxControllerEnd, Passed, u32)
+) -> (TxControllerEnd, Passed)
     requires { controller.table ≡ ring.now }
     ensures { result.0.table ≡ ring.now }
 {
-    let mut good = 0u32;
     let mut sent = Passed::NONE;
     for _ in 0..epochs {
-        sent = serve(rt, ring, &mut controller, u32::MAX);
-        good = good.saturating_add(sent.good);
+        sent = sent.then(serve(rt, ring, &mut controller, u32::MAX));
     }
-    (controller, sent, good)
+    (controller, sent)
 }
 
 /// The driver's side of a queue that nobody disables: it posts so many frames, and cleans so many.
@@ -136,20 +136,17 @@ fn control_on<R: Wait>(
     (controller, sent, None)
 }
 
-/// What so many epochs of both threads came to.
+/// What the epochs of both threads came to.
 #[derive(Drop)]
 struct Ran {
-    /// What was sent in the last epoch, and how many were not.
+    /// What was sent, how many were not, and what came back.
     sent: Passed,
     left: Option<u32>,
-    /// How many frames were sent, and how many came back, in all epochs, as they were posted.
-    all_sent: u32,
-    all_back: u32,
-    /// What the closed ring gave back.
+    back: Passed,
     closed: Closed,
 }
 
-/// Runs both ends, joins their threads, lets the ends meet, and closes the ring. The driver waits in each epoch until so
+/// Runs both ends, joins their threads, lets the ends meet, and closes the ring. In each epoch the driver waits until so
 /// many frames are cleaned.
 fn run<R: Threads + Wait + Sync>(
     rt: &R,
@@ -160,28 +157,30 @@ fn run<R: Threads + Wait + Sync>(
     let (ring, driver, controller) = TxRing::new_with(alloc, 8, completion)?;
     let told = Driven::new(full_stash(alloc, 16)?);
     let epochs = waits.len();
-    let ((mut controller, sent, all_sent), (mut driver, told, all_back)) = thread::join(
+    let ((mut controller, sent), (mut driver, told)) = thread::join(
         rt,
-        || control(rt, &ring, controller, epochs),
+        || control(rt, epochs, &ring, controller),
         || drive(rt, &ring, driver, told, waits),
     );
     meet_tx(&ring, &mut driver, &mut controller);
     let slots = close(ring, driver, controller);
+    let Driven { spare, back, left } = told;
+    let closed = Closed::of(slots, spare, None);
     Ok(Ran {
         sent,
-        left: told.left,
-        all_sent,
-        all_back,
-        closed: Closed::of(slots, told.spare, None),
+        left,
+        back,
+        closed,
     })
 }
 
 #[test]
 fn stop_while_running(rt: HostRuntime) -> Result<(), Fail> {
     for completion in [Completion::Status, Completion::Head] {
-        let ran = run(&rt, rt.alloc(), completion, &[0])?;
-        assert!(rt; ran.sent.good == ran.sent.count && ran.sent.count <= FRAMES);
-        assert!(rt; ran.left == Some(FRAMES - ran.sent.count) && ran.all_back == FRAMES);
+        let ran = run(&rt, rt.alloc(), completion, &[0; 10])?;
+        assert!(rt; ran.sent.good == ran.sent.count && ran.sent.count <= 10 * FRAMES);
+        assert!(rt; ran.left == Some(10 * FRAMES - ran.sent.count));
+        assert!(rt; ran.back.good == 10 * FRAMES && ran.closed.lying() == 0);
     }
     Ok(())
 }
@@ -190,8 +189,8 @@ fn stop_while_running(rt: HostRuntime) -> Result<(), Fail> {
 fn three_epochs(rt: HostRuntime) -> Result<(), Fail> {
     for completion in [Completion::Status, Completion::Head] {
         let ran = run(&rt, rt.alloc(), completion, &[FRAMES; 3])?;
-        assert!(rt; ran.all_sent == 3 * FRAMES && ran.all_back == 3 * FRAMES);
-        assert!(rt; ran.closed.lying() == 0 && ran.closed.has_each_once(16));
+        assert!(rt; ran.sent.good == 3 * FRAMES && ran.back.good == 3 * FRAMES);
+        assert!(rt; ran.left == Some(0) && ran.closed.has_each_once(16));
     }
     Ok(())
 }
@@ -208,11 +207,12 @@ fn run_on<R: Threads + Wait + Sync>(
 ) -> Result<(Passed, Passed, Closed), Fail> {
     let (ring, driver, controller) = TxRing::new_with(alloc, 8, completion)?;
     let spare = full_stash(alloc, 16)?;
-    let ((controller, sent, held), (driver, spare, cleaned)) = thread::join(
+    let ((mut controller, sent, held), (mut driver, spare, cleaned)) = thread::join(
         rt,
         || control_on(rt, &ring, controller, sends, sends < posts),
         || drive_on(rt, &ring, driver, spare, posts, cleans),
     );
+    meet_tx(&ring, &mut driver, &mut controller);
     let slots = close(ring, driver, controller);
     Ok((sent, cleaned, Closed::of(slots, spare, held)))
 }

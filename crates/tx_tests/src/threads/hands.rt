@@ -21,6 +21,14 @@ pub(crate) struct Passed {
 impl Passed {
     pub(crate) const NONE: Passed = Passed { count: 0, good: 0 };
 
+    /// These after those.
+    pub(crate) fn then(self, more: Passed) -> Passed {
+        Passed {
+            count: self.count.saturating_add(more.count),
+            good: self.good.saturating_add(more.good),
+        }
+    }
+
     /// One more, with these bytes.
     fn add(&mut self, bytes: &[u8]) {
         if is_frame(self.count, bytes) {
@@ -200,7 +208,7 @@ fn send(ring: &TxRing, controller: &mut TxControllerEnd, sent: &mut Passed) -> b
     true
 }
 
-/// Serves the queue until it is disabled, or so many frames are sent: what was sent.
+/// Serves the queue until it is disabled, whatever is left then, or so many frames are sent: what was sent.
 pub(crate) fn serve<R: Wait>(rt: &R, ring: &TxRing, end: &mut TxControllerEnd, most: u32) -> Passed
     requires { end.old.table ≡ ring.now }
     ensures { end.new.table ≡ ring.now }
@@ -212,11 +220,10 @@ pub(crate) fn serve<R: Wait>(rt: &R, ring: &TxRing, end: &mut TxControllerEnd, m
             break;
         }
         was_on = end.is_serving();
-        if !send(ring, end, &mut sent) {
-            end.asked(ring);
-            if end.can_answer() {
-                end.answer(ring);
-            }
+        end.asked(ring);
+        if end.can_answer() {
+            end.answer(ring);
+        } else if !send(ring, end, &mut sent) {
             thread::yield_now();
         }
     }
