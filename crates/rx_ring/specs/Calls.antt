@@ -23,7 +23,7 @@ use Rattle.rx_ring.specs.Records.{RxDriven, RxControlled, Knowing, unknown, segm
 use Rattle.rx_ring.specs.Ends.{DriverSide, driver_size, driver_record, posted, taken, reclaimed, returned, driver_state, known_of, saw_quiet, is_drained, next_place, appended, ControllerSide, controller_size, controller_record, stored, held_number, serve_place, answered, seen, head_stored, controller_state, is_between, known_free}
 pub use Rattle.shared_ring.specs.Meeting.{IsTold}
 use Rattle.rx_ring.specs.Meeting.{left_by}
-pub use Rattle.shared_ring.specs.Calls.{IsFreshDriver, IsFreshController, NoneOut, MayEnable, AnsweredEnabling, AnsweredDisabling, Answered}
+pub use Rattle.shared_ring.specs.Calls.{IsFreshDriver, IsFreshController, NoneOut, FoundAhead as FoundFree, MayEnable, AnsweredEnabling, AnsweredDisabling, Answered}
 use Rattle.shared_ring.specs.Calls.{IsServer}
 use Rattle.shared_ring.specs.Slots.{is_there}
 
@@ -113,14 +113,6 @@ pub record IsEndOf (n : ℕ) (x : RxDriven) (k : Knowing) (fill next out : ℕ) 
 
 abbrev pub IsDriverEnd : DriverSide → ℕ → ℕ → ℕ → DriverState → Type 0
 IsDriverEnd d fill next out state = IsEndOf (driver_size d) (driver_record d) (known_of d) fill next out state
-
--- A3: the tail was loaded, and the result is how far it is ahead
-pub record FoundFree (old : ControllerSide) (free : ℕ) (new : ControllerSide) : Type 0 where
-  pub tail : ℕ
-  pub step : new ≡ answered old (controller.Looked tail)
-  pub ahead : free ≡ (tail + controller_size old - serve_place old) % controller_size old
-  pub same : controller_record new ≡ record (controller_record old) { known = length (stored old) + free }
-  pub grows : known_free old ≤ free
 
 -- A4: the next descriptor was loaded, and this empty buffer came out of its slot
 pub record Fetched (old : ControllerSide) (buf : Buffer) (new : ControllerSide) : Type 0 where

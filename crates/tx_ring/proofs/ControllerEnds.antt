@@ -20,7 +20,7 @@ use Rattle.shared_ring.specs.Words.{control_word}
 use Rattle.shared_ring.specs.Records.{uncontrolled, count_at}
 use Rattle.shared_ring.proofs.Folds.{controlling-snoc}
 use Rattle.shared_ring.proofs.Serving as shared
-use Rattle.shared_ring.proofs.Serving.{server-look, server-fetch, server-served, server-same, server-request, server-enable, server-disable}
+use Rattle.shared_ring.proofs.Serving.{server-fetch, server-served, server-same, server-request, server-enable, server-disable}
 use Rattle.tx_ring.specs.declared.events.TxControllerOwn.TheVariants.{Sent, Reported}
 use Rattle.tx_ring.specs.Records.{Posting, TxControlled, ControllerStep, control, control_own, fetch_word, eop_of, rs_of, paylen_of, posting_of}
 use Rattle.tx_ring.specs.Ends.{ControllerSide, controller_size, controller_record, sent, known_ready, held, held_word, controller_state, is_owed, serve_place, answered}
@@ -63,18 +63,9 @@ module _ (c : ControllerSide) (serve ready last : ℕ) (holding between ends ask
 
   -- B3
   module _ (new : ControllerSide) (tail size ready' : ℕ) (f : FoundTail c tail new) (sizes : size ≡ controller_size new) (is : ready' ≡ between_places size serve tail) where
-    counted : ready' ≡ (tail + n - length x.served % n) % n
-    counted = shared.counted (controller_size c) (controller_record c) serve ready holding side asked h.server tail size ready' (sizes ∙ ap controller_size f.step) is f.grows
-
-    known-is : count_at n (length x.served) tail ≡ length x.served + ready'
-    known-is = shared.known-is (controller_size c) (controller_record c) serve ready holding side asked h.server tail size ready' (sizes ∙ ap controller_size f.step) is f.grows
-
-    grew : known_ready c ≤ ready'
-    grew = shared.grew (controller_size c) (controller_record c) serve ready holding side asked h.server tail size ready' (sizes ∙ ap controller_size f.step) is f.grows
-
     pub look-keeps : IsControllerEnd new serve ready' last holding between ends asks owing side asked
     look-keeps = end-after c new (controller.Looked tail) serve ready' last holding between ends asks owing side asked f.step (record {
-          server = server-look (controller_size c) (controller_record c) serve ready holding side asked h.server tail size ready' (sizes ∙ ap controller_size f.step) is f.grows;
+          server = shared.look-server c serve ready holding side asked h.server now was new tail size ready' f sizes is;
           head_is = h.head_is;
           between_is = h.between_is;
           ends_is = h.ends_is;
@@ -85,16 +76,10 @@ module _ (c : ControllerSide) (serve ready last : ℕ) (holding between ends ask
         })
 
     pub look-found : FoundReady now ready' new
-    look-found = subst (λ (s : ControllerSide). FoundReady s ready' new) was (record {
-      tail = tail;
-      step = f.step;
-      ahead = counted;
-      same = record-after c new (controller.Looked tail) f.step ∙ ap (λ (j : ℕ). let y : TxControlled = record x { known = j } in y) known-is;
-      grows = grew;
-    })
+    look-found = shared.look-found c serve ready holding side asked h.server now was new tail size ready' f sizes is
 
     pub look-ready : known_ready new ≡ ready'
-    look-ready = let k = known-is in ap (λ (y : TxControlled). y.known - length y.served) (record-after c new (controller.Looked tail) f.step) ∙ (let e : count_at n (length x.served) tail - length x.served ≡ ready' = omega arith in e)
+    look-ready = shared.look-ahead c serve ready holding side asked h.server now was new tail size ready' f sizes is
 
   -- B4
   module _ (new : ControllerSide) (buf : Buffer) (word : ℕ) (f : CameOut c serve buf word new) where

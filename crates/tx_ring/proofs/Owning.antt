@@ -25,7 +25,7 @@ use Rattle.shared_ring.specs.Lies.{driven}
 use Rattle.shared_ring.specs.Own.{MayLoad, MayClear, MayEnd, MayStore, MayGive, SameOut}
 use Rattle.shared_ring.specs.Forms.{drive}
 use Rattle.shared_ring.specs.Tables.{words_of}
-use Rattle.shared_ring.proofs.DriverSeats.{words-big}
+use Rattle.shared_ring.proofs.Standing.{low}
 use Rattle.tx_ring.specs.declared.events.TxDriverOwn.TheVariants.{NoReport, SawReport}
 use Rattle.tx_ring.specs.Form.{tx}
 use Rattle.tx_ring.specs.Plays.{report_word, reports_item, shows_report, reports_seen, IsPlace, cleans, IsCleaned, ends_epoch, clears_report, sends, reports}
@@ -37,9 +37,6 @@ use Rattle.tx_ring.proofs.Moving.{no_report-lies, saw_report-lies, clean-lies, e
 use Rattle.tx_ring.proofs.Reported.{reports-shown, head-place}
 use Rattle.tx_ring.proofs.Reporting.{report_status-lies, report_head-lies}
 use Rattle.tx_ring.proofs.Sending.{send-lies}
-
-low : (n : ℕ) (mode : Completion) (i : ℕ) → i < n + 4 → i < words_of n mode
-low n mode i h = let w = words-big n mode in omega arith
 
 head-there : (n : ℕ) (mode : Completion) → by_head mode ≡ true → n + 4 < words_of n mode
 head-there n Status e = absurd (false≢true e)
@@ -96,14 +93,14 @@ module _ (n : ℕ) (mode : Completion) (es : List DriverStep) where
     back = λ b. record { posted = refl; back = let e = length-append d.given (b.number ∷ []) in omega arith };
   }
 
-  pub may-end_epoch : by_head mode ≡ false → is_cleared d.state ≡ true → MayEnd tx ends_epoch (λ n es place r b. Unit {0}) n mode es (n + 1)
+  pub may-end_epoch : by_head mode ≡ false → is_cleared d.state ≡ true → MayEnd tx ends_epoch n mode es (n + 1)
   may-end_epoch alone cleared = record {
     word_is = low n mode (n + 1) (omega arith);
     goes = λ q cs words homes pos l. (tx_cleared q false, end_epoch-lies n mode q es cs words homes pos l alone (state-is n mode q es cs words homes pos l is_cleared true cleared));
     gone = record { posted = refl; given = refl; reclaimed = refl };
   }
 
-  pub may-clear_report : by_head mode ≡ true → is_tailed d.state ≡ true → MayEnd tx clears_report (λ n es place r b. Unit {0}) n mode es (n + 4)
+  pub may-clear_report : by_head mode ≡ true → is_tailed d.state ≡ true → MayEnd tx clears_report n mode es (n + 4)
   may-clear_report more tailed = record {
     word_is = head-there n mode more;
     goes = λ q cs words homes pos l. (tx_renewed q, clear_report-lies n mode q es cs words homes pos l more (state-is n mode q es cs words homes pos l is_tailed true tailed));
