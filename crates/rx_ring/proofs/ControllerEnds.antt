@@ -1,8 +1,7 @@
 -- What the fields of a controller's end keep as its record grows.
-use Rattle.std.proofs.Common.{◌≡◌, ℕ, ◌+◌, ◌-◌, ◌%◌, ◌<◌, ◌≤◌, ◌⊎◌, inl, inr, ⊎_elim, Bool, true, false, if◌then◌else◌, List, [], ◌∷◌, ◌++◌, length, Option, Some, None, sym, refl, ap, ◌∙◌, subst, arith, length-append, mod-lt}
+use Rattle.std.proofs.Common.{◌≡◌, ℕ, ◌+◌, ◌-◌, ◌<◌, ◌≤◌, inl, inr, ⊎_elim, Bool, true, false, if◌then◌else◌, List, [], ◌∷◌, ◌++◌, length, Option, Some, None, sym, refl, ap, ◌∙◌, subst, length-append}
 use Rattle.std.specs.Prelude.{◌==◌}
-use Rattle.std.proofs.Math.Nat.{zero-mod}
-use Rattle.std.proofs.lemmas.Bool.{cases_Bool, both_ways, false≢true, true≢false}
+use Rattle.std.proofs.lemmas.Bool.{cases_Bool, both_ways, true≢false}
 use Rattle.std.proofs.lemmas.Option.{none-some}
 use Rattle.buffer_pool.specs.Buffer.{Buffer}
 use Rattle.limits.specs.RingLength.{IsRingLength}
@@ -13,18 +12,17 @@ use Rattle.ring_model.specs.receive.Ring.{Segment, ends_segment, piece_of}
 use Rattle.ring_model.specs.shared.Frames.{Bytes, ends_frame, unfinished, unfinished_from}
 use Rattle.ring_model.specs.shared.Handshakes.{is_serving}
 use Rattle.ring_model.specs.shared.Places.{between_places}
-use Rattle.ring_model.proofs.shared.Places.{next_place}
 use Rattle.shared_ring.specs.declared.control.Control.{Control}
 use Rattle.shared_ring.specs.declared.control.Control.TheVariants as control_is
 use Rattle.shared_ring.specs.declared.events.ControllerEvent.TheVariants as controller
 use Rattle.shared_ring.specs.Words.{control_word}
-use Rattle.shared_ring.specs.Records.{uncontrolled, count_at}
+use Rattle.shared_ring.specs.Records.{uncontrolled}
 use Rattle.shared_ring.proofs.Folds.{controlling-snoc}
 use Rattle.shared_ring.proofs.Serving as shared
 use Rattle.shared_ring.proofs.Serving.{server-fetch, server-served, server-same, server-request, server-enable, server-disable}
 use Rattle.rx_ring.specs.declared.events.RxControllerOwn.TheVariants.{WroteBack, SaidQuiet}
 use Rattle.rx_ring.specs.Records.{RxControlled, ControllerStep, control, control_own, segment_of}
-use Rattle.rx_ring.specs.Ends.{ControllerSide, controller_size, controller_record, stored, known_free, number_in, held_number, controller_state, seen, head_stored, is_quiet, is_between, serve_place, answered}
+use Rattle.rx_ring.specs.Ends.{ControllerSide, controller_size, controller_record, stored, known_free, number_in, held_number, controller_state, serve_place, answered}
 use Rattle.shared_ring.specs.Steps.{FoundTail, CameOut}
 use Rattle.shared_ring.specs.Slots.{is_there}
 use Rattle.rx_ring.specs.Calls.{IsServerOf, IsControllerEnd, FoundFree, Fetched, MayEnable, MayDisable, MayAnswer, AnsweredEnabling, AnsweredDisabling, Answered, segment}
@@ -97,11 +95,11 @@ module _ (c : ControllerSide) (serve free place : ℕ) (holding between : Bool) 
   module _ (new : ControllerSide) (tail size free' : ℕ) (f : FoundTail c tail new) (sizes : size ≡ controller_size new) (is : free' ≡ between_places size serve tail) where
     pub look-keeps : IsControllerEnd new serve free' place holding between side asked finished
     look-keeps = end-after c new (controller.Looked tail) serve free' place holding between side asked finished f.step (record {
-          server = shared.look-server c serve free holding side asked h.server now was new tail size free' f sizes is;
-          head_is = h.head_is;
-          between_is = h.between_is;
-          quiet_is = h.quiet_is;
-        })
+      server = shared.look-server c serve free holding side asked h.server now was new tail size free' f sizes is;
+      head_is = h.head_is;
+      between_is = h.between_is;
+      quiet_is = h.quiet_is;
+    })
 
     pub look-found : FoundFree now free' new
     look-found = shared.look-found c serve free holding side asked h.server now was new tail size free' f sizes is

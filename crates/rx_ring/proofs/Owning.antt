@@ -1,25 +1,21 @@
 -- What the agreement of a receive ring allows of its own steps.
-use Rattle.std.proofs.Common.{◌≡◌, ℕ, ◌+◌, ◌%◌, ◌<◌, ◌≤◌, Bool, true, false, List, [], ◌∷◌, ◌++◌, length, length-append, Option, Some, None, sym, refl, ap, ◌∙◌, subst, arith, mod-lt}
-use Rattle.std.specs.Prelude.{slice_get, slice_index, slice_set}
-use Rattle.std.proofs.lemmas.Bool.{both_ways}
+use Rattle.std.proofs.Common.{◌≡◌, ℕ, ◌+◌, ◌%◌, ◌<◌, ◌≤◌, Bool, true, List, [], ◌∷◌, ◌++◌, length, length-append, Some, None, sym, refl, ap, ◌∙◌, subst, arith, mod-lt}
+use Rattle.std.specs.Prelude.{slice_index, slice_set}
 use mathlib.Core.Option as maybe
 use Rattle.buffer_pool.specs.Buffer.{Buffer, buffer, blank}
 use Rattle.ring_model.specs.declared.states.Completion.{Completion}
-use Rattle.ring_model.specs.declared.states.Completion.TheVariants.{Status, Head}
 use Rattle.ring_model.specs.declared.steps.RxStep.TheVariants as step
-use Rattle.ring_model.specs.receive.Ring.{RxRing, Segment, due, ends_segment, piece_of}
+use Rattle.ring_model.specs.receive.Ring.{Segment, due, ends_segment, piece_of}
 use Rattle.ring_model.specs.receive.Agreement.{rx_word}
 use Rattle.ring_model.specs.receive.Steps.{rx_changed}
 use Rattle.ring_model.specs.shared.Frames.{Bytes, Follows, unfinished, ends_frame}
 use Rattle.ring_model.specs.shared.Handshakes.{is_live, is_tailed, is_serving}
 use Rattle.ring_model.proofs.shared.Stepping.{held_below}
 use Rattle.shared_ring.specs.Own.{MayLoad, MayTake, MayEnd, MayStore, MayGive}
-use Rattle.shared_ring.specs.Tables.{words_of}
 use Rattle.shared_ring.proofs.Standing.{low}
-use Rattle.rx_ring.specs.Form.{rx, RxLies}
+use Rattle.rx_ring.specs.Form.{rx}
 use Rattle.rx_ring.specs.Plays.{takes, TakesOut, finds_none, is_done, loads_quiet, IsBit, clears_quiet, writes_back, stores_head, says_quiet}
 use Rattle.rx_ring.specs.Records.{RxDriven, RxControlled, DriverStep, ControllerStep, driving, controlling, segment_of}
-use Rattle.rx_ring.specs.Rule.{LiesAs}
 use Rattle.rx_ring.proofs.Lawful.{lie, state-is, undone, found, serving-there, served-there, serve-there, unheld-there, held-there, posted-there}
 use Rattle.rx_ring.proofs.Moving.{keeps_it, quiet-lies, clear_quiet-lies, store-lies, head-lies, say_quiet-lies}
 

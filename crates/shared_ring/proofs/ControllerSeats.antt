@@ -1,10 +1,9 @@
 -- The controller's seat: what each of its steps asks of the table, and what the seat keeps.
-use Rattle.std.proofs.Common.{◌≡◌, ℕ, ◌+◌, ◌-◌, ◌%◌, ◌<◌, ◌≤◌, Bool, true, false, List, [], ◌∷◌, ◌++◌, length, Option, Some, None, sym, refl, ap, ◌∙◌, subst, arith, mod-lt}
+use Rattle.std.proofs.Common.{◌≡◌, ℕ, ◌+◌, ◌-◌, ◌%◌, ◌<◌, ◌≤◌, true, false, List, [], ◌∷◌, ◌++◌, length, Some, None, sym, refl, ap, ◌∙◌, subst, arith, mod-lt}
 use mathlib.Core.Option.{none}
 use Rattle.atomic_table.specs.Table.{Allows, Step, step, rest}
 use Rattle.atomic_table.specs.Seated.{TableId}
 use Rattle.buffer_pool.specs.Buffer.{Buffer, blank}
-use Rattle.limits.specs.RingLength.{IsRingLength}
 use Rattle.ring_model.specs.declared.states.Completion.{Completion}
 use Rattle.ring_model.specs.shared.Handshakes.{is_serving}
 use Rattle.shared_ring.specs.declared.events.DriverEvent.{DriverEvent}

@@ -1,5 +1,5 @@
 -- Steps of one direction's own: what each asks of the agreement, and what it makes of its end's record. `event` is the event by which the record grows, of the ring's length, the record so far, the place of the word, the number found or stored there, and the buffer of the slot that it takes or gives; `tells` is what it tells beside that.
-use Rattle.std.specs.Prelude.{◌≡◌, ℕ, ◌+◌, ◌%◌, ◌<◌, Bool, true, false, List, [], ◌∷◌, ◌++◌, length, slice_index, slice_set, Some, None}
+use Rattle.std.specs.Prelude.{◌≡◌, ℕ, ◌+◌, ◌<◌, Bool, true, false, List, [], ◌∷◌, ◌++◌, length, slice_index, slice_set, None}
 use mathlib.Core.Option as maybe
 use mathlib.Core.Option.{some, none}
 use lib.ListN.{get_elem?}

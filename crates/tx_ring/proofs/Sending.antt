@@ -7,24 +7,19 @@ use mathlib.Core.Option as maybe
 use mathlib.Core.Option.{some, none}
 use Rattle.buffer_pool.specs.Buffer.{Buffer}
 use Rattle.ring_model.specs.declared.states.Completion.{Completion}
-use Rattle.ring_model.specs.declared.states.DriverState.{DriverState}
-use Rattle.ring_model.specs.declared.states.DriverState.TheVariants.{New, Asked, On}
-use Rattle.ring_model.specs.declared.states.ControllerState.{ControllerState}
-use Rattle.ring_model.specs.declared.states.ControllerState.TheVariants as at
 use Rattle.ring_model.specs.declared.steps.ControlStep.TheVariants.{LookAsked, Answer}
 use Rattle.ring_model.specs.declared.steps.TxStep.TheVariants as tx
-use Rattle.ring_model.specs.shared.Handshakes.{is_open, is_on, is_serving, can_enable, can_disable, enable, disable}
+use Rattle.ring_model.specs.shared.Handshakes.{is_serving, can_enable, can_disable, enable, disable}
 use Rattle.ring_model.specs.shared.Frames.{Bytes}
 use Rattle.ring_model.specs.shared.Queue.{served_count, by}
 use Rattle.ring_model.specs.shared.QueueSteps as queue
 use Rattle.ring_model.specs.transmit.Ring.{TxRing, ends_posting, next_posting}
 use Rattle.ring_model.specs.transmit.Steps.{IsTxReachable, sent_one, tx_can, tx_changed, tx_settled}
 use Rattle.ring_model.proofs.transmit.Kept.{IsTxKept}
-use Rattle.ring_model.proofs.shared.Kept.{ShakesAs}
 use Rattle.ring_model.proofs.shared.Shakes.{shakes-enable}
 use Rattle.ring_model.proofs.shared.Stepping.{shook, kept-by, held_below, returned_served}
 use Rattle.shared_ring.specs.declared.events.ControllerEvent.TheVariants as controller
-use Rattle.shared_ring.specs.Lies.{is_early, IsControlled, LiesIn}
+use Rattle.shared_ring.specs.Lies.{IsControlled, LiesIn}
 use Rattle.shared_ring.proofs.Laying.{set-same}
 use Rattle.shared_ring.proofs.Lying.{lies-look, lies-fetch, lies-serve, lies-head, lies-look_asked, lies-enable, lies-disable}
 use Rattle.shared_ring.proofs.Shaking.{early_enabling}
