@@ -1,7 +1,6 @@
 -- A ring's end: what its slots have, and which of them lie in the ring.
-use Rattle.std.proofs.Common.{◌≡◌, ℕ, ◌+◌, ◌%◌, ◌<◌, ◌≤◌, Bool, true, List, [], ◌∷◌, length, Option, Some, None, sym, refl, ap, ◌∙◌, subst, arith}
+use Rattle.std.proofs.Common.{◌≡◌, ℕ, ◌+◌, ◌%◌, ◌<◌, ◌≤◌, Bool, true, List, [], length, Option, Some, None, sym, refl, ap, ◌∙◌, subst, arith}
 use Rattle.std.specs.Prelude.{slice_get, slice_index}
-use Rattle.std.proofs.lemmas.Option.{none-some}
 use Rattle.atomic_table.specs.Seated.{TableId}
 use Rattle.buffer_pool.specs.Buffer.{Buffer, buffer}
 use Rattle.ring_model.specs.declared.states.DriverState.{DriverState}
@@ -15,7 +14,7 @@ use Rattle.ring_model.proofs.receive.Reached.{rx_kept}
 use Rattle.ring_model.proofs.shared.Beginnings.{number_at, next_number}
 use Rattle.shared_ring.specs.declared.control.Control.{Control}
 use Rattle.shared_ring.specs.Lies.{driven}
-use Rattle.shared_ring.specs.Meeting.{TakenApart, kept_at, kept_upto}
+use Rattle.shared_ring.specs.Meeting.{TakenApart}
 use Rattle.shared_ring.specs.Slots.{is_there}
 use Rattle.shared_ring.proofs.Closing.{kept-count, kept-there, kept-else, holds-is, serves-is}
 use Rattle.shared_ring.proofs.Laying.{index_there}

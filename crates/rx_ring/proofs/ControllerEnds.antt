@@ -1,8 +1,7 @@
 -- What the fields of a controller's end keep as its record grows.
-use Rattle.std.proofs.Common.{◌≡◌, ℕ, ◌+◌, ◌-◌, ◌%◌, ◌<◌, ◌≤◌, ◌⊎◌, inl, inr, ⊎_elim, Bool, true, false, if◌then◌else◌, List, [], ◌∷◌, ◌++◌, length, Option, Some, None, sym, refl, ap, ◌∙◌, subst, arith, length-append, mod-lt}
+use Rattle.std.proofs.Common.{◌≡◌, ℕ, ◌+◌, ◌-◌, ◌<◌, ◌≤◌, inl, inr, ⊎_elim, Bool, true, false, if◌then◌else◌, List, [], ◌∷◌, ◌++◌, length, Option, Some, None, sym, refl, ap, ◌∙◌, subst, length-append}
 use Rattle.std.specs.Prelude.{◌==◌}
-use Rattle.std.proofs.Math.Nat.{zero-mod}
-use Rattle.std.proofs.lemmas.Bool.{cases_Bool, both_ways, false≢true, true≢false}
+use Rattle.std.proofs.lemmas.Bool.{cases_Bool, both_ways, true≢false}
 use Rattle.std.proofs.lemmas.Option.{none-some}
 use Rattle.buffer_pool.specs.Buffer.{Buffer}
 use Rattle.limits.specs.RingLength.{IsRingLength}
@@ -13,18 +12,17 @@ use Rattle.ring_model.specs.shared.Segments.{Segment, ends_segment, piece_of}
 use Rattle.ring_model.specs.shared.Frames.{Bytes, ends_frame, unfinished, unfinished_from}
 use Rattle.ring_model.specs.shared.Handshakes.{is_serving}
 use Rattle.ring_model.specs.shared.Places.{between_places}
-use Rattle.ring_model.proofs.shared.Places.{next_place}
 use Rattle.shared_ring.specs.declared.control.Control.{Control}
 use Rattle.shared_ring.specs.declared.control.Control.TheVariants as control_is
 use Rattle.shared_ring.specs.declared.events.ControllerEvent.TheVariants as controller
 use Rattle.shared_ring.specs.Words.{control_word}
-use Rattle.shared_ring.specs.Records.{uncontrolled, count_at}
+use Rattle.shared_ring.specs.Records.{uncontrolled}
 use Rattle.shared_ring.proofs.Folds.{controlling-snoc}
 use Rattle.shared_ring.proofs.Serving as shared
-use Rattle.shared_ring.proofs.Serving.{server-look, server-fetch, server-served, server-same, server-request, server-enable, server-disable}
+use Rattle.shared_ring.proofs.Serving.{server-fetch, server-served, server-same, server-request, server-enable, server-disable}
 use Rattle.rx_ring.specs.declared.events.RxControllerOwn.TheVariants.{WroteBack, SaidQuiet}
 use Rattle.rx_ring.specs.Records.{RxControlled, ControllerStep, control, control_own, segment_of}
-use Rattle.rx_ring.specs.Ends.{ControllerSide, controller_size, controller_record, stored, known_free, number_in, held_number, controller_state, seen, head_stored, is_quiet, is_between, serve_place, answered}
+use Rattle.rx_ring.specs.Ends.{ControllerSide, controller_size, controller_record, stored, known_free, number_in, held_number, controller_state, serve_place, answered}
 use Rattle.shared_ring.specs.Steps.{FoundTail, CameOut}
 use Rattle.shared_ring.specs.Slots.{is_there}
 use Rattle.rx_ring.specs.Calls.{IsServerOf, IsControllerEnd, FoundFree, Fetched, MayEnable, MayDisable, MayAnswer, AnsweredEnabling, AnsweredDisabling, Answered, segment}
@@ -95,34 +93,19 @@ module _ (c : ControllerSide) (serve free place : ℕ) (holding between : Bool) 
 
   -- A3
   module _ (new : ControllerSide) (tail size free' : ℕ) (f : FoundTail c tail new) (sizes : size ≡ controller_size new) (is : free' ≡ between_places size serve tail) where
-    counted : free' ≡ (tail + n - length x.served % n) % n
-    counted = shared.counted (controller_size c) (controller_record c) serve free holding side asked h.server tail size free' (sizes ∙ ap controller_size f.step) is f.grows
-
-    known-is : count_at n (length x.served) tail ≡ length x.served + free'
-    known-is = shared.known-is (controller_size c) (controller_record c) serve free holding side asked h.server tail size free' (sizes ∙ ap controller_size f.step) is f.grows
-
-    grew : known_free c ≤ free'
-    grew = shared.grew (controller_size c) (controller_record c) serve free holding side asked h.server tail size free' (sizes ∙ ap controller_size f.step) is f.grows
-
     pub look-keeps : IsControllerEnd new serve free' place holding between side asked finished
     look-keeps = end-after c new (controller.Looked tail) serve free' place holding between side asked finished f.step (record {
-          server = server-look (controller_size c) (controller_record c) serve free holding side asked h.server tail size free' (sizes ∙ ap controller_size f.step) is f.grows;
-          head_is = h.head_is;
-          between_is = h.between_is;
-          quiet_is = h.quiet_is;
-        })
-
-    pub look-found : FoundFree now free' new
-    look-found = subst (λ (s : ControllerSide). FoundFree s free' new) was (record {
-      tail = tail;
-      step = f.step;
-      ahead = counted;
-      same = record-after c new (controller.Looked tail) f.step ∙ ap (λ (j : ℕ). let y : RxControlled = record x { known = j } in y) known-is;
-      grows = grew;
+      server = shared.look-server c serve free holding side asked h.server now was new tail size free' f sizes is;
+      head_is = h.head_is;
+      between_is = h.between_is;
+      quiet_is = h.quiet_is;
     })
 
+    pub look-found : FoundFree now free' new
+    look-found = shared.look-found c serve free holding side asked h.server now was new tail size free' f sizes is
+
     pub look-free : known_free new ≡ free'
-    look-free = let k = known-is in ap (λ (y : RxControlled). y.known - length y.served) (record-after c new (controller.Looked tail) f.step) ∙ (let e : count_at n (length x.served) tail - length x.served ≡ free' = omega arith in e)
+    look-free = shared.look-ahead c serve free holding side asked h.server now was new tail size free' f sizes is
 
   -- A4
   pub fetch-keeps : (new : ControllerSide) (buf : Buffer) (word : ℕ) → CameOut c serve buf word new → is_serving (controller_state now) ≡ true → 0 < known_free now → IsControllerEnd new serve free place true between side asked finished

@@ -1,5 +1,5 @@
 -- What the driver's calls answer whose answer depends on what was loaded.
-use Rattle.std.proofs.Common.{◌≡◌, ℕ, ◌+◌, ◌-◌, ◌%◌, ◌<◌, ◌≤◌, Bool, true, false, if◌then◌else◌, List, [], ◌∷◌, ◌++◌, length, Option, Some, None, sym, refl, ap, ◌∙◌, subst, arith, length-append}
+use Rattle.std.proofs.Common.{◌≡◌, ℕ, ◌+◌, ◌-◌, ◌%◌, ◌<◌, ◌≤◌, Bool, true, if◌then◌else◌, List, [], ◌∷◌, ◌++◌, length, Some, sym, ap, ◌∙◌, subst, arith, length-append}
 use Rattle.std.specs.Prelude.{◌==◌}
 use Rattle.std.proofs.lemmas.Bool.{or_right}
 use Rattle.buffer_pool.specs.Buffer.{Buffer}
@@ -10,16 +10,14 @@ use Rattle.ring_model.specs.shared.Segments.{Segment}
 use Rattle.ring_model.specs.shared.Frames.{Bytes}
 use Rattle.ring_model.specs.shared.Handshakes.{is_live, is_stopped, is_cleared, is_tailed}
 use Rattle.ring_model.specs.shared.Places.{between_places}
-use Rattle.ring_model.proofs.shared.Shakes.{live_unanswered}
 use Rattle.shared_ring.specs.declared.events.DriverEvent.TheVariants as driver
-use Rattle.shared_ring.specs.Records.{undriven}
 use Rattle.rx_ring.specs.declared.events.RxDriverOwn.TheVariants.{NotDone, Taken, ClearedQuiet}
-use Rattle.rx_ring.specs.Records.{RxDriven, DriverStep, drive, segment_of, Knowing, know, unknown}
-use Rattle.rx_ring.specs.Ends.{DriverSide, driver_size, driver_record, posted, taken, reclaimed, returned, driver_state, known_of, fill_place, next_place, appended}
+use Rattle.rx_ring.specs.Records.{RxDriven, drive, segment_of, Knowing, unknown}
+use Rattle.rx_ring.specs.Ends.{DriverSide, driver_size, driver_record, posted, taken, returned, driver_state, known_of, fill_place, appended}
 use Rattle.rx_ring.specs.Meeting.{left_by}
 use Rattle.shared_ring.specs.Steps.{CameBack}
 use Rattle.rx_ring.specs.Steps.{FoundNothing, FoundSegment}
-use Rattle.rx_ring.specs.Calls.{IsEndOf, IsDriverEnd, SawNotDone, TookSegment, CameHome, FoundLeft, left_at, told_left, GoneOver, segment}
+use Rattle.rx_ring.specs.Calls.{IsEndOf, IsDriverEnd, SawNotDone, TookSegment, CameHome, FoundLeft, left_at, GoneOver, segment}
 use Rattle.rx_ring.proofs.Words.{eop_of-rx_word}
 use Rattle.rx_ring.proofs.DriverEnds.{record-after, known-after, end-after, end-not_done, end-taken, end-reclaimed, end-renewed, end-known}
 

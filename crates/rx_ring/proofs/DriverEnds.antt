@@ -1,21 +1,21 @@
 -- What the fields of a driver's end keep as its record grows.
-use Rattle.std.proofs.Common.{◌≡◌, ℕ, ◌+◌, ◌-◌, ◌%◌, ◌<◌, ◌≤◌, Bool, true, false, ◌||◌, ◌&&◌, if◌then◌else◌, List, [], ◌∷◌, ◌++◌, length, Option, Some, sym, refl, ap, ◌∙◌, subst, ⊎_elim, arith, length-append, mod-lt}
+use Rattle.std.proofs.Common.{◌≡◌, ℕ, ◌+◌, ◌-◌, ◌%◌, ◌<◌, ◌≤◌, Bool, true, false, ◌||◌, ◌&&◌, if◌then◌else◌, [], ◌∷◌, ◌++◌, length, sym, refl, ap, ◌∙◌, subst, arith, length-append}
 use Rattle.std.specs.Prelude.{◌==◌}
 use Rattle.std.proofs.Math.Nat.{zero-mod}
-use Rattle.std.proofs.lemmas.Bool.{both_ways, or_left, or_right, and_from, eq-eqb, false≢true}
+use Rattle.std.proofs.lemmas.Bool.{both_ways, or_right, and_from, eq-eqb, false≢true}
 use Rattle.buffer_pool.specs.Buffer.{Buffer}
 use Rattle.limits.specs.RingLength.{IsRingLength}
 use Rattle.ring_model.specs.declared.states.DriverState.{DriverState}
-use Rattle.ring_model.specs.declared.states.DriverState.TheVariants.{New, Asked, On, Stopping, Stopped, Cleared, Tailed}
-use Rattle.ring_model.specs.shared.Handshakes.{is_answered, is_open, is_new, is_on, is_live, is_stopped, learned}
+use Rattle.ring_model.specs.declared.states.DriverState.TheVariants.{New}
+use Rattle.ring_model.specs.shared.Handshakes.{is_answered, is_stopped}
 use Rattle.ring_model.specs.shared.Agreement.{bit}
 use Rattle.ring_model.proofs.shared.Places.{next_place}
-use Rattle.ring_model.proofs.shared.Shakes.{learned_unanswered, live_unanswered, open_unanswered, new_open, on_open, stopped_answered}
+use Rattle.ring_model.proofs.shared.Shakes.{stopped_answered}
 use Rattle.shared_ring.specs.declared.events.DriverEvent.TheVariants as driver
 use Rattle.shared_ring.specs.Records.{undriven}
 use Rattle.shared_ring.proofs.Folds.{driving-snoc}
-use Rattle.rx_ring.specs.declared.events.RxDriverOwn.TheVariants.{NotDone, Taken, LoadedQuiet, ClearedQuiet}
-use Rattle.rx_ring.specs.Records.{RxDriven, DriverStep, driving, drive, posting, drive_own, segment_of, Knowing, unknown, know, knowing}
+use Rattle.rx_ring.specs.declared.events.RxDriverOwn.TheVariants.{NotDone, Taken, LoadedQuiet}
+use Rattle.rx_ring.specs.Records.{RxDriven, DriverStep, drive, posting, drive_own, segment_of, Knowing, unknown, know}
 use Rattle.rx_ring.specs.Ends.{DriverSide, driver_size, driver_record, known_of, appended}
 use Rattle.rx_ring.specs.Calls.{IsEndOf, IsDriverEnd}
 use Rattle.rx_ring.proofs.Learning.{knowing-snoc}

@@ -1,22 +1,22 @@
 -- What the agreement of a receive ring allows each end to do.
-use Rattle.std.proofs.Common.{◌≡◌, ℕ, zero, suc, ◌+◌, ◌%◌, ◌<◌, ◌≤◌, Bool, true, false, not, ◌&&◌, if◌then◌else◌, List, [], ◌∷◌, ◌++◌, length, set, Option, Some, None, sym, refl, ap, ◌∙◌, subst, replicate, arith, mod-lt}
+use Rattle.std.proofs.Common.{◌≡◌, ℕ, ◌+◌, ◌%◌, ◌<◌, ◌≤◌, Bool, true, false, not, List, [], ◌∷◌, ◌++◌, length, set, Option, Some, None, sym, refl, ap, ◌∙◌, subst, replicate, arith, mod-lt}
 use Rattle.std.specs.Prelude.{slice_get, slice_index, slice_set, ◌==◌}
-use Rattle.std.proofs.lemmas.Bool.{and_parts, and_from, eq-eqb, eqb-true, both_ways, true≢false, false≢true}
+use Rattle.std.proofs.lemmas.Bool.{and_parts, and_from, eq-eqb, both_ways, true≢false, false≢true}
 use Rattle.std.proofs.lemmas.Option.{none-some, same_Some, slice_get_within}
 use mathlib.Core.Option as maybe
 use mathlib.Core.Option.{some, none}
 use lib.ListN.{get_elem?}
-use Rattle.buffer_pool.specs.Buffer.{Buffer, buffer, blank}
+use Rattle.buffer_pool.specs.Buffer.{Buffer, buffer}
 use Rattle.ring_model.specs.declared.states.Completion.{Completion}
 use Rattle.ring_model.specs.declared.states.Completion.TheVariants.{Status}
 use Rattle.ring_model.specs.declared.steps.ControlStep.TheVariants.{AskEnable, LookAnswered, AskDisable, LookAsked}
 use Rattle.ring_model.specs.declared.steps.RxStep.TheVariants as rx
-use Rattle.ring_model.specs.receive.Ring.{RxRing, due, is_whole, rx_opening}
+use Rattle.ring_model.specs.receive.Ring.{RxRing, due, rx_opening}
 use Rattle.ring_model.specs.shared.Segments.{Segment, ends_segment, piece_of}
 use Rattle.ring_model.specs.receive.Agreement.{rx_word}
 use Rattle.ring_model.specs.receive.Steps.{rx_changed, rx_settled, took}
 use Rattle.ring_model.specs.shared.Frames.{Bytes, Follows, unfinished, ends_frame}
-use Rattle.ring_model.specs.shared.Handshakes.{is_open, is_live, is_new, is_on, is_stopped, is_cleared, is_tailed, is_serving}
+use Rattle.ring_model.specs.shared.Handshakes.{is_open, is_live, is_new, is_on, is_stopped, is_cleared, is_serving}
 use Rattle.ring_model.specs.shared.Queue.{posted_count, served_count, given_count, returned_count, next_head}
 use Rattle.ring_model.proofs.receive.Reached.{rx_lawful}
 use Rattle.ring_model.proofs.shared.Beginnings.{next_number, number_at}
@@ -25,26 +25,23 @@ use Rattle.ring_model.proofs.shared.Shakes.{live_unanswered, stopped_answered, a
 use Rattle.ring_model.proofs.shared.Stepping.{shook, held_below, answered_over, answered_unheld}
 use Rattle.shared_ring.specs.declared.events.DriverEvent.TheVariants as driver
 use Rattle.shared_ring.specs.declared.events.ControllerEvent.TheVariants as controller
-use Rattle.shared_ring.specs.Directions.{IsDirection, IsAllowed, DriverMay, ControllerMay, Agrees, TakesOut, Fetches}
-use Rattle.shared_ring.specs.Own.{MayLoad, MayTake, MayEnd, MayStore, MayGive, Out}
-use Rattle.shared_ring.specs.Records.{count_at}
+use Rattle.shared_ring.specs.Directions.{IsDirection, DriverMay, ControllerMay, Agrees, TakesOut, Fetches}
+use Rattle.shared_ring.specs.Own.{Out}
 use Rattle.shared_ring.specs.Slots.{home_at}
 use Rattle.shared_ring.specs.Tables.{words_of}
 use Rattle.shared_ring.proofs.Controlling.{of-serving, of-served, of-known, of-held, of-unheld, known-looked}
 use Rattle.shared_ring.proofs.Items.{fetch_lies, fetch_facts}
 use Rattle.shared_ring.proofs.Laying.{set-same, home-full, unheld_item, index_there}
 use Rattle.shared_ring.proofs.Shaking.{control_value}
-use Rattle.rx_ring.specs.declared.events.RxDriverOwn.TheVariants.{NotDone, Taken, LoadedQuiet, ClearedQuiet}
-use Rattle.rx_ring.specs.declared.events.RxControllerOwn.TheVariants.{WroteBack, SaidQuiet}
 use Rattle.rx_ring.specs.Form as form
 use Rattle.rx_ring.specs.Form.{AreOf, LeftIn, RxLies}
 use Rattle.rx_ring.specs.Plays.{takes, finds_none, is_done, loads_quiet, IsBit, clears_quiet, writes_back, stores_head, says_quiet}
 use Rattle.rx_ring.specs.Plays as plays
-use Rattle.rx_ring.specs.Records.{RxDriven, RxControlled, DriverStep, ControllerStep, driving, controlling, eop_of, segment_of}
+use Rattle.rx_ring.specs.Records.{RxDriven, RxControlled, DriverStep, ControllerStep, driving, controlling, eop_of}
 use Rattle.rx_ring.specs.Rule.{LiesAs, says, lies_there}
 use Rattle.rx_ring.proofs.Words.{eop_of-rx_word, rx_word-odd}
-use Rattle.rx_ring.proofs.Moving.{keeps_it, unreclaimed, post-lies, publish-lies, not_done-lies, take-lies, quiet-lies, head_loaded-lies, ask_enable-lies, look_answered-lies, ask_disable-lies, reclaim-lies, clear_head-lies, clear_tail-lies, clear_quiet-lies}
-use Rattle.rx_ring.proofs.Moving.{look-lies, can-fetch, fetch-lies, store-lies, head-lies, look_asked-lies, say_quiet-lies, enable-lies, disable-lies, enabled, disabled, opening-lies}
+use Rattle.rx_ring.proofs.Moving.{keeps_it, unreclaimed, post-lies, publish-lies, not_done-lies, take-lies, head_loaded-lies, ask_enable-lies, look_answered-lies, ask_disable-lies, reclaim-lies, clear_head-lies, clear_tail-lies}
+use Rattle.rx_ring.proofs.Moving.{look-lies, can-fetch, fetch-lies, look_asked-lies, enable-lies, disable-lies, enabled, disabled, opening-lies}
 
 -- a posted item has its buffer
 pub posted-some : (x : Option ℕ) (k : ℕ) → x ≡ Some k → ¬ (lies_there x None ≡ None)
@@ -194,8 +191,8 @@ module _ (n : ℕ) (mode : Completion) (ok : mode ≡ Status) (q : RxRing Bytes)
     ask_disable = λ on. lie (rx_changed q (rx.Control AskDisable)) (ds ++ driver.AskedDisable ∷ []) cs (slice_set words (n + 2) 3) homes (ask_disable-lies n q ds cs words homes pos l (state-is is_on true on));
     head = λ stopped. let off = state-is is_stopped true stopped in (
       (let k = keeps_it n q ds cs words homes pos l in let o = k.queue in let a = stopped_answered q.handshake.driver off in
-      let e = o.told (answered_over n ends_segment q.queue k.queue a) (answered_closed q.handshake.driver a) (stopped_full q.handshake.driver off) in let z = o.size_is in let h = r.head in
-      let b : served_count q.queue % q.size < q.size = mod-lt (served_count q.queue) (omega arith) in omega arith),
+          let e = o.told (answered_over n ends_segment q.queue k.queue a) (answered_closed q.handshake.driver a) (stopped_full q.handshake.driver off) in let z = o.size_is in let h = r.head in
+          let b : served_count q.queue % q.size < q.size = mod-lt (served_count q.queue) (omega arith) in omega arith),
       lie q (ds ++ driver.LoadedHead (slice_index words n) ∷ []) cs words homes (head_loaded-lies n q ds cs words homes pos l (slice_index words n) r.head off),
     );
     reclaim = λ p at stopped more. reclaim-any p at more (state-is is_stopped true stopped) (slice_get q.ledger.served (returned_count q.queue)) refl;
@@ -259,8 +256,8 @@ module _ (n : ℕ) (mode : Completion) (ok : mode ≡ Status) (q : RxRing Bytes)
     look = λ serving. let k = keeps_it n q ds cs words homes pos l in let there = serving-there serving in (
       (let b : q.published % n < n = mod-lt q.published (omega arith) in let t = tail-there in omega arith),
       (let o = k.queue.order in let b = o.known_published there in let a = known-there serving in
-      let e = known-looked says lies_there ends_segment n q.queue k.queue q.still c l.controller (slice_index words (n + 1)) tail-there there in
-      subst (λ (x : ℕ). c.known ≤ x) (sym e) (omega arith)),
+          let e = known-looked says lies_there ends_segment n q.queue k.queue q.still c l.controller (slice_index words (n + 1)) tail-there there in
+          subst (λ (x : ℕ). c.known ≤ x) (sym e) (omega arith)),
       lie (rx_changed q rx.Look) ds (cs ++ controller.Looked (slice_index words (n + 1)) ∷ []) words homes (look-lies n q ds cs words homes pos l (slice_index words (n + 1)) tail-there there),
     );
     fetch = fetch-may;

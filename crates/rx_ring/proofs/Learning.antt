@@ -1,26 +1,25 @@
 -- What the driver has learnt stays so, whatever step is made.
-use Rattle.std.proofs.Common.{◌≡◌, ℕ, zero, suc, ◌+◌, ◌%◌, ◌<◌, ◌≤◌, ◌⊎◌, inl, inr, ⊎_elim, Bool, true, false, not, ◌&&◌, ◌||◌, List, [], ◌∷◌, ◌++◌, length, Option, Some, None, sym, refl, ap, ◌∙◌, subst, arith, length-append}
+use Rattle.std.proofs.Common.{◌≡◌, ℕ, zero, suc, ◌+◌, ◌%◌, ◌<◌, ◌≤◌, ⊎_elim, true, not, ◌&&◌, ◌||◌, List, [], ◌∷◌, ◌++◌, length, Some, None, sym, ap, ◌∙◌, subst, arith, length-append}
 use Rattle.std.specs.Prelude.{slice_get, ◌==◌}
-use Rattle.std.proofs.lemmas.Bool.{and_parts, and_from, or_cases, eqb-true, both_ways, not_from_false, false≢true}
+use Rattle.std.proofs.lemmas.Bool.{and_parts, and_from, or_cases, eqb-true, not_from_false, false≢true}
 use Rattle.std.proofs.lemmas.Option.{none-some, same_Some, slice_get_within}
 use Rattle.ring_model.specs.declared.steps.RxStep.{RxStep}
-use Rattle.ring_model.specs.declared.steps.RxStep.TheVariants as rx
-use Rattle.ring_model.specs.shared.Handshakes.{is_answered, is_ended, is_open, is_serving, is_stopped, has_ended}
+use Rattle.ring_model.specs.shared.Handshakes.{is_answered, is_ended, is_open, is_stopped}
 use Rattle.ring_model.specs.shared.Frames.{Bytes}
-use Rattle.ring_model.specs.shared.Laws.{SameEpoch, NewEpoch}
-use Rattle.ring_model.specs.shared.Queue.{Ledger, posted_count, served_count, given_count}
+use Rattle.ring_model.specs.shared.Laws.{SameEpoch}
+use Rattle.ring_model.specs.shared.Queue.{served_count, given_count}
 use Rattle.ring_model.specs.receive.Laws.{RxLater, rx_over}
 use Rattle.ring_model.specs.receive.Ring.{RxRing, due}
 use Rattle.ring_model.specs.shared.Segments.{Segment, ends_segment}
-use Rattle.ring_model.specs.receive.Steps.{rx_can, rx_changed, rx_next, took}
+use Rattle.ring_model.specs.receive.Steps.{rx_can, rx_changed, took}
 use Rattle.ring_model.proofs.receive.Kept.{IsRxKept}
 use Rattle.ring_model.proofs.receive.Reached.{rx_later-all}
 use Rattle.ring_model.proofs.receive.Over.{over-ended}
 use Rattle.ring_model.proofs.shared.Reaching.{next-happens}
 use Rattle.ring_model.proofs.shared.Shakes.{answered_closed, stopped_answered, stopped_full}
 use Rattle.ring_model.proofs.shared.Stepping.{answered_over}
-use Rattle.rx_ring.specs.declared.events.RxDriverOwn.TheVariants.{NotDone, Taken, LoadedQuiet, ClearedQuiet}
-use Rattle.rx_ring.specs.Records.{RxDriven, DriverStep, drive, driving, Knowing, unknown, know, know_own, saw_head, knowing, posting, drive_own}
+use Rattle.rx_ring.specs.declared.events.RxDriverOwn.TheVariants.{NotDone, Taken, LoadedQuiet}
+use Rattle.rx_ring.specs.Records.{DriverStep, driving, Knowing, unknown, know, know_own, saw_head, knowing, posting, drive_own}
 use Rattle.rx_ring.specs.Rule.{Learnt}
 use Rattle.shared_ring.proofs.Folds as shared
 use Rattle.shared_ring.proofs.Folds.{longer}

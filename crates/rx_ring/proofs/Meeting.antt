@@ -1,28 +1,19 @@
 -- What two ends that met know of their ledger.
-use Rattle.std.proofs.Common.{◌≡◌, ℕ, ◌+◌, ◌-◌, ◌%◌, ◌<◌, ◌≤◌, Bool, true, false, ◌&&◌, if◌then◌else◌, List, [], length, Option, Some, None, replicate, sym, refl, ap, ◌∙◌, subst, ⊎_elim, arith, mod-lt, ◌++◌, append-nil, length-append}
-use Rattle.std.proofs.lemmas.Bool.{cases_Bool, and_left, and_right, and_parts, true≢false, false≢true}
-use mathlib.Core.Option.{none}
-use Rattle.atomic_table.specs.Table.{Allows, Splits, Joins, step}
-use Rattle.atomic_table.specs.Seated.{TableId}
-use Rattle.buffer_pool.specs.Buffer.{Buffer}
+use Rattle.std.proofs.Common.{◌≡◌, ℕ, ◌+◌, ◌-◌, ◌%◌, ◌<◌, true, List, length, Option, Some, None, sym, refl, ap, ◌∙◌, subst, arith, ◌++◌, append-nil, length-append}
 use Rattle.ring_model.specs.shared.Lists.{IsBeginning}
-use Rattle.ring_model.specs.declared.states.ControllerState.{ControllerState}
-use Rattle.ring_model.specs.declared.states.ControllerState.TheVariants.{Ended}
-use Rattle.ring_model.specs.receive.Ring.{RxRing, RxLedger}
+use Rattle.ring_model.specs.receive.Ring.{RxLedger}
 use Rattle.ring_model.specs.shared.Segments.{Segment, ends_segment}
 use Rattle.ring_model.specs.receive.Lawful.{IsLawfulRxLedger}
 use Rattle.ring_model.specs.shared.Frames.{Bytes}
-use Rattle.ring_model.specs.shared.Handshakes.{is_open, is_ended, is_serving, is_between}
 use Rattle.ring_model.specs.shared.Queue.{served_count, given_count}
-use Rattle.ring_model.specs.receive.Ring.{rx_opening}
 use Rattle.ring_model.proofs.receive.Kept.{IsRxKept}
-use Rattle.ring_model.proofs.receive.Reached.{rx_kept, rx_lawful}
+use Rattle.ring_model.proofs.receive.Reached.{rx_kept}
 use Rattle.ring_model.proofs.shared.Places.{ahead}
 use Rattle.shared_ring.proofs.Laying.{none-empty}
-use Rattle.rx_ring.specs.Records.{RxDriven, RxControlled, DriverStep, ControllerStep, driving, controlling}
+use Rattle.rx_ring.specs.Records.{RxDriven}
 use Rattle.shared_ring.proofs.Meeting.{served-is}
 use Rattle.rx_ring.specs.Rule.{says, lies_there}
-use Rattle.rx_ring.specs.Ends.{DriverSide, driver_size, posted, taken, driver_state, known_of, is_drained, ControllerSide, stored, controller_state}
+use Rattle.rx_ring.specs.Ends.{DriverSide, driver_size, taken, known_of, is_drained, ControllerSide}
 use Rattle.rx_ring.specs.Calls.{IsTold, left_at, told_left}
 use Rattle.rx_ring.specs.Meeting.{ledger_of, stored_now, left_by, Met}
 

@@ -1,24 +1,18 @@
 -- What each step makes of words, slots and records that lie as a ring has them: they lie as the stepped ring has them.
-use Rattle.std.proofs.Common.{◌≡◌, ℕ, zero, suc, ◌+◌, ◌%◌, ◌<◌, ◌≤◌, Bool, true, false, not, ◌&&◌, ◌||◌, List, [], ◌∷◌, ◌++◌, length, set, replicate, Option, Some, None, sym, refl, ap, ◌∙◌, subst, ⊎_elim, arith, if◌then◌else◌, length-append, mod-eq_of_lt}
-use Rattle.std.specs.Prelude.{slice_get, slice_index, slice_set, ◌==◌, ◌-◌, nat_lt}
-use Rattle.std.proofs.lemmas.Bool.{and_parts, and_from, and_left, or_left, or_right, or_cases, lt-ltb, eq-eqb, eqb-true, both_ways, not_from_false, cases_Bool, not-true, false≢true}
-use Rattle.std.proofs.lemmas.Option.{none-some, slice_get_within}
+use Rattle.std.proofs.Common.{◌≡◌, ℕ, ◌+◌, ◌%◌, ◌<◌, ◌≤◌, Bool, true, false, not, ◌&&◌, List, [], ◌∷◌, ◌++◌, length, set, replicate, Option, Some, None, sym, refl, ap, ◌∙◌, subst, arith, if◌then◌else◌, mod-eq_of_lt}
+use Rattle.std.specs.Prelude.{slice_get, slice_index, slice_set, ◌==◌, ◌-◌}
+use Rattle.std.proofs.lemmas.Bool.{and_parts, and_from, or_left, or_right, lt-ltb, eq-eqb, false≢true}
+use Rattle.std.proofs.lemmas.Option.{slice_get_within}
 use Rattle.std.proofs.lemmas.List.{length-replicate}
 use mathlib.Core.Option as maybe
 use mathlib.Core.Option.{some, none}
 use Rattle.buffer_pool.specs.Buffer.{Buffer, buffer}
-use Rattle.ring_model.specs.declared.states.DriverState.{DriverState}
-use Rattle.ring_model.specs.declared.states.DriverState.TheVariants.{New, Asked, On}
-use Rattle.ring_model.specs.declared.states.ControllerState.{ControllerState}
-use Rattle.ring_model.specs.declared.states.ControllerState.TheVariants as at
-use Rattle.ring_model.specs.declared.handshake.Handshake.{Handshake}
 use Rattle.ring_model.specs.declared.steps.ControlStep.TheVariants.{AskEnable, LookAsked, Answer, LookAnswered, AskDisable}
 use Rattle.ring_model.specs.declared.steps.RxStep.{RxStep}
 use Rattle.ring_model.specs.declared.steps.RxStep.TheVariants as rx
-use Rattle.ring_model.specs.shared.Handshakes.{is_open, is_live, is_answered, is_serving, is_ended, is_new, is_on, is_stopped, is_cleared, is_tailed, can_enable, can_disable, enable, disable, enables, shaken}
-use Rattle.ring_model.specs.shared.Frames.{Bytes, Follows, unfinished, ends_frame}
-use Rattle.ring_model.specs.shared.Queue.{posted_count, served_count, given_count, returned_count, next_head, is_settled, by}
-use Rattle.ring_model.specs.shared.QueueSteps as queue
+use Rattle.ring_model.specs.shared.Handshakes.{is_open, is_live, is_answered, is_serving, is_new, is_on, is_stopped, is_cleared, is_tailed, can_enable, can_disable, enable, disable}
+use Rattle.ring_model.specs.shared.Frames.{Bytes, Follows, unfinished}
+use Rattle.ring_model.specs.shared.Queue.{posted_count, served_count, given_count, returned_count}
 use Rattle.ring_model.specs.shared.Laws.{SameEpoch}
 use Rattle.ring_model.specs.receive.Laws.{rx_over}
 use Rattle.ring_model.specs.receive.Agreement.{rx_word}
@@ -27,25 +21,23 @@ use Rattle.ring_model.specs.shared.Segments.{Segment, ends_segment, piece_of}
 use Rattle.ring_model.specs.receive.Steps.{IsRxReachable, rx_can, rx_changed, rx_settled, took}
 use Rattle.ring_model.proofs.receive.Kept.{IsRxKept}
 use Rattle.ring_model.proofs.receive.Reached.{rx_kept}
-use Rattle.ring_model.proofs.shared.Beginnings.{next_number}
 use Rattle.ring_model.proofs.shared.FrameLaws.{AllFollow-nil, AllFollow-snoc}
 use Rattle.ring_model.proofs.shared.Reaching.{reached-changed, reached-opening}
-use Rattle.ring_model.proofs.shared.Kept.{ShakesAs}
 use Rattle.ring_model.proofs.receive.Stepping.{rx_kept-opening}
-use Rattle.ring_model.proofs.shared.Shakes.{live_unanswered, open_unanswered, shakes-enable, serving_unended, tailed_emptied, emptied_answered}
-use Rattle.ring_model.proofs.shared.Stepping.{shook, held_below, answered_over}
+use Rattle.ring_model.proofs.shared.Shakes.{live_unanswered, open_unanswered, shakes-enable, tailed_emptied, emptied_answered}
+use Rattle.ring_model.proofs.shared.Stepping.{shook, answered_over}
 use Rattle.shared_ring.specs.declared.events.DriverEvent.TheVariants as driver
 use Rattle.shared_ring.specs.declared.events.ControllerEvent.TheVariants as controller
-use Rattle.shared_ring.specs.Records.{count_at, uncontrolled, undriven}
-use Rattle.shared_ring.specs.Slots.{home_at}
-use Rattle.shared_ring.specs.Lies.{driven, IsControlled, LiesIn, is_early}
+use Rattle.shared_ring.specs.Records.{uncontrolled, undriven}
+use Rattle.shared_ring.specs.Lies.{driven, IsControlled, LiesIn}
+use Rattle.shared_ring.proofs.Laying.{at_zero}
 use Rattle.shared_ring.proofs.Folds.{driving-snoc, controlling-snoc}
-use Rattle.shared_ring.proofs.Items.{fetch_lies}
 use Rattle.shared_ring.proofs.Lying.{lies-post, lies-publish, lies-look, lies-fetch, lies-serve, lies-head, lies-give, lies-reclaim, lies-ask_enable, lies-ask_disable, lies-look_asked, lies-look_answered, lies-enable, lies-disable, lies-clear_head, lies-clear_tail, lies-renew, lies-quiet}
+use Rattle.shared_ring.proofs.Shaking.{early_enabling}
 use Rattle.shared_ring.proofs.Controlling.{ctl-post, ctl-publish, ctl-give, ctl-reclaim, ctl-ask_enable, ctl-look_answered, ctl-ask_disable, ctl-clear_head, ctl-clear_tail, ctl-renew, ctl-look, ctl-fetch, ctl-serve, ctl-head, ctl-look_asked, ctl-enable, ctl-disable, ctl-bar}
 use Rattle.rx_ring.specs.declared.events.RxDriverOwn.TheVariants.{NotDone, Taken, LoadedQuiet, ClearedQuiet}
 use Rattle.rx_ring.specs.declared.events.RxControllerOwn.TheVariants.{WroteBack, SaidQuiet}
-use Rattle.rx_ring.specs.Records.{RxDriven, RxControlled, DriverStep, ControllerStep, posting, drive_own, drive, driving, control_own, control, controlling, segment_of, Knowing, know, know_own, knowing}
+use Rattle.rx_ring.specs.Records.{RxDriven, RxControlled, DriverStep, ControllerStep, posting, drive_own, drive, driving, control_own, control, controlling, segment_of, Knowing, know, knowing}
 use Rattle.rx_ring.specs.Rule.{LiesAs, Learnt, says, lies_there}
 use Rattle.rx_ring.proofs.Words.{eop_of-rx_word, segment-taken}
 use Rattle.rx_ring.proofs.Learning.{knowing-snoc, same-epoch, learnt-step, learnt-head, learnt-not_done, learnt-quiet, learnt-taken, learnt-unknown}
@@ -318,24 +310,11 @@ module _ (n : ℕ) (q : RxRing Bytes) (ds : List DriverStep) (cs : List Controll
       let opened = shakes-enable h.driver h.controller h.control h.seen seen (shook n ends_segment q.queue k.queue) in record {
         reachable = subst (λ (r : RxRing Bytes). IsRxReachable Bytes n r) (enabled-is can) (goes_on (rx.Control Answer) may);
         driver = l.driver;
-        controller = control_is enabled controller.Enabled (ctl-enable says lies_there ends_segment n q.queue k.queue q.still c l.controller idle opened.1 (m.cleared (early_asked h.driver opened.1 (enabling h.driver h.controller h.control h.seen seen (shook n ends_segment q.queue k.queue))) idle));
+        controller = control_is enabled controller.Enabled (ctl-enable says lies_there ends_segment n q.queue k.queue q.still c l.controller idle opened.1 (m.cleared (early_enabling h.driver h.controller h.control h.seen seen (shook n ends_segment q.queue k.queue) opened.1) idle));
         lies = lies-enable says lies_there ends_segment n (n + 4) q.queue k.queue q.quiet words homes l.lies big;
         follow = l.follow;
         learnt = subst (λ (r : RxRing Bytes). Learnt n r x) (enabled-is can) (learnt-step n q keeps_it x l.learnt (rx.Control Answer) may refl refl);
       }
-    where
-      early_asked : (d : DriverState) → is_open d ≡ true → ¬ (is_on d ≡ true) → is_early d ≡ true
-      early_asked New e f = refl
-      early_asked Asked e f = refl
-      early_asked On e f = absurd (f refl)
-      early_asked _ e f = absurd (false≢true e)
-
-      -- an enabling is answered before the driver has seen it
-      enabling : (d : DriverState) (s : ControllerState) (control seen : ℕ) → seen ≡ 1 → ShakesAs d s control seen → ¬ (is_on d ≡ true)
-      enabling On at.Off control seen e h f = h
-      enabling On at.Serving control seen e h f = omega (arith, h.1, e)
-      enabling On at.Ended control seen e h f = h
-      enabling _ s control seen e h f = absurd (false≢true f)
 
   pub disable-lies : q.handshake.seen ≡ 3 → is_serving q.handshake.controller ≡ true → rx_settled q ≡ true → LiesAs n disabled ds (cs ++ controller.Disabled ∷ []) (slice_set words (n + 2) 0) homes
   disable-lies seen serving settled = let k = keeps_it in let h = q.handshake in let off : can_enable h ≡ false = ap (λ (v : ℕ). (v == 1) && not (is_serving h.controller)) seen in
@@ -349,14 +328,6 @@ module _ (n : ℕ) (q : RxRing Bytes) (ds : List DriverStep) (cs : List Controll
       }
 
 -- a made ring, whose ends have done nothing yet
-zero-words : (m k : ℕ) → slice_index (replicate m 0) k ≡ 0
-zero-words zero k = refl
-zero-words (suc m) zero = refl
-zero-words (suc m) (suc k) = zero-words m k
-
-at_zero : (words : List ℕ) (m k : ℕ) → words ≡ replicate m 0 → slice_index words k ≡ 0
-at_zero words m k e = ap (λ (ws : List ℕ). slice_index ws k) e ∙ zero-words m k
-
 pub opening-lies : (n : ℕ) (words : List ℕ) (homes : List (maybe.Option Buffer)) → 1 < n → words ≡ replicate (n + 4) 0 → length homes ≡ n → LiesAs n (rx_opening n false) [] [] words homes
 opening-lies n words homes pos w count = record {
   reachable = reached-opening rx_can rx_changed (rx_opening n) false;

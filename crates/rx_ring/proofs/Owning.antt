@@ -1,13 +1,11 @@
 -- What the agreement of a receive ring allows of its own steps.
-use Rattle.std.proofs.Common.{◌≡◌, ℕ, ◌+◌, ◌%◌, ◌<◌, ◌≤◌, Bool, true, false, List, [], ◌∷◌, ◌++◌, length, length-append, Option, Some, None, sym, refl, ap, ◌∙◌, subst, arith, mod-lt}
-use Rattle.std.specs.Prelude.{slice_get, slice_index, slice_set}
-use Rattle.std.proofs.lemmas.Bool.{both_ways}
+use Rattle.std.proofs.Common.{◌≡◌, ℕ, ◌+◌, ◌%◌, ◌<◌, ◌≤◌, Bool, true, List, [], ◌∷◌, ◌++◌, length, length-append, Some, None, sym, refl, ap, ◌∙◌, subst, arith, mod-lt}
+use Rattle.std.specs.Prelude.{slice_index, slice_set}
 use mathlib.Core.Option as maybe
 use Rattle.buffer_pool.specs.Buffer.{Buffer, buffer, blank}
 use Rattle.ring_model.specs.declared.states.Completion.{Completion}
-use Rattle.ring_model.specs.declared.states.Completion.TheVariants.{Status, Head}
 use Rattle.ring_model.specs.declared.steps.RxStep.TheVariants as step
-use Rattle.ring_model.specs.receive.Ring.{RxRing, due}
+use Rattle.ring_model.specs.receive.Ring.{due}
 use Rattle.ring_model.specs.shared.Segments.{Segment, ends_segment, piece_of}
 use Rattle.ring_model.specs.receive.Agreement.{rx_word}
 use Rattle.ring_model.specs.receive.Steps.{rx_changed}
@@ -15,17 +13,12 @@ use Rattle.ring_model.specs.shared.Frames.{Bytes, Follows, unfinished, ends_fram
 use Rattle.ring_model.specs.shared.Handshakes.{is_live, is_tailed, is_serving}
 use Rattle.ring_model.proofs.shared.Stepping.{held_below}
 use Rattle.shared_ring.specs.Own.{MayLoad, MayTake, MayEnd, MayStore, MayGive}
-use Rattle.shared_ring.specs.Tables.{words_of}
-use Rattle.shared_ring.proofs.DriverSeats.{words-big}
-use Rattle.rx_ring.specs.Form.{rx, RxLies}
+use Rattle.shared_ring.proofs.Standing.{low}
+use Rattle.rx_ring.specs.Form.{rx}
 use Rattle.rx_ring.specs.Plays.{takes, TakesOut, finds_none, is_done, loads_quiet, IsBit, clears_quiet, writes_back, stores_head, says_quiet}
 use Rattle.rx_ring.specs.Records.{RxDriven, RxControlled, DriverStep, ControllerStep, driving, controlling, segment_of}
-use Rattle.rx_ring.specs.Rule.{LiesAs}
 use Rattle.rx_ring.proofs.Lawful.{lie, state-is, undone, found, serving-there, served-there, serve-there, unheld-there, held-there, posted-there}
 use Rattle.rx_ring.proofs.Moving.{keeps_it, quiet-lies, clear_quiet-lies, store-lies, head-lies, say_quiet-lies}
-
-low : (n : ℕ) (mode : Completion) (i : ℕ) → i < n + 4 → i < words_of n mode
-low n mode i h = let w = words-big n mode in omega arith
 
 module _ (n : ℕ) (mode : Completion) (es : List DriverStep) where
   abbrev d : RxDriven
@@ -49,7 +42,7 @@ module _ (n : ℕ) (mode : Completion) (es : List DriverStep) where
     same = λ r. record { posted = refl; given = refl; reclaimed = refl };
   }
 
-  pub may-clear_quiet : is_tailed d.state ≡ true → MayEnd rx clears_quiet (λ n es place r b. Unit {0}) n mode es (n + 3)
+  pub may-clear_quiet : is_tailed d.state ≡ true → MayEnd rx clears_quiet n mode es (n + 3)
   may-clear_quiet tailed = record {
     word_is = low n mode (n + 3) (omega arith);
     goes = λ q cs words homes pos l. let m = l.lies in lie n mode l.reports q es cs words homes pos m (rx_changed q step.ClearQuiet) (es ++ clears_quiet n es (n + 3) 0 blank ∷ []) cs (slice_set words (n + 3) 0) homes

@@ -1,31 +1,26 @@
 -- What the calls of both ends do, where their answer depends on what was loaded; and what the fields of an end keep.
-use Rattle.std.specs.Prelude.{◌≡◌, ℕ, ◌+◌, ◌-◌, ◌%◌, ◌<◌, ◌≤◌, ◌⊎◌, Bool, true, false, List, [], ◌∷◌, ◌++◌, length, Option, Some, None, slice_get}
-use Rattle.atomic_table.specs.Seated.{TableId}
+use Rattle.std.specs.Prelude.{◌≡◌, ℕ, ◌+◌, ◌%◌, ◌<◌, ◌⊎◌, Bool, true, false, [], ◌∷◌, ◌++◌, length, Option, Some, None, slice_get}
 use Rattle.buffer_pool.specs.Buffer.{Buffer, buffer}
 use Rattle.limits.specs.RingLength.{IsRingLength}
 use Rattle.ring_model.specs.declared.states.DriverState.{DriverState}
 use Rattle.ring_model.specs.declared.states.ControllerState.{ControllerState}
-use Rattle.ring_model.specs.declared.states.ControllerState.TheVariants as state
 use Rattle.ring_model.specs.receive.Agreement.{rx_word}
 use Rattle.ring_model.specs.shared.Segments.{Segment, ends_segment, piece_of}
 use Rattle.ring_model.specs.shared.Frames.{Bytes, Follows, unfinished, ends_frame}
 use Rattle.ring_model.specs.shared.Handshakes.{is_answered, is_live, is_serving}
 use Rattle.shared_ring.specs.declared.events.DriverEvent.TheVariants as driver
 use Rattle.shared_ring.specs.declared.events.ControllerEvent.TheVariants as controller
-use Rattle.shared_ring.specs.Words.{control_word}
 use Rattle.shared_ring.specs.declared.control.Control.{Control}
-use Rattle.shared_ring.specs.Records.{undriven, count_at}
+use Rattle.shared_ring.specs.Records.{undriven}
 use Rattle.rx_ring.specs.declared.events.RxDriverOwn.TheVariants.{NotDone, Taken, ClearedQuiet}
-use Rattle.rx_ring.specs.declared.events.RxControllerOwn.TheVariants.{WroteBack}
 use Rattle.rx_ring.specs.declared.driver.Poll.{Poll}
 use Rattle.rx_ring.specs.declared.driver.Poll.TheVariants as poll
-use Rattle.rx_ring.specs.Records.{RxDriven, RxControlled, Knowing, unknown, segment_of}
-use Rattle.rx_ring.specs.Ends.{DriverSide, driver_size, driver_record, posted, taken, reclaimed, returned, driver_state, known_of, saw_quiet, is_drained, next_place, appended, ControllerSide, controller_size, controller_record, stored, held_number, serve_place, answered, seen, head_stored, controller_state, is_between, known_free}
+use Rattle.rx_ring.specs.Records.{RxDriven, RxControlled, Knowing, unknown}
+use Rattle.rx_ring.specs.Ends.{DriverSide, driver_size, driver_record, posted, taken, reclaimed, returned, driver_state, known_of, saw_quiet, is_drained, next_place, appended, ControllerSide, controller_size, controller_record, held_number, serve_place, answered, seen, head_stored, controller_state, is_between}
 pub use Rattle.shared_ring.specs.Meeting.{IsTold}
 use Rattle.rx_ring.specs.Meeting.{left_by}
-pub use Rattle.shared_ring.specs.Calls.{IsFreshDriver, IsFreshController, NoneOut, MayEnable, AnsweredEnabling, AnsweredDisabling, Answered}
+pub use Rattle.shared_ring.specs.Calls.{IsFreshDriver, IsFreshController, NoneOut, FoundAhead as FoundFree, MayEnable, AnsweredEnabling, AnsweredDisabling, Answered}
 use Rattle.shared_ring.specs.Calls.{IsServer}
-use Rattle.shared_ring.specs.Slots.{is_there}
 
 abbrev pub segment : Buffer → Bool → Segment Bytes
 segment buf eop = record { number = buf.number; payload = buf.bytes; eop = eop }
@@ -113,14 +108,6 @@ pub record IsEndOf (n : ℕ) (x : RxDriven) (k : Knowing) (fill next out : ℕ) 
 
 abbrev pub IsDriverEnd : DriverSide → ℕ → ℕ → ℕ → DriverState → Type 0
 IsDriverEnd d fill next out state = IsEndOf (driver_size d) (driver_record d) (known_of d) fill next out state
-
--- A3: the tail was loaded, and the result is how far it is ahead
-pub record FoundFree (old : ControllerSide) (free : ℕ) (new : ControllerSide) : Type 0 where
-  pub tail : ℕ
-  pub step : new ≡ answered old (controller.Looked tail)
-  pub ahead : free ≡ (tail + controller_size old - serve_place old) % controller_size old
-  pub same : controller_record new ≡ record (controller_record old) { known = length (stored old) + free }
-  pub grows : known_free old ≤ free
 
 -- A4: the next descriptor was loaded, and this empty buffer came out of its slot
 pub record Fetched (old : ControllerSide) (buf : Buffer) (new : ControllerSide) : Type 0 where

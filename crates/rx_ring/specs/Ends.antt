@@ -1,8 +1,8 @@
 -- What contracts see of a ring's two ends: its identity, and the record of the end's own steps, with words on what it amounts to.
-use Rattle.std.specs.Prelude.{ℕ, ◌-◌, Bool, true, List, length, Option, Some, None}
+use Rattle.std.specs.Prelude.{ℕ, Bool, true, Option, Some, None}
 use Rattle.buffer_pool.specs.Buffer.{Buffer}
-use Rattle.ring_model.specs.shared.Segments.{Segment, ends_segment}
-use Rattle.ring_model.specs.shared.Frames.{Bytes, ends_frame}
+use Rattle.ring_model.specs.shared.Segments.{ends_segment}
+use Rattle.ring_model.specs.shared.Frames.{ends_frame}
 use Rattle.shared_ring.specs.Ends as ends
 pub use Rattle.shared_ring.specs.Ends.{driver_size, driver_record, posted, published, reclaimed, returned, driver_state, fill_place, next_place, appended}
 pub use Rattle.shared_ring.specs.Ends.{controller_size, controller_record, controller_state, seen, head_stored, serve_place, answered}

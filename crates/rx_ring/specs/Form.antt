@@ -1,5 +1,5 @@
 -- What is of the receive direction.
-use Rattle.std.specs.Prelude.{◌≡◌, ℕ, ◌+◌, ◌%◌, ◌<◌, ◌≤◌, true, List, [], length, Option, Some, slice_get}
+use Rattle.std.specs.Prelude.{◌≡◌, ℕ, ◌%◌, ◌<◌, ◌≤◌, true, List, [], Some, slice_get}
 use mathlib.Core.Option as maybe
 use mathlib.Core.Option.{some}
 use lib.ListN.{get_elem?}
@@ -16,7 +16,7 @@ use Rattle.shared_ring.specs.Forms.{Form}
 use Rattle.shared_ring.specs.Lies.{driven, IsControlled}
 use Rattle.rx_ring.specs.declared.events.RxDriverOwn.{RxDriverOwn}
 use Rattle.rx_ring.specs.declared.events.RxControllerOwn.{RxControllerOwn}
-use Rattle.rx_ring.specs.Records.{RxControlled, DriverStep, ControllerStep, driving, controlling, knowing, posting, drive_own, control_own}
+use Rattle.rx_ring.specs.Records.{DriverStep, ControllerStep, driving, controlling, knowing, posting, drive_own, control_own}
 use Rattle.rx_ring.specs.Rule.{Learnt, LiesAs, says, lies_there}
 
 -- both records are those of one lawful ring that a schedule makes, of which the driver has learnt what it says

@@ -1,5 +1,5 @@
 -- The receive ring's own steps: the event of each, and what it tells beside that.
-use Rattle.std.specs.Prelude.{◌≡◌, ℕ, ◌+◌, ◌%◌, ◌≤◌, Bool, ◌==◌, List, length, Some, slice_get}
+use Rattle.std.specs.Prelude.{◌≡◌, ℕ, ◌%◌, ◌≤◌, Bool, ◌==◌, List, length, Some, slice_get}
 use Rattle.buffer_pool.specs.Buffer.{Buffer, buffer}
 use Rattle.ring_model.specs.shared.Frames.{Follows, unfinished}
 use Rattle.ring_model.specs.shared.Segments.{piece_of}

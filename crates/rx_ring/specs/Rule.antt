@@ -1,10 +1,7 @@
 -- The rule of a receive ring's table: between any two steps words, slots and both records agree with one ring that a schedule makes.
 use Rattle.std.specs.Prelude.{◌≡◌, ℕ, ◌+◌, ◌%◌, true, List, [], length, Option, Some}
 use mathlib.Core.Option as maybe
-use Rattle.atomic_table.specs.Table.{State}
-use Rattle.atomic_table.specs.Seated.{TableId}
 use Rattle.buffer_pool.specs.Buffer.{Buffer, buffer}
-use Rattle.limits.specs.RingLength.{IsRingLength}
 use Rattle.ring_model.specs.receive.Agreement.{rx_says, rx_lies}
 use Rattle.ring_model.specs.receive.Ring.{RxRing}
 use Rattle.ring_model.specs.shared.Segments.{Segment, piece_of}
@@ -14,8 +11,7 @@ use Rattle.ring_model.specs.shared.Frames.{Bytes, AllFollow}
 use Rattle.ring_model.specs.shared.Handshakes.{is_answered}
 use Rattle.ring_model.specs.shared.Queue.{served_count, given_count}
 use Rattle.shared_ring.specs.Lies.{driven, IsControlled, LiesIn}
-use Rattle.shared_ring.specs.Tables.{IsRuledBy}
-use Rattle.rx_ring.specs.Records.{RxView, DriverStep, ControllerStep, driving, controlling, Knowing, knowing}
+use Rattle.rx_ring.specs.Records.{DriverStep, ControllerStep, driving, controlling, Knowing, knowing}
 
 -- the word of an item, and the buffer in its slot
 abbrev pub says : ℕ → Option ℕ → Option (Segment Bytes) → ℕ

@@ -8,8 +8,8 @@ ghost use Rattle.rx_ring.specs.Calls.{told_left, IsTold};
 ghost use Rattle.rx_ring.specs.Meeting.{MadeSeats, ledger_of, stored_now, Met, IsClosed};
 
 use crate::controller::RxControllerEnd;
-use crate::driver::RxDriverEnd;
 use crate::direction::RxShared;
+use crate::driver::RxDriverEnd;
 use buffer_pool::Buf;
 use limits::is_ring_length;
 use ring_model::Completion;

@@ -64,8 +64,6 @@ impl OwnStep<RxDriverEvent> for ClearQuietStore {
     ghost use Rattle.rx_ring.specs.Plays.{clears_quiet};
 
     ghost event = { clears_quiet };
-
-    ghost tells = { λ n es place r b. Unit {0} };
 }
 
 /// A5.
@@ -75,8 +73,6 @@ impl OwnStep<RxControllerEvent> for WriteBackStore {
     ghost use Rattle.rx_ring.specs.Plays.{writes_back};
 
     ghost event = { writes_back };
-
-    ghost tells = { λ n es place r b. Unit {0} };
 }
 
 /// A7.
@@ -86,8 +82,6 @@ impl OwnStep<RxControllerEvent> for HeadStore {
     ghost use Rattle.rx_ring.specs.Plays.{stores_head};
 
     ghost event = { stores_head };
-
-    ghost tells = { λ n es place r b. Unit {0} };
 }
 
 /// C7.
@@ -97,8 +91,6 @@ impl OwnStep<RxControllerEvent> for QuietStore {
     ghost use Rattle.rx_ring.specs.Plays.{says_quiet};
 
     ghost event = { says_quiet };
-
-    ghost tells = { λ n es place r b. Unit {0} };
 }
 
 /// A6: the oldest descriptor that is out is loaded, and its buffer taken where DD is set.

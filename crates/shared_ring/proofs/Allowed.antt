@@ -5,7 +5,7 @@ use mathlib.Core.Option as maybe
 use mathlib.Core.Option.{some, none}
 use lib.ListN.{get_elem?}
 use Rattle.atomic_table.specs.Table.{Step, keeps, takes, gives, step, Allows}
-use Rattle.buffer_pool.specs.Buffer.{Buffer, blank}
+use Rattle.buffer_pool.specs.Buffer.{Buffer}
 use Rattle.ring_model.specs.declared.states.Completion.{Completion}
 use Rattle.shared_ring.specs.declared.events.DriverEvent.{DriverEvent}
 use Rattle.shared_ring.specs.declared.events.ControllerEvent.{ControllerEvent}
@@ -15,7 +15,7 @@ use Rattle.shared_ring.specs.Forms.{Form}
 use Rattle.shared_ring.specs.Keeping.{IsRuled}
 use Rattle.shared_ring.specs.Plays.{Seated}
 use Rattle.shared_ring.specs.Tables.{words_of}
-use Rattle.shared_ring.proofs.Allowing.{DriverGoes, allow_driver, ControllerGoes, allow_controller}
+use Rattle.shared_ring.proofs.Allowing.{DriverGoes, allow_driver, allow_controller}
 use Rattle.shared_ring.proofs.Laying.{set-same}
 
 module _ {Ring Posted Served Given D C : Type 0} (form : Form Ring Posted Served Given D C) (n : ℕ) (mode : Completion) where

@@ -1,5 +1,5 @@
 -- Each step of an end keeps the rule, whatever the table is when it happens, and tells what its play says. It goes for any ring.
-use Rattle.std.proofs.Common.{◌≡◌, ◌≢◌, ℕ, zero, suc, ◌<◌, List, [], ◌∷◌, ◌++◌, sym, refl, subst, ⊎_elim, inr}
+use Rattle.std.proofs.Common.{◌≡◌, ◌≢◌, ℕ, zero, suc, ◌<◌, List, [], ◌∷◌, ◌++◌, sym, subst, ⊎_elim, inr}
 use Rattle.std.specs.Prelude.{slice_index, slice_set}
 use mathlib.Core.Option as maybe
 use mathlib.Core.Option.{some, none, some-injective, some-ne-none}

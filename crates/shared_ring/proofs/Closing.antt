@@ -4,8 +4,7 @@ use Rattle.std.specs.Prelude.{slice_get, ◌==◌, nat_lt}
 use Rattle.std.proofs.Math.Nat.{mod-add-mod, add-mod-mod, add-mod_right}
 use Rattle.std.proofs.lemmas.Bool.{cases_Bool, and_parts, and_from, ltb-true, lt-ltb, eqb-true, eq-eqb, not-true, not_from_false, both_ways, cases_lt}
 use Rattle.std.proofs.lemmas.Option.{same_Some, slice_get_within}
-use mathlib.Core.Option as maybe
-use mathlib.Core.Option.{some, none}
+use mathlib.Core.Option.{some}
 use lib.ListN.{get_elem?}
 use Rattle.buffer_pool.specs.Buffer.{Buffer}
 use Rattle.ring_model.specs.declared.states.Owner.{Owner}

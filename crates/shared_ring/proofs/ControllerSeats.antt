@@ -1,10 +1,9 @@
 -- The controller's seat: what each of its steps asks of the table, and what the seat keeps.
-use Rattle.std.proofs.Common.{◌≡◌, ℕ, ◌+◌, ◌-◌, ◌%◌, ◌<◌, ◌≤◌, Bool, true, false, List, [], ◌∷◌, ◌++◌, length, Option, Some, None, sym, refl, ap, ◌∙◌, subst, arith, mod-lt}
+use Rattle.std.proofs.Common.{◌≡◌, ℕ, ◌+◌, ◌-◌, ◌%◌, ◌<◌, ◌≤◌, true, false, List, [], ◌∷◌, ◌++◌, length, Some, None, sym, refl, ap, ◌∙◌, subst, arith, mod-lt}
 use mathlib.Core.Option.{none}
 use Rattle.atomic_table.specs.Table.{Allows, Step, step, rest}
 use Rattle.atomic_table.specs.Seated.{TableId}
 use Rattle.buffer_pool.specs.Buffer.{Buffer, blank}
-use Rattle.limits.specs.RingLength.{IsRingLength}
 use Rattle.ring_model.specs.declared.states.Completion.{Completion}
 use Rattle.ring_model.specs.shared.Handshakes.{is_serving}
 use Rattle.shared_ring.specs.declared.events.DriverEvent.{DriverEvent}
@@ -23,7 +22,8 @@ use Rattle.shared_ring.specs.Slots.{slots_while, front_buffer}
 use Rattle.shared_ring.specs.Steps.{FoundTail, CameOut}
 use Rattle.shared_ring.specs.Tables.{IsTableOf, words_of}
 use Rattle.shared_ring.proofs.Allowed.{controller-store, controller-load, controller-take, controller-give}
-use Rattle.shared_ring.proofs.DriverSeats.{same-words, words-big, front-is}
+use Rattle.shared_ring.proofs.Standing as standing
+use Rattle.shared_ring.proofs.Standing.{words-big, front-is}
 use Rattle.shared_ring.proofs.Folds.{controlling-snoc}
 
 module _ {Ring Posted Served Given D C : Type 0} (form : Form Ring Posted Served Given D C) where
@@ -108,27 +108,17 @@ module _ {Ring Posted Served Given D C : Type 0} (form : Form Ring Posted Served
         own : table ≡ ring
         own = ap (λ (s : End). s.table) was ∙ mine ∙ sym ring_is
 
-        key-is : key.0 ≡ size
-        key-is = sym ruled.slots ∙ ap (λ (z : TableId). z.slots) (sym own) ∙ inv.size_is
-
         counts : ring.slots ≡ size
-        counts = ap (λ (z : TableId). z.slots) (sym own) ∙ inv.size_is
-
-        mode-is : key.1 ≡ mode
-        mode-is = same-words size key.1 mode (ap (λ (n : ℕ). words_of n key.1) (sym key-is) ∙ sym ruled.words ∙ ap (λ (z : TableId). z.words) (sym own) ∙ inv.words)
+        counts = standing.counts form table size mode inv.size_is inv.words ring key ruled own
 
         within : (i : ℕ) → i < words_of size mode → i < ring.words
-        within i h = let b : ring.words ≡ words_of size mode = ap (λ (z : TableId). z.words) (sym own) ∙ inv.words in omega arith
+        within = standing.within form table size mode inv.size_is inv.words ring key ruled own
 
         low : (i : ℕ) → i < size + 4 → i < words_of size mode
-        low i h = let w = words-big size mode in omega arith
+        low = standing.low size mode
 
         allow-at : (T : ℕ → It → ℕ → It → Type 0) (id i : ℕ) (f : ℕ → ℕ) (m m' : It) → m' ≡ m → Allows (IsRuled form size mode) size id m i f (T size m) → Allows (IsRuled form key.0 key.1) ring.slots id m' i f (T ring.slots m')
-        allow-at T id i f m m' e a =
-            subst (λ (z : ℕ). Allows (IsRuled form z key.1) ring.slots id m' i f (T ring.slots m')) (sym key-is)
-            (subst (λ (z : Completion). Allows (IsRuled form size z) ring.slots id m' i f (T ring.slots m')) (sym mode-is)
-            (subst (λ (z : ℕ). Allows (IsRuled form size mode) z id m' i f (T z m')) (sym counts)
-            (subst (λ (z : It). Allows (IsRuled form size mode) size id z i f (T size z)) (sym e) a)))
+        allow-at = standing.allow-at form table size mode inv.size_is inv.words ring key ruled own
 
         abbrev Asks : (Step Buffer → It → ℕ → It → Type 0) → ℕ → ℕ → ℕ → Type 0
         Asks T id i v = (table ≡ ring) × (i < ring.words) × Allows (IsRuled form key.0 key.1) ring.slots id me i (λ _. v) (λ _. T (step ring.slots i v 0 none) me v)

@@ -1,25 +1,23 @@
 -- What the controller has of a queue, as each step changes it.
-use Rattle.std.proofs.Common.{◌≡◌, ℕ, ◌+◌, ◌-◌, ◌%◌, ◌<◌, ◌≤◌, Bool, true, false, not, ◌&&◌, List, [], ◌∷◌, ◌++◌, length, Option, Some, None, sym, refl, ap, ◌∙◌, subst, ⊎_elim, arith, if◌then◌else◌}
-use Rattle.std.specs.Prelude.{slice_get, ◌==◌, nat_lt}
-use Rattle.std.proofs.lemmas.Bool.{and_parts, and_left, and_from, and_right, both_ways, true≢false, false≢true, cases_Bool, not-true}
+use Rattle.std.proofs.Common.{◌≡◌, ℕ, ◌+◌, ◌-◌, ◌%◌, ◌<◌, Bool, true, false, ◌&&◌, List, [], ◌∷◌, ◌++◌, length, Option, Some, None, sym, refl, ap, ◌∙◌, arith, if◌then◌else◌}
+use Rattle.std.specs.Prelude.{slice_get}
+use Rattle.std.proofs.lemmas.Bool.{and_left, and_from, and_right, both_ways, false≢true}
 use Rattle.std.proofs.lemmas.Option.{none-some}
 use Rattle.buffer_pool.specs.Buffer.{Buffer}
-use Rattle.ring_model.specs.declared.states.DriverState.{DriverState}
-use Rattle.ring_model.specs.declared.states.DriverState.TheVariants.{New, Asked, On, Stopping, Stopped, Cleared, Tailed}
+use Rattle.ring_model.specs.declared.states.DriverState.TheVariants.{Asked, Stopping}
 use Rattle.ring_model.specs.declared.states.ControllerState.TheVariants.{Serving, Ended}
 use Rattle.ring_model.specs.declared.handshake.Handshake.{Handshake}
-use Rattle.ring_model.specs.declared.steps.ControlStep.TheVariants.{AskEnable, LookAsked, Answer, LookAnswered, AskDisable}
-use Rattle.ring_model.specs.shared.Handshakes.{is_open, is_live, is_answered, is_serving, is_ended, is_new, is_on, is_stopped, is_cleared, is_tailed, is_between, enable, disable, learned}
+use Rattle.ring_model.specs.declared.steps.ControlStep.TheVariants.{AskEnable, LookAsked, LookAnswered, AskDisable}
+use Rattle.ring_model.specs.shared.Handshakes.{is_open, is_serving, is_ended, is_new, is_on, is_stopped, is_cleared, is_tailed, is_between, enable, disable, learned}
 use Rattle.ring_model.specs.shared.QueueSteps.{Post, Publish, Look, Fetch, Serve, Head, Give, Shake, Reclaim, ClearHead, ClearTail, Renew}
-use Rattle.ring_model.specs.shared.Queue.{Queue, posted_count, served_count, given_count, returned_count, may, by}
-use Rattle.ring_model.specs.shared.Agreement.{held_buffer}
+use Rattle.ring_model.specs.shared.Queue.{Queue, posted_count, served_count, by}
 use Rattle.ring_model.proofs.shared.Beginnings.{slice_get-front}
 use Rattle.ring_model.proofs.shared.Places.{ahead}
 use Rattle.ring_model.proofs.shared.Kept.{IsKept}
-use Rattle.ring_model.proofs.shared.Shakes.{new_open, on_serving, serving_unended, learned_open, stopped_answered, cleared_emptied, tailed_emptied, emptied_answered, answered_closed, shakes-disable, shakes-enable, serving_unanswered}
+use Rattle.ring_model.proofs.shared.Shakes.{new_open, on_serving, serving_unended, learned_open, stopped_answered, cleared_emptied, tailed_emptied, emptied_answered, answered_closed}
 use Rattle.ring_model.proofs.shared.Stepping.{shook, held_below, answered_idle, answered_unheld}
 use Rattle.shared_ring.specs.Records.{Controlled, count_at}
-use Rattle.shared_ring.specs.Lies.{IsControlled, is_early, LiesIn}
+use Rattle.shared_ring.specs.Lies.{IsControlled}
 use Rattle.shared_ring.proofs.Laying.{none-empty}
 
 -- a queue that is served does not stand between two epochs

@@ -1,15 +1,12 @@
 -- The driver's seat: what each of its steps asks of the table, and what the seat keeps.
-use Rattle.std.proofs.Common.{◌≡◌, ℕ, ◌+◌, ◌-◌, ◌%◌, ◌<◌, ◌≤◌, Bool, true, false, List, [], ◌∷◌, ◌++◌, length, Option, Some, None, sym, refl, ap, ◌∙◌, subst, arith, length-append, mod-lt}
-use Rattle.std.specs.Prelude.{slice_get}
+use Rattle.std.proofs.Common.{◌≡◌, ℕ, ◌+◌, ◌-◌, ◌%◌, ◌<◌, ◌≤◌, Bool, true, false, List, [], ◌∷◌, ◌++◌, length, sym, refl, ap, ◌∙◌, subst, arith, length-append, mod-lt}
 use Rattle.std.proofs.Math.Nat.{mod-mod}
 use Rattle.std.proofs.lemmas.Bool.{false≢true}
 use mathlib.Core.Option.{none}
 use Rattle.atomic_table.specs.Table.{Allows, Step, step, rest, turned}
 use Rattle.atomic_table.specs.Seated.{TableId}
 use Rattle.buffer_pool.specs.Buffer.{Buffer, blank}
-use Rattle.limits.specs.RingLength.{IsRingLength}
 use Rattle.ring_model.specs.declared.states.Completion.{Completion}
-use Rattle.ring_model.specs.declared.states.Completion.TheVariants.{Status, Head}
 use Rattle.ring_model.specs.shared.Handshakes.{is_open, is_new, is_on, is_stopped, is_cleared}
 use Rattle.shared_ring.specs.declared.events.DriverEvent.{DriverEvent}
 use Rattle.shared_ring.specs.declared.events.DriverEvent.TheVariants as driver
@@ -19,29 +16,16 @@ use Rattle.shared_ring.specs.declared.events.View.TheVariants.{Driver}
 use Rattle.shared_ring.specs.Ends.{Side, grown}
 use Rattle.shared_ring.specs.Forms.{Form, drive, driving}
 use Rattle.shared_ring.specs.Keeping.{IsRuled, IsDriverSeat, IsWindow}
-use Rattle.shared_ring.specs.Own.{Event, Tells, SameOut, OneBack, AllGone, MayLoad, MayClear, MayTake, MayEnd, Missed, Came}
+use Rattle.shared_ring.specs.Own.{Event, Tells, SameOut, OneBack, MayLoad, MayClear, MayTake, MayEnd, Missed, Came}
 use Rattle.shared_ring.specs.Plays.{Seated, driver_does, posts, publishes, asks_enable, LoadsControl, asks_disable, LoadsHead, clears_head, clears_tail, DriverDoes, DriverTakes, DriverFinds, driver_ends}
 use Rattle.shared_ring.specs.Records.{Driven, driver_slots, undriven}
 use Rattle.shared_ring.specs.Seats.{driver_part}
 use Rattle.shared_ring.specs.Slots.{empty_slots, front_buffer}
 use Rattle.shared_ring.specs.Tables.{IsTableOf, words_of}
 use Rattle.shared_ring.proofs.Allowed.{driver-store, driver-load, driver-clear, driver-find, driver-give}
+use Rattle.shared_ring.proofs.Standing as standing
+use Rattle.shared_ring.proofs.Standing.{words-big, front-is}
 use Rattle.shared_ring.proofs.Folds.{driving-snoc, slots-post, slots-return, slots-alike}
-
--- a table's words tell how its ring reports
-pub same-words : (n : ℕ) (a b : Completion) → words_of n a ≡ words_of n b → a ≡ b
-same-words n Status Status e = refl
-same-words n Status Head e = absurd (omega arith)
-same-words n Head Status e = absurd (omega arith)
-same-words n Head Head e = refl
-
-pub words-big : (n : ℕ) (mode : Completion) → n + 4 ≤ words_of n mode
-words-big n Status = omega arith
-words-big n Head = omega arith
-
--- the front slot is what the list says
-pub front-is : (xs ys : List (ℕ × Buffer)) (x : ℕ × Buffer) → xs ≡ x ∷ ys → xs ≡ x ∷ rest xs
-front-is xs ys x e = subst (λ (zs : List (ℕ × Buffer)). zs ≡ x ∷ rest zs) (sym e) refl
 
 module _ {Ring Posted Served Given D C : Type 0} (form : Form Ring Posted Served Given D C) where
   abbrev It : Type 0
@@ -138,27 +122,17 @@ module _ {Ring Posted Served Given D C : Type 0} (form : Form Ring Posted Served
         own : table ≡ ring
         own = ap (λ (s : End). s.table) was ∙ mine ∙ sym ring_is
 
-        key-is : key.0 ≡ size
-        key-is = sym ruled.slots ∙ ap (λ (z : TableId). z.slots) (sym own) ∙ inv.size_is
-
         pub counts : ring.slots ≡ size
-        counts = ap (λ (z : TableId). z.slots) (sym own) ∙ inv.size_is
-
-        mode-is : key.1 ≡ mode
-        mode-is = same-words size key.1 mode (ap (λ (n : ℕ). words_of n key.1) (sym key-is) ∙ sym ruled.words ∙ ap (λ (z : TableId). z.words) (sym own) ∙ inv.words)
+        counts = standing.counts form table size mode inv.size_is inv.words ring key ruled own
 
         within : (i : ℕ) → i < words_of size mode → i < ring.words
-        within i h = let b : ring.words ≡ words_of size mode = ap (λ (z : TableId). z.words) (sym own) ∙ inv.words in omega arith
+        within = standing.within form table size mode inv.size_is inv.words ring key ruled own
 
         low : (i : ℕ) → i < size + 4 → i < words_of size mode
-        low i h = let w = words-big size mode in omega arith
+        low = standing.low size mode
 
         allow-at : (T : ℕ → It → ℕ → It → Type 0) (id i : ℕ) (f : ℕ → ℕ) (m m' : It) → m' ≡ m → Allows (IsRuled form size mode) size id m i f (T size m) → Allows (IsRuled form key.0 key.1) ring.slots id m' i f (T ring.slots m')
-        allow-at T id i f m m' e a =
-            subst (λ (x : ℕ). Allows (IsRuled form x key.1) ring.slots id m' i f (T ring.slots m')) (sym key-is)
-            (subst (λ (x : Completion). Allows (IsRuled form size x) ring.slots id m' i f (T ring.slots m')) (sym mode-is)
-            (subst (λ (x : ℕ). Allows (IsRuled form size mode) x id m' i f (T x m')) (sym counts)
-            (subst (λ (x : It). Allows (IsRuled form size mode) size id x i f (T size x)) (sym e) a)))
+        allow-at = standing.allow-at form table size mode inv.size_is inv.words ring key ruled own
 
         abbrev Asks : (Step Buffer → It → ℕ → It → Type 0) → ℕ → ℕ → ℕ → Type 0
         Asks T id i v = (table ≡ ring) × (i < ring.words) × Allows (IsRuled form key.0 key.1) ring.slots id me i (λ _. v) (λ _. T (step ring.slots i v 0 none) me v)
@@ -348,9 +322,9 @@ module _ {Ring Posted Served Given D C : Type 0} (form : Form Ring Posted Served
                   take_own-steps got = record { is_done = f; step = came-steps r b table' me1 me2 me3 same (t.taken f) l turn got; told = came-told r b table' me1 me2 me3 same (t.taken f) l turn got }
 
           -- the epoch ends
-          module _ (word : ℕ) (may : MayEnd form event tells now.table.slots now.completion now.events word) where
-            end-may : MayEnd form event tells size mode (driver_part me.0) word
-            end-may = here (λ n m xs. MayEnd form event tells n m xs word) may
+          module _ (word : ℕ) (may : MayEnd form event now.table.slots now.completion now.events word) where
+            end-may : MayEnd form event size mode (driver_part me.0) word
+            end-may = here (λ n m xs. MayEnd form event n m xs word) may
 
             pub end_own-asks : (id : ℕ) → Asks (driver_ends event) id word 0
             end_own-asks id = let m = end-may in store-asks (driver_ends event) id word 0 m.word_is (driver-store form size mode es id its (driver_ends event) word 0 (event size es word 0 blank) m.goes refl)

@@ -8,10 +8,10 @@ use Rattle.atomic_table.specs.Table.{Act, keeps, takes, chain, Valid, homes_afte
 use Rattle.atomic_table.proofs.Lists.{at_set, set_else}
 use Rattle.buffer_pool.specs.Buffer.{Buffer, blank}
 use Rattle.shared_ring.specs.declared.events.View.{View}
-use Rattle.shared_ring.specs.declared.events.View.TheVariants.{Maker, Driver, Controller, Both, Nobody}
+use Rattle.shared_ring.specs.declared.events.View.TheVariants.{Maker, Both}
 use Rattle.shared_ring.specs.Seats.{Fits, HasSeats}
 use Rattle.shared_ring.specs.Slots.{empty_slots}
-use Rattle.shared_ring.specs.Tables.{Runs, IsRuledBy}
+use Rattle.shared_ring.specs.Tables.{IsRuledBy}
 use Rattle.shared_ring.specs.Plays.{Seated, Deals}
 use Rattle.shared_ring.proofs.Folds.{empty_slots-back}
 use Rattle.shared_ring.proofs.Laying.{set-same}

@@ -1,16 +1,15 @@
 -- Words and slots of the items that are out, as each step changes them.
-use Rattle.std.proofs.Common.{◌≡◌, ◌≢◌, ℕ, ◌+◌, ◌-◌, ◌%◌, ◌<◌, ◌≤◌, Bool, true, false, not, ◌&&◌, List, [], ◌∷◌, ◌++◌, length, Option, Some, None, sym, refl, ap, ◌∙◌, subst, arith, if◌then◌else◌, mod-lt, length-append}
+use Rattle.std.proofs.Common.{◌≡◌, ◌≢◌, ℕ, ◌+◌, ◌-◌, ◌%◌, ◌<◌, ◌≤◌, Bool, true, false, not, ◌&&◌, [], ◌∷◌, ◌++◌, length, Option, Some, None, sym, refl, ap, ◌∙◌, subst, arith, if◌then◌else◌, mod-lt, length-append}
 use Rattle.std.specs.Prelude.{slice_get, ◌==◌, nat_lt}
-use Rattle.std.proofs.lemmas.Bool.{and_parts, and_left, and_right, not-true, ltb-true, eqb-true, eq-eqb, ne_eqb}
+use Rattle.std.proofs.lemmas.Bool.{and_parts, and_left, and_right, not-true, ltb-true, eq-eqb, ne_eqb}
 use Rattle.ring_model.specs.shared.Lists.{EachItem}
-use Rattle.ring_model.specs.shared.Handshakes.{is_open, is_live, is_serving, is_stopped}
+use Rattle.ring_model.specs.shared.Handshakes.{is_open, is_serving}
 use Rattle.ring_model.specs.shared.QueueSteps.{Post, Fetch, Serve, Give, Reclaim, Renew}
 use Rattle.ring_model.specs.shared.Queue.{Queue, posted_count, served_count, given_count, returned_count, may, by}
 use Rattle.ring_model.specs.shared.Agreement.{HasItems, wanted_slot, wanted_word}
 use Rattle.ring_model.proofs.shared.Beginnings.{slice_get-front}
 use Rattle.ring_model.proofs.shared.Places.{Writes, each_item-set, each_item-push, each_item-drop}
 use Rattle.ring_model.proofs.shared.Kept.{IsKept}
-use Rattle.ring_model.proofs.shared.Shakes.{live_unanswered}
 use Rattle.ring_model.proofs.shared.Stepping.{held_below, returned_served}
 use Rattle.shared_ring.proofs.Laying.{slice_get-past, slice_get-last, slice_get-snoc_other}
 

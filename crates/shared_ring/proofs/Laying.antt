@@ -1,5 +1,5 @@
 -- Words and slots in the table's lists, read by place.
-use Rattle.std.proofs.Common.{◌≡◌, ◌≢◌, ℕ, zero, suc, ◌+◌, ◌<◌, ◌≤◌, Bool, true, false, ◌&&◌, if◌then◌else◌, List, [], ◌∷◌, ◌++◌, length, set, Option, Some, None, refl, ap, ◌∙◌, arith, get_or-set_same, get_or-set_other}
+use Rattle.std.proofs.Common.{◌≡◌, ◌≢◌, ℕ, zero, suc, ◌+◌, ◌<◌, ◌≤◌, Bool, true, false, ◌&&◌, if◌then◌else◌, List, [], ◌∷◌, ◌++◌, length, replicate, set, Option, Some, None, refl, ap, ◌∙◌, arith, get_or-set_same, get_or-set_other}
 use Rattle.std.specs.Prelude.{slice_get, slice_index, slice_set, ◌==◌}
 use Rattle.std.proofs.lemmas.Bool.{eqb-true}
 use Rattle.std.proofs.lemmas.Option.{none-some}
@@ -130,3 +130,12 @@ pub index_there : (xs : List ℕ) (k : ℕ) → k < length xs → slice_get xs k
 index_there [] k h = absurd (omega arith)
 index_there (x ∷ xs) zero h = refl
 index_there (x ∷ xs) (suc k) h = index_there xs k (omega arith)
+
+-- the words of a made ring
+zero-words : (m k : ℕ) → slice_index (replicate m 0) k ≡ 0
+zero-words zero k = refl
+zero-words (suc m) zero = refl
+zero-words (suc m) (suc k) = zero-words m k
+
+pub at_zero : (words : List ℕ) (m k : ℕ) → words ≡ replicate m 0 → slice_index words k ≡ 0
+at_zero words m k e = ap (λ (ws : List ℕ). slice_index ws k) e ∙ zero-words m k

@@ -6,6 +6,7 @@ pub mod Controlling
 pub mod Folds
 pub mod Allowing
 pub mod Allowed
+pub mod Standing
 pub mod DriverSeats
 pub mod Reclaiming
 pub mod ControllerSeats

@@ -1,17 +1,17 @@
 -- Words and slots that lie as a queue has them lie as the queue after a step has them, once the step is made.
-use Rattle.std.proofs.Common.{◌≡◌, ℕ, ◌+◌, ◌%◌, ◌<◌, ◌≤◌, Bool, true, false, not, ◌&&◌, List, length, set, Option, Some, None, sym, refl, ap, ◌∙◌, subst, ⊎_elim, ◌⊎◌, inl, inr, arith, if◌then◌else◌, mod-lt, length-set, mod-eq_of_lt}
-use Rattle.std.specs.Prelude.{slice_get, slice_index, slice_set, ◌==◌, nat_lt}
-use Rattle.std.proofs.lemmas.Bool.{and_parts, and_left, not-true, ltb-true, both_ways, eqb-true, true≢false, false≢true}
+use Rattle.std.proofs.Common.{◌≡◌, ℕ, ◌+◌, ◌%◌, ◌<◌, ◌≤◌, Bool, true, false, not, List, length, set, Option, Some, None, sym, refl, ap, ◌∙◌, subst, ⊎_elim, ◌⊎◌, inl, inr, arith, if◌then◌else◌, mod-lt, length-set, mod-eq_of_lt}
+use Rattle.std.specs.Prelude.{slice_get, slice_index, slice_set, ◌==◌}
+use Rattle.std.proofs.lemmas.Bool.{and_parts, both_ways, true≢false, false≢true}
 use mathlib.Core.Option as maybe
 use mathlib.Core.Option.{some, none}
 use Rattle.buffer_pool.specs.Buffer.{Buffer}
 use Rattle.ring_model.specs.declared.states.DriverState.{DriverState}
 use Rattle.ring_model.specs.declared.states.DriverState.TheVariants.{New, Asked, On, Stopping, Stopped, Cleared, Tailed}
 use Rattle.ring_model.specs.declared.handshake.Handshake.{Handshake}
-use Rattle.ring_model.specs.declared.steps.ControlStep.TheVariants.{AskEnable, LookAsked, Answer, LookAnswered, AskDisable}
-use Rattle.ring_model.specs.shared.Handshakes.{is_open, is_live, is_answered, is_serving, is_ended, is_new, is_on, is_stopped, is_cleared, is_tailed, enable, disable, learned}
+use Rattle.ring_model.specs.declared.steps.ControlStep.TheVariants.{AskEnable, LookAsked, LookAnswered, AskDisable}
+use Rattle.ring_model.specs.shared.Handshakes.{is_open, is_answered, is_serving, is_new, is_cleared, is_tailed, enable, disable, learned}
 use Rattle.ring_model.specs.shared.QueueSteps.{Post, Publish, Look, Fetch, Serve, Head, Give, Shake, Reclaim, ClearHead, ClearTail, Renew}
-use Rattle.ring_model.specs.shared.Queue.{Queue, posted_count, served_count, given_count, returned_count, may, by}
+use Rattle.ring_model.specs.shared.Queue.{Queue, posted_count, served_count, returned_count, may, by}
 use Rattle.ring_model.specs.shared.Agreement.{HasItems, HasRegisters, registers_of}
 use Rattle.ring_model.proofs.shared.Places.{Writes, slice_index-writes}
 use Rattle.ring_model.proofs.shared.Kept.{IsKept}
@@ -19,7 +19,7 @@ use Rattle.ring_model.proofs.shared.Shakes.{shakes-disable, serving_unanswered}
 use Rattle.ring_model.proofs.shared.Stepping.{shook}
 use Rattle.shared_ring.specs.Slots.{home_at}
 use Rattle.shared_ring.specs.Lies.{is_early, LiesIn}
-use Rattle.shared_ring.proofs.Laying.{registers-stay, registers-head, registers-tail, registers-control, registers-quiet, descriptors-stay, home-given, home-taken, home-left, set-same}
+use Rattle.shared_ring.proofs.Laying.{registers-stay, registers-head, registers-tail, registers-control, registers-quiet, descriptors-stay, home-given, home-taken, home-left}
 use Rattle.shared_ring.proofs.Items.{items-read, items-post, items-fetch, items-serve, items-give, items-reclaim, items-renew}
 
 -- what a driver's state tells of an epoch that has not begun

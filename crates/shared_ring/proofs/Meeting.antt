@@ -1,9 +1,8 @@
 -- What the steps of a making, of a meeting and of a closing ask, over the seats that they are made with.
-use Rattle.std.proofs.Common.{◌≡◌, ℕ, zero, suc, ◌+◌, ◌<◌, ◌≤◌, Bool, true, false, ◌&&◌, if◌then◌else◌, ⊎_elim, List, [], ◌∷◌, ◌++◌, length, Option, Some, sym, refl, ap, ◌∙◌, subst, arith, length-append}
+use Rattle.std.proofs.Common.{◌≡◌, ℕ, zero, suc, ◌+◌, ◌<◌, Bool, true, false, ◌&&◌, if◌then◌else◌, ⊎_elim, List, [], ◌∷◌, ◌++◌, length, Option, Some, sym, refl, ap, ◌∙◌, subst, arith, length-append}
 use Rattle.std.specs.Prelude.{slice_get}
 use Rattle.std.proofs.lemmas.Bool.{cases_lt, and_parts, false≢true}
-use mathlib.Core.Option as maybe
-use mathlib.Core.Option.{some, none}
+use mathlib.Core.Option.{none}
 use Rattle.atomic_table.specs.Table.{Allows, Splits, Joins, Final, Seen, step}
 use Rattle.atomic_table.specs.Seated.{TableId}
 use Rattle.buffer_pool.specs.Buffer.{Buffer}
@@ -28,7 +27,7 @@ use Rattle.shared_ring.specs.Records.{Driven, Controlled}
 use Rattle.shared_ring.specs.Seats.{driver_half, controller_half, both_halves}
 use Rattle.shared_ring.specs.Tables.{IsTableOf, words_of}
 use Rattle.shared_ring.proofs.Allowing.{running, allow_both, splits-halve, splits-lend, joins-unite, joins-return}
-use Rattle.shared_ring.proofs.DriverSeats.{words-big}
+use Rattle.shared_ring.proofs.Standing.{words-big}
 use Rattle.shared_ring.proofs.Gathering.{allow_deal}
 use Rattle.shared_ring.proofs.Laying.{slice_get-last, none-empty}
 use Rattle.shared_ring.proofs.Seating.{both_are}

@@ -1,5 +1,5 @@
 -- What the fields of a controller's end keep as its record grows.
-use Rattle.std.proofs.Common.{◌≡◌, ℕ, ◌+◌, ◌-◌, ◌%◌, ◌<◌, ◌≤◌, Bool, true, false, if◌then◌else◌, List, [], ◌∷◌, ◌++◌, length, Option, Some, None, sym, refl, ap, ◌∙◌, arith, length-append, mod-lt}
+use Rattle.std.proofs.Common.{◌≡◌, ℕ, ◌+◌, ◌-◌, ◌%◌, ◌<◌, ◌≤◌, Bool, true, false, if◌then◌else◌, [], ◌∷◌, ◌++◌, length, Some, None, sym, refl, ap, ◌∙◌, subst, arith, length-append, mod-lt}
 use Rattle.std.specs.Prelude.{◌==◌}
 use Rattle.std.proofs.Math.Nat.{zero-mod}
 use Rattle.std.proofs.lemmas.Bool.{both_ways, false≢true}
@@ -12,9 +12,14 @@ use Rattle.ring_model.specs.shared.Places.{between_places}
 use Rattle.ring_model.proofs.shared.Places.{next_place}
 use Rattle.shared_ring.specs.declared.control.Control.{Control}
 use Rattle.shared_ring.specs.declared.control.Control.TheVariants.{Disabled, Enabled}
-use Rattle.shared_ring.specs.Calls.{IsServer}
+use Rattle.shared_ring.specs.declared.events.ControllerEvent.TheVariants.{Looked}
+use Rattle.shared_ring.specs.Calls.{IsServer, FoundAhead}
+use Rattle.shared_ring.specs.Ends.{ControllerSide, controller_size, controller_record, known_ahead}
+use Rattle.shared_ring.specs.Forms.{Form}
 use Rattle.shared_ring.specs.Records.{Controlled, uncontrolled, count_at}
+use Rattle.shared_ring.specs.Steps.{FoundTail}
 use Rattle.shared_ring.specs.Words.{control_word}
+use Rattle.shared_ring.proofs.Folds.{controlling-snoc}
 
 pub server-fresh : {Served : Type 0} (n : ℕ) → IsRingLength n → IsServer {Served = Served} n uncontrolled 0 0 false Off Disabled
 server-fresh n lawful = let g : 8 ≤ n = lawful.0 in record {
@@ -135,3 +140,29 @@ module _ {Served : Type 0} (n : ℕ) (x : Controlled Served) (serve ahead : ℕ)
     state_is = refl;
     seen_is = refl;
   }
+
+-- A3, B3, of the end
+module _ {Ring Posted Served Given D C : Type 0} {form : Form Ring Posted Served Given D C} (c : ControllerSide form) (serve ahead : ℕ) (holding : Bool) (side : ControllerState) (asked : Control)
+    (h : IsServer (controller_size c) (controller_record c) serve ahead holding side asked) (now : ControllerSide form) (was : c ≡ now)
+    (new : ControllerSide form) (tail size ahead' : ℕ) (f : FoundTail c tail new) (sizes : size ≡ controller_size new) (is : ahead' ≡ between_places size serve tail) where
+  record-is : controller_record new ≡ record (controller_record c) { known = count_at (controller_size c) (length (controller_record c).served) tail }
+  record-is = ap controller_record f.step ∙ controlling-snoc (controller_size c) form.control_own uncontrolled c.events (Looked tail)
+
+  known-there : count_at (controller_size c) (length (controller_record c).served) tail ≡ length (controller_record c).served + ahead'
+  known-there = known-is (controller_size c) (controller_record c) serve ahead holding side asked h tail size ahead' (sizes ∙ ap controller_size f.step) is f.grows
+
+  pub look-server : IsServer (controller_size c) (record (controller_record c) { known = count_at (controller_size c) (length (controller_record c).served) tail }) serve ahead' holding side asked
+  look-server = server-look (controller_size c) (controller_record c) serve ahead holding side asked h tail size ahead' (sizes ∙ ap controller_size f.step) is f.grows
+
+  pub look-found : FoundAhead now ahead' new
+  look-found = subst (λ (s : ControllerSide form). FoundAhead s ahead' new) was (record {
+    tail = tail;
+    step = f.step;
+    ahead = counted (controller_size c) (controller_record c) serve ahead holding side asked h tail size ahead' (sizes ∙ ap controller_size f.step) is f.grows;
+    same = record-is ∙ ap (λ (j : ℕ). let y : Controlled Served = record (controller_record c) { known = j } in y) known-there;
+    grows = grew (controller_size c) (controller_record c) serve ahead holding side asked h tail size ahead' (sizes ∙ ap controller_size f.step) is f.grows;
+  })
+
+  pub look-ahead : known_ahead new ≡ ahead'
+  look-ahead = let k = known-there in ap (λ (y : Controlled Served). y.known - length y.served) record-is
+      ∙ (let e : count_at (controller_size c) (length (controller_record c).served) tail - length (controller_record c).served ≡ ahead' = omega arith in e)

@@ -1,12 +1,12 @@
 -- What calls of both directions do, where their answer depends on what was loaded.
-use Rattle.std.specs.Prelude.{◌≡◌, ℕ, ◌+◌, ◌%◌, ◌<◌, ◌⊎◌, Bool, true, false, [], length}
+use Rattle.std.specs.Prelude.{◌≡◌, ℕ, ◌+◌, ◌-◌, ◌%◌, ◌<◌, ◌≤◌, ◌⊎◌, Bool, true, false, [], length}
 use Rattle.limits.specs.RingLength.{IsRingLength}
 use Rattle.ring_model.specs.declared.states.ControllerState.{ControllerState}
 use Rattle.ring_model.specs.declared.states.ControllerState.TheVariants.{Serving, Ended}
 use Rattle.ring_model.specs.shared.Handshakes.{is_serving}
 use Rattle.shared_ring.specs.declared.control.Control.{Control}
-use Rattle.shared_ring.specs.declared.events.ControllerEvent.TheVariants.{Enabled, Disabled}
-use Rattle.shared_ring.specs.Ends.{DriverSide, posted, returned, ControllerSide, controller_record, controller_state, seen, answered}
+use Rattle.shared_ring.specs.declared.events.ControllerEvent.TheVariants.{Looked, Enabled, Disabled}
+use Rattle.shared_ring.specs.Ends.{DriverSide, posted, returned, ControllerSide, controller_size, controller_record, controller_state, served, known_ahead, serve_place, seen, answered}
 use Rattle.shared_ring.specs.Forms.{Form}
 use Rattle.shared_ring.specs.Records.{Controlled}
 use Rattle.shared_ring.specs.Slots.{is_there}
@@ -23,6 +23,14 @@ module _ {Ring Posted Served Given D C : Type 0} {form : Form Ring Posted Served
   pub record NoneOut (old new : DriverSide form) : Type 0 where
     pub none_out : returned old ≡ length (posted old)
     pub same : new ≡ old
+
+  -- A3, B3: the tail was loaded, and so many are ahead
+  pub record FoundAhead (old : ControllerSide form) (count : ℕ) (new : ControllerSide form) : Type 0 where
+    pub tail : ℕ
+    pub step : new ≡ answered old (Looked tail)
+    pub ahead : count ≡ (tail + controller_size old - serve_place old) % controller_size old
+    pub same : controller_record new ≡ record (controller_record old) { known = length (served old) + count }
+    pub grows : known_ahead old ≤ count
 
   -- an enabling is asked, and may be answered
   pub record MayEnable (c : ControllerSide form) : Type 0 where

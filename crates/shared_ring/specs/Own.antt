@@ -1,5 +1,5 @@
 -- Steps of one direction's own: what each asks of the agreement, and what it makes of its end's record. `event` is the event by which the record grows, of the ring's length, the record so far, the place of the word, the number found or stored there, and the buffer of the slot that it takes or gives; `tells` is what it tells beside that.
-use Rattle.std.specs.Prelude.{◌≡◌, ℕ, ◌+◌, ◌%◌, ◌<◌, Bool, true, false, List, [], ◌∷◌, ◌++◌, length, slice_index, slice_set, Some, None}
+use Rattle.std.specs.Prelude.{◌≡◌, ℕ, ◌+◌, ◌<◌, Bool, true, false, List, [], ◌∷◌, ◌++◌, length, slice_index, slice_set, None}
 use mathlib.Core.Option as maybe
 use mathlib.Core.Option.{some, none}
 use lib.ListN.{get_elem?}
@@ -69,12 +69,13 @@ module _ {Ring Posted Served Given D C : Type 0} (form : Form Ring Posted Served
     pub same : (r : ℕ) → SameOut d (drive form d (missed place r))
     pub back : (r : ℕ) (b : Buffer) → OneBack d (drive form d (event n es place r b))
 
+module _ {Ring Posted Served Given D C : Type 0} (form : Form Ring Posted Served Given D C) (event : Event (DriverEvent D)) (n : ℕ) (mode : Completion) (es : List (DriverEvent D)) where
   -- a store of 0 that ends the epoch
   pub record MayEnd (word : ℕ) : Type 0 where
     pub word_is : word < words_of n mode
     pub goes : (q : Ring) (cs : List (ControllerEvent C)) (words : List ℕ) (homes : List (maybe.Option Buffer)) → 1 < n → form.Lies n mode q es cs words homes
         → Agrees form n mode (es ++ event n es word 0 blank ∷ []) cs (slice_set words word 0) homes
-    pub gone : AllGone (drive form d (event n es word 0 blank))
+    pub gone : AllGone (drive form (driving form es) (event n es word 0 blank))
 
 module _ {Ring Posted Served Given D C : Type 0} (form : Form Ring Posted Served Given D C) (event : Event (ControllerEvent C)) (n : ℕ) (mode : Completion) (es : List (ControllerEvent C)) where
   abbrev c : Controlled Served

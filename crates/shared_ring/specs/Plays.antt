@@ -1,5 +1,5 @@
 -- What each shared step on the table tells: its end's record has one more event, with what was found and what the rule says of that.
-use Rattle.std.specs.Prelude.{◌≡◌, ℕ, ◌+◌, ◌<◌, ◌≤◌, Bool, true, false, List, [], ◌∷◌, ◌++◌, length, slice_get, Some}
+use Rattle.std.specs.Prelude.{◌≡◌, ℕ, ◌<◌, ◌≤◌, Bool, true, false, [], ◌∷◌, ◌++◌, length}
 use Rattle.atomic_table.specs.Table.{Me, Step, rest}
 use Rattle.buffer_pool.specs.Buffer.{Buffer, blank}
 use Rattle.shared_ring.specs.declared.events.DriverEvent.{DriverEvent}
@@ -8,7 +8,7 @@ use Rattle.shared_ring.specs.declared.events.ControllerEvent.{ControllerEvent}
 use Rattle.shared_ring.specs.declared.events.ControllerEvent.TheVariants as controller
 use Rattle.shared_ring.specs.declared.events.View.{View}
 use Rattle.shared_ring.specs.declared.events.View.TheVariants.{Driver, Controller, Both}
-use Rattle.shared_ring.specs.Forms.{Form, driving, controlling}
+use Rattle.shared_ring.specs.Forms.{Form, controlling}
 use Rattle.shared_ring.specs.Own.{Event, Tells}
 use Rattle.shared_ring.specs.Records.{count_at}
 use Rattle.shared_ring.specs.Seats.{driver_part, controller_part}

@@ -23,7 +23,7 @@ pub trait OwnStep<E> {
 
     ghost event: { Event E };
 
-    ghost tells: { Tells E };
+    ghost tells: { Tells E } = { λ n es place r b. Unit {0} };
 }
 
 /// A load by which a buffer comes back where the word is done.

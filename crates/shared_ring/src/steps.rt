@@ -22,8 +22,7 @@ type Key = (usize, Completion);
 pub struct Rule<R>(PhantomData<R>);
 
 impl<D, C, R: Direction<D, C>> TableRule<Buf, View<DriverEvent<D>, ControllerEvent<C>>, Key>
-    for Rule<R>
-{
+    for Rule<R> {
     ghost use Rattle.shared_ring.specs.declared.events.View.TheVariants.{Maker};
     ghost use Rattle.shared_ring.specs.Keeping.{IsRuled};
 

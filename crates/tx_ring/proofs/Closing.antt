@@ -1,5 +1,5 @@
 -- A ring's end: what its slots have, and which of them lie in the ring.
-use Rattle.std.proofs.Common.{◌≡◌, ℕ, ◌+◌, ◌%◌, ◌<◌, ◌≤◌, Bool, true, List, [], ◌∷◌, length, Option, Some, None, sym, refl, ap, ◌∙◌, subst, arith}
+use Rattle.std.proofs.Common.{◌≡◌, ℕ, ◌+◌, ◌%◌, ◌<◌, ◌≤◌, Bool, true, List, length, Option, Some, None, sym, refl, ap, ◌∙◌, subst, arith}
 use Rattle.std.specs.Prelude.{slice_get}
 use Rattle.std.proofs.lemmas.Option.{none-some}
 use Rattle.atomic_table.specs.Seated.{TableId}
@@ -13,7 +13,7 @@ use Rattle.ring_model.proofs.transmit.Kept.{IsTxKept}
 use Rattle.ring_model.proofs.transmit.Reached.{tx_kept}
 use Rattle.shared_ring.specs.declared.control.Control.{Control}
 use Rattle.shared_ring.specs.Lies.{driven}
-use Rattle.shared_ring.specs.Meeting.{TakenApart, kept_at, kept_upto}
+use Rattle.shared_ring.specs.Meeting.{TakenApart}
 use Rattle.shared_ring.specs.Slots.{is_there}
 use Rattle.shared_ring.proofs.Closing.{kept-count, kept-there, kept-else, holds-is, serves-is}
 use Rattle.tx_ring.specs.Calls.{IsDriverEnd, IsControllerEnd}

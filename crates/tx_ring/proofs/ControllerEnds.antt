@@ -1,5 +1,5 @@
 -- What the fields of a controller's end keep as its record grows.
-use Rattle.std.proofs.Common.{◌≡◌, ℕ, ◌+◌, ◌-◌, ◌%◌, ◌<◌, ◌≤◌, inl, inr, ⊎_elim, Bool, true, false, if◌then◌else◌, List, [], ◌∷◌, ◌++◌, length, Option, Some, None, sym, refl, ap, ◌∙◌, subst, arith, length-append, mod-lt}
+use Rattle.std.proofs.Common.{◌≡◌, ℕ, ◌+◌, ◌-◌, ◌%◌, ◌<◌, ◌≤◌, inl, inr, ⊎_elim, Bool, true, false, if◌then◌else◌, List, [], ◌∷◌, ◌++◌, length, Option, Some, None, sym, refl, ap, ◌∙◌, subst, arith, length-append}
 use Rattle.std.specs.Prelude.{◌==◌}
 use Rattle.std.proofs.Math.Nat.{zero-mod}
 use Rattle.std.proofs.lemmas.Bool.{both_ways, false≢true}
@@ -12,15 +12,14 @@ use Rattle.ring_model.specs.shared.Handshakes.{is_serving}
 use Rattle.ring_model.specs.shared.Places.{between_places}
 use Rattle.ring_model.specs.transmit.Agreement.{tx_word}
 use Rattle.ring_model.specs.transmit.Ring.{ends_posting}
-use Rattle.ring_model.proofs.shared.Places.{next_place}
 use Rattle.shared_ring.specs.declared.control.Control.{Control}
 use Rattle.shared_ring.specs.declared.control.Control.TheVariants as control_is
 use Rattle.shared_ring.specs.declared.events.ControllerEvent.TheVariants as controller
 use Rattle.shared_ring.specs.Words.{control_word}
-use Rattle.shared_ring.specs.Records.{uncontrolled, count_at}
+use Rattle.shared_ring.specs.Records.{uncontrolled}
 use Rattle.shared_ring.proofs.Folds.{controlling-snoc}
 use Rattle.shared_ring.proofs.Serving as shared
-use Rattle.shared_ring.proofs.Serving.{server-look, server-fetch, server-served, server-same, server-request, server-enable, server-disable}
+use Rattle.shared_ring.proofs.Serving.{server-fetch, server-served, server-same, server-request, server-enable, server-disable}
 use Rattle.tx_ring.specs.declared.events.TxControllerOwn.TheVariants.{Sent, Reported}
 use Rattle.tx_ring.specs.Records.{Posting, TxControlled, ControllerStep, control, control_own, fetch_word, eop_of, rs_of, paylen_of, posting_of}
 use Rattle.tx_ring.specs.Ends.{ControllerSide, controller_size, controller_record, sent, known_ready, held, held_word, controller_state, is_owed, serve_place, answered}
@@ -63,38 +62,23 @@ module _ (c : ControllerSide) (serve ready last : ℕ) (holding between ends ask
 
   -- B3
   module _ (new : ControllerSide) (tail size ready' : ℕ) (f : FoundTail c tail new) (sizes : size ≡ controller_size new) (is : ready' ≡ between_places size serve tail) where
-    counted : ready' ≡ (tail + n - length x.served % n) % n
-    counted = shared.counted (controller_size c) (controller_record c) serve ready holding side asked h.server tail size ready' (sizes ∙ ap controller_size f.step) is f.grows
-
-    known-is : count_at n (length x.served) tail ≡ length x.served + ready'
-    known-is = shared.known-is (controller_size c) (controller_record c) serve ready holding side asked h.server tail size ready' (sizes ∙ ap controller_size f.step) is f.grows
-
-    grew : known_ready c ≤ ready'
-    grew = shared.grew (controller_size c) (controller_record c) serve ready holding side asked h.server tail size ready' (sizes ∙ ap controller_size f.step) is f.grows
-
     pub look-keeps : IsControllerEnd new serve ready' last holding between ends asks owing side asked
     look-keeps = end-after c new (controller.Looked tail) serve ready' last holding between ends asks owing side asked f.step (record {
-          server = server-look (controller_size c) (controller_record c) serve ready holding side asked h.server tail size ready' (sizes ∙ ap controller_size f.step) is f.grows;
-          head_is = h.head_is;
-          between_is = h.between_is;
-          ends_is = h.ends_is;
-          asks_is = h.asks_is;
-          owing_is = h.owing_is;
-          owing_serving = h.owing_serving;
-          last_is = h.last_is;
-        })
-
-    pub look-found : FoundReady now ready' new
-    look-found = subst (λ (s : ControllerSide). FoundReady s ready' new) was (record {
-      tail = tail;
-      step = f.step;
-      ahead = counted;
-      same = record-after c new (controller.Looked tail) f.step ∙ ap (λ (j : ℕ). let y : TxControlled = record x { known = j } in y) known-is;
-      grows = grew;
+      server = shared.look-server c serve ready holding side asked h.server now was new tail size ready' f sizes is;
+      head_is = h.head_is;
+      between_is = h.between_is;
+      ends_is = h.ends_is;
+      asks_is = h.asks_is;
+      owing_is = h.owing_is;
+      owing_serving = h.owing_serving;
+      last_is = h.last_is;
     })
 
+    pub look-found : FoundReady now ready' new
+    look-found = shared.look-found c serve ready holding side asked h.server now was new tail size ready' f sizes is
+
     pub look-ready : known_ready new ≡ ready'
-    look-ready = let k = known-is in ap (λ (y : TxControlled). y.known - length y.served) (record-after c new (controller.Looked tail) f.step) ∙ (let e : count_at n (length x.served) tail - length x.served ≡ ready' = omega arith in e)
+    look-ready = shared.look-ahead c serve ready holding side asked h.server now was new tail size ready' f sizes is
 
   -- B4
   module _ (new : ControllerSide) (buf : Buffer) (word : ℕ) (f : CameOut c serve buf word new) where

@@ -1,7 +1,7 @@
 -- What the agreement of a transmit ring allows each end to do.
-use Rattle.std.proofs.Common.{◌≡◌, ℕ, zero, suc, ◌+◌, ◌-◌, ◌%◌, ◌<◌, ◌≤◌, Bool, true, false, not, ◌&&◌, if◌then◌else◌, List, [], ◌∷◌, ◌++◌, length, set, take, Option, Some, None, sym, refl, ap, ◌∙◌, subst, ⊎_elim, arith, mod-lt}
-use Rattle.std.specs.Prelude.{slice_get, slice_index, slice_set, ◌==◌, nat_lt}
-use Rattle.std.proofs.lemmas.Bool.{and_from, and_parts, eq-eqb, cases_eq, both_ways, true≢false, false≢true}
+use Rattle.std.proofs.Common.{◌≡◌, ℕ, zero, suc, ◌+◌, ◌%◌, ◌<◌, ◌≤◌, Bool, true, false, not, List, [], ◌∷◌, ◌++◌, length, take, Option, Some, None, sym, refl, ap, ◌∙◌, subst, ⊎_elim, arith, mod-lt}
+use Rattle.std.specs.Prelude.{slice_get, slice_index, slice_set}
+use Rattle.std.proofs.lemmas.Bool.{and_from, and_parts, eq-eqb, cases_eq, both_ways, true≢false}
 use Rattle.std.proofs.lemmas.Option.{none-some, same_Some}
 use mathlib.Core.Option as maybe
 use mathlib.Core.Option.{some, none}
@@ -13,10 +13,10 @@ use Rattle.ring_model.specs.declared.steps.TxStep.TheVariants as tx
 use Rattle.ring_model.specs.transmit.Ring.{TxRing, are_whole, carried, ends_posting, next_posting, tx_opening}
 use Rattle.ring_model.specs.transmit.Frames.{MayFollow}
 use Rattle.ring_model.specs.transmit.Agreement.{posting_word}
-use Rattle.ring_model.specs.transmit.Steps.{by_head, tx_changed, tx_cleared, tx_settled}
+use Rattle.ring_model.specs.transmit.Steps.{tx_changed, tx_cleared, tx_settled}
 use Rattle.ring_model.specs.shared.Frames.{Bytes, unfinished, ends_frame}
-use Rattle.ring_model.specs.shared.Handshakes.{is_open, is_live, is_new, is_on, is_stopped, is_cleared, is_serving}
-use Rattle.ring_model.specs.shared.Queue.{posted_count, served_count, given_count, returned_count, next_head}
+use Rattle.ring_model.specs.shared.Handshakes.{is_open, is_new, is_on, is_stopped, is_cleared, is_serving}
+use Rattle.ring_model.specs.shared.Queue.{posted_count, served_count, returned_count, next_head}
 use Rattle.ring_model.proofs.shared.Shakes.{open_unanswered, stopped_answered, answered_closed, stopped_full}
 use Rattle.ring_model.proofs.shared.Stepping.{shook, held_below, returned_served, answered_over, answered_unheld}
 use Rattle.ring_model.proofs.transmit.Kept.{IsTxKept}
@@ -24,7 +24,7 @@ use Rattle.ring_model.proofs.transmit.Postings.{may_follow_next}
 use Rattle.ring_model.proofs.transmit.Reached.{tx_lawful}
 use Rattle.shared_ring.specs.declared.events.DriverEvent.TheVariants as driver
 use Rattle.shared_ring.specs.declared.events.ControllerEvent.TheVariants as controller
-use Rattle.shared_ring.specs.Directions.{IsDirection, DriverMay, ControllerMay, Agrees, TakesOut, Fetches}
+use Rattle.shared_ring.specs.Directions.{IsDirection, DriverMay, ControllerMay, TakesOut, Fetches}
 use Rattle.shared_ring.specs.Slots.{home_at}
 use Rattle.shared_ring.proofs.Controlling.{of-serving, of-served, of-known, of-held, of-unheld, known-looked}
 use Rattle.shared_ring.proofs.Items.{fetch_lies}
@@ -107,8 +107,8 @@ module _ (n : ℕ) (mode : Completion) (q : TxRing Bytes) (ds : List DriverStep)
         let more : posted_count q.queue + 1 < returned_count q.queue + n = subst (λ (y : TxDriven). length y.posted + 1 < length y.given + y.reclaimed + n) l.driver room in (
           tx_changed q (tx.Post may.item),
           subst (λ (w : ℕ). LiesAs n mode (tx_changed q (tx.Post may.item)) (ds ++ driver.Posted p w b ∷ []) cs (slice_set words p w) (slice_set homes p (some b))) (sym may.word_is)
-          (subst (λ (y : Buffer). LiesAs n mode (tx_changed q (tx.Post may.item)) (ds ++ driver.Posted p (word_of may.item) y ∷ []) cs (slice_set words p (word_of may.item)) (slice_set homes p (some y))) (sym may.buffer_is)
-          (post-lies n mode q ds cs words homes pos l may.item p (at ∙ there (λ y. length y.posted % n)) on (omega arith) (subst (λ (y : TxDriven). MayFollow n (unfinished carried y.posted) may.item) l.driver may.follows))),
+              (subst (λ (y : Buffer). LiesAs n mode (tx_changed q (tx.Post may.item)) (ds ++ driver.Posted p (word_of may.item) y ∷ []) cs (slice_set words p (word_of may.item)) (slice_set homes p (some y))) (sym may.buffer_is)
+              (post-lies n mode q ds cs words homes pos l may.item p (at ∙ there (λ y. length y.posted % n)) on (omega arith) (subst (λ (y : TxDriven). MayFollow n (unfinished carried y.posted) may.item) l.driver may.follows))),
         );
     publish = λ t at opened whole. (tx_changed q tx.Publish, publish-lies n mode q ds cs words homes pos l t (at ∙ there (λ y. length y.posted % n)) (state-is is_open true opened) (sym (there (λ y. are_whole y.posted)) ∙ whole));
     ask_enable = λ new. (tx_changed q (tx.Control AskEnable), ask_enable-lies n mode q ds cs words homes pos l (state-is is_new true new));
@@ -116,8 +116,8 @@ module _ (n : ℕ) (mode : Completion) (q : TxRing Bytes) (ds : List DriverStep)
     ask_disable = λ on. (tx_changed q (tx.Control AskDisable), ask_disable-lies n mode q ds cs words homes pos l (state-is is_on true on));
     head = λ stopped. let off = state-is is_stopped true stopped in (
       (let o = k.queue in let a = stopped_answered q.handshake.driver off in
-      let e = o.told (answered_over n ends_posting q.queue k.queue a) (answered_closed q.handshake.driver a) (stopped_full q.handshake.driver off) in let z = o.size_is in let h = r.head in
-      let b : served_count q.queue % q.size < q.size = mod-lt (served_count q.queue) (omega arith) in omega arith),
+          let e = o.told (answered_over n ends_posting q.queue k.queue a) (answered_closed q.handshake.driver a) (stopped_full q.handshake.driver off) in let z = o.size_is in let h = r.head in
+          let b : served_count q.queue % q.size < q.size = mod-lt (served_count q.queue) (omega arith) in omega arith),
       (q, head_loaded-lies n mode q ds cs words homes pos l (slice_index words n) r.head off),
     );
     reclaim = reclaim-may;
@@ -196,7 +196,7 @@ module _ (n : ℕ) (mode : Completion) (q : TxRing Bytes) (ds : List DriverStep)
           agrees = (
             tx_changed q tx.Fetch,
             subst (λ (w : ℕ). LiesAs n mode (tx_changed q tx.Fetch) ds (cs ++ controller.Fetched place w (filled p) ∷ []) words (slice_set homes place none)) (sym word)
-            (fetch-lies n mode q ds cs words homes pos l p place at-item on (unheld-there unheld) below none_owed is),
+                (fetch-lies n mode q ds cs words homes pos l p place at-item on (unheld-there unheld) below none_owed is),
           );
         }
 
@@ -214,8 +214,8 @@ module _ (n : ℕ) (mode : Completion) (q : TxRing Bytes) (ds : List DriverStep)
     look = λ serving. let there = serving-there serving in (
       (let b : q.published % n < n = mod-lt q.published (omega arith) in let t = tail-there in omega arith),
       (let o = k.queue.order in let b = o.known_published there in let a = known-there serving in
-      let e = known-looked (says q) lies_there ends_posting n q.queue k.queue q.owed c l.controller (slice_index words (n + 1)) tail-there there in
-      subst (λ (x : ℕ). c.known ≤ x) (sym e) (omega arith)),
+          let e = known-looked (says q) lies_there ends_posting n q.queue k.queue q.owed c l.controller (slice_index words (n + 1)) tail-there there in
+          subst (λ (x : ℕ). c.known ≤ x) (sym e) (omega arith)),
       (tx_changed q tx.Look, look-lies n mode q ds cs words homes pos l (slice_index words (n + 1)) tail-there there),
     );
     fetch = fetch-may;

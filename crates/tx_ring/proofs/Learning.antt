@@ -1,5 +1,5 @@
 -- What the driver has learnt stays so, whatever step is made.
-use Rattle.std.proofs.Common.{◌≡◌, ℕ, ◌+◌, ◌%◌, ⊎_elim, true, not, List, [], ◌∷◌, ◌++◌, length, Some, sym, refl, ap, ◌∙◌, subst, arith, length-append}
+use Rattle.std.proofs.Common.{◌≡◌, ℕ, ◌+◌, ◌%◌, ⊎_elim, true, not, List, [], ◌∷◌, ◌++◌, length, Some, sym, refl, ap, ◌∙◌, subst}
 use Rattle.std.proofs.lemmas.Bool.{and_from, not_from_false}
 use Rattle.std.proofs.lemmas.Option.{none-some, same_Some}
 use Rattle.ring_model.specs.declared.steps.TxStep.{TxStep}
@@ -15,7 +15,7 @@ use Rattle.ring_model.proofs.transmit.Reached.{tx_later-all}
 use Rattle.ring_model.proofs.shared.Reaching.{next-happens}
 use Rattle.ring_model.proofs.shared.Shakes.{answered_closed, stopped_answered, stopped_full}
 use Rattle.ring_model.proofs.shared.Stepping.{answered_over}
-use Rattle.tx_ring.specs.Records.{Posting, TxDriven, DriverStep, drive, driving, Knowing, unknown, know, know_own, saw_head, knowing, posting_of, drive_own}
+use Rattle.tx_ring.specs.Records.{Posting, DriverStep, driving, Knowing, unknown, know, know_own, saw_head, knowing, posting_of, drive_own}
 use Rattle.tx_ring.specs.Rule.{Learnt}
 use Rattle.shared_ring.proofs.Folds as shared
 use Rattle.shared_ring.proofs.Folds.{longer}

@@ -1,6 +1,6 @@
 -- What a look at the oldest outstanding report tells.
-use Rattle.std.proofs.Common.{◌≡◌, ℕ, ◌+◌, ◌%◌, ◌<◌, ◌≤◌, Bool, true, false, not, if◌then◌else◌, List, Option, Some, sym, refl, ap, ◌∙◌, arith, mod-lt}
-use Rattle.std.specs.Prelude.{nat_lt, ◌==◌}
+use Rattle.std.proofs.Common.{◌≡◌, ℕ, ◌+◌, ◌%◌, ◌<◌, ◌≤◌, Bool, true, false, not, if◌then◌else◌, Option, Some, sym, refl, ap, ◌∙◌, arith, mod-lt}
+use Rattle.std.specs.Prelude.{nat_lt}
 use Rattle.std.proofs.lemmas.Bool.{lt-ltb, le-ltb, false≢true}
 use Rattle.ring_model.specs.declared.states.Completion.{Completion}
 use Rattle.ring_model.specs.declared.states.Completion.TheVariants.{Status, Head}
@@ -9,9 +9,8 @@ use Rattle.ring_model.specs.transmit.Steps.{by_head}
 use Rattle.ring_model.proofs.shared.Places.{next_place as next_place-of}
 use Rattle.shared_ring.specs.declared.events.DriverEvent.TheVariants as driver
 use Rattle.tx_ring.specs.declared.events.TxDriverOwn.TheVariants.{NoReport, SawReport}
-use Rattle.tx_ring.specs.Ends.{DriverSide, driver_size, seen_reported, outstanding, appended}
+use Rattle.tx_ring.specs.Ends.{DriverSide, driver_size, seen_reported, appended}
 use Rattle.tx_ring.specs.Plays.{is_done, report_word, reports_item, shows_report}
-use Rattle.tx_ring.specs.Records.{DriverStep}
 use Rattle.tx_ring.specs.Steps.{OldestAt, Looked}
 
 status-word : (n : ℕ) (mode : Completion) (j : ℕ) → by_head mode ≡ false → report_word n mode j ≡ j % n

@@ -1,26 +1,16 @@
 -- What two ends that met know of their ledger.
-use Rattle.std.proofs.Common.{◌≡◌, ℕ, ◌+◌, ◌-◌, ◌%◌, ◌<◌, ◌≤◌, Bool, true, false, ◌&&◌, if◌then◌else◌, List, [], length, Option, Some, None, sym, refl, ap, ◌∙◌, subst, arith}
-use Rattle.std.proofs.lemmas.Bool.{and_parts, false≢true}
-use mathlib.Core.Option.{none}
-use Rattle.atomic_table.specs.Table.{Allows, Splits, Joins, step}
-use Rattle.atomic_table.specs.Seated.{TableId}
-use Rattle.buffer_pool.specs.Buffer.{Buffer}
-use Rattle.ring_model.specs.declared.states.Completion.{Completion}
-use Rattle.ring_model.specs.declared.states.ControllerState.{ControllerState}
-use Rattle.ring_model.specs.declared.states.ControllerState.TheVariants.{Ended}
+use Rattle.std.proofs.Common.{◌≡◌, ℕ, ◌+◌, ◌-◌, ◌%◌, ◌<◌, ◌≤◌, List, length, Option, Some, None, sym, refl, ap, ◌∙◌, subst, arith}
 use Rattle.ring_model.specs.transmit.Ring.{TxLedger, ends_posting}
 use Rattle.ring_model.specs.transmit.Lawful.{IsLawfulTxLedger}
 use Rattle.ring_model.specs.shared.Frames.{Bytes}
-use Rattle.ring_model.specs.shared.Handshakes.{is_open, is_ended, is_serving, is_between}
 use Rattle.ring_model.specs.shared.Queue.{posted_count, served_count}
 use Rattle.ring_model.proofs.transmit.Kept.{IsTxKept}
-use Rattle.ring_model.proofs.transmit.Reached.{tx_kept, tx_lawful, tx_concluded}
+use Rattle.ring_model.proofs.transmit.Reached.{tx_kept, tx_concluded}
 use Rattle.ring_model.proofs.shared.Places.{ahead}
-use Rattle.shared_ring.proofs.Laying.{none-empty}
-use Rattle.tx_ring.specs.Records.{Posting, TxDriven, TxControlled, controlling}
+use Rattle.tx_ring.specs.Records.{Posting, TxDriven}
 use Rattle.shared_ring.proofs.Meeting.{served-is}
 use Rattle.tx_ring.specs.Rule.{says, lies_there}
-use Rattle.tx_ring.specs.Ends.{DriverSide, driver_size, posted, cleaned, driver_state, known_of, ControllerSide, sent, controller_state}
+use Rattle.tx_ring.specs.Ends.{DriverSide, driver_size, posted, cleaned, known_of, ControllerSide}
 use Rattle.tx_ring.specs.Meeting.{ledger_of, sent_now, left_by, left_at, told_left, IsTold, Met}
 
 module _ (d : DriverSide) (c : ControllerSide) (m : Met d c) (same : c.table ≡ d.table) (big : 1 < driver_size d) where

@@ -1,45 +1,41 @@
 -- What the agreement of a transmit ring allows of its own steps.
-use Rattle.std.proofs.Common.{◌≡◌, ℕ, zero, suc, ◌+◌, ◌-◌, ◌%◌, ◌<◌, ◌≤◌, Bool, true, false, if◌then◌else◌, List, [], ◌∷◌, ◌++◌, length, length-append, Option, Some, None, sym, refl, ap, ◌∙◌, subst, arith, mod-lt}
+use Rattle.std.proofs.Common.{◌≡◌, ℕ, ◌+◌, ◌-◌, ◌%◌, ◌<◌, ◌≤◌, Bool, true, false, if◌then◌else◌, List, [], ◌∷◌, ◌++◌, length, length-append, Option, Some, sym, refl, ap, ◌∙◌, subst, arith, mod-lt}
 use Rattle.std.specs.Prelude.{slice_get, slice_index, slice_set, nat_lt}
 use Rattle.std.proofs.lemmas.Bool.{ltb-true, false≢true}
 use mathlib.Core.Option as maybe
 use mathlib.Core.Option.{some, none}
-use Rattle.buffer_pool.specs.Buffer.{Buffer, blank}
+use Rattle.buffer_pool.specs.Buffer.{Buffer}
 use Rattle.ring_model.specs.declared.states.Completion.{Completion}
 use Rattle.ring_model.specs.declared.states.Completion.TheVariants.{Status, Head}
 use Rattle.ring_model.specs.declared.steps.TxStep.TheVariants as step
 use Rattle.ring_model.specs.transmit.Agreement.{done_word}
-use Rattle.ring_model.specs.transmit.Ring.{TxRing, next_posting, next_sent}
+use Rattle.ring_model.specs.transmit.Ring.{TxRing}
 use Rattle.ring_model.specs.transmit.Steps.{by_head, cleaned_one, oldest_report, sent_one, tx_changed, tx_cleared, tx_renewed}
 use Rattle.ring_model.specs.shared.Frames.{Bytes}
 use Rattle.ring_model.specs.shared.Handshakes.{is_live, is_cleared, is_tailed, is_serving}
-use Rattle.ring_model.specs.shared.Queue.{posted_count, served_count, given_count, returned_count}
+use Rattle.ring_model.specs.shared.Queue.{given_count, returned_count}
 use Rattle.ring_model.proofs.shared.Beginnings.{beginning_at}
 use Rattle.ring_model.proofs.shared.Shakes.{live_unanswered}
 use Rattle.ring_model.proofs.transmit.Postings.{may_follow_next}
 use Rattle.ring_model.proofs.transmit.Stepping.{seen_sent}
 use Rattle.shared_ring.specs.declared.events.DriverEvent.TheVariants as driver
-use Rattle.shared_ring.specs.declared.events.ControllerEvent.TheVariants as controller
 use Rattle.shared_ring.specs.Directions.{Agrees}
 use Rattle.shared_ring.specs.Lies.{driven}
 use Rattle.shared_ring.specs.Own.{MayLoad, MayClear, MayEnd, MayStore, MayGive, SameOut}
 use Rattle.shared_ring.specs.Forms.{drive}
 use Rattle.shared_ring.specs.Tables.{words_of}
-use Rattle.shared_ring.proofs.DriverSeats.{words-big}
+use Rattle.shared_ring.proofs.Standing.{low}
 use Rattle.tx_ring.specs.declared.events.TxDriverOwn.TheVariants.{NoReport, SawReport}
 use Rattle.tx_ring.specs.Form.{tx}
 use Rattle.tx_ring.specs.Plays.{report_word, reports_item, shows_report, reports_seen, IsPlace, cleans, IsCleaned, ends_epoch, clears_report, sends, reports}
-use Rattle.tx_ring.specs.Records.{Posting, TxDriven, TxControlled, DriverStep, ControllerStep, driving, controlling, knowing, outstanding, fetched_word}
+use Rattle.tx_ring.specs.Records.{Posting, TxDriven, TxControlled, DriverStep, ControllerStep, driving, controlling, knowing, outstanding}
 use Rattle.tx_ring.specs.Rule.{LiesAs, filled}
-use Rattle.tx_ring.proofs.Lawful.{posting_at, there, state-is, home-out, serving-there, served-there, held-there}
+use Rattle.tx_ring.proofs.Lawful.{posting_at, there, state-is, home-out, served-there, held-there}
 use Rattle.tx_ring.proofs.Lying.{keeps_it, unreclaimed}
 use Rattle.tx_ring.proofs.Moving.{no_report-lies, saw_report-lies, clean-lies, end_epoch-lies, clear_report-lies}
 use Rattle.tx_ring.proofs.Reported.{reports-shown, head-place}
 use Rattle.tx_ring.proofs.Reporting.{report_status-lies, report_head-lies}
 use Rattle.tx_ring.proofs.Sending.{send-lies}
-
-low : (n : ℕ) (mode : Completion) (i : ℕ) → i < n + 4 → i < words_of n mode
-low n mode i h = let w = words-big n mode in omega arith
 
 head-there : (n : ℕ) (mode : Completion) → by_head mode ≡ true → n + 4 < words_of n mode
 head-there n Status e = absurd (false≢true e)
@@ -74,7 +70,7 @@ module _ (n : ℕ) (mode : Completion) (es : List DriverStep) where
         ∙ ap (λ (s : ℕ). reports_item n s (Some j) i (slice_index words i)) x.seen ∙ reports-shown n mode q es cs words homes pos l i j old at on in (
           head-place n mode q es cs words homes pos l i j at,
           subst (λ (b : Bool). Agrees tx n mode (es ++ driver.Own (if b then SawReport i (slice_index words i) else NoReport i (slice_index words i)) ∷ []) cs words homes) (sym shows)
-          (looked i j q cs words homes pos l old on (nat_lt j q.reported) refl),
+              (looked i j q cs words homes pos l old on (nat_lt j q.reported) refl),
         );
     same = λ r. seen-same d i r (shows_report n es i r);
   }
@@ -96,14 +92,14 @@ module _ (n : ℕ) (mode : Completion) (es : List DriverStep) where
     back = λ b. record { posted = refl; back = let e = length-append d.given (b.number ∷ []) in omega arith };
   }
 
-  pub may-end_epoch : by_head mode ≡ false → is_cleared d.state ≡ true → MayEnd tx ends_epoch (λ n es place r b. Unit {0}) n mode es (n + 1)
+  pub may-end_epoch : by_head mode ≡ false → is_cleared d.state ≡ true → MayEnd tx ends_epoch n mode es (n + 1)
   may-end_epoch alone cleared = record {
     word_is = low n mode (n + 1) (omega arith);
     goes = λ q cs words homes pos l. (tx_cleared q false, end_epoch-lies n mode q es cs words homes pos l alone (state-is n mode q es cs words homes pos l is_cleared true cleared));
     gone = record { posted = refl; given = refl; reclaimed = refl };
   }
 
-  pub may-clear_report : by_head mode ≡ true → is_tailed d.state ≡ true → MayEnd tx clears_report (λ n es place r b. Unit {0}) n mode es (n + 4)
+  pub may-clear_report : by_head mode ≡ true → is_tailed d.state ≡ true → MayEnd tx clears_report n mode es (n + 4)
   may-clear_report more tailed = record {
     word_is = head-there n mode more;
     goes = λ q cs words homes pos l. (tx_renewed q, clear_report-lies n mode q es cs words homes pos l more (state-is n mode q es cs words homes pos l is_tailed true tailed));

@@ -1,5 +1,5 @@
 -- A report, by its descriptor or by the head word, leaves words and records as the ring has them that is reported.
-use Rattle.std.proofs.Common.{◌≡◌, ◌≢◌, ℕ, zero, suc, ◌+◌, ◌-◌, ◌%◌, ◌<◌, ◌≤◌, Bool, true, false, not, ◌&&◌, List, [], ◌∷◌, ◌++◌, length, replicate, Option, Some, None, sym, refl, ap, ◌∙◌, subst, ⊎_elim, arith, mod-lt, mod-eq_of_lt, length-set, get_or-set_same, if◌then◌else◌}
+use Rattle.std.proofs.Common.{◌≡◌, ◌≢◌, ℕ, ◌+◌, ◌-◌, ◌%◌, ◌<◌, ◌≤◌, Bool, true, false, not, ◌&&◌, List, [], ◌∷◌, ◌++◌, length, replicate, Option, Some, None, sym, refl, ap, ◌∙◌, subst, ⊎_elim, arith, mod-lt, mod-eq_of_lt, length-set, get_or-set_same, if◌then◌else◌}
 use Rattle.std.specs.Prelude.{slice_get, slice_index, slice_set, nat_lt}
 use Rattle.std.proofs.lemmas.Bool.{and_right, lt-ltb, le-ltb, cases_lt, false≢true}
 use Rattle.std.proofs.lemmas.List.{length-replicate}
@@ -23,11 +23,11 @@ use Rattle.ring_model.proofs.shared.Shakes.{serving_unanswered}
 use Rattle.ring_model.proofs.shared.Stepping.{shook}
 use Rattle.shared_ring.specs.declared.events.ControllerEvent.TheVariants as controller
 use Rattle.shared_ring.specs.Lies.{LiesIn}
-use Rattle.shared_ring.proofs.Laying.{registers-stay}
+use Rattle.shared_ring.proofs.Laying.{registers-stay, at_zero}
 use Rattle.tx_ring.specs.declared.events.TxControllerOwn.TheVariants.{Reported}
 use Rattle.tx_ring.specs.Records.{Posting, DriverStep, ControllerStep, knowing}
 use Rattle.shared_ring.specs.Tables.{words_of}
-use Rattle.shared_ring.proofs.DriverSeats.{words-big}
+use Rattle.shared_ring.proofs.Standing.{words-big}
 use Rattle.tx_ring.specs.Rule.{LiesAs, TellsReports, filled, says, lies_there, word_of}
 use Rattle.tx_ring.proofs.Learning.{learnt-step, learnt-unknown}
 use Rattle.tx_ring.proofs.Lying.{keeps_it, goes_on, control_is, fetched-snoc, unreclaimed, lies-beyond, head-within}
@@ -155,15 +155,6 @@ module _ (n : ℕ) (mode : Completion) (q : TxRing Bytes) (ds : List DriverStep)
         cleared = m.cleared;
       })
       (λ e. get_or-set_same words (n + 4) h 0 (head-within n mode words e old.word_count) ∙ is)
-
--- a made ring, whose ends have done nothing yet
-zero-words : (m k : ℕ) → slice_index (replicate m 0) k ≡ 0
-zero-words zero k = refl
-zero-words (suc m) zero = refl
-zero-words (suc m) (suc k) = zero-words m k
-
-at_zero : (words : List ℕ) (m k : ℕ) → words ≡ replicate m 0 → slice_index words k ≡ 0
-at_zero words m k e = ap (λ (ws : List ℕ). slice_index ws k) e ∙ zero-words m k
 
 -- a ring that is made disabled
 abbrev pub beginning : Completion → TxBeginning

@@ -7,26 +7,22 @@ use mathlib.Core.Option as maybe
 use mathlib.Core.Option.{some, none}
 use Rattle.buffer_pool.specs.Buffer.{Buffer}
 use Rattle.ring_model.specs.declared.states.Completion.{Completion}
-use Rattle.ring_model.specs.declared.states.DriverState.{DriverState}
-use Rattle.ring_model.specs.declared.states.DriverState.TheVariants.{New, Asked, On}
-use Rattle.ring_model.specs.declared.states.ControllerState.{ControllerState}
-use Rattle.ring_model.specs.declared.states.ControllerState.TheVariants as at
 use Rattle.ring_model.specs.declared.steps.ControlStep.TheVariants.{LookAsked, Answer}
 use Rattle.ring_model.specs.declared.steps.TxStep.TheVariants as tx
-use Rattle.ring_model.specs.shared.Handshakes.{is_open, is_on, is_serving, can_enable, can_disable, enable, disable}
+use Rattle.ring_model.specs.shared.Handshakes.{is_serving, can_enable, can_disable, enable, disable}
 use Rattle.ring_model.specs.shared.Frames.{Bytes}
 use Rattle.ring_model.specs.shared.Queue.{served_count, by}
 use Rattle.ring_model.specs.shared.QueueSteps as queue
 use Rattle.ring_model.specs.transmit.Ring.{TxRing, ends_posting, next_posting}
 use Rattle.ring_model.specs.transmit.Steps.{IsTxReachable, sent_one, tx_can, tx_changed, tx_settled}
 use Rattle.ring_model.proofs.transmit.Kept.{IsTxKept}
-use Rattle.ring_model.proofs.shared.Kept.{ShakesAs}
 use Rattle.ring_model.proofs.shared.Shakes.{shakes-enable}
 use Rattle.ring_model.proofs.shared.Stepping.{shook, kept-by, held_below, returned_served}
 use Rattle.shared_ring.specs.declared.events.ControllerEvent.TheVariants as controller
-use Rattle.shared_ring.specs.Lies.{is_early, IsControlled, LiesIn}
+use Rattle.shared_ring.specs.Lies.{IsControlled, LiesIn}
 use Rattle.shared_ring.proofs.Laying.{set-same}
 use Rattle.shared_ring.proofs.Lying.{lies-look, lies-fetch, lies-serve, lies-head, lies-look_asked, lies-enable, lies-disable}
+use Rattle.shared_ring.proofs.Shaking.{early_enabling}
 use Rattle.shared_ring.proofs.Controlling.{ctl-look, ctl-fetch, ctl-serve, ctl-head, ctl-look_asked, ctl-enable, ctl-disable}
 use Rattle.tx_ring.specs.declared.events.TxControllerOwn.TheVariants.{Sent}
 use Rattle.tx_ring.specs.Records.{Posting, TxControlled, DriverStep, ControllerStep, control, controlling, fetch_word, fetched_word, Knowing, knowing, posting_of, rs_of}
@@ -174,7 +170,7 @@ module _ (n : ℕ) (mode : Completion) (q : TxRing Bytes) (ds : List DriverStep)
         completion = l.completion;
         driver = l.driver;
         controller = control_is n mode q ds cs words homes pos l enabled controller.Enabled
-            (ctl-enable (says q) lies_there ends_posting n q.queue k.queue q.owed c l.controller idle opened.1 (m.cleared (early_asked h.driver opened.1 (enabling h.driver h.controller h.control h.seen seen (shook n ends_posting q.queue k.queue))) idle));
+            (ctl-enable (says q) lies_there ends_posting n q.queue k.queue q.owed c l.controller idle opened.1 (m.cleared (early_enabling h.driver h.controller h.control h.seen seen (shook n ends_posting q.queue k.queue) opened.1) idle));
         lies = lies-enable (says q) lies_there ends_posting n (words_of n mode) q.queue k.queue 0 words homes l.lies wide;
         reports = reports-else n mode q.reported words (n + 2) 2 (λ e. omega arith) l.reports;
         fetched = fetched-on controller.Enabled refl;
@@ -182,19 +178,6 @@ module _ (n : ℕ) (mode : Completion) (q : TxRing Bytes) (ds : List DriverStep)
         follow = l.follow;
         learnt = subst (λ (r : TxRing Bytes). Learnt n r x) (enabled-is can) (learnt-step n q k x l.learnt (tx.Control Answer) may refl refl);
       }
-    where
-      early_asked : (d : DriverState) → is_open d ≡ true → ¬ (is_on d ≡ true) → is_early d ≡ true
-      early_asked New e f = refl
-      early_asked Asked e f = refl
-      early_asked On e f = absurd (f refl)
-      early_asked _ e f = absurd (false≢true e)
-
-      -- an enabling is answered before the driver has seen it
-      enabling : (d : DriverState) (s : ControllerState) (control seen : ℕ) → seen ≡ 1 → ShakesAs d s control seen → ¬ (is_on d ≡ true)
-      enabling On at.Off control seen e h f = h
-      enabling On at.Serving control seen e h f = omega (arith, h.1, e)
-      enabling On at.Ended control seen e h f = h
-      enabling _ s control seen e h f = absurd (false≢true f)
 
   pub disable-lies : q.handshake.seen ≡ 3 → is_serving q.handshake.controller ≡ true → tx_settled q ≡ true → LiesAs n mode disabled ds (cs ++ controller.Disabled ∷ []) (slice_set words (n + 2) 0) homes
   disable-lies seen serving settled = let h = q.handshake in let off : can_enable h ≡ false = ap (λ (v : ℕ). (v == 1) && not (is_serving h.controller)) seen in

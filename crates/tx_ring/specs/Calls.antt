@@ -7,7 +7,6 @@ use Rattle.ring_model.specs.declared.states.Completion.{Completion}
 use Rattle.ring_model.specs.declared.states.Completion.TheVariants.{Status, Head}
 use Rattle.ring_model.specs.declared.states.DriverState.{DriverState}
 use Rattle.ring_model.specs.declared.states.ControllerState.{ControllerState}
-use Rattle.ring_model.specs.declared.states.ControllerState.TheVariants as state
 use Rattle.ring_model.specs.shared.Frames.{unfinished}
 use Rattle.ring_model.specs.shared.Handshakes.{is_answered, is_live, is_serving}
 use Rattle.ring_model.specs.transmit.Agreement.{done_word, tx_word}
@@ -17,7 +16,6 @@ use Rattle.ring_model.specs.transmit.Steps.{asks_report}
 use Rattle.shared_ring.specs.declared.events.DriverEvent.TheVariants as driver
 use Rattle.shared_ring.specs.declared.events.ControllerEvent.TheVariants as controller
 use Rattle.shared_ring.specs.declared.control.Control.{Control}
-use Rattle.shared_ring.specs.Words.{control_word}
 use Rattle.tx_ring.specs.declared.events.TxControllerOwn.{TxControllerOwn}
 use Rattle.tx_ring.specs.declared.events.TxControllerOwn.TheVariants.{Reported}
 use Rattle.tx_ring.specs.Meeting.{told_left}
@@ -27,17 +25,8 @@ use Rattle.tx_ring.specs.declared.events.TxDriverOwn.TheVariants.{Cleaned, Ended
 use Rattle.shared_ring.specs.Records.{undriven}
 use Rattle.tx_ring.specs.Records.{Posting, TxDriven, TxControlled, Knowing, unknown, eop_of, rs_of, posting_of}
 use Rattle.tx_ring.specs.Ends.{DriverSide, driver_size, driver_record, posted, cleaned, reclaimed, returned, seen_reported, outstanding, driver_state, known_of, next_place, appended, ControllerSide, controller_size, controller_record, sent, known_ready, held, held_word, controller_state, seen, is_owed, is_between, serve_place, answered}
-pub use Rattle.shared_ring.specs.Calls.{IsFreshDriver, IsFreshController, NoneOut, MayEnable, AnsweredEnabling, AnsweredDisabling, Answered}
+pub use Rattle.shared_ring.specs.Calls.{IsFreshDriver, IsFreshController, NoneOut, FoundAhead as FoundReady, MayEnable, AnsweredEnabling, AnsweredDisabling, Answered}
 use Rattle.shared_ring.specs.Calls.{IsServer}
-use Rattle.shared_ring.specs.Slots.{is_there}
-
--- B3: the tail was loaded, and the result is how far it is ahead
-pub record FoundReady (old : ControllerSide) (ready : ℕ) (new : ControllerSide) : Type 0 where
-  pub tail : ℕ
-  pub step : new ≡ answered old (controller.Looked tail)
-  pub ahead : ready ≡ (tail + controller_size old - serve_place old) % controller_size old
-  pub same : controller_record new ≡ record (controller_record old) { known = length (sent old) + ready }
-  pub grows : known_ready old ≤ ready
 
 -- B4: the next descriptor was loaded, and its buffer came out with the bytes that were posted. What the descriptor says may follow the frame so far; and where it does not end its frame, more is known to be ready
 pub record Fetched (old : ControllerSide) (buf : Buffer) (read : TxRead) (new : ControllerSide) : Type 0 where

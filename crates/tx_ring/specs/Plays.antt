@@ -1,27 +1,15 @@
 -- The transmit ring's own steps: the event of each, and what it tells beside that.
-use Rattle.std.specs.Prelude.{◌≡◌, ℕ, ◌+◌, ◌/◌, ◌%◌, ◌^◌, ◌<◌, ◌≤◌, Bool, true, false, not, nat_lt, ◌==◌, List, ◌∷◌, length, Option, Some, None, slice_get, if◌then◌else◌}
-use Rattle.atomic_table.specs.Table.{Step, rest}
-use Rattle.buffer_pool.specs.Buffer.{Buffer, buffer}
+use Rattle.std.specs.Prelude.{◌≡◌, ℕ, ◌+◌, ◌/◌, ◌%◌, ◌^◌, ◌<◌, ◌≤◌, Bool, false, not, nat_lt, ◌==◌, List, length, Option, Some, None, slice_get, if◌then◌else◌}
+use Rattle.buffer_pool.specs.Buffer.{Buffer}
 use Rattle.ring_model.specs.declared.states.Completion.{Completion}
 use Rattle.ring_model.specs.declared.states.Completion.TheVariants.{Status, Head}
-use Rattle.ring_model.specs.shared.Frames.{Bytes, unfinished}
 use Rattle.ring_model.specs.shared.Places.{between_places}
-use Rattle.ring_model.specs.transmit.Agreement.{tx_word}
-use Rattle.ring_model.specs.transmit.Frames.{MayFollow}
-use Rattle.ring_model.specs.transmit.Ring.{TxRing, carried}
-use Rattle.ring_model.specs.transmit.Steps.{IsTxReachable}
-use Rattle.ring_model.specs.transmit.Lawful.{IsLawfulTx}
 use Rattle.shared_ring.specs.declared.events.DriverEvent.TheVariants as driver
 use Rattle.shared_ring.specs.declared.events.ControllerEvent.TheVariants as controller
-use Rattle.shared_ring.specs.Lies.{driven, IsControlled}
-use Rattle.shared_ring.specs.Plays as shared
-use Rattle.shared_ring.specs.Plays.{driver_does, controller_does}
-use Rattle.shared_ring.specs.Records.{count_at}
-use Rattle.shared_ring.specs.Slots.{front_buffer}
 use Rattle.tx_ring.specs.declared.events.TxDriverOwn.TheVariants.{NoReport, SawReport, Cleaned, EndedEpoch, ClearedReport}
 use Rattle.tx_ring.specs.declared.events.TxControllerOwn.TheVariants.{Sent, Reported}
-use Rattle.tx_ring.specs.Records.{Posting, DriverStep, ControllerStep, drivers_of, controllers_of, driving, controlling, knowing, outstanding, fetched_word, eop_of, rs_of, paylen_of, posting_of}
-use Rattle.tx_ring.specs.Rule.{Learnt, filled, says, lies_there}
+use Rattle.tx_ring.specs.Records.{Posting, DriverStep, ControllerStep, driving, knowing, outstanding, fetched_word}
+use Rattle.tx_ring.specs.Rule.{filled}
 
 -- DD of a transmit write-back
 abbrev pub is_done : ℕ → Bool

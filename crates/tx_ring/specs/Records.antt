@@ -7,7 +7,6 @@ use Rattle.ring_model.specs.transmit.Ring as ring
 use Rattle.ring_model.specs.transmit.Steps.{first_report}
 use Rattle.ring_model.specs.transmit.Ring.{new_posting}
 use Rattle.shared_ring.specs.declared.events.DriverEvent.{DriverEvent}
-use Rattle.shared_ring.specs.declared.events.DriverEvent.TheVariants as driver
 use Rattle.shared_ring.specs.declared.events.ControllerEvent.{ControllerEvent}
 use Rattle.shared_ring.specs.declared.events.ControllerEvent.TheVariants as controller
 use Rattle.shared_ring.specs.declared.events.View.{View}

@@ -1,12 +1,8 @@
 -- The rule of a transmit ring's table: between any two steps words, slots and both records agree with one ring that a schedule makes. It is one rule for both ways to report.
 use Rattle.std.specs.Prelude.{◌≡◌, ℕ, ◌+◌, ◌%◌, Bool, true, List, length, Option, Some, take, slice_get, slice_index}
 use mathlib.Core.Option as maybe
-use Rattle.atomic_table.specs.Table.{State}
-use Rattle.atomic_table.specs.Seated.{TableId}
 use Rattle.buffer_pool.specs.Buffer.{Buffer, buffer}
-use Rattle.limits.specs.RingLength.{IsRingLength}
 use Rattle.ring_model.specs.declared.states.Completion.{Completion}
-use Rattle.ring_model.specs.declared.states.Completion.TheVariants.{Status, Head}
 use Rattle.ring_model.specs.shared.Frames.{Bytes}
 use Rattle.ring_model.specs.shared.Handshakes.{is_answered, is_serving}
 use Rattle.ring_model.specs.shared.Queue.{served_count}
@@ -16,7 +12,7 @@ use Rattle.ring_model.specs.transmit.Ring.{TxRing, are_whole}
 use Rattle.ring_model.specs.transmit.Steps.{IsTxReachable, by_head}
 use Rattle.shared_ring.specs.Lies.{driven, IsControlled, LiesIn}
 use Rattle.shared_ring.specs.Tables.{words_of}
-use Rattle.tx_ring.specs.Records.{Posting, TxView, DriverStep, ControllerStep, driving, controlling, fetched_word, Knowing, knowing}
+use Rattle.tx_ring.specs.Records.{Posting, DriverStep, ControllerStep, driving, controlling, fetched_word, Knowing, knowing}
 
 -- a buffer with what is posted
 abbrev pub filled : Posting → Buffer

@@ -1,6 +1,6 @@
 -- What the steps answer whose result depends on what was loaded.
-use Rattle.std.specs.Prelude.{◌≡◌, ℕ, ◌+◌, ◌%◌, ◌<◌, ◌≤◌, Bool, true, false, length, Some, slice_get}
-use Rattle.buffer_pool.specs.Buffer.{Buffer, buffer}
+use Rattle.std.specs.Prelude.{◌≡◌, ℕ, ◌%◌, Bool, true, false, length, Some, slice_get}
+use Rattle.buffer_pool.specs.Buffer.{Buffer}
 use Rattle.shared_ring.specs.declared.events.DriverEvent.TheVariants as driver
 use Rattle.tx_ring.specs.declared.events.TxDriverOwn.TheVariants.{NoReport, SawReport, Cleaned}
 use Rattle.tx_ring.specs.Records.{Posting}

@@ -14,8 +14,8 @@ ghost use Rattle.tx_ring.specs.Form.{tx};
 ghost use Rattle.tx_ring.specs.Ends.{controller_size, controller_record, sent, known_ready, held, held_word, controller_state, is_owed, is_between, serve_place, answered};
 ghost use Rattle.tx_ring.specs.Calls.{IsFreshController, FoundReady, Fetched, MayAnswer, IsSettled, Answered, report_of};
 
-use crate::reading::{eop_bit, paylen, rs_bit};
 use crate::direction::TxControllerSeat;
+use crate::reading::{eop_bit, paylen, rs_bit};
 use crate::ring::TxRing;
 use crate::steps;
 use buffer_pool::Buf;

@@ -8,8 +8,8 @@ ghost use Rattle.tx_ring.specs.Ends.{driver_size, posted, cleaned};
 ghost use Rattle.tx_ring.specs.Meeting.{MadeSeats, ledger_of, sent_now, Met, told_left, IsTold, IsClosed};
 
 use crate::controller::TxControllerEnd;
-use crate::driver::TxDriverEnd;
 use crate::direction::TxShared;
+use crate::driver::TxDriverEnd;
 use buffer_pool::Buf;
 use limits::is_ring_length;
 use ring_model::Completion;

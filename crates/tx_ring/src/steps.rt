@@ -37,8 +37,6 @@ impl OwnStep<TxDriverEvent> for EndEpochStore {
     ghost use Rattle.tx_ring.specs.Plays.{ends_epoch};
 
     ghost event = { ends_epoch };
-
-    ghost tells = { λ n es place r b. Unit {0} };
 }
 
 /// C12.
@@ -48,8 +46,6 @@ impl OwnStep<TxDriverEvent> for ClearReportStore {
     ghost use Rattle.tx_ring.specs.Plays.{clears_report};
 
     ghost event = { clears_report };
-
-    ghost tells = { λ n es place r b. Unit {0} };
 }
 
 /// B5.
@@ -59,8 +55,6 @@ impl OwnStep<TxControllerEvent> for SendStore {
     ghost use Rattle.tx_ring.specs.Plays.{sends};
 
     ghost event = { sends };
-
-    ghost tells = { λ n es place r b. Unit {0} };
 }
 
 /// B6.
@@ -70,6 +64,4 @@ impl OwnStep<TxControllerEvent> for ReportStore {
     ghost use Rattle.tx_ring.specs.Plays.{reports};
 
     ghost event = { reports };
-
-    ghost tells = { λ n es place r b. Unit {0} };
 }

@@ -87,7 +87,8 @@ impl<D, C, R: Direction<D, C>> Ring<D, C, R> {
     {
         let DriverSeat { mut seat, .. } = driver;
         let ControllerSeat {
-            seat: mut other, ..
+            seat: mut other,
+            ..
         } = controller;
         let table = &self.table.shared;
         let lent = table.split_seat::<Lend>(&mut other);

@@ -84,11 +84,16 @@ impl<D, C, R: Direction<D, C>> DriverSeat<D, C, R> {
 
     /// A store of 0 that ends the epoch. The next one begins with the slot of place 0 in front.
     #[inline]
-    pub fn end_own<P: OwnStep<DriverEvent<D>>>(&mut self, ring: &Ring<D, C, R>, word: usize, fill: u16)
+    pub fn end_own<P: OwnStep<DriverEvent<D>>>(
+        &mut self,
+        ring: &Ring<D, C, R>,
+        word: usize,
+        fill: u16,
+    )
         requires own { self.old.table ≡ ring.now }
         requires place { fill ≡ fill_place (driver_of R.form self.old) }
         requires back { returned (driver_of R.form self.old) ≡ length (posted (driver_of R.form self.old)) }
-        requires may { MayEnd R.form P.event P.tells self.old.table.slots self.old.completion self.old.events word }
+        requires may { MayEnd R.form P.event self.old.table.slots self.old.completion self.old.events word }
         ensures { self.new ≡ grown self.old (P.event self.old.table.slots self.old.events word 0 blank) }
     {
         ring.table

@@ -1,5 +1,5 @@
 -- The two ends' own places tell which buffers come back.
-use Rattle.std.proofs.Common.{◌≡◌, sym, ap, ◌∙◌, subst}
+use Rattle.std.proofs.Common.{sym, ap, ◌∙◌, subst}
 use Rattle.rx_ring.specs.Ends.{DriverSide, ControllerSide}
 use Rattle.rx_ring.specs.Meeting.{IsClosed}
 use Rattle.shared_ring.specs.Ends.{driver_of, controller_of}

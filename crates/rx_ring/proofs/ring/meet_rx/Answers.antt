@@ -1,11 +1,8 @@
 -- What the two records of one ring tell together.
-use Rattle.std.proofs.Common.{◌≡◌, ◌<◌, ◌≤◌, length, sym, ap, ◌∙◌, subst, arith}
-use Rattle.ring_model.specs.receive.Lawful.{IsLawfulRxLedger}
-use Rattle.ring_model.specs.shared.Frames.{Bytes}
-use Rattle.rx_ring.specs.Ends.{DriverSide, ControllerSide, driver_size, taken}
-use Rattle.rx_ring.specs.Calls.{IsTold, told_left}
-use Rattle.rx_ring.specs.Meeting.{ledger_of, stored_now, Met}
-use Rattle.shared_ring.specs.Ends.{driver_of, controller_of}
+use Rattle.std.proofs.Common.{◌≤◌, sym, ◌∙◌, subst, arith}
+use Rattle.rx_ring.specs.Ends.{DriverSide, ControllerSide}
+use Rattle.rx_ring.specs.Meeting.{Met}
+use Rattle.shared_ring.specs.Ends.{driver_of}
 use Rattle.rx_ring.specs.Form.{rx}
 use Rattle.rx_ring.proofs.Meeting.{met-lawful, met-told}
 use Rattle.rx_ring.proofs.ring.meet_rx.Goals as goal

@@ -7,4 +7,4 @@ use Rattle.rx_ring.proofs.Owning.{may-clear_quiet}
 use Rattle.rx_ring.proofs.steps.clear_quiet.Goals as goal
 
 pub end_own-requires-clause-may : goal.end_own-requires-clause-may
-end_own-requires-clause-may c = let e = c.args.seat.now in subst (λ (n : ℕ). MayEnd rx clears_quiet (λ n es place r b. Unit {0}) e.table.slots e.completion e.events (n + 3)) (sym c.size.ensures.value) (may-clear_quiet e.table.slots e.completion e.events c.requires.tailed)
+end_own-requires-clause-may c = let e = c.args.seat.now in subst (λ (n : ℕ). MayEnd rx clears_quiet e.table.slots e.completion e.events (n + 3)) (sym c.size.ensures.value) (may-clear_quiet e.table.slots e.completion e.events c.requires.tailed)

@@ -1,5 +1,5 @@
 -- The agreement allows the step.
-use Rattle.std.proofs.Common.{ℕ, ◌+◌, sym, subst}
+use Rattle.std.proofs.Common.{ℕ, sym, subst}
 use Rattle.shared_ring.specs.Own.{MayStore}
 use Rattle.rx_ring.specs.Form.{rx}
 use Rattle.rx_ring.specs.Plays.{stores_head}

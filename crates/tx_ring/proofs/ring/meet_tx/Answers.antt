@@ -2,7 +2,7 @@
 use Rattle.std.proofs.Common.{◌≤◌, sym, ◌∙◌, subst, arith}
 use Rattle.tx_ring.specs.Ends.{DriverSide, ControllerSide}
 use Rattle.tx_ring.specs.Meeting.{Met}
-use Rattle.shared_ring.specs.Ends.{driver_of, controller_of}
+use Rattle.shared_ring.specs.Ends.{driver_of}
 use Rattle.tx_ring.specs.Form.{tx}
 use Rattle.tx_ring.proofs.Meeting.{met-lawful, met-told, met-all}
 use Rattle.tx_ring.proofs.ring.meet_tx.Goals as goal

@@ -1,6 +1,5 @@
 -- Which of the two is asked goes by whether the end serves.
-use Rattle.std.proofs.Common.{◌≡◌, ◌+◌, ap, sym, refl, ◌∙◌, if◌then◌else◌}
-use Rattle.std.specs.Prelude.{◌==◌}
+use Rattle.std.proofs.Common.{ap, sym, ◌∙◌}
 use Rattle.shared_ring.specs.Ends.{controller_of}
 use Rattle.rx_ring.specs.Form.{rx}
 use Rattle.rx_ring.proofs.ControllerEnds.{enable-keeps, disable-keeps, enabled-is, disabled-is}

@@ -1,6 +1,5 @@
 -- The control value is what was seen last.
-use Rattle.std.proofs.Common.{◌≡◌, ◌+◌, ap, sym, refl, ◌∙◌, if◌then◌else◌}
-use Rattle.std.specs.Prelude.{◌==◌}
+use Rattle.std.proofs.Common.{ap, ◌∙◌}
 use Rattle.shared_ring.specs.declared.events.ControllerEvent.TheVariants as controller
 use Rattle.rx_ring.specs.Ends.{ControllerSide, controller_size, controller_record}
 use Rattle.rx_ring.specs.Records.{control}

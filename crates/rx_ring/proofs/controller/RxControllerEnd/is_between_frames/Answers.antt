@@ -1,5 +1,5 @@
 -- A record whose last segment ends a frame has nothing unfinished.
-use Rattle.std.proofs.Common.{◌≡◌, true, [], sym, ap, ◌∙◌, subst}
+use Rattle.std.proofs.Common.{◌≡◌, [], sym, ◌∙◌, subst}
 use Rattle.ring_model.specs.shared.Segments.{piece_of}
 use Rattle.ring_model.specs.shared.Frames.{unfinished}
 use Rattle.rx_ring.specs.Ends.{ControllerSide, stored}

@@ -1,6 +1,5 @@
 -- The record has one more event.
-use Rattle.std.proofs.Common.{◌≡◌, ◌+◌, ap, sym, refl, ◌∙◌, if◌then◌else◌}
-use Rattle.std.specs.Prelude.{◌==◌}
+use Rattle.std.proofs.Common.{ap, ◌∙◌}
 use Rattle.shared_ring.specs.declared.events.ControllerEvent.TheVariants as controller
 use Rattle.rx_ring.specs.declared.events.RxControllerOwn.TheVariants as own
 use Rattle.rx_ring.specs.Ends.{ControllerSide, controller_size, controller_record}

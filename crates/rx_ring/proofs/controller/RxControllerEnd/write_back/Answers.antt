@@ -1,5 +1,5 @@
 -- The record has the segment that the buffer carries.
-use Rattle.std.proofs.Common.{◌≡◌, ◌+◌, ap, sym, refl, ◌∙◌, if◌then◌else◌}
+use Rattle.std.proofs.Common.{◌+◌, ap, ◌∙◌, if◌then◌else◌}
 use Rattle.std.specs.Prelude.{◌==◌}
 use Rattle.rx_ring.specs.Ends.{controller_size}
 use Rattle.shared_ring.specs.Ends.{controller_of}

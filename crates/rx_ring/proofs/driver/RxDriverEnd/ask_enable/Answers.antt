@@ -1,11 +1,11 @@
 -- The record has one more event, and the fields follow it.
-use Rattle.std.proofs.Common.{◌≡◌, ◌+◌, ◌<◌, ◌≤◌, true, false, length, ap, sym, refl, ◌∙◌, subst, arith}
+use Rattle.std.proofs.Common.{ap, ◌∙◌}
 use Rattle.shared_ring.specs.declared.events.DriverEvent.TheVariants as driver
-use Rattle.ring_model.proofs.shared.Shakes.{learned_unanswered, new_open, on_open, open_unanswered}
+use Rattle.ring_model.proofs.shared.Shakes.{new_open, open_unanswered}
 use Rattle.ring_model.specs.declared.states.DriverState.TheVariants as state
-use Rattle.ring_model.specs.shared.Handshakes.{is_new, is_on, is_open, learned}
-use Rattle.rx_ring.specs.Records.{RxDriven, drive, know}
-use Rattle.rx_ring.specs.Ends.{DriverSide, driver_size, driver_record, known_of, driver_state, posted, returned}
+use Rattle.ring_model.specs.shared.Handshakes.{is_new}
+use Rattle.rx_ring.specs.Records.{drive, know}
+use Rattle.rx_ring.specs.Ends.{DriverSide, driver_size, driver_record, known_of, driver_state}
 use Rattle.shared_ring.specs.Ends.{driver_of}
 use Rattle.rx_ring.specs.Form.{rx}
 use Rattle.rx_ring.proofs.DriverEnds.{record-after, known-after, end-after, end-state}

@@ -1,10 +1,10 @@
 -- The record has one more event, and what is learnt follows it.
-use Rattle.std.proofs.Common.{◌≡◌, ◌+◌, ◌<◌, ◌≤◌, true, false, length, ap, sym, refl, ◌∙◌, subst, arith}
+use Rattle.std.proofs.Common.{ap, ◌∙◌}
 use Rattle.shared_ring.specs.declared.events.DriverEvent.TheVariants as driver
 use Rattle.rx_ring.specs.declared.events.RxDriverOwn.TheVariants as own
 use Rattle.ring_model.specs.shared.Agreement.{bit}
-use Rattle.rx_ring.specs.Records.{RxDriven, drive, know}
-use Rattle.rx_ring.specs.Ends.{DriverSide, driver_size, driver_record, known_of, driver_state, posted, returned}
+use Rattle.rx_ring.specs.Records.{drive}
+use Rattle.rx_ring.specs.Ends.{DriverSide, driver_size, driver_record, known_of}
 use Rattle.shared_ring.specs.Ends.{driver_of}
 use Rattle.rx_ring.specs.Form.{rx}
 use Rattle.rx_ring.proofs.DriverEnds.{record-after, known-after, end-after, end-quiet, quiet-seen}

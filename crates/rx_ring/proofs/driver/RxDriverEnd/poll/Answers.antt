@@ -1,5 +1,5 @@
 -- What was found at the next descriptor, and what became of the end.
-use Rattle.std.proofs.Common.{◌≡◌, ◌+◌, ap, sym, refl, ◌∙◌, if◌then◌else◌}
+use Rattle.std.proofs.Common.{◌+◌, ap, sym, ◌∙◌, if◌then◌else◌}
 use Rattle.std.specs.Prelude.{◌==◌}
 use Rattle.rx_ring.specs.Ends.{driver_size}
 use Rattle.shared_ring.specs.Ends.{driver_of}

@@ -1,5 +1,5 @@
 -- The oldest buffer that was out came back.
-use Rattle.std.proofs.Common.{◌≡◌, ◌+◌, ap, sym, refl, ◌∙◌, if◌then◌else◌}
+use Rattle.std.proofs.Common.{◌+◌, ap, ◌∙◌, if◌then◌else◌}
 use Rattle.std.specs.Prelude.{◌==◌}
 use Rattle.rx_ring.specs.Ends.{driver_size}
 use Rattle.shared_ring.specs.Ends.{driver_of}

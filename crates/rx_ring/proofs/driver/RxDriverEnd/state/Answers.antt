@@ -1,12 +1,12 @@
 -- The record has one more event, and the fields follow it.
-use Rattle.std.proofs.Common.{◌≡◌, ◌+◌, ◌<◌, ◌≤◌, true, false, length, ap, sym, refl, ◌∙◌, subst, arith}
+use Rattle.std.proofs.Common.{ap, sym, ◌∙◌, subst}
 use Rattle.shared_ring.specs.declared.events.DriverEvent.TheVariants as driver
-use Rattle.ring_model.proofs.shared.Shakes.{learned_unanswered, new_open, on_open, open_unanswered}
-use Rattle.ring_model.specs.shared.Handshakes.{is_new, is_on, is_open, learned}
+use Rattle.ring_model.proofs.shared.Shakes.{learned_unanswered}
+use Rattle.ring_model.specs.shared.Handshakes.{learned}
 use Rattle.shared_ring.specs.Words.{control_word}
 use Rattle.rx_ring.specs.Calls.{IsEndOf}
-use Rattle.rx_ring.specs.Records.{RxDriven, drive, know}
-use Rattle.rx_ring.specs.Ends.{DriverSide, driver_size, driver_record, known_of, driver_state, posted, returned}
+use Rattle.rx_ring.specs.Records.{drive, know}
+use Rattle.rx_ring.specs.Ends.{DriverSide, driver_size, driver_record, known_of, driver_state}
 use Rattle.shared_ring.specs.Ends.{driver_of}
 use Rattle.rx_ring.specs.Form.{rx}
 use Rattle.rx_ring.proofs.DriverEnds.{record-after, known-after, end-after, end-state}

@@ -1,5 +1,4 @@
 -- The step keeps the rule, and the record has one more event.
-use Rattle.std.proofs.Common.{refl}
 use Rattle.shared_ring.specs.declared.events.ControllerEvent.TheVariants as controller
 use Rattle.shared_ring.proofs.ControllerSeats.{enable-asks, same-keeps, enable-slots}
 use Rattle.shared_ring.proofs.steps.ControllerSeat.enable.Goals as goal

@@ -1,7 +1,7 @@
 -- The step keeps the rule, and the record has one more event.
 use Rattle.std.proofs.Common.{refl}
 use Rattle.shared_ring.specs.declared.events.ControllerEvent.TheVariants as controller
-use Rattle.shared_ring.proofs.ControllerSeats.{look-asks, look-fits, look-steps, same-keeps}
+use Rattle.shared_ring.proofs.ControllerSeats.{look-asks, look-steps, same-keeps}
 use Rattle.shared_ring.proofs.steps.ControllerSeat.look.Goals as goal
 
 pub load-requires : goal.load-requires

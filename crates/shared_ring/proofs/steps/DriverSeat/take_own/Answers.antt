@@ -1,6 +1,6 @@
 -- The load keeps the rule; where the word is done, the buffer that lies there comes out.
 use Rattle.std.proofs.Common.{◌∙◌, sym}
-use Rattle.shared_ring.proofs.DriverSeats.{take_own-asks, missed-keeps, missed-steps, take_own-keeps, take_own-steps}
+use Rattle.shared_ring.proofs.DriverSeats.{take_own-asks, missed-keeps, take_own-keeps}
 use Rattle.shared_ring.proofs.steps.DriverSeat.take_own.Goals as goal
 
 pub load-word-requires : goal.load-word-requires

@@ -1,5 +1,5 @@
 -- Each turn brings the next slot to the front; after the last of the ring stands the first.
-use Rattle.std.proofs.Common.{◌≡◌, ◌%◌, ◌<◌, refl, sym, ap, ◌∙◌, arith}
+use Rattle.std.proofs.Common.{◌≡◌, sym, ap, ◌∙◌, arith}
 use Rattle.std.proofs.Math.Nat.{mod_self, zero-mod}
 use Rattle.atomic_table.specs.Table.{turned}
 use Rattle.shared_ring.specs.Slots.{empty_slots}

@@ -1,5 +1,5 @@
 -- The agreement allows the step.
-use Rattle.std.proofs.Common.{ℕ, ◌+◌, sym, subst}
+use Rattle.std.proofs.Common.{ℕ, sym, subst}
 use Rattle.shared_ring.specs.Own.{MayGive}
 use Rattle.tx_ring.specs.Form.{tx}
 use Rattle.tx_ring.specs.Plays.{sends}

@@ -7,4 +7,4 @@ use Rattle.tx_ring.proofs.Owning.{may-clear_report}
 use Rattle.tx_ring.proofs.steps.driver.clear_report.Goals as goal
 
 pub end_own-requires-clause-may : goal.end_own-requires-clause-may
-end_own-requires-clause-may c = let e = c.args.seat.now in subst (λ (n : ℕ). MayEnd tx clears_report (λ n es place r b. Unit {0}) e.table.slots e.completion e.events (n + 4)) (sym c.size.ensures.value) (may-clear_report e.table.slots e.completion e.events c.requires.more c.requires.tailed)
+end_own-requires-clause-may c = let e = c.args.seat.now in subst (λ (n : ℕ). MayEnd tx clears_report e.table.slots e.completion e.events (n + 4)) (sym c.size.ensures.value) (may-clear_report e.table.slots e.completion e.events c.requires.more c.requires.tailed)

@@ -7,4 +7,4 @@ use Rattle.tx_ring.proofs.Owning.{may-end_epoch}
 use Rattle.tx_ring.proofs.steps.driver.end_epoch.Goals as goal
 
 pub end_own-requires-clause-may : goal.end_own-requires-clause-may
-end_own-requires-clause-may c = let e = c.args.seat.now in subst (λ (n : ℕ). MayEnd tx ends_epoch (λ n es place r b. Unit {0}) e.table.slots e.completion e.events (n + 1)) (sym c.size.ensures.value) (may-end_epoch e.table.slots e.completion e.events c.requires.alone c.requires.cleared)
+end_own-requires-clause-may c = let e = c.args.seat.now in subst (λ (n : ℕ). MayEnd tx ends_epoch e.table.slots e.completion e.events (n + 1)) (sym c.size.ensures.value) (may-end_epoch e.table.slots e.completion e.events c.requires.alone c.requires.cleared)
