@@ -1,4 +1,2 @@
 pub mod Copies
-pub mod Countdown
 pub mod Ends
-pub mod TxEnds

@@ -1,9 +1,8 @@
-//! The controller's thread of a receive ring.
+//! The controller's thread.
 ghost use Rattle.std.specs.Prelude.{◌<◌, length};
 ghost use Rattle.limits.specs.RingLength.{IsRingLength};
 ghost use Rattle.rx_ring.specs.Ends.{known_free};
-ghost use Rattle.bench.specs.Copies.{IsFrameLength};
-ghost use Rattle.bench.specs.Passing.{CanServe, CanStore, HasBegun, StoredOnly};
+ghost use Rattle.bench.specs.Passing.{CanServe, CanStore, HasBegun, IsFrameLength, StoredOnly};
 
 use crate::patience::Patience;
 use rx_ring::{RxControllerEnd, RxRing};

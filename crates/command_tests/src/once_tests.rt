@@ -45,9 +45,8 @@ fn digits_of_no_frame_are_refused(rt: HostRuntime) -> Result<(), Fail> {
 
 #[test]
 fn the_longest_frame_has_2_048_bytes(rt: HostRuntime) -> Result<(), Fail> {
-    let most = times(rt.alloc(), "ab", 2048)?;
-    let mut line = times(rt.alloc(), "ab", 2048)?;
-    line.push_str("\n")?;
+    let most = times(rt.alloc(), "ab", 2048, "")?;
+    let line = times(rt.alloc(), "ab", 2048, "\n")?;
     let words = ["once", most.as_str()];
     comes_to(
         &rt,
@@ -60,7 +59,7 @@ fn the_longest_frame_has_2_048_bytes(rt: HostRuntime) -> Result<(), Fail> {
 
 #[test]
 fn a_frame_of_2_049_bytes_is_refused(rt: HostRuntime) -> Result<(), Fail> {
-    let more = times(rt.alloc(), "ab", 2049)?;
+    let more = times(rt.alloc(), "ab", 2049, "")?;
     let words = ["once", more.as_str()];
     let wanted = (1, "", "refused 41 frame length\n");
     comes_to(&rt, rt.alloc(), words.as_slice(), "", wanted)

@@ -171,7 +171,7 @@ fn are_made<R: Abort + Threads + Wait + Sync>(
     (ring, posts, end): (&'static str, usize, &str),
 ) -> Result<(), Fail> {
     let words = ["replay", "--pairs", pairs, "--ring", ring];
-    let text = times(alloc, post, posts)?;
+    let text = times(alloc, post, posts, "")?;
     let posted = outcome_of(rt, alloc, words.as_slice(), text.as_str())?;
     assert!(rt; posted.output.as_str().ends_with(end), "{pairs} of {ring}");
     let next = outcome_of(rt, alloc, words.as_slice(), beyond)?;
@@ -191,9 +191,9 @@ fn every_lawful_length_and_number_of_pairs_is_made(rt: HostRuntime) -> Result<()
 
 #[test]
 fn a_list_of_100_000_moves_is_answered(rt: HostRuntime) -> Result<(), Fail> {
-    let input = times(rt.alloc(), "r0 A7\n", 100_000)?;
-    let mut output = times(rt.alloc(), "r0 A7 head 0\n", 100_000)?;
-    output.push_str("moves 100000 of 100000\n")?;
+    let input = times(rt.alloc(), "r0 A7\n", 100_000, "")?;
+    let end = "moves 100000 of 100000\n";
+    let output = times(rt.alloc(), "r0 A7 head 0\n", 100_000, end)?;
     let words = ["replay"];
     let wanted = (0, output.as_str(), "");
     comes_to(&rt, rt.alloc(), words.as_slice(), input.as_str(), wanted)

@@ -80,12 +80,9 @@ pub fn is_mistaken<R: Abort + Threads + Wait + Sync>(
     text: &str,
 ) -> Result<(), Fail> {
     let told = outcome_of(rt, alloc, words, "r0 A2\n")?;
-    let faults = told.faults.as_str();
     assert_eq!(rt; told.status, 2, "at {words:?}");
     assert!(rt; told.output.is_empty(), "at {words:?}");
-    assert!(rt; faults.starts_with("error: "), "at {words:?}");
-    assert!(rt; faults.contains(text), "at {words:?}");
-    assert!(rt; faults.ends_with("\n"), "at {words:?}");
+    is_page(rt, words, told.faults.as_str(), "error: ", text);
     Ok(())
 }
 
@@ -97,19 +94,24 @@ pub fn is_helped<R: Abort + Threads + Wait + Sync>(
     text: &str,
 ) -> Result<(), Fail> {
     let told = outcome_of(rt, alloc, words, "")?;
-    let output = told.output.as_str();
-    assert_eq!(rt; told.status, 0, "at {words:?}");
-    assert!(rt; told.faults.is_empty(), "at {words:?}");
-    assert!(rt; output.contains(text), "at {words:?}");
-    assert!(rt; output.ends_with("\n"), "at {words:?}");
+    assert!(rt; told.status == 0 && told.faults.is_empty(), "at {words:?}");
+    is_page(rt, words, told.output.as_str(), "", text);
     Ok(())
 }
 
-/// So many copies of a text.
-pub fn times(alloc: Global, text: &str, count: usize) -> Result<String, AllocError> {
+/// The page that a run on these words printed has lines, begins so, and has this text.
+fn is_page<R: Abort>(rt: &R, words: &[&str], page: &str, begins: &str, text: &str) {
+    assert!(rt; page.starts_with(begins), "at {words:?}");
+    assert!(rt; page.contains(text), "at {words:?}");
+    assert!(rt; page.ends_with("\n"), "at {words:?}");
+}
+
+/// So many copies of a text, and then an end.
+pub fn times(alloc: Global, text: &str, count: usize, end: &str) -> Result<String, AllocError> {
     let mut many = String::new(alloc);
     for _ in 0..count {
         many.push_str(text)?;
     }
+    many.push_str(end)?;
     Ok(many)
 }

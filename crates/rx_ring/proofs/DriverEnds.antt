@@ -39,6 +39,19 @@ record-after d new e step = ap driver_record step ∙ recorded d e
 pub known-after : (d new : DriverSide) (e : DriverStep) → new ≡ appended d e → known_of new ≡ know (driver_record d) (known_of d) e
 known-after d new e step = ap known_of step ∙ learnt d e
 
+-- an epoch in which nothing is done
+end-anew : (n published : ℕ) → IsRingLength n → IsEndOf n (record { posted = []; published = published; given = []; reclaimed = 0; state = New }) unknown 0 0 0 New
+end-anew n published lawful = let g : 8 ≤ n = lawful.0 in record {
+  lawful = lawful;
+  fill_is = sym (zero-mod n);
+  next_is = sym (zero-mod n);
+  out_is = refl;
+  room = omega arith;
+  state_is = refl;
+  unreclaimed = λ a. refl;
+  sure = λ a. absurd (false≢true a);
+}
+
 module _ (n : ℕ) (x : RxDriven) (k : Knowing) (fill next out : ℕ) (state : DriverState) (h : IsEndOf n x k fill next out state) where
   big : 8 ≤ n
   big = h.lawful.0
@@ -93,28 +106,10 @@ module _ (n : ℕ) (x : RxDriven) (k : Knowing) (fill next out : ℕ) (state : D
   }
 
   pub end-renewed : (published : ℕ) → IsEndOf n (record x { posted = []; published = published; given = []; reclaimed = 0; state = New }) unknown 0 0 0 New
-  end-renewed published = let g = big in record {
-    lawful = h.lawful;
-    fill_is = sym (zero-mod n);
-    next_is = sym (zero-mod n);
-    out_is = refl;
-    room = omega arith;
-    state_is = refl;
-    unreclaimed = λ a. refl;
-    sure = λ a. absurd (false≢true a);
-  }
+  end-renewed published = end-anew n published h.lawful
 
 pub end-fresh : (n : ℕ) → IsRingLength n → IsEndOf n undriven unknown 0 0 0 New
-end-fresh n lawful = let g : 8 ≤ n = lawful.0 in record {
-  lawful = lawful;
-  fill_is = sym (zero-mod n);
-  next_is = sym (zero-mod n);
-  out_is = refl;
-  room = omega arith;
-  state_is = refl;
-  unreclaimed = λ a. refl;
-  sure = λ a. absurd (false≢true a);
-}
+end-fresh n lawful = end-anew n 0 lawful
 
 pub quiet-seen : (was b : Bool) → b ≡ true → (was || (bit b == 1)) ≡ true
 quiet-seen was true e = or_right was true refl
