@@ -58,7 +58,7 @@ impl RxControllerEnd {
         requires { IsFreshController (controller_of rx seat) }
         ensures { result ≡ controller_of rx seat }
     {
-        let _size = seat.size();
+        let _size = seat.size(); // which says that the length is lawful
         RxControllerEnd {
             seat,
             serve: 0,

@@ -65,7 +65,7 @@ impl RxDriverEnd {
         requires { IsFreshDriver (driver_of rx seat) }
         ensures { result ≡ driver_of rx seat }
     {
-        let _size = seat.size();
+        let _size = seat.size(); // which says that the length is lawful
         RxDriverEnd {
             seat,
             fill: 0,

@@ -71,7 +71,7 @@ pub fn meet_rx(ring: &RxRing, driver: &mut RxDriverEnd, controller: &mut RxContr
     ensures left { IsTold (told_left driver.old) (length (taken driver.old)) (length (stored_now driver.old controller.old)) }
     ensures drained { is_drained driver.old ≡ true → taken driver.old ≡ stored_now driver.old controller.old }
 {
-    let _size = driver.size();
+    let _size = driver.size(); // which says that the length is lawful
     ring.ring.meet(&mut driver.seat, &mut controller.seat);
 }
 
@@ -83,7 +83,7 @@ pub fn close(ring: RxRing, driver: RxDriverEnd, controller: RxControllerEnd) -> 
     requires controller { controller.table ≡ ring }
     ensures { IsClosed driver controller result.items }
 {
-    let _size = driver.size();
+    let _size = driver.size(); // which says that the length is lawful
     let RxDriverEnd {
         seat,
         next,

@@ -149,7 +149,7 @@ pub(crate) fn write_back(
     requires follows { Follows piece_of (controller_size (controller_of rx seat.old)) (unfinished piece_of (stored (controller_of rx seat.old))) buf.bytes eop }
     ensures { controller_of rx seat.new ≡ answered (controller_of rx seat.old) (controller.Own (WroteBack place (rx_word (length buf.bytes) eop) buf)) }
 {
-    let _size = seat.size();
+    let _size = seat.size(); // which says that the length is lawful
     let word = RxBack::new(buf.len() as u16, eop).second_word();
     seat.give_own::<WriteBackStore>(ring, place, buf, place as usize, word);
 }

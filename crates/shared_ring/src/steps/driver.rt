@@ -128,7 +128,7 @@ impl<D, C, R: Direction<D, C>> DriverSeat<D, C, R> {
         requires out { returned (driver_of R.form self.old) < length (posted (driver_of R.form self.old)) }
         ensures { CameBack (driver_of R.form self.old) place result (driver_of R.form self.new) }
     {
-        let _size = self.size();
+        let _size = self.size(); // which says that the length is lawful
         self.clear_own::<Reclaiming<C, R>>(ring, place)
     }
 

@@ -2,6 +2,7 @@
 ghost use Rattle.std.specs.Prelude.{◌≡◌, ◌+◌, ◌<◌, ◌≤◌, [], IfOk, replicate, vec_capacity};
 ghost use Rattle.std.specs.Mem.Slots.{slots_items, slots_len, IsFull};
 ghost use Rattle.limits.specs.RingLength.{IsRingLength};
+ghost use Rattle.limits.specs.declared.profile.TheConstants.{MOST_RING};
 ghost use Rattle.shared_ring.specs.Directions.{IsDirection};
 ghost use Rattle.shared_ring.specs.Ends.{driver_of, controller_of};
 ghost use Rattle.shared_ring.specs.Meeting.{MadeSeats, Met, LeftIn, TakenApart, kept_at, kept_upto};
@@ -153,7 +154,7 @@ fn opening_words(
     count: usize,
     completion: Completion,
 ) -> Result<Vec<u64>, AllocError>
-    requires { count ≤ 4096 }
+    requires { count ≤ MOST_RING }
     ensures { IfOk result (λ v. v.items ≡ replicate (words_of count completion) 0) }
 {
     let words = match completion {
