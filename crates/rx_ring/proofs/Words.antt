@@ -36,9 +36,6 @@ pub segment-taken : (s : Segment Bytes) (r : ℕ) → r ≡ rx_word (length s.pa
 segment-taken s r word = ap (λ (e : Bool). let x : Segment Bytes = record { number = s.number; payload = s.payload; eop = e } in x) (ap eop_of word ∙ eop_of-rx_word (length s.payload) s.eop)
 
 -- what the tests of a status word say, as the definitions read it
-pub even-word : (b : Bool) (w : ℕ) → b ≡ false → (w % 2 ≡ 1 → b ≡ true) → w % 2 ≡ 0
-even-word b w clear odd = ⊎_elim (λ e. absurd (false≢true (sym clear ∙ odd e))) (λ ne. let h : w % 2 < 2 = mod-lt w (omega arith) in omega arith) (cases_eq (w % 2) 1)
-
 pub eop-word : (b : Bool) (w : ℕ) → (b ≡ true → (w / 2) % 2 ≡ 1) → ((w / 2) % 2 ≡ 1 → b ≡ true) → b ≡ eop_of w
 eop-word true w says from = sym (eq-eqb ((w / 2) % 2) 1 (says refl))
 eop-word false w says from = sym (false_from_ne_true ((w / 2) % 2 == 1) (λ e. false≢true (from (eqb-true ((w / 2) % 2) 1 e))))
