@@ -1,8 +1,8 @@
 -- The write-back's word: odd, with the EOP that was written.
-use Rattle.std.proofs.Common.{◌≡◌, ℕ, ◌+◌, ◌*◌, ◌/◌, ◌%◌, ◌<◌, Bool, true, false, length, Option, Some, None, sym, refl, ap, ◌∙◌, ⊎_elim, arith, mod-lt}
+use Rattle.std.proofs.Common.{◌≡◌, ℕ, ◌+◌, ◌*◌, ◌/◌, ◌%◌, Bool, true, false, length, Option, Some, None, sym, refl, ap, ◌∙◌, arith}
 use Rattle.std.specs.Prelude.{◌==◌, ◌^◌}
 use Rattle.std.proofs.lemmas.Option.{none-some, same_Some}
-use Rattle.std.proofs.lemmas.Bool.{cases_eq, eq-eqb, eqb-true, false≢true, false_from_ne_true}
+use Rattle.std.proofs.lemmas.Bool.{eq-eqb, eqb-true, false≢true, false_from_ne_true}
 use Rattle.buffer_pool.specs.Buffer.{Buffer, buffer}
 use Rattle.descriptor.specs.Layout.{bit as descriptor_bit}
 use Rattle.ring_model.specs.shared.Agreement.{bit}

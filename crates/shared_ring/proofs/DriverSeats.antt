@@ -16,7 +16,7 @@ use Rattle.shared_ring.specs.declared.events.View.TheVariants.{Driver}
 use Rattle.shared_ring.specs.Ends.{Side, grown}
 use Rattle.shared_ring.specs.Forms.{Form, drive, driving}
 use Rattle.shared_ring.specs.Keeping.{IsRuled, IsDriverSeat, IsWindow}
-use Rattle.shared_ring.specs.Own.{Event, Tells, SameOut, OneBack, MayLoad, MayClear, MayTake, MayEnd, Missed, Came}
+use Rattle.shared_ring.specs.Own.{Event, Tells, SameOut, OneBack, MayLoad, MayClear, MayTake, MayEnd}
 use Rattle.shared_ring.specs.Plays.{Seated, driver_does, posts, publishes, asks_enable, LoadsControl, asks_disable, LoadsHead, clears_head, clears_tail, DriverDoes, DriverTakes, DriverFinds, driver_ends}
 use Rattle.shared_ring.specs.Records.{Driven, driver_slots, undriven}
 use Rattle.shared_ring.specs.Seats.{driver_part}

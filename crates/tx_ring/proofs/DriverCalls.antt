@@ -16,7 +16,6 @@ use Rattle.ring_model.specs.transmit.Frames.{MayFollow}
 use Rattle.ring_model.specs.transmit.Ring.{carried}
 use Rattle.ring_model.specs.transmit.Steps.{asks_report, first_report}
 use Rattle.ring_model.proofs.shared.Places.{next_place as next_place-of}
-use Rattle.ring_model.proofs.shared.Shakes.{live_unanswered}
 use Rattle.shared_ring.specs.declared.events.DriverEvent.TheVariants as driver
 use Rattle.shared_ring.specs.Records.{undriven}
 use Rattle.tx_ring.specs.declared.events.TxDriverOwn.TheVariants.{NoReport, SawReport, Cleaned, EndedEpoch, ClearedReport}
