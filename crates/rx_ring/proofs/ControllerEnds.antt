@@ -1,7 +1,7 @@
 -- What the fields of a controller's end keep as its record grows.
 use Rattle.std.proofs.Common.{◌≡◌, ℕ, ◌+◌, ◌-◌, ◌<◌, ◌≤◌, inl, inr, ⊎_elim, Bool, true, false, if◌then◌else◌, List, [], ◌∷◌, ◌++◌, length, Option, Some, None, sym, refl, ap, ◌∙◌, subst, length-append}
 use Rattle.std.specs.Prelude.{◌==◌}
-use Rattle.std.proofs.lemmas.Bool.{cases_Bool, both_ways, true≢false}
+use Rattle.std.proofs.lemmas.Bool.{both_ways, true≢false}
 use Rattle.std.proofs.lemmas.Option.{none-some}
 use Rattle.buffer_pool.specs.Buffer.{Buffer}
 use Rattle.limits.specs.RingLength.{IsRingLength}
@@ -88,9 +88,6 @@ module _ (c : ControllerSide) (serve free place : ℕ) (holding between : Bool) 
   pub unheld : held_number now ≡ None → holding ≡ false
   unheld e = h.held_is ∙ there-none x.held (ap held_number was ∙ e)
 
-  pub idle-unheld : is_serving side ≡ false → held_number c ≡ None
-  idle-unheld idle = none-there x.held (sym h.held_is ∙ ⊎_elim (λ t. absurd (both_ways (is_serving x.state) (sym (ap is_serving h.state_is) ∙ idle) (h.held_serving t))) (λ f. f) (cases_Bool holding))
-
   -- A3
   module _ (new : ControllerSide) (tail size free' : ℕ) (f : FoundTail c tail new) (sizes : size ≡ controller_size new) (is : free' ≡ between_places size serve tail) where
     pub look-keeps : IsControllerEnd new serve free' place holding between side asked finished
@@ -153,10 +150,6 @@ module _ (c : ControllerSide) (serve free place : ℕ) (holding between : Bool) 
     write_back-record new step = record-after c new (controller.Own (WroteBack serve (rx_word (length buf.bytes) eop) buf)) step
         ∙ ap (λ (s : Segment Bytes). let y : RxControlled = record x { served = x.served ++ s ∷ []; held = None } in y) segment-is
         ∙ ap (λ (s : ControllerSide). let y : RxControlled = record (controller_record s) { served = stored s ++ segment buf eop ∷ []; held = None } in y) was
-
-    pub write_back-step : (new : ControllerSide) → new ≡ answered c (controller.Own (WroteBack serve (rx_word (length buf.bytes) eop) buf)) → new ≡ answered now (controller.Own (WroteBack (serve_place now) (rx_word (length buf.bytes) eop) buf))
-    write_back-step new step = step ∙ ap (λ (p : ℕ). answered c (controller.Own (WroteBack p (rx_word (length buf.bytes) eop) buf))) h.serve_is
-        ∙ ap (λ (s : ControllerSide). answered s (controller.Own (WroteBack (serve_place s) (rx_word (length buf.bytes) eop) buf))) was
 
   -- A7
   pub head-keeps : (new : ControllerSide) → new ≡ answered c (controller.StoredHead serve) → IsControllerEnd new serve free serve holding between side asked finished

@@ -4,7 +4,6 @@ use Rattle.std.specs.Prelude.{◌==◌}
 use Rattle.std.proofs.Math.Nat.{zero-mod}
 use Rattle.std.proofs.lemmas.Bool.{both_ways, or_right, and_from, eq-eqb, false≢true}
 use Rattle.buffer_pool.specs.Buffer.{Buffer}
-use Rattle.limits.specs.RingLength.{IsRingLength}
 use Rattle.ring_model.specs.declared.states.DriverState.{DriverState}
 use Rattle.ring_model.specs.declared.states.DriverState.TheVariants.{New}
 use Rattle.ring_model.specs.shared.Handshakes.{is_answered, is_stopped}
@@ -103,18 +102,6 @@ module _ (n : ℕ) (x : RxDriven) (k : Knowing) (fill next out : ℕ) (state : D
     unreclaimed = λ a. refl;
     sure = λ a. absurd (false≢true a);
   }
-
-pub end-fresh : (n : ℕ) → IsRingLength n → IsEndOf n undriven unknown 0 0 0 New
-end-fresh n lawful = let g : 8 ≤ n = lawful.0 in record {
-  lawful = lawful;
-  fill_is = sym (zero-mod n);
-  next_is = sym (zero-mod n);
-  out_is = refl;
-  room = omega arith;
-  state_is = refl;
-  unreclaimed = λ a. refl;
-  sure = λ a. absurd (false≢true a);
-}
 
 pub quiet-seen : (was b : Bool) → b ≡ true → (was || (bit b == 1)) ≡ true
 quiet-seen was true e = or_right was true refl

@@ -1,8 +1,8 @@
 -- The write-back's word: odd, with the EOP that was written.
-use Rattle.std.proofs.Common.{◌≡◌, ℕ, ◌+◌, ◌*◌, ◌/◌, ◌%◌, ◌<◌, Bool, true, false, length, Option, Some, None, sym, refl, ap, ◌∙◌, ⊎_elim, arith, mod-lt}
+use Rattle.std.proofs.Common.{◌≡◌, ℕ, ◌+◌, ◌*◌, ◌/◌, ◌%◌, Bool, true, false, length, Option, Some, None, sym, refl, ap, ◌∙◌, arith}
 use Rattle.std.specs.Prelude.{◌==◌, ◌^◌}
 use Rattle.std.proofs.lemmas.Option.{none-some, same_Some}
-use Rattle.std.proofs.lemmas.Bool.{cases_eq, eq-eqb, eqb-true, false≢true, false_from_ne_true}
+use Rattle.std.proofs.lemmas.Bool.{eq-eqb, eqb-true, false≢true, false_from_ne_true}
 use Rattle.buffer_pool.specs.Buffer.{Buffer, buffer}
 use Rattle.descriptor.specs.Layout.{bit as descriptor_bit}
 use Rattle.ring_model.specs.shared.Agreement.{bit}
@@ -36,9 +36,6 @@ pub segment-taken : (s : Segment Bytes) (r : ℕ) → r ≡ rx_word (length s.pa
 segment-taken s r word = ap (λ (e : Bool). let x : Segment Bytes = record { number = s.number; payload = s.payload; eop = e } in x) (ap eop_of word ∙ eop_of-rx_word (length s.payload) s.eop)
 
 -- what the tests of a status word say, as the definitions read it
-pub even-word : (b : Bool) (w : ℕ) → b ≡ false → (w % 2 ≡ 1 → b ≡ true) → w % 2 ≡ 0
-even-word b w clear odd = ⊎_elim (λ e. absurd (false≢true (sym clear ∙ odd e))) (λ ne. let h : w % 2 < 2 = mod-lt w (omega arith) in omega arith) (cases_eq (w % 2) 1)
-
 pub eop-word : (b : Bool) (w : ℕ) → (b ≡ true → (w / 2) % 2 ≡ 1) → ((w / 2) % 2 ≡ 1 → b ≡ true) → b ≡ eop_of w
 eop-word true w says from = sym (eq-eqb ((w / 2) % 2) 1 (says refl))
 eop-word false w says from = sym (false_from_ne_true ((w / 2) % 2 == 1) (λ e. false≢true (from (eqb-true ((w / 2) % 2) 1 e))))

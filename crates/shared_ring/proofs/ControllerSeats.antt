@@ -137,10 +137,6 @@ module _ {Ring Posted Served Given D C : Type 0} (form : Form Ring Posted Served
         look-asks id serving = load-asks (LoadsTail form) id (size + 1) (low (size + 1) (omega arith)) (controller-load form size mode es id its (LoadsTail form) (size + 1) controller.Looked (λ r. (r < size) × (x.known ≤ count_at size (length x.served) r))
             (λ q ds words homes pos l. let a = inv.law.allowed size mode q ds es words homes pos l in let f = a.controller in let g = f.look (serves serving) in ((g.0, g.1), g.2)) (λ r t. record { seat = refl; below = t.0; grows = t.1 }))
 
-        -- a tail is a place
-        pub look-fits : (r : ℕ) (me' : It) → LoadsTail form (step ring.slots (size + 1) 0 0 none) me r me' → r < size
-        look-fits r me' t = let b = t.below in let c = counts in omega arith
-
         pub look-steps : (r : ℕ) (table' : TableId) (me' : It) → table' ≡ table → LoadsTail form (step ring.slots (size + 1) 0 0 none) me r me' → FoundTail (controller_of form now) r (controller_of form (side table' me'))
         look-steps r table' me' t told = record {
           step = ap (controller_of form) (same-steps (controller.Looked r) table' me' t told.seat);

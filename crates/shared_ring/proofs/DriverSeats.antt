@@ -16,7 +16,7 @@ use Rattle.shared_ring.specs.declared.events.View.TheVariants.{Driver}
 use Rattle.shared_ring.specs.Ends.{Side, grown}
 use Rattle.shared_ring.specs.Forms.{Form, drive, driving}
 use Rattle.shared_ring.specs.Keeping.{IsRuled, IsDriverSeat, IsWindow}
-use Rattle.shared_ring.specs.Own.{Event, Tells, SameOut, OneBack, MayLoad, MayClear, MayTake, MayEnd, Missed, Came}
+use Rattle.shared_ring.specs.Own.{Event, Tells, SameOut, OneBack, MayLoad, MayClear, MayTake, MayEnd}
 use Rattle.shared_ring.specs.Plays.{Seated, driver_does, posts, publishes, asks_enable, LoadsControl, asks_disable, LoadsHead, clears_head, clears_tail, DriverDoes, DriverTakes, DriverFinds, driver_ends}
 use Rattle.shared_ring.specs.Records.{Driven, driver_slots, undriven}
 use Rattle.shared_ring.specs.Seats.{driver_part}
@@ -92,9 +92,6 @@ module _ {Ring Posted Served Given D C : Type 0} (form : Form Ring Posted Served
       -- what a contract says of the end goes for the record
       words-are : {Y : Type 0} (f : Driven Posted Given → ℕ → Y) → f (done_by now) now.table.slots ≡ f d size
       words-are f = ap (λ (s : End). f (done_by s) s.table.slots) (sym was) ∙ ap (f d) inv.size_is
-
-      at-size : (F : ℕ → Type 0) → F now.table.slots → F size
-      at-size F x = subst F (words-are (λ y n. n)) x
 
       -- a step's own condition, of the seat
       here : (F : ℕ → Completion → List (DriverEvent D) → Type 0) → F now.table.slots now.completion now.events → F size mode (driver_part me.0)
@@ -311,15 +308,9 @@ module _ {Ring Posted Served Given D C : Type 0} (form : Form Ring Posted Served
                 pub missed-keeps : (table' : TableId) → table' ≡ table → done r ≡ false → IsDriverSeat form table' me1 size mode
                 missed-keeps table' same f = let m = take-may in same-keeps (missed place r) table' me1 same (t.undone f) (m.same r)
 
-                pub missed-steps : (table' : TableId) → table' ≡ table → done r ≡ false → Missed event tells missed done now place r (side table' me1)
-                missed-steps table' same f = record { undone = f; step = same-steps (missed place r) table' me1 same (t.undone f) }
-
                 module _ (b : Buffer) (table' : TableId) (me2 me3 : It) (same : table' ≡ table) (f : done r ≡ true) (l : me2 ≡ (me1.0, (place, blank) ∷ rest me1.1)) (turn : me3 ≡ (me2.0, turned me2.1)) where
                   pub take_own-keeps : IsDriverSeat form table' me3 size mode
                   take_own-keeps = let m = take-may in let o = t.taken f in back-keeps (event size es place r o.buf) o.buf table' me1 me2 me3 same (came-seat r me1 o) l turn (m.back r o.buf)
-
-                  pub take_own-steps : b ≡ front_buffer me1.1 → Came event tells missed done now place r b (side table' me3)
-                  take_own-steps got = record { is_done = f; step = came-steps r b table' me1 me2 me3 same (t.taken f) l turn got; told = came-told r b table' me1 me2 me3 same (t.taken f) l turn got }
 
           -- the epoch ends
           module _ (word : ℕ) (may : MayEnd form event now.table.slots now.completion now.events word) where

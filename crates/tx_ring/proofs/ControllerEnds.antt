@@ -154,15 +154,6 @@ module _ (c : ControllerSide) (serve ready last : ℕ) (holding between ends ask
     owing-now : owing ≡ true
     owing-now = h.owing_is ∙ ap is_owed was ∙ owes
 
-    pub owed-there : is_owed c ≡ true
-    owed-there = ap is_owed was ∙ owes
-
-    pub ower-serves : is_serving (controller_state c) ≡ true
-    ower-serves = h.owing_serving owing-now
-
-    pub last-there : last ≡ (length (sent c) - 1) % controller_size c
-    last-there = h.last_is owing-now
-
     pub report-keeps : (new : ControllerSide) (p w : ℕ) → new ≡ answered c (controller.Own (Reported p w)) → IsControllerEnd new serve ready last holding between ends asks false side asked
     report-keeps new p w step = end-after c new (controller.Own (Reported p w)) serve ready last holding between ends asks false side asked step (record {
       server = server-same (controller_size c) (controller_record c) serve ready holding side asked h.server (record x { barred = false }) refl refl refl refl refl;

@@ -16,7 +16,6 @@ use Rattle.ring_model.specs.transmit.Frames.{MayFollow}
 use Rattle.ring_model.specs.transmit.Ring.{carried}
 use Rattle.ring_model.specs.transmit.Steps.{asks_report, first_report}
 use Rattle.ring_model.proofs.shared.Places.{next_place as next_place-of}
-use Rattle.ring_model.proofs.shared.Shakes.{live_unanswered}
 use Rattle.shared_ring.specs.declared.events.DriverEvent.TheVariants as driver
 use Rattle.shared_ring.specs.Records.{undriven}
 use Rattle.tx_ring.specs.declared.events.TxDriverOwn.TheVariants.{NoReport, SawReport, Cleaned, EndedEpoch, ClearedReport}
@@ -71,9 +70,6 @@ module _ (d : DriverSide) (fill next out seen done unseen : ℕ) (whole : Bool) 
 
     on : is_live (driver_state d) ≡ true
     on = ap (λ (s : DriverSide). is_live (driver_state s)) was ∙ live
-
-    pub clean-out : returned d < length (posted d)
-    clean-out = let b = below in let u = h.unreclaimed (live_unanswered (driver_state d) on) in let ui = h.unseen_is in omega arith
 
     pub clean-keeps : (new : DriverSide) (buf : Buffer) (next' : ℕ) → CameClean d next buf new → next' ≡ (if (next + 1) == driver_size d then 0 else (next + 1)) → IsDriverEnd new fill next' (out - 1) seen (done - 1) unseen whole asks state
     clean-keeps new buf next' f e = end-as d new (driver.Own (Cleaned next buf)) (record (driver_record d) { given = cleaned d ++ buf.number ∷ [] }) (known_of d) fill next' (out - 1) seen (done - 1) unseen whole asks state f.step refl refl
@@ -222,9 +218,6 @@ module _ (d : DriverSide) (fill next out seen done unseen : ℕ) (whole : Bool) 
       let m : seen_reported d % driver_size d < driver_size d = mod-lt (seen_reported d) (omega arith) in
       let t = first_report-asks (posted d) (seen_reported d) (length (posted d) - seen_reported d) (seen_reported d + ahead) oldest in let w = t.0 in
       (omega arith, omega arith, omega arith)
-
-  pub off-live : (b : Bool) → b ≡ is_live state → is_live (driver_state now) ≡ b
-  off-live b e = sym (ap (λ (s : DriverSide). is_live (driver_state s)) was) ∙ sym (ap is_live h.state_is) ∙ sym e
 
   -- C9, C10 and C12
   gone-end : (n : ℕ) → n ≡ driver_size d → IsEndOf n undriven unknown 0 0 0 0 0 0 true asks New

@@ -79,22 +79,7 @@ module _ (n : ℕ) (x : TxDriven) (k : Knowing) (fill next out seen done unseen 
 
   -- and one that changes nothing of it
   pub end-same : (head : Option ℕ) → IsEndOf n x (record k { head = head }) fill next out seen done unseen whole asks state
-  end-same head = record {
-    lawful = h.lawful;
-    fill_is = h.fill_is;
-    next_is = h.next_is;
-    out_is = h.out_is;
-    room = h.room;
-    seen_is = h.seen_is;
-    done_is = h.done_is;
-    unseen_is = h.unseen_is;
-    few = h.few;
-    whole_is = h.whole_is;
-    asks_count = h.asks_count;
-    asks_are = h.asks_are;
-    state_is = h.state_is;
-    unreclaimed = h.unreclaimed;
-  }
+  end-same head = subst (λ (s : DriverState). IsEndOf n x (record k { head = head }) fill next out seen done unseen whole asks s) (sym h.state_is) (end-state x.state x.published head (λ e. e))
 
   pub end-post : (p : Posting) (fill' : ℕ) → is_open x.state ≡ true → length x.posted + 1 < length x.given + x.reclaimed + n → fill' ≡ (if (fill + 1) == n then 0 else (fill + 1))
       → IsEndOf n (record x { posted = x.posted ++ p ∷ [] }) k fill' next (out + 1) seen done (unseen + 1) p.eop (slice_set asks fill p.rs) state

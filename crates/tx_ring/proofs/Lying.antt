@@ -78,9 +78,6 @@ module _ (n : ℕ) (mode : Completion) (q : TxRing Bytes) (ds : List DriverStep)
   pub knows_is : (p : TxRing Bytes) (e : DriverStep) → Learnt n p (know (driven q.queue) (knowing ds) e) → Learnt n p (knowing (ds ++ e ∷ []))
   knows_is p e h = subst (λ (y : Knowing). Learnt n p y) (sym (knew e)) h
 
-  pub fetched_is : (e : ControllerStep) → fetch_word (fetched_word cs) e ≡ fetched_word cs → fetched_word (cs ++ e ∷ []) ≡ fetched_word cs
-  fetched_is e same = fetched-snoc cs e ∙ same
-
   pub unreclaimed : is_answered q.handshake.driver ≡ false → returned_count q.queue ≡ given_count q.queue
   unreclaimed h = let k = keeps_it in let o = k.queue.order in let z = o.not_reclaimed h in omega arith
 
