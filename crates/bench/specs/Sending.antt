@@ -102,7 +102,7 @@ pub record HasServed (ring : TableId) (way : Completion) (controller : Controlle
   pub can : CanFetch ring controller
   pub reports : controller.completion ≡ way
 
--- So many copies of the frame went through one ring that reports as planned. What the controller sent is what the driver posted, with each report asked for where it was to be, and made; and all of it is cleaned, in order
+-- So many copies of the frame went through one ring that reports as planned. What the controller sent is what the driver posted, with each report asked for where it was to be, and none owed; and all of it is cleaned, in order
 pub record HasSent (plan : TxPlan) (frame : Bytes) (driver : DriverSide) (controller : ControllerSide) : Type 0 where
   pub one_ring : controller.table ≡ driver.table
   pub one_way : (driver.completion ≡ plan.completion) × (controller.completion ≡ plan.completion)

@@ -50,15 +50,7 @@ pub fn send_frames<R: Threads + Wait + Clock + Sync>(
     let (ring, driver, controller) = TxRing::new_with(alloc, plan.load.ring, plan.completion)?;
     let stock = stock_for(alloc, plan.load.ring)?;
     let start = Instant::now(rt)?;
-    let (posted, sent) = in_threads(
-        rt,
-        &ring,
-        driver,
-        controller,
-        stock,
-        frame.as_slice(),
-        plan,
-    )?;
+    let (posted, sent) = in_threads(rt, &ring, driver, controller, stock, frame.as_slice(), plan)?;
     let spent = start.elapsed(rt)?;
     let (mut driver, mut controller) = (posted.driver, sent.controller);
     meet_tx(&ring, &mut driver, &mut controller);
