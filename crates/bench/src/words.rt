@@ -1,5 +1,7 @@
 //! The command line.
 
+use limits::{BUFFER_BYTES, MOST_RING};
+
 /// What is run.
 #[derive(Clone, Copy)]
 pub struct Plan {
@@ -33,10 +35,10 @@ pub fn plan_of(words: &[String]) -> Option<Plan> {
         return None;
     }
     Some(Plan {
-        ring: number_of(options, "--ring", 4_096)?,
+        ring: number_of(options, "--ring", MOST_RING as u32)?,
         frames: number_of(options, "--frames", u32::MAX)?,
-        size: number_of(options, "--size", 2_048)? as usize,
-        batch: number_of(options, "--batch", 4_096)?,
+        size: number_of(options, "--size", BUFFER_BYTES as u32)? as usize,
+        batch: number_of(options, "--batch", MOST_RING as u32)?,
     })
 }
 
