@@ -2,8 +2,8 @@
 //!
 //! A ring has a word for each descriptor, a head, a tail, a control word and a quiet word, and a slot for a buffer at
 //! each place. Each call of an end is one sequentially consistent load or store of one word, or none, but for `renew`,
-//! which makes three stores; and a slot is exchanged only by the end to which that step gave it. No call takes a lock or waits: none is passed what it would
-//! need for that.
+//! which makes three stores; and a slot is exchanged only by the end to which that step gave it. No call takes a lock or
+//! waits: none is passed what it would need for that.
 //!
 //! A ring begins disabled. The driver asks for it to be enabled and disabled, and the controller answers; once all
 //! buffers of a disabled ring are reclaimed, it can be renewed and enabled again.
