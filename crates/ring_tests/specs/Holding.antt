@@ -1,8 +1,8 @@
 -- What a controller holds between a fetch and its write-back.
-use Rattle.std.specs.Prelude.{ℕ, [], Option, Some, None}
+use Rattle.std.specs.Prelude.{[], Option, Some, None}
 use Rattle.buffer_pool.specs.Buffer.{Buffer, buffer}
 
--- the buffer of this number, empty
-abbrev pub held_as : Option ℕ → Option Buffer
+-- the buffer of the same number, empty
+abbrev pub held_as : Option Buffer → Option Buffer
 held_as None = None
-held_as (Some number) = Some (buffer number [])
+held_as (Some b) = Some (buffer b.number [])

@@ -1,114 +1,65 @@
 -- What the fields of a driver's end keep as its record grows.
-use Rattle.std.proofs.Common.{◌≡◌, ℕ, ◌+◌, ◌-◌, ◌%◌, ◌<◌, ◌≤◌, Bool, true, false, ◌||◌, ◌&&◌, if◌then◌else◌, [], ◌∷◌, ◌++◌, length, sym, refl, ap, ◌∙◌, subst, arith, length-append}
+use Rattle.std.proofs.Common.{◌≡◌, ℕ, ◌+◌, ◌-◌, ◌<◌, Bool, true, false, ◌||◌, ◌&&◌, if◌then◌else◌, [], ◌∷◌, ◌++◌, length, sym, refl, ap, subst, arith, length-append}
 use Rattle.std.specs.Prelude.{◌==◌}
-use Rattle.std.proofs.Math.Nat.{zero-mod}
-use Rattle.std.proofs.lemmas.Bool.{both_ways, or_right, and_from, eq-eqb, false≢true}
+use Rattle.std.proofs.lemmas.Bool.{or_right, and_from, eq-eqb, false≢true}
 use Rattle.buffer_pool.specs.Buffer.{Buffer}
 use Rattle.limits.specs.RingLength.{IsRingLength}
-use Rattle.ring_model.specs.declared.states.DriverState.{DriverState}
 use Rattle.ring_model.specs.declared.states.DriverState.TheVariants.{New}
-use Rattle.ring_model.specs.shared.Handshakes.{is_answered, is_stopped}
 use Rattle.ring_model.specs.shared.Agreement.{bit}
-use Rattle.ring_model.proofs.shared.Places.{next_place}
-use Rattle.ring_model.proofs.shared.Shakes.{stopped_answered}
+use Rattle.shared_ring.specs.declared.ends.DriverPlaces.{DriverPlaces}
+use Rattle.shared_ring.specs.declared.ends.Handshake.{Handshake}
 use Rattle.shared_ring.specs.declared.events.DriverEvent.TheVariants as driver
+use Rattle.shared_ring.specs.Calls.{MayShake, shake_event, shaken}
 use Rattle.shared_ring.specs.Records.{undriven}
-use Rattle.shared_ring.proofs.Folds.{driving-snoc}
+use Rattle.shared_ring.proofs.Posting.{record-after, known-after, anew, poster-anew, poster-post, poster-back, poster-shaken, poster-published, shaken-record, shaken-known}
 use Rattle.rx_ring.specs.declared.events.RxDriverOwn.TheVariants.{NotDone, Taken, LoadedQuiet}
-use Rattle.rx_ring.specs.Records.{RxDriven, DriverStep, drive, posting, drive_own, segment_of, Knowing, unknown, know}
-use Rattle.rx_ring.specs.Ends.{DriverSide, driver_size, driver_record, known_of, appended}
+use Rattle.rx_ring.specs.Records.{RxDriven, DriverStep, drive, segment_of, Knowing, unknown, know}
+use Rattle.rx_ring.specs.Ends.{DriverSide, driver_size, driver_record, driver_state, known_of, appended}
 use Rattle.rx_ring.specs.Calls.{IsEndOf, IsDriverEnd}
-use Rattle.rx_ring.proofs.Learning.{knowing-snoc}
-
-pub recorded : (d : DriverSide) (e : DriverStep) → driver_record (appended d e) ≡ drive (driver_record d) e
-recorded d e = driving-snoc posting drive_own undriven d.events e
-
-pub learnt : (d : DriverSide) (e : DriverStep) → known_of (appended d e) ≡ know (driver_record d) (known_of d) e
-learnt d e = knowing-snoc d.events e
 
 -- one more event
-pub end-after : (d new : DriverSide) (e : DriverStep) (fill next out : ℕ) (state : DriverState) → new ≡ appended d e → IsEndOf (driver_size d) (drive (driver_record d) e) (know (driver_record d) (known_of d) e) fill next out state → IsDriverEnd new fill next out state
-end-after d new e fill next out state step h = subst (λ (s : DriverSide). IsDriverEnd s fill next out state) (sym step)
-    (subst (λ (x : RxDriven). IsEndOf (driver_size d) x (known_of (appended d e)) fill next out state) (sym (recorded d e))
-    (subst (λ (k : Knowing). IsEndOf (driver_size d) (drive (driver_record d) e) k fill next out state) (sym (learnt d e)) h))
-
--- how a record is read after a step
-pub record-after : (d new : DriverSide) (e : DriverStep) → new ≡ appended d e → driver_record new ≡ drive (driver_record d) e
-record-after d new e step = ap driver_record step ∙ recorded d e
-
-pub known-after : (d new : DriverSide) (e : DriverStep) → new ≡ appended d e → known_of new ≡ know (driver_record d) (known_of d) e
-known-after d new e step = ap known_of step ∙ learnt d e
+pub end-after : (d new : DriverSide) (e : DriverStep) (at : DriverPlaces) → new ≡ appended d e → IsEndOf (driver_size d) (drive (driver_record d) e) (know (driver_record d) (known_of d) e) at → IsDriverEnd new at
+end-after d new e at step h = subst (λ (n : ℕ). IsEndOf n (driver_record new) (known_of new) at) (sym (ap driver_size step))
+    (subst (λ (x : RxDriven). IsEndOf (driver_size d) x (known_of new) at) (sym (record-after d new e step))
+    (subst (λ (k : Knowing). IsEndOf (driver_size d) (drive (driver_record d) e) k at) (sym (known-after d new e step)) h))
 
 -- an epoch in which nothing is done
-end-anew : (n published : ℕ) → IsRingLength n → IsEndOf n (record { posted = []; published = published; given = []; reclaimed = 0; state = New }) unknown 0 0 0 New
-end-anew n published lawful = let g : 8 ≤ n = lawful.0 in record {
-  lawful = lawful;
-  fill_is = sym (zero-mod n);
-  next_is = sym (zero-mod n);
-  out_is = refl;
-  room = omega arith;
-  state_is = refl;
-  unreclaimed = λ a. refl;
-  sure = λ a. absurd (false≢true a);
-}
+pub end-anew : (n published : ℕ) → IsRingLength n → IsEndOf n (record { posted = []; published = published; given = []; reclaimed = 0; state = New }) unknown (anew n)
+end-anew n published lawful = record { poster = poster-anew n published lawful; sure = λ a. absurd (false≢true a) }
 
-module _ (n : ℕ) (x : RxDriven) (k : Knowing) (fill next out : ℕ) (state : DriverState) (h : IsEndOf n x k fill next out state) where
-  big : 8 ≤ n
-  big = h.lawful.0
+module _ (n : ℕ) (x : RxDriven) (k : Knowing) (at : DriverPlaces) (h : IsEndOf n x k at) where
+  pub end-shaken : (step : Handshake) (w : ℕ) → MayShake step x.state → IsEndOf n (record x { state = shaken step x.state w }) k (record at { state = shaken step at.state w })
+  end-shaken step w may = record { poster = poster-shaken n x at h.poster step w may; sure = h.sure }
 
-  -- a step that changes the state alone
-  pub end-state : (s : DriverState) (published : ℕ) → (is_answered s ≡ false → is_answered x.state ≡ false) → IsEndOf n (record x { published = published; state = s }) k fill next out s
-  end-state s published f = record { lawful = h.lawful; fill_is = h.fill_is; next_is = h.next_is; out_is = h.out_is; room = h.room; state_is = refl; unreclaimed = λ e. h.unreclaimed (f e); sure = h.sure }
+  pub end-published : (published : ℕ) → IsEndOf n (record x { published = published }) k at
+  end-published published = record { poster = poster-published n x at h.poster published; sure = h.sure }
 
-  pub end-known : (k' : Knowing) → (k'.quiet ≡ true → length x.given ≡ length x.posted → k'.drained ≡ true) → IsEndOf n x k' fill next out state
-  end-known k' f = record { lawful = h.lawful; fill_is = h.fill_is; next_is = h.next_is; out_is = h.out_is; room = h.room; state_is = h.state_is; unreclaimed = h.unreclaimed; sure = f }
+  pub end-known : (k' : Knowing) → (k'.quiet ≡ true → length x.given ≡ length x.posted → k'.drained ≡ true) → IsEndOf n x k' at
+  end-known k' f = record { poster = h.poster; sure = f }
 
-  pub end-quiet : (w : ℕ) → IsEndOf n x (know x k (driver.Own (LoadedQuiet w))) fill next out state
+  pub end-quiet : (w : ℕ) → IsEndOf n x (know x k (driver.Own (LoadedQuiet w))) at
   end-quiet w = end-known (know x k (driver.Own (LoadedQuiet w))) (λ q a. or_right k.drained ((k.quiet || (w == 1)) && (length x.given == length x.posted)) (and_from (k.quiet || (w == 1)) (length x.given == length x.posted) q (eq-eqb (length x.given) (length x.posted) a)))
 
-  pub end-not_done : (p w : ℕ) → IsEndOf n x (know x k (driver.Own (NotDone p w))) fill next out state
+  pub end-not_done : (p w : ℕ) → IsEndOf n x (know x k (driver.Own (NotDone p w))) at
   end-not_done p w = end-known (know x k (driver.Own (NotDone p w))) (λ q a. or_right k.drained k.quiet q)
 
-  pub end-post : (b fill' : ℕ) → length x.posted + 1 < length x.given + x.reclaimed + n → fill' ≡ (if (fill + 1) == n then 0 else (fill + 1)) → IsEndOf n (record x { posted = x.posted ++ b ∷ [] }) k fill' next (out + 1) state
-  end-post b fill' room f = let e = length-append x.posted (b ∷ []) in let o = h.out_is in let g = big in record {
-    lawful = h.lawful;
-    fill_is = f ∙ ap (λ (j : ℕ). if (j + 1) == n then 0 else (j + 1)) h.fill_is ∙ next_place n (length x.posted) (omega arith) ∙ ap (λ (j : ℕ). j % n) (sym e);
-    next_is = h.next_is;
-    out_is = omega arith;
-    room = omega arith;
-    state_is = h.state_is;
-    unreclaimed = h.unreclaimed;
-    sure = λ a b. absurd (omega arith);
-  }
+  pub end-post : (b fill : ℕ) → length x.posted + 1 < length x.given + x.reclaimed + n → fill ≡ (if (at.fill + 1) == n then 0 else (at.fill + 1)) → IsEndOf n (record x { posted = x.posted ++ b ∷ [] }) k (record at { fill = fill; out = at.out + 1 })
+  end-post b fill room f = let e = length-append x.posted (b ∷ []) in let o = h.out_is in record { poster = poster-post n x at h.poster b fill room f; sure = λ a b. absurd (omega arith) }
 
-  pub end-taken : (p w next' : ℕ) (b : Buffer) → 0 < out → next' ≡ (if (next + 1) == n then 0 else (next + 1)) → IsEndOf n (drive x (driver.Own (Taken p w b))) (know x k (driver.Own (Taken p w b))) fill next' (out - 1) state
-  end-taken p w next' b some f = let e = length-append x.given (segment_of w b ∷ []) in let o = h.out_is in let g = big in let r = h.room in record {
-    lawful = h.lawful;
-    fill_is = h.fill_is;
-    next_is = f ∙ ap (λ (j : ℕ). if (j + 1) == n then 0 else (j + 1)) h.next_is ∙ next_place n (length x.given + x.reclaimed) (omega arith) ∙ ap (λ (j : ℕ). j % n) (let i : length x.given + x.reclaimed + 1 ≡ length (x.given ++ segment_of w b ∷ []) + x.reclaimed = omega arith in i);
-    out_is = omega arith;
-    room = omega arith;
-    state_is = h.state_is;
-    unreclaimed = h.unreclaimed;
+  pub end-taken : (p w next : ℕ) (b : Buffer) → 0 < at.out → next ≡ (if (at.next + 1) == n then 0 else (at.next + 1)) → IsEndOf n (drive x (driver.Own (Taken p w b))) (know x k (driver.Own (Taken p w b))) (record at { next = next; out = at.out - 1 })
+  end-taken p w next b some f = let e = length-append x.given (segment_of w b ∷ []) in let u = h.unreclaimed in record {
+    poster = poster-back n x at h.poster (drive x (driver.Own (Taken p w b))) next refl refl (omega arith) h.unreclaimed some f;
     sure = λ q a. or_right k.drained (k.quiet && (length x.given + 1 == length x.posted)) (and_from k.quiet (length x.given + 1 == length x.posted) q (eq-eqb (length x.given + 1) (length x.posted) (omega arith)));
   }
 
-  pub end-reclaimed : (p next' : ℕ) (b : Buffer) → 0 < out → is_stopped x.state ≡ true → next' ≡ (if (next + 1) == n then 0 else (next + 1)) → IsEndOf n (drive x (driver.Reclaimed p b)) k fill next' (out - 1) state
-  end-reclaimed p next' b some stopped f = let o = h.out_is in let g = big in let r = h.room in record {
-    lawful = h.lawful;
-    fill_is = h.fill_is;
-    next_is = f ∙ ap (λ (j : ℕ). if (j + 1) == n then 0 else (j + 1)) h.next_is ∙ next_place n (length x.given + x.reclaimed) (omega arith) ∙ ap (λ (j : ℕ). j % n) (let i : length x.given + x.reclaimed + 1 ≡ length x.given + (x.reclaimed + 1) = omega arith in i);
-    out_is = omega arith;
-    room = omega arith;
-    state_is = h.state_is;
-    unreclaimed = λ a. absurd (both_ways (is_answered x.state) a (stopped_answered x.state stopped));
-    sure = h.sure;
-  }
+-- C1, C4, C5
+pub end-shake : (d new : DriverSide) (at : DriverPlaces) (step : Handshake) (w : ℕ) → new ≡ appended d (shake_event step w) → MayShake step (driver_state d) → IsDriverEnd d at → IsDriverEnd new (record at { state = shaken step at.state w })
+end-shake d new at step w is may h = end-after d new (shake_event step w) (record at { state = shaken step at.state w }) is
+    (subst (λ (x : RxDriven). IsEndOf (driver_size d) x (know (driver_record d) (known_of d) (shake_event step w)) (record at { state = shaken step at.state w })) (sym (shaken-record d step w))
+    (subst (λ (k : Knowing). IsEndOf (driver_size d) (record (driver_record d) { state = shaken step (driver_state d) w }) k (record at { state = shaken step at.state w })) (sym (shaken-known d step w))
+    (end-shaken (driver_size d) (driver_record d) (known_of d) at h step w may)))
 
-  pub end-renewed : (published : ℕ) → IsEndOf n (record x { posted = []; published = published; given = []; reclaimed = 0; state = New }) unknown 0 0 0 New
-  end-renewed published = end-anew n published h.lawful
-
-pub end-fresh : (n : ℕ) → IsRingLength n → IsEndOf n undriven unknown 0 0 0 New
+pub end-fresh : (n : ℕ) → IsRingLength n → IsEndOf n undriven unknown (anew n)
 end-fresh n lawful = end-anew n 0 lawful
 
 pub quiet-seen : (was b : Bool) → b ≡ true → (was || (bit b == 1)) ≡ true

@@ -1,26 +1,24 @@
 -- What the calls of both ends do, where their answer depends on what was loaded; and what the fields of an end keep.
-use Rattle.std.specs.Prelude.{◌≡◌, ℕ, ◌+◌, ◌%◌, ◌<◌, ◌⊎◌, Bool, true, false, [], ◌∷◌, ◌++◌, length, Option, Some, None, slice_get}
+use Rattle.std.specs.Prelude.{◌≡◌, ℕ, ◌+◌, ◌%◌, ◌<◌, Bool, true, false, [], ◌∷◌, ◌++◌, length, Option, Some, None, slice_get}
 use Rattle.buffer_pool.specs.Buffer.{Buffer, buffer}
-use Rattle.limits.specs.RingLength.{IsRingLength}
-use Rattle.ring_model.specs.declared.states.DriverState.{DriverState}
-use Rattle.ring_model.specs.declared.states.ControllerState.{ControllerState}
 use Rattle.ring_model.specs.receive.Agreement.{rx_word}
-use Rattle.ring_model.specs.shared.Segments.{Segment, ends_segment, piece_of}
-use Rattle.ring_model.specs.shared.Frames.{Bytes, Follows, unfinished, ends_frame}
-use Rattle.ring_model.specs.shared.Handshakes.{is_answered, is_live, is_serving}
+use Rattle.ring_model.specs.shared.Segments.{Segment, piece_of}
+use Rattle.ring_model.specs.shared.Frames.{Bytes, Follows, unfinished}
+use Rattle.ring_model.specs.shared.Handshakes.{is_live}
 use Rattle.shared_ring.specs.declared.events.DriverEvent.TheVariants as driver
 use Rattle.shared_ring.specs.declared.events.ControllerEvent.TheVariants as controller
-use Rattle.shared_ring.specs.declared.control.Control.{Control}
 use Rattle.shared_ring.specs.Records.{undriven}
 use Rattle.rx_ring.specs.declared.events.RxDriverOwn.TheVariants.{NotDone, Taken, ClearedQuiet}
 use Rattle.rx_ring.specs.declared.driver.Poll.{Poll}
 use Rattle.rx_ring.specs.declared.driver.Poll.TheVariants as poll
 use Rattle.rx_ring.specs.Records.{RxDriven, RxControlled, Knowing, unknown}
-use Rattle.rx_ring.specs.Ends.{DriverSide, driver_size, driver_record, posted, taken, reclaimed, returned, driver_state, known_of, saw_quiet, is_drained, next_place, appended, ControllerSide, controller_size, controller_record, held_number, serve_place, answered, seen, head_stored, controller_state, is_between}
+use Rattle.rx_ring.specs.Ends.{DriverSide, driver_size, driver_record, posted, taken, reclaimed, returned, driver_state, known_of, saw_quiet, is_drained, next_place, appended, ControllerSide, controller_size, controller_record, serve_place, answered}
 pub use Rattle.shared_ring.specs.Meeting.{IsTold}
 use Rattle.rx_ring.specs.Meeting.{left_by}
-pub use Rattle.shared_ring.specs.Calls.{IsFreshDriver, IsFreshController, NoneOut, FoundAhead as FoundFree, MayEnable, AnsweredEnabling, AnsweredDisabling, Answered}
-use Rattle.shared_ring.specs.Calls.{IsServer}
+pub use Rattle.shared_ring.specs.Calls.{IsFreshDriver, IsFreshController, NoneOut, FoundAhead as FoundFree, MayEnable, IsSettled, MayDisable, MayAnswer, AnsweredEnabling, AnsweredDisabling, Answered}
+use Rattle.shared_ring.specs.Calls.{IsPoster, IsServer}
+use Rattle.shared_ring.specs.declared.ends.DriverPlaces.{DriverPlaces}
+use Rattle.shared_ring.specs.declared.ends.ControllerPlaces.{ControllerPlaces}
 
 abbrev pub segment : Buffer → Bool → Segment Bytes
 segment buf eop = record { number = buf.number; payload = buf.bytes; eop = eop }
@@ -96,18 +94,13 @@ pub record GoneOver (old new : DriverSide) : Type 0 where
   pub unlearnt : known_of new ≡ unknown
 
 -- What the fields of a driver's end keep, over its record and what it has learnt
-pub record IsEndOf (n : ℕ) (x : RxDriven) (k : Knowing) (fill next out : ℕ) (state : DriverState) : Type 0 where
-  pub lawful : IsRingLength n
-  pub fill_is : fill ≡ length x.posted % n
-  pub next_is : next ≡ (length x.given + x.reclaimed) % n
-  pub out_is : out + (length x.given + x.reclaimed) ≡ length x.posted
-  pub room : out < n
-  pub state_is : state ≡ x.state
-  pub unreclaimed : is_answered x.state ≡ false → x.reclaimed ≡ 0
+pub record IsEndOf (n : ℕ) (x : RxDriven) (k : Knowing) (at : DriverPlaces) : Type 0 where
+  pub poster : IsPoster n x at
+  pub open poster use *
   pub sure : k.quiet ≡ true → length x.given ≡ length x.posted → k.drained ≡ true
 
-abbrev pub IsDriverEnd : DriverSide → ℕ → ℕ → ℕ → DriverState → Type 0
-IsDriverEnd d fill next out state = IsEndOf (driver_size d) (driver_record d) (known_of d) fill next out state
+abbrev pub IsDriverEnd : DriverSide → DriverPlaces → Type 0
+IsDriverEnd d at = IsEndOf (driver_size d) (driver_record d) (known_of d) at
 
 -- A4: the next descriptor was loaded, and this empty buffer came out of its slot
 pub record Fetched (old : ControllerSide) (buf : Buffer) (new : ControllerSide) : Type 0 where
@@ -116,29 +109,12 @@ pub record Fetched (old : ControllerSide) (buf : Buffer) (new : ControllerSide) 
   pub empty : buf ≡ buffer buf.number []
   pub same : controller_record new ≡ record (controller_record old) { held = Some buf }
 
--- the end serves, nothing is held, the last stored segment ends a frame, and the head is stored after it
-pub record IsSettled (c : ControllerSide) : Type 0 where
-  pub serving : is_serving (controller_state c) ≡ true
-  pub held : held_number c ≡ None
-  pub between : is_between c ≡ true
-  pub head : head_stored c ≡ serve_place c
-
--- a disabling is asked, and may be answered
-pub record MayDisable (c : ControllerSide) : Type 0 where
-  pub asked : seen c ≡ 3
-  pub settled : IsSettled c
-  pub open settled use *
-
-abbrev pub MayAnswer : ControllerSide → Type 0
-MayAnswer c = MayEnable c ⊎ MayDisable c
-
 -- What the fields of a controller's end keep, over its record
-pub record IsServerOf (n : ℕ) (x : RxControlled) (serve free place : ℕ) (holding between : Bool) (side : ControllerState) (asked : Control) (finished : Bool) : Type 0 where
-  pub server : IsServer n x serve free holding side asked
+pub record IsServerOf (n : ℕ) (x : RxControlled) (at : ControllerPlaces) (head : ℕ) (finished : Bool) : Type 0 where
+  pub server : IsServer piece_of n x at
   pub open server use *
-  pub head_is : place ≡ x.head
-  pub between_is : between ≡ ends_frame ends_segment true x.served
+  pub head_is : head ≡ x.head
   pub quiet_is : finished ≡ x.barred
 
-abbrev pub IsControllerEnd : ControllerSide → ℕ → ℕ → ℕ → Bool → Bool → ControllerState → Control → Bool → Type 0
-IsControllerEnd c serve free place holding between side asked finished = IsServerOf (controller_size c) (controller_record c) serve free place holding between side asked finished
+abbrev pub IsControllerEnd : ControllerSide → ControllerPlaces → ℕ → Bool → Type 0
+IsControllerEnd c at head finished = IsServerOf (controller_size c) (controller_record c) at head finished

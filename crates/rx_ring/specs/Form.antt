@@ -7,7 +7,7 @@ use Rattle.buffer_pool.specs.Buffer.{Buffer, buffer}
 use Rattle.ring_model.specs.declared.states.Completion.{Completion}
 use Rattle.ring_model.specs.declared.states.Completion.TheVariants.{Status}
 use Rattle.ring_model.specs.receive.Ring.{RxRing}
-use Rattle.ring_model.specs.shared.Segments.{Segment, ends_segment}
+use Rattle.ring_model.specs.shared.Segments.{Segment, ends_segment, piece_of}
 use Rattle.ring_model.specs.receive.Steps.{IsRxReachable}
 use Rattle.ring_model.specs.receive.Lawful.{IsLawfulRx}
 use Rattle.ring_model.specs.shared.Frames.{Bytes, ends_frame}
@@ -16,7 +16,7 @@ use Rattle.shared_ring.specs.Forms.{Form}
 use Rattle.shared_ring.specs.Lies.{driven, IsControlled}
 use Rattle.rx_ring.specs.declared.events.RxDriverOwn.{RxDriverOwn}
 use Rattle.rx_ring.specs.declared.events.RxControllerOwn.{RxControllerOwn}
-use Rattle.rx_ring.specs.Records.{DriverStep, ControllerStep, driving, controlling, knowing, posting, drive_own, control_own}
+use Rattle.rx_ring.specs.Records.{DriverStep, ControllerStep, driving, controlling, Knowing, unknown, saw_head, know_own, knowing, posting, drive_own, control_own}
 use Rattle.rx_ring.specs.Rule.{Learnt, LiesAs, says, lies_there}
 
 -- both records are those of one lawful ring that a schedule makes, of which the driver has learnt what it says
@@ -46,6 +46,11 @@ rx = record {
   posting = posting;
   drive_own = drive_own;
   control_own = control_own;
+  Known = Knowing;
+  unknown = unknown;
+  saw_head = saw_head;
+  know_own = know_own;
+  carries = piece_of;
   Reports = λ mode. mode ≡ Status;
   MayPost = λ n xs word b. (word ≡ 0) × (b ≡ buffer b.number []);
   MayPublish = λ xs. Unit {0};

@@ -6,8 +6,6 @@ use Rattle.ring_model.specs.shared.Frames.{Bytes}
 use Rattle.ring_model.specs.shared.Segments.{Segment}
 use Rattle.shared_ring.specs.declared.events.DriverEvent.{DriverEvent}
 use Rattle.shared_ring.specs.declared.events.ControllerEvent.{ControllerEvent}
-use Rattle.shared_ring.specs.declared.events.View.{View}
-use Rattle.shared_ring.specs.Seats.{driver_part, controller_part}
 use Rattle.shared_ring.specs.Records as shared
 use Rattle.shared_ring.specs.Records.{Driven, Controlled, undriven, uncontrolled}
 use Rattle.rx_ring.specs.declared.events.RxDriverOwn.{RxDriverOwn}
@@ -20,15 +18,6 @@ DriverStep = DriverEvent RxDriverOwn
 
 abbrev pub ControllerStep : Type 0
 ControllerStep = ControllerEvent RxControllerOwn
-
-abbrev pub RxView : Type 0
-RxView = View DriverStep ControllerStep
-
-abbrev pub drivers_of : RxView → List DriverStep
-drivers_of v = driver_part v
-
-abbrev pub controllers_of : RxView → List ControllerStep
-controllers_of v = controller_part v
 
 abbrev pub RxDriven : Type 0
 RxDriven = Driven ℕ (Segment Bytes)

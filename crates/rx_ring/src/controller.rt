@@ -10,17 +10,18 @@ ghost use Rattle.ring_model.specs.shared.Handshakes.{is_serving};
 ghost use Rattle.shared_ring.specs.Words.{control_word};
 ghost use Rattle.shared_ring.specs.declared.events.ControllerEvent.TheVariants.{StoredHead, LoadedRequest, Own};
 ghost use Rattle.rx_ring.specs.declared.events.RxControllerOwn.TheVariants.{WroteBack, SaidQuiet};
-ghost use Rattle.rx_ring.specs.Ends.{controller_size, controller_record, stored, known_free, held_number, controller_state, is_quiet, is_between, serve_place, answered};
-ghost use Rattle.shared_ring.specs.Ends.{controller_of};
+ghost use Rattle.rx_ring.specs.Ends.{controller_size, controller_record, stored, known_free, held, held_number, controller_state, is_quiet, is_between, serve_place, answered};
+ghost use Rattle.shared_ring.specs.Ends.{controller_of, controller_side};
 ghost use Rattle.rx_ring.specs.Form.{rx};
 ghost use Rattle.rx_ring.specs.Calls.{IsFreshController, FoundFree, Fetched, MayAnswer, IsSettled, Answered, segment};
 
-use crate::direction::RxControllerSeat;
+use crate::direction::{RxControllerSeat, RxRule};
+use crate::events::{RxControllerOwn, RxDriverOwn};
 use crate::ring::RxRing;
 use crate::steps;
 use buffer_pool::Buf;
-use ring_model::{ControllerState, place_after, places_between};
-use shared_ring::Control;
+use ring_model::place_after;
+use shared_ring::{ControllerEnd, ControllerLoad, ControllerPlaces};
 use std::marker::Model;
 
 /// The controller's end of a receive ring. Contracts see the ring's identity and the record of the end's own steps.
@@ -30,13 +31,8 @@ use std::marker::Model;
 #[derive(Drop)]
 pub struct RxControllerEnd {
     pub(crate) seat: RxControllerSeat,
-    pub(crate) serve: u16,
-    free: u16,
+    pub(crate) at: ControllerPlaces,
     head: u16,
-    pub(crate) held: bool,
-    whole: bool,
-    state: ControllerState,
-    seen: Control,
     finished: bool,
 }
 
@@ -50,7 +46,7 @@ impl Model for RxControllerEnd {
 
     ghost view = { λ e. controller_of rx e.seat };
 
-    ghost invariant = { λ e. IsControllerEnd (controller_of rx e.seat) e.serve e.free e.head e.held e.whole e.state e.seen e.finished };
+    ghost invariant = { λ e. IsControllerEnd (controller_of rx e.seat) e.at e.head e.finished };
 }
 
 impl RxControllerEnd {
@@ -58,27 +54,13 @@ impl RxControllerEnd {
         requires { IsFreshController (controller_of rx seat) }
         ensures { result ≡ controller_of rx seat }
     {
-        let _size = seat.size(); // which says that the length is lawful
+        let at = ControllerPlaces::new(seat.size());
         RxControllerEnd {
             seat,
-            serve: 0,
-            free: 0,
+            at,
             head: 0,
-            held: false,
-            whole: true,
-            state: ControllerState::Off,
-            seen: Control::Disabled,
             finished: false,
         }
-    }
-
-    /// The ring's length.
-    #[inline]
-    pub fn size(&self) -> u32
-        ensures value { result ≡ controller_size self.now }
-        ensures lawful { IsRingLength result }
-    {
-        self.seat.size() as u32
     }
 
     /// How many descriptors the end knows to be free: from the next one up to the tail that it loaded last.
@@ -86,74 +68,7 @@ impl RxControllerEnd {
     pub fn free(&self) -> u32
         ensures { result ≡ known_free self.now }
     {
-        self.free as u32
-    }
-
-    /// Whether the end answered the enabling of this epoch, and no disabling since.
-    #[inline]
-    pub fn is_serving(&self) -> bool
-        ensures { result ≡ is_serving (controller_state self.now) }
-    {
-        self.state.is_serving()
-    }
-
-    /// Whether a fetched buffer is not written back yet.
-    #[inline]
-    pub fn is_holding(&self) -> bool
-        ensures { (result ≡ false) ↔ (held_number self.now ≡ None) }
-    {
-        self.held
-    }
-
-    /// Whether the last stored segment ends a frame, or none is stored.
-    #[inline]
-    pub fn is_between_frames(&self) -> bool
-        ensures value { result ≡ is_between self.now }
-        ensures rest { result ≡ true → unfinished piece_of (stored self.now) ≡ [] }
-    {
-        self.whole
-    }
-
-    /// Whether the end said that it stores no more in this epoch.
-    #[inline]
-    pub fn has_finished(&self) -> bool
-        ensures { result ≡ is_quiet self.now }
-    {
-        self.finished
-    }
-
-    /// Whether `answer` may be called: an enabling was loaded last and the end does not serve, or a disabling and the
-    /// end stands between two frames with the head stored.
-    #[inline]
-    pub fn can_answer(&self) -> bool
-        ensures { IsTrue result ↔ MayAnswer self.now }
-    {
-        match self.seen {
-            Control::EnableAsked => !self.state.is_serving(),
-            Control::DisableAsked => self.can_disable(),
-            Control::Disabled | Control::Enabled => false,
-        }
-    }
-
-    // Whether a disabling may be answered, where one was loaded last.
-    #[inline]
-    fn can_disable(&self) -> bool
-        ensures { IsTrue result ↔ IsSettled self.now }
-    {
-        self.state.is_serving() && !self.held && self.whole && self.head == self.serve
-    }
-
-    /// Loads the tail (RDT), and answers how many descriptors are free (82599 datasheet, 7.1.9).
-    #[inline]
-    pub fn look(&mut self, ring: &RxRing) -> u32
-        requires own { self.old.table ≡ ring.now }
-        requires serving { is_serving (controller_state self.old) ≡ true }
-        ensures step { FoundFree self.old result self.new }
-        ensures free { known_free self.new ≡ result }
-    {
-        let tail = self.seat.look(&ring.ring);
-        self.free = places_between(self.serve, tail, self.seat.size());
-        self.free as u32
+        self.at.ahead as u32
     }
 
     /// Loads the next descriptor and takes its empty buffer.
@@ -162,12 +77,12 @@ impl RxControllerEnd {
         requires own { self.old.table ≡ ring.now }
         requires serving { is_serving (controller_state self.old) ≡ true }
         requires free { 0 < known_free self.old }
-        requires held { held_number self.old ≡ None }
+        requires held { held self.old ≡ None }
         requires quiet { is_quiet self.old ≡ false }
         ensures { Fetched self.old result self.new }
     {
-        let (buf, _) = self.seat.fetch(&ring.ring, self.serve);
-        self.held = true;
+        let (buf, _) = self.seat.fetch(&ring.0, self.at.serve);
+        self.at.holding = true;
         buf
     }
 
@@ -182,11 +97,11 @@ impl RxControllerEnd {
         ensures step { self.new ≡ answered self.old (Own (WroteBack (serve_place self.old) (rx_word (length buf.bytes) eop) buf)) }
         ensures record { controller_record self.new ≡ record (controller_record self.old) { served = stored self.old ++ segment buf eop ∷ []; held = None } }
     {
-        steps::write_back(&mut self.seat, &ring.ring, self.serve, buf, eop);
-        self.serve = place_after(self.serve, self.seat.size());
-        self.free -= 1;
-        self.held = false;
-        self.whole = eop;
+        steps::write_back(&mut self.seat, &ring.0, self.at.serve, buf, eop);
+        self.at.serve = place_after(self.at.serve, self.at.size);
+        self.at.ahead -= 1;
+        self.at.holding = false;
+        self.at.between = eop;
     }
 
     /// Stores the head (RDH): the place after that of the last stored segment.
@@ -194,47 +109,20 @@ impl RxControllerEnd {
     pub fn set_head(&mut self, ring: &RxRing)
         requires own { self.old.table ≡ ring.now }
         requires serving { is_serving (controller_state self.old) ≡ true }
-        requires held { held_number self.old ≡ None }
+        requires held { held self.old ≡ None }
         ensures step { self.new ≡ answered self.old (StoredHead (serve_place self.old)) }
         ensures record { controller_record self.new ≡ record (controller_record self.old) { head = serve_place self.old } }
     {
-        steps::set_head(&mut self.seat, &ring.ring, self.serve);
-        self.head = self.serve;
+        steps::set_head(&mut self.seat, &ring.0, self.at.serve);
+        self.head = self.at.serve;
     }
 
-    /// Loads the control word: whether an enabling or a disabling is asked.
+    /// Whether the end said that it stores no more in this epoch.
     #[inline]
-    pub fn asked(&mut self, ring: &RxRing) -> Control
-        requires own { self.old.table ≡ ring.now }
-        ensures step { self.new ≡ answered self.old (LoadedRequest (control_word result)) }
-        ensures record { controller_record self.new ≡ record (controller_record self.old) { seen = control_word result } }
+    pub fn has_finished(&self) -> bool
+        ensures { result ≡ is_quiet self.now }
     {
-        self.seen = self.seat.load_request(&ring.ring);
-        self.seen
-    }
-
-    /// Answers the enabling or the disabling that was loaded last: once after each load, and a disabling between two
-    /// frames alone, with the head stored.
-    #[inline]
-    pub fn answer(&mut self, ring: &RxRing)
-        requires own { self.old.table ≡ ring.now }
-        requires asked { MayAnswer self.old }
-        ensures { Answered self.old self.new }
-    {
-        if self.state.is_serving() {
-            self.seat.disable(&ring.ring);
-            self.state = ControllerState::Ended;
-            self.seen = Control::Disabled;
-        } else {
-            self.seat.enable(&ring.ring);
-            self.serve = 0;
-            self.free = 0;
-            self.head = 0;
-            self.whole = true;
-            self.state = ControllerState::Serving;
-            self.seen = Control::Enabled;
-            self.finished = false;
-        }
+        self.finished
     }
 
     /// Stores the quiet word as 1: the end stores no more in this epoch.
@@ -242,12 +130,42 @@ impl RxControllerEnd {
     pub fn set_quiet(&mut self, ring: &RxRing)
         requires own { self.old.table ≡ ring.now }
         requires serving { is_serving (controller_state self.old) ≡ true }
-        requires held { held_number self.old ≡ None }
+        requires held { held self.old ≡ None }
         requires between { is_between self.old ≡ true }
         ensures step { self.new ≡ answered self.old (Own SaidQuiet) }
         ensures record { controller_record self.new ≡ record (controller_record self.old) { barred = true } }
     {
-        steps::say_quiet(&mut self.seat, &ring.ring);
         self.finished = true;
+        steps::say_quiet(&mut self.seat, &ring.0);
+    }
+}
+
+impl ControllerEnd<RxDriverOwn, RxControllerOwn, RxRule> for RxControllerEnd {
+    type Ring = RxRing;
+
+    ghost side = { controller_side rx };
+
+    fn at(&self) -> ControllerPlaces {
+        self.at
+    }
+
+    #[inline]
+    fn is_settled(&self) -> bool {
+        let at = self.at;
+        at.state.is_serving() && !at.holding && at.between && self.head == at.serve
+    }
+
+    #[inline]
+    fn load(&mut self, ring: &RxRing, which: ControllerLoad) -> u16 {
+        self.seat.load(&ring.0, which, &mut self.at)
+    }
+
+    #[inline]
+    fn answer(&mut self, ring: &RxRing) {
+        self.seat.answer(&ring.0, &mut self.at);
+        if self.at.state.is_serving() {
+            self.head = 0;
+            self.finished = false;
+        }
     }
 }

@@ -10,16 +10,17 @@ ghost use Rattle.shared_ring.specs.Words.{control_word};
 ghost use Rattle.shared_ring.specs.declared.events.DriverEvent.TheVariants.{Posted, Published, AskedEnable, LoadedControl, AskedDisable, LoadedHead, ClearedHead, ClearedTail, Own};
 ghost use Rattle.rx_ring.specs.declared.events.RxDriverOwn.TheVariants.{LoadedQuiet, ClearedQuiet};
 ghost use Rattle.rx_ring.specs.Ends.{driver_size, driver_record, posted, taken, returned, driver_state, known_of, saw_quiet, fill_place, appended};
-ghost use Rattle.shared_ring.specs.Ends.{driver_of};
+ghost use Rattle.shared_ring.specs.Ends.{driver_of, driver_side};
 ghost use Rattle.rx_ring.specs.Form.{rx};
 ghost use Rattle.rx_ring.specs.Calls.{IsFreshDriver, Polled, Reclaimed, FoundLeft, GoneOver};
 
-use crate::direction::RxDriverSeat;
+use crate::direction::{RxDriverSeat, RxRule};
+use crate::events::{RxControllerOwn, RxDriverOwn};
 use crate::ring::RxRing;
 use crate::steps;
 use buffer_pool::Buf;
-use ring_model::{DriverState, place_after, places_between};
-use shared_ring::Control;
+use ring_model::{place_after, places_between};
+use shared_ring::{Control, DriverEnd, DriverPlaces, Handshake};
 use std::marker::Model;
 
 /// What a look at the next descriptor found.
@@ -41,10 +42,7 @@ pub enum Poll {
 #[derive(Drop)]
 pub struct RxDriverEnd {
     pub(crate) seat: RxDriverSeat,
-    fill: u16,
-    pub(crate) next: u16,
-    pub(crate) out: u16,
-    state: DriverState,
+    pub(crate) at: DriverPlaces,
 }
 
 impl Model for RxDriverEnd {
@@ -57,7 +55,7 @@ impl Model for RxDriverEnd {
 
     ghost view = { λ e. driver_of rx e.seat };
 
-    ghost invariant = { λ e. IsDriverEnd (driver_of rx e.seat) e.fill e.next e.out e.state };
+    ghost invariant = { λ e. IsDriverEnd (driver_of rx e.seat) e.at };
 }
 
 impl RxDriverEnd {
@@ -65,72 +63,8 @@ impl RxDriverEnd {
         requires { IsFreshDriver (driver_of rx seat) }
         ensures { result ≡ driver_of rx seat }
     {
-        let _size = seat.size(); // which says that the length is lawful
-        RxDriverEnd {
-            seat,
-            fill: 0,
-            next: 0,
-            out: 0,
-            state: DriverState::New,
-        }
-    }
-
-    /// The ring's length.
-    #[inline]
-    pub fn size(&self) -> u32
-        ensures value { result ≡ driver_size self.now }
-        ensures lawful { IsRingLength result }
-    {
-        self.seat.size() as u32
-    }
-
-    /// How many more buffers can be posted: `n - 1` less those posted and neither taken nor reclaimed, since head equal
-    /// to tail means an empty ring (82599 datasheet, 7.1.9).
-    #[inline]
-    pub fn room(&self) -> u32
-        ensures { result + length (posted self.now) + 1 ≡ driver_size self.now + returned self.now }
-    {
-        (self.seat.size() - 1 - self.out) as u32
-    }
-
-    /// Whether nothing was asked yet in this epoch.
-    #[inline]
-    pub fn is_new(&self) -> bool
-        ensures { result ≡ is_new (driver_state self.now) }
-    {
-        self.state.is_new()
-    }
-
-    /// Whether the end may post and publish: no disabling was asked in this epoch.
-    #[inline]
-    pub fn is_open(&self) -> bool
-        ensures { result ≡ is_open (driver_state self.now) }
-    {
-        self.state.is_open()
-    }
-
-    /// Whether the queue was seen enabled, and its disabling not yet seen answered.
-    #[inline]
-    pub fn is_live(&self) -> bool
-        ensures { result ≡ is_live (driver_state self.now) }
-    {
-        self.state.is_live()
-    }
-
-    /// Whether the queue was seen enabled, and no disabling asked.
-    #[inline]
-    pub fn is_on(&self) -> bool
-        ensures { result ≡ is_on (driver_state self.now) }
-    {
-        self.state.is_on()
-    }
-
-    /// Whether the disabling was seen answered.
-    #[inline]
-    pub fn is_stopped(&self) -> bool
-        ensures { result ≡ is_stopped (driver_state self.now) }
-    {
-        self.state.is_stopped()
+        let at = DriverPlaces::new(seat.size());
+        RxDriverEnd { seat, at }
     }
 
     /// Posts an empty buffer at the next place: it goes into the slot, and the descriptor becomes 0, so that DD is
@@ -145,9 +79,9 @@ impl RxDriverEnd {
         ensures record { driver_record self.new ≡ record (driver_record self.old) { posted = posted self.old ++ buf.number ∷ [] } }
         ensures known { known_of self.new ≡ known_of self.old }
     {
-        self.seat.post(&ring.ring, self.fill, 0, buf);
-        self.fill = place_after(self.fill, self.seat.size());
-        self.out += 1;
+        self.seat.post(&ring.0, self.at.fill, 0, buf);
+        self.at.fill = place_after(self.at.fill, self.at.size);
+        self.at.out += 1;
     }
 
     /// Stores the tail (RDT): all that is posted is the controller's to fill.
@@ -159,7 +93,7 @@ impl RxDriverEnd {
         ensures record { driver_record self.new ≡ record (driver_record self.old) { published = length (posted self.old) } }
         ensures known { known_of self.new ≡ known_of self.old }
     {
-        self.seat.publish(&ring.ring, self.fill);
+        self.seat.publish(&ring.0, self.at.fill);
     }
 
     /// Loads the next descriptor, and takes its buffer where DD is set. A chain of segments that ends with EOP is a
@@ -170,59 +104,20 @@ impl RxDriverEnd {
         ensures found { Polled self.old result self.new }
         ensures own { self.new.table ≡ self.old.table }
     {
-        if !self.state.is_live() {
+        if !self.at.state.is_live() {
             return Poll::Off;
         }
-        if self.out == 0 {
+        if self.at.out == 0 {
             return Poll::Empty;
         }
-        match steps::take(&mut self.seat, &ring.ring, self.next) {
+        match steps::take(&mut self.seat, &ring.0, self.at.next) {
             None => Poll::NotDone,
             Some((buf, eop)) => {
-                self.next = place_after(self.next, self.seat.size());
-                self.out -= 1;
+                self.at.next = place_after(self.at.next, self.at.size);
+                self.at.out -= 1;
                 Poll::Segment(buf, eop)
             }
         }
-    }
-
-    /// Asks the controller to enable the queue (82599 datasheet, RXDCTL.ENABLE).
-    #[inline]
-    pub fn ask_enable(&mut self, ring: &RxRing)
-        requires own { self.old.table ≡ ring.now }
-        requires new { is_new (driver_state self.old) ≡ true }
-        ensures step { self.new ≡ appended self.old AskedEnable }
-        ensures record { driver_record self.new ≡ record (driver_record self.old) { state = state.Asked } }
-        ensures known { known_of self.new ≡ known_of self.old }
-    {
-        self.seat.ask_enable(&ring.ring);
-        self.state = DriverState::Asked;
-    }
-
-    /// Loads the control word. By it the end sees whether an enabling or a disabling that it asked was answered.
-    #[inline]
-    pub fn state(&mut self, ring: &RxRing) -> Control
-        requires own { self.old.table ≡ ring.now }
-        ensures step { self.new ≡ appended self.old (LoadedControl (control_word result)) }
-        ensures record { driver_record self.new ≡ record (driver_record self.old) { state = learned (driver_state self.old) (control_word result) } }
-        ensures known { known_of self.new ≡ known_of self.old }
-    {
-        let control = self.seat.load_control(&ring.ring);
-        self.state = self.state.learned(control.word());
-        control
-    }
-
-    /// Asks the controller to disable the queue.
-    #[inline]
-    pub fn ask_disable(&mut self, ring: &RxRing)
-        requires own { self.old.table ≡ ring.now }
-        requires on { is_on (driver_state self.old) ≡ true }
-        ensures step { self.new ≡ appended self.old AskedDisable }
-        ensures record { driver_record self.new ≡ record (driver_record self.old) { state = state.Stopping } }
-        ensures known { known_of self.new ≡ known_of self.old }
-    {
-        self.seat.ask_disable(&ring.ring);
-        self.state = DriverState::Stopping;
     }
 
     /// Loads the quiet word: whether the controller said that it stores no more. Once it did, and a later `poll`
@@ -234,7 +129,7 @@ impl RxDriverEnd {
         ensures record { driver_record self.new ≡ driver_record self.old }
         ensures seen { result ≡ true → saw_quiet self.new ≡ true }
     {
-        steps::load_quiet(&mut self.seat, &ring.ring)
+        steps::load_quiet(&mut self.seat, &ring.0)
     }
 
     /// Loads the head, and answers how many segments were stored and not taken when the disabling was answered. It
@@ -246,8 +141,8 @@ impl RxDriverEnd {
         requires whole { returned self.old ≡ length (taken self.old) }
         ensures { FoundLeft self.old result self.new }
     {
-        let head = self.seat.load_head(&ring.ring);
-        places_between(self.next, head, self.seat.size()) as u32
+        let head = self.seat.load_head(&ring.0);
+        places_between(self.at.next, head, self.at.size) as u32
     }
 
     /// Takes the oldest buffer that is out back, of a queue whose disabling was seen answered; none where all came
@@ -259,13 +154,7 @@ impl RxDriverEnd {
         ensures back { Reclaimed self.old result self.new }
         ensures own { self.new.table ≡ self.old.table }
     {
-        if self.out == 0 {
-            return None;
-        }
-        let buf = self.seat.reclaim(&ring.ring, self.next);
-        self.next = place_after(self.next, self.seat.size());
-        self.out -= 1;
-        Some(buf)
+        self.seat.reclaim_next(&ring.0, &mut self.at)
     }
 
     /// Clears head, tail and quiet word of a queue from which all buffers came back, so that it can be enabled again:
@@ -276,11 +165,24 @@ impl RxDriverEnd {
         requires back { returned self.old ≡ length (posted self.old) }
         ensures { GoneOver self.old self.new }
     {
-        self.seat.clear_head(&ring.ring);
-        self.seat.clear_tail(&ring.ring);
-        steps::clear_quiet(&mut self.seat, &ring.ring, self.fill);
-        self.fill = 0;
-        self.next = 0;
-        self.state = DriverState::New;
+        self.seat.clear_head(&ring.0);
+        self.seat.clear_tail(&ring.0);
+        steps::clear_quiet(&mut self.seat, &ring.0, self.at.fill);
+        self.at = DriverPlaces::new(self.at.size);
+    }
+}
+
+impl DriverEnd<RxDriverOwn, RxControllerOwn, RxRule> for RxDriverEnd {
+    type Ring = RxRing;
+
+    ghost side = { driver_side rx };
+
+    fn at(&self) -> DriverPlaces {
+        self.at
+    }
+
+    #[inline]
+    fn shake(&mut self, ring: &RxRing, step: Handshake) -> Control {
+        self.seat.shake(&ring.0, step, &mut self.at.state)
     }
 }

@@ -17,6 +17,7 @@ mod controller;
 mod direction;
 mod driver;
 mod events;
+mod making;
 mod ring;
 mod steps;
 
@@ -24,5 +25,8 @@ pub use controller::RxControllerEnd;
 pub use direction::RxRule;
 pub use driver::{Poll, RxDriverEnd};
 pub use events::{RxControllerEvent, RxControllerOwn, RxDriverEvent, RxDriverOwn};
-pub use ring::{RxRing, close, meet_rx};
-pub use shared_ring::{Control, ControllerEvent, DriverEvent, RingError, View};
+pub use making::{close, meet_rx};
+pub use ring::RxRing;
+pub use shared_ring::{
+    Control, ControllerEnd, ControllerEvent, DriverEnd, DriverEvent, RingError, View,
+};

@@ -16,9 +16,15 @@ use Rattle.ring_model.specs.shared.Queue.{Queue, posted_count, served_count, ret
 use Rattle.ring_model.proofs.shared.Kept.{IsKept}
 use Rattle.ring_model.proofs.shared.Places.{ahead, same_item}
 use Rattle.ring_model.proofs.shared.Stepping.{returned_served, held_below}
-use Rattle.shared_ring.specs.Lies.{IsControlled}
+use Rattle.atomic_table.specs.Seated.{TableId}
+use Rattle.shared_ring.specs.declared.ends.DriverPlaces.{DriverPlaces}
+use Rattle.shared_ring.specs.declared.ends.ControllerPlaces.{ControllerPlaces}
+use Rattle.shared_ring.specs.Calls.{IsPoster, IsServer}
+use Rattle.shared_ring.specs.Ends.{DriverSide, driver_size, driver_record, ControllerSide, controller_size, controller_record}
+use Rattle.shared_ring.specs.Forms.{Form, controlling}
+use Rattle.shared_ring.specs.Lies.{driven, IsControlled}
 use Rattle.shared_ring.specs.Meeting.{slot_of, is_kept, kept_at, kept_upto}
-use Rattle.shared_ring.specs.Records.{Controlled}
+use Rattle.shared_ring.specs.Records.{Driven, Controlled}
 use Rattle.shared_ring.specs.Slots.{is_there}
 use Rattle.shared_ring.proofs.Controlling.{serving_settled}
 use Rattle.shared_ring.proofs.Meeting.{kept-length, kept-get}
@@ -143,3 +149,30 @@ module _ {Posted Served Given : Type 0} (says : ℕ → Option Posted → Option
 
   pub serves-is : holding ≡ true → length c.served ≡ served_count q
   serves-is e = let o = kept.order in let serving : is_serving q.handshake.controller ≡ true = o.held_serving (sym holds-is ∙ e) in ap length (l.served (serving_settled q.handshake serving))
+
+-- where both ends stand, in words of the ring
+pub record IsPlaced {Posted Served Given : Type 0} (n : ℕ) (q : Queue Posted Served Given) (next out serve : ℕ) (holding : Bool) : Type 0 where
+  pub next_is : next ≡ returned_count q % n
+  pub out_is : out + returned_count q ≡ posted_count q
+  pub held_is : holding ≡ q.held
+  pub serve_is : holding ≡ true → serve ≡ served_count q % n
+
+module _ {Ring Posted Served Given D C : Type 0} {form : Form Ring Posted Served Given D C} (d : DriverSide form) (c : ControllerSide form) (at : DriverPlaces) (e : IsPoster (driver_size d) (driver_record d) at) (same : c.table ≡ d.table)
+    (places : ControllerPlaces) (h : IsServer form.carries (controller_size c) (controller_record c) places)
+    (says : ℕ → Option Posted → Option Served → ℕ) (lies : Option Posted → Option Served → Option Buffer) (ends : Served → Bool) (q : Queue Posted Served Given) (kept : IsKept (driver_size d) ends q) (bars : Bool)
+    (driver : driver_record d ≡ driven q) (controller : IsControlled {Given = Given} says lies q bars (controlling form (driver_size d) c.events))
+    (some_there : served_count q < posted_count q → ¬ (lies (slice_get q.ledger.posted (served_count q)) None ≡ None)) where
+  its : {Y : Type 0} (f : Controlled Served → Y) → f (controller_record c) ≡ f (controlling form (driver_size d) c.events)
+  its f = ap (λ (z : TableId). f (controlling form z.slots c.events)) same
+
+  held-here : places.holding ≡ is_there (controlling form (driver_size d) c.events).held
+  held-here = h.held_is ∙ its (λ (x : Controlled Served). is_there x.held)
+
+  pub closes : IsPlaced (driver_size d) q at.next at.out places.serve places.holding
+  closes = let o = e.out_is in let r : length (driver_record d).given + (driver_record d).reclaimed ≡ returned_count q = ap (λ (x : Driven Posted Given). length x.given + x.reclaimed) driver in let p : length (driver_record d).posted ≡ posted_count q = ap (λ (x : Driven Posted Given). length x.posted) driver in record {
+    next_is = e.next_is ∙ ap (λ (j : ℕ). j % driver_size d) r;
+    out_is = omega arith;
+    held_is = holds-is says lies ends (driver_size d) q kept bars (controlling form (driver_size d) c.events) controller places.holding held-here some_there;
+    serve_is = λ f. h.serve_is ∙ ap (λ (m : ℕ). length (controller_record c).served % m) (ap (λ (z : TableId). z.slots) same) ∙ its (λ (x : Controlled Served). length x.served % driver_size d)
+        ∙ ap (λ (m : ℕ). m % driver_size d) (serves-is says lies ends (driver_size d) q kept bars (controlling form (driver_size d) c.events) controller places.holding held-here some_there f);
+  }

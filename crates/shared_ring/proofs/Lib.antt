@@ -14,4 +14,5 @@ pub mod Gathering
 pub mod Meeting
 pub mod Closing
 pub mod Serving
+pub mod Posting
 pub mod Shaking

@@ -1,15 +1,26 @@
 -- What calls of both directions do, where their answer depends on what was loaded.
-use Rattle.std.specs.Prelude.{◌≡◌, ℕ, ◌+◌, ◌-◌, ◌%◌, ◌<◌, ◌≤◌, ◌⊎◌, Bool, true, false, [], length}
+use Rattle.std.specs.Prelude.{◌≡◌, ℕ, ◌+◌, ◌-◌, ◌%◌, ◌<◌, ◌≤◌, ◌⊎◌, true, false, [], length, Option, Some, None}
+use Rattle.buffer_pool.specs.Buffer.{Buffer}
 use Rattle.limits.specs.RingLength.{IsRingLength}
-use Rattle.ring_model.specs.declared.states.ControllerState.{ControllerState}
 use Rattle.ring_model.specs.declared.states.ControllerState.TheVariants.{Serving, Ended}
-use Rattle.ring_model.specs.shared.Handshakes.{is_serving}
-use Rattle.shared_ring.specs.declared.control.Control.{Control}
-use Rattle.shared_ring.specs.declared.events.ControllerEvent.TheVariants.{Looked, Enabled, Disabled}
-use Rattle.shared_ring.specs.Ends.{DriverSide, posted, returned, ControllerSide, controller_size, controller_record, controller_state, served, known_ahead, serve_place, seen, answered}
+use Rattle.ring_model.specs.declared.states.DriverState.{DriverState}
+use Rattle.ring_model.specs.declared.states.DriverState.TheVariants.{Asked, Stopping}
+use Rattle.ring_model.specs.shared.Handshakes.{is_new, is_on, is_answered, is_serving, learned}
+use Rattle.ring_model.specs.shared.Frames.{Piece}
+use Rattle.shared_ring.specs.declared.ends.DriverPlaces.{DriverPlaces}
+use Rattle.shared_ring.specs.declared.ends.ControllerPlaces.{ControllerPlaces}
+use Rattle.shared_ring.specs.declared.ends.ControllerLoad.{ControllerLoad}
+use Rattle.shared_ring.specs.declared.ends.ControllerLoad.TheVariants.{Tail, Request}
+use Rattle.shared_ring.specs.declared.ends.Handshake.{Handshake}
+use Rattle.shared_ring.specs.declared.ends.Handshake.TheVariants.{AskEnable, LoadControl, AskDisable}
+use Rattle.shared_ring.specs.declared.events.DriverEvent.{DriverEvent}
+use Rattle.shared_ring.specs.declared.events.DriverEvent.TheVariants as driver
+use Rattle.shared_ring.specs.declared.events.ControllerEvent.TheVariants.{Looked, LoadedRequest, Enabled, Disabled}
+use Rattle.shared_ring.specs.Ends.{DriverSide, posted, returned, next_place, ControllerSide, controller_size, controller_record, controller_state, served, known_ahead, held, is_between, head_stored, serve_place, seen, answered}
 use Rattle.shared_ring.specs.Forms.{Form}
-use Rattle.shared_ring.specs.Records.{Controlled}
+use Rattle.shared_ring.specs.Records.{Driven, Controlled, ends_whole}
 use Rattle.shared_ring.specs.Slots.{is_there}
+use Rattle.shared_ring.specs.Steps.{CameBack, FoundTail}
 use Rattle.shared_ring.specs.Words.{control_word}
 
 module _ {Ring Posted Served Given D C : Type 0} {form : Form Ring Posted Served Given D C} where
@@ -23,6 +34,11 @@ module _ {Ring Posted Served Given D C : Type 0} {form : Form Ring Posted Served
   pub record NoneOut (old new : DriverSide form) : Type 0 where
     pub none_out : returned old ≡ length (posted old)
     pub same : new ≡ old
+
+  -- the oldest buffer that was out came back, or all had come back
+  abbrev pub ReclaimedNext : DriverSide form → Option Buffer → DriverSide form → Type 0
+  ReclaimedNext old None new = NoneOut old new
+  ReclaimedNext old (Some buf) new = CameBack old (next_place old) buf new
 
   -- A3, B3: the tail was loaded, and so many are ahead
   pub record FoundAhead (old : ControllerSide form) (count : ℕ) (new : ControllerSide form) : Type 0 where
@@ -43,6 +59,23 @@ module _ {Ring Posted Served Given D C : Type 0} {form : Form Ring Posted Served
     pub step : new ≡ answered old Enabled
     pub same : controller_record new ≡ record (controller_record old) { served = []; known = 0; head = 0; state = Serving; seen = 2; barred = false }
 
+  -- the end serves, nothing is held, the last that was served ends a frame, the head is stored after it, and the direction lets go
+  pub record IsSettled (c : ControllerSide form) : Type 0 where
+    pub serving : is_serving (controller_state c) ≡ true
+    pub held : held c ≡ None
+    pub between : is_between c ≡ true
+    pub head : head_stored c ≡ serve_place c
+    pub may : form.MayDisable (controller_record c)
+
+  -- a disabling is asked, and may be answered
+  pub record MayDisable (c : ControllerSide form) : Type 0 where
+    pub asked : seen c ≡ 3
+    pub settled : IsSettled c
+    pub open settled use *
+
+  abbrev pub MayAnswer : ControllerSide form → Type 0
+  MayAnswer c = MayEnable c ⊎ MayDisable c
+
   pub record AnsweredDisabling (old new : ControllerSide form) : Type 0 where
     pub was : is_serving (controller_state old) ≡ true
     pub step : new ≡ answered old Disabled
@@ -51,14 +84,56 @@ module _ {Ring Posted Served Given D C : Type 0} {form : Form Ring Posted Served
   abbrev pub Answered : ControllerSide form → ControllerSide form → Type 0
   Answered old new = AnsweredEnabling old new ⊎ AnsweredDisabling old new
 
--- What the fields of a controller's end keep, over its record
-pub record IsServer {Served : Type 0} (n : ℕ) (x : Controlled Served) (serve ahead : ℕ) (holding : Bool) (side : ControllerState) (asked : Control) : Type 0 where
+  -- A3, B3, or C2: a word was loaded
+  abbrev pub MayLoadWord : ControllerLoad → ControllerSide form → Type 0
+  MayLoadWord Tail c = is_serving (controller_state c) ≡ true
+  MayLoadWord Request c = Unit {0}
+
+  pub record LoadedRequested (old : ControllerSide form) (word : ℕ) (new : ControllerSide form) : Type 0 where
+    pub step : new ≡ answered old (LoadedRequest word)
+    pub same : controller_record new ≡ record (controller_record old) { seen = word }
+
+  abbrev pub LoadedWord : ControllerLoad → ControllerSide form → ℕ → ControllerSide form → Type 0
+  LoadedWord Tail old word new = FoundTail old word new
+  LoadedWord Request old word new = LoadedRequested old word new
+
+-- A step of the driver's half of the handshake, with the control value that it stored or loaded: its event, how far the driver then is, and where it may be made
+abbrev pub shake_event : {D : Type 0} → Handshake → ℕ → DriverEvent D
+shake_event AskEnable w = driver.AskedEnable
+shake_event LoadControl w = driver.LoadedControl w
+shake_event AskDisable w = driver.AskedDisable
+
+abbrev pub shaken : Handshake → DriverState → ℕ → DriverState
+shaken AskEnable s w = Asked
+shaken LoadControl s w = learned s w
+shaken AskDisable s w = Stopping
+
+abbrev pub MayShake : Handshake → DriverState → Type 0
+MayShake AskEnable s = is_new s ≡ true
+MayShake LoadControl s = Unit {0}
+MayShake AskDisable s = is_on s ≡ true
+
+-- What the places of a driver's end tell of its record
+pub record IsPoster {Posted Given : Type 0} (n : ℕ) (x : Driven Posted Given) (at : DriverPlaces) : Type 0 where
   pub lawful : IsRingLength n
-  pub serve_is : serve ≡ length x.served % n
-  pub ahead_is : ahead + length x.served ≡ x.known
-  pub ahead_below : ahead < n
-  pub held_is : holding ≡ is_there x.held
-  pub held_ahead : holding ≡ true → 0 < ahead
-  pub held_serving : holding ≡ true → is_serving x.state ≡ true
-  pub state_is : side ≡ x.state
-  pub seen_is : control_word asked ≡ x.seen
+  pub size_is : at.size ≡ n
+  pub fill_is : at.fill ≡ length x.posted % n
+  pub next_is : at.next ≡ (length x.given + x.reclaimed) % n
+  pub out_is : at.out + (length x.given + x.reclaimed) ≡ length x.posted
+  pub room : at.out < n
+  pub state_is : at.state ≡ x.state
+  pub unreclaimed : is_answered x.state ≡ false → x.reclaimed ≡ 0
+
+-- What the places of a controller's end tell of its record
+pub record IsServer {Served : Type 0} (carries : Served → Piece) (n : ℕ) (x : Controlled Served) (at : ControllerPlaces) : Type 0 where
+  pub lawful : IsRingLength n
+  pub size_is : at.size ≡ n
+  pub serve_is : at.serve ≡ length x.served % n
+  pub ahead_is : at.ahead + length x.served ≡ x.known
+  pub ahead_below : at.ahead < n
+  pub held_is : at.holding ≡ is_there x.held
+  pub held_ahead : at.holding ≡ true → 0 < at.ahead
+  pub held_serving : at.holding ≡ true → is_serving x.state ≡ true
+  pub between_is : at.between ≡ ends_whole carries x.served
+  pub state_is : at.state ≡ x.state
+  pub seen_is : control_word at.seen ≡ x.seen

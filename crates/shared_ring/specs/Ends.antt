@@ -7,8 +7,8 @@ use Rattle.ring_model.specs.declared.states.DriverState.{DriverState}
 use Rattle.ring_model.specs.declared.states.ControllerState.{ControllerState}
 use Rattle.shared_ring.specs.declared.events.DriverEvent.{DriverEvent}
 use Rattle.shared_ring.specs.declared.events.ControllerEvent.{ControllerEvent}
-use Rattle.shared_ring.specs.Records.{Driven, Controlled}
-use Rattle.shared_ring.specs.Forms.{Form, driving, controlling}
+use Rattle.shared_ring.specs.Records.{Driven, Controlled, ends_whole}
+use Rattle.shared_ring.specs.Forms.{Form, driving, knowing, controlling}
 
 -- an end of a ring of either direction
 pub record Side (Event : Type 0) : Type 0 where
@@ -35,8 +35,14 @@ module _ {Ring Posted Served Given D C : Type 0} (form : Form Ring Posted Served
   abbrev pub driver_of : Side (DriverEvent D) → DriverSide
   driver_of s = record { table = s.table; completion = s.completion; events = s.events }
 
+  abbrev pub driver_side : DriverSide → Side (DriverEvent D)
+  driver_side d = record { table = d.table; completion = d.completion; events = d.events }
+
   abbrev pub controller_of : Side (ControllerEvent C) → ControllerSide
   controller_of s = record { table = s.table; completion = s.completion; events = s.events }
+
+  abbrev pub controller_side : ControllerSide → Side (ControllerEvent C)
+  controller_side c = record { table = c.table; completion = c.completion; events = c.events }
 
 module _ {Ring Posted Served Given D C : Type 0} {form : Form Ring Posted Served Given D C} where
   -- Words on a driver's end
@@ -65,6 +71,10 @@ module _ {Ring Posted Served Given D C : Type 0} {form : Form Ring Posted Served
 
   abbrev pub driver_state : DriverSide form → DriverState
   driver_state d = (driving form d.events).state
+
+  -- what it has learnt of the controller in this epoch
+  abbrev pub known_of : (d : DriverSide form) → form.Known
+  known_of d = knowing form d.events
 
   -- the next place to post, and the oldest place that is out
   abbrev pub fill_place : DriverSide form → ℕ
@@ -109,6 +119,10 @@ module _ {Ring Posted Served Given D C : Type 0} {form : Form Ring Posted Served
   -- whether it may fetch no more for now
   abbrev pub is_barred : ControllerSide form → Bool
   is_barred c = (controller_record c).barred
+
+  -- whether the last that was served ends a frame, or there is none
+  abbrev pub is_between : ControllerSide form → Bool
+  is_between c = ends_whole form.carries (served c)
 
   abbrev pub serve_place : ControllerSide form → ℕ
   serve_place c = length (served c) % controller_size c

@@ -3,6 +3,7 @@ use Rattle.std.specs.Prelude.{ℕ, List}
 use mathlib.Core.Option as maybe
 use Rattle.buffer_pool.specs.Buffer.{Buffer}
 use Rattle.ring_model.specs.declared.states.Completion.{Completion}
+use Rattle.ring_model.specs.shared.Frames.{Piece}
 use Rattle.shared_ring.specs.declared.events.DriverEvent.{DriverEvent}
 use Rattle.shared_ring.specs.declared.events.ControllerEvent.{ControllerEvent}
 use Rattle.shared_ring.specs.Records as records
@@ -13,6 +14,13 @@ pub record Form (Ring Posted Served Given D C : Type 0) : Type 1 where
   pub posting : ℕ → Buffer → Posted
   pub drive_own : Driven Posted Given → D → Driven Posted Given
   pub control_own : Controlled Served → C → Controlled Served
+  -- what a driver learns of its controller: by the head that it loads, and by steps of the direction's own
+  pub Known : Type 0
+  pub unknown : Known
+  pub saw_head : Known → ℕ → Known
+  pub know_own : Driven Posted Given → Known → D → Known
+  -- the piece of a frame that a served item carries
+  pub carries : Served → Piece
   -- how its rings may report
   pub Reports : Completion → Type 0
   -- in a ring of n places a buffer may be posted with this word after what is posted; so much may be published; the tail may be cleared before the epoch's last step
@@ -36,6 +44,12 @@ module _ {Ring Posted Served Given D C : Type 0} (form : Form Ring Posted Served
 
   abbrev pub driving : List (DriverEvent D) → Driven Posted Given
   driving es = records.driving_from form.posting form.drive_own undriven es
+
+  abbrev pub know : Driven Posted Given → form.Known → DriverEvent D → form.Known
+  know d k e = records.know form.posting form.drive_own form.saw_head form.know_own d k e
+
+  abbrev pub knowing : List (DriverEvent D) → form.Known
+  knowing es = records.knowing_from form.posting form.drive_own form.saw_head form.know_own undriven form.unknown es
 
   abbrev pub control : ℕ → Controlled Served → ControllerEvent C → Controlled Served
   control n c e = records.control n form.control_own c e

@@ -1,10 +1,11 @@
 -- What the records of the two ends amount to.
-use Rattle.std.specs.Prelude.{ℕ, ◌+◌, ◌-◌, ◌%◌, Bool, false, List, [], ◌∷◌, ◌++◌, length, Option, Some, None}
+use Rattle.std.specs.Prelude.{ℕ, ◌+◌, ◌-◌, ◌%◌, Bool, true, false, List, [], ◌∷◌, ◌++◌, length, Option, Some, None}
 use Rattle.buffer_pool.specs.Buffer.{Buffer}
 use Rattle.ring_model.specs.declared.states.DriverState.{DriverState}
 use Rattle.ring_model.specs.declared.states.DriverState.TheVariants.{New, Asked, Stopping, Cleared, Tailed}
 use Rattle.ring_model.specs.declared.states.ControllerState.{ControllerState}
 use Rattle.ring_model.specs.declared.states.ControllerState.TheVariants.{Off, Serving, Ended}
+use Rattle.ring_model.specs.shared.Frames.{Piece, ends_frame}
 use Rattle.ring_model.specs.shared.Handshakes.{learned}
 use Rattle.shared_ring.specs.declared.events.DriverEvent.{DriverEvent}
 use Rattle.shared_ring.specs.declared.events.DriverEvent.TheVariants as driver
@@ -83,6 +84,10 @@ module _ {Served Own : Type 0} (n : ℕ) (own : Controlled Served → Own → Co
 
 abbrev pub uncontrolled : {Served : Type 0} → Controlled Served
 uncontrolled = record { served = []; known = 0; held = None; head = 0; state = Off; seen = 0; barred = false }
+
+-- whether the last of what was served ends a frame, or there is none
+abbrev pub ends_whole : {Served : Type 0} → (Served → Piece) → List Served → Bool
+ends_whole carries xs = ends_frame (λ s. (carries s).eop) true xs
 
 -- the slots that the driver has, in the order in which it posts into them: those of the items that are not out
 abbrev pub driver_slots : {Posted Given : Type 0} → ℕ → Driven Posted Given → List (ℕ × Buffer)

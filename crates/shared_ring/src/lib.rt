@@ -11,6 +11,7 @@
 
 mod control;
 mod direction;
+mod ends;
 mod error;
 mod events;
 mod exchange;
@@ -20,6 +21,9 @@ mod steps;
 
 pub use control::Control;
 pub use direction::{Direction, OwnStep, OwnTake};
+pub use ends::{
+    ControllerEnd, ControllerLoad, ControllerPlaces, DriverEnd, DriverPlaces, Handshake, SharedRing,
+};
 pub use error::RingError;
 pub use events::{ControllerEvent, DriverEvent, View};
 pub use steps::{ControllerSeat, DriverSeat, Ring, Rule};

@@ -5,14 +5,14 @@ ghost use Rattle.std.specs.Prelude.{◌≡◌, ◌+◌, ◌<◌, ◌≤◌, true
 ghost use Rattle.limits.specs.declared.profile.TheConstants.{LEAST_FRAME, MOST_FRAME, MOST_SEGMENTS};
 ghost use Rattle.ring_model.specs.shared.Segments.{piece_of};
 ghost use Rattle.ring_model.specs.shared.Frames.{join, unfinished};
-ghost use Rattle.rx_ring.specs.Ends.{controller_size, held_number, reclaimed, stored};
+ghost use Rattle.rx_ring.specs.Ends.{controller_size, held as held_by, reclaimed, stored};
 ghost use Rattle.ring_tests.specs.Holding.{held_as};
 
 use buffer_pool::{Buf, Stash};
 use limits::{LEAST_FRAME, MOST_FRAME, MOST_SEGMENTS};
 use ring_machine::{RxMachine, SegmentLength};
 use ring_model::{ControlStep, Note, Owner, RxStep, TakenSegment};
-use rx_ring::{Poll, RxControllerEnd, RxDriverEnd, RxRing, close};
+use rx_ring::{ControllerEnd, DriverEnd, Poll, RxControllerEnd, RxDriverEnd, RxRing, close};
 use std::alloc::Global;
 use std::test::Fail;
 use test_kit::{
@@ -44,7 +44,7 @@ pub(crate) struct Both {
     untouched: bool,
     ghost drives: { driver.table ≡ ring },
     ghost serves: { controller.table ≡ ring },
-    ghost holds: { held ≡ held_as (held_number controller) },
+    ghost holds: { held ≡ held_as (held_by controller) },
     ghost counts: { length (unfinished piece_of (stored controller)) ≡ segments },
     ghost adds: { length (join piece_of (unfinished piece_of (stored controller))) ≡ bytes },
     ghost few: { bytes ≤ MOST_FRAME },

@@ -3,7 +3,7 @@
 use crate::calls::both::{Both, Step};
 use ring_machine::SegmentLength;
 use ring_model::{ControlStep, Note, RxStep, TakenSegment};
-use rx_ring::{Poll, RingError, RxRing, meet_rx};
+use rx_ring::{ControllerEnd, DriverEnd, Poll, RingError, RxRing, meet_rx};
 use std::alloc::Global;
 use std::test::Fail;
 use test_kit::{Beside, disable, enable, makes};

@@ -3,7 +3,7 @@ ghost use Rattle.std.specs.Prelude.{◌≡◌, ◌≤◌, true, length};
 ghost use Rattle.rx_ring.specs.Ends.{reclaimed};
 
 use buffer_pool::{Buf, Stash};
-use rx_ring::{Control, Poll, RxControllerEnd, RxDriverEnd, RxRing};
+use rx_ring::{Control, ControllerEnd, DriverEnd, Poll, RxControllerEnd, RxDriverEnd, RxRing};
 use std::sync::Wait;
 use std::thread;
 use test_kit::{frame, frame_len, is_frame, put_back};

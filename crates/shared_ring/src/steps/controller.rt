@@ -2,6 +2,7 @@
 ghost use Rattle.std.specs.Prelude.{◌≡◌, ◌<◌, true, false, None};
 ghost use Rattle.limits.specs.RingLength.{IsRingLength};
 ghost use Rattle.ring_model.specs.shared.Handshakes.{is_serving};
+ghost use Rattle.shared_ring.specs.Calls.{IsServer, MayAnswer, Answered, MayLoadWord, LoadedWord};
 ghost use Rattle.shared_ring.specs.Words.{control_word};
 ghost use Rattle.shared_ring.specs.declared.events.ControllerEvent.TheVariants.{LoadedRequest, Enabled, Disabled};
 ghost use Rattle.shared_ring.specs.Ends.{controller_record, known_ahead, held, head_stored, seen, controller_state, is_barred, serve_place, controller_of, grown};
@@ -10,10 +11,11 @@ ghost use Rattle.shared_ring.specs.Steps.{FoundTail, CameOut};
 use super::{ControllerSeat, Ring};
 use crate::control::Control;
 use crate::direction::Direction;
+use crate::ends::{ControllerLoad, ControllerPlaces};
 use crate::exchange::take_out;
 use crate::plays::{DisableStore, EnableStore, NextLoad, RequestLoad, TailLoad};
 use buffer_pool::Buf;
-use ring_model::Completion;
+use ring_model::{Completion, ControllerState, places_between};
 
 impl<D, C, R: Direction<D, C>> ControllerSeat<D, C, R> {
     /// The ring's length.
@@ -101,5 +103,55 @@ impl<D, C, R: Direction<D, C>> ControllerSeat<D, C, R> {
         ring.table
             .shared
             .store::<DisableStore>(&mut self.seat, word, 0);
+    }
+
+    /// A3, B3 or C2: what the word tells is kept.
+    #[inline]
+    pub fn load(
+        &mut self,
+        ring: &Ring<D, C, R>,
+        which: ControllerLoad,
+        at: &mut ControllerPlaces,
+    ) -> u16
+        requires own { self.old.table ≡ ring.now }
+        requires at { IsServer R.form.carries self.old.table.slots (controller_record (controller_of R.form self.old)) at.old }
+        requires may { MayLoadWord which (controller_of R.form self.old) }
+        ensures loaded { LoadedWord which (controller_of R.form self.old) result (controller_of R.form self.new) }
+        ensures at { IsServer R.form.carries self.new.table.slots (controller_record (controller_of R.form self.new)) at.new }
+    {
+        match which {
+            ControllerLoad::Tail => {
+                let tail = self.look(ring);
+                at.ahead = places_between(at.serve, tail, at.size);
+                tail
+            }
+            ControllerLoad::Request => {
+                at.seen = self.load_request(ring);
+                at.seen.word() as u16
+            }
+        }
+    }
+
+    /// C3: an enabling, of which a new epoch begins, or a disabling.
+    #[inline]
+    pub fn answer(&mut self, ring: &Ring<D, C, R>, at: &mut ControllerPlaces)
+        requires own { self.old.table ≡ ring.now }
+        requires at { IsServer R.form.carries self.old.table.slots (controller_record (controller_of R.form self.old)) at.old }
+        requires asked { MayAnswer (controller_of R.form self.old) }
+        ensures answered { Answered (controller_of R.form self.old) (controller_of R.form self.new) }
+        ensures at { IsServer R.form.carries self.new.table.slots (controller_record (controller_of R.form self.new)) at.new }
+    {
+        if at.state.is_serving() {
+            self.disable(ring);
+            at.state = ControllerState::Ended;
+            at.seen = Control::Disabled;
+        } else {
+            self.enable(ring);
+            at.serve = 0;
+            at.ahead = 0;
+            at.between = true;
+            at.state = ControllerState::Serving;
+            at.seen = Control::Enabled;
+        }
     }
 }

@@ -4,21 +4,23 @@ ghost use Rattle.limits.specs.RingLength.{IsRingLength};
 ghost use Rattle.ring_model.specs.shared.Handshakes.{is_open, is_new, is_on, is_stopped, is_cleared};
 ghost use Rattle.shared_ring.specs.Words.{control_word};
 ghost use Rattle.shared_ring.specs.declared.events.DriverEvent.TheVariants.{Posted, Published, AskedEnable, LoadedControl, AskedDisable, LoadedHead, ClearedHead, ClearedTail};
+ghost use Rattle.shared_ring.specs.Calls.{IsPoster, MayShake, shake_event, shaken, ReclaimedNext};
 ghost use Rattle.shared_ring.specs.Directions.{IsDirection};
-ghost use Rattle.shared_ring.specs.Ends.{posted, returned, driver_state, fill_place, next_place, driver_of, grown};
+ghost use Rattle.shared_ring.specs.Ends.{driver_record, posted, returned, driver_state, fill_place, next_place, driver_of, grown};
 ghost use Rattle.shared_ring.specs.Steps.{CameBack};
 
 use super::own::Reclaiming;
 use super::{DriverSeat, Ring};
 use crate::control::Control;
 use crate::direction::Direction;
+use crate::ends::{DriverPlaces, Handshake};
 use crate::exchange::put_in;
 use crate::plays::{
     AskDisableStore, AskEnableStore, ClearHeadStore, ClearTailStore, ControlLoad, HeadLoad,
     PostStore, PublishStore,
 };
 use buffer_pool::Buf;
-use ring_model::Completion;
+use ring_model::{Completion, DriverState, place_after};
 
 impl<D, C, R: Direction<D, C>> DriverSeat<D, C, R> {
     /// The ring's length.
@@ -132,6 +134,24 @@ impl<D, C, R: Direction<D, C>> DriverSeat<D, C, R> {
         self.clear_own::<Reclaiming<C, R>>(ring, place)
     }
 
+    /// C6, where a buffer is out.
+    #[inline]
+    pub fn reclaim_next(&mut self, ring: &Ring<D, C, R>, at: &mut DriverPlaces) -> Option<Buf>
+        requires own { self.old.table ≡ ring.now }
+        requires at { IsPoster self.old.table.slots (driver_record (driver_of R.form self.old)) at.old }
+        requires stopped { is_stopped (driver_state (driver_of R.form self.old)) ≡ true }
+        ensures back { ReclaimedNext (driver_of R.form self.old) result (driver_of R.form self.new) }
+        ensures at { IsPoster self.new.table.slots (driver_record (driver_of R.form self.new)) at.new }
+    {
+        if at.out == 0 {
+            return None;
+        }
+        let buf = self.reclaim(ring, at.next);
+        at.next = place_after(at.next, at.size);
+        at.out -= 1;
+        Some(buf)
+    }
+
     /// C9.
     #[inline]
     pub fn clear_head(&mut self, ring: &Ring<D, C, R>)
@@ -158,5 +178,38 @@ impl<D, C, R: Direction<D, C>> DriverSeat<D, C, R> {
         ring.table
             .shared
             .store::<ClearTailStore>(&mut self.seat, word, 0);
+    }
+
+    /// C1, C4 or C5: how far the driver is goes on, and the control value that was stored or loaded is answered.
+    #[inline]
+    pub fn shake(
+        &mut self,
+        ring: &Ring<D, C, R>,
+        step: Handshake,
+        state: &mut DriverState,
+    ) -> Control
+        requires own { self.old.table ≡ ring.now }
+        requires is { state.old ≡ driver_state (driver_of R.form self.old) }
+        requires may { MayShake step (driver_state (driver_of R.form self.old)) }
+        ensures step { self.new ≡ grown self.old (shake_event step (control_word result)) }
+        ensures state { state.new ≡ shaken step state.old (control_word result) }
+    {
+        match step {
+            Handshake::AskEnable => {
+                self.ask_enable(ring);
+                *state = DriverState::Asked;
+                Control::EnableAsked
+            }
+            Handshake::LoadControl => {
+                let control = self.load_control(ring);
+                *state = state.learned(control.word());
+                control
+            }
+            Handshake::AskDisable => {
+                self.ask_disable(ring);
+                *state = DriverState::Stopping;
+                Control::DisableAsked
+            }
+        }
     }
 }

@@ -1,0 +1,77 @@
+//! The making of a ring, the meeting of its ends, and its closing.
+ghost use Rattle.std.specs.Prelude.{◌≡◌, ◌↔◌, ◌+◌, ◌<◌, true, length, Some, IfOk, IsTrue};
+ghost use Rattle.limits.specs.RingLength.{IsRingLength};
+ghost use Rattle.ring_model.specs.receive.Lawful.{IsLawfulRxLedger};
+ghost use Rattle.ring_model.specs.shared.Frames.{Bytes};
+ghost use Rattle.rx_ring.specs.Ends.{driver_size, taken, is_drained};
+ghost use Rattle.rx_ring.specs.Calls.{told_left, IsTold};
+ghost use Rattle.rx_ring.specs.Meeting.{MadeSeats, ledger_of, stored_now, Met, IsClosed};
+
+use crate::controller::RxControllerEnd;
+use crate::direction::RxShared;
+use crate::driver::RxDriverEnd;
+use crate::ring::RxRing;
+use buffer_pool::Buf;
+use limits::is_ring_length;
+use ring_model::Completion;
+use shared_ring::{DriverEnd, RingError};
+use std::alloc::Global;
+
+impl RxRing {
+    /// A ring of `n` descriptors, disabled, with nothing posted. It answers `RingLength` where `n` is no power of two
+    /// from 8 to 4,096, and `Memory` only where memory was refused.
+    pub fn new(alloc: Global, n: u32) -> Result<(RxRing, RxDriverEnd, RxControllerEnd), RingError>
+        ensures refused { (result ≡ Err RingError.RingLength) ↔ ¬ (IsRingLength n) }
+        ensures made { IfOk result (λ r. MadeSeats n r.0 r.1 r.2) }
+    {
+        if !is_ring_length(n as usize) {
+            return Err(RingError::RingLength);
+        }
+        let Ok((ring, driver, controller)) = RxShared::deal(alloc, n as u16, Completion::Status)
+        else {
+            return Err(RingError::Memory);
+        };
+        let (driver, controller) = (RxDriverEnd::new(driver), RxControllerEnd::new(controller));
+        Ok((RxRing(ring), driver, controller))
+    }
+}
+
+/// Both ends, in one place, learn that their records are those of one lawful ring. It changes nothing of the ring and
+/// of the ends. Its loads are kept in no record.
+///
+/// What is said of the ledger is of the driver's epoch: as long as the controller has not answered its enabling,
+/// nothing is stored in it. What the driver has learnt in this epoch is so: where it loaded the head after its
+/// disabling was answered, so many segments were left as that told; where it saw the queue quiet and drained, all that
+/// is stored is taken.
+pub fn meet_rx(ring: &RxRing, driver: &mut RxDriverEnd, controller: &mut RxControllerEnd)
+    requires driver { driver.old.table ≡ ring.now }
+    requires controller { controller.old.table ≡ ring.now }
+    ensures same_driver { driver.new ≡ driver.old }
+    ensures same_controller { controller.new ≡ controller.old }
+    ensures lawful { IsLawfulRxLedger Bytes (driver_size driver.old) (ledger_of driver.old controller.old) }
+    ensures places { Met driver.old controller.old }
+    ensures left { IsTold (told_left driver.old) (length (taken driver.old)) (length (stored_now driver.old controller.old)) }
+    ensures drained { is_drained driver.old ≡ true → taken driver.old ≡ stored_now driver.old controller.old }
+{
+    let _size = driver.size(); // which says that the length is lawful
+    ring.0.meet(&mut driver.seat, &mut controller.seat);
+}
+
+/// Closes a ring, wherever its two ends stand: one entry a place, with the buffer that lay there where one did, be it
+/// posted, published or written back. A place whose buffer the controller has fetched, and those of the driver, have
+/// none. The list stands in the room that `new` reserved, so this takes no memory.
+pub fn close(ring: RxRing, driver: RxDriverEnd, controller: RxControllerEnd) -> Vec<Option<Buf>>
+    requires driver { driver.table ≡ ring }
+    requires controller { controller.table ≡ ring }
+    ensures { IsClosed driver controller result.items }
+{
+    let _size = driver.size(); // which says that the length is lawful
+    let RxDriverEnd { seat, at } = driver;
+    let RxControllerEnd {
+        seat: other,
+        at: served,
+        ..
+    } = controller;
+    ring.0
+        .take_apart(seat, other, at.next, at.out, served.serve, served.holding)
+}

@@ -1,0 +1,97 @@
+//! The controller's own steps.
+ghost use Rattle.std.specs.Prelude.{◌≡◌, ◌+◌, ◌<◌, true, false, length, None, Some};
+ghost use Rattle.buffer_pool.specs.Buffer.{buffer};
+ghost use Rattle.ring_model.specs.receive.Agreement.{rx_word};
+ghost use Rattle.ring_model.specs.shared.Segments.{piece_of};
+ghost use Rattle.ring_model.specs.shared.Agreement.{bit};
+ghost use Rattle.ring_model.specs.shared.Frames.{Follows, unfinished};
+ghost use Rattle.ring_model.specs.shared.Handshakes.{is_live, is_serving, is_tailed};
+ghost use Rattle.shared_ring.specs.declared.events.DriverEvent.TheVariants as driver;
+ghost use Rattle.shared_ring.specs.declared.events.ControllerEvent.TheVariants as controller;
+ghost use Rattle.shared_ring.specs.Ends.{driver_of, controller_of};
+ghost use Rattle.rx_ring.specs.declared.events.RxDriverOwn.TheVariants.{LoadedQuiet, ClearedQuiet};
+ghost use Rattle.rx_ring.specs.declared.events.RxControllerOwn.TheVariants.{WroteBack, SaidQuiet};
+ghost use Rattle.rx_ring.specs.Ends.{controller_size, posted, returned, driver_state, fill_place, next_place, appended, stored, held_number, controller_state, is_between, serve_place, answered};
+ghost use Rattle.rx_ring.specs.Form.{rx};
+ghost use Rattle.rx_ring.specs.Steps.{Found};
+
+use crate::direction::{RxControllerSeat, RxShared};
+use crate::events::RxControllerEvent;
+use buffer_pool::Buf;
+use descriptor::RxBack;
+use shared_ring::OwnStep;
+
+/// A5.
+struct WriteBackStore;
+
+impl OwnStep<RxControllerEvent> for WriteBackStore {
+    ghost use Rattle.rx_ring.specs.Plays.{writes_back};
+
+    ghost event = { writes_back };
+}
+
+/// A5: the buffer goes back into its slot, and its descriptor becomes the write-back of its bytes.
+#[inline]
+pub(crate) fn write_back(
+    seat: &mut RxControllerSeat,
+    ring: &RxShared,
+    place: u16,
+    buf: Buf,
+    eop: bool,
+)
+    requires own { seat.old.table ≡ ring.now }
+    requires place { place ≡ serve_place (controller_of rx seat.old) }
+    requires serving { is_serving (controller_state (controller_of rx seat.old)) ≡ true }
+    requires held { held_number (controller_of rx seat.old) ≡ Some buf.number }
+    requires real { buf ≡ buffer buf.number buf.bytes }
+    requires follows { Follows piece_of (controller_size (controller_of rx seat.old)) (unfinished piece_of (stored (controller_of rx seat.old))) buf.bytes eop }
+    ensures { controller_of rx seat.new ≡ answered (controller_of rx seat.old) (controller.Own (WroteBack place (rx_word (length buf.bytes) eop) buf)) }
+{
+    let _size = seat.size(); // which says that the length is lawful
+    let word = RxBack::new(buf.len() as u16, eop).second_word();
+    seat.give_own::<WriteBackStore>(ring, place, buf, place as usize, word);
+}
+
+/// A7.
+struct HeadStore;
+
+impl OwnStep<RxControllerEvent> for HeadStore {
+    ghost use Rattle.rx_ring.specs.Plays.{stores_head};
+
+    ghost event = { stores_head };
+}
+
+/// A7: the head.
+#[inline]
+pub(crate) fn set_head(seat: &mut RxControllerSeat, ring: &RxShared, head: u16)
+    requires own { seat.old.table ≡ ring.now }
+    requires head { head ≡ serve_place (controller_of rx seat.old) }
+    requires serving { is_serving (controller_state (controller_of rx seat.old)) ≡ true }
+    requires held { held_number (controller_of rx seat.old) ≡ None }
+    ensures { controller_of rx seat.new ≡ answered (controller_of rx seat.old) (controller.StoredHead head) }
+{
+    let word = seat.size() as usize;
+    seat.store_own::<HeadStore>(ring, word, head as u64);
+}
+
+/// C7.
+struct QuietStore;
+
+impl OwnStep<RxControllerEvent> for QuietStore {
+    ghost use Rattle.rx_ring.specs.Plays.{says_quiet};
+
+    ghost event = { says_quiet };
+}
+
+/// C7.
+#[inline]
+pub(crate) fn say_quiet(seat: &mut RxControllerSeat, ring: &RxShared)
+    requires own { seat.old.table ≡ ring.now }
+    requires serving { is_serving (controller_state (controller_of rx seat.old)) ≡ true }
+    requires held { held_number (controller_of rx seat.old) ≡ None }
+    requires between { is_between (controller_of rx seat.old) ≡ true }
+    ensures { controller_of rx seat.new ≡ answered (controller_of rx seat.old) (controller.Own SaidQuiet) }
+{
+    let word = seat.size() as usize + 3;
+    seat.store_own::<QuietStore>(ring, word, 1);
+}

@@ -1,0 +1,105 @@
+//! The driver's own steps.
+ghost use Rattle.std.specs.Prelude.{◌≡◌, ◌+◌, ◌<◌, true, false, length, None, Some};
+ghost use Rattle.buffer_pool.specs.Buffer.{buffer};
+ghost use Rattle.ring_model.specs.receive.Agreement.{rx_word};
+ghost use Rattle.ring_model.specs.shared.Segments.{piece_of};
+ghost use Rattle.ring_model.specs.shared.Agreement.{bit};
+ghost use Rattle.ring_model.specs.shared.Frames.{Follows, unfinished};
+ghost use Rattle.ring_model.specs.shared.Handshakes.{is_live, is_serving, is_tailed};
+ghost use Rattle.shared_ring.specs.declared.events.DriverEvent.TheVariants as driver;
+ghost use Rattle.shared_ring.specs.declared.events.ControllerEvent.TheVariants as controller;
+ghost use Rattle.shared_ring.specs.Ends.{driver_of, controller_of};
+ghost use Rattle.rx_ring.specs.declared.events.RxDriverOwn.TheVariants.{LoadedQuiet, ClearedQuiet};
+ghost use Rattle.rx_ring.specs.declared.events.RxControllerOwn.TheVariants.{WroteBack, SaidQuiet};
+ghost use Rattle.rx_ring.specs.Ends.{controller_size, posted, returned, driver_state, fill_place, next_place, appended, stored, held_number, controller_state, is_between, serve_place, answered};
+ghost use Rattle.rx_ring.specs.Form.{rx};
+ghost use Rattle.rx_ring.specs.Steps.{Found};
+
+use crate::direction::{RxDriverSeat, RxShared};
+use crate::events::RxDriverEvent;
+use buffer_pool::Buf;
+use descriptor::RxBack;
+use shared_ring::{OwnStep, OwnTake};
+
+/// A6.
+struct StatusLoad;
+
+impl OwnStep<RxDriverEvent> for StatusLoad {
+    ghost use Rattle.rx_ring.specs.Plays.{takes, TakesOut};
+
+    ghost event = { takes };
+
+    ghost tells = { TakesOut };
+}
+
+impl OwnTake<RxDriverEvent> for StatusLoad {
+    ghost use Rattle.rx_ring.specs.Plays.{finds_none, is_done};
+
+    ghost missed = { finds_none };
+
+    ghost done = { is_done };
+
+    #[inline]
+    fn is_done(word: u64) -> bool {
+        RxBack::is_done(word)
+    }
+}
+
+/// A6: the oldest descriptor that is out is loaded, and its buffer taken where DD is set.
+#[inline]
+pub(crate) fn take(seat: &mut RxDriverSeat, ring: &RxShared, place: u16) -> Option<(Buf, bool)>
+    requires own { seat.old.table ≡ ring.now }
+    requires place { place ≡ next_place (driver_of rx seat.old) }
+    requires live { is_live (driver_state (driver_of rx seat.old)) ≡ true }
+    requires out { returned (driver_of rx seat.old) < length (posted (driver_of rx seat.old)) }
+    ensures { Found (driver_of rx seat.old) place result (driver_of rx seat.new) }
+{
+    let (word, taken) = seat.take_own::<StatusLoad>(ring, place);
+    match taken {
+        None => None,
+        Some(buf) => Some((buf, RxBack::ends_frame(word))),
+    }
+}
+
+/// C8.
+struct QuietLoad;
+
+impl OwnStep<RxDriverEvent> for QuietLoad {
+    ghost use Rattle.rx_ring.specs.Plays.{loads_quiet, IsBit};
+
+    ghost event = { loads_quiet };
+
+    ghost tells = { IsBit };
+}
+
+/// C8.
+#[inline]
+pub(crate) fn load_quiet(seat: &mut RxDriverSeat, ring: &RxShared) -> bool
+    requires own { seat.old.table ≡ ring.now }
+    ensures { driver_of rx seat.new ≡ appended (driver_of rx seat.old) (driver.Own (LoadedQuiet (bit result))) }
+{
+    let word = seat.size() as usize + 3;
+    seat.load_own::<QuietLoad>(ring, word) == 1
+}
+
+/// C11.
+struct ClearQuietStore;
+
+impl OwnStep<RxDriverEvent> for ClearQuietStore {
+    ghost use Rattle.rx_ring.specs.Plays.{clears_quiet};
+
+    ghost event = { clears_quiet };
+}
+
+/// C11. The epoch ends.
+#[inline]
+pub(crate) fn clear_quiet(seat: &mut RxDriverSeat, ring: &RxShared, fill: u16)
+    requires own { seat.old.table ≡ ring.now }
+    requires place { fill ≡ fill_place (driver_of rx seat.old) }
+    requires tailed { is_tailed (driver_state (driver_of rx seat.old)) ≡ true }
+    requires back { returned (driver_of rx seat.old) ≡ length (posted (driver_of rx seat.old)) }
+    ensures { driver_of rx seat.new ≡ appended (driver_of rx seat.old) (driver.Own ClearedQuiet) }
+{
+    let word = seat.size() as usize + 3;
+    seat.end_own::<ClearQuietStore>(ring, word, fill);
+}

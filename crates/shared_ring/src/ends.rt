@@ -1,0 +1,333 @@
+//! What the ends of both directions have: where an end stands, and the calls that depend on nothing else.
+ghost use Rattle.std.specs.Prelude.{◌≡◌, ◌+◌, ◌<◌, ◌↔◌, true, false, [], length, None, IsTrue};
+ghost use Rattle.limits.specs.RingLength.{IsRingLength};
+ghost use Rattle.ring_model.specs.declared.states.DriverState.TheVariants as state;
+ghost use Rattle.ring_model.specs.shared.Handshakes.{is_open, is_live, is_new, is_on, is_stopped, is_serving, learned};
+ghost use Rattle.ring_model.specs.shared.Frames.{unfinished};
+ghost use Rattle.ring_model.specs.declared.states.ControllerState.TheVariants as controller_state_is;
+ghost use Rattle.shared_ring.specs.Calls.{IsPoster, MayShake, shake_event, shaken, IsServer, IsSettled, MayAnswer, Answered, MayLoadWord, LoadedWord, FoundAhead};
+ghost use Rattle.shared_ring.specs.Ends.{Side, driver_of, driver_size, driver_record, posted, returned, driver_state, known_of, appended, controller_of, controller_size, controller_record, served, known_ahead, held, controller_state, is_between, answered};
+ghost use Rattle.shared_ring.specs.Words.{control_word};
+ghost use Rattle.shared_ring.specs.declared.events.DriverEvent.{DriverEvent};
+ghost use Rattle.shared_ring.specs.declared.events.DriverEvent.TheVariants.{AskedEnable, LoadedControl, AskedDisable};
+ghost use Rattle.shared_ring.specs.declared.control.Control.TheVariants as control;
+ghost use Rattle.shared_ring.specs.declared.events.ControllerEvent.{ControllerEvent};
+ghost use Rattle.shared_ring.specs.declared.events.ControllerEvent.TheVariants.{LoadedRequest};
+
+use crate::control::Control;
+use crate::direction::Direction;
+use ring_model::{ControllerState, DriverState};
+
+/// A ring of one direction, which its two ends share.
+pub trait SharedRing {
+    ghost use Rattle.atomic_table.specs.Seated.{TableId};
+
+    /// The identity of its table.
+    ghost table: { Self → TableId };
+}
+
+/// Where a driver's end stands.
+#[derive(Clone, Copy)]
+pub struct DriverPlaces {
+    /// The ring's length.
+    pub size: u16,
+    /// The next place to post.
+    pub fill: u16,
+    /// The oldest place that is out.
+    pub next: u16,
+    /// How many places are out: posted, and not back.
+    pub out: u16,
+    /// How far the driver is in enabling and disabling the queue.
+    pub state: DriverState,
+}
+
+impl DriverPlaces {
+    /// In a ring of this length, at the beginning of an epoch.
+    pub fn new(size: u16) -> DriverPlaces
+        ensures { result ≡ record { size = size; fill = 0; next = 0; out = 0; state = state.New } }
+    {
+        DriverPlaces {
+            size,
+            fill: 0,
+            next: 0,
+            out: 0,
+            state: DriverState::New,
+        }
+    }
+}
+
+/// A step of the driver's half of the handshake.
+#[derive(Clone, Copy)]
+pub enum Handshake {
+    /// C1.
+    AskEnable,
+    /// C4.
+    LoadControl,
+    /// C5.
+    AskDisable,
+}
+
+/// A driver's end of a ring of either direction. Whether a call's condition on the state holds is told by `is_new`,
+/// `is_open`, `is_live`, `is_on` and `is_stopped`.
+pub trait DriverEnd<D, C, R: Direction<D, C>>: Sized {
+    /// The ring that the end was made with, which each call takes.
+    type Ring: SharedRing;
+
+    /// The record of the end's own steps.
+    ghost side: { Self → Side (DriverEvent D) };
+
+    /// Where the end stands.
+    fn at(&self) -> DriverPlaces
+        ensures { IsPoster (driver_size (driver_of R.form (side self.now))) (driver_record (driver_of R.form (side self.now))) result };
+
+    /// Makes a step of the handshake, and answers the control value that it stored or loaded.
+    fn shake(&mut self, ring: &Self::Ring, step: Handshake) -> Control
+        requires own { (side self.old).table ≡ Self.Ring.table ring.now }
+        requires may { MayShake step (driver_state (driver_of R.form (side self.old))) }
+        ensures step { driver_of R.form (side self.new) ≡ appended (driver_of R.form (side self.old)) (shake_event step (control_word result)) }
+        ensures record { driver_record (driver_of R.form (side self.new)) ≡ record (driver_record (driver_of R.form (side self.old))) { state = shaken step (driver_state (driver_of R.form (side self.old))) (control_word result) } }
+        ensures known { known_of (driver_of R.form (side self.new)) ≡ known_of (driver_of R.form (side self.old)) };
+
+    /// The ring's length.
+    #[inline]
+    final fn size(&self) -> u32
+        ensures lawful { IsRingLength result }
+        ensures value { result ≡ driver_size (driver_of R.form (side self.now)) }
+    {
+        self.at().size as u32
+    }
+
+    /// How many more buffers can be posted: `n - 1` less those posted that did not come back, since head equal to tail
+    /// means an empty ring (82599 datasheet, 7.1.9 and 7.2.3.4).
+    #[inline]
+    final fn room(&self) -> u32
+        ensures most { result < driver_size (driver_of R.form (side self.now)) }
+        ensures value { result + length (posted (driver_of R.form (side self.now))) + 1 ≡ driver_size (driver_of R.form (side self.now)) + returned (driver_of R.form (side self.now)) }
+    {
+        let at = self.at();
+        (at.size - 1 - at.out) as u32
+    }
+
+    /// Whether nothing was asked yet in this epoch.
+    #[inline]
+    final fn is_new(&self) -> bool
+        ensures { result ≡ is_new (driver_state (driver_of R.form (side self.now))) }
+    {
+        self.at().state.is_new()
+    }
+
+    /// Whether the end may post and publish: no disabling was asked in this epoch.
+    #[inline]
+    final fn is_open(&self) -> bool
+        ensures { result ≡ is_open (driver_state (driver_of R.form (side self.now))) }
+    {
+        self.at().state.is_open()
+    }
+
+    /// Whether the queue was seen enabled, and its disabling not yet seen answered.
+    #[inline]
+    final fn is_live(&self) -> bool
+        ensures { result ≡ is_live (driver_state (driver_of R.form (side self.now))) }
+    {
+        self.at().state.is_live()
+    }
+
+    /// Whether the queue was seen enabled, and no disabling asked.
+    #[inline]
+    final fn is_on(&self) -> bool
+        ensures { result ≡ is_on (driver_state (driver_of R.form (side self.now))) }
+    {
+        self.at().state.is_on()
+    }
+
+    /// Whether the disabling was seen answered.
+    #[inline]
+    final fn is_stopped(&self) -> bool
+        ensures { result ≡ is_stopped (driver_state (driver_of R.form (side self.now))) }
+    {
+        self.at().state.is_stopped()
+    }
+
+    /// Asks the controller to enable the queue (82599 datasheet, RXDCTL.ENABLE and TXDCTL.ENABLE).
+    #[inline]
+    final fn ask_enable(&mut self, ring: &Self::Ring)
+        requires own { (side self.old).table ≡ Self.Ring.table ring.now }
+        requires new { is_new (driver_state (driver_of R.form (side self.old))) ≡ true }
+        ensures step { driver_of R.form (side self.new) ≡ appended (driver_of R.form (side self.old)) AskedEnable }
+        ensures record { driver_record (driver_of R.form (side self.new)) ≡ record (driver_record (driver_of R.form (side self.old))) { state = state.Asked } }
+        ensures known { known_of (driver_of R.form (side self.new)) ≡ known_of (driver_of R.form (side self.old)) }
+    {
+        self.shake(ring, Handshake::AskEnable);
+    }
+
+    /// Loads the control word. By it the end sees whether an enabling or a disabling that it asked was answered.
+    #[inline]
+    final fn state(&mut self, ring: &Self::Ring) -> Control
+        requires own { (side self.old).table ≡ Self.Ring.table ring.now }
+        ensures step { driver_of R.form (side self.new) ≡ appended (driver_of R.form (side self.old)) (LoadedControl (control_word result)) }
+        ensures record { driver_record (driver_of R.form (side self.new)) ≡ record (driver_record (driver_of R.form (side self.old))) { state = learned (driver_state (driver_of R.form (side self.old))) (control_word result) } }
+        ensures known { known_of (driver_of R.form (side self.new)) ≡ known_of (driver_of R.form (side self.old)) }
+    {
+        self.shake(ring, Handshake::LoadControl)
+    }
+
+    /// Asks the controller to disable the queue.
+    #[inline]
+    final fn ask_disable(&mut self, ring: &Self::Ring)
+        requires own { (side self.old).table ≡ Self.Ring.table ring.now }
+        requires on { is_on (driver_state (driver_of R.form (side self.old))) ≡ true }
+        ensures step { driver_of R.form (side self.new) ≡ appended (driver_of R.form (side self.old)) AskedDisable }
+        ensures record { driver_record (driver_of R.form (side self.new)) ≡ record (driver_record (driver_of R.form (side self.old))) { state = state.Stopping } }
+        ensures known { known_of (driver_of R.form (side self.new)) ≡ known_of (driver_of R.form (side self.old)) }
+    {
+        self.shake(ring, Handshake::AskDisable);
+    }
+}
+
+/// Where a controller's end stands.
+#[derive(Clone, Copy)]
+pub struct ControllerPlaces {
+    /// The ring's length.
+    pub size: u16,
+    /// The next place to serve.
+    pub serve: u16,
+    /// How many descriptors it knows to be ready, from that one on.
+    pub ahead: u16,
+    /// Whether a fetched buffer is not served yet.
+    pub holding: bool,
+    /// Whether the last that was served ends a frame, or none is served.
+    pub between: bool,
+    /// How far the controller is with the queue.
+    pub state: ControllerState,
+    /// The control value that it loaded or stored last.
+    pub seen: Control,
+}
+
+impl ControllerPlaces {
+    /// In a ring of this length that was never enabled.
+    pub fn new(size: u16) -> ControllerPlaces
+        ensures { result ≡ record { size = size; serve = 0; ahead = 0; holding = false; between = true; state = controller_state_is.Off; seen = control.Disabled } }
+    {
+        ControllerPlaces {
+            size,
+            serve: 0,
+            ahead: 0,
+            holding: false,
+            between: true,
+            state: ControllerState::Off,
+            seen: Control::Disabled,
+        }
+    }
+}
+
+/// A word that a controller loads.
+#[derive(Clone, Copy)]
+pub enum ControllerLoad {
+    /// A3, B3.
+    Tail,
+    /// C2: the control word.
+    Request,
+}
+
+/// A controller's end of a ring of either direction. Whether a call's condition holds is told by `is_serving`,
+/// `is_holding`, `is_between_frames` and `can_answer`.
+pub trait ControllerEnd<D, C, R: Direction<D, C>>: Sized {
+    /// The ring that the end was made with, which each call takes.
+    type Ring: SharedRing;
+
+    /// The record of the end's own steps.
+    ghost side: { Self → Side (ControllerEvent C) };
+
+    /// Where the end stands.
+    fn at(&self) -> ControllerPlaces
+        ensures { IsServer R.form.carries (controller_size (controller_of R.form (side self.now))) (controller_record (controller_of R.form (side self.now))) result };
+
+    /// Whether a disabling may be answered, where one was loaded last.
+    fn is_settled(&self) -> bool
+        ensures { IsTrue result ↔ IsSettled (controller_of R.form (side self.now)) };
+
+    /// Loads a word.
+    fn load(&mut self, ring: &Self::Ring, which: ControllerLoad) -> u16
+        requires own { (side self.old).table ≡ Self.Ring.table ring.now }
+        requires may { MayLoadWord which (controller_of R.form (side self.old)) }
+        ensures { LoadedWord which (controller_of R.form (side self.old)) result (controller_of R.form (side self.new)) };
+
+    /// Answers the enabling or the disabling that was loaded last: once after each load, and a disabling between two
+    /// frames alone, with the head stored and no report owed.
+    fn answer(&mut self, ring: &Self::Ring)
+        requires own { (side self.old).table ≡ Self.Ring.table ring.now }
+        requires asked { MayAnswer (controller_of R.form (side self.old)) }
+        ensures { Answered (controller_of R.form (side self.old)) (controller_of R.form (side self.new)) };
+
+    /// The ring's length.
+    #[inline]
+    final fn size(&self) -> u32
+        ensures lawful { IsRingLength result }
+        ensures value { result ≡ controller_size (controller_of R.form (side self.now)) }
+    {
+        self.at().size as u32
+    }
+
+    /// Whether the end answered the enabling of this epoch, and no disabling since.
+    #[inline]
+    final fn is_serving(&self) -> bool
+        ensures { result ≡ is_serving (controller_state (controller_of R.form (side self.now))) }
+    {
+        self.at().state.is_serving()
+    }
+
+    /// Whether a fetched buffer is not back in its slot yet.
+    #[inline]
+    final fn is_holding(&self) -> bool
+        ensures { (result ≡ false) ↔ (held (controller_of R.form (side self.now)) ≡ None) }
+    {
+        self.at().holding
+    }
+
+    /// Whether the last that was stored or sent ends a frame, or none was.
+    #[inline]
+    final fn is_between_frames(&self) -> bool
+        ensures value { result ≡ is_between (controller_of R.form (side self.now)) }
+        ensures rest { result ≡ true → unfinished R.form.carries (served (controller_of R.form (side self.now))) ≡ [] }
+    {
+        self.at().between
+    }
+
+    /// Whether `answer` may be called: an enabling was loaded last and the end does not serve, or a disabling and the
+    /// end stands between two frames, with the head stored and no report owed.
+    #[inline]
+    final fn can_answer(&self) -> bool
+        ensures { IsTrue result ↔ MayAnswer (controller_of R.form (side self.now)) }
+    {
+        let at = self.at();
+        match at.seen {
+            Control::EnableAsked => !at.state.is_serving(),
+            Control::DisableAsked => self.is_settled(),
+            Control::Disabled | Control::Enabled => false,
+        }
+    }
+
+    /// Loads the tail (RDT, TDT), and answers how many descriptors are ready, from the next one on (82599 datasheet,
+    /// 7.1.9 and 7.2.3.4).
+    #[inline]
+    final fn look(&mut self, ring: &Self::Ring) -> u32
+        requires own { (side self.old).table ≡ Self.Ring.table ring.now }
+        requires serving { is_serving (controller_state (controller_of R.form (side self.old))) ≡ true }
+        ensures step { FoundAhead (controller_of R.form (side self.old)) result (controller_of R.form (side self.new)) }
+        ensures ahead { known_ahead (controller_of R.form (side self.new)) ≡ result }
+    {
+        self.load(ring, ControllerLoad::Tail);
+        self.at().ahead as u32
+    }
+
+    /// Loads the control word: whether an enabling or a disabling is asked.
+    #[inline]
+    final fn asked(&mut self, ring: &Self::Ring) -> Control
+        requires own { (side self.old).table ≡ Self.Ring.table ring.now }
+        ensures step { controller_of R.form (side self.new) ≡ answered (controller_of R.form (side self.old)) (LoadedRequest (control_word result)) }
+        ensures record { controller_record (controller_of R.form (side self.new)) ≡ record (controller_record (controller_of R.form (side self.old))) { seen = control_word result } }
+    {
+        self.load(ring, ControllerLoad::Request);
+        self.at().seen
+    }
+}
