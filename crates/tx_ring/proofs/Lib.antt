@@ -1,0 +1,17 @@
+pub mod Words
+pub mod Learning
+pub mod Lying
+pub mod Moving
+pub mod Sending
+pub mod Reporting
+pub mod Reported
+pub mod Lawful
+pub mod Owning
+pub mod Looking
+pub mod Meeting
+pub mod ControllerEnds
+pub mod DriverEnds
+pub mod DriverCalls
+pub mod Renewing
+pub mod Closing
+pub mod Whole

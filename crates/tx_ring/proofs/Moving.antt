@@ -1,0 +1,272 @@
+-- What each step of the driver makes of words, slots and records that lie as a ring has them: they lie as the stepped ring has them.
+use Rattle.std.proofs.Common.{◌≡◌, ℕ, ◌+◌, ◌%◌, ◌<◌, ◌≤◌, Bool, true, false, List, [], ◌∷◌, ◌++◌, length, set, Option, Some, None, sym, refl, ap, ◌∙◌, subst, arith, mod-lt, mod-eq_of_lt, get_or-set_same, if◌then◌else◌}
+use Rattle.std.specs.Prelude.{slice_set, ◌-◌}
+use Rattle.std.proofs.lemmas.Bool.{and_from, lt-ltb, eq-eqb, both_ways, false≢true}
+use Rattle.std.proofs.lemmas.Option.{none-some}
+use Rattle.std.proofs.lemmas.List.{take-append-le}
+use mathlib.Core.Option as maybe
+use mathlib.Core.Option.{some, none}
+use Rattle.buffer_pool.specs.Buffer.{Buffer}
+use Rattle.ring_model.specs.declared.states.Completion.{Completion}
+use Rattle.ring_model.specs.declared.states.DriverState.{DriverState}
+use Rattle.ring_model.specs.declared.states.DriverState.TheVariants.{Tailed}
+use Rattle.ring_model.specs.declared.steps.ControlStep.TheVariants.{AskEnable, LookAnswered, AskDisable}
+use Rattle.ring_model.specs.declared.steps.TxStep.TheVariants as tx
+use Rattle.ring_model.specs.shared.Handshakes.{is_open, is_live, is_serving, is_new, is_on, is_stopped, is_cleared, is_tailed}
+use Rattle.ring_model.specs.shared.Frames.{Bytes, unfinished}
+use Rattle.ring_model.specs.shared.Queue.{posted_count, served_count, given_count, returned_count, by}
+use Rattle.ring_model.specs.shared.QueueSteps as queue
+use Rattle.ring_model.specs.transmit.Frames.{MayFollow}
+use Rattle.ring_model.specs.transmit.Ring.{TxRing, are_whole, carried, ends_posting, next_sent}
+use Rattle.ring_model.specs.transmit.Steps.{IsTxReachable, by_head, is_there, cleaned_one, loaded_report, oldest_report, tx_can, tx_changed, tx_cleared, tx_renewed, tx_settled}
+use Rattle.ring_model.specs.transmit.Agreement.{posting_word}
+use Rattle.ring_model.proofs.transmit.Kept.{IsTxKept}
+use Rattle.ring_model.proofs.transmit.Stepping.{seen_sent}
+use Rattle.ring_model.proofs.transmit.Postings.{AllMayFollow-nil, AllMayFollow-snoc}
+use Rattle.ring_model.proofs.shared.Beginnings.{slice_get-front}
+use Rattle.ring_model.proofs.shared.Shakes.{live_unanswered, tailed_emptied, emptied_answered}
+use Rattle.ring_model.proofs.shared.Stepping.{kept-by, held_below, answered_over, answered_idle}
+use Rattle.shared_ring.specs.declared.events.DriverEvent.TheVariants as driver
+use Rattle.shared_ring.specs.Lies.{driven, is_early, IsControlled, LiesIn}
+use Rattle.shared_ring.proofs.Lying.{lies-post, lies-publish, lies-give, lies-reclaim, lies-ask_enable, lies-ask_disable, lies-look_answered, lies-clear_head, lies-clear_tail}
+use Rattle.shared_ring.proofs.Controlling.{ctl-post, ctl-publish, ctl-give, ctl-reclaim, ctl-ask_enable, ctl-look_answered, ctl-ask_disable, ctl-clear_head, ctl-clear_tail, ctl-renew}
+use Rattle.tx_ring.specs.declared.events.TxDriverOwn.TheVariants.{NoReport, SawReport, Cleaned, EndedEpoch, ClearedReport}
+use Rattle.tx_ring.specs.Records.{Posting, TxDriven, TxControlled, DriverStep, ControllerStep, controlling, drive, Knowing, knowing, outstanding, seen_after, fetched_word}
+use Rattle.shared_ring.specs.Tables.{words_of}
+use Rattle.tx_ring.specs.Rule.{LiesAs, Learnt, IsFetched, IsReady, TellsReports, filled, says, lies_there, word_of}
+use Rattle.tx_ring.proofs.Words.{posting-posted}
+use Rattle.tx_ring.proofs.Learning.{learnt-step, learnt-head, learnt-report, learnt-unknown}
+use Rattle.tx_ring.proofs.Lying.{keeps_it, big, goes_on, drove, knows_is, unreclaimed, untold, lies-beyond, reports-else, head-within, controlled-else, Leaves, driver-goes}
+
+early_tailed : (d : DriverState) → is_tailed d ≡ true → is_early d ≡ true
+early_tailed Tailed e = refl
+early_tailed _ e = absurd (false≢true e)
+
+zero-mod : (n : ℕ) → 1 < n → 0 % n ≡ 0
+zero-mod n pos = let h : 0 < n = omega arith in mod-eq_of_lt h
+
+module _ (n : ℕ) (mode : Completion) (q : TxRing Bytes) (ds : List DriverStep) (cs : List ControllerStep) (words : List ℕ) (homes : List (maybe.Option Buffer)) (pos : 1 < n) (l : LiesAs n mode q ds cs words homes) where
+  abbrev k : IsTxKept Bytes n q
+  k = keeps_it n mode q ds cs words homes pos l
+
+  abbrev x : Knowing
+  x = knowing ds
+
+  abbrev c : TxControlled
+  c = controlling n cs
+
+  abbrev wide : n + 4 ≤ words_of n mode
+  wide = big n mode q ds cs words homes pos l
+
+  -- a place of the ring is not the place of the head word
+  place-else : (p i v : ℕ) → p ≡ i % n → TellsReports n mode q.reported (slice_set words p v)
+  place-else p i v at = reports-else n mode q.reported words p v (λ e. let b : i % n < n = mod-lt i (omega arith) in omega arith) l.reports
+
+  -- B1
+  pub can-post : is_open q.handshake.driver ≡ true → posted_count q.queue + 1 < given_count q.queue + n → (p : Posting) → tx_can q (tx.Post p) ≡ true
+  can-post opened room p = let e = k.queue.size_is in let o = k.queue.order in let ts = o.given_served in let sp = o.served_posted in
+      and_from _ _ opened (lt-ltb (posted_count q.queue - given_count q.queue) (q.size - 1) (omega arith))
+
+  word-posted : (p : Posting) → says q (posted_count q.queue) (Some p) None ≡ word_of p
+  word-posted p = let o = k.queue.order in let r = k.reports in let a = r.reported_sent in let b = o.served_posted in
+      ap (λ (t : Bool). posting_word length filled t p) (untold q (posted_count q.queue) (omega arith))
+
+  fetched-post : (p : Posting) → IsFetched (fetched_word cs) q.held (q.ledger.posted ++ p ∷ []) q.ledger.served
+  fetched-post p y held there = l.fetched y held (sym (slice_get-front q.ledger.posted (p ∷ []) (served_count q.queue) (held_below n ends_posting q.queue k.queue held)) ∙ there)
+
+  ready-post : (p : Posting) → IsReady (is_serving q.handshake.controller) q.known (q.ledger.posted ++ p ∷ [])
+  ready-post p serving = let o = k.queue.order in let a = o.known_published serving in let b = o.published_posted in
+      ap are_whole (take-append-le q.known q.ledger.posted (p ∷ []) (omega arith)) ∙ l.ready serving
+
+  pub post-lies : (p : Posting) (at : ℕ) → at ≡ posted_count q.queue % n → is_open q.handshake.driver ≡ true → posted_count q.queue + 1 < given_count q.queue + n → MayFollow n (unfinished carried q.ledger.posted) p
+      → LiesAs n mode (tx_changed q (tx.Post p)) (ds ++ driver.Posted at (word_of p) (filled p) ∷ []) cs (slice_set words at (word_of p)) (set homes at (some (filled p)))
+  post-lies p at is opened room follows = let can = can-post opened room p in let f = follows.follows in record {
+    reachable = goes_on n mode q ds cs words homes pos l (tx.Post p) can;
+    completion = l.completion;
+    driver = drove n mode q ds cs words homes pos l (driver.Posted at (word_of p) (filled p))
+        ∙ ap (λ (y : Posting). let d : TxDriven = record (driven q.queue) { posted = q.ledger.posted ++ y ∷ [] } in d) (posting-posted p f.few_bytes);
+    controller = ctl-post (says q) lies_there ends_posting n q.queue k.queue q.owed c l.controller p;
+    lies = lies-post (says q) lies_there ends_posting n (words_of n mode) q.queue k.queue 0 words homes l.lies wide p (filled p) (word_of p) at is can (word-posted p) refl;
+    reports = place-else at (posted_count q.queue) (word_of p) is;
+    fetched = fetched-post p;
+    ready = ready-post p;
+    follow = AllMayFollow-snoc n q.ledger.posted p l.follow follows;
+    learnt = knows_is n mode q ds cs words homes pos l (tx_changed q (tx.Post p)) (driver.Posted at (word_of p) (filled p)) (learnt-step n q k x l.learnt (tx.Post p) can refl refl);
+  }
+
+  -- B2
+  pub publish-lies : (t : ℕ) → t ≡ posted_count q.queue % n → is_open q.handshake.driver ≡ true → are_whole q.ledger.posted ≡ true → LiesAs n mode (tx_changed q tx.Publish) (ds ++ driver.Published t ∷ []) cs (slice_set words (n + 1) t) homes
+  publish-lies t at opened whole = driver-goes n mode q ds cs words homes pos l tx.Publish (driver.Published t) (slice_set words (n + 1) t) homes (and_from _ _ opened whole) refl refl (refl, refl, refl, refl, refl, refl, refl, refl, refl)
+      (ctl-publish (says q) lies_there ends_posting n q.queue k.queue q.owed c l.controller)
+      (lies-publish (says q) lies_there ends_posting n (words_of n mode) q.queue k.queue 0 words homes l.lies wide t at)
+      (reports-else n mode q.reported words (n + 1) t (λ e. omega arith) l.reports)
+
+  -- B7, that shows nothing
+  pub no_report-lies : (p r : ℕ) → LiesAs n mode q (ds ++ driver.Own (NoReport p r) ∷ []) cs words homes
+  no_report-lies p r = record {
+    reachable = l.reachable;
+    completion = l.completion;
+    driver = drove n mode q ds cs words homes pos l (driver.Own (NoReport p r));
+    controller = l.controller;
+    lies = l.lies;
+    reports = l.reports;
+    fetched = l.fetched;
+    ready = l.ready;
+    follow = l.follow;
+    learnt = knows_is n mode q ds cs words homes pos l q (driver.Own (NoReport p r)) l.learnt;
+  }
+
+  -- B7, that shows the report
+  saw-knows : (j : ℕ) → oldest_report q ≡ Some j → seen_after x (outstanding (driven q.queue) x.seen) ≡ record x { seen = j + 1 }
+  saw-knows j is = let s = l.learnt.seen in ap (λ (m : ℕ). seen_after x (outstanding (driven q.queue) m)) s ∙ ap (λ (o : Option ℕ). seen_after x o) is
+
+  pub saw_report-lies : (j p r : ℕ) → oldest_report q ≡ Some j → is_live q.handshake.driver ≡ true → j < q.reported → LiesAs n mode (record q { seen_reported = j + 1 }) (ds ++ driver.Own (SawReport p r) ∷ []) cs words homes
+  saw_report-lies j p r is live below = let later : TxRing Bytes = record q { seen_reported = j + 1 } in record {
+    reachable = subst (λ (b : Bool). IsTxReachable Bytes n (if b then record q { seen_reported = j + 1 } else q)) (lt-ltb j q.reported below)
+        (subst (λ (o : Option ℕ). IsTxReachable Bytes n (loaded_report q o)) is (goes_on n mode q ds cs words homes pos l tx.LoadReport (and_from _ _ live (ap is_there is))));
+    completion = l.completion;
+    driver = drove n mode q ds cs words homes pos l (driver.Own (SawReport p r));
+    controller = l.controller;
+    lies = l.lies;
+    reports = l.reports;
+    fetched = l.fetched;
+    ready = l.ready;
+    follow = l.follow;
+    learnt = knows_is n mode q ds cs words homes pos l later (driver.Own (SawReport p r)) (subst (λ (y : Knowing). Learnt n later y) (sym (saw-knows j is)) (learnt-report n q k x l.learnt j));
+  }
+
+  -- B8
+  cleaned-past : (o : Option Posting) → (cleaned_one q o).past ≡ q.past
+  cleaned-past None = refl
+  cleaned-past (Some y) = refl
+
+  cleaned-seen : (o : Option Posting) → (cleaned_one q o).seen_reported ≡ q.seen_reported
+  cleaned-seen None = refl
+  cleaned-seen (Some y) = refl
+
+  pub clean-lies : (p : Posting) (at : ℕ) → next_sent q ≡ Some p → at ≡ returned_count q.queue % n → is_live q.handshake.driver ≡ true → given_count q.queue < q.seen_reported
+      → LiesAs n mode (cleaned_one q (Some p)) (ds ++ driver.Own (Cleaned at (filled p)) ∷ []) cs (slice_set words at 0) (set homes at none)
+  clean-lies p at is place live below = let o = k.queue.order in let un = unreclaimed n mode q ds cs words homes pos l (live_unanswered q.handshake.driver live) in let sent = seen_sent n q k in let sp = o.served_posted in
+      let can = and_from _ _ live (lt-ltb (given_count q.queue) q.seen_reported below) in record {
+        reachable = subst (λ (o : Option Posting). IsTxReachable Bytes n (cleaned_one q o)) is (goes_on n mode q ds cs words homes pos l tx.Clean can);
+        completion = l.completion;
+        driver = drove n mode q ds cs words homes pos l (driver.Own (Cleaned at (filled p)));
+        controller = ctl-give (says q) lies_there ends_posting n q.queue k.queue q.owed c l.controller p.number;
+        lies = lies-give (says q) lies_there ends_posting n (words_of n mode) q.queue k.queue 0 words homes l.lies wide p.number 0 at place (omega arith);
+        reports = place-else at (returned_count q.queue) 0 place;
+        fetched = l.fetched;
+        ready = l.ready;
+        follow = l.follow;
+        learnt = knows_is n mode q ds cs words homes pos l (cleaned_one q (Some p)) (driver.Own (Cleaned at (filled p)))
+            (subst (λ (o : Option Posting). Learnt n (cleaned_one q o) x) is (learnt-step n q k x l.learnt tx.Clean can (cleaned-past (next_sent q)) (cleaned-seen (next_sent q))));
+      }
+
+  -- the driver's load of the head
+  pub head_loaded-lies : (r : ℕ) → r ≡ q.head → is_stopped q.handshake.driver ≡ true → LiesAs n mode q (ds ++ driver.LoadedHead r ∷ []) cs words homes
+  head_loaded-lies r e stopped = record {
+    reachable = l.reachable;
+    completion = l.completion;
+    driver = drove n mode q ds cs words homes pos l (driver.LoadedHead r);
+    controller = l.controller;
+    lies = l.lies;
+    reports = l.reports;
+    fetched = l.fetched;
+    ready = l.ready;
+    follow = l.follow;
+    learnt = knows_is n mode q ds cs words homes pos l q (driver.LoadedHead r) (learnt-head n q k x l.learnt r stopped e);
+  }
+
+  -- C1
+  pub ask_enable-lies : is_new q.handshake.driver ≡ true → LiesAs n mode (tx_changed q (tx.Control AskEnable)) (ds ++ driver.AskedEnable ∷ []) cs (slice_set words (n + 2) 1) homes
+  ask_enable-lies new = driver-goes n mode q ds cs words homes pos l (tx.Control AskEnable) driver.AskedEnable (slice_set words (n + 2) 1) homes new refl refl (refl, refl, refl, refl, refl, refl, refl, refl, refl)
+      (ctl-ask_enable (says q) lies_there ends_posting n q.queue k.queue q.owed c l.controller (tx_settled q) new)
+      (lies-ask_enable (says q) lies_there ends_posting n (words_of n mode) q.queue k.queue 0 words homes l.lies wide (tx_settled q) new)
+      (reports-else n mode q.reported words (n + 2) 1 (λ e. omega arith) l.reports)
+
+  -- C4
+  pub look_answered-lies : (r : ℕ) → r ≡ q.handshake.control → LiesAs n mode (tx_changed q (tx.Control LookAnswered)) (ds ++ driver.LoadedControl r ∷ []) cs words homes
+  look_answered-lies r e = driver-goes n mode q ds cs words homes pos l (tx.Control LookAnswered) (driver.LoadedControl r) words homes refl
+      (ap (λ (v : ℕ). drive (driven q.queue) (driver.LoadedControl v)) e) refl (refl, refl, refl, refl, refl, refl, refl, refl, refl)
+      (ctl-look_answered (says q) lies_there ends_posting n q.queue k.queue q.owed c l.controller (tx_settled q))
+      (lies-look_answered (says q) lies_there ends_posting n (words_of n mode) q.queue k.queue 0 words homes l.lies wide (tx_settled q))
+      l.reports
+
+  -- C5
+  pub ask_disable-lies : is_on q.handshake.driver ≡ true → LiesAs n mode (tx_changed q (tx.Control AskDisable)) (ds ++ driver.AskedDisable ∷ []) cs (slice_set words (n + 2) 3) homes
+  ask_disable-lies on = driver-goes n mode q ds cs words homes pos l (tx.Control AskDisable) driver.AskedDisable (slice_set words (n + 2) 3) homes on refl refl (refl, refl, refl, refl, refl, refl, refl, refl, refl)
+      (ctl-ask_disable (says q) lies_there ends_posting n q.queue k.queue q.owed c l.controller (tx_settled q) on)
+      (lies-ask_disable (says q) lies_there ends_posting n (words_of n mode) q.queue k.queue 0 words homes l.lies wide (tx_settled q))
+      (reports-else n mode q.reported words (n + 2) 3 (λ e. omega arith) l.reports)
+
+  -- C6
+  pub reclaim-lies : (b : Buffer) (p : ℕ) → p ≡ returned_count q.queue % n → is_stopped q.handshake.driver ≡ true → returned_count q.queue < posted_count q.queue
+      → LiesAs n mode (tx_changed q tx.Reclaim) (ds ++ driver.Reclaimed p b ∷ []) cs (slice_set words p 0) (set homes p none)
+  reclaim-lies b p at stopped more =
+      driver-goes n mode q ds cs words homes pos l tx.Reclaim (driver.Reclaimed p b) (slice_set words p 0) (set homes p none) (and_from _ _ stopped (lt-ltb (returned_count q.queue) (posted_count q.queue) more)) refl refl (refl, refl, refl, refl, refl, refl, refl, refl, refl)
+      (ctl-reclaim (says q) lies_there ends_posting n q.queue k.queue q.owed c l.controller)
+      (lies-reclaim (says q) lies_there ends_posting n (words_of n mode) q.queue k.queue 0 words homes l.lies wide 0 p at more)
+      (place-else p (returned_count q.queue) 0 at)
+
+  -- C9
+  pub clear_head-lies : is_stopped q.handshake.driver ≡ true → returned_count q.queue ≡ posted_count q.queue → LiesAs n mode (tx_changed q tx.ClearHead) (ds ++ driver.ClearedHead ∷ []) cs (slice_set words n 0) homes
+  clear_head-lies stopped back = driver-goes n mode q ds cs words homes pos l tx.ClearHead driver.ClearedHead (slice_set words n 0) homes (and_from _ _ stopped (eq-eqb (returned_count q.queue) (posted_count q.queue) back)) refl refl (refl, refl, refl, refl, refl, refl, refl, refl, refl)
+      (ctl-clear_head (says q) lies_there ends_posting n q.queue k.queue q.owed c l.controller stopped)
+      (lies-clear_head (says q) lies_there ends_posting n (words_of n mode) q.queue k.queue 0 words homes l.lies wide)
+      (reports-else n mode q.reported words n 0 (λ e. omega arith) l.reports)
+
+  -- a renewed ring has no items
+  renewed-lies : (p : TxRing Bytes) (ws : List ℕ) → LiesIn {Given = ℕ} (says q) lies_there n (words_of n mode) p.queue 0 ws homes → is_tailed p.handshake.driver ≡ true → LiesIn {Given = ℕ} (says (tx_renewed p)) lies_there n (words_of n mode) (tx_renewed p).queue 0 ws homes
+  renewed-lies p ws m tailed = record {
+    word_count = m.word_count;
+    slot_count = m.slot_count;
+    registers = m.registers;
+    items = record { words = λ j a b. absurd (omega arith); slots = λ j a b. absurd (omega arith) };
+    cleared = λ a s. m.cleared (early_tailed p.handshake.driver tailed) s;
+  }
+
+  -- C10, where the head word is cleared after it
+  pub clear_tail-lies : by_head mode ≡ true → is_cleared q.handshake.driver ≡ true → LiesAs n mode (tx_cleared q true) (ds ++ driver.ClearedTail ∷ []) cs (slice_set words (n + 1) 0) homes
+  clear_tail-lies more cleared = let is : by_head q.completion ≡ true = ap by_head l.completion ∙ more in subst (λ (b : Bool). LiesAs n mode (tx_cleared q b) (ds ++ driver.ClearedTail ∷ []) cs (slice_set words (n + 1) 0) homes) is
+      (driver-goes n mode q ds cs words homes pos l tx.ClearTail driver.ClearedTail (slice_set words (n + 1) 0) homes cleared
+      (ap (λ (b : Bool). driven (tx_cleared q b).queue) (sym is)) refl
+      (subst (λ (b : Bool). Leaves n mode q ds cs words homes pos l (tx_cleared q b)) (sym is) (refl, refl, refl, refl, refl, refl, refl, refl, refl))
+      (subst (λ (b : Bool). IsControlled {Given = ℕ} (says (tx_cleared q b)) lies_there (tx_cleared q b).queue (tx_cleared q b).owed c) (sym is)
+      (ctl-clear_tail (says q) lies_there ends_posting n q.queue k.queue q.owed c l.controller cleared))
+      (subst (λ (b : Bool). LiesIn {Given = ℕ} (says (tx_cleared q b)) lies_there n (words_of n mode) (tx_cleared q b).queue 0 (slice_set words (n + 1) 0) homes) (sym is)
+      (lies-clear_tail (says q) lies_there ends_posting n (words_of n mode) q.queue k.queue 0 words homes l.lies wide cleared))
+      (reports-else n mode q.reported words (n + 1) 0 (λ e. omega arith) l.reports))
+
+  -- C10, where nothing more is to be cleared: the epoch ends, and what was learnt in it is forgotten
+  pub end_epoch-lies : by_head mode ≡ false → is_cleared q.handshake.driver ≡ true → LiesAs n mode (tx_cleared q false) (ds ++ driver.Own EndedEpoch ∷ []) cs (slice_set words (n + 1) 0) homes
+  end_epoch-lies alone cleared = let is : by_head q.completion ≡ false = ap by_head l.completion ∙ alone in
+      let tailed : TxRing Bytes = record q { queue = by q.queue queue.ClearTail } in
+      let kept = kept-by n ends_posting q.queue k.queue queue.ClearTail tt cleared in let reach = goes_on n mode q ds cs words homes pos l tx.ClearTail cleared in record {
+        reachable = subst (λ (b : Bool). IsTxReachable Bytes n (tx_cleared q b)) is reach;
+        completion = l.completion;
+        driver = drove n mode q ds cs words homes pos l (driver.Own EndedEpoch);
+        controller = controlled-else (tx_cleared q false).queue (says q) (says (tx_cleared q false)) q.owed c
+            (ctl-renew (says q) lies_there ends_posting n tailed.queue kept q.owed c (ctl-clear_tail (says q) lies_there ends_posting n q.queue k.queue q.owed c l.controller cleared) refl
+            (answered_over n ends_posting tailed.queue kept refl));
+        lies = renewed-lies tailed (slice_set words (n + 1) 0) (lies-clear_tail (says q) lies_there ends_posting n (words_of n mode) q.queue k.queue 0 words homes l.lies wide cleared) refl;
+        reports = λ e. absurd (false≢true (sym alone ∙ e));
+        fetched = λ p held there. absurd (none-some p there);
+        ready = λ serving. absurd (both_ways (is_serving q.handshake.controller) (answered_idle n ends_posting tailed.queue kept refl) serving);
+        follow = AllMayFollow-nil n;
+        learnt = knows_is n mode q ds cs words homes pos l (tx_cleared q false) (driver.Own EndedEpoch) (learnt-unknown n (tx_cleared q false) refl);
+      }
+
+  -- C12: the epoch ends
+  pub clear_report-lies : by_head mode ≡ true → is_tailed q.handshake.driver ≡ true → LiesAs n mode (tx_renewed q) (ds ++ driver.Own ClearedReport ∷ []) cs (slice_set words (n + 4) 0) homes
+  clear_report-lies more tailed = let is : by_head q.completion ≡ true = ap by_head l.completion ∙ more in let a = emptied_answered q.handshake.driver (tailed_emptied q.handshake.driver tailed) in
+      let m = l.lies in let wc = m.word_count in record {
+        reachable = goes_on n mode q ds cs words homes pos l tx.ClearReport (and_from _ _ is tailed);
+        completion = l.completion;
+        driver = drove n mode q ds cs words homes pos l (driver.Own ClearedReport);
+        controller = controlled-else (tx_renewed q).queue (says q) (says (tx_renewed q)) q.owed c (ctl-renew (says q) lies_there ends_posting n q.queue k.queue q.owed c l.controller tailed (answered_over n ends_posting q.queue k.queue a));
+        lies = renewed-lies q (slice_set words (n + 4) 0) (lies-beyond n mode q ds cs words homes pos l 0) tailed;
+        reports = λ e. get_or-set_same words (n + 4) 0 0 (head-within n mode words e wc) ∙ sym (zero-mod n pos);
+        fetched = λ p held there. absurd (none-some p there);
+        ready = λ serving. absurd (both_ways (is_serving q.handshake.controller) (answered_idle n ends_posting q.queue k.queue a) serving);
+        follow = AllMayFollow-nil n;
+        learnt = knows_is n mode q ds cs words homes pos l (tx_renewed q) (driver.Own ClearedReport) (learnt-unknown n (tx_renewed q) refl);
+      }

@@ -1,0 +1,20 @@
+-- The first of those not seen reported that asked for a report.
+use Rattle.std.proofs.Common.{◌≡◌, ◌+◌, Some, ap, sym, ◌∙◌, subst}
+use Rattle.tx_ring.specs.Ends.{DriverSide, outstanding, seen_reported}
+use Rattle.shared_ring.specs.Ends.{driver_of}
+use Rattle.tx_ring.specs.Form.{tx}
+use Rattle.tx_ring.proofs.DriverCalls.{from-first, found-ahead, further-ahead, none-ahead}
+use Rattle.tx_ring.proofs.driver.TxDriverEnd.oldest.Goals as goal
+
+pub loop-ahead-init : goal.loop-ahead-init
+loop-ahead-init c = let i = c.self.inside in from-first (driver_of tx i.seat) i.at i.seen i.done i.unseen i.whole i.asks.items c.self.invariant c.args.self.now c.self.view_is
+
+pub loop-ahead-preserved : goal.loop-ahead-preserved
+loop-ahead-preserved c = let i = c.self.inside in further-ahead (driver_of tx i.seat) i.at i.seen i.done i.unseen i.whole i.asks.items c.self.invariant c.args.self.now c.self.view_is c.loop-ahead.ahead i.at.size c.index.result.now _ c.loop-ahead.invariant c.loop-ahead-test.true c.self.invariant.size_is c.index.ensures c.if-index.false
+
+pub returns-then-index : goal.returns-then-index
+returns-then-index c = let i = c.self.inside in subst (λ (s : DriverSide). outstanding s ≡ Some (seen_reported s + c.loop-ahead.ahead)) c.self.view_is
+    (found-ahead (driver_of tx i.seat) i.at i.seen i.done i.unseen i.whole i.asks.items c.self.invariant c.args.self.now c.self.view_is c.loop-ahead.ahead i.at.size c.index.result.now _ c.loop-ahead.invariant c.loop-ahead-test.true c.self.invariant.size_is c.index.ensures c.if-index.true)
+
+pub returns : goal.returns
+returns c = let i = c.self.inside in ap (λ (s : DriverSide). outstanding s) (sym c.self.view_is) ∙ none-ahead (driver_of tx i.seat) i.at i.seen i.done i.unseen i.whole i.asks.items c.self.invariant c.args.self.now c.self.view_is c.loop-ahead.ahead c.loop-ahead.invariant c.loop-ahead-test.false

@@ -1,0 +1,71 @@
+-- What is of the transmit direction.
+use Rattle.std.specs.Prelude.{◌≡◌, ℕ, ◌+◌, ◌%◌, ◌<◌, ◌≤◌, true, false, List, length, Some, slice_get}
+use mathlib.Core.Option.{some}
+use lib.ListN.{get_elem?}
+use Rattle.buffer_pool.specs.Buffer.{Buffer, buffer}
+use Rattle.ring_model.specs.shared.Frames.{Bytes, unfinished}
+use Rattle.ring_model.specs.shared.Queue.{posted_count, served_count, returned_count}
+use Rattle.ring_model.specs.transmit.Agreement.{tx_word}
+use Rattle.ring_model.specs.transmit.Frames.{MayFollow}
+use Rattle.ring_model.specs.transmit.Lawful.{IsLawfulTx}
+use Rattle.ring_model.specs.transmit.Ring.{TxRing, are_whole, carried}
+use Rattle.ring_model.specs.transmit.Steps.{IsTxReachable, by_head}
+use Rattle.shared_ring.specs.Forms.{Form}
+use Rattle.shared_ring.specs.Lies.{driven, IsControlled}
+use Rattle.tx_ring.specs.declared.events.TxDriverOwn.{TxDriverOwn}
+use Rattle.tx_ring.specs.declared.events.TxControllerOwn.{TxControllerOwn}
+use Rattle.tx_ring.specs.Records.{Posting, TxControlled, DriverStep, ControllerStep, driving, controlling, Knowing, unknown, saw_head, know_own, knowing, posting_of, drive_own, control_own, eop_of, rs_of, paylen_of}
+use Rattle.tx_ring.specs.Rule.{Learnt, LiesAs, filled, says, lies_there, word_of}
+
+-- both records are those of one lawful ring that a schedule makes, of which the driver has learnt what it says
+pub record AreOf (n : ℕ) (ds : List DriverStep) (cs : List ControllerStep) : Type 0 where
+  pub queue : TxRing Bytes
+  pub reachable : IsTxReachable Bytes n queue
+  pub driver : driving ds ≡ driven queue.queue
+  pub controller : IsControlled {Given = ℕ} (says queue) lies_there queue.queue queue.owed (controlling n cs)
+  pub learnt : Learnt n queue (knowing ds)
+  pub lawful : IsLawfulTx Bytes queue
+  pub size_is : queue.size ≡ n
+
+-- what lies in the slots as the table is closed: the buffer of each item that is out and not held
+pub record LeftIn (n : ℕ) (ds : List DriverStep) (cs : List ControllerStep) (slots : List Buffer) : Type 0 where
+  pub of_one_ring : AreOf n ds cs
+  pub buffers : (k : ℕ) (b : Buffer) → returned_count of_one_ring.queue.queue ≤ k → k < posted_count of_one_ring.queue.queue → (of_one_ring.queue.held ≡ true → ¬ (k ≡ served_count of_one_ring.queue.queue))
+      → lies_there (slice_get of_one_ring.queue.ledger.posted k) (slice_get of_one_ring.queue.ledger.served k) ≡ Some b → get_elem? slots (k % n) ≡ some b
+
+-- a posting with its word and its buffer, which may follow what is posted
+pub record IsPosting (n : ℕ) (xs : List Posting) (word : ℕ) (b : Buffer) : Type 0 where
+  pub item : Posting
+  pub word_is : word ≡ word_of item
+  pub buffer_is : b ≡ filled item
+  pub follows : MayFollow n (unfinished carried xs) item
+
+-- the word tells the buffer's length, what is posted may follow the frame so far, and where it does not end its frame, the controller knows of more
+pub record IsFetchedAs (n : ℕ) (c : TxControlled) (word : ℕ) (b : Buffer) : Type 0 where
+  pub says : word ≡ tx_word (length b.bytes) (eop_of word) (rs_of word) (paylen_of word)
+  pub real : b ≡ buffer b.number b.bytes
+  pub follows : MayFollow n (unfinished carried c.served) (posting_of word b)
+  pub ready : eop_of word ≡ false → length c.served + 1 < c.known
+
+-- whole frames are published, and a disabling is answered after a whole frame with no report owed
+abbrev pub tx : Form (TxRing Bytes) Posting Posting ℕ TxDriverOwn TxControllerOwn
+tx = record {
+  posting = posting_of;
+  drive_own = drive_own;
+  control_own = control_own;
+  Known = Knowing;
+  unknown = unknown;
+  saw_head = saw_head;
+  know_own = know_own;
+  carries = carried;
+  Reports = λ mode. Unit {0};
+  MayPost = IsPosting;
+  MayPublish = λ xs. are_whole xs ≡ true;
+  MayClearTail = λ mode. by_head mode ≡ true;
+  MayDisable = λ c. (are_whole c.served ≡ true) × (c.barred ≡ false);
+  IsFetched = IsFetchedAs;
+  IsOf = λ p b. b ≡ filled p;
+  Lies = LiesAs;
+  AreOf = AreOf;
+  LeftIn = LeftIn;
+}

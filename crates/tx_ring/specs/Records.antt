@@ -1,0 +1,121 @@
+-- What the records of a transmit ring's two ends amount to.
+use Rattle.std.specs.Prelude.{ℕ, ◌+◌, ◌-◌, ◌/◌, ◌%◌, ◌^◌, Bool, false, List, [], ◌∷◌, ◌++◌, length, Option, Some, None, ◌==◌}
+use Rattle.buffer_pool.specs.Buffer.{Buffer}
+use Rattle.ring_model.specs.declared.states.DriverState.TheVariants.{New}
+use Rattle.ring_model.specs.shared.Frames.{Bytes}
+use Rattle.ring_model.specs.transmit.Ring as ring
+use Rattle.ring_model.specs.transmit.Steps.{first_report}
+use Rattle.ring_model.specs.transmit.Ring.{new_posting}
+use Rattle.shared_ring.specs.declared.events.DriverEvent.{DriverEvent}
+use Rattle.shared_ring.specs.declared.events.ControllerEvent.{ControllerEvent}
+use Rattle.shared_ring.specs.declared.events.ControllerEvent.TheVariants as controller
+use Rattle.shared_ring.specs.Records as shared
+use Rattle.shared_ring.specs.Records.{Driven, Controlled, undriven, uncontrolled}
+use Rattle.tx_ring.specs.declared.events.TxDriverOwn.{TxDriverOwn}
+use Rattle.tx_ring.specs.declared.events.TxDriverOwn.TheVariants.{NoReport, SawReport, Cleaned, EndedEpoch, ClearedReport}
+use Rattle.tx_ring.specs.declared.events.TxControllerOwn.{TxControllerOwn}
+use Rattle.tx_ring.specs.declared.events.TxControllerOwn.TheVariants.{Sent, Reported}
+
+abbrev pub DriverStep : Type 0
+DriverStep = DriverEvent TxDriverOwn
+
+abbrev pub ControllerStep : Type 0
+ControllerStep = ControllerEvent TxControllerOwn
+
+abbrev pub Posting : Type 0
+Posting = ring.Posting Bytes
+
+abbrev pub TxDriven : Type 0
+TxDriven = Driven Posting ℕ
+
+abbrev pub TxControlled : Type 0
+TxControlled = Controlled Posting
+
+-- EOP, RS and PAYLEN of a transmit descriptor (82599 datasheet, 7.2.3.2.4)
+abbrev pub eop_of : ℕ → Bool
+eop_of word = (word / 2 ^ 24) % 2 == 1
+
+abbrev pub rs_of : ℕ → Bool
+rs_of word = (word / 2 ^ 27) % 2 == 1
+
+abbrev pub paylen_of : ℕ → ℕ
+paylen_of word = word / 2 ^ 46
+
+-- what a driver posts with a word and a buffer
+abbrev pub posting_of : ℕ → Buffer → Posting
+posting_of word b = new_posting b.number b.bytes (eop_of word) (rs_of word) (paylen_of word)
+
+-- the clearing of the last word ends the epoch: a new one begins, and is empty
+abbrev pub drive_own : TxDriven → TxDriverOwn → TxDriven
+drive_own d (NoReport place word) = d
+drive_own d (SawReport place word) = d
+drive_own d (Cleaned place b) = record d { given = d.given ++ b.number ∷ [] }
+drive_own d EndedEpoch = record d { posted = []; published = 0; given = []; reclaimed = 0; state = New }
+drive_own d ClearedReport = record d { posted = []; given = []; reclaimed = 0; state = New }
+
+abbrev pub drive : TxDriven → DriverStep → TxDriven
+drive = shared.drive posting_of drive_own
+
+abbrev pub driving : List DriverStep → TxDriven
+driving es = shared.driving_from posting_of drive_own undriven es
+
+-- while a report is owed, nothing more is fetched
+abbrev pub control_own : TxControlled → TxControllerOwn → TxControlled
+control_own c (Sent head word b) = record c { served = c.served ++ posting_of word b ∷ []; held = None; head = head; barred = rs_of word }
+control_own c (Reported place word) = record c { barred = false }
+
+abbrev pub control : ℕ → TxControlled → ControllerStep → TxControlled
+control n = shared.control n control_own
+
+abbrev pub controlling : ℕ → List ControllerStep → TxControlled
+controlling n es = shared.controlling_from n control_own uncontrolled es
+
+-- the descriptor's word that the controller fetched last
+abbrev pub fetch_word : ℕ → ControllerStep → ℕ
+fetch_word w (controller.Looked tail) = w
+fetch_word w (controller.Fetched place word b) = word
+fetch_word w (controller.StoredHead place) = w
+fetch_word w (controller.LoadedRequest word) = w
+fetch_word w controller.Enabled = w
+fetch_word w controller.Disabled = w
+fetch_word w (controller.Own o) = w
+
+abbrev pub fetched_from : ℕ → List ControllerStep → ℕ
+fetched_from w [] = w
+fetched_from w (e ∷ es) = fetched_from (fetch_word w e) es
+
+abbrev pub fetched_word : List ControllerStep → ℕ
+fetched_word es = fetched_from 0 es
+
+-- What the driver has learnt of the controller in this epoch: the head that it loaded, and how many items it has seen reported
+pub record Knowing : Type 0 where
+  pub head : Option ℕ
+  pub seen : ℕ
+
+abbrev pub unknown : Knowing
+unknown = record { head = None; seen = 0 }
+
+-- the oldest report that was asked for and not seen
+abbrev pub outstanding : TxDriven → ℕ → Option ℕ
+outstanding d seen = first_report d.posted seen (length d.posted - seen)
+
+-- a report covers all items up to its own
+abbrev pub seen_after : Knowing → Option ℕ → Knowing
+seen_after k None = k
+seen_after k (Some j) = record k { seen = j + 1 }
+
+abbrev pub know_own : TxDriven → Knowing → TxDriverOwn → Knowing
+know_own d k (NoReport place word) = k
+know_own d k (SawReport place word) = seen_after k (outstanding d k.seen)
+know_own d k (Cleaned place b) = k
+know_own d k EndedEpoch = unknown
+know_own d k ClearedReport = unknown
+
+abbrev pub saw_head : Knowing → ℕ → Knowing
+saw_head k word = record k { head = Some word }
+
+abbrev pub know : TxDriven → Knowing → DriverStep → Knowing
+know = shared.know posting_of drive_own saw_head know_own
+
+abbrev pub knowing : List DriverStep → Knowing
+knowing es = shared.knowing_from posting_of drive_own saw_head know_own undriven unknown es

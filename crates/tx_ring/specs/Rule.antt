@@ -1,0 +1,60 @@
+-- The rule of a transmit ring's table: between any two steps words, slots and both records agree with one ring that a schedule makes. It is one rule for both ways to report.
+use Rattle.std.specs.Prelude.{◌≡◌, ℕ, ◌+◌, ◌%◌, Bool, true, List, length, Option, Some, take, slice_get, slice_index}
+use mathlib.Core.Option as maybe
+use Rattle.buffer_pool.specs.Buffer.{Buffer, buffer}
+use Rattle.ring_model.specs.declared.states.Completion.{Completion}
+use Rattle.ring_model.specs.shared.Frames.{Bytes}
+use Rattle.ring_model.specs.shared.Handshakes.{is_answered, is_serving}
+use Rattle.ring_model.specs.shared.Queue.{served_count}
+use Rattle.ring_model.specs.transmit.Agreement.{is_told, tx_lies, tx_says, tx_word}
+use Rattle.ring_model.specs.transmit.Frames.{AllMayFollow}
+use Rattle.ring_model.specs.transmit.Ring.{TxRing, are_whole}
+use Rattle.ring_model.specs.transmit.Steps.{IsTxReachable, by_head}
+use Rattle.shared_ring.specs.Lies.{driven, IsControlled, LiesIn}
+use Rattle.shared_ring.specs.Tables.{words_of}
+use Rattle.tx_ring.specs.Records.{Posting, DriverStep, ControllerStep, driving, controlling, fetched_word, Knowing, knowing}
+
+-- a buffer with what is posted
+abbrev pub filled : Posting → Buffer
+filled p = buffer p.number p.payload
+
+-- the second word of a posting's descriptor
+abbrev pub word_of : Posting → ℕ
+word_of p = tx_word (length p.payload) p.eop p.rs p.paylen
+
+-- the word of an item, and the buffer in its slot
+abbrev pub says : TxRing Bytes → ℕ → Option Posting → Option Posting → ℕ
+says q = tx_says {Payload = Bytes} length filled (is_told q)
+
+abbrev pub lies_there : Option Posting → Option Posting → Option Buffer
+lies_there = tx_lies {Payload = Bytes} length filled
+
+-- the head word has the place up to which all is reported
+abbrev pub TellsReports : ℕ → Completion → ℕ → List ℕ → Type 0
+TellsReports n mode reported words = by_head mode ≡ true → slice_index words (n + 4) ≡ reported % n
+
+-- while a buffer is held, the word that was fetched is its posting's
+abbrev pub IsFetched : ℕ → Bool → List Posting → List Posting → Type 0
+IsFetched word held posted served = (p : Posting) → held ≡ true → slice_get posted (length served) ≡ Some p → word ≡ word_of p
+
+-- what the controller knows to be ready ends with a whole frame
+abbrev pub IsReady : Bool → ℕ → List Posting → Type 0
+IsReady serving known posted = serving ≡ true → are_whole (take known posted) ≡ true
+
+-- What the driver has learnt is so: the head that it loaded is the place after the last that was sent, and so many are seen reported
+pub record Learnt (n : ℕ) (q : TxRing Bytes) (k : Knowing) : Type 0 where
+  pub head : (place : ℕ) → k.head ≡ Some place → (is_answered q.handshake.driver ≡ true) × (place ≡ served_count q.queue % n)
+  pub seen : k.seen ≡ q.seen_reported
+
+-- the records are those of the ring q, and words and slots lie as q has them
+pub record LiesAs (n : ℕ) (mode : Completion) (q : TxRing Bytes) (ds : List DriverStep) (cs : List ControllerStep) (words : List ℕ) (homes : List (maybe.Option Buffer)) : Type 0 where
+  pub reachable : IsTxReachable Bytes n q
+  pub completion : q.completion ≡ mode
+  pub driver : driving ds ≡ driven q.queue
+  pub controller : IsControlled {Given = ℕ} (says q) lies_there q.queue q.owed (controlling n cs)
+  pub lies : LiesIn {Given = ℕ} (says q) lies_there n (words_of n mode) q.queue 0 words homes
+  pub reports : TellsReports n mode q.reported words
+  pub fetched : IsFetched (fetched_word cs) q.held q.ledger.posted q.ledger.served
+  pub ready : IsReady (is_serving q.handshake.controller) q.known q.ledger.posted
+  pub follow : AllMayFollow n q.ledger.posted
+  pub learnt : Learnt n q (knowing ds)

@@ -1,0 +1,31 @@
+-- What the steps answer whose result depends on what was loaded.
+use Rattle.std.specs.Prelude.{◌≡◌, ℕ, ◌%◌, Bool, true, false, length, Some, slice_get}
+use Rattle.buffer_pool.specs.Buffer.{Buffer}
+use Rattle.shared_ring.specs.declared.events.DriverEvent.TheVariants as driver
+use Rattle.tx_ring.specs.declared.events.TxDriverOwn.TheVariants.{NoReport, SawReport, Cleaned}
+use Rattle.tx_ring.specs.Records.{Posting}
+use Rattle.tx_ring.specs.Rule.{filled}
+use Rattle.tx_ring.specs.Plays.{report_word, shows_report}
+use Rattle.tx_ring.specs.Ends.{DriverSide, driver_size, posted, cleaned, outstanding, appended}
+
+-- the oldest report that was asked for and not seen is at this place
+pub record OldestAt (old : DriverSide) (place : ℕ) : Type 0 where
+  pub item : ℕ
+  pub oldest : outstanding old ≡ Some item
+  pub at : place ≡ item % driver_size old
+
+-- B7: a word was loaded where the oldest report is made, and the answer is whether the word reports it
+pub record Looked (old : DriverSide) (new : DriverSide) (result : Bool) : Type 0 where
+  pub item : ℕ
+  pub oldest : outstanding old ≡ Some item
+  pub word : ℕ
+  pub shows : shows_report (driver_size old) old.events (report_word (driver_size old) old.completion item) word ≡ result
+  pub nothing : result ≡ false → new ≡ appended old (driver.Own (NoReport (report_word (driver_size old) old.completion item) word))
+  pub report : result ≡ true → new ≡ appended old (driver.Own (SawReport (report_word (driver_size old) old.completion item) word))
+
+-- B8: the buffer is that of the oldest item that is not cleaned, as it was posted
+pub record CameClean (old : DriverSide) (place : ℕ) (buf : Buffer) (new : DriverSide) : Type 0 where
+  pub item : Posting
+  pub step : new ≡ appended old (driver.Own (Cleaned place buf))
+  pub there : slice_get (posted old) (length (cleaned old)) ≡ Some item
+  pub is : buf ≡ filled item

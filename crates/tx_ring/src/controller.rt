@@ -1,0 +1,173 @@
+//! The controller's end: it answers enabling and disabling, loads the tail, fetches posted descriptors with their
+//! buffers, gives the buffers back once they are sent, and reports.
+ghost use Rattle.std.specs.Prelude.{◌≡◌, ◌+◌, ◌%◌, ◌<◌, ◌≤◌, ◌↔◌, true, false, [], ◌∷◌, ◌++◌, length, Some, None, IsTrue};
+ghost use Rattle.limits.specs.RingLength.{IsRingLength};
+ghost use Rattle.ring_model.specs.shared.Handshakes.{is_serving};
+ghost use Rattle.ring_model.specs.shared.Frames.{unfinished};
+ghost use Rattle.ring_model.specs.transmit.Ring.{carried};
+ghost use Rattle.shared_ring.specs.Words.{control_word};
+ghost use Rattle.shared_ring.specs.declared.events.ControllerEvent.TheVariants.{LoadedRequest, Own};
+ghost use Rattle.tx_ring.specs.declared.events.TxControllerOwn.TheVariants.{Sent};
+ghost use Rattle.tx_ring.specs.Records.{posting_of, rs_of};
+ghost use Rattle.shared_ring.specs.Ends.{controller_of, controller_side};
+ghost use Rattle.tx_ring.specs.Form.{tx};
+ghost use Rattle.tx_ring.specs.Ends.{controller_size, controller_record, sent, known_ready, held, held_word, controller_state, is_owed, is_between, serve_place, answered};
+ghost use Rattle.tx_ring.specs.Calls.{IsFreshController, FoundReady, Fetched, MayAnswer, IsSettled, Answered, report_of};
+
+use crate::direction::{TxControllerSeat, TxRule};
+use crate::events::{TxControllerOwn, TxDriverOwn};
+use crate::reading::{eop_bit, paylen, rs_bit};
+use crate::ring::TxRing;
+use crate::steps;
+use buffer_pool::Buf;
+use descriptor::TxRead;
+use ring_model::place_after;
+use shared_ring::{ControllerEnd, ControllerLoad, ControllerPlaces};
+use std::marker::Model;
+
+/// The controller's end of a transmit ring. Contracts see the ring's identity and the record of the end's own steps.
+///
+/// Whether a call's condition holds is told by `is_serving`, `is_holding`, `is_between_frames`, `owes_report`,
+/// `can_answer` and `ready`.
+#[derive(Drop)]
+pub struct TxControllerEnd {
+    pub(crate) seat: TxControllerSeat,
+    pub(crate) at: ControllerPlaces,
+    last: u16,
+    ends: bool,
+    asks: bool,
+    owed: bool,
+}
+
+impl Model for TxControllerEnd {
+    ghost use Rattle.shared_ring.specs.Ends.{controller_of};
+    ghost use Rattle.tx_ring.specs.Ends.{ControllerSide};
+    ghost use Rattle.tx_ring.specs.Form.{tx};
+    ghost use Rattle.tx_ring.specs.Calls.{IsControllerEnd};
+
+    ghost Value = { ControllerSide };
+
+    ghost view = { λ e. controller_of tx e.seat };
+
+    ghost invariant = { λ e. IsControllerEnd (controller_of tx e.seat) e.at e.last e.ends e.asks e.owed };
+}
+
+impl TxControllerEnd {
+    pub(crate) fn new(seat: TxControllerSeat) -> TxControllerEnd
+        requires { IsFreshController (controller_of tx seat) }
+        ensures { result ≡ controller_of tx seat }
+    {
+        let at = ControllerPlaces::new(seat.size());
+        TxControllerEnd {
+            seat,
+            at,
+            last: 0,
+            ends: false,
+            asks: false,
+            owed: false,
+        }
+    }
+
+    /// Loads the next descriptor and takes its buffer: what the descriptor says, and the bytes that were posted. Once a
+    /// frame is begun, all of it is known to be ready.
+    #[inline]
+    pub fn fetch(&mut self, ring: &TxRing) -> (Buf, TxRead)
+        requires own { self.old.table ≡ ring.now }
+        requires serving { is_serving (controller_state self.old) ≡ true }
+        requires ready { 0 < known_ready self.old }
+        requires held { held self.old ≡ None }
+        requires paid { is_owed self.old ≡ false }
+        ensures { Fetched self.old result.0 result.1 self.new }
+    {
+        let (buf, word) = self.seat.fetch(&ring.0, self.at.serve);
+        self.at.holding = true;
+        self.ends = eop_bit(word);
+        self.asks = rs_bit(word);
+        let read = TxRead::new(
+            buf.number(),
+            buf.len() as u16,
+            self.ends,
+            self.asks,
+            paylen(word),
+        );
+        (buf, read)
+    }
+
+    /// How many descriptors the end knows to be ready: from the next one up to the tail that it loaded last.
+    #[inline]
+    pub fn ready(&self) -> u32
+        ensures { result ≡ known_ready self.now }
+    {
+        self.at.ahead as u32
+    }
+
+    /// Gives the buffer that was fetched back into its slot, as sent, and stores the head (TDH): the place after it.
+    /// Where its descriptor asked for a report (RS), one is owed.
+    #[inline]
+    pub fn give_back(&mut self, ring: &TxRing, buf: Buf)
+        requires own { self.old.table ≡ ring.now }
+        requires held { held self.old ≡ Some buf }
+        ensures step { self.new ≡ answered self.old (Own (Sent ((length (sent self.old) + 1) % controller_size self.old) (held_word self.old) buf)) }
+        ensures record { controller_record self.new ≡ record (controller_record self.old) { served = sent self.old ++ posting_of (held_word self.old) buf ∷ []; held = None; head = (length (sent self.old) + 1) % controller_size self.old; barred = rs_of (held_word self.old) } }
+    {
+        let head = place_after(self.at.serve, self.at.size);
+        steps::send(&mut self.seat, &ring.0, self.at.serve, head, buf);
+        self.last = self.at.serve;
+        self.at.serve = head;
+        self.at.ahead -= 1;
+        self.at.holding = false;
+        self.at.between = self.ends;
+        self.owed = self.asks;
+    }
+
+    /// Whether the last that was sent asked for a report, and none is made yet.
+    #[inline]
+    pub fn owes_report(&self) -> bool
+        ensures { result ≡ is_owed self.now }
+    {
+        self.owed
+    }
+
+    /// Reports the last that was sent, and so all before it (82599 datasheet, 7.2.3.5).
+    #[inline]
+    pub fn report(&mut self, ring: &TxRing)
+        requires own { self.old.table ≡ ring.now }
+        requires owed { is_owed self.old ≡ true }
+        ensures step { self.new ≡ answered self.old (Own (report_of (controller_size self.old) self.old.completion (length (sent self.old)))) }
+        ensures record { controller_record self.new ≡ record (controller_record self.old) { barred = false } }
+    {
+        if self.seat.completion().is_by_head() {
+            steps::report_head(&mut self.seat, &ring.0, self.at.serve);
+            self.owed = false;
+        } else {
+            steps::report_status(&mut self.seat, &ring.0, self.last);
+            self.owed = false;
+        }
+    }
+}
+
+impl ControllerEnd<TxDriverOwn, TxControllerOwn, TxRule> for TxControllerEnd {
+    type Ring = TxRing;
+
+    ghost side = { controller_side tx };
+
+    fn at(&self) -> ControllerPlaces {
+        self.at
+    }
+
+    #[inline]
+    fn is_settled(&self) -> bool {
+        self.at.state.is_serving() && !self.at.holding && self.at.between && !self.owed
+    }
+
+    #[inline]
+    fn load(&mut self, ring: &TxRing, which: ControllerLoad) -> u16 {
+        self.seat.load(&ring.0, which, &mut self.at)
+    }
+
+    #[inline]
+    fn answer(&mut self, ring: &TxRing) {
+        self.seat.answer(&ring.0, &mut self.at);
+        self.owed = false;
+    }
+}

@@ -1,0 +1,77 @@
+//! The controller's own steps.
+ghost use Rattle.std.specs.Prelude.{◌≡◌, ◌+◌, ◌-◌, ◌%◌, true, false, length, Some};
+ghost use Rattle.ring_model.specs.shared.Handshakes.{is_serving};
+ghost use Rattle.ring_model.specs.transmit.Agreement.{done_word};
+ghost use Rattle.ring_model.specs.transmit.Steps.{by_head};
+ghost use Rattle.shared_ring.specs.declared.events.ControllerEvent.TheVariants.{Own};
+ghost use Rattle.shared_ring.specs.Ends.{controller_of};
+ghost use Rattle.tx_ring.specs.declared.events.TxControllerOwn.TheVariants.{Sent, Reported};
+ghost use Rattle.tx_ring.specs.Ends.{controller_size, sent, held, held_word, controller_state, is_owed, serve_place, answered};
+ghost use Rattle.tx_ring.specs.Form.{tx};
+
+use crate::direction::{TxControllerSeat, TxShared};
+use crate::events::TxControllerEvent;
+use buffer_pool::Buf;
+use descriptor::TxBack;
+use shared_ring::OwnStep;
+
+/// B5.
+struct SendStore;
+
+impl OwnStep<TxControllerEvent> for SendStore {
+    ghost use Rattle.tx_ring.specs.Plays.{sends};
+
+    ghost event = { sends };
+}
+
+/// B5: the buffer goes back into its slot, and the head is stored.
+#[inline]
+pub(crate) fn send(seat: &mut TxControllerSeat, ring: &TxShared, place: u16, head: u16, buf: Buf)
+    requires own { seat.old.table ≡ ring.now }
+    requires place { place ≡ serve_place (controller_of tx seat.old) }
+    requires head { head ≡ (length (sent (controller_of tx seat.old)) + 1) % controller_size (controller_of tx seat.old) }
+    requires serving { is_serving (controller_state (controller_of tx seat.old)) ≡ true }
+    requires held { held (controller_of tx seat.old) ≡ Some buf }
+    ensures { controller_of tx seat.new ≡ answered (controller_of tx seat.old) (Own (Sent head (held_word (controller_of tx seat.old)) buf)) }
+{
+    let word = seat.size() as usize;
+    seat.give_own::<SendStore>(ring, place, buf, word, head as u64);
+}
+
+/// B6.
+struct ReportStore;
+
+impl OwnStep<TxControllerEvent> for ReportStore {
+    ghost use Rattle.tx_ring.specs.Plays.{reports};
+
+    ghost event = { reports };
+}
+
+/// B6, by the descriptor at this place.
+#[inline]
+pub(crate) fn report_status(seat: &mut TxControllerSeat, ring: &TxShared, place: u16)
+    requires own { seat.old.table ≡ ring.now }
+    requires alone { by_head seat.old.completion ≡ false }
+    requires place { place ≡ (length (sent (controller_of tx seat.old)) - 1) % controller_size (controller_of tx seat.old) }
+    requires serving { is_serving (controller_state (controller_of tx seat.old)) ≡ true }
+    requires owed { is_owed (controller_of tx seat.old) ≡ true }
+    ensures { controller_of tx seat.new ≡ answered (controller_of tx seat.old) (Own (Reported place done_word)) }
+{
+    let _size = seat.size();
+    let word = TxBack.second_word();
+    seat.store_own::<ReportStore>(ring, place as usize, word);
+}
+
+/// B6, by the head word.
+#[inline]
+pub(crate) fn report_head(seat: &mut TxControllerSeat, ring: &TxShared, head: u16)
+    requires own { seat.old.table ≡ ring.now }
+    requires more { by_head seat.old.completion ≡ true }
+    requires head { head ≡ serve_place (controller_of tx seat.old) }
+    requires serving { is_serving (controller_state (controller_of tx seat.old)) ≡ true }
+    requires owed { is_owed (controller_of tx seat.old) ≡ true }
+    ensures { controller_of tx seat.new ≡ answered (controller_of tx seat.old) (Own (Reported (controller_size (controller_of tx seat.old) + 4) head)) }
+{
+    let word = seat.size() as usize + 4;
+    seat.store_own::<ReportStore>(ring, word, head as u64);
+}

@@ -1,0 +1,5 @@
+//! Both ends of a ring in one thread: every step by a call.
+
+mod both;
+mod rows;
+mod schedules;
