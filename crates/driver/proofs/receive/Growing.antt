@@ -1,0 +1,214 @@
+-- How the lists grow: not at all, one after another, by a posting, by a segment.
+use Rattle.std.proofs.Common.{◌≡◌, ◌∙◌, ℕ, ◌||◌, Bool, true, false, List, [], ◌∷◌, ◌++◌, map, sym, refl, ap, subst, append_assoc, append-nil}
+use Rattle.std.specs.Prelude.{All}
+use Rattle.std.proofs.lemmas.List.{map-append}
+use Rattle.std.proofs.lemmas.List.Elements.{All-nil, All-push, All-append}
+use Rattle.buffer_pool.specs.Buffer.{Buffer}
+use Rattle.buffer_pool.specs.Packed.{bytes_of}
+use Rattle.ring_model.specs.shared.Segments.{Segment, piece_of}
+use Rattle.ring_model.specs.shared.Frames.{Bytes, frames}
+use Rattle.ring_model.specs.shared.Handshakes.{is_open}
+use Rattle.shared_ring.specs.declared.events.DriverEvent.TheVariants as driver
+use Rattle.rx_ring.specs.declared.events.RxDriverOwn.TheVariants.{NotDone, Taken}
+use Rattle.rx_ring.specs.Records.{RxDriven, Knowing}
+use Rattle.rx_ring.specs.Ends.{DriverSide, driver_size, driver_record, driver_state, posted, taken, known_of, next_place, appended}
+use Rattle.rx_ring.specs.Calls.{segment, TookSegment, SawNotDone}
+use Rattle.shared_ring.proofs.Posting.{known-after}
+use Rattle.driver.specs.Steps.{is_post}
+use Rattle.driver.specs.receive.Chains.{going_on, segments_of, segments_in, IsTaken, HasSegment, IsRest}
+use Rattle.driver.specs.receive.Batches.{Hands, at, GrewBy, Filled}
+use Rattle.driver.proofs.Running.{runs-none, runs-one, runs-trans, runs-own}
+use Rattle.driver.proofs.receive.Chaining.{going_on-push, segments_of-push, segments_in-append, rest-more, rest-ended, frames-more, frames-ended, packet-ended}
+
+-- two growths of a list, one behind the other
+then_grew : {X : Type 0} (a b c xs ys : List X) → b ≡ a ++ xs → c ≡ b ++ ys → c ≡ a ++ (xs ++ ys)
+then_grew a b c xs ys f g = g ∙ (ap (λ l. l ++ ys) f ∙ append_assoc a xs ys)
+
+pub grew-none : (h : Hands) → GrewBy h h
+grew-none h = record {
+  own = refl;
+  segments = [];
+  numbers = [];
+  packets = [];
+  took = sym (append-nil (taken h.end));
+  posts = sym (append-nil (posted h.end));
+  appended = sym (append-nil h.list);
+  stash = refl;
+  chained = append-nil (going_on h.chain);
+  framed = sym (append-nil (frames piece_of (taken h.end)));
+  lawful = All-nil (IsTaken (driver_size h.end));
+  shut = λ e. refl;
+  none_back = refl;
+  state = refl;
+  head = refl;
+  quiet = refl;
+  drained = λ e. e;
+}
+
+pub grew-trans : (a b c : Hands) → GrewBy a b → GrewBy b c → GrewBy a c
+grew-trans a b c f g = record {
+  own = g.own ∙ f.own;
+  segments = f.segments ++ g.segments;
+  numbers = f.numbers ++ g.numbers;
+  packets = f.packets ++ g.packets;
+  took = then_grew (taken a.end) (taken b.end) (taken c.end) f.segments g.segments f.took g.took;
+  posts = then_grew (posted a.end) (posted b.end) (posted c.end) f.numbers g.numbers f.posts g.posts;
+  appended = then_grew a.list b.list c.list f.packets g.packets f.appended g.appended;
+  stash = f.stash ∙ (ap (λ (l : List ℕ). f.numbers ++ l) g.stash ∙ sym (append_assoc f.numbers g.numbers c.stash));
+  chained = sym (append_assoc (going_on a.chain) f.segments g.segments)
+      ∙ (ap (λ (l : List (Segment Bytes)). l ++ g.segments) f.chained
+      ∙ (append_assoc (segments_in f.packets) (going_on b.chain) g.segments
+      ∙ (ap (λ (l : List (Segment Bytes)). segments_in f.packets ++ l) g.chained
+      ∙ (sym (append_assoc (segments_in f.packets) (segments_in g.packets) (going_on c.chain))
+      ∙ ap (λ (l : List (Segment Bytes)). l ++ going_on c.chain) (sym (segments_in-append f.packets g.packets))))));
+  framed = then_grew (frames piece_of (taken a.end)) (frames piece_of (taken b.end)) (frames piece_of (taken c.end)) (map bytes_of f.packets) (map bytes_of g.packets) f.framed g.framed
+      ∙ ap (λ (l : List Bytes). frames piece_of (taken a.end) ++ l) (sym (map-append bytes_of f.packets g.packets));
+  lawful = All-append (IsTaken (driver_size a.end)) f.packets g.packets f.lawful (subst (λ (n : ℕ). All (IsTaken n) g.packets) (ap (λ t. t.slots) f.own) g.lawful);
+  shut = λ e. ap (λ (l : List ℕ). l ++ g.numbers) (f.shut e) ∙ g.shut (ap is_open f.state ∙ e);
+  none_back = g.none_back ∙ f.none_back;
+  state = g.state ∙ f.state;
+  head = g.head ∙ f.head;
+  quiet = g.quiet ∙ f.quiet;
+  drained = λ e. g.drained (f.drained e);
+}
+
+-- Posting
+
+pub filled-none : (d : DriverSide) (stash : List ℕ) → Filled d stash d stash
+filled-none d stash = record {
+  numbers = [];
+  runs = runs-none is_post d;
+  did = ap (λ (l : List ℕ). let x : RxDriven = record (driver_record d) { posted = l } in x) (sym (append-nil (posted d)));
+  known = refl;
+  stash = refl;
+  shut = λ e. refl;
+}
+
+pub filled-one : (d new : DriverSide) (had has : List ℕ) (place word number : ℕ) (buf : Buffer) → is_open (driver_state d) ≡ true → new ≡ appended d (driver.Posted place word buf)
+    → driver_record new ≡ record (driver_record d) { posted = posted d ++ number ∷ [] } → known_of new ≡ known_of d → had ≡ number ∷ has → Filled d had new has
+filled-one d new had has place word number buf opened step did known stash = record {
+  numbers = number ∷ [];
+  runs = runs-one is_post d new (driver.Posted place word buf) step refl;
+  did = did;
+  known = known;
+  stash = stash;
+  shut = λ e. absurd (cc);
+}
+
+pub filled-trans : (a b c : DriverSide) (had has left : List ℕ) → Filled a had b has → Filled b has c left → Filled a had c left
+filled-trans a b c had has left f g = record {
+  numbers = f.numbers ++ g.numbers;
+  runs = runs-trans is_post a b c f.runs g.runs;
+  did = g.did ∙ (ap (λ (y : RxDriven). let x : RxDriven = record y { posted = y.posted ++ g.numbers } in x) f.did
+      ∙ ap (λ (l : List ℕ). let x : RxDriven = record (driver_record a) { posted = l } in x) (append_assoc (posted a) f.numbers g.numbers));
+  known = g.known ∙ f.known;
+  stash = f.stash ∙ (ap (λ (l : List ℕ). f.numbers ++ l) g.stash ∙ sym (append_assoc f.numbers g.numbers left));
+  shut = λ e. ap (λ (l : List ℕ). l ++ g.numbers) (f.shut e) ∙ g.shut (ap (λ (x : RxDriven). is_open x.state) f.did ∙ e);
+}
+
+-- with a chain and a list beside it
+pub grew-filled : (d new : DriverSide) (had has : List ℕ) (chain : List Buffer) (list : List (List Buffer)) → Filled d had new has → GrewBy (at d chain had list) (at new chain has list)
+grew-filled d new had has chain list f = record {
+  own = runs-own is_post d new f.runs;
+  segments = [];
+  numbers = f.numbers;
+  packets = [];
+  took = ap (λ (x : RxDriven). x.given) f.did ∙ sym (append-nil (taken d));
+  posts = ap (λ (x : RxDriven). x.posted) f.did;
+  appended = sym (append-nil list);
+  stash = f.stash;
+  chained = append-nil (going_on chain);
+  framed = ap (λ (x : RxDriven). frames piece_of x.given) f.did ∙ sym (append-nil (frames piece_of (taken d)));
+  lawful = All-nil (IsTaken (driver_size d));
+  shut = f.shut;
+  none_back = ap (λ (x : RxDriven). x.reclaimed) f.did;
+  state = ap (λ (x : RxDriven). x.state) f.did;
+  head = ap (λ (k : Knowing). k.head) f.known;
+  quiet = ap (λ (k : Knowing). k.quiet) f.known;
+  drained = λ e. ap (λ (k : Knowing). k.drained) f.known ∙ e;
+}
+
+-- Polling
+
+or_left : (a b : Bool) → a ≡ true → (a || b) ≡ true
+or_left true b e = refl
+or_left false b e = absurd (cc)
+
+module _ (d new : DriverSide) (buf : Buffer) (stash : List ℕ) (list : List (List Buffer)) (chain : List Buffer) where
+  -- a segment that does not end its frame
+  pub grew-more : TookSegment d buf false new → IsRest d chain → GrewBy (at d chain stash list) (at new (chain ++ buf ∷ []) stash list)
+  grew-more t r = let k = known-after d new (driver.Own (Taken (next_place d) _ buf)) t.step in record {
+    own = ap (λ (s : DriverSide). s.table) t.step;
+    segments = segment buf false ∷ [];
+    numbers = [];
+    packets = [];
+    took = ap (λ (x : RxDriven). x.given) t.grew;
+    posts = ap (λ (x : RxDriven). x.posted) t.grew ∙ sym (append-nil (posted d));
+    appended = sym (append-nil list);
+    stash = refl;
+    chained = sym (going_on-push chain buf);
+    framed = frames-more (driver_size d) (taken d) (taken new) chain buf r.rest (ap (λ (x : RxDriven). x.given) t.grew);
+    lawful = All-nil (IsTaken (driver_size d));
+    shut = λ e. refl;
+    none_back = ap (λ (x : RxDriven). x.reclaimed) t.grew;
+    state = ap (λ (x : RxDriven). x.state) t.grew;
+    head = ap (λ (x : Knowing). x.head) k;
+    quiet = ap (λ (x : Knowing). x.quiet) k;
+    drained = λ e. ap (λ (x : Knowing). x.drained) k ∙ or_left (known_of d).drained _ e;
+  }
+
+  pub rest-grows : TookSegment d buf false new → IsRest d chain → IsRest new (chain ++ buf ∷ [])
+  rest-grows t r = record {
+    rest = rest-more (driver_size d) (taken d) (taken new) chain buf r.rest (ap (λ (x : RxDriven). x.given) t.grew);
+    each = All-push HasSegment chain buf r.each (record { real = t.real; some_bytes = t.follows.some_bytes });
+  }
+
+  -- one that does
+  pub grew-ended : TookSegment d buf true new → IsRest d chain → GrewBy (at d chain stash list) (at new [] stash (list ++ (chain ++ buf ∷ []) ∷ []))
+  grew-ended t r = let k = known-after d new (driver.Own (Taken (next_place d) _ buf)) t.step in record {
+    own = ap (λ (s : DriverSide). s.table) t.step;
+    segments = segment buf true ∷ [];
+    numbers = [];
+    packets = (chain ++ buf ∷ []) ∷ [];
+    took = ap (λ (x : RxDriven). x.given) t.grew;
+    posts = ap (λ (x : RxDriven). x.posted) t.grew ∙ sym (append-nil (posted d));
+    appended = refl;
+    stash = refl;
+    chained = sym (append-nil ((segments_of (chain ++ buf ∷ [])) ++ []) ∙ (append-nil (segments_of (chain ++ buf ∷ [])) ∙ segments_of-push chain buf));
+    framed = frames-ended (driver_size d) (taken d) (taken new) chain buf r.rest (ap (λ (x : RxDriven). x.given) t.grew);
+    lawful = All-push (IsTaken (driver_size d)) [] (chain ++ buf ∷ []) (All-nil (IsTaken (driver_size d))) (packet-ended (driver_size d) (taken d) (taken new) chain buf r.rest true t.follows refl r.each);
+    shut = λ e. refl;
+    none_back = ap (λ (x : RxDriven). x.reclaimed) t.grew;
+    state = ap (λ (x : RxDriven). x.state) t.grew;
+    head = ap (λ (x : Knowing). x.head) k;
+    quiet = ap (λ (x : Knowing). x.quiet) k;
+    drained = λ e. ap (λ (x : Knowing). x.drained) k ∙ or_left (known_of d).drained _ e;
+  }
+
+  pub rest-ends : TookSegment d buf true new → IsRest d chain → IsRest new []
+  rest-ends t r = record {
+    rest = rest-ended (driver_size d) (taken d) (taken new) chain buf r.rest (ap (λ (x : RxDriven). x.given) t.grew);
+    each = All-nil HasSegment;
+  }
+
+  -- no DD
+  pub grew-not_done : SawNotDone d new → GrewBy (at d chain stash list) (at new chain stash list)
+  grew-not_done s = let k = known-after d new (driver.Own (NotDone (next_place d) s.word)) s.step in record {
+    own = ap (λ (x : DriverSide). x.table) s.step;
+    segments = [];
+    numbers = [];
+    packets = [];
+    took = ap (λ (x : RxDriven). x.given) s.same ∙ sym (append-nil (taken d));
+    posts = ap (λ (x : RxDriven). x.posted) s.same ∙ sym (append-nil (posted d));
+    appended = sym (append-nil list);
+    stash = refl;
+    chained = append-nil (going_on chain);
+    framed = ap (λ (x : RxDriven). frames piece_of x.given) s.same ∙ sym (append-nil (frames piece_of (taken d)));
+    lawful = All-nil (IsTaken (driver_size d));
+    shut = λ e. refl;
+    none_back = ap (λ (x : RxDriven). x.reclaimed) s.same;
+    state = ap (λ (x : RxDriven). x.state) s.same;
+    head = ap (λ (x : Knowing). x.head) k;
+    quiet = ap (λ (x : Knowing). x.quiet) k;
+    drained = λ e. ap (λ (x : Knowing). x.drained) k ∙ or_left (known_of d).drained _ e;
+  }

@@ -1,0 +1,32 @@
+-- The batch is a cleaning and a posting.
+use Rattle.std.proofs.Common.{◌≡◌, ◌++◌, map, take, List, subst, ◌∙◌, ap}
+use Rattle.std.proofs.lemmas.List.Elements.{All-take}
+use Rattle.buffer_pool.specs.Packed.{IsPacket, bytes_of}
+use Rattle.ring_model.specs.shared.Frames.{frames}
+use Rattle.ring_model.specs.transmit.Ring.{carried}
+use Rattle.tx_ring.specs.Ends.{posted}
+use Rattle.tx_ring.specs.Records.{Posting}
+use Rattle.driver.specs.transmit.Batches.{Batched}
+use Rattle.driver.specs.transmit.Transmitter.{Transmitter, sending}
+use Rattle.driver.proofs.transmit.Batching.{batched}
+use Rattle.driver.proofs.transmit.Wholes.{frames_posted}
+use Rattle.driver.proofs.tx_driver.TxDriver.tx_batch.Goals as goal
+
+pub returns-clause-done : goal.returns-clause-done
+returns-clause-done c =
+    let i = c.self.inside in
+    let end = c.post_fitting-count.new.driver in
+    let new = sending (record { end = end; every = i.every; frames = c.post_fitting-count.result.1 }) c.clean_all.new.stash c.post_fitting-count.new.packets.items in
+    subst (λ (t : Transmitter). Batched c.post_fitting-count.result.0 (sending t c.args.stash.now c.args.packets.now.items) new) c.self.view_is
+    (batched c.post_fitting-count.result.0 i.every i.frames c.post_fitting-count.result.1 i.end c.clean_all.new.driver end c.args.stash.now c.clean_all.new.stash
+    c.args.packets.now.items c.post_fitting-count.new.packets.items c.clean_all.ensures c.post_fitting-count.ensures.posts c.post_fitting-count.ensures.counted)
+
+pub returns-clause-frames : goal.returns-clause-frames
+returns-clause-frames c =
+    let i = c.self.inside in
+    let count = c.post_fitting-count.result.0 in
+    let end = c.post_fitting-count.new.driver in
+    let batch = batched count i.every i.frames c.post_fitting-count.result.1 i.end c.clean_all.new.driver end c.args.stash.now c.clean_all.new.stash
+    c.args.packets.now.items c.post_fitting-count.new.packets.items c.clean_all.ensures c.post_fitting-count.ensures.posts c.post_fitting-count.ensures.counted in
+    subst (λ (t : Transmitter). frames carried (posted end) ≡ frames carried (posted t.end) ++ map bytes_of (take count c.args.packets.now.items)) c.self.view_is
+    (ap (λ (xs : List Posting). frames carried xs) batch.posts ∙ frames_posted i.every i.frames (posted i.end) (take count c.args.packets.now.items) c.self.invariant.whole (All-take IsPacket count c.args.packets.now.items c.requires.packets))

@@ -1,0 +1,6 @@
+pub mod Refusal
+pub mod Steps
+pub mod Handshake
+pub mod Reclaiming
+pub mod receive
+pub mod transmit

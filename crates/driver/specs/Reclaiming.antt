@@ -1,0 +1,18 @@
+-- The buffers of a disabled queue, of either direction, as they come back.
+use Rattle.std.specs.Prelude.{◌≡◌, ℕ, ◌+◌, List, ◌++◌, length, map, drop, reverse}
+use Rattle.shared_ring.specs.Ends.{DriverSide, driver_record, posted, reclaimed, returned}
+use Rattle.shared_ring.specs.Forms.{Form}
+use Rattle.driver.specs.Steps.{Runs, is_reclaim}
+
+module _ {Ring Posted Served Given D C : Type 0} {form : Form Ring Posted Served Given D C} where
+  -- the numbers of the buffers that are out, the oldest first; a posting's is `number`
+  abbrev pub out_of : (Posted → ℕ) → DriverSide form → List ℕ
+  out_of number d = map number (drop (returned d) (posted d))
+
+  -- the oldest of those that were out were reclaimed one after another, and put into the stash
+  pub record CameBack (number : Posted → ℕ) (old : DriverSide form) (had : List ℕ) (new : DriverSide form) (has : List ℕ) : Type 0 where
+    pub numbers : List ℕ
+    pub runs : Runs is_reclaim old new
+    pub did : driver_record new ≡ record (driver_record old) { reclaimed = reclaimed old + length numbers }
+    pub out : out_of number old ≡ numbers ++ out_of number new
+    pub stash : has ≡ reverse numbers ++ had

@@ -1,0 +1,4 @@
+pub mod Chains
+pub mod Batches
+pub mod Receiver
+pub mod Returns

@@ -1,0 +1,98 @@
+-- What a batch takes and posts.
+use Rattle.std.specs.Prelude.{◌≡◌, ℕ, ◌+◌, ◌<◌, ◌⊎◌, Bool, true, false, All, List, [], ◌++◌, length, map}
+use Rattle.buffer_pool.specs.Buffer.{Buffer}
+use Rattle.buffer_pool.specs.Packed.{bytes_of}
+use Rattle.ring_model.specs.shared.Segments.{Segment, piece_of}
+use Rattle.ring_model.specs.shared.Frames.{Bytes, frames}
+use Rattle.ring_model.specs.shared.Handshakes.{is_open}
+use Rattle.shared_ring.specs.declared.events.DriverEvent.TheVariants as driver
+use Rattle.rx_ring.specs.declared.events.RxDriverOwn.TheVariants.{NotDone, Taken}
+use Rattle.rx_ring.specs.Records.{DriverStep}
+use Rattle.rx_ring.specs.Ends.{DriverSide, driver_size, driver_record, driver_state, posted, published, taken, reclaimed, returned, known_of, saw_quiet, is_drained, fill_place, appended}
+use Rattle.rx_ring.specs.Calls.{SawNotDone, SawEmpty}
+use Rattle.driver.specs.Steps.{Runs, is_post}
+use Rattle.driver.specs.receive.Chains.{going_on, segments_in, IsTaken, IsRest}
+
+-- A driver's end, the chain of a frame that has not ended, the stash at hand, and the list of packets
+pub record Hands : Type 0 where
+  pub end : DriverSide
+  pub chain : List Buffer
+  pub stash : List ℕ
+  pub list : List (List Buffer)
+
+abbrev pub at : DriverSide → List Buffer → List ℕ → List (List Buffer) → Hands
+at end chain stash list = record { end = end; chain = chain; stash = stash; list = list }
+
+-- By how much the lists grew between two states: these segments were taken, which are, behind the chain, those of the appended packets and of the chain now; buffers with these numbers went from the stash to the ring, none where a disabling was asked
+pub record GrewBy (old new : Hands) : Type 0 where
+  pub own : new.end.table ≡ old.end.table
+  pub segments : List (Segment Bytes)
+  pub numbers : List ℕ
+  pub packets : List (List Buffer)
+  pub took : taken new.end ≡ taken old.end ++ segments
+  pub posts : posted new.end ≡ posted old.end ++ numbers
+  pub appended : new.list ≡ old.list ++ packets
+  pub stash : old.stash ≡ numbers ++ new.stash
+  pub chained : going_on old.chain ++ segments ≡ segments_in packets ++ going_on new.chain
+  pub framed : frames piece_of (taken new.end) ≡ frames piece_of (taken old.end) ++ map bytes_of packets
+  pub lawful : All (IsTaken (driver_size old.end)) packets
+  pub shut : is_open (driver_state old.end) ≡ false → numbers ≡ []
+  pub none_back : reclaimed new.end ≡ reclaimed old.end
+  pub state : driver_state new.end ≡ driver_state old.end
+  pub head : (known_of new.end).head ≡ (known_of old.end).head
+  pub quiet : saw_quiet new.end ≡ saw_quiet old.end
+  pub drained : is_drained old.end ≡ true → is_drained new.end ≡ true
+
+-- a step of polling, or the posting of a buffer
+abbrev pub is_exchange : DriverStep → Bool
+is_exchange (driver.Own (NotDone place word)) = true
+is_exchange (driver.Own (Taken place word buf)) = true
+is_exchange e = is_post e
+
+-- after some polls and postings the last poll found nothing: a descriptor without DD was loaded, or all that is posted is taken. Where the queue was seen quiet, nothing is left to take
+pub record SawNothing (old new : DriverSide) : Type 0 where
+  pub before : DriverSide
+  pub polling : Runs is_exchange old before
+  pub last : SawNotDone before new ⊎ SawEmpty before new
+  pub drained : saw_quiet old ≡ true → is_drained new ≡ true
+
+-- why polling stopped after so many packets: there was a batch of them, the list has the most that it may have, or nothing more was there
+abbrev pub Stopped : ℕ → ℕ → ℕ → List (List Buffer) → DriverSide → DriverSide → Type 0
+Stopped batch most count list old new = (count ≡ batch) ⊎ ((length list ≡ most) ⊎ SawNothing old new)
+
+-- the tail was stored if more is posted than before, so that all is published; and else nothing was done
+abbrev pub Published : DriverSide → DriverSide → DriverSide → Type 0
+Published before filled new = ((posted filled ≡ posted before) × (new ≡ filled) × (published new ≡ published before))
+    ⊎ ((length (posted before) < length (posted filled)) × (new ≡ appended filled (driver.Published (fill_place filled))) × (published new ≡ length (posted new)))
+
+-- What polling did: the lists grew so, and the chain is what is left of a frame
+pub record Polled (old : Hands) (count : ℕ) (new : Hands) : Type 0 where
+  pub grew : GrewBy old new
+  pub count_is : length new.list ≡ length old.list + count
+  pub runs : Runs is_exchange old.end new.end
+  pub unpublished : published new.end ≡ published old.end
+  pub rest : IsRest new.end new.chain
+
+-- What posting did: buffers with these numbers went from the stash to the ring, none where a disabling was asked
+pub record Filled (old : DriverSide) (had : List ℕ) (new : DriverSide) (has : List ℕ) : Type 0 where
+  pub numbers : List ℕ
+  pub runs : Runs is_post old new
+  pub did : driver_record new ≡ record (driver_record old) { posted = posted old ++ numbers }
+  pub known : known_of new ≡ known_of old
+  pub stash : had ≡ numbers ++ has
+  pub shut : is_open (driver_state old) ≡ false → numbers ≡ []
+
+-- What a batch of a live queue did: polling went on until it stopped, then buffers were posted, and then the tail was stored if any was
+pub record Batched (batch most count : ℕ) (old new : Hands) : Type 0 where
+  pub grew : GrewBy old new
+  pub count_is : length new.list ≡ length old.list + count
+  pub polled : DriverSide
+  pub polling : Runs is_exchange old.end polled
+  pub stopped : Stopped batch most count new.list old.end polled
+  pub filled : DriverSide
+  pub filling : Runs is_post polled filled
+  pub tail : Published old.end filled new.end
+
+-- nothing is left to post, or no more can be posted
+abbrev pub IsFilled : DriverSide → List ℕ → Type 0
+IsFilled end stash = (stash ≡ []) ⊎ (length (posted end) + 1 ≡ returned end + driver_size end)

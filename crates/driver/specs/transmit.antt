@@ -1,0 +1,5 @@
+pub mod Transmitter
+pub mod Frames
+pub mod Going
+pub mod Batches
+pub mod Returns

@@ -1,0 +1,65 @@
+-- What the cleaning and the batches of a transmit driver do.
+use Rattle.std.specs.Prelude.{◌≡◌, ℕ, zero, suc, ◌+◌, ◌%◌, ◌<◌, ◌≤◌, ◌⊎◌, true, false, List, [], ◌++◌, length, reverse, take, drop}
+use Rattle.buffer_pool.specs.Buffer.{Buffer}
+use Rattle.buffer_pool.specs.declared.stash.TheConstants.{STASH_BUFFERS}
+use Rattle.ring_model.specs.shared.Handshakes.{is_on}
+use Rattle.shared_ring.specs.declared.events.DriverEvent.TheVariants.{Published}
+use Rattle.tx_ring.specs.Calls.{Polled}
+use Rattle.tx_ring.specs.Ends.{DriverSide, posted, published, cleaned, seen_reported, driver_state, fill_place, appended}
+use Rattle.driver.specs.Steps.{is_post}
+use Rattle.driver.specs.transmit.Frames.{frames_of, NeedsMore}
+use Rattle.driver.specs.transmit.Going.{WentOn, is_cleaning}
+use Rattle.driver.specs.transmit.Transmitter.{room_of, Sending}
+
+-- Buffers were cleaned, and went into the stash in their order
+pub record CleanedInto (old : DriverSide) (had : List ℕ) (new : DriverSide) (has : List ℕ) : Type 0 where
+  pub numbers : List ℕ
+  pub went : WentOn is_cleaning old [] numbers new
+  pub stashed : has ≡ reverse numbers ++ had
+
+-- all that was seen reported was cleaned, and then a load showed no report, or none was outstanding
+pub record FoundNoMore (old new : DriverSide) : Type 0 where
+  pub last : DriverSide
+  pub numbers : List ℕ
+  pub went : WentOn is_cleaning old [] numbers last
+  pub all : length (cleaned last) ≡ seen_reported last
+  pub none : Polled last false new
+
+-- cleaning ends with a full stash, or where there is no more to clean
+pub record CleanedAll (old : DriverSide) (had : List ℕ) (new : DriverSide) (has : List ℕ) : Type 0 where
+  pub into : CleanedInto old had new has
+  pub open into use *
+  pub ends : (length has ≡ STASH_BUFFERS) ⊎ FoundNoMore old new
+
+-- what is posted is published, once
+abbrev pub published_after : ℕ → DriverSide → DriverSide
+published_after zero d = d
+published_after (suc k) d = appended d (Published (fill_place d))
+
+-- So many packets left the front, and were posted and published; the next one stays for want of room; none where a disabling is asked
+pub record PostedFront (every frames count : ℕ) (old : DriverSide) (had : List (List Buffer)) (new : DriverSide) (has : List (List Buffer)) : Type 0 where
+  pub filled : DriverSide
+  pub posting : WentOn is_post old (frames_of every frames (take count had)) [] filled
+  pub publishing : new ≡ published_after count filled
+  pub shown : 0 < count → published new ≡ length (posted new)
+  pub few : count ≤ length had
+  pub left : has ≡ drop count had
+  pub none : is_on (driver_state old) ≡ false → count ≡ 0
+  pub stays : is_on (driver_state old) ≡ true → NeedsMore (room_of new) has
+
+-- First what is reported was cleaned, and then packets were posted, none while a disabling is asked
+pub record Batched (count : ℕ) (old new : Sending) : Type 0 where
+  pub between : DriverSide
+  pub cleaning : CleanedAll old.driver.end old.stash between new.stash
+  pub posting : PostedFront old.driver.every old.driver.frames count between old.packets new.driver.end new.packets
+  pub posts : posted new.driver.end ≡ posted old.driver.end ++ frames_of old.driver.every old.driver.frames (take count old.packets)
+  pub cleans : cleaned new.driver.end ≡ cleaned old.driver.end ++ cleaning.numbers
+  pub asked : is_on (driver_state old.driver.end) ≡ false → count ≡ 0
+  pub stays : is_on (driver_state old.driver.end) ≡ true → NeedsMore (room_of new.driver.end) new.packets
+  pub counted : new.driver ≡ record old.driver { end = new.driver.end; frames = (old.driver.frames + count) % old.driver.every }
+
+-- The first packet is too long for the ring: what is reported was cleaned, and nothing posted
+pub record OnlyCleaned (old new : Sending) : Type 0 where
+  pub cleaning : CleanedAll old.driver.end old.stash new.driver.end new.stash
+  pub driver : new.driver ≡ record old.driver { end = new.driver.end }
+  pub packets : new.packets ≡ old.packets

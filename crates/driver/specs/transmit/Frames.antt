@@ -1,0 +1,40 @@
+-- Packets as they are posted, and how many descriptors they need.
+use Rattle.std.specs.Prelude.{ℕ, ◌+◌, ◌%◌, ◌<◌, ◌≤◌, ◌==◌, Bool, true, false, ◌||◌, List, [], ◌∷◌, ◌++◌, length}
+use Rattle.buffer_pool.specs.Buffer.{Buffer}
+use Rattle.buffer_pool.specs.Packed.{bytes_of}
+use Rattle.tx_ring.specs.Calls.{item_of}
+use Rattle.tx_ring.specs.Records.{Posting}
+
+-- the buffers of a frame of so many bytes: the last ends the frame, and asks for its report
+abbrev pub postings_of : ℕ → Bool → List Buffer → List Posting
+postings_of paylen rs [] = []
+postings_of paylen rs (b ∷ []) = item_of b true rs paylen ∷ []
+postings_of paylen rs (b ∷ c ∷ bs) = item_of b false false paylen ∷ postings_of paylen rs (c ∷ bs)
+
+-- a packet: PAYLEN is its length
+abbrev pub frame_of : Bool → List Buffer → List Posting
+frame_of rs packet = postings_of (length (bytes_of packet)) rs packet
+
+abbrev pub is_none : {X : Type 0} → List X → Bool
+is_none [] = true
+is_none (x ∷ xs) = false
+
+-- Packets that are posted together, where so many frames were posted before: a report is asked for by each frame whose number, counted from 1, is a multiple of `every`, and by the last
+abbrev pub frames_of : ℕ → ℕ → List (List Buffer) → List Posting
+frames_of every count [] = []
+frames_of every count (p ∷ ps) = frame_of ((count + 1) % every == 0 || is_none ps) p ++ frames_of every (count + 1) ps
+
+-- how many descriptors they need
+abbrev pub segment_count : List (List Buffer) → ℕ
+segment_count [] = 0
+segment_count (p ∷ ps) = length p + segment_count ps
+
+-- the first of them needs more descriptors than so many
+abbrev pub NeedsMore : ℕ → List (List Buffer) → Type 0
+NeedsMore room [] = Unit {0}
+NeedsMore room (p ∷ ps) = room < length p
+
+-- the first of them needs more descriptors than a ring of n can have out
+abbrev pub IsTooLong : ℕ → List (List Buffer) → Type 0
+IsTooLong n [] = ⊥
+IsTooLong n (p ∷ ps) = n ≤ length p

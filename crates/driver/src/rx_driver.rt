@@ -1,0 +1,140 @@
+//! The receive driver.
+ghost use Rattle.std.specs.Prelude.{◌≡◌, ◌+◌, ◌<◌, ◌≤◌, ◌↔◌, true, false, [], length, IsTrue, IsErr, IfErr, OnErr, IfOk, OnOk};
+ghost use Rattle.rx_ring.specs.Ends.{driver_size, driver_record, driver_state, posted, returned, known_of, saw_quiet, appended};
+ghost use Rattle.ring_model.specs.shared.Handshakes.{is_live, is_open};
+ghost use Rattle.ring_model.specs.shared.Agreement.{bit};
+ghost use Rattle.shared_ring.specs.declared.events.DriverEvent.TheVariants.{Own};
+ghost use Rattle.rx_ring.specs.declared.events.RxDriverOwn.TheVariants.{LoadedQuiet};
+ghost use Rattle.driver.specs.declared.error.DriverError.TheVariants.{QueueOff};
+ghost use Rattle.driver.specs.receive.Receiver.{IsReady, hands};
+ghost use Rattle.driver.specs.receive.Batches.{Batched, IsFilled};
+
+mod handshake;
+mod polling;
+mod reclaiming;
+
+use crate::error::DriverError;
+use arrayvec::ArrayVec;
+use buffer_pool::{Packet, Stash};
+use rx_ring::{DriverEnd, RxDriverEnd, RxRing};
+use std::marker::Model;
+
+/// The most packets of a batch, and of a list of packets.
+pub const MOST_BATCH: usize = 32;
+
+const _: () = prove!(MOST_BATCH == 32);
+
+/// A driver of a receive queue: its end of the ring, and the chain of a frame of which not all segments were taken yet.
+///
+/// Contracts see both. Each call takes the ring that the end was made with.
+#[derive(Drop)]
+pub struct RxDriver {
+    end: RxDriverEnd,
+    chain: Packet,
+    batch: usize,
+}
+
+impl Model for RxDriver {
+    ghost use Rattle.driver.specs.declared.rx_driver.TheConstants.{MOST_BATCH};
+    ghost use Rattle.driver.specs.receive.Receiver.{Receiver, IsReceiver};
+
+    ghost Value = { Receiver };
+
+    ghost view = { λ d. record { end = d.end; chain = d.chain; batch = d.batch } };
+
+    ghost invariant = { λ d. IsReceiver MOST_BATCH (record { end = d.end; chain = d.chain; batch = d.batch }) };
+}
+
+impl RxDriver {
+    /// A driver that takes up to `batch` packets at once.
+    pub fn new(end: RxDriverEnd, batch: usize) -> RxDriver
+        requires ready { IsReady end }
+        requires some { 0 < batch }
+        requires few { batch ≤ MOST_BATCH }
+        ensures { result ≡ record { end = end; chain = []; batch = batch } }
+    {
+        RxDriver {
+            end,
+            chain: Packet::default(),
+            batch,
+        }
+    }
+
+    /// The end and its unfinished chain.
+    pub fn into_end(self) -> (RxDriverEnd, Packet)
+        ensures end { result.0 ≡ self.end }
+        ensures chain { result.1 ≡ self.chain }
+    {
+        (self.end, self.chain)
+    }
+
+    /// How many more buffers can be posted.
+    #[inline]
+    pub fn room(&self) -> u32
+        ensures { result + length (posted self.now.end) + 1 ≡ driver_size self.now.end + returned self.now.end }
+    {
+        self.end.room()
+    }
+
+    /// Whether segments were taken of a frame that has not ended.
+    #[inline]
+    pub fn has_chain(&self) -> bool
+        ensures { IsTrue result ↔ (0 < length self.now.chain) }
+    {
+        self.chain.segments() > 0
+    }
+
+    /// Loads the quiet word: whether the controller said that it stores no more. Once it did, a batch that ends for want
+    /// of anything to take teaches that all that was stored is taken.
+    #[inline]
+    pub fn is_quiet(&mut self, ring: &RxRing) -> bool
+        requires own { self.old.end.table ≡ ring.now }
+        ensures step { self.new ≡ record self.old { end = appended self.old.end (Own (LoadedQuiet (bit result))) } }
+        ensures record { driver_record self.new.end ≡ driver_record self.old.end }
+        ensures seen { result ≡ true → saw_quiet self.new.end ≡ true }
+    {
+        self.end.is_quiet(ring)
+    }
+
+    /// Takes the packets that are done and appends them to the list: up to a batch of them, until the list is full or
+    /// nothing more is done; and answers how many these were. After each segment an empty buffer of the stash is posted,
+    /// and at the end as many as there is room for; what was posted is published once. Where a disabling was asked
+    /// nothing is posted.
+    ///
+    /// `QueueOff` where the queue was not seen enabled, or was seen disabled: then nothing is done.
+    pub fn rx_batch(
+        &mut self,
+        ring: &RxRing,
+        stash: &mut Stash,
+        packets: &mut ArrayVec<Packet, MOST_BATCH>,
+    ) -> Result<usize, DriverError>
+        requires own { self.old.end.table ≡ ring.now }
+        ensures off { IsErr result ↔ (is_live (driver_state self.old.end) ≡ false) }
+        ensures refusal { IfErr result (λ e. e ≡ QueueOff) }
+        ensures unchanged { OnErr result (hands self.new stash.new packets.new.items ≡ hands self.old stash.old packets.old.items) }
+        ensures batch { self.new.batch ≡ self.old.batch }
+        ensures done { IfOk result (λ count. Batched self.old.batch MOST_BATCH count (hands self.old stash.old packets.old.items)
+            (hands self.new stash.new packets.new.items)) }
+        ensures filled { OnOk result (is_open (driver_state self.old.end) ≡ true → IsFilled self.new.end stash.new) }
+    {
+        if !self.end.is_live() {
+            return Err(DriverError::QueueOff);
+        }
+        let had = stash.len();
+        let count = polling::take(
+            &mut self.end,
+            &mut self.chain,
+            ring,
+            stash,
+            packets,
+            self.batch,
+        );
+        if self.end.is_open() {
+            polling::fill(&mut self.end, ring, stash);
+            if stash.len() < had {
+                self.end.publish(ring);
+            }
+        }
+        Ok(count)
+    }
+}

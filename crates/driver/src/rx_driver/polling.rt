@@ -1,0 +1,74 @@
+//! The loops of a batch.
+ghost use Rattle.std.specs.Prelude.{◌≡◌, ◌+◌, ◌<◌, true, length};
+ghost use Rattle.ring_model.specs.shared.Handshakes.{is_live, is_open};
+ghost use Rattle.rx_ring.specs.Ends.{driver_size, driver_state, posted, returned};
+ghost use Rattle.driver.specs.receive.Chains.{IsRest};
+ghost use Rattle.driver.specs.receive.Batches.{at, Polled, Stopped, Filled, IsFilled};
+
+use super::MOST_BATCH;
+use arrayvec::ArrayVec;
+use buffer_pool::{Packet, Stash};
+use rx_ring::{DriverEnd, Poll, RxDriverEnd, RxRing};
+use std::mem;
+
+/// Polls until so many packets are appended, the list is full, or nothing more is done, and posts a buffer after each
+/// segment.
+#[inline]
+pub(super) fn take(
+    driver: &mut RxDriverEnd,
+    chain: &mut Packet,
+    ring: &RxRing,
+    stash: &mut Stash,
+    packets: &mut ArrayVec<Packet, MOST_BATCH>,
+    batch: usize,
+) -> usize
+    requires own { driver.old.table ≡ ring.now }
+    requires live { is_live (driver_state driver.old) ≡ true }
+    requires rest { IsRest driver.old chain.old }
+    ensures polled { Polled (at driver.old chain.old stash.old packets.old.items) result (at driver.new chain.new stash.new packets.new.items) }
+    ensures stopped { Stopped batch MOST_BATCH result packets.new.items driver.old driver.new }
+{
+    let mut count = 0;
+    while count < batch && !packets.is_full() {
+        let Poll::Segment(buf, eop) = driver.poll(ring) else {
+            break;
+        };
+        post_one(driver, ring, stash);
+        chain.push_back(buf);
+        if eop {
+            packets.push(mem::take(chain));
+            count += 1;
+        }
+    }
+    count
+}
+
+/// Posts a buffer of the stash, if there is one and no disabling was asked.
+#[inline]
+fn post_one(driver: &mut RxDriverEnd, ring: &RxRing, stash: &mut Stash)
+    requires own { driver.old.table ≡ ring.now }
+    requires room { length (posted driver.old) + 1 < returned driver.old + driver_size driver.old }
+    ensures { Filled driver.old stash.old driver.new stash.new }
+{
+    if driver.is_open()
+        && let Some(buf) = stash.take()
+    {
+        driver.post(ring, buf);
+    }
+}
+
+/// Posts what the stash has and the ring has room for.
+#[inline]
+pub(super) fn fill(driver: &mut RxDriverEnd, ring: &RxRing, stash: &mut Stash)
+    requires own { driver.old.table ≡ ring.now }
+    requires open { is_open (driver_state driver.old) ≡ true }
+    ensures posted { Filled driver.old stash.old driver.new stash.new }
+    ensures filled { IsFilled driver.new stash.new }
+{
+    for _ in 0..driver.room() {
+        let Some(buf) = stash.take() else {
+            return;
+        };
+        driver.post(ring, buf);
+    }
+}

@@ -1,0 +1,138 @@
+//! The driver of a transmit queue.
+ghost use Rattle.std.specs.Prelude.{◌≡◌, ◌+◌, ◌<◌, ◌≤◌, ◌↔◌, ◌⊎◌, true, false, ◌++◌, length, take, map, All, IfOk, IfErr, Err};
+ghost use Rattle.buffer_pool.specs.Packed.{IsPacket, bytes_of};
+ghost use Rattle.ring_model.specs.shared.Handshakes.{is_live};
+ghost use Rattle.ring_model.specs.shared.Frames.{frames};
+ghost use Rattle.ring_model.specs.transmit.Ring.{are_whole, carried};
+ghost use Rattle.tx_ring.specs.Ends.{driver_size, posted, returned, driver_state};
+ghost use Rattle.driver.specs.declared.error.DriverError.TheVariants.{QueueOff, TooLong};
+ghost use Rattle.driver.specs.transmit.Transmitter.{IsReady, room_of, sending};
+ghost use Rattle.driver.specs.transmit.Frames.{IsTooLong};
+ghost use Rattle.driver.specs.transmit.Batches.{CleanedAll, Batched, OnlyCleaned};
+
+mod cleaning;
+mod handshake;
+mod posting;
+mod reclaiming;
+
+use crate::error::DriverError;
+use crate::rx_driver::MOST_BATCH;
+use arrayvec::ArrayVec;
+use buffer_pool::{Packet, Stash};
+use cleaning::clean_all;
+use posting::{is_too_long, post_fitting};
+use std::marker::Model;
+use tx_ring::{DriverEnd, TxDriverEnd, TxRing};
+
+/// The most frames that are posted for each report that is asked for.
+pub const MOST_RS_EVERY: u16 = 4_096;
+
+const _: () = prove!(MOST_RS_EVERY == 4_096);
+
+/// A driver of a transmit queue: its end of the ring, how often it asks for a report, and its count of frames.
+///
+/// Contracts see these. Each call takes the ring that the end was made with.
+#[derive(Drop)]
+pub struct TxDriver {
+    end: TxDriverEnd,
+    every: u16,
+    frames: u16,
+}
+
+impl Model for TxDriver {
+    ghost use Rattle.driver.specs.declared.tx_driver.TheConstants.{MOST_RS_EVERY};
+    ghost use Rattle.driver.specs.transmit.Transmitter.{Transmitter, IsTransmitter};
+
+    ghost Value = { Transmitter };
+
+    ghost view = { λ d. record { end = d.end; every = d.every; frames = d.frames } };
+
+    ghost invariant = { λ d. IsTransmitter MOST_RS_EVERY (record { end = d.end; every = d.every; frames = d.frames }) };
+}
+
+impl TxDriver {
+    /// A driver that asks for a report with each `rs_every`th frame that it posts in an epoch.
+    pub fn new(end: TxDriverEnd, rs_every: u16) -> TxDriver
+        requires ready { IsReady end }
+        requires some { 0 < rs_every }
+        requires few { rs_every ≤ MOST_RS_EVERY }
+        ensures { result ≡ record { end = end; every = rs_every; frames = 0 } }
+    {
+        TxDriver {
+            end,
+            every: rs_every,
+            frames: 0,
+        }
+    }
+
+    /// Gives the end back. It stands between two frames.
+    pub fn into_end(self) -> TxDriverEnd
+        ensures value { result ≡ self.end }
+        ensures whole { are_whole (posted result) ≡ true }
+    {
+        self.end
+    }
+
+    /// How many more descriptors can be posted.
+    #[inline]
+    pub fn room(&self) -> u32
+        ensures sum { result + length (posted self.now.end) + 1 ≡ driver_size self.now.end + returned self.now.end }
+        ensures value { result ≡ room_of self.now.end }
+    {
+        self.end.room()
+    }
+
+    /// Takes the buffers back that are reported as sent, and puts them into the stash, until that is full or there is no
+    /// report more; and answers how many these were. On a queue that isn't live nothing is done.
+    pub fn clean(&mut self, ring: &TxRing, stash: &mut Stash) -> usize
+        requires own { self.old.end.table ≡ ring.now }
+        ensures ring { self.new.end.table ≡ self.old.end.table }
+        ensures off { is_live (driver_state self.old.end) ≡ false → (self.new ≡ self.old) × (stash.new ≡ stash.old) }
+        ensures done { is_live (driver_state self.old.end) ≡ true → CleanedAll self.old.end stash.old self.new.end stash.new }
+        ensures count { length stash.new ≡ length stash.old + result }
+        ensures same { self.new ≡ record self.old { end = self.new.end } }
+    {
+        if !self.end.is_live() {
+            return 0;
+        }
+        let had = stash.len();
+        clean_all(&mut self.end, ring, stash);
+        stash.len() - had
+    }
+
+    /// Cleans as `clean` does. Then it takes whole packets off the front of the list as long as they fit, posts and
+    /// publishes them, and answers how many these were. The last of them asks for a report. Where a disabling was asked
+    /// nothing is posted.
+    ///
+    /// `QueueOff` where the queue was not seen enabled, or was seen disabled: then nothing is done. `TooLong` where the
+    /// first packet has more segments than the ring ever has room for: then cleaning was done, and all packets stay.
+    pub fn tx_batch(
+        &mut self,
+        ring: &TxRing,
+        stash: &mut Stash,
+        packets: &mut ArrayVec<Packet, MOST_BATCH>,
+    ) -> Result<usize, DriverError>
+        requires own { self.old.end.table ≡ ring.now }
+        requires packets { All IsPacket packets.old.items }
+        ensures ring { self.new.end.table ≡ self.old.end.table }
+        ensures whole { All IsPacket packets.new.items }
+        ensures off { (result ≡ Err QueueOff) ↔ (is_live (driver_state self.old.end) ≡ false) }
+        ensures unchanged { result ≡ Err QueueOff → sending self.new stash.new packets.new.items ≡ sending self.old stash.old packets.old.items }
+        ensures long { (result ≡ Err TooLong) ↔ ((is_live (driver_state self.old.end) ≡ true) × IsTooLong (driver_size self.old.end) packets.old.items) }
+        ensures cleaned { result ≡ Err TooLong → OnlyCleaned (sending self.old stash.old packets.old.items) (sending self.new stash.new packets.new.items) }
+        ensures refusal { IfErr result (λ e. (e ≡ QueueOff) ⊎ (e ≡ TooLong)) }
+        ensures frames { IfOk result (λ count. frames carried (posted self.new.end) ≡ frames carried (posted self.old.end) ++ map bytes_of (take count packets.old.items)) }
+        ensures done { IfOk result (λ count. Batched count (sending self.old stash.old packets.old.items) (sending self.new stash.new packets.new.items)) }
+    {
+        if !self.end.is_live() {
+            return Err(DriverError::QueueOff);
+        }
+        clean_all(&mut self.end, ring, stash);
+        if is_too_long(packets.as_slice(), self.end.size()) {
+            return Err(DriverError::TooLong);
+        }
+        let (count, frames) = post_fitting(&mut self.end, ring, packets, self.every, self.frames);
+        self.frames = frames;
+        Ok(count)
+    }
+}

@@ -1,0 +1,39 @@
+//! Buffers of what is reported as sent come back.
+ghost use Rattle.std.specs.Prelude.{◌≡◌, ◌≤◌, ◌⊎◌, true, length};
+ghost use Rattle.ring_model.specs.shared.Handshakes.{is_live};
+ghost use Rattle.tx_ring.specs.Ends.{cleaned, seen_reported, driver_state};
+ghost use Rattle.driver.specs.transmit.Batches.{CleanedInto, CleanedAll};
+
+use buffer_pool::{STASH_BUFFERS, Stash};
+use tx_ring::{TxDriverEnd, TxRing};
+
+/// Takes the buffers back that are seen reported, as many as the stash has room for.
+fn clean_reported(driver: &mut TxDriverEnd, ring: &TxRing, stash: &mut Stash)
+    requires own { driver.old.table ≡ ring.now }
+    requires live { is_live (driver_state driver.old) ≡ true }
+    ensures into { CleanedInto driver.old stash.old driver.new stash.new }
+    ensures seen { seen_reported driver.new ≡ seen_reported driver.old }
+    ensures all { (length stash.new ≡ STASH_BUFFERS) ⊎ (length (cleaned driver.new) ≡ seen_reported driver.new) }
+{
+    let count = (driver.reported() as usize).min(STASH_BUFFERS - stash.len());
+    for _ in 0..count {
+        let buf = driver.clean(ring);
+        let Ok(()) = stash.put(buf) else {
+            unreachable!()
+        };
+    }
+}
+
+/// Takes back what is reported, until the stash is full, or no report is outstanding or made.
+pub(super) fn clean_all(driver: &mut TxDriverEnd, ring: &TxRing, stash: &mut Stash)
+    requires own { driver.old.table ≡ ring.now }
+    requires live { is_live (driver_state driver.old) ≡ true }
+    ensures { CleanedAll driver.old stash.old driver.new stash.new }
+{
+    loop {
+        clean_reported(driver, ring, stash);
+        if stash.is_full() || !driver.poll_report(ring) {
+            return;
+        }
+    }
+}
