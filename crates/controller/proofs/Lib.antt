@@ -1,0 +1,6 @@
+pub mod Cutting
+pub mod Fresh
+pub mod Stepping
+pub mod Growing
+pub mod Laying
+pub mod Putting

@@ -1,0 +1,143 @@
+-- A frame as it is sent, segment by segment, over the record of the controller's end and the arena of the wire.
+use Rattle.std.proofs.Common.{◌≡◌, ◌%◌, ◌<◌, ◌≤◌, Bool, true, false, List, [], ◌∷◌, ◌++◌, length, None, sym, refl, ap, ◌∙◌, arith, if◌then◌else◌, append_assoc, append-nil, length-append}
+use Rattle.std.proofs.lemmas.Bool.{false≢true}
+use Rattle.atomic_table.specs.Seated.{TableId}
+use Rattle.limits.specs.declared.profile.TheConstants.{MOST_FRAME}
+use Rattle.ring_model.specs.shared.Frames.{Bytes, ends_frame, frames, unfinished, join}
+use Rattle.ring_model.specs.shared.Handshakes.{is_serving}
+use Rattle.ring_model.specs.transmit.Ring.{carried}
+use Rattle.ring_model.proofs.shared.Following.{unfinished-whole}
+use Rattle.ring_model.proofs.shared.FrameLaws.{frames-snoc, unfinished-snoc, join-append}
+use Rattle.tx_ring.specs.Records.{Posting, TxControlled}
+use Rattle.tx_ring.specs.Ends.{ControllerSide, controller_size, controller_record, controller_state, sent, known_ready, held, is_owed, is_between, head_stored, serve_place}
+use Rattle.controller.specs.Chained.{Chained}
+use Rattle.controller.specs.Laid.{Laid}
+use Rattle.controller.specs.Sending.{CanSend, SentBytes, SentOn}
+use Rattle.controller.specs.Transmitting.{SentSegment, asks, reported}
+use Rattle.controller.proofs.Stepping.{chained-nil, chained-snoc}
+
+-- the first postings of a frame are sent, and their bytes begin a frame on the wire; the next is ready
+pub record IsSending (old : ControllerSide) (arena : Laid) (now : ControllerSide) (arena' : Laid) : Type 0 where
+  pub postings : List Posting
+  pub each : Chained SentSegment old postings now
+  pub grew : sent now ≡ sent old ++ postings
+  pub begun : unfinished carried (sent now) ≡ postings
+  pub frames_same : frames carried (sent now) ≡ frames carried (sent old)
+  pub can : CanSend now arena'
+  pub on_wire : arena'.frames ≡ arena.frames
+  pub entries : arena'.entries ≡ arena.entries
+  pub own : now.table ≡ old.table
+
+pub starts : (old : ControllerSide) (arena : Laid) → held old ≡ None → is_owed old ≡ false → unfinished carried (sent old) ≡ [] → is_serving (controller_state old) ≡ true → 0 < known_ready old
+    → arena.begun ≡ [] → MOST_FRAME ≤ arena.room → IsSending old arena old arena
+starts old arena unheld paid whole serving ready begun room = record {
+  postings = [];
+  each = chained-nil SentSegment old;
+  grew = sym (append-nil (sent old));
+  begun = whole;
+  frames_same = refl;
+  can = record {
+    serving = serving;
+    unheld = unheld;
+    paid = paid;
+    ready = ready;
+    begun = begun ∙ sym (ap (join carried) whole);
+    room = omega arith;
+  };
+  on_wire = refl;
+  entries = refl;
+  own = refl;
+}
+
+-- the frame's postings with one more
+unfinished_more : (ps : List Posting) (p : Posting) (ends : Bool) → p.eop ≡ ends → unfinished carried (ps ++ p ∷ []) ≡ (if ends then [] else unfinished carried ps ++ p ∷ [])
+unfinished_more ps p ends e = unfinished-snoc carried ps p ∙ ap (λ (b : Bool). if b then [] else unfinished carried ps ++ p ∷ []) e
+
+frames_more : (ps : List Posting) (p : Posting) (ends : Bool) → p.eop ≡ ends → frames carried (ps ++ p ∷ []) ≡ frames carried ps ++ (if ends then join carried (unfinished carried ps ++ p ∷ []) ∷ [] else [])
+frames_more ps p ends e = frames-snoc carried ps p ∙ ap (λ (b : Bool). frames carried ps ++ (if b then join carried (unfinished carried ps ++ p ∷ []) ∷ [] else [])) e
+
+join_more : (ps : List Posting) (p : Posting) → join carried (ps ++ p ∷ []) ≡ join carried ps ++ p.payload
+join_more ps p = join-append carried ps (p ∷ []) ∙ ap (λ (l : Bytes). join carried ps ++ l) (append-nil p.payload)
+
+-- a posting that doesn't end its frame asks for no report
+no_report : (rs eop : Bool) → (rs ≡ true → eop ≡ true) → eop ≡ false → rs ≡ false
+no_report true eop asks goes = absurd (false≢true (sym goes ∙ asks refl))
+no_report false eop asks goes = refl
+
+own_table : (old new : ControllerSide) (p : Posting) → SentSegment old p new → new.table ≡ old.table
+own_table old new p st = ap (λ (c : ControllerSide). c.table) st.step
+
+-- one more is sent, and the frame goes on
+pub sends_on : (old now new : ControllerSide) (arena arena' arena'' : Laid) → IsSending old arena now arena' → SentBytes now arena' false new arena'' → IsSending old arena new arena''
+sends_on old now new arena arena' arena'' i st =
+    let p = st.posting in
+    let more : sent new ≡ sent now ++ p ∷ [] = ap (λ (x : TxControlled). x.served) st.same in
+    let begun : unfinished carried (sent new) ≡ unfinished carried (sent now) ++ p ∷ [] = ap (unfinished carried) more ∙ unfinished_more (sent now) p false st.ends_is in
+    let bytes : arena''.begun ≡ join carried (unfinished carried (sent new)) = st.begun ∙ (ap (λ (b : Bytes). b ++ p.payload) i.can.begun ∙ (sym (join_more (unfinished carried (sent now)) p) ∙ sym (ap (join carried) begun))) in
+    let longer = ap length st.begun ∙ length-append arena'.begun p.payload in
+    let room = i.can.room in let less = st.room in
+    let count = ap length more ∙ length-append (sent now) (p ∷ []) in
+    let known : (controller_record new).known ≡ (controller_record now).known = ap (λ (x : TxControlled). x.known) st.same in
+    let ready = st.ready refl in
+    record {
+      postings = i.postings ++ p ∷ [];
+      each = chained-snoc SentSegment old i.postings now p new i.each st.sent_it;
+      grew = more ∙ (ap (λ (l : List Posting). l ++ p ∷ []) i.grew ∙ append_assoc (sent old) i.postings (p ∷ []));
+      begun = begun ∙ ap (λ (l : List Posting). l ++ p ∷ []) i.begun;
+      frames_same = ap (frames carried) more ∙ (frames_more (sent now) p false st.ends_is ∙ (append-nil (frames carried (sent now)) ∙ i.frames_same));
+      can = record {
+        serving = ap (λ (x : TxControlled). is_serving x.state) st.same ∙ i.can.serving;
+        unheld = ap (λ (x : TxControlled). x.held) st.same;
+        paid = ap (λ (x : TxControlled). x.barred) st.same ∙ no_report p.rs p.eop st.follows.asks_at_end st.ends_is;
+        ready = omega arith;
+        begun = bytes;
+        room = omega arith;
+      };
+      on_wire = st.frames ∙ i.on_wire;
+      entries = st.entries ∙ i.entries;
+      own = own_table now new p st.sent_it ∙ i.own;
+    }
+
+asks-snoc : (whole : Bool) (ps : List Posting) (p : Posting) → ends_frame (λ (q : Posting). q.rs) whole (ps ++ p ∷ []) ≡ p.rs
+asks-snoc whole [] p = refl
+asks-snoc whole (q ∷ ps) p = asks-snoc q.rs ps p
+
+reported_own : (report : Bool) (c : ControllerSide) → (reported report c).table ≡ c.table
+reported_own true c = refl
+reported_own false c = refl
+
+-- the last is sent, its frame is one more on the wire, and the report is made where it is owed
+pub sends_last : (old now last new : ControllerSide) (arena arena' arena'' wire : Laid) → IsSending old arena now arena' → SentBytes now arena' true last arena''
+    → wire.frames ≡ arena''.frames ++ arena''.begun ∷ [] → wire.begun ≡ [] → new ≡ reported (is_owed last) last → sent new ≡ sent last → SentOn old arena new wire
+sends_last old now last new arena arena' arena'' wire i st on_wire begun report same =
+    let p = st.posting in
+    let all = i.postings ++ p ∷ [] in
+    let more : sent last ≡ sent now ++ p ∷ [] = ap (λ (x : TxControlled). x.served) st.same in
+    let grew : sent last ≡ sent old ++ all = more ∙ (ap (λ (l : List Posting). l ++ p ∷ []) i.grew ∙ append_assoc (sent old) i.postings (p ∷ [])) in
+    let bytes : arena''.begun ≡ join carried all = st.begun ∙ (ap (λ (b : Bytes). b ++ p.payload) (i.can.begun ∙ ap (join carried) i.begun) ∙ sym (join_more i.postings p)) in
+    let owed : is_owed last ≡ asks all = ap (λ (x : TxControlled). x.barred) st.same ∙ sym (asks-snoc false i.postings p) in
+    record {
+      frame = arena''.begun;
+      went = record {
+        postings = all;
+        last = last;
+        each = chained-snoc SentSegment old i.postings now p last i.each st.sent_it;
+        report = report ∙ ap (λ (b : Bool). reported b last) owed;
+        bytes = bytes;
+        grew = same ∙ grew;
+        frames_are = ap (frames carried) (same ∙ more) ∙ (frames_more (sent now) p true st.ends_is
+            ∙ (ap (λ (l : List Bytes). l ++ join carried (unfinished carried (sent now) ++ p ∷ []) ∷ []) i.frames_same
+            ∙ ap (λ (f : Bytes). frames carried (sent old) ++ f ∷ []) (ap (λ (l : List Posting). join carried (l ++ p ∷ [])) i.begun ∙ sym bytes)));
+      };
+      frames = on_wire ∙ ap (λ (l : List Bytes). l ++ arena''.begun ∷ []) (st.frames ∙ i.on_wire);
+      begun = begun;
+      own = ap (λ (c : ControllerSide). c.table) report ∙ (reported_own (is_owed last) last ∙ (own_table now last p st.sent_it ∙ i.own));
+    }
+
+-- what was sent is whole
+pub sent_whole : (now last : ControllerSide) (arena' arena'' : Laid) → SentBytes now arena' true last arena'' → is_between last ≡ true
+sent_whole now last arena' arena'' st = unfinished-whole carried (sent last) (ap (λ (x : TxControlled). unfinished carried x.served) st.same ∙ unfinished_more (sent now) st.posting true st.ends_is)
+
+-- the head stays where it is stored, as long as nothing is sent
+pub same_head : (old new : ControllerSide) → head_stored old ≡ serve_place old → new.table ≡ old.table → head_stored new ≡ head_stored old → sent new ≡ sent old → head_stored new ≡ serve_place new
+same_head old new at own head same = head ∙ (at ∙ (ap (λ (l : List Posting). length l % controller_size old) (sym same) ∙ ap (λ (t : TableId). length (sent new) % t.slots) (sym own)))

@@ -1,0 +1,45 @@
+use Rattle.std.proofs.Common.{◌∙◌, Bool, sym, ap, subst, refl}
+use Rattle.ring_model.specs.transmit.Ring.{carried, are_whole}
+use Rattle.ring_model.proofs.shared.Following.{whole-unfinished}
+use Rattle.tx_ring.specs.Records.{TxControlled}
+use Rattle.tx_ring.specs.Ends.{ControllerSide, sent}
+use Rattle.controller.specs.Sending.{SentBytes}
+use Rattle.controller.specs.Transmitting.{reported}
+use Rattle.controller.proofs.Putting.{starts, sends_on, sends_last, sent_whole, same_head}
+use Rattle.controller.proofs.sending.send_frame.Goals as goal
+
+pub loop-init : goal.loop-init
+loop-init c = let r = c.requires in starts _ _ r.idle.unheld r.idle.paid (whole-unfinished carried (sent c.args.end.now) r.idle.between) r.serving r.ready r.begun r.room
+
+pub loop-preserved : goal.loop-preserved
+loop-preserved c = sends_on _ _ _ _ _ _ c.loop.invariant (subst (λ (ends : Bool). SentBytes c.loop.end c.loop.arena ends c.send_segment.new.end c.send_segment.new.arena) c.loop-test.true c.send_segment.ensures)
+
+pub returns-then-owes_report-clause-sent : goal.returns-then-owes_report-clause-sent
+returns-then-owes_report-clause-sent c =
+    let last = subst (λ (ends : Bool). SentBytes c.loop.end c.loop.arena ends c.send_segment.new.end c.send_segment.new.arena) c.loop-test.false c.send_segment.ensures in
+    let owed = sym c.owes_report.ensures ∙ c.if-owes_report.true in
+    sends_last _ _ _ _ _ _ _ _ c.loop.invariant last c.end_frame.ensures.frames c.end_frame.ensures.begun (c.report.ensures.step ∙ sym (ap (λ (b : Bool). reported b c.send_segment.new.end) owed)) (ap (λ (x : TxControlled). x.served) c.report.ensures.record)
+
+pub returns-then-owes_report-clause-idle : goal.returns-then-owes_report-clause-idle
+returns-then-owes_report-clause-idle c =
+    let last = subst (λ (ends : Bool). SentBytes c.loop.end c.loop.arena ends c.send_segment.new.end c.send_segment.new.arena) c.loop-test.false c.send_segment.ensures in record {
+      unheld = ap (λ (x : TxControlled). x.held) c.report.ensures.record ∙ ap (λ (x : TxControlled). x.held) last.same;
+      between = ap (λ (x : TxControlled). are_whole x.served) c.report.ensures.record ∙ sent_whole _ _ _ _ last;
+      head = λ _. same_head c.send_segment.new.end c.report.new.self last.head (ap (λ (e : ControllerSide). e.table) c.report.ensures.step) (ap (λ (x : TxControlled). x.head) c.report.ensures.record) (ap (λ (x : TxControlled). x.served) c.report.ensures.record);
+      paid = ap (λ (x : TxControlled). x.barred) c.report.ensures.record;
+    }
+
+pub returns-else-owes_report-clause-sent : goal.returns-else-owes_report-clause-sent
+returns-else-owes_report-clause-sent c =
+    let last = subst (λ (ends : Bool). SentBytes c.loop.end c.loop.arena ends c.send_segment.new.end c.send_segment.new.arena) c.loop-test.false c.send_segment.ensures in
+    let owed = sym c.owes_report.ensures ∙ c.if-owes_report.false in
+    sends_last _ _ _ _ _ _ _ _ c.loop.invariant last c.end_frame.ensures.frames c.end_frame.ensures.begun (sym (ap (λ (b : Bool). reported b c.send_segment.new.end) owed)) refl
+
+pub returns-else-owes_report-clause-idle : goal.returns-else-owes_report-clause-idle
+returns-else-owes_report-clause-idle c =
+    let last = subst (λ (ends : Bool). SentBytes c.loop.end c.loop.arena ends c.send_segment.new.end c.send_segment.new.arena) c.loop-test.false c.send_segment.ensures in record {
+      unheld = ap (λ (x : TxControlled). x.held) last.same;
+      between = sent_whole _ _ _ _ last;
+      head = λ _. last.head;
+      paid = sym c.owes_report.ensures ∙ c.if-owes_report.false;
+    }

@@ -1,0 +1,11 @@
+pub mod Arenas
+pub mod Chained
+pub mod FillSize
+pub mod Handshaking
+pub mod Laid
+pub mod Receiving
+pub mod Refusal
+pub mod Sending
+pub mod Storing
+pub mod Tallying
+pub mod Transmitting

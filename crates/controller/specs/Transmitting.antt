@@ -1,0 +1,88 @@
+-- What the device's side of a transmit queue does.
+use Rattle.std.specs.Prelude.{◌≡◌, ℕ, ◌+◌, ◌%◌, ◌<◌, Bool, true, false, List, [], ◌∷◌, ◌++◌, length, None, Result, Ok, Err}
+use Rattle.buffer_pool.specs.Buffer.{Buffer}
+use Rattle.ring_model.specs.shared.Frames.{Bytes, ends_frame, frames, join}
+use Rattle.ring_model.specs.shared.Handshakes.{is_serving}
+use Rattle.ring_model.specs.transmit.Ring.{carried}
+use Rattle.shared_ring.specs.declared.events.ControllerEvent.TheVariants.{Fetched, Own}
+use Rattle.tx_ring.specs.declared.events.TxControllerOwn.TheVariants.{Sent}
+use Rattle.tx_ring.specs.Records.{Posting, posting_of}
+use Rattle.tx_ring.specs.Ends.{ControllerSide, controller_size, controller_state, sent, held, is_owed, is_between, head_stored, serve_place, answered}
+use Rattle.tx_ring.specs.Calls.{FoundReady, report_of}
+use Rattle.controller.specs.declared.error.CtlError.{CtlError}
+use Rattle.controller.specs.declared.error.CtlError.TheVariants.{FrameLength, Memory}
+use Rattle.controller.specs.declared.transmitting.Turn.{Turn}
+use Rattle.controller.specs.declared.transmitting.Turn.TheVariants as turn
+use Rattle.controller.specs.Chained.{Chained}
+
+-- nothing is held, the last that was sent ends a frame, the head is stored after it while it serves, and no report is owed
+pub record IsIdle (c : ControllerSide) : Type 0 where
+  pub unheld : held c ≡ None
+  pub between : is_between c ≡ true
+  pub head : is_serving (controller_state c) ≡ true → head_stored c ≡ serve_place c
+  pub paid : is_owed c ≡ false
+
+-- B4 and B5: the next descriptor was fetched, and its posting sent
+pub record SentSegment (old : ControllerSide) (p : Posting) (new : ControllerSide) : Type 0 where
+  pub word : ℕ
+  pub buf : Buffer
+  pub item : p ≡ posting_of word buf
+  pub step : new ≡ answered (answered old (Fetched (serve_place old) word buf)) (Own (Sent ((length (sent old) + 1) % controller_size old) word buf))
+  pub grew : sent new ≡ sent old ++ p ∷ []
+
+-- whether the last of these asks for a report
+abbrev pub asks : List Posting → Bool
+asks ps = ends_frame (λ p. p.rs) false ps
+
+-- B6, where a report is asked for
+abbrev pub reported : Bool → ControllerSide → ControllerSide
+reported true c = answered c (Own (report_of (controller_size c) c.completion (length (sent c))))
+reported false c = c
+
+-- the postings of a whole frame were sent, and reported if the last of them asks for it
+pub record SentFrame (old : ControllerSide) (f : Bytes) (new : ControllerSide) : Type 0 where
+  pub postings : List Posting
+  pub last : ControllerSide
+  pub each : Chained SentSegment old postings last
+  pub report : new ≡ reported (asks postings) last
+  pub bytes : f ≡ join carried postings
+  pub grew : sent new ≡ sent old ++ postings
+  pub frames_are : frames carried (sent new) ≡ frames carried (sent old) ++ f ∷ []
+
+-- What `turn` answers. The end doesn't serve
+pub record WasOff (old : ControllerSide) (wire : List Bytes) (new : ControllerSide) (wire' : List Bytes) : Type 0 where
+  pub off : is_serving (controller_state old) ≡ false
+  pub same : new ≡ old
+  pub same_wire : wire' ≡ wire
+
+-- a load of the tail showed that nothing is ready
+pub record WasIdle (old : ControllerSide) (wire : List Bytes) (new : ControllerSide) (wire' : List Bytes) : Type 0 where
+  pub serving : is_serving (controller_state old) ≡ true
+  pub looked : FoundReady old 0 new
+  pub same_wire : wire' ≡ wire
+
+-- the tail was loaded, and the next frame sent: it is one more on the wire
+pub record WasSent (old : ControllerSide) (wire : List Bytes) (new : ControllerSide) (wire' : List Bytes) : Type 0 where
+  pub serving : is_serving (controller_state old) ≡ true
+  pub ready : ℕ
+  pub tail : ControllerSide
+  pub looked : FoundReady old ready tail
+  pub some_ready : 0 < ready
+  pub frame : Bytes
+  pub went : SentFrame tail frame new
+  pub on_wire : wire' ≡ wire ++ frame ∷ []
+
+-- the tail was loaded and something is ready, and the wire couldn't grow: nothing was fetched
+pub record WasRefused (old : ControllerSide) (wire : List Bytes) (new : ControllerSide) (wire' : List Bytes) : Type 0 where
+  pub serving : is_serving (controller_state old) ≡ true
+  pub ready : ℕ
+  pub looked : FoundReady old ready new
+  pub some_ready : 0 < ready
+  pub same_wire : wire' ≡ wire
+
+abbrev pub Turned : ControllerSide → List Bytes → Result Turn CtlError → ControllerSide → List Bytes → Type 0
+Turned old wire (Ok turn.Off) new wire' = WasOff old wire new wire'
+Turned old wire (Ok turn.Idle) new wire' = WasIdle old wire new wire'
+Turned old wire (Ok turn.Sent) new wire' = WasSent old wire new wire'
+Turned old wire (Err Memory) new wire' = WasRefused old wire new wire'
+Turned old wire (Err FrameLength) new wire' = ⊥

@@ -1,0 +1,16 @@
+//! What becomes of a frame that is offered.
+
+/// What became of a frame that was offered.
+#[derive(Clone, Copy, Debug, PartialEq, Eq)]
+pub enum Offer {
+    /// The end doesn't serve the queue, or said that it stores no more. No step was made.
+    Off,
+    /// The frame needs more descriptors than the ring can have free. No step was made.
+    Oversize,
+    /// The frame is stored, and the head after it.
+    Stored,
+    /// The tail was loaded, and too few descriptors were free: the frame is lost (82599 datasheet, SRRCTL.Drop_En).
+    Dropped,
+    /// The tail was loaded, and too few descriptors were free: the frame is to be offered again.
+    Held,
+}

@@ -1,0 +1,129 @@
+//! The device's side of a receive queue.
+ghost use Rattle.std.specs.Prelude.{◌≡◌, ◌↔◌, ◌++◌, false};
+ghost use Rattle.ring_model.specs.shared.Frames.{HasFrameLength, frames};
+ghost use Rattle.ring_model.specs.shared.Segments.{piece_of};
+ghost use Rattle.rx_ring.specs.Ends.{stored};
+ghost use Rattle.controller.specs.FillSize.{IsFillSize};
+ghost use Rattle.controller.specs.Handshaking.{TurnedControl};
+ghost use Rattle.controller.specs.Receiving.{IsIdle, Offered, Finished, frames_by, may_store};
+ghost use Rattle.controller.specs.Tallying.{AddsUp, nothing};
+
+use crate::error::CtlError;
+use crate::offer::Offer;
+use crate::storing::decide;
+use crate::tally::Tally;
+use limits::{LEAST_FRAME, MOST_FRAME};
+use rx_ring::{Control, ControllerEnd, RxControllerEnd, RxRing};
+use std::marker::Model;
+
+/// The device's side of a receive queue: it stores the frames that it is offered, whole or not at all, and answers
+/// enabling and disabling between two frames.
+#[derive(Drop)]
+pub struct RxController {
+    end: RxControllerEnd,
+    bsize: usize,
+    drop_en: bool,
+    tally: Tally,
+}
+
+impl Model for RxController {
+    ghost use Rattle.controller.specs.Receiving.{Receiving, IsReceiver};
+
+    ghost Value = { Receiving };
+
+    ghost view = { λ c. record { end = c.end; bsize = c.bsize; drop_en = c.drop_en; tally = c.tally } };
+
+    ghost invariant = { λ c. IsReceiver (record { end = c.end; bsize = c.bsize; drop_en = c.drop_en; tally = c.tally }) };
+}
+
+impl RxController {
+    /// A controller that fills buffers to `bsize` bytes, 1,024 or 2,048, and where too few descriptors are free drops a
+    /// frame with `drop_en`, and else holds it (82599 datasheet, SRRCTL.Drop_En). The end has to stand between two
+    /// frames, with nothing held and its head stored.
+    pub fn new(end: RxControllerEnd, bsize: usize, drop_en: bool) -> RxController
+        requires bsize { IsFillSize bsize }
+        requires idle { IsIdle end }
+        ensures { result ≡ record { end = end; bsize = bsize; drop_en = drop_en; tally = nothing } }
+    {
+        RxController {
+            end,
+            bsize,
+            drop_en,
+            tally: Tally::default(),
+        }
+    }
+
+    /// Offers a frame that came in.
+    pub fn offer(&mut self, ring: &RxRing, frame: &[u8]) -> Result<Offer, CtlError>
+        requires own { self.old.end.table ≡ ring.now }
+        ensures refused { (result ≡ Err CtlError.FrameLength) ↔ ¬ HasFrameLength frame.now }
+        ensures decided { Offered self.old frame.now result self.new }
+        ensures frames { frames piece_of (stored self.new.end) ≡ frames piece_of (stored self.old.end) ++ frames_by result frame.now }
+        ensures over { may_store self.old.end ≡ false → self.new ≡ self.old }
+        ensures own { self.new.end.table ≡ ring.now }
+    {
+        if frame.len() < LEAST_FRAME || MOST_FRAME < frame.len() {
+            return Err(CtlError::FrameLength);
+        }
+        let scarce = if self.drop_en {
+            Offer::Dropped
+        } else {
+            Offer::Held
+        };
+        let offer = decide(ring, &mut self.end, self.bsize, frame, scarce);
+        self.tally = self.tally.counted(offer);
+        Ok(offer)
+    }
+
+    /// Loads the control word, and answers what is asked, if anything is. It gives the control value that it stored, else
+    /// the one that it loaded.
+    pub fn turn_control(&mut self, ring: &RxRing) -> Control
+        requires own { self.old.end.table ≡ ring.now }
+        ensures turned { TurnedControl self.old.end result self.new.end }
+        ensures same { self.new ≡ record self.old { end = self.new.end } }
+        ensures own { self.new.end.table ≡ ring.now }
+    {
+        let asked = self.end.asked(ring);
+        if !self.end.can_answer() {
+            return asked;
+        }
+        self.end.answer(ring);
+        if self.end.is_serving() {
+            Control::Enabled
+        } else {
+            Control::Disabled
+        }
+    }
+
+    /// Says that no more is stored in this epoch: the quiet word becomes 1. It is false, without a step, where the end
+    /// doesn't serve the queue or has said so.
+    pub fn finish(&mut self, ring: &RxRing) -> bool
+        requires own { self.old.end.table ≡ ring.now }
+        ensures finished { Finished self.old.end result self.new.end }
+        ensures over { may_store self.new.end ≡ false }
+        ensures same { self.new ≡ record self.old { end = self.new.end } }
+        ensures own { self.new.end.table ≡ ring.now }
+    {
+        if !self.end.is_serving() || self.end.has_finished() {
+            return false;
+        }
+        self.end.set_quiet(ring);
+        true
+    }
+
+    /// How many frames were offered, and what became of them.
+    pub fn tally(&self) -> Tally
+        ensures value { result ≡ self.now.tally }
+        ensures adds { AddsUp result }
+    {
+        self.tally
+    }
+
+    /// The end, between two frames.
+    pub fn into_end(self) -> RxControllerEnd
+        ensures end { result ≡ self.end }
+        ensures idle { IsIdle result }
+    {
+        self.end
+    }
+}

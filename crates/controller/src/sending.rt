@@ -1,0 +1,43 @@
+//! How a frame is sent.
+ghost use Rattle.std.specs.Prelude.{◌≡◌, ◌<◌, ◌≤◌, true, [], None};
+ghost use Rattle.limits.specs.declared.profile.TheConstants.{MOST_FRAME};
+ghost use Rattle.ring_model.specs.shared.Handshakes.{is_serving};
+ghost use Rattle.tx_ring.specs.Ends.{controller_state, known_ready, held, is_owed};
+ghost use Rattle.controller.specs.Sending.{CanSend, SentBytes, SentOn};
+ghost use Rattle.controller.specs.Transmitting.{IsIdle};
+
+use crate::arena::Arena;
+use tx_ring::{TxControllerEnd, TxRing};
+
+/// Sends the next frame, which is ready, onto the wire, and reports it if a report is asked for.
+#[inline]
+pub(crate) fn send_frame(ring: &TxRing, end: &mut TxControllerEnd, arena: &mut Arena)
+    requires own { end.old.table ≡ ring.now }
+    requires idle { IsIdle end.old }
+    requires serving { is_serving (controller_state end.old) ≡ true }
+    requires ready { 0 < known_ready end.old }
+    requires begun { arena.old.begun ≡ [] }
+    requires room { MOST_FRAME ≤ arena.old.room }
+    requires entries { 0 < arena.old.entries }
+    ensures sent { SentOn end.old arena.old end.new arena.new }
+    ensures idle { IsIdle end.new }
+{
+    while !send_segment(ring, end, arena) {}
+    arena.end_frame();
+    if end.owes_report() {
+        end.report(ring);
+    }
+}
+
+/// Sends the next segment, and answers whether it ends its frame.
+#[inline]
+fn send_segment(ring: &TxRing, end: &mut TxControllerEnd, arena: &mut Arena) -> bool
+    requires own { end.old.table ≡ ring.now }
+    requires can { CanSend end.old arena.old }
+    ensures { SentBytes end.old arena.old result end.new arena.new }
+{
+    let (buf, read) = end.fetch(ring);
+    arena.append(buf.bytes());
+    end.give_back(ring, buf);
+    read.eop
+}

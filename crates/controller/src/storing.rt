@@ -1,0 +1,86 @@
+//! How a frame is stored.
+ghost use Rattle.std.specs.Prelude.{◌≡◌, ◌<◌, ◌≤◌, true, false, [], length, None};
+ghost use Rattle.limits.specs.RingLength.{IsRingLength};
+ghost use Rattle.limits.specs.declared.profile.TheConstants.{BUFFER_BYTES};
+ghost use Rattle.ring_model.specs.shared.Frames.{Follows, HasFrameLength, piece_count, unfinished};
+ghost use Rattle.ring_model.specs.shared.Handshakes.{is_serving};
+ghost use Rattle.ring_model.specs.shared.Segments.{piece_of};
+ghost use Rattle.rx_ring.specs.Ends.{controller_size, controller_state, stored, known_free, held, is_quiet};
+ghost use Rattle.controller.specs.Receiving.{IsIdle, StoredFrame};
+ghost use Rattle.controller.specs.Storing.{Decided, StoredBytes};
+
+use crate::offer::Offer;
+use rx_ring::{ControllerEnd, RxControllerEnd, RxRing};
+
+/// Decides on a frame of lawful length, and stores it where descriptors are free: where too few are, `scarce` is
+/// answered.
+pub(crate) fn decide(
+    ring: &RxRing,
+    end: &mut RxControllerEnd,
+    bsize: usize,
+    frame: &[u8],
+    scarce: Offer,
+) -> Offer
+    requires own { end.old.table ≡ ring.now }
+    requires idle { IsIdle end.old }
+    requires least { 1024 ≤ bsize }
+    requires most { bsize ≤ BUFFER_BYTES }
+    requires frame { HasFrameLength frame.now }
+    ensures decided { Decided scarce end.old bsize frame.now result end.new }
+    ensures idle { IsIdle end.new }
+    ensures own { end.new.table ≡ end.old.table }
+{
+    if !end.is_serving() || end.has_finished() {
+        return Offer::Off;
+    }
+    let needed = ((frame.len() + bsize - 1) / bsize) as u32;
+    if end.size() <= needed {
+        return Offer::Oversize;
+    }
+    if end.free() < needed && end.look(ring) < needed {
+        return scarce;
+    }
+    store_frame(ring, end, bsize, frame);
+    Offer::Stored
+}
+
+/// Stores a frame in the next descriptors, which are free, and the head after it.
+fn store_frame(ring: &RxRing, end: &mut RxControllerEnd, bsize: usize, frame: &[u8])
+    requires own { end.old.table ≡ ring.now }
+    requires idle { IsIdle end.old }
+    requires serving { is_serving (controller_state end.old) ≡ true }
+    requires quiet { is_quiet end.old ≡ false }
+    requires least { 1024 ≤ bsize }
+    requires most { bsize ≤ BUFFER_BYTES }
+    requires frame { HasFrameLength frame.now }
+    requires fits { piece_count bsize (length frame.now) < controller_size end.old }
+    requires free { piece_count bsize (length frame.now) ≤ known_free end.old }
+    ensures stored { StoredFrame bsize frame.now end.old end.new }
+    ensures idle { IsIdle end.new }
+    ensures own { end.new.table ≡ end.old.table }
+{
+    let mut rest = frame;
+    while bsize < rest.len() {
+        let (piece, more) = rest.split_at(bsize);
+        store_piece(ring, end, piece, false);
+        rest = more;
+    }
+    store_piece(ring, end, rest, true);
+    end.set_head(ring);
+}
+
+/// Stores some bytes of a frame in the next descriptor.
+#[inline]
+fn store_piece(ring: &RxRing, end: &mut RxControllerEnd, bytes: &[u8], eop: bool)
+    requires own { end.old.table ≡ ring.now }
+    requires serving { is_serving (controller_state end.old) ≡ true }
+    requires quiet { is_quiet end.old ≡ false }
+    requires held { held end.old ≡ None }
+    requires free { 0 < known_free end.old }
+    requires follows { Follows piece_of (controller_size end.old) (unfinished piece_of (stored end.old)) bytes.now eop }
+    ensures { StoredBytes end.old bytes.now eop end.new }
+{
+    let mut buf = end.fetch(ring);
+    buf.fill(bytes);
+    end.write_back(ring, buf, eop);
+}

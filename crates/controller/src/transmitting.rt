@@ -1,0 +1,99 @@
+//! The device's side of a transmit queue.
+ghost use Rattle.std.specs.Prelude.{◌≡◌};
+ghost use Rattle.ring_model.specs.shared.Frames.{frames};
+ghost use Rattle.ring_model.specs.transmit.Ring.{carried};
+ghost use Rattle.tx_ring.specs.Ends.{sent};
+ghost use Rattle.controller.specs.Handshaking.{TurnedControl};
+ghost use Rattle.controller.specs.Transmitting.{IsIdle, Turned};
+
+use crate::error::CtlError;
+use crate::sending::send_frame;
+use crate::wire::Wire;
+use std::marker::Model;
+use tx_ring::{Control, ControllerEnd, TxControllerEnd, TxRing};
+
+/// What a turn did.
+#[derive(Clone, Copy, Debug, PartialEq, Eq)]
+pub enum Turn {
+    /// The end doesn't serve the queue. No step was made.
+    Off,
+    /// The tail was loaded, and nothing was ready.
+    Idle,
+    /// A frame was sent onto the wire, and reported if its descriptor asked for that.
+    Sent,
+}
+
+/// The device's side of a transmit queue: it sends whole frames onto a wire, and answers enabling and disabling between
+/// two frames.
+#[derive(Drop)]
+pub struct TxController {
+    end: TxControllerEnd,
+}
+
+impl Model for TxController {
+    ghost use Rattle.tx_ring.specs.Ends.{ControllerSide};
+    ghost use Rattle.controller.specs.Transmitting.{IsIdle};
+
+    ghost Value = { ControllerSide };
+
+    ghost view = { λ c. c.end };
+
+    ghost invariant = { λ c. IsIdle c.end };
+}
+
+impl TxController {
+    /// A controller of a transmit queue. The end has to stand between two frames, with nothing held, the head stored and
+    /// no report owed.
+    pub fn new(end: TxControllerEnd) -> TxController
+        requires { IsIdle end }
+        ensures { result ≡ end }
+    {
+        TxController { end }
+    }
+
+    /// Loads the control word, and answers what is asked, if anything is. It gives the control value that it stored, else
+    /// the one that it loaded.
+    pub fn turn_control(&mut self, ring: &TxRing) -> Control
+        requires own { self.old.table ≡ ring.now }
+        ensures turned { TurnedControl self.old result self.new }
+        ensures own { self.new.table ≡ ring.now }
+    {
+        let asked = self.end.asked(ring);
+        if !self.end.can_answer() {
+            return asked;
+        }
+        self.end.answer(ring);
+        if self.end.is_serving() {
+            Control::Enabled
+        } else {
+            Control::Disabled
+        }
+    }
+
+    /// Sends the next frame, if one is ready. Before it fetches anything it makes room for the longest frame on the wire,
+    /// and where that is refused answers `Memory`: then the call can be made again, and the same frame is sent.
+    pub fn turn(&mut self, ring: &TxRing, wire: &mut Wire) -> Result<Turn, CtlError>
+        requires own { self.old.table ≡ ring.now }
+        ensures turned { Turned self.old wire.old result self.new wire.new }
+        ensures frames { wire.old ≡ frames carried (sent self.old) → wire.new ≡ frames carried (sent self.new) }
+        ensures own { self.new.table ≡ ring.now }
+    {
+        if !self.end.is_serving() {
+            return Ok(Turn::Off);
+        }
+        if self.end.look(ring) == 0 {
+            return Ok(Turn::Idle);
+        }
+        wire.arena.reserve()?;
+        send_frame(ring, &mut self.end, &mut wire.arena);
+        Ok(Turn::Sent)
+    }
+
+    /// The end, between two frames.
+    pub fn into_end(self) -> TxControllerEnd
+        ensures end { result ≡ self }
+        ensures idle { IsIdle result }
+    {
+        self.end
+    }
+}
