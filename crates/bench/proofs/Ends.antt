@@ -1,8 +1,8 @@
 -- What the records of the two ends amount to, from their making on.
-use Rattle.std.proofs.Common.{◌≡◌, ◌∙◌, ℕ, true, List, [], ◌∷◌, ◌++◌, length, ap, sym, refl}
-use Rattle.std.specs.Prelude.{All, replicate}
+use Rattle.std.proofs.Common.{◌≡◌, ◌∙◌, ℕ, true, [], length, ap, sym, refl}
+use Rattle.std.specs.Prelude.{replicate}
 use Rattle.std.proofs.lemmas.Bool.{false≢true}
-use Rattle.std.proofs.lemmas.List.Elements.{All-nil, All-same, All-push}
+use Rattle.std.proofs.lemmas.List.Elements.{All-nil, All-same}
 use Rattle.std.proofs.lemmas.List.FromFn.{length-range_with_len}
 use Rattle.atomic_table.specs.Seated.{TableId}
 use Rattle.buffer_pool.specs.Stocked.{Stocked, full_stock}
@@ -13,11 +13,12 @@ use Rattle.ring_model.specs.shared.Segments.{Segment, piece_of}
 use Rattle.ring_model.specs.shared.Handshakes.{is_on, is_serving}
 use Rattle.ring_model.specs.shared.Frames.{Bytes, unfinished}
 use Rattle.rx_ring.specs.Records.{driving, controlling}
-use Rattle.rx_ring.specs.Ends.{DriverSide, ControllerSide, driver_size, posted, taken, reclaimed, driver_state, stored, number_in}
+use Rattle.rx_ring.specs.Ends.{DriverSide, ControllerSide, driver_size, posted, taken, reclaimed, driver_state, stored}
 use Rattle.rx_ring.specs.Calls.{IsFreshDriver, IsFreshController}
 use Rattle.rx_ring.specs.Meeting.{ledger_of, is_unanswered, stored_now}
-use Rattle.bench.specs.Passing.{IsWhole, StoredOnly, CanServe, HasBegun, CanStore, TookAll, HasPassed}
-use Rattle.bench.proofs.Copies.{none_after, All-beginning, All-unless, copies}
+use Rattle.bench.specs.Copies.{IsWhole}
+use Rattle.bench.specs.Passing.{StoredOnly, CanServe, HasBegun, CanStore, TookAll, HasPassed}
+use Rattle.bench.proofs.Copies.{All-beginning, All-unless, copies}
 
 -- a full stock has as many numbers as it counts
 pub stock_count : (stock : Stocked) (first count : ℕ) → stock ≡ full_stock first count → length stock.numbers ≡ count
@@ -49,32 +50,30 @@ pub fresh_serves : (ring : TableId) (controller : ControllerSide) → controller
 fresh_serves ring controller own fresh = record {
   own = own;
   idle = ap (λ es. is_serving (controlling controller.table.slots es).state) fresh;
-  none_held = ap (λ es. number_in (controlling controller.table.slots es).held) fresh;
+  none_held = ap (λ es. (controlling controller.table.slots es).held) fresh;
 }
+
+-- the segment is the whole frame
+abbrev IsWholeSegment : Bytes → Segment Bytes → Type 0
+IsWholeSegment frame s = IsWhole frame (piece_of s)
 
 pub begun_stores : (ring : TableId) (frame : Bytes) (controller : ControllerSide) → HasBegun ring controller → CanStore ring frame controller
 begun_stores ring frame controller begun = record {
-  stored_only = record { own = begun.own; only = All-same (IsWhole frame) (stored controller) [] begun.none_stored (All-nil (IsWhole frame)) };
+  stored_only = record { own = begun.own; only = All-same (IsWholeSegment frame) (stored controller) [] begun.none_stored (All-nil (IsWholeSegment frame)) };
   none_unfinished = ap (unfinished piece_of) begun.none_stored;
   none_held = begun.none_held;
   serving = begun.serving;
   not_quiet = begun.not_quiet;
 }
 
--- the segments with one more that is the whole frame
-pub whole_after : (frame : Bytes) (before after : List (Segment Bytes)) (s : Segment Bytes) → All (IsWhole frame) before → IsWhole frame s → after ≡ before ++ s ∷ []
-    → All (IsWhole frame) after × (unfinished piece_of after ≡ [])
-whole_after frame before after s all whole grew =
-    (All-same (IsWhole frame) after (before ++ s ∷ []) grew (All-push (IsWhole frame) before s all whole), ap (unfinished piece_of) grew ∙ none_after before s whole.last)
-
 -- a driver that took so many segments took so many copies of the frame, where the controller stored nothing else
 pub has_passed : (ring : TableId) (count : ℕ) (frame : Bytes) (driver : DriverSide) (controller : ControllerSide)
     → TookAll ring count driver → StoredOnly ring frame controller
     → IsLawfulRxLedger Bytes (driver_size driver) (ledger_of driver controller) → HasPassed count frame driver controller
 has_passed ring count frame driver controller took stored_only lawful =
-    let now = All-unless (IsWhole frame) (stored controller) (is_unanswered driver controller) stored_only.only in
-    let all = All-beginning (IsWhole frame) (taken driver) (stored_now driver controller) lawful.taken now in record {
+    let now = All-unless (IsWholeSegment frame) (stored controller) (is_unanswered driver controller) stored_only.only in
+    let all = All-beginning (IsWholeSegment frame) (taken driver) (stored_now driver controller) lawful.taken now in record {
       one_ring = stored_only.own ∙ sym took.own;
       lawful = lawful;
-      copies = copies frame (taken driver) all ∙ ap (λ n. replicate n frame) took.count_is;
+      copies = copies piece_of frame (taken driver) all ∙ ap (λ n. replicate n frame) took.count_is;
     }

@@ -1,2 +1,4 @@
 pub mod Copies
+pub mod Countdown
 pub mod Ends
+pub mod TxEnds

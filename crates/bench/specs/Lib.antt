@@ -1,1 +1,3 @@
+pub mod Copies
 pub mod Passing
+pub mod Sending

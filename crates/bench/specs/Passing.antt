@@ -1,40 +1,31 @@
--- What the threads at the two ends of a ring keep while frames are passed, and what was passed at the end.
-use Rattle.std.specs.Prelude.{◌≡◌, ℕ, ◌≤◌, true, false, [], All, length, replicate, None}
+-- What the threads at the two ends of a receive ring keep while frames are passed, and what was passed at the end.
+use Rattle.std.specs.Prelude.{◌≡◌, ℕ, true, false, [], length, replicate, None}
 use Rattle.atomic_table.specs.Seated.{TableId}
-use Rattle.limits.specs.declared.profile.TheConstants.{BUFFER_BYTES, LEAST_FRAME}
 use Rattle.ring_model.specs.declared.states.DriverState.TheVariants.{On}
-use Rattle.ring_model.specs.shared.Segments.{Segment, piece_of}
+use Rattle.ring_model.specs.shared.Segments.{piece_of}
 use Rattle.ring_model.specs.shared.Handshakes.{is_new, is_serving}
 use Rattle.ring_model.specs.shared.Frames.{Bytes, frames, unfinished}
 use Rattle.ring_model.specs.receive.Lawful.{IsLawfulRxLedger}
-use Rattle.rx_ring.specs.Ends.{DriverSide, ControllerSide, driver_size, taken, driver_state, stored, held_number, controller_state, is_quiet}
+use Rattle.rx_ring.specs.Ends.{DriverSide, ControllerSide, driver_size, taken, driver_state, stored, held, controller_state, is_quiet}
 use Rattle.rx_ring.specs.Meeting.{ledger_of}
-
--- at least an Ethernet header, and no more than a buffer has room for
-abbrev pub IsFrameLength : ℕ → Type 0
-IsFrameLength len = (LEAST_FRAME ≤ len) × (len ≤ BUFFER_BYTES)
-
--- the segment is the whole frame
-pub record IsWhole (frame : Bytes) (s : Segment Bytes) : Type 0 where
-  pub bytes : s.payload ≡ frame
-  pub last : s.eop ≡ true
+use Rattle.bench.specs.Copies.{AllWhole}
 
 -- the controller stored nothing but the frame at the ring
 pub record StoredOnly (ring : TableId) (frame : Bytes) (controller : ControllerSide) : Type 0 where
   pub own : controller.table ≡ ring
-  pub only : All (IsWhole frame) (stored controller)
+  pub only : AllWhole piece_of frame (stored controller)
 
 -- the controller does not serve the ring, and holds no buffer
 pub record CanServe (ring : TableId) (controller : ControllerSide) : Type 0 where
   pub own : controller.table ≡ ring
   pub idle : is_serving (controller_state controller) ≡ false
-  pub none_held : held_number controller ≡ None
+  pub none_held : held controller ≡ None
 
 -- the controller serves the ring, and has stored nothing yet
 pub record HasBegun (ring : TableId) (controller : ControllerSide) : Type 0 where
   pub own : controller.table ≡ ring
   pub none_stored : stored controller ≡ []
-  pub none_held : held_number controller ≡ None
+  pub none_held : held controller ≡ None
   pub serving : is_serving (controller_state controller) ≡ true
   pub not_quiet : is_quiet controller ≡ false
 
@@ -42,7 +33,7 @@ pub record HasBegun (ring : TableId) (controller : ControllerSide) : Type 0 wher
 pub record CanStore (ring : TableId) (frame : Bytes) (controller : ControllerSide) : Type 0 where
   pub stored_only : StoredOnly ring frame controller
   pub none_unfinished : unfinished piece_of (stored controller) ≡ []
-  pub none_held : held_number controller ≡ None
+  pub none_held : held controller ≡ None
   pub serving : is_serving (controller_state controller) ≡ true
   pub not_quiet : is_quiet controller ≡ false
 

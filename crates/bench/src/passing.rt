@@ -1,25 +1,25 @@
-//! A ring is made, its two ends run in threads of their own, and the time is taken.
+//! A receive ring is made, its two ends run in threads of their own, and the time is taken.
 ghost use Rattle.std.specs.Prelude.{◌≡◌, ◌≤◌, length, replicate, IfOk};
 ghost use Rattle.limits.specs.RingLength.{IsRingLength};
 ghost use Rattle.rx_ring.specs.Calls.{IsFreshDriver};
-ghost use Rattle.bench.specs.Passing.{CanAsk, CanServe, HasPassed, IsFrameLength, StoredOnly, TookAll};
+ghost use Rattle.bench.specs.Copies.{IsFrameLength};
+ghost use Rattle.bench.specs.Passing.{CanAsk, CanServe, HasPassed, StoredOnly, TookAll};
+ghost use Rattle.bench.specs.declared.supply.TheConstants.{BYTE};
 
 use crate::storing::store_all;
-use crate::taking::{Reception, Tally, take_all};
-use crate::words::Plan;
+use crate::supply::{frame_of, stock_for};
+use crate::taking::{Reception, take_all};
+use crate::tally::Tally;
+use crate::words::RingPlan;
 use anyhow::{Result, bail, ensure};
 use buffer_pool::Stock;
-use limits::{BUFFER_BYTES, FEWEST_BUFFERS, LEAST_FRAME};
-use rx_ring::{RxControllerEnd, RxDriverEnd, RxRing, meet_rx};
+use rx_ring::{DriverEnd, RxControllerEnd, RxDriverEnd, RxRing, meet_rx};
 use std::alloc::Global;
 use std::rt::Clock;
 use std::sync::Wait;
 use std::thread;
 use std::thread::{Promise, Threads};
 use std::time::{Duration, Instant};
-
-/// Each byte of a frame.
-const BYTE: u8 = 0xab;
 
 /// What was passed, and how long it took.
 #[derive(Drop)]
@@ -39,15 +39,16 @@ impl<'a> Promise<RxControllerEnd> for StoresOnly<'a> {
 
 /// Passes the plan's frames through a ring, and answers how long that took, from the start of the controller's thread
 /// on. The driver runs in the thread of the caller.
-pub fn pass<R: Threads + Wait + Clock + Sync>(rt: &R, alloc: Global, plan: Plan) -> Result<Passage>
-    ensures { IfOk result (λ p. HasPassed plan.frames (replicate plan.size BYTE) p.driver p.controller) }
+pub fn pass<R: Threads + Wait + Clock + Sync>(
+    rt: &R,
+    alloc: Global,
+    plan: RingPlan,
+) -> Result<Passage>
+    ensures { IfOk result (λ p. HasPassed plan.load.frames (replicate plan.load.size BYTE) p.driver p.controller) }
 {
-    if plan.size < LEAST_FRAME || BUFFER_BYTES < plan.size {
-        bail!("frame length");
-    }
-    let frame = vec![in alloc; BYTE; plan.size]?;
-    let (ring, mut driver, controller) = RxRing::new(alloc, plan.ring)?;
-    let mut stock = Stock::new(alloc, 0, plan.ring.max(FEWEST_BUFFERS))?;
+    let frame = frame_of(alloc, plan.load.size)?;
+    let (ring, mut driver, controller) = RxRing::new(alloc, plan.load.ring)?;
+    let mut stock = stock_for(alloc, plan.load.ring)?;
     post_all(&ring, &mut driver, &mut stock);
     let start = Instant::now(rt)?;
     let (reception, mut controller) = in_threads(
@@ -62,7 +63,7 @@ pub fn pass<R: Threads + Wait + Clock + Sync>(rt: &R, alloc: Global, plan: Plan)
     let Reception { mut driver, tally } = reception;
     meet_rx(&ring, &mut driver, &mut controller);
     ensure!(
-        tally == Tally::of(frame.as_slice(), plan.frames),
+        tally == Tally::of(frame.as_slice(), plan.load.frames),
         "the frames that were taken are not those that were stored"
     );
     Ok(Passage {
@@ -79,13 +80,13 @@ fn in_threads<R: Threads + Wait + Sync>(
     driver: RxDriverEnd,
     controller: RxControllerEnd,
     frame: &[u8],
-    plan: Plan,
+    plan: RingPlan,
 ) -> Result<(Reception, RxControllerEnd)>
     requires size { IsRingLength ring.now.slots }
     requires driver { CanAsk ring.now driver }
     requires controller { CanServe ring.now controller }
     requires frame { IsFrameLength (length frame.now) }
-    ensures driver { IfOk result (λ ends. TookAll ring.now plan.frames ends.0.driver) }
+    ensures driver { IfOk result (λ ends. TookAll ring.now plan.load.frames ends.0.driver) }
     ensures controller { IfOk result (λ ends. StoredOnly ring.now frame.now ends.1) }
 {
     thread::scope(
@@ -96,16 +97,16 @@ fn in_threads<R: Threads + Wait + Sync>(
             requires driver { CanAsk ring.now driver }
             requires controller { CanServe ring.now controller }
             requires frame { IsFrameLength (length frame.now) }
-            ensures driver { IfOk result (λ ends. TookAll ring.entry.now plan.frames ends.0.driver) }
+            ensures driver { IfOk result (λ ends. TookAll ring.entry.now plan.load.frames ends.0.driver) }
             ensures controller { IfOk result (λ ends. StoredOnly ring.entry.now frame.entry.now ends.1) }
         {
             let storing = scope.spawn_with(StoresOnly(ring, frame), move || {
-                store_all(rt, ring, controller, frame, plan.frames)
+                store_all(rt, ring, controller, frame, plan.load.frames)
             });
             let Ok(storing) = storing else {
                 bail!("no thread could be made");
             };
-            let reception = take_all(rt, ring, driver, plan.frames, plan.batch);
+            let reception = take_all(rt, ring, driver, plan.load.frames, plan.batch);
             Ok((reception, storing.join(rt)))
         },
     )

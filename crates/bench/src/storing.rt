@@ -1,11 +1,12 @@
-//! The controller's thread.
+//! The controller's thread of a receive ring.
 ghost use Rattle.std.specs.Prelude.{◌<◌, length};
 ghost use Rattle.limits.specs.RingLength.{IsRingLength};
 ghost use Rattle.rx_ring.specs.Ends.{known_free};
-ghost use Rattle.bench.specs.Passing.{CanServe, CanStore, HasBegun, IsFrameLength, StoredOnly};
+ghost use Rattle.bench.specs.Copies.{IsFrameLength};
+ghost use Rattle.bench.specs.Passing.{CanServe, CanStore, HasBegun, StoredOnly};
 
 use crate::patience::Patience;
-use rx_ring::{RxControllerEnd, RxRing};
+use rx_ring::{ControllerEnd, RxControllerEnd, RxRing};
 use std::sync::Wait;
 
 /// Answers the enabling, and stores the frame so many times, each as soon as a descriptor is free. It looks at the tail

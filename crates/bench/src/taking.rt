@@ -1,38 +1,12 @@
-//! The driver's thread.
+//! The driver's thread of a receive ring.
 ghost use Rattle.std.specs.Prelude.{◌≡◌, ◌+◌, ◌≤◌, [], length};
 ghost use Rattle.rx_ring.specs.Ends.{taken};
 ghost use Rattle.bench.specs.Passing.{CanAsk, CanTake, TookAll};
 
 use crate::patience::Patience;
-use rx_ring::{Poll, RxDriverEnd, RxRing};
+use crate::tally::Tally;
+use rx_ring::{DriverEnd, Poll, RxDriverEnd, RxRing};
 use std::sync::Wait;
-
-/// What the driver read in the frames that it took: their bytes, and the sum of their first bytes.
-#[derive(Clone, Copy, PartialEq, Eq)]
-pub struct Tally {
-    pub bytes: u64,
-    pub first_bytes: u64,
-}
-
-impl Tally {
-    /// What so many frames like this one come to.
-    pub fn of(frame: &[u8], frames: u32) -> Tally {
-        let first = frame.first().map_or(0, |byte| u64::from(*byte));
-        let count = u64::from(frames);
-        Tally {
-            bytes: (frame.len() as u64).wrapping_mul(count),
-            first_bytes: first.wrapping_mul(count),
-        }
-    }
-
-    /// Reads one more frame.
-    #[inline]
-    fn add(&mut self, frame: &[u8]) {
-        let first = frame.first().map_or(0, |byte| u64::from(*byte));
-        self.bytes = self.bytes.wrapping_add(frame.len() as u64);
-        self.first_bytes = self.first_bytes.wrapping_add(first);
-    }
-}
 
 /// What the driver's thread gives back.
 #[derive(Drop)]
@@ -55,10 +29,7 @@ pub fn take_all<R: Wait>(
 {
     await_on(rt, ring, &mut driver);
     let mut patience = Patience::new();
-    let mut tally = Tally {
-        bytes: 0,
-        first_bytes: 0,
-    };
+    let mut tally = Tally::new();
     let mut left = frames;
     for _ in rt.forever() {
         if left == 0 {

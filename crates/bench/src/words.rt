@@ -1,50 +1,117 @@
 //! The command line.
 
 use limits::{BUFFER_BYTES, MOST_RING};
+use ring_model::Completion;
 
-/// What is run.
+/// What passes: through a ring of so many descriptors so many frames, of so many bytes each.
 #[derive(Clone, Copy)]
-pub struct Plan {
-    /// The descriptors of the ring.
+pub struct Load {
     pub ring: u32,
-    /// How many frames are passed.
     pub frames: u32,
-    /// The bytes of each frame.
     pub size: usize,
+}
+
+/// A run of a receive ring.
+#[derive(Clone, Copy)]
+pub struct RingPlan {
+    pub load: Load,
     /// After how many frames at most the driver publishes the buffers that it posted again.
     pub batch: u32,
 }
 
+/// A run of a transmit ring.
+#[derive(Clone, Copy)]
+pub struct TxPlan {
+    pub load: Load,
+    /// A report is asked for by each frame of this number, and by the last.
+    pub report: u32,
+    pub completion: Completion,
+}
+
+/// What is run.
+#[derive(Clone, Copy)]
+pub enum Plan {
+    Ring(RingPlan),
+    Tx(TxPlan),
+}
+
+impl Plan {
+    /// What passes.
+    pub fn load(self) -> Load {
+        match self {
+            Plan::Ring(plan) => plan.load,
+            Plan::Tx(plan) => plan.load,
+        }
+    }
+}
+
 /// What is told in place of a run.
 pub const USAGE: &str = "Usage: bench ring --ring N --frames N --size N --batch N
+       bench tx --ring N --frames N --size N --report N --completion status|head
 
-Passes frames through a receive ring, with a thread at each end, and prints what one costs.
+Passes frames through a receive ring or a transmit ring, with a thread at each end, and prints what one costs.
 
-  --ring    the descriptors of the ring, a power of two from 8 to 4096
-  --frames  how many frames are passed, from 1
-  --size    the bytes of each frame, 14 to 2048
-  --batch   after how many frames at most the driver publishes, 1 to 4096
+  --ring        the descriptors of the ring, a power of two from 8 to 4096
+  --frames      how many frames are passed, from 1
+  --size        the bytes of each frame, 14 to 2048
+  --batch       after how many frames at most the driver publishes, 1 to 4096
+  --report      how many frames one report covers, from 1 to the ring's descriptors less one
+  --completion  how frames are reported as sent: by their descriptors, or by the head
 
-Example:
-  bench ring --ring 512 --frames 1000000 --size 60 --batch 32";
+Examples:
+  bench ring --ring 512 --frames 1000000 --size 60 --batch 32
+  bench tx --ring 512 --frames 1000000 --size 60 --report 32 --completion status";
 
-/// Reads the words after the program's name: `ring`, and each option once with its number.
+/// Reads the words after the program's name: `ring` or `tx`, and each of its options once with its value.
 pub fn plan_of(words: &[String]) -> Option<Plan> {
     let (command, options) = words.split_first()?;
-    if command.as_str() != "ring" || options.len() != 8 {
-        return None;
+    match (command.as_str(), options.len()) {
+        ("ring", 8) => Some(Plan::Ring(ring_plan(options)?)),
+        ("tx", 10) => Some(Plan::Tx(tx_plan(options)?)),
+        _ => None,
     }
-    Some(Plan {
-        ring: number_of(options, "--ring", MOST_RING as u32)?,
-        frames: number_of(options, "--frames", u32::MAX)?,
-        size: number_of(options, "--size", BUFFER_BYTES as u32)? as usize,
+}
+
+fn ring_plan(options: &[String]) -> Option<RingPlan> {
+    Some(RingPlan {
+        load: load_of(options)?,
         batch: number_of(options, "--batch", MOST_RING as u32)?,
     })
 }
 
+fn tx_plan(options: &[String]) -> Option<TxPlan> {
+    let load = load_of(options)?;
+    Some(TxPlan {
+        load,
+        report: number_of(options, "--report", load.ring.saturating_sub(1))?,
+        completion: completion_of(value_of(options, "--completion")?)?,
+    })
+}
+
+fn load_of(options: &[String]) -> Option<Load> {
+    Some(Load {
+        ring: number_of(options, "--ring", MOST_RING as u32)?,
+        frames: number_of(options, "--frames", u32::MAX)?,
+        size: number_of(options, "--size", BUFFER_BYTES as u32)? as usize,
+    })
+}
+
+fn completion_of(word: &str) -> Option<Completion> {
+    match word {
+        "status" => Some(Completion::Status),
+        "head" => Some(Completion::Head),
+        _ => None,
+    }
+}
+
 /// The number after an option, from 1 to `most`.
 fn number_of(options: &[String], name: &str, most: u32) -> Option<u32> {
-    let at = options.iter().position(|word| word.as_str() == name)?;
-    let number: u32 = options.get(at + 1)?.as_str().parse().ok()?;
+    let number: u32 = value_of(options, name)?.parse().ok()?;
     (1 <= number && number <= most).then_some(number)
+}
+
+/// The word after an option.
+fn value_of<'a>(options: &'a [String], name: &str) -> Option<&'a str> {
+    let at = options.iter().position(|word| word.as_str() == name)?;
+    Some(options.get(at + 1)?.as_str())
 }

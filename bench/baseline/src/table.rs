@@ -1,0 +1,82 @@
+//! What both rings share: words, and a slot for the buffer of each descriptor.
+//!
+//! A ring has `n` descriptors of one word each. Behind them are the head, the tail, the control word, a word that a
+//! receive ring's controller has for quiet, and one for the head that a transmit ring reports. Every step on a word is one
+//! sequentially consistent load or store, as in the proved rings.
+
+use crate::buffer::Buffer;
+use std::cell::UnsafeCell;
+use std::sync::atomic::{AtomicU64, Ordering::SeqCst};
+
+/// Which of the words behind the descriptors.
+#[derive(Clone, Copy)]
+pub enum Register {
+    Head,
+    Tail,
+    Control,
+    Reported = 4,
+}
+
+pub struct Table {
+    size: usize,
+    words: Box<[AtomicU64]>,
+    slots: Box<[UnsafeCell<Option<Buffer>>]>,
+}
+
+// SAFETY: a slot is reached only through the two ends of a ring, and the words say which of them may.
+unsafe impl Sync for Table {}
+
+impl Table {
+    /// A table of `size` descriptors, a power of two from 8 to 4,096.
+    pub fn new(size: usize) -> Self {
+        Table {
+            size,
+            words: (0..size + 5).map(|_| AtomicU64::new(0)).collect(),
+            slots: (0..size).map(|_| UnsafeCell::new(None)).collect(),
+        }
+    }
+
+    pub fn size(&self) -> usize {
+        self.size
+    }
+
+    pub fn load(&self, place: usize) -> u64 {
+        self.words[place].load(SeqCst)
+    }
+
+    pub fn store(&self, place: usize, word: u64) {
+        self.words[place].store(word, SeqCst);
+    }
+
+    pub fn load_register(&self, register: Register) -> u64 {
+        self.load(self.size + register as usize)
+    }
+
+    pub fn store_register(&self, register: Register, word: u64) {
+        self.store(self.size + register as usize, word);
+    }
+
+    pub fn after(&self, place: usize) -> usize {
+        (place + 1) & (self.size - 1)
+    }
+
+    /// How many places lie from one up to another.
+    pub fn between(&self, from: usize, to: usize) -> usize {
+        to.wrapping_sub(from) & (self.size - 1)
+    }
+
+    /// # Safety
+    /// The caller is the one end that may reach the slot.
+    pub unsafe fn put_in(&self, place: usize, buffer: Buffer) {
+        unsafe { *self.slots[place].get() = Some(buffer) }
+    }
+
+    /// # Safety
+    /// The caller is the one end that may reach the slot, and the slot is full.
+    pub unsafe fn take_out(&self, place: usize) -> Buffer {
+        unsafe {
+            let slot = &mut *self.slots[place].get();
+            slot.take().expect("a slot that changes hands is full")
+        }
+    }
+}

@@ -1,0 +1,233 @@
+//! A transmit ring that a driver and a controller share without a lock. A slot is read and written by one side at a time:
+//! by the driver from the cleaning of a descriptor to its next posting, by the controller from a fetch until the head is
+//! stored, and by nobody in between.
+
+use crate::buffer::Buffer;
+use crate::table::{Register, Table};
+use std::collections::VecDeque;
+
+/// A descriptor's word, but for EOP, RS and the two lengths: DTYP 3, IFCS, DEXT.
+const KIND: u64 = (3 << 20) + (1 << 25) + (1 << 29);
+
+/// The descriptor ends a frame.
+const EOP: u64 = 1 << 24;
+
+/// A report is asked for.
+const RS: u64 = 1 << 27;
+
+/// Where a descriptor has the whole frame's length.
+const PAYLEN_SHIFT: u32 = 46;
+
+/// The word of a report by its descriptor: done.
+const DD: u64 = 1 << 32;
+
+/// The control word where the driver asks for the queue to be enabled, and where it is.
+const ENABLE_ASKED: u64 = 1;
+const ENABLED: u64 = 2;
+
+/// How the controller reports that frames are sent.
+#[derive(Clone, Copy, PartialEq, Eq)]
+pub enum Completion {
+    /// By DD in the descriptor that asked for the report.
+    Status,
+    /// By its head, in a word of its own.
+    Head,
+}
+
+pub struct TxRing {
+    table: Table,
+    completion: Completion,
+}
+
+impl TxRing {
+    /// A ring of `size` descriptors, a power of two from 8 to 4,096. It is not enabled.
+    pub fn new(size: usize, completion: Completion) -> Self {
+        TxRing {
+            table: Table::new(size),
+            completion,
+        }
+    }
+
+    /// The two ends. They borrow the ring uniquely, so there is one of each.
+    pub fn ends(&mut self) -> (Driver<'_>, Controller<'_>) {
+        let (table, completion) = (&self.table, self.completion);
+        let driver = Driver {
+            table,
+            completion,
+            fill: 0,
+            next: 0,
+            out: 0,
+            seen: 0,
+            done: 0,
+            asked: VecDeque::with_capacity(table.size()),
+        };
+        let controller = Controller {
+            table,
+            completion,
+            serve: 0,
+            last: 0,
+            ready: 0,
+            owed: false,
+            asks: false,
+        };
+        (driver, controller)
+    }
+}
+
+/// The driver's end.
+pub struct Driver<'a> {
+    table: &'a Table,
+    completion: Completion,
+    fill: usize,
+    next: usize,
+    out: usize,
+    // all before this place is seen reported
+    seen: usize,
+    done: usize,
+    // the places of the reports that are asked for and not seen, the oldest first
+    asked: VecDeque<usize>,
+}
+
+impl Driver<'_> {
+    pub fn ask_enable(&mut self) {
+        self.table.store_register(Register::Control, ENABLE_ASKED);
+    }
+
+    pub fn is_on(&mut self) -> bool {
+        self.table.load_register(Register::Control) == ENABLED
+    }
+
+    /// How many descriptors can be posted.
+    pub fn room(&self) -> usize {
+        self.table.size() - 1 - self.out
+    }
+
+    /// Whether all that was posted is cleaned.
+    pub fn is_clean(&self) -> bool {
+        self.out == 0
+    }
+
+    /// Posts a buffer with a whole frame. There has to be room.
+    pub fn post(&mut self, buffer: Buffer, rs: bool) {
+        let length = buffer.bytes().len() as u64;
+        let word = length + KIND + EOP + if rs { RS } else { 0 } + (length << PAYLEN_SHIFT);
+        // SAFETY: the place is not posted, so it is the driver's until the tail is stored.
+        unsafe { self.table.put_in(self.fill, buffer) };
+        self.table.store(self.fill, word);
+        if rs {
+            self.asked.push_back(self.fill);
+        }
+        self.fill = self.table.after(self.fill);
+        self.out += 1;
+    }
+
+    /// Makes what was posted known to the controller.
+    pub fn publish(&mut self) {
+        self.table.store_register(Register::Tail, self.fill as u64);
+    }
+
+    /// Looks whether the oldest report that is asked for is made: then all up to it can be cleaned.
+    pub fn poll_report(&mut self) -> bool {
+        let Some(&place) = self.asked.front() else {
+            return false;
+        };
+        let past = self.table.after(place);
+        let covered = self.table.between(self.seen, past);
+        let made = match self.completion {
+            Completion::Status => self.table.load(place) & DD != 0,
+            Completion::Head => {
+                let head = self.table.load_register(Register::Reported) as usize;
+                self.table.between(self.seen, head) >= covered
+            }
+        };
+        if made {
+            self.asked.pop_front();
+            self.seen = past;
+            self.done += covered;
+        }
+        made
+    }
+
+    /// How many buffers are seen reported and not cleaned.
+    pub fn reported(&self) -> usize {
+        self.done
+    }
+
+    /// Takes the oldest buffer back. One has to be seen reported.
+    pub fn clean(&mut self) -> Buffer {
+        self.table.store(self.next, 0);
+        // SAFETY: the place is seen reported, so the controller has given it back.
+        let buffer = unsafe { self.table.take_out(self.next) };
+        self.next = self.table.after(self.next);
+        self.out -= 1;
+        self.done -= 1;
+        buffer
+    }
+}
+
+/// The controller's end.
+pub struct Controller<'a> {
+    table: &'a Table,
+    completion: Completion,
+    serve: usize,
+    last: usize,
+    ready: usize,
+    owed: bool,
+    asks: bool,
+}
+
+impl Controller<'_> {
+    pub fn is_asked(&mut self) -> bool {
+        self.table.load_register(Register::Control) == ENABLE_ASKED
+    }
+
+    pub fn enable(&mut self) {
+        self.table.store_register(Register::Control, ENABLED);
+    }
+
+    /// How many descriptors are known to be ready.
+    pub fn ready(&self) -> usize {
+        self.ready
+    }
+
+    /// Loads the tail, and answers how many descriptors are ready.
+    pub fn look(&mut self) -> usize {
+        let tail = self.table.load_register(Register::Tail) as usize;
+        self.ready = self.table.between(self.serve, tail);
+        self.ready
+    }
+
+    /// Takes the buffer of the next descriptor. One has to be known to be ready.
+    pub fn fetch(&mut self) -> Buffer {
+        self.asks = self.table.load(self.serve) & RS != 0;
+        // SAFETY: the place lies before a published tail, so the driver has given it.
+        unsafe { self.table.take_out(self.serve) }
+    }
+
+    /// Gives the fetched buffer back, as sent, and stores the head.
+    pub fn give_back(&mut self, buffer: Buffer) {
+        // SAFETY: the place was fetched, and is the controller's until the store.
+        unsafe { self.table.put_in(self.serve, buffer) };
+        self.last = self.serve;
+        self.serve = self.table.after(self.serve);
+        self.table.store_register(Register::Head, self.serve as u64);
+        self.ready -= 1;
+        self.owed = self.asks;
+    }
+
+    /// Whether the last that was sent asked for a report, and none is made yet.
+    pub fn owes_report(&self) -> bool {
+        self.owed
+    }
+
+    /// Reports the last that was sent, and so all before it.
+    pub fn report(&mut self) {
+        match self.completion {
+            Completion::Status => self.table.store(self.last, DD),
+            Completion::Head => self
+                .table
+                .store_register(Register::Reported, self.serve as u64),
+        }
+        self.owed = false;
+    }
+}

@@ -1,0 +1,36 @@
+//! What is read in frames.
+
+/// What was read in some frames: their bytes, and the sum of their first bytes.
+#[derive(Clone, Copy, PartialEq, Eq)]
+pub struct Tally {
+    bytes: u64,
+    first_bytes: u64,
+}
+
+impl Tally {
+    /// That of no frame.
+    pub fn new() -> Tally {
+        Tally {
+            bytes: 0,
+            first_bytes: 0,
+        }
+    }
+
+    /// What so many frames like this one come to.
+    pub fn of(frame: &[u8], frames: u32) -> Tally {
+        let first = frame.first().map_or(0, |byte| u64::from(*byte));
+        let count = u64::from(frames);
+        Tally {
+            bytes: (frame.len() as u64).wrapping_mul(count),
+            first_bytes: first.wrapping_mul(count),
+        }
+    }
+
+    /// Reads one more frame.
+    #[inline]
+    pub fn add(&mut self, frame: &[u8]) {
+        let first = frame.first().map_or(0, |byte| u64::from(*byte));
+        self.bytes = self.bytes.wrapping_add(frame.len() as u64);
+        self.first_bytes = self.first_bytes.wrapping_add(first);
+    }
+}
