@@ -30,7 +30,7 @@ pub fresh_serves : (ring : TableId) (controller : ControllerSide) → controller
 fresh_serves ring controller own fresh = record {
   own = own;
   none_stored = ap (λ es. (controlling controller.table.slots es).served) fresh;
-  none_held = ap (λ es. number_in (controlling controller.table.slots es).held) fresh;
+  none_held = ap (λ es. (controlling controller.table.slots es).held) fresh;
   not_quiet = ap (λ es. (controlling controller.table.slots es).barred) fresh;
 }
 

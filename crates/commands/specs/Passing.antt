@@ -7,7 +7,7 @@ use Rattle.ring_model.specs.shared.Frames.{Bytes}
 use Rattle.ring_model.specs.shared.Segments.{Segment}
 use Rattle.ring_model.specs.receive.Lawful.{IsLawfulRxLedger}
 use Rattle.limits.specs.RingLength.{IsRingLength}
-use Rattle.rx_ring.specs.Ends.{DriverSide, ControllerSide, driver_size, taken, stored, held_number, is_quiet}
+use Rattle.rx_ring.specs.Ends.{DriverSide, ControllerSide, driver_size, taken, stored, held, is_quiet}
 use Rattle.rx_ring.specs.Calls.{IsFreshDriver, IsFreshController}
 use Rattle.rx_ring.specs.Meeting.{ledger_of}
 use Rattle.commands.specs.Frame.{IsFrameLength}
@@ -46,7 +46,7 @@ pub record StoredOnly (ring : TableId) (frame : Bytes) (controller : ControllerS
 pub record CanServe (ring : TableId) (controller : ControllerSide) : Type 0 where
   pub own : controller.table ≡ ring
   pub none_stored : stored controller ≡ []
-  pub none_held : held_number controller ≡ None
+  pub none_held : held controller ≡ None
   pub not_quiet : is_quiet controller ≡ false
 
 -- The frame went through one ring: the controller stored it and nothing else, the driver took it and nothing else, and it lies in the buffer that the driver took

@@ -10,7 +10,7 @@ ghost use Rattle.commands.specs.Passing.{CanPass, CanServe, HasBuffers, HasPasse
 
 use crate::refusal::Refusal;
 use buffer_pool::{Buf, Stock};
-use rx_ring::{Poll, RxControllerEnd, RxDriverEnd, RxRing, meet_rx};
+use rx_ring::{ControllerEnd, DriverEnd, Poll, RxControllerEnd, RxDriverEnd, RxRing, meet_rx};
 use std::alloc::Global;
 use std::sync::Wait;
 use std::sync::atomic::{AtomicBool, Ordering};

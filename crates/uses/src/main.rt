@@ -1,6 +1,7 @@
 //! The program `uses`: the README's examples of library use. The gate proves it and runs it.
 #![tactic(auto)]
 
+mod forwarder;
 mod moves;
 mod one_frame;
 mod worker;

@@ -2,7 +2,7 @@
 
 use anyhow::Result;
 use buffer_pool::{Buf, Stock};
-use rx_ring::{Poll, RxRing, meet_rx};
+use rx_ring::{ControllerEnd, DriverEnd, Poll, RxRing, meet_rx};
 use std::alloc::Global;
 
 /// Passes a frame of 60 bytes through a ring of 8, and answers the buffer that the driver took.

@@ -1,0 +1,36 @@
+//! A forwarder in a few lines: what a receive queue gets is sent on a transmit queue.
+ghost use Rattle.std.specs.Prelude.{◌≡◌, All};
+ghost use Rattle.buffer_pool.specs.Packed.{IsPacket};
+
+use arrayvec::ArrayVec;
+use buffer_pool::{Packet, Stash};
+use driver::{DriverError, MOST_BATCH, RxDriver, TxDriver};
+use rx_ring::RxRing;
+use tx_ring::TxRing;
+
+/// Forwards for so many rounds, and answers how many packets were posted. Those for which there was no room stay in the
+/// list.
+pub fn forward(
+    from: &RxRing,
+    rx: &mut RxDriver,
+    to: &TxRing,
+    tx: &mut TxDriver,
+    stash: &mut Stash,
+    packets: &mut ArrayVec<Packet, MOST_BATCH>,
+    rounds: u32,
+) -> Result<usize, DriverError>
+    requires receives { rx.old.end.table ≡ from.now }
+    requires sends { tx.old.end.table ≡ to.now }
+    requires whole { All IsPacket packets.old.items }
+    ensures receives { rx.new.end.table ≡ from.now }
+    ensures sends { tx.new.end.table ≡ to.now }
+    ensures whole { All IsPacket packets.new.items }
+{
+    let mut sent: usize = 0;
+    for _ in 0..rounds {
+        rx.rx_batch(from, stash, packets)?; // empty buffers of the stash were posted in their place
+        let posted = tx.tx_batch(to, stash, packets)?; // what was sent came back into the stash
+        sent = sent.saturating_add(posted);
+    }
+    Ok(sent)
+}
