@@ -10,6 +10,7 @@
 #![tactic(auto)]
 
 mod error;
+mod handshake;
 mod rx_driver;
 mod tx_driver;
 

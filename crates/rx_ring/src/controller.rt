@@ -145,6 +145,7 @@ impl ControllerEnd<RxDriverOwn, RxControllerOwn, RxRule> for RxControllerEnd {
 
     ghost side = { controller_side rx };
 
+    #[inline]
     fn at(&self) -> ControllerPlaces {
         self.at
     }

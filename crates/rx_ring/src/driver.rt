@@ -177,6 +177,7 @@ impl DriverEnd<RxDriverOwn, RxControllerOwn, RxRule> for RxDriverEnd {
 
     ghost side = { driver_side rx };
 
+    #[inline]
     fn at(&self) -> DriverPlaces {
         self.at
     }

@@ -151,6 +151,7 @@ impl ControllerEnd<TxDriverOwn, TxControllerOwn, TxRule> for TxControllerEnd {
 
     ghost side = { controller_side tx };
 
+    #[inline]
     fn at(&self) -> ControllerPlaces {
         self.at
     }

@@ -221,6 +221,7 @@ impl DriverEnd<TxDriverOwn, TxControllerOwn, TxRule> for TxDriverEnd {
 
     ghost side = { driver_side tx };
 
+    #[inline]
     fn at(&self) -> DriverPlaces {
         self.at
     }

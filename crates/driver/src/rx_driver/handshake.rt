@@ -11,6 +11,7 @@ ghost use Rattle.driver.specs.receive.Returns.{IsEmptied, GaveBack};
 
 use super::{RxDriver, reclaiming};
 use crate::error::DriverError;
+use crate::handshake;
 use buffer_pool::{STASH_BUFFERS, Stash};
 use rx_ring::{DriverEnd, RxRing};
 
@@ -29,17 +30,7 @@ impl RxDriver {
         ensures known { known_of self.new.end ≡ known_of self.old.end }
         ensures rest { self.new ≡ record self.old { end = self.new.end } }
     {
-        if self.end.is_stopped() {
-            return Err(DriverError::NotReclaimed);
-        }
-        if !self.end.is_open() {
-            return Ok(false);
-        }
-        if self.end.is_new() {
-            self.end.ask_enable(ring);
-        }
-        self.end.state(ring);
-        Ok(self.end.is_on())
+        handshake::enable(&mut self.end, ring)
     }
 
     /// Asks for the queue to be disabled.
@@ -54,11 +45,7 @@ impl RxDriver {
         ensures record { OnOk result (driver_record self.new.end ≡ record (driver_record self.old.end) { state = state.Stopping }) }
         ensures known { known_of self.new.end ≡ known_of self.old.end }
     {
-        if !self.end.is_on() {
-            return Err(DriverError::QueueOff);
-        }
-        self.end.ask_disable(ring);
-        Ok(())
+        handshake::ask_disable(&mut self.end, ring)
     }
 
     /// Loads the control word. Once the disabling is answered, it loads the head too, and answers how many segments were
@@ -119,7 +106,7 @@ impl RxDriver {
         ensures begun { OnOk result (GoneOver self.old.end self.new.end) }
         ensures rest { self.new ≡ record self.old { end = self.new.end } }
     {
-        if !self.end.is_stopped() || self.has_chain() || !reclaiming::is_back(&self.end) {
+        if !self.end.is_stopped() || self.has_chain() || !handshake::is_back(&self.end) {
             return Err(DriverError::NotReclaimed);
         }
         self.end.renew(ring);

@@ -6,6 +6,7 @@ ghost use Rattle.driver.specs.Reclaiming.{CameBack};
 ghost use Rattle.driver.specs.receive.Chains.{HasSegment};
 ghost use Rattle.driver.specs.receive.Returns.{Unchained, itself};
 
+use crate::handshake;
 use buffer_pool::{Buf, Packet, STASH_BUFFERS, Stash};
 use limits::BUFFER_BYTES;
 use rx_ring::{DriverEnd, RxDriverEnd, RxRing};
@@ -42,7 +43,7 @@ pub(super) fn empty_ring(driver: &mut RxDriverEnd, ring: &RxRing, stash: &mut St
         };
         put(stash, buf);
     }
-    is_back(driver)
+    handshake::is_back(driver)
 }
 
 /// Puts a buffer into a stash that has room.
@@ -54,11 +55,4 @@ fn put(stash: &mut Stash, buf: Buf)
     let Ok(()) = stash.put(buf) else {
         unreachable!()
     };
-}
-
-/// Whether no buffer is out.
-pub(super) fn is_back(driver: &RxDriverEnd) -> bool
-    ensures { IsTrue result ↔ (returned driver.now ≡ length (posted driver.now)) }
-{
-    driver.room() == driver.size() - 1
 }

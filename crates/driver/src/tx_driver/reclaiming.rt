@@ -5,6 +5,7 @@ ghost use Rattle.ring_model.specs.transmit.Ring.{are_whole, number_of_posting};
 ghost use Rattle.tx_ring.specs.Ends.{driver_state, known_of, posted, returned};
 ghost use Rattle.driver.specs.Reclaiming.{CameBack};
 
+use crate::handshake;
 use buffer_pool::{STASH_BUFFERS, Stash};
 use tx_ring::{DriverEnd, TxDriverEnd, TxRing};
 
@@ -25,12 +26,5 @@ pub(super) fn empty_ring(driver: &mut TxDriverEnd, ring: &TxRing, stash: &mut St
             unreachable!()
         };
     }
-    is_back(driver)
-}
-
-/// Whether no buffer is out.
-pub(super) fn is_back(driver: &TxDriverEnd) -> bool
-    ensures { IsTrue result ↔ (returned driver.now ≡ length (posted driver.now)) }
-{
-    driver.room() == driver.size() - 1
+    handshake::is_back(driver)
 }
