@@ -4,12 +4,14 @@
 mod forwarder;
 mod moves;
 mod one_frame;
+mod queue_pair;
 mod worker;
 
 use anyhow::Result;
 use moves::told;
 use one_frame::passed;
 use pool::Pool;
+use queue_pair::forwarded;
 use worker::work;
 
 const MOVES: [&str; 3] = ["r0 A1 5", "r0 A2", "r0 A6"];
@@ -22,6 +24,8 @@ fn main(rt: HostRuntime) -> Result<()> {
     let (pool, mut pass) = Pool::new(&rt, rt.alloc(), 64)?;
     let given = work(&rt, &pool, &mut pass, &frame, 4);
     println!(rt; "gave {given} buffers back")?;
+    let count = forwarded(rt.alloc(), &frame)?;
+    println!(rt; "forwarded {count} frames")?;
     print!(rt; "{}", told(rt.alloc(), MOVES.as_slice())?)?;
     Ok(())
 }
