@@ -8,7 +8,7 @@ use Rattle.ring_model.specs.declared.states.Completion.{Completion}
 use Rattle.ring_model.specs.declared.states.Completion.TheVariants.{Status, Head}
 use Rattle.ring_model.specs.shared.Frames.{unfinished}
 use Rattle.ring_model.specs.shared.Handshakes.{is_open, is_live}
-use Rattle.ring_model.specs.shared.Places.{between_places}
+use Rattle.ring_model.specs.shared.Places.{between_places, place_next}
 use Rattle.ring_model.specs.transmit.Agreement.{tx_word}
 use Rattle.ring_model.specs.transmit.Frames.{MayFollow}
 use Rattle.ring_model.specs.transmit.Ring.{carried}
@@ -190,16 +190,26 @@ module _ (d : DriverSide) (at : DriverPlaces) (seen done unseen : ℕ) (whole : 
   pub from-first : FromAhead 0
   from-first = ap (λ (j : ℕ). first_report (posted d) j (length (posted d) - j)) (let e : seen_reported d ≡ seen_reported d + 0 = omega arith in e)
 
-  module _ (ahead size : ℕ) (asked default : Bool) (rest : FromAhead ahead) (more : ahead < unseen) (sizes : size ≡ driver_size d) (is : asked ≡ get_or asks ((seen + ahead) % size) default) where
-    at-item : (seen + ahead) % size ≡ (seen_reported d + ahead) % driver_size d
-    at-item = ap (λ (n : ℕ). (seen + ahead) % n) sizes ∙ ap (λ (j : ℕ). (j + ahead) % driver_size d) h.seen_is ∙ mod-add-mod (seen_reported d) (driver_size d) ahead
+  abbrev pub IsAhead : ℕ → ℕ → Type 0
+  IsAhead ahead place = place ≡ (seen_reported d + ahead) % driver_size d
 
+  pub ahead-first : IsAhead 0 seen
+  ahead-first = h.seen_is ∙ ap (λ (j : ℕ). j % driver_size d) (let e : seen_reported d ≡ seen_reported d + 0 = omega arith in e)
+
+  pub ahead-next : (ahead place next : ℕ) → IsAhead ahead place → next ≡ place_next at.size place → IsAhead (ahead + 1) next
+  ahead-next ahead place next is f = let b = big in f ∙ ap (λ (n : ℕ). place_next n place) h.size_is ∙ ap (place_next (driver_size d)) is ∙ next_place-of (driver_size d) (seen_reported d + ahead) (omega arith)
+      ∙ ap (λ (j : ℕ). j % driver_size d) (let e : seen_reported d + ahead + 1 ≡ seen_reported d + (ahead + 1) = omega arith in e)
+
+  pub ahead-below : (ahead place : ℕ) → IsAhead ahead place → place < at.size
+  ahead-below ahead place is = let b = big in let m : (seen_reported d + ahead) % driver_size d < driver_size d = mod-lt (seen_reported d + ahead) (omega arith) in subst (λ (n : ℕ). place < n) (sym h.size_is) (subst (λ (j : ℕ). j < driver_size d) (sym is) m)
+
+  module _ (ahead place : ℕ) (asked default : Bool) (rest : FromAhead ahead) (there : IsAhead ahead place) (more : ahead < unseen) (is : asked ≡ get_or asks place default) where
     within : seen_reported d + ahead < length (posted d)
     within = let u = h.unseen_is in omega arith
 
     asked-is : asked ≡ asks_report (slice_get (posted d) (seen_reported d + ahead))
     asked-is = let a = h.asks_are (seen_reported d + ahead) (omega arith) within in
-        is ∙ ap (λ (j : ℕ). get_or asks j default) at-item ∙ get_or_from_slice_get asks ((seen_reported d + ahead) % driver_size d) (asks_report (slice_get (posted d) (seen_reported d + ahead))) default a
+        is ∙ ap (λ (j : ℕ). get_or asks j default) there ∙ get_or_from_slice_get asks ((seen_reported d + ahead) % driver_size d) (asks_report (slice_get (posted d) (seen_reported d + ahead))) default a
 
     some-left : 0 < length (posted d) - (seen_reported d + ahead)
     some-left = let w = within in omega arith

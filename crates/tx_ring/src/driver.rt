@@ -128,10 +128,12 @@ impl TxDriverEnd {
     fn oldest(&self) -> Option<u16>
         ensures { OldestAhead self.now result }
     {
+        let mut place = self.seen;
         for ahead in 0..self.unseen {
-            if self.asks[((self.seen + ahead) % self.at.size) as usize] {
+            if self.asks[place as usize] {
                 return Some(ahead);
             }
+            place = place_after(place, self.at.size);
         }
         None
     }
