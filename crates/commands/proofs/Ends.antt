@@ -6,7 +6,7 @@ use Rattle.buffer_pool.specs.Buffer.{Buffer}
 use Rattle.buffer_pool.specs.Packed.{bytes_of}
 use Rattle.ring_model.specs.declared.states.DriverState.{DriverState}
 use Rattle.ring_model.specs.declared.states.DriverState.TheVariants as state
-use Rattle.ring_model.specs.shared.Frames.{frames}
+use Rattle.ring_model.specs.shared.Frames.{frames, unfinished}
 use Rattle.ring_model.specs.shared.Handshakes.{is_open, is_live, is_answered, learned}
 use Rattle.ring_model.specs.shared.Segments.{piece_of}
 use Rattle.rx_ring.specs.Records.{driving}
@@ -17,7 +17,6 @@ use Rattle.driver.specs.receive.Batches.{Hands, GrewBy}
 use Rattle.driver.specs.receive.Chains.{going_on, segments_in}
 use Rattle.driver.specs.receive.Receiver.{IsReady}
 use Rattle.driver.proofs.receive.Chaining.{segments_in-append}
-use Rattle.ring_model.specs.shared.Frames.{unfinished}
 use Rattle.commands.specs.Passing.{TookPacket}
 
 -- ---- the driver's side
