@@ -142,7 +142,7 @@ fn once<'a>(alloc: Global) -> Result<Command<'a>, AllocError>
 {
     let hex = hex(
         alloc,
-        "A frame of 14 to 2,048 bytes, two hex digits for each byte",
+        "A frame of 14 to 14,336 bytes, two hex digits for each byte",
     );
     Command::new(alloc, "once")
         .about("Passes one frame through a receive ring of 8 and prints it")

@@ -1,6 +1,7 @@
 //! The command `once`, row after row.
 
-use crate::told::{comes_to, times};
+use crate::told::comes_to;
+use std::alloc::{AllocError, Global};
 use std::test::Fail;
 
 /// What `once` has to refuse.
@@ -25,6 +26,15 @@ const PASSED: [(&str, &str); 2] = [
     ),
 ];
 
+/// How many bytes a long frame has, and what it comes to: where it is passed, its digits and nothing else.
+const LONG: [(usize, u8, &str); 5] = [
+    (2_048, 0, ""),
+    (2_049, 0, ""),
+    (9_000, 0, ""),
+    (14_336, 0, ""),
+    (14_337, 1, "refused 41 frame length\n"),
+];
+
 #[test]
 fn frames_come_out_in_lower_case(rt: HostRuntime) -> Result<(), Fail> {
     for (digits, line) in PASSED {
@@ -44,23 +54,26 @@ fn digits_of_no_frame_are_refused(rt: HostRuntime) -> Result<(), Fail> {
 }
 
 #[test]
-fn the_longest_frame_has_2_048_bytes(rt: HostRuntime) -> Result<(), Fail> {
-    let most = times(rt.alloc(), "ab", 2048, "")?;
-    let line = times(rt.alloc(), "ab", 2048, "\n")?;
-    let words = ["once", most.as_str()];
-    comes_to(
-        &rt,
-        rt.alloc(),
-        words.as_slice(),
-        "",
-        (0, line.as_str(), ""),
-    )
+fn frames_of_up_to_seven_segments_are_passed(rt: HostRuntime) -> Result<(), Fail> {
+    for (len, status, faults) in LONG {
+        let digits = digits_of(rt.alloc(), len)?;
+        let mut line = String::new(rt.alloc());
+        if status == 0 {
+            line.push_str(digits.as_str())?;
+            line.push('\n')?;
+        }
+        let words = ["once", digits.as_str()];
+        let wanted = (status, line.as_str(), faults);
+        comes_to(&rt, rt.alloc(), words.as_slice(), "", wanted)?;
+    }
+    Ok(())
 }
 
-#[test]
-fn a_frame_of_2_049_bytes_is_refused(rt: HostRuntime) -> Result<(), Fail> {
-    let more = times(rt.alloc(), "ab", 2049, "")?;
-    let words = ["once", more.as_str()];
-    let wanted = (1, "", "refused 41 frame length\n");
-    comes_to(&rt, rt.alloc(), words.as_slice(), "", wanted)
+/// The digits of a frame of so many bytes, of which byte i is i modulo 251.
+fn digits_of(alloc: Global, len: usize) -> Result<String, AllocError> {
+    let mut bytes = Vec::with_capacity(alloc, len)?;
+    for i in 0..len {
+        bytes.push((i % 251) as u8)?;
+    }
+    hex::encode(alloc, bytes.as_slice())
 }

@@ -1,50 +1,93 @@
--- What the records of the two ends amount to, from their making on.
-use Rattle.std.proofs.Common.{◌≡◌, ◌∙◌, ℕ, List, [], ◌∷◌, ◌++◌, ◌+◌, length, ap}
+-- What the records of the two sides amount to, from their making on.
+use Rattle.std.proofs.Common.{◌≡◌, ◌∙◌, ℕ, ◌==◌, if◌then◌else◌, Bool, true, false, List, [], ◌∷◌, ◌++◌, map, ap, sym, refl, append_assoc}
+use Rattle.std.proofs.lemmas.List.{map-append}
 use Rattle.atomic_table.specs.Seated.{TableId}
-use Rattle.ring_model.specs.declared.states.DriverState.TheVariants.{New}
-use Rattle.ring_model.specs.shared.Frames.{Bytes}
-use Rattle.ring_model.specs.shared.Segments.{Segment}
-use Rattle.rx_ring.specs.Records.{driving, controlling}
-use Rattle.rx_ring.specs.Ends.{DriverSide, ControllerSide, posted, taken, returned, driver_state, stored, number_in}
-use Rattle.rx_ring.specs.Calls.{IsFreshDriver, IsFreshController}
-use Rattle.commands.specs.Passing.{CanServe, StoredOnly, whole}
+use Rattle.buffer_pool.specs.Buffer.{Buffer}
+use Rattle.buffer_pool.specs.Packed.{bytes_of}
+use Rattle.ring_model.specs.declared.states.DriverState.{DriverState}
+use Rattle.ring_model.specs.declared.states.DriverState.TheVariants as state
+use Rattle.ring_model.specs.shared.Frames.{frames, unfinished}
+use Rattle.ring_model.specs.shared.Handshakes.{is_open, is_live, is_answered, learned}
+use Rattle.ring_model.specs.shared.Segments.{piece_of}
+use Rattle.rx_ring.specs.Records.{driving}
+use Rattle.rx_ring.specs.Ends.{DriverSide, driver_state, taken}
+use Rattle.rx_ring.specs.Calls.{IsFreshDriver}
+use Rattle.driver.specs.Handshake.{AskedEnabling, asking}
+use Rattle.driver.specs.receive.Batches.{Hands, GrewBy}
+use Rattle.driver.specs.receive.Chains.{going_on, segments_in}
+use Rattle.driver.specs.receive.Receiver.{IsReady}
+use Rattle.driver.proofs.receive.Chaining.{segments_in-append}
+use Rattle.commands.specs.Passing.{TookPacket}
 
--- the driver posted so many buffers at the ring, had none back, and asked nothing
-pub record HasPosted (ring : TableId) (count : ℕ) (driver : DriverSide) : Type 0 where
+-- ---- the driver's side
+
+pub fresh_ready : (driver : DriverSide) → IsFreshDriver driver → IsReady driver
+fresh_ready driver fresh = record {
+  between = ap (λ es. unfinished piece_of (driving es).given) fresh;
+  going = ap (λ es. is_answered (driving es).state) fresh;
+  none_back = ap (λ es. (driving es).reclaimed) fresh;
+}
+
+pub fresh_open : (driver : DriverSide) → IsFreshDriver driver → is_open (driver_state driver) ≡ true
+fresh_open driver fresh = ap (λ es. is_open (driving es).state) fresh
+
+pub fresh_takes : (driver : DriverSide) → IsFreshDriver driver → taken driver ≡ []
+fresh_takes driver fresh = ap (λ es. (driving es).given) fresh
+
+enabled_opens : (enabled : Bool) → is_open (if enabled then state.On else state.Asked) ≡ true
+enabled_opens true = refl
+enabled_opens false = refl
+
+-- asking for an enabling leaves the queue open, whatever is loaded
+learns_open : (s : DriverState) (word : ℕ) → is_open s ≡ true → is_open (learned (asking s) word) ≡ true
+learns_open state.New word e = enabled_opens (word == 2)
+learns_open state.Asked word e = enabled_opens (word == 2)
+learns_open state.On word e = refl
+learns_open state.Stopping word e = cc e
+learns_open state.Stopped word e = cc e
+learns_open state.Cleared word e = cc e
+learns_open state.Tailed word e = cc e
+
+pub stays_open : (old new : DriverSide) → AskedEnabling old new → is_open (driver_state old) ≡ true → is_open (driver_state new) ≡ true
+stays_open old new asked e = ap (λ r. is_open r.state) asked.did ∙ learns_open (driver_state old) asked.word e
+
+-- a driver that takes batches of a live queue: what it took are the packets of its list, and the beginning of a frame
+pub record Takes (ring : TableId) (driver : DriverSide) (chain : List Buffer) (list : List (List Buffer)) : Type 0 where
   pub own : driver.table ≡ ring
-  pub count_is : length (posted driver) ≡ count
-  pub none_taken : taken driver ≡ []
-  pub none_back : returned driver ≡ 0
-  pub new : driver_state driver ≡ New
+  pub live : is_live (driver_state driver) ≡ true
+  pub segments : taken driver ≡ segments_in list ++ going_on chain
+  pub frames_are : frames piece_of (taken driver) ≡ map bytes_of list
 
-pub fresh_posts : (ring : TableId) (driver : DriverSide) → driver.table ≡ ring → IsFreshDriver driver → HasPosted ring 0 driver
-fresh_posts ring driver own fresh = record {
+pub takes_first : (ring : TableId) (driver : DriverSide) (chain : List Buffer) → driver.table ≡ ring → is_live (driver_state driver) ≡ true
+    → taken driver ≡ [] → chain ≡ [] → Takes ring driver chain []
+takes_first ring driver chain own live none no_chain = record {
   own = own;
-  count_is = ap (λ es. length (driving es).posted) fresh;
-  none_taken = ap (λ es. (driving es).given) fresh;
-  none_back = ap (λ es. length (driving es).given + (driving es).reclaimed) fresh;
-  new = ap (λ es. (driving es).state) fresh;
+  live = live;
+  segments = none ∙ sym (ap going_on no_chain);
+  frames_are = ap (frames piece_of) none;
 }
 
-pub fresh_serves : (ring : TableId) (controller : ControllerSide) → controller.table ≡ ring → IsFreshController controller → CanServe ring controller
-fresh_serves ring controller own fresh = record {
-  own = own;
-  none_stored = ap (λ es. (controlling controller.table.slots es).served) fresh;
-  none_held = ap (λ es. (controlling controller.table.slots es).held) fresh;
-  not_quiet = ap (λ es. (controlling controller.table.slots es).barred) fresh;
+pub takes_more : (ring : TableId) (old new : Hands) → GrewBy old new → Takes ring old.end old.chain old.list → Takes ring new.end new.chain new.list
+takes_more ring old new grew had = record {
+  own = grew.own ∙ had.own;
+  live = ap is_live grew.state ∙ had.live;
+  segments = grew.took ∙ (ap (λ ss. ss ++ grew.segments) had.segments
+      ∙ (append_assoc (segments_in old.list) (going_on old.chain) grew.segments
+      ∙ (ap (λ ss. segments_in old.list ++ ss) grew.chained
+      ∙ (sym (append_assoc (segments_in old.list) (segments_in grew.packets) (going_on new.chain))
+      ∙ (ap (λ ss. ss ++ going_on new.chain) (sym (segments_in-append old.list grew.packets))
+      ∙ ap (λ ps. segments_in ps ++ going_on new.chain) (sym grew.appended))))));
+  frames_are = grew.framed ∙ (ap (λ fs. fs ++ map bytes_of grew.packets) had.frames_are
+      ∙ (sym (map-append bytes_of old.list grew.packets) ∙ ap (map bytes_of) (sym grew.appended)));
 }
 
--- a controller that never stored
-pub stored_none : (ring : TableId) (frame : Bytes) (controller : ControllerSide) → CanServe ring controller → StoredOnly ring frame controller
-stored_none ring frame controller can = record {
-  own = can.own;
-  number = 0;
-  only = (whole 0 frame ∷ [], ap (λ ss. ss ++ whole 0 frame ∷ []) can.none_stored);
+-- once a batch has grown the list, its last packet is taken off it
+pub takes_packet : {old new : Hands} (ring : TableId) (before : List (List Buffer)) (packet : List Buffer) → GrewBy old new → Takes ring old.end old.chain old.list
+    → new.list ≡ before ++ packet ∷ [] → TookPacket ring new.end packet
+takes_packet {old} {new} ring before packet grew had last = let takes = takes_more ring old new grew had in record {
+  own = takes.own;
+  before = before;
+  begun = new.chain;
+  segments = takes.segments ∙ ap (λ ps. segments_in ps ++ going_on new.chain) last;
+  frames_are = takes.frames_are ∙ ap (map bytes_of) last;
 }
-
--- a controller that stored the frame after nothing
-pub stored_one : (ring : TableId) (frame : Bytes) (controller : ControllerSide) (before : List (Segment Bytes)) (number : ℕ)
-    → controller.table ≡ ring → before ≡ [] → stored controller ≡ before ++ whole number frame ∷ [] → StoredOnly ring frame controller
-stored_one ring frame controller before number own none grew =
-    let one : stored controller ≡ whole number frame ∷ [] = grew ∙ ap (λ ss. ss ++ whole number frame ∷ []) none in
-    record { own = own; number = number; only = ([], ap (λ ss. ss ++ []) one) }

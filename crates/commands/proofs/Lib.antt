@@ -1,3 +1,4 @@
+pub mod Joined
 pub mod Ends
 pub mod Passed
 pub mod Unmade

@@ -12,7 +12,6 @@ use Rattle.ring_machine.specs.declared.moves.Move.{Move}
 use Rattle.ring_model.specs.declared.notes.Note.{Note}
 use Rattle.ring_machine.specs.declared.error.MachineError.{MachineError}
 use Rattle.limits.specs.declared.profile.TheConstants.{LEAST_RING, MOST_PAIRS, MOST_RING}
-use Rattle.ring_model.specs.declared.states.Completion.{Completion}
 use Rattle.ring_model.specs.NoteTexts.{note_text}
 use Rattle.ring_model.specs.transmit.Ring.{TxBeginning}
 use Rattle.ring_model.specs.Worlds.{QueueMove, World, opening_world, after_move, after_moves, can_move, moves_happened, note_in, IsReachableWorld}

@@ -1,58 +1,65 @@
 -- What the threads at the two ends of a ring begin with and give back, as one frame is passed.
-use Rattle.std.specs.Prelude.{◌≡◌, ℕ, ◌≤◌, Bool, true, false, List, [], ◌∷◌, length, None}
+use Rattle.std.specs.Prelude.{◌≡◌, ◌<◌, ◌⊎◌, true, false, List, [], ◌∷◌, ◌++◌, length, map}
 use Rattle.atomic_table.specs.Seated.{TableId}
 use Rattle.buffer_pool.specs.Buffer.{Buffer}
-use Rattle.ring_model.specs.shared.Lists.{IsBeginning}
-use Rattle.ring_model.specs.shared.Frames.{Bytes}
-use Rattle.ring_model.specs.shared.Segments.{Segment}
-use Rattle.ring_model.specs.receive.Lawful.{IsLawfulRxLedger}
+use Rattle.buffer_pool.specs.Packed.{bytes_of}
+use Rattle.limits.specs.declared.profile.TheConstants.{BUFFER_BYTES}
 use Rattle.limits.specs.RingLength.{IsRingLength}
-use Rattle.rx_ring.specs.Ends.{DriverSide, ControllerSide, driver_size, taken, stored, held, is_quiet}
+use Rattle.ring_model.specs.shared.Frames.{Bytes, cut, frames, piece_count, HasFrameLength}
+use Rattle.ring_model.specs.shared.Segments.{piece_of}
+use Rattle.ring_model.specs.receive.Lawful.{IsLawfulRxLedger}
+use Rattle.rx_ring.specs.Ends.{DriverSide, ControllerSide, driver_size, taken, stored, is_between}
 use Rattle.rx_ring.specs.Calls.{IsFreshDriver, IsFreshController}
 use Rattle.rx_ring.specs.Meeting.{ledger_of}
-use Rattle.commands.specs.Frame.{IsFrameLength}
+use Rattle.controller.specs.Receiving.{Receiving}
+use Rattle.driver.specs.receive.Chains.{going_on, segments_in, segments_of}
 
--- a stock has a buffer for each place of a ring of n
-abbrev pub HasBuffers : ℕ → List ℕ → Type 0
-HasBuffers n numbers = n ≤ length numbers
+-- a frame of lawful length, for which the ring can have enough descriptors free
+pub record Fits (ring : TableId) (frame : Bytes) : Type 0 where
+  pub lawful : HasFrameLength frame
+  pub few : piece_count BUFFER_BYTES (length frame) < ring.slots
 
--- the segment that is a whole frame, in the buffer with this number
-abbrev pub whole : ℕ → Bytes → Segment Bytes
-whole number frame = record { number = number; payload = frame; eop = true }
-
--- two ends of the ring have done nothing yet, and there are buffers and a frame for them
-pub record CanPass (ring : TableId) (driver : DriverSide) (controller : ControllerSide) (numbers : List ℕ) (frame : Bytes) : Type 0 where
+-- two ends of the ring have done nothing yet, and the frame fits
+pub record CanPass (ring : TableId) (driver : DriverSide) (controller : ControllerSide) (frame : Bytes) : Type 0 where
   pub size : IsRingLength ring.slots
   pub driver_own : driver.table ≡ ring
   pub fresh_driver : IsFreshDriver driver
   pub controller_own : controller.table ≡ ring
   pub fresh_controller : IsFreshController controller
-  pub buffers : HasBuffers ring.slots numbers
-  pub frame_length : IsFrameLength (length frame)
+  pub fits : Fits ring frame
 
--- the driver took one segment at the ring, and its bytes are in the buffer
-pub record TookOne (ring : TableId) (driver : DriverSide) (buf : Buffer) : Type 0 where
+-- the driver took packets at the ring, of which this is the last, and perhaps the beginning of a frame behind it
+pub record TookPacket (ring : TableId) (driver : DriverSide) (packet : List Buffer) : Type 0 where
   pub own : driver.table ≡ ring
-  pub ends_frame : Bool
-  pub one : taken driver ≡ record { number = buf.number; payload = buf.bytes; eop = ends_frame } ∷ []
+  pub before : List (List Buffer)
+  pub begun : List Buffer
+  pub segments : taken driver ≡ segments_in (before ++ packet ∷ []) ++ going_on begun
+  pub frames_are : frames piece_of (taken driver) ≡ map bytes_of (before ++ packet ∷ [])
+
+-- the controller stored the pieces of the frame at the ring, and nothing else
+pub record HasStored (ring : TableId) (frame : Bytes) (controller : ControllerSide) : Type 0 where
+  pub own : controller.table ≡ ring
+  pub pieces : map piece_of (stored controller) ≡ cut BUFFER_BYTES frame
+  pub frames_are : frames piece_of (stored controller) ≡ frame ∷ []
 
 -- the controller stored the frame once or not at all, and nothing else
 pub record StoredOnly (ring : TableId) (frame : Bytes) (controller : ControllerSide) : Type 0 where
   pub own : controller.table ≡ ring
-  pub number : ℕ
-  pub only : IsBeginning (stored controller) (whole number frame ∷ [])
+  pub whole : is_between controller ≡ true
+  pub only : (stored controller ≡ []) ⊎ HasStored ring frame controller
 
--- the controller stored nothing yet at the ring, and may fetch a buffer as soon as it serves and knows one
-pub record CanServe (ring : TableId) (controller : ControllerSide) : Type 0 where
-  pub own : controller.table ≡ ring
-  pub none_stored : stored controller ≡ []
-  pub none_held : held controller ≡ None
-  pub not_quiet : is_quiet controller ≡ false
+-- the controller stored nothing yet at the ring; it fills whole buffers, and drops nothing
+pub record Offers (ring : TableId) (controller : Receiving) : Type 0 where
+  pub own : controller.end.table ≡ ring
+  pub none_stored : stored controller.end ≡ []
+  pub fills : controller.bsize ≡ BUFFER_BYTES
+  pub holds : controller.drop_en ≡ false
 
--- The frame went through one ring: the controller stored it and nothing else, the driver took it and nothing else, and it lies in the buffer that the driver took
-pub record HasPassed (frame : Bytes) (driver : DriverSide) (controller : ControllerSide) (buf : Buffer) : Type 0 where
+-- The frame went through one ring: the controller stored its pieces and nothing else, the driver took them all and nothing else, and they lie in the packet that the driver took
+pub record HasPassed (frame : Bytes) (driver : DriverSide) (controller : ControllerSide) (packet : List Buffer) : Type 0 where
   pub one_ring : controller.table ≡ driver.table
   pub lawful : IsLawfulRxLedger Bytes (driver_size driver) (ledger_of driver controller)
-  pub into_ring : stored controller ≡ whole buf.number frame ∷ []
-  pub out_of_ring : taken driver ≡ whole buf.number buf.bytes ∷ []
-  pub bytes : buf.bytes ≡ frame
+  pub into_ring : map piece_of (stored controller) ≡ cut BUFFER_BYTES frame
+  pub across : taken driver ≡ stored controller
+  pub out_of_ring : taken driver ≡ segments_of packet
+  pub bytes : bytes_of packet ≡ frame

@@ -1,12 +1,14 @@
 //! The command `once`: a frame is passed through a ring, and what the driver took is its text.
 ghost use Rattle.std.specs.Prelude.{◌≡◌, ◌⊎◌, IfErr, IfOk};
 ghost use Rattle.std.specs.String.{string_bytes};
+ghost use Rattle.buffer_pool.specs.Packed.{bytes_of};
 ghost use Rattle.commands.specs.Answers.{line_of, once_answer, IsOnceRefused};
 ghost use Rattle.commands.specs.Frame.{frame_in};
 
 use crate::frame::frame_of;
 use crate::passing::{Passage, pass};
 use crate::refusal::Refusal;
+use buffer_pool::Packet;
 use std::alloc::{AllocError, Global};
 use std::sync::Wait;
 use std::thread::Threads;
@@ -25,12 +27,24 @@ pub fn once<R: Threads + Wait + Sync>(
     Ok(taken_line(alloc, &passage)?)
 }
 
-/// The bytes of the buffer that the driver took, as lower case hex digits, in a line of its own. It has nothing to read
-/// them from but that buffer.
+/// The bytes of the packet that the driver took, as lower case hex digits, in a line of its own. It has nothing to read
+/// them from but that packet.
 fn taken_line(alloc: Global, passage: &Passage) -> Result<String, AllocError>
-    ensures { IfOk result (λ line. string_bytes line ≡ line_of passage.now.buf.bytes) }
+    ensures { IfOk result (λ line. string_bytes line ≡ line_of (bytes_of passage.now.packet)) }
 {
-    let mut line = hex::encode(alloc, passage.buf.bytes())?;
+    let bytes = joined(alloc, &passage.packet)?;
+    let mut line = hex::encode(alloc, bytes.as_slice())?;
     line.push('\n')?;
     Ok(line)
+}
+
+/// The bytes of a packet's segments, one segment's behind the other's.
+fn joined(alloc: Global, packet: &Packet) -> Result<Vec<u8>, AllocError>
+    ensures { IfOk result (λ bytes. bytes.items ≡ bytes_of packet.now) }
+{
+    let mut bytes = Vec::with_capacity(alloc, packet.len())?;
+    for segment in packet.iter() {
+        bytes.extend_from_slice(segment)?;
+    }
+    Ok(bytes)
 }

@@ -1,16 +1,21 @@
-//! One frame through a receive ring, whose two ends are in threads of their own.
-ghost use Rattle.std.specs.Prelude.{◌≡◌, ◌+◌, ◌<◌, true, false, [], ◌∷◌, ◌++◌, length, Bool, IfOk, IfErr};
-ghost use Rattle.ring_model.specs.shared.Handshakes.{is_live, is_new, is_serving};
+//! One frame through a receive ring, whose two sides are in threads of their own.
+ghost use Rattle.std.specs.Prelude.{◌≡◌, true, false, [], length, IfOk, IfErr};
+ghost use Rattle.buffer_pool.specs.declared.error.PoolError.TheVariants.{Memory};
+ghost use Rattle.ring_model.specs.shared.Handshakes.{is_live, is_open};
 ghost use Rattle.limits.specs.RingLength.{IsRingLength};
 ghost use Rattle.rx_ring.specs.Calls.{IsFreshController, IsFreshDriver};
-ghost use Rattle.rx_ring.specs.Ends.{controller_state, driver_state, known_free, posted, published, taken};
+ghost use Rattle.rx_ring.specs.Ends.{driver_state, taken};
 ghost use Rattle.commands.specs.Frame.{IsFrameLength};
 ghost use Rattle.commands.specs.Refusals.{IsUnmade};
-ghost use Rattle.commands.specs.Passing.{CanPass, CanServe, HasBuffers, HasPassed, StoredOnly, TookOne};
+ghost use Rattle.commands.specs.Passing.{CanPass, Fits, HasPassed, HasStored, Offers, StoredOnly, TookPacket};
 
 use crate::refusal::Refusal;
-use buffer_pool::{Buf, Stock};
-use rx_ring::{ControllerEnd, DriverEnd, Poll, RxControllerEnd, RxDriverEnd, RxRing, meet_rx};
+use arrayvec::ArrayVec;
+use buffer_pool::{Packet, PoolError, Stash, Stock};
+use controller::{Offer, RxController};
+use driver::RxDriver;
+use limits::BUFFER_BYTES;
+use rx_ring::{RxControllerEnd, RxDriverEnd, RxRing, meet_rx};
 use std::alloc::Global;
 use std::sync::Wait;
 use std::sync::atomic::{AtomicBool, Ordering};
@@ -20,22 +25,31 @@ use std::thread::{Promise, Threads};
 /// How many descriptors the ring has.
 const DESCRIPTORS: u32 = 8;
 
-/// How many buffers the driver's stock has.
+/// The most bytes of a frame that is passed: as many buffers of `BUFFER_BYTES` as the ring can have free at once, which
+/// is one less than it has descriptors. A longer frame would be oversize for the ring, and is never offered.
+pub const MOST_PASSED: usize = (DESCRIPTORS as usize - 1) * BUFFER_BYTES;
+
+const _: () = prove!(MOST_PASSED == 14_336);
+
+/// How many buffers the driver's stash has.
 const BUFFERS: u32 = 16;
 
-/// What the driver's thread gives back: its end, and the buffer that it took out of the ring.
+/// How many packets the driver takes at once.
+const BATCH: usize = 1;
+
+/// What the driver's thread gives back: its end, and the packet that it took out of the ring.
 #[derive(Drop)]
 pub struct Reception {
     driver: RxDriverEnd,
-    buf: Buf,
+    packet: Packet,
 }
 
-/// The driver takes one segment at this ring.
+/// The driver takes a packet at this ring.
 #[derive(Clone, Copy)]
-struct TakesOne<'a>(&'a RxRing);
+struct TakesPacket<'a>(&'a RxRing);
 
-impl<'a> Promise<Reception> for TakesOne<'a> {
-    ghost kept_by = { λ p r. TookOne p.0.now r.driver r.buf };
+impl<'a> Promise<Reception> for TakesPacket<'a> {
+    ghost kept_by = { λ p r. TookPacket p.0.now r.driver r.packet };
 }
 
 /// The controller stores nothing but this frame at this ring.
@@ -46,12 +60,12 @@ impl<'a> Promise<RxControllerEnd> for StoresOnly<'a> {
     ghost kept_by = { λ p controller. StoredOnly p.0.now p.1.now controller };
 }
 
-/// A frame that was passed: the two ends of the ring, and the buffer that the driver took out of it.
+/// A frame that was passed: the two ends of the ring, and the packet that the driver took out of it.
 #[derive(Drop)]
 pub struct Passage {
     pub driver: RxDriverEnd,
     pub controller: RxControllerEnd,
-    pub buf: Buf,
+    pub packet: Packet,
 }
 
 /// Passes a frame through a receive ring, between a controller and a driver in threads of their own.
@@ -61,32 +75,47 @@ pub fn pass<R: Threads + Wait + Sync>(
     frame: &[u8],
 ) -> Result<Passage, Refusal>
     requires { IsFrameLength (length frame.now) }
-    ensures passed { IfOk result (λ p. HasPassed frame.now p.driver p.controller p.buf) }
+    ensures passed { IfOk result (λ p. HasPassed frame.now p.driver p.controller p.packet) }
     ensures refused { IfErr result IsUnmade }
 {
     let (ring, driver, controller) = RxRing::new(alloc, DESCRIPTORS)?;
-    let stock = Stock::new(alloc, 0, BUFFERS)?;
-    let (reception, mut controller) = in_threads(rt, &ring, driver, controller, stock, frame)?;
-    let Reception { mut driver, buf } = reception;
+    let stash = full_stash(alloc)?;
+    let (reception, mut controller) = in_threads(rt, &ring, driver, controller, stash, frame)?;
+    let Reception { mut driver, packet } = reception;
     meet_rx(&ring, &mut driver, &mut controller);
     Ok(Passage {
         driver,
         controller,
-        buf,
+        packet,
     })
 }
 
-/// Runs both ends, each in a thread of its own, and joins both threads.
+/// A stash of the driver's buffers.
+fn full_stash(alloc: Global) -> Result<Stash, PoolError>
+    ensures full { IfOk result (λ stash. length stash ≡ BUFFERS) }
+    ensures refused { IfErr result (λ e. e ≡ Memory) }
+{
+    let mut stock = Stock::new(alloc, 0, BUFFERS)?;
+    let mut stash = Stash::new();
+    for _ in 0..BUFFERS {
+        if let Some(buf) = stock.take() {
+            let _full = stash.put(buf);
+        }
+    }
+    Ok(stash)
+}
+
+/// Runs both sides, each in a thread of its own, and joins both threads.
 fn in_threads<R: Threads + Wait + Sync>(
     rt: &R,
     ring: &RxRing,
     driver: RxDriverEnd,
     controller: RxControllerEnd,
-    stock: Stock,
+    stash: Stash,
     frame: &[u8],
 ) -> Result<(Reception, RxControllerEnd), Refusal>
-    requires { CanPass ring.now driver controller stock.numbers frame.now }
-    ensures driver { IfOk result (λ ends. TookOne ring.now ends.0.driver ends.0.buf) }
+    requires { CanPass ring.now driver controller frame.now }
+    ensures driver { IfOk result (λ ends. TookPacket ring.now ends.0.driver ends.0.packet) }
     ensures controller { IfOk result (λ ends. StoredOnly ring.now frame.now ends.1) }
     ensures refused { IfErr result (λ e. e ≡ Refusal.Thread) }
 {
@@ -96,8 +125,8 @@ fn in_threads<R: Threads + Wait + Sync>(
         thread::scope_env(),
         rt,
         move |scope| -> Result<(Reception, RxControllerEnd), Refusal>
-            requires { CanPass ring.now driver controller stock.numbers frame.now }
-            ensures driver { IfOk result (λ ends. TookOne ring.entry.now ends.0.driver ends.0.buf) }
+            requires { CanPass ring.now driver controller frame.now }
+            ensures driver { IfOk result (λ ends. TookPacket ring.entry.now ends.0.driver ends.0.packet) }
             ensures controller { IfOk result (λ ends. StoredOnly ring.entry.now frame.entry.now ends.1) }
             ensures refused { IfErr result (λ e. e ≡ Refusal.Thread) }
         {
@@ -106,8 +135,8 @@ fn in_threads<R: Threads + Wait + Sync>(
                     serve(rt, ring, controller, frame, stop)
                 })
                 .map_err(|_| Refusal::Thread)?;
-            let receiving = scope.spawn_with(TakesOne(ring), move || {
-                receive(rt, ring, driver, stock)
+            let receiving = scope.spawn_with(TakesPacket(ring), move || {
+                receive(rt, ring, driver, stash)
             });
             let Ok(receiving) = receiving else {
                 stop.store(true, Ordering::SeqCst);
@@ -120,131 +149,97 @@ fn in_threads<R: Threads + Wait + Sync>(
     )
 }
 
-/// The driver's thread: posts empty buffers, publishes them, has the queue enabled, and takes the first segment.
-fn receive<R: Wait>(rt: &R, ring: &RxRing, mut driver: RxDriverEnd, mut stock: Stock) -> Reception
-    requires size { IsRingLength ring.now.slots }
-    requires own { driver.table ≡ ring.now }
-    requires fresh { IsFreshDriver driver }
-    requires stock { HasBuffers ring.now.slots stock.numbers }
-    ensures { TookOne ring.now result.driver result.buf }
+/// The driver's thread: has the queue enabled, and takes batches until a packet comes. The first of them finds nothing,
+/// and posts and publishes the buffers of the stash.
+fn receive<R: Wait>(rt: &R, ring: &RxRing, end: RxDriverEnd, mut stash: Stash) -> Reception
+    requires own { end.table ≡ ring.now }
+    requires fresh { IsFreshDriver end }
+    ensures { TookPacket ring.now result.driver result.packet }
 {
-    post_all(ring, &mut driver, &mut stock);
+    let mut driver = RxDriver::new(end, BATCH);
     enable(rt, ring, &mut driver);
-    let buf = take_segment(rt, ring, &mut driver);
-    Reception { driver, buf }
-}
-
-/// Posts a buffer of the stock at each place that there is room for, and publishes them.
-fn post_all(ring: &RxRing, driver: &mut RxDriverEnd, stock: &mut Stock)
-    requires own { driver.old.table ≡ ring.now }
-    requires fresh { IsFreshDriver driver.old }
-    requires stock { HasBuffers ring.now.slots stock.old.numbers }
-    ensures own { driver.new.table ≡ ring.now }
-    ensures posted { length (posted driver.new) + 1 ≡ ring.now.slots }
-    ensures published { published driver.new ≡ length (posted driver.new) }
-    ensures taken { taken driver.new ≡ [] }
-    ensures new { is_new (driver_state driver.new) ≡ true }
-{
-    for _ in 0..driver.room() {
-        let Some(buf) = stock.take() else {
-            unreachable!()
-        };
-        driver.post(ring, buf);
-    }
-    driver.publish(ring);
+    let packet = take_packet(rt, ring, &mut driver, &mut stash);
+    let (driver, _begun) = driver.into_end();
+    Reception { driver, packet }
 }
 
 /// Asks for the queue to be enabled, and waits until it is.
-fn enable<R: Wait>(rt: &R, ring: &RxRing, driver: &mut RxDriverEnd)
-    requires own { driver.old.table ≡ ring.now }
-    requires new { is_new (driver_state driver.old) ≡ true }
-    ensures own { driver.new.table ≡ ring.now }
-    ensures posted { posted driver.new ≡ posted driver.old }
-    ensures taken { taken driver.new ≡ taken driver.old }
-    ensures live { is_live (driver_state driver.new) ≡ true }
+fn enable<R: Wait>(rt: &R, ring: &RxRing, driver: &mut RxDriver)
+    requires own { driver.old.end.table ≡ ring.now }
+    requires open { is_open (driver_state driver.old.end) ≡ true }
+    ensures own { driver.new.end.table ≡ ring.now }
+    ensures live { is_live (driver_state driver.new.end) ≡ true }
+    ensures taken { taken driver.new.end ≡ taken driver.old.end }
+    ensures chain { driver.new.chain ≡ driver.old.chain }
 {
-    driver.ask_enable(ring);
     for _ in rt.forever() {
-        driver.state(ring);
-        if driver.is_live() {
-            return;
+        match driver.enable(ring) {
+            Ok(true) => return,
+            Ok(false) => thread::yield_now(),
+            Err(_) => unreachable!(),
+        }
+    }
+    unreachable!()
+}
+
+/// Takes batches until a packet comes.
+fn take_packet<R: Wait>(rt: &R, ring: &RxRing, driver: &mut RxDriver, stash: &mut Stash) -> Packet
+    requires own { driver.old.end.table ≡ ring.now }
+    requires live { is_live (driver_state driver.old.end) ≡ true }
+    requires none_taken { taken driver.old.end ≡ [] }
+    requires no_chain { driver.old.chain ≡ [] }
+    ensures { TookPacket ring.now driver.new.end result }
+{
+    let mut packets = ArrayVec::new();
+    for _ in rt.forever() {
+        let Ok(_) = driver.rx_batch(ring, stash, &mut packets) else {
+            unreachable!()
+        };
+        if let Some(packet) = packets.pop() {
+            return packet;
         }
         thread::yield_now();
     }
     unreachable!()
 }
 
-/// Polls until a segment comes.
-fn take_segment<R: Wait>(rt: &R, ring: &RxRing, driver: &mut RxDriverEnd) -> Buf
-    requires own { driver.old.table ≡ ring.now }
-    requires live { is_live (driver_state driver.old) ≡ true }
-    requires out { length (taken driver.old) < length (posted driver.old) }
-    ensures own { driver.new.table ≡ ring.now }
-    ensures taken { (eop : Bool) × (taken driver.new ≡ taken driver.old ++ record { number = result.number; payload = result.bytes; eop = eop } ∷ []) }
-{
-    for _ in rt.forever() {
-        match driver.poll(ring) {
-            Poll::Segment(buf, _) => return buf,
-            Poll::NotDone => thread::yield_now(),
-            Poll::Empty | Poll::Off => unreachable!(),
-        }
-    }
-    unreachable!()
-}
-
-/// The controller's thread: enables the queue as soon as that is asked, looks until a descriptor is free, and stores
-/// the frame. Where `stop` is set before that, no driver will come, and it stores nothing.
+/// The controller's thread: answers what is asked, and offers the frame until it is stored. Where `stop` is set before
+/// that, no driver will come, and nothing is stored.
 fn serve<R: Wait>(
     rt: &R,
     ring: &RxRing,
-    mut controller: RxControllerEnd,
+    end: RxControllerEnd,
     frame: &[u8],
     stop: &AtomicBool,
 ) -> RxControllerEnd
     requires size { IsRingLength ring.now.slots }
-    requires own { controller.table ≡ ring.now }
-    requires fresh { IsFreshController controller }
-    requires frame { IsFrameLength (length frame.now) }
+    requires own { end.table ≡ ring.now }
+    requires fresh { IsFreshController end }
+    requires fits { Fits ring.now frame.now }
     ensures { StoredOnly ring.now frame.now result }
 {
+    let mut controller = RxController::new(end, BUFFER_BYTES, false);
     for _ in rt.forever() {
-        if !controller.is_serving() {
-            answer(ring, &mut controller);
-        } else if 0 < controller.look(ring) {
-            store(ring, &mut controller, frame);
-            return controller;
-        }
-        if stop.load(Ordering::SeqCst) {
-            return controller;
+        if turn(ring, &mut controller, frame) || stop.load(Ordering::SeqCst) {
+            return controller.into_end();
         }
         thread::yield_now();
     }
     unreachable!()
 }
 
-/// Enables the queue where that is asked.
-fn answer(ring: &RxRing, controller: &mut RxControllerEnd)
-    requires can { CanServe ring.now controller.old }
-    requires idle { is_serving (controller_state controller.old) ≡ false }
-    ensures { CanServe ring.now controller.new }
+/// Answers what is asked, and offers the frame. It answers whether it was stored; where it was not, the queue is not
+/// enabled yet, or too few descriptors are free.
+fn turn(ring: &RxRing, controller: &mut RxController, frame: &[u8]) -> bool
+    requires offers { Offers ring.now controller.old }
+    requires fits { Fits ring.now frame.now }
+    ensures stored { result ≡ true → HasStored ring.now frame.now controller.new.end }
+    ensures waits { result ≡ false → Offers ring.now controller.new }
 {
-    controller.asked(ring);
-    if controller.can_answer() {
-        controller.answer(ring);
+    controller.turn_control(ring);
+    match controller.offer(ring, frame) {
+        Ok(Offer::Stored) => true,
+        Ok(Offer::Off | Offer::Held) => false,
+        Ok(Offer::Oversize | Offer::Dropped) | Err(_) => unreachable!(),
     }
-}
-
-/// Stores a frame in the next descriptor, and the head after it.
-fn store(ring: &RxRing, controller: &mut RxControllerEnd, frame: &[u8])
-    requires size { IsRingLength ring.now.slots }
-    requires can { CanServe ring.now controller.old }
-    requires serving { is_serving (controller_state controller.old) ≡ true }
-    requires free { 0 < known_free controller.old }
-    requires frame { IsFrameLength (length frame.now) }
-    ensures { StoredOnly ring.now frame.now controller.new }
-{
-    let mut buf = controller.fetch(ring);
-    buf.fill(frame);
-    controller.write_back(ring, buf, true);
-    controller.set_head(ring);
 }
