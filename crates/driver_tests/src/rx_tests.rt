@@ -2,5 +2,4 @@
 
 mod both;
 mod rows;
-mod storer;
 mod threads;
