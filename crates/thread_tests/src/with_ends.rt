@@ -74,17 +74,30 @@ fn passes<R: Threads + Wait + Sync>(
     Ok(is_good && is_empty && closed.has_each_once(BUFFERS as usize))
 }
 
-#[test]
-fn frames_are_sent_on_in_order(rt: HostRuntime) -> Result<(), Fail> {
-    for completion in [Completion::Status, Completion::Head] {
-        for n in [8, 64] {
-            for batch in [1, 7, 32] {
-                assert!(rt;
-                    passes(&rt, rt.alloc(), n, batch, completion)?,
-                    "ring {n}, batch {batch}"
-                );
+/// The same over rings of 8 and 64, in batches of 1, 7 and 32.
+fn all_pass<R: Threads + Wait + Sync>(
+    rt: &R,
+    alloc: Global,
+    completion: Completion,
+) -> Result<bool, Fail> {
+    for n in [8, 64] {
+        for batch in [1, 7, 32] {
+            if !passes(rt, alloc, n, batch, completion)? {
+                return Ok(false);
             }
         }
     }
+    Ok(true)
+}
+
+#[test]
+fn frames_are_sent_on_in_order(rt: HostRuntime) -> Result<(), Fail> {
+    assert!(rt; all_pass(&rt, rt.alloc(), Completion::Status)?);
+    Ok(())
+}
+
+#[test]
+fn frames_are_sent_on_in_order_by_head(rt: HostRuntime) -> Result<(), Fail> {
+    assert!(rt; all_pass(&rt, rt.alloc(), Completion::Head)?);
     Ok(())
 }
