@@ -1,6 +1,4 @@
-//! The receive driver beside a controller's end, by calls and under threads.
+//! The receive driver beside a controller's end, by calls.
 
 mod both;
 mod rows;
-mod storer;
-mod threads;

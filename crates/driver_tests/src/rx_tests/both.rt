@@ -1,7 +1,6 @@
 //! A receive driver and a controller's end of one ring, in one thread.
 ghost use Rattle.std.specs.Prelude.{◌≡◌, ◌<◌, ◌≤◌};
 
-use crate::rx_tests::storer::Storer;
 use arrayvec::ArrayVec;
 use buffer_pool::{Packet, Stash};
 use driver::{DriverError, MOST_BATCH, RxDriver};
@@ -9,7 +8,7 @@ use limits::BUFFER_BYTES;
 use rx_ring::RxRing;
 use std::alloc::Global;
 use std::test::Fail;
-use test_kit::full_stash;
+use test_kit::{Storer, full_stash};
 
 /// A ring with a driver and a controller's end.
 #[derive(Drop)]

@@ -11,7 +11,7 @@ use rx_ring::{ControllerEnd, RxControllerEnd, RxRing};
 
 /// A controller's end, and what is stored of a frame that is begun.
 #[derive(Drop)]
-pub(crate) struct Storer {
+pub struct Storer {
     pub controller: RxControllerEnd,
     segments: usize,
     bytes: usize,
@@ -21,7 +21,7 @@ pub(crate) struct Storer {
 }
 
 impl Storer {
-    pub(crate) fn new(controller: RxControllerEnd) -> Storer
+    pub fn new(controller: RxControllerEnd) -> Storer
         requires { IsFreshController controller }
         ensures { result.controller ≡ controller }
     {
@@ -33,7 +33,7 @@ impl Storer {
     }
 
     /// Answers what is asked, and tells whether the end serves then.
-    pub(crate) fn answer(&mut self, ring: &RxRing) -> bool
+    pub fn answer(&mut self, ring: &RxRing) -> bool
         requires { self.old.controller.table ≡ ring.now }
         ensures { self.new.controller.table ≡ ring.now }
     {
@@ -50,7 +50,7 @@ impl Storer {
     }
 
     /// Says that it stores no more.
-    pub(crate) fn say_quiet(&mut self, ring: &RxRing)
+    pub fn say_quiet(&mut self, ring: &RxRing)
         requires { self.old.controller.table ≡ ring.now }
         ensures { self.new.controller.table ≡ ring.now }
     {
@@ -63,7 +63,7 @@ impl Storer {
     }
 
     /// How many descriptors are free.
-    pub(crate) fn free(&mut self, ring: &RxRing) -> u32
+    pub fn free(&mut self, ring: &RxRing) -> u32
         requires { self.old.controller.table ≡ ring.now }
         ensures { self.new.controller.table ≡ ring.now }
     {
@@ -90,7 +90,7 @@ impl Storer {
     }
 
     /// Stores a segment, if a descriptor is free.
-    pub(crate) fn store(&mut self, ring: &RxRing, bytes: &[u8], eop: bool) -> bool
+    pub fn store(&mut self, ring: &RxRing, bytes: &[u8], eop: bool) -> bool
         requires { self.old.controller.table ≡ ring.now }
         ensures { self.new.controller.table ≡ ring.now }
     {
@@ -117,7 +117,7 @@ impl Storer {
     }
 
     /// Stores the head.
-    pub(crate) fn set_head(&mut self, ring: &RxRing)
+    pub fn set_head(&mut self, ring: &RxRing)
         requires { self.old.controller.table ≡ ring.now }
         ensures { self.new.controller.table ≡ ring.now }
     {

@@ -1,0 +1,57 @@
+//! Frames that are told apart by their lengths and their bytes. They are parts of one long row of random bytes, so
+//! that none has to be made.
+
+use limits::LEAST_FRAME;
+use std::alloc::{AllocError, Global};
+use test_kit::Random;
+
+/// How many places a frame may begin at.
+const BEGINNINGS: u32 = 2_003;
+
+/// How many bytes there are.
+const BYTES: usize = 17_003;
+
+/// How long the frames are.
+#[derive(Clone, Copy, Drop)]
+pub(crate) enum Lens {
+    /// From the least length to this one.
+    UpTo(usize),
+    /// These two in turn.
+    InTurn(usize, usize),
+}
+
+/// All frames.
+#[derive(Drop)]
+pub(crate) struct Frames {
+    bytes: Vec<u8>,
+    lens: Lens,
+}
+
+impl Frames {
+    pub(crate) fn new(alloc: Global, lens: Lens) -> Result<Frames, AllocError> {
+        let mut random = Random::new(82_599);
+        let mut bytes = Vec::with_capacity(alloc, BYTES)?;
+        for _ in 0..BYTES {
+            bytes.push(random.below(256) as u8)?;
+        }
+        Ok(Frames { bytes, lens })
+    }
+
+    /// How many bytes frame `k` has.
+    fn len(&self, k: u32) -> usize {
+        match self.lens {
+            Lens::UpTo(most) => {
+                let lens = most.saturating_sub(LEAST_FRAME) + 1;
+                LEAST_FRAME + k.wrapping_mul(4_633) as usize % lens
+            },
+            Lens::InTurn(even, odd) => if k % 2 == 0 { even } else { odd },
+        }
+    }
+
+    /// Frame `k`.
+    pub(crate) fn frame(&self, k: u32) -> &[u8] {
+        let start = (k % BEGINNINGS) as usize;
+        let end = start.saturating_add(self.len(k));
+        self.bytes.get(start..end).unwrap_or(&[])
+    }
+}
