@@ -4,8 +4,9 @@
 //! request whose text was made and could not be printed ends in `Output`; whatever else is refused leaves the output as
 //! it was. `answer` does the same for a caller who wants an exit status, and prints the refusal.
 //!
-//! `once` passes a frame through a receive ring between two threads (`passing`), `decode` reads a descriptor, and
-//! `replay` makes a list of moves on queues. `digits` and `frame` read an argument of hex digits.
+//! `once` passes a frame through a receive ring, from a controller to a driver in threads of their own (`passing`),
+//! `decode` reads a descriptor, and `replay` makes a list of moves on queues. `digits` and `frame` read an argument of hex
+//! digits.
 #![tactic(auto)]
 
 mod answering;
