@@ -42,6 +42,26 @@ fn carries(wire: &Wire, frames: &Frames, numbers: &[u32]) -> bool {
     rest.next().is_none()
 }
 
+/// What the device counted, if all that it stored was taken and sent, and is on the wire.
+fn told(frames: &Frames, forwarder: &Forwarder, device: Device) -> Result<Tally, Fail> {
+    let Device {
+        offering,
+        wiring,
+        ..
+    } = device;
+    let stored = offering.stored.len();
+    if offering.refused || wiring.refused || forwarder.taken != stored || forwarder.sent != stored {
+        return Err("not all was stored, taken and sent".into());
+    }
+    if !carries(&wiring.wire, frames, offering.stored.as_slice()) {
+        return Err("the wire has other frames".into());
+    }
+    if offering.seen != offering.controller.tally() || offering.seen.stored != stored as u64 {
+        return Err("the tally is another".into());
+    }
+    Ok(offering.seen)
+}
+
 /// Runs both sides: what was counted, if all was as it should be.
 fn counted<R: Threads + Wait + Sync>(rt: &R, alloc: Global, case: Case) -> Result<Tally, Fail> {
     let Case {
@@ -75,22 +95,7 @@ fn counted<R: Threads + Wait + Sync>(rt: &R, alloc: Global, case: Case) -> Resul
         frames: Frames::new(alloc, lens)?,
     };
     let (forwarder, device) = run_both(rt, &shared, forwarder, device);
-    let Device {
-        offering,
-        wiring,
-        ..
-    } = device;
-    let stored = offering.stored.len();
-    if offering.refused || wiring.refused || forwarder.taken != stored || forwarder.sent != stored {
-        return Err("not all was stored, taken and sent".into());
-    }
-    if !carries(&wiring.wire, &shared.frames, offering.stored.as_slice()) {
-        return Err("the wire has other frames".into());
-    }
-    if offering.seen != offering.controller.tally() || offering.seen.stored != stored as u64 {
-        return Err("the tally is another".into());
-    }
-    Ok(offering.seen)
+    told(&shared.frames, &forwarder, device)
 }
 
 const BOTH_WAYS: [Completion; 2] = [Completion::Status, Completion::Head];
