@@ -1,5 +1,5 @@
 -- An end that has done nothing stands between two frames.
-use Rattle.std.proofs.Common.{◌≡◌, ◌∙◌, ℕ, ◌%◌, ◌<◌, ◌≤◌, true, [], length, ap, sym, arith}
+use Rattle.std.proofs.Common.{◌≡◌, ◌∙◌, ℕ, ◌%◌, ◌<◌, true, [], length, ap, sym, arith}
 use Rattle.std.proofs.lemmas.Bool.{false≢true}
 use Rattle.limits.specs.RingLength.{IsRingLength}
 use Rattle.ring_model.specs.shared.Segments.{ends_segment}
