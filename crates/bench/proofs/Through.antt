@@ -1,5 +1,5 @@
 -- What the records of both rings' ends amount to, where frames went through both layers.
-use Rattle.std.proofs.Common.{◌≡◌, ◌∙◌, ℕ, Bool, true, false, List, [], ◌∷◌, ◌++◌, length, map, ap, sym, refl, subst, if◌then◌else◌}
+use Rattle.std.proofs.Common.{◌≡◌, ◌∙◌, ℕ, ◌≤◌, Bool, true, false, List, [], ◌∷◌, ◌++◌, length, map, ap, sym, refl, subst, if◌then◌else◌}
 use Rattle.std.specs.Prelude.{◌&&◌, All, Result, Ok, Err, replicate}
 use Rattle.std.proofs.lemmas.List.Elements.{All-nil, All-append, All-head, All-tail, All-same, All-replicate}
 use Rattle.atomic_table.specs.Seated.{TableId}
@@ -25,7 +25,10 @@ use Rattle.tx_ring.specs.Records.{Posting}
 use Rattle.bench.specs.declared.forwarding.Forwarder.{Forwarder}
 use Rattle.bench.specs.declared.meeting.Ends.{Ends}
 use Rattle.bench.specs.Copies.{AllWhole}
-use Rattle.bench.specs.Forwarding.{CanForward, HasMet}
+use Rattle.bench.specs.declared.serving.Device.{Device}
+use Rattle.bench.specs.Forwarding.{CanForward, HasMet, HasRelayed, SentAtLeast}
+use Rattle.bench.specs.Passing.{StoredOnly}
+use Rattle.bench.specs.Serving.{HasGone, Serves}
 use Rattle.bench.proofs.Copies.{All-beginning, copies}
 use Rattle.bench.proofs.TxEnds.{serving_on}
 
@@ -98,4 +101,29 @@ has_met from to f rx rx_controller tx tx_controller can rx_is tx_is stores sends
       received = received;
       sent = sent;
       sent_on = (waiting, ap (λ (d : transmit.DriverSide). frames carried (transmit.posted d) ++ waiting) tx_is ∙ (sym can.relayed ∙ ap (λ (d : receive.DriverSide). frames piece_of (receive.taken d)) (sym rx_is)));
+    }
+
+-- so many copies were relayed, where the controller stored nothing else
+pub has_relayed : (ring : TableId) (count : ℕ) (frame : Bytes) (f : Forwarder) (c : receive.ControllerSide) (e : Ends) → HasMet e → e.tx ≡ f.tx.end → e.rx_controller ≡ c
+    → SentAtLeast count f → StoredOnly ring frame c → HasRelayed count frame e
+has_relayed ring count frame f c e met tx_is c_is enough only =
+    let all = whole_copies piece_of frame (receive.stored c) only.only in record {
+      met = met;
+      enough = subst (λ (d : transmit.DriverSide). count ≤ length (frames carried (transmit.posted d))) (sym tx_is) enough;
+      copies = taken_copies frame e.rx e.rx_controller met.received (subst (λ (k : receive.ControllerSide). AreCopies frame (frames piece_of (receive.stored k))) (sym c_is) all);
+    }
+
+-- so many copies are on the wire, where it has so many frames and the controllers stored nothing else
+pub has_gone : (from to : TableId) (count : ℕ) (frame : Bytes) (d : Device) (e : Ends) → HasMet e → e.rx_controller ≡ d.rx.end → e.tx_controller ≡ d.tx
+    → Serves from to frame d → is_serving (transmit.controller_state d.tx) ≡ true → length d.wire ≡ count → HasGone count frame e d.wire
+has_gone from to count frame d e met rx_is tx_is serves serving many =
+    let stores = serves.stores in
+    let sends = serves.sends in
+    let here : is_serving (transmit.controller_state e.tx_controller) ≡ true = ap (λ (c : transmit.ControllerSide). is_serving (transmit.controller_state c)) tx_is ∙ serving in
+    let stored : AreCopies frame (frames piece_of (receive.stored e.rx_controller)) = subst (λ (c : receive.ControllerSide). AreCopies frame (frames piece_of (receive.stored c))) (sym rx_is) stores.copies in
+    let wire : d.wire ≡ frames carried (transmit.sent e.tx_controller) = sends.wire_is ∙ ap (λ (c : transmit.ControllerSide). frames carried (transmit.sent c)) (sym tx_is) in
+    let all : AreCopies frame d.wire = All-same (λ f. f ≡ frame) d.wire (frames carried (transmit.sent e.tx_controller)) wire (sent_copies frame e met here stored) in record {
+      met = met;
+      wire_is = wire;
+      copies = as_replicate frame d.wire all ∙ ap (λ (k : ℕ). replicate k frame) many;
     }

@@ -3,8 +3,11 @@ ghost use Rattle.std.specs.Prelude.{◌≡◌, ◌<◌, ◌≤◌, length, repli
 ghost use Rattle.limits.specs.RingLength.{IsRingLength};
 ghost use Rattle.bench.specs.Copies.{IsFrameLength};
 ghost use Rattle.bench.specs.Forwarding.{CanForward, HasRelayed, SentAtLeast};
+ghost use Rattle.bench.specs.Passing as receive;
 ghost use Rattle.bench.specs.Passing.{CanStore, StoredOnly};
+ghost use Rattle.bench.specs.Sending as transmit;
 ghost use Rattle.bench.specs.Sending.{CanFetch};
+ghost use Rattle.ring_model.specs.shared.Frames.{Bytes};
 ghost use Rattle.bench.specs.declared.supply.TheConstants.{BYTE};
 
 use crate::fetching;
@@ -17,6 +20,7 @@ use crate::supply::{frame_of, spare_for};
 use crate::tally::Tally;
 use crate::words::BatchPlan;
 use anyhow::{Result, ensure};
+use buffer_pool::Stock;
 use driver::MOST_BATCH;
 use rx_ring::{ControllerEnd, RxControllerEnd, RxRing};
 use std::alloc::Global;
@@ -40,43 +44,76 @@ pub struct Relayed {
     pub spent: Duration,
 }
 
-/// Relays the plan's frames from one ring to the other, and answers how long that took.
+/// Relays the plan's frames from one ring to another, and answers how long that took.
 pub fn relay<R: Wait + Clock>(rt: &R, alloc: Global, plan: BatchPlan) -> Result<Relayed>
     ensures { IfOk result (λ r. HasRelayed plan.load.frames (replicate plan.load.size BYTE) r.ends) }
 {
     let batch = plan.batch as usize;
     ensure!(1 <= batch && batch <= MOST_BATCH, "batch");
     let frame = frame_of(alloc, plan.load.size)?;
-    let (from, rx, mut rx_end) = RxRing::new(alloc, plan.load.ring)?;
-    let (to, tx, mut tx_end) = TxRing::new(alloc, plan.load.ring)?;
-    let mut forwarder = Forwarder::new(rx, tx, batch);
-    forwarder.enable(&from, &to)?;
-    storing::serve(rt, &from, &mut rx_end);
-    fetching::serve(rt, &to, &mut tx_end);
-    ensure!(forwarder.enable(&from, &to)?, "the queues are not enabled");
-    forwarder.fill(&from, &to, &mut spare_for(alloc, plan.load.ring)?)?;
+    let stock = spare_for(alloc, plan.load.ring)?;
+    let (from, rx, rx_end) = RxRing::new(alloc, plan.load.ring)?;
+    let (to, tx, tx_end) = TxRing::new(alloc, plan.load.ring)?;
+    let forwarder = Forwarder::new(rx, tx, batch);
     let device = Device {
         rx: rx_end,
         tx: tx_end,
         tally: Tally::new(),
     };
+    let (device, forwarder) = begin(rt, &from, &to, device, forwarder, stock)?;
+    timed(rt, &from, &to, device, forwarder, frame.as_slice(), plan)
+}
+
+/// Has both queues enabled, and the receive ring filled.
+fn begin<R: Wait>(
+    rt: &R,
+    from: &RxRing,
+    to: &TxRing,
+    mut device: Device,
+    mut forwarder: Forwarder,
+    mut stock: Stock,
+) -> Result<(Device, Forwarder)>
+    requires stores { receive.CanServe from.now device.rx }
+    requires sends { transmit.CanServe to.now device.tx }
+    requires forwards { CanForward from.now to.now forwarder }
+    ensures stores { (frame : Bytes) → IfOk result (λ r. CanStore from.now frame r.0.rx) }
+    ensures sends { IfOk result (λ r. CanFetch to.now r.0.tx) }
+    ensures forwards { IfOk result (λ r. CanForward from.now to.now r.1) }
+{
+    forwarder.enable(from, to)?;
+    storing::serve(rt, from, &mut device.rx);
+    fetching::serve(rt, to, &mut device.tx);
+    ensure!(forwarder.enable(from, to)?, "the queues are not enabled");
+    forwarder.fill(from, to, &mut stock)?;
+    Ok((device, forwarder))
+}
+
+/// Relays all frames, takes the time, and lets the ends meet.
+fn timed<R: Wait + Clock>(
+    rt: &R,
+    from: &RxRing,
+    to: &TxRing,
+    device: Device,
+    forwarder: Forwarder,
+    frame: &[u8],
+    plan: BatchPlan,
+) -> Result<Relayed>
+    requires size { IsRingLength from.now.slots }
+    requires stores { CanStore from.now frame.now device.rx }
+    requires sends { CanFetch to.now device.tx }
+    requires forwards { CanForward from.now to.now forwarder }
+    requires frame { IsFrameLength (length frame.now) }
+    ensures { IfOk result (λ r. HasRelayed plan.load.frames frame.now r.ends) }
+{
     let start = Instant::now(rt)?;
-    let (device, forwarder) = relay_all(
-        rt,
-        &from,
-        &to,
-        device,
-        forwarder,
-        frame.as_slice(),
-        plan,
-    )?;
+    let (device, forwarder) = relay_all(rt, from, to, device, forwarder, frame, plan)?;
     let spent = start.elapsed(rt)?;
     ensure!(
-        device.tally == Tally::of(frame.as_slice(), plan.load.frames),
+        device.tally == Tally::of(frame, plan.load.frames),
         "the frames that were sent are not those that were stored"
     );
     Ok(Relayed {
-        ends: meet(&from, &to, forwarder, device.rx, device.tx),
+        ends: meet(from, to, forwarder, device.rx, device.tx),
         spent,
     })
 }

@@ -1,7 +1,7 @@
 //! Frames through both layers: offered to a controller, received and sent on by the drivers, and put onto a wire.
 ghost use Rattle.std.specs.Prelude.{◌≡◌, ◌≤◌, length, replicate, IfOk};
 ghost use Rattle.bench.specs.Forwarding.{CanForward};
-ghost use Rattle.bench.specs.Serving.{HasGone, Serves};
+ghost use Rattle.bench.specs.Serving.{HasGone, HasNothing, Serves};
 ghost use Rattle.bench.specs.declared.supply.TheConstants.{BYTE};
 
 use crate::forwarding::Forwarder;
@@ -11,6 +11,7 @@ use crate::serving::Device;
 use crate::supply::{frame_of, spare_for};
 use crate::words::PassPlan;
 use anyhow::{Result, bail, ensure};
+use buffer_pool::Stock;
 use controller::Wire;
 use driver::MOST_BATCH;
 use rx_ring::{ControllerEnd, RxRing};
@@ -31,18 +32,12 @@ pub struct Gone {
     pub spent: Duration,
 }
 
-/// What both sides work on: the rings, and the frame that is offered.
+/// The controllers serve these rings, and stored nothing but this frame.
 #[derive(Clone, Copy)]
-struct Shared<'a> {
-    from: &'a RxRing,
-    to: &'a TxRing,
-    frame: &'a [u8],
-    plan: PassPlan,
-}
+struct ServesOn<'a>(&'a RxRing, &'a TxRing, &'a [u8]);
 
-/// The controllers serve these rings, and stored nothing but the frame.
-impl<'a> Promise<Result<Device>> for Shared<'a> {
-    ghost kept_by = { λ s done. IfOk done (λ d. Serves s.from.now s.to.now s.frame.now d) };
+impl<'a> Promise<Result<Device>> for ServesOn<'a> {
+    ghost kept_by = { λ p done. IfOk done (λ d. Serves p.0.now p.1.now p.2.now d) };
 }
 
 /// Passes the plan's frames through both layers, and answers how long that took.
@@ -56,56 +51,101 @@ pub fn pass_layers<R: Threads + Wait + Clock + Sync>(
     let batch = plan.batch as usize;
     ensure!(1 <= batch && batch <= MOST_BATCH, "batch");
     let frame = frame_of(alloc, plan.load.size)?;
+    let stock = spare_for(alloc, plan.load.ring)?;
     let (from, rx, rx_end) = RxRing::new(alloc, plan.load.ring)?;
     let (to, tx, tx_end) = TxRing::new(alloc, plan.load.ring)?;
-    let mut forwarder = Forwarder::new(rx, tx, batch);
-    let mut device = Device::new(alloc, rx_end, tx_end);
-    forwarder.enable(&from, &to)?;
-    device.answer(&from, &to);
-    ensure!(forwarder.enable(&from, &to)?, "the queues are not enabled");
-    forwarder.fill(&from, &to, &mut spare_for(alloc, plan.load.ring)?)?;
-    let shared = Shared {
-        from: &from,
-        to: &to,
-        frame: frame.as_slice(),
-        plan,
-    };
+    let forwarder = Forwarder::new(rx, tx, batch);
+    let device = Device::new(alloc, rx_end, tx_end);
+    let (device, forwarder) = begin(&from, &to, device, forwarder, stock)?;
+    timed(rt, &from, &to, device, forwarder, frame.as_slice(), plan)
+}
+
+/// Has both queues enabled, and the receive ring filled.
+fn begin(
+    from: &RxRing,
+    to: &TxRing,
+    mut device: Device,
+    mut forwarder: Forwarder,
+    mut stock: Stock,
+) -> Result<(Device, Forwarder)>
+    requires begun { HasNothing from.now to.now device }
+    requires forwards { CanForward from.now to.now forwarder }
+    ensures begun { IfOk result (λ ends. HasNothing from.now to.now ends.0) }
+    ensures forwards { IfOk result (λ ends. CanForward from.now to.now ends.1) }
+{
+    forwarder.enable(from, to)?;
+    device.answer(from, to);
+    ensure!(forwarder.enable(from, to)?, "the queues are not enabled");
+    forwarder.fill(from, to, &mut stock)?;
+    Ok((device, forwarder))
+}
+
+/// Passes all frames, takes the time, and lets the ends meet.
+fn timed<R: Threads + Wait + Clock + Sync>(
+    rt: &R,
+    from: &RxRing,
+    to: &TxRing,
+    device: Device,
+    forwarder: Forwarder,
+    frame: &[u8],
+    plan: PassPlan,
+) -> Result<Gone>
+    requires serves { Serves from.now to.now frame.now device }
+    requires forwards { CanForward from.now to.now forwarder }
+    ensures { IfOk result (λ p. HasGone plan.load.frames frame.now p.ends p.wire) }
+{
     let start = Instant::now(rt)?;
-    let (device, forwarder) = if plan.in_threads {
-        in_threads(rt, shared, device, forwarder)?
-    } else {
-        alone(rt, shared, device, forwarder)?
-    };
+    let (device, forwarder) = pass_all(rt, from, to, device, forwarder, frame, plan)?;
     let spent = start.elapsed(rt)?;
     let Device { rx, tx, wire } = device;
-    ensure!(wire.len() == plan.load.frames as usize, "frames");
+    if wire.len() != plan.load.frames as usize {
+        bail!("not all frames are on the wire");
+    }
     let tx_controller = tx.into_end();
-    ensure!(tx_controller.is_serving(), "the queue is not enabled");
-    Ok(Gone {
-        ends: meet(&from, &to, forwarder, rx.into_end(), tx_controller),
-        wire,
-        spent,
-    })
+    if !tx_controller.is_serving() {
+        bail!("the queue is not enabled");
+    }
+    let ends = meet(from, to, forwarder, rx.into_end(), tx_controller);
+    Ok(Gone { ends, wire, spent })
+}
+
+/// Has both sides work until all frames are on the wire.
+fn pass_all<R: Threads + Wait + Sync>(
+    rt: &R,
+    from: &RxRing,
+    to: &TxRing,
+    device: Device,
+    forwarder: Forwarder,
+    frame: &[u8],
+    plan: PassPlan,
+) -> Result<(Device, Forwarder)>
+    requires serves { Serves from.now to.now frame.now device }
+    requires forwards { CanForward from.now to.now forwarder }
+    ensures serves { IfOk result (λ ends. Serves from.now to.now frame.now ends.0) }
+    ensures forwards { IfOk result (λ ends. CanForward from.now to.now ends.1) }
+{
+    if plan.in_threads {
+        in_threads(rt, from, to, device, forwarder, frame, plan)
+    } else {
+        alone(rt, from, to, device, forwarder, frame, plan)
+    }
 }
 
 /// Has both sides work in turn, until all frames are on the wire.
 fn alone<R: Wait>(
     rt: &R,
-    shared: Shared<'_>,
+    from: &RxRing,
+    to: &TxRing,
     mut device: Device,
     mut forwarder: Forwarder,
+    frame: &[u8],
+    plan: PassPlan,
 ) -> Result<(Device, Forwarder)>
-    requires serves { Serves shared.from.now shared.to.now shared.frame.now device }
-    requires forwards { CanForward shared.from.now shared.to.now forwarder }
-    ensures serves { IfOk result (λ ends. Serves shared.from.now shared.to.now shared.frame.now ends.0) }
-    ensures forwards { IfOk result (λ ends. CanForward shared.from.now shared.to.now ends.1) }
+    requires serves { Serves from.now to.now frame.now device }
+    requires forwards { CanForward from.now to.now forwarder }
+    ensures serves { IfOk result (λ ends. Serves from.now to.now frame.now ends.0) }
+    ensures forwards { IfOk result (λ ends. CanForward from.now to.now ends.1) }
 {
-    let Shared {
-        from,
-        to,
-        frame,
-        plan,
-    } = shared;
     let mut left = plan.load.frames;
     for _ in rt.forever() {
         if device.wire.len() == plan.load.frames as usize {
@@ -121,14 +161,17 @@ fn alone<R: Wait>(
 /// Runs both sides, the controllers in a thread of their own, and joins it.
 fn in_threads<R: Threads + Wait + Sync>(
     rt: &R,
-    shared: Shared<'_>,
+    from: &RxRing,
+    to: &TxRing,
     device: Device,
     forwarder: Forwarder,
+    frame: &[u8],
+    plan: PassPlan,
 ) -> Result<(Device, Forwarder)>
-    requires serves { Serves shared.from.now shared.to.now shared.frame.now device }
-    requires forwards { CanForward shared.from.now shared.to.now forwarder }
-    ensures serves { IfOk result (λ ends. Serves shared.from.now shared.to.now shared.frame.now ends.0) }
-    ensures forwards { IfOk result (λ ends. CanForward shared.from.now shared.to.now ends.1) }
+    requires serves { Serves from.now to.now frame.now device }
+    requires forwards { CanForward from.now to.now forwarder }
+    ensures serves { IfOk result (λ ends. Serves from.now to.now frame.now ends.0) }
+    ensures forwards { IfOk result (λ ends. CanForward from.now to.now ends.1) }
 {
     let stop = AtomicBool::new(false);
     let stop = &stop;
@@ -136,18 +179,18 @@ fn in_threads<R: Threads + Wait + Sync>(
         thread::scope_env(),
         rt,
         move |scope| -> Result<(Device, Forwarder)>
-            requires serves { Serves shared.from.now shared.to.now shared.frame.now device }
-            requires forwards { CanForward shared.from.now shared.to.now forwarder }
-            ensures serves { IfOk result (λ ends. Serves shared.entry.from.now shared.entry.to.now shared.entry.frame.now ends.0) }
-            ensures forwards { IfOk result (λ ends. CanForward shared.entry.from.now shared.entry.to.now ends.1) }
+            requires serves { Serves from.now to.now frame.now device }
+            requires forwards { CanForward from.now to.now forwarder }
+            ensures serves { IfOk result (λ ends. Serves from.entry.now to.entry.now frame.entry.now ends.0) }
+            ensures forwards { IfOk result (λ ends. CanForward from.entry.now to.entry.now ends.1) }
         {
-            let serving = scope.spawn_with(shared, move || {
-                failing(stop, serve_all(rt, shared, device, stop))
+            let serving = scope.spawn_with(ServesOn(from, to, frame), move || {
+                failing(stop, serve_all(rt, from, to, device, frame, plan, stop))
             });
             let Ok(serving) = serving else {
                 bail!("no thread could be made");
             };
-            let forwarded = failing(stop, forward_all(rt, shared, forwarder, stop));
+            let forwarded = failing(stop, forward_all(rt, from, to, forwarder, plan, stop));
             let device = serving.join(rt)?;
             Ok((device, forwarded?))
         },
@@ -168,19 +211,16 @@ fn failing<T>(stop: &AtomicBool, done: Result<T>) -> Result<T>
 /// it looks whether the other side has failed.
 fn serve_all<R: Wait>(
     rt: &R,
-    shared: Shared<'_>,
+    from: &RxRing,
+    to: &TxRing,
     mut device: Device,
+    frame: &[u8],
+    plan: PassPlan,
     stop: &AtomicBool,
 ) -> Result<Device>
-    requires serves { Serves shared.from.now shared.to.now shared.frame.now device }
-    ensures serves { IfOk result (λ d. Serves shared.from.now shared.to.now shared.frame.now d) }
+    requires serves { Serves from.now to.now frame.now device }
+    ensures serves { IfOk result (λ d. Serves from.now to.now frame.now d) }
 {
-    let Shared {
-        from,
-        to,
-        frame,
-        plan,
-    } = shared;
     let mut patience = Patience::new();
     let mut left = plan.load.frames;
     for _ in rt.forever() {
@@ -202,17 +242,19 @@ fn serve_all<R: Wait>(
 /// has failed.
 fn forward_all<R: Wait>(
     rt: &R,
-    shared: Shared<'_>,
+    from: &RxRing,
+    to: &TxRing,
     mut forwarder: Forwarder,
+    plan: PassPlan,
     stop: &AtomicBool,
 ) -> Result<Forwarder>
-    requires forwards { CanForward shared.from.now shared.to.now forwarder }
-    ensures forwards { IfOk result (λ f. CanForward shared.from.now shared.to.now f) }
+    requires forwards { CanForward from.now to.now forwarder }
+    ensures forwards { IfOk result (λ f. CanForward from.now to.now f) }
 {
     let mut patience = Patience::new();
-    let mut left = shared.plan.load.frames as usize;
+    let mut left = plan.load.frames as usize;
     for _ in rt.forever() {
-        let moved = forwarder.forward(shared.from, shared.to)?;
+        let moved = forwarder.forward(from, to)?;
         left = left.saturating_sub(moved.sent);
         if left == 0 {
             return Ok(forwarder);
