@@ -51,8 +51,10 @@ offered_copies frame before after told all grew = All-same (λ f. f ≡ frame) a
   where
     one : AreCopies frame (frame ∷ [])
     one = All-replicate (λ f. f ≡ frame) 1 frame refl
+
     none : AreCopies frame []
     none = All-nil (λ f. f ≡ frame)
+
     more : (told : Result Offer CtlError) → AreCopies frame (frames_by told frame)
     more (Ok Off) = none
     more (Ok Oversize) = none

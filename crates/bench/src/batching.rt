@@ -10,15 +10,14 @@ ghost use Rattle.bench.specs.Sending.{CanFetch};
 ghost use Rattle.ring_model.specs.shared.Frames.{Bytes};
 ghost use Rattle.bench.specs.declared.supply.TheConstants.{BYTE};
 
-use crate::fetching;
 use crate::fetching::send;
 use crate::forwarding::Forwarder;
 use crate::meeting::{Ends, meet};
-use crate::storing;
 use crate::storing::store;
 use crate::supply::{frame_of, spare_for};
 use crate::tally::Tally;
 use crate::words::BatchPlan;
+use crate::{fetching, storing};
 use anyhow::{Result, ensure};
 use buffer_pool::Stock;
 use driver::MOST_BATCH;

@@ -61,12 +61,7 @@ impl Forwarder {
     }
 
     /// Posts buffers of the stock at each place of the receive ring, and fills the stash, as far as the stock reaches.
-    pub fn fill(
-        &mut self,
-        from: &RxRing,
-        to: &TxRing,
-        stock: &mut Stock,
-    ) -> Result<(), DriverError>
+    pub fn fill(&mut self, from: &RxRing, to: &TxRing, stock: &mut Stock) -> Result<(), DriverError>
         requires can { CanForward from.now to.now self.old }
         ensures can { OnOk result (CanForward from.now to.now self.new) }
     {
@@ -85,9 +80,7 @@ impl Forwarder {
         ensures can { OnOk result (CanForward from.now to.now self.new) }
         ensures sent { IfOk result (λ m. length (frames carried (posted self.new.tx.end)) ≡ length (frames carried (posted self.old.tx.end)) + m.sent) }
     {
-        let received = self
-            .rx
-            .rx_batch(from, &mut self.stash, &mut self.packets)?;
+        let received = self.rx.rx_batch(from, &mut self.stash, &mut self.packets)?;
         let sent = self.tx.tx_batch(to, &mut self.stash, &mut self.packets)?;
         Ok(Moved { received, sent })
     }
