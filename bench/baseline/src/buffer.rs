@@ -1,5 +1,7 @@
 //! One buffer of a ring.
 
+use std::mem;
+
 /// How many bytes a buffer has room for.
 pub const BUFFER_BYTES: usize = 2048;
 
@@ -51,16 +53,16 @@ impl Buffer {
         self.len = 0;
     }
 
-    /// Takes those off that hang behind the buffer.
-    pub fn take_next(&mut self) -> Option<Buffer> {
-        self.room.next.take()
+    /// Takes those off that hang behind the buffer, and leaves what `first` has, which is nothing.
+    pub fn swap_next(&mut self, first: &mut Option<Buffer>) {
+        mem::swap(first, &mut self.room.next);
     }
 
     /// Hangs `buffer` behind the last of those that hang behind this one.
     pub fn push(&mut self, buffer: Buffer) {
         match &mut self.room.next {
             Some(next) => next.push(buffer),
-            None => self.room.next = Some(buffer),
+            empty => *empty = Some(buffer),
         }
     }
 }

@@ -26,14 +26,14 @@ impl Packet {
         self.segments += 1;
         match &mut self.first {
             Some(first) => first.push(buffer),
-            None => self.first = Some(buffer),
+            empty => *empty = Some(buffer),
         }
     }
 
     /// Takes the first buffer off.
     pub fn pop_front(&mut self) -> Option<Buffer> {
         let mut buffer = self.first.take()?;
-        self.first = buffer.take_next();
+        buffer.swap_next(&mut self.first);
         self.len -= buffer.len() as u32;
         self.segments -= 1;
         Some(buffer)

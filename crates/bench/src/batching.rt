@@ -1,5 +1,5 @@
 //! Frames through a receive ring, both drivers and a transmit ring, on one thread. The device's side are the rings' ends.
-ghost use Rattle.std.specs.Prelude.{◌≡◌, ◌<◌, ◌≤◌, length, replicate, IfOk};
+ghost use Rattle.std.specs.Prelude.{◌<◌, ◌≤◌, length, replicate, IfOk};
 ghost use Rattle.limits.specs.RingLength.{IsRingLength};
 ghost use Rattle.bench.specs.Copies.{IsFrameLength};
 ghost use Rattle.bench.specs.Forwarding.{CanForward, HasRelayed, SentAtLeast};

@@ -1,5 +1,5 @@
 //! Frames through both layers: offered to a controller, received and sent on by the drivers, and put onto a wire.
-ghost use Rattle.std.specs.Prelude.{◌≡◌, ◌≤◌, length, replicate, IfOk};
+ghost use Rattle.std.specs.Prelude.{◌≡◌, replicate, IfOk};
 ghost use Rattle.bench.specs.Forwarding.{CanForward};
 ghost use Rattle.bench.specs.Serving.{HasGone, HasNothing, Serves};
 ghost use Rattle.bench.specs.declared.supply.TheConstants.{BYTE};

@@ -1,5 +1,5 @@
 //! The device's side of both layers: frames that come in are offered, and those that go out are put onto a wire.
-ghost use Rattle.std.specs.Prelude.{◌≡◌, ◌≤◌, OnOk, IfOk};
+ghost use Rattle.std.specs.Prelude.{◌≤◌, OnOk, IfOk};
 ghost use Rattle.rx_ring.specs.Calls as receive;
 ghost use Rattle.tx_ring.specs.Calls as transmit;
 ghost use Rattle.bench.specs.Serving.{HasNothing, PutsOn, Serves, StoresCopies};

@@ -1,4 +1,3 @@
-use Rattle.bench.specs.Serving.{StoresCopies}
 use Rattle.bench.proofs.Through.{offered_copies}
 use Rattle.bench.proofs.serving.offer.Goals as goal
 
