@@ -1,9 +1,11 @@
-//! One buffer of the ring.
+//! One buffer of a ring.
+
+use std::mem;
 
 /// How many bytes a buffer has room for.
 pub const BUFFER_BYTES: usize = 2048;
 
-/// A buffer: its number, and the bytes of one frame in it, which lie on the heap.
+/// A buffer: its number, and the bytes of one segment in it, which lie on the heap.
 pub struct Buffer {
     #[expect(
         dead_code,
@@ -11,7 +13,13 @@ pub struct Buffer {
     )]
     number: u16,
     len: u16,
-    room: Box<[u8; BUFFER_BYTES]>,
+    room: Box<Room>,
+}
+
+/// The bytes of a buffer, and the buffer that hangs behind it in a packet.
+struct Room {
+    next: Option<Buffer>,
+    bytes: [u8; BUFFER_BYTES],
 }
 
 impl Buffer {
@@ -19,22 +27,42 @@ impl Buffer {
         Buffer {
             number,
             len: 0,
-            room: Box::new([0; BUFFER_BYTES]),
+            room: Box::new(Room {
+                next: None,
+                bytes: [0; BUFFER_BYTES],
+            }),
         }
     }
 
+    pub fn len(&self) -> usize {
+        usize::from(self.len)
+    }
+
     pub fn bytes(&self) -> &[u8] {
-        &self.room[..usize::from(self.len)]
+        &self.room.bytes[..self.len()]
     }
 
     /// Puts `bytes` into the buffer, at most `BUFFER_BYTES`, in place of those that were there.
     pub fn fill(&mut self, bytes: &[u8]) {
-        self.room[..bytes.len()].copy_from_slice(bytes);
+        self.room.bytes[..bytes.len()].copy_from_slice(bytes);
         self.len = bytes.len() as u16;
     }
 
     /// Empties the buffer, and writes none of its bytes.
     pub fn clear(&mut self) {
         self.len = 0;
+    }
+
+    /// Takes those off that hang behind the buffer, and leaves what `first` has, which is nothing.
+    pub fn swap_next(&mut self, first: &mut Option<Buffer>) {
+        mem::swap(first, &mut self.room.next);
+    }
+
+    /// Hangs `buffer` behind the last of those that hang behind this one.
+    pub fn push(&mut self, buffer: Buffer) {
+        match &mut self.room.next {
+            Some(next) => next.push(buffer),
+            empty => *empty = Some(buffer),
+        }
     }
 }

@@ -1,8 +1,14 @@
-//! Passes frames through one ring, with a thread at each end, and prints what one costs.
+//! Passes frames through one ring, or through the layers of two, and prints what one costs.
 
 mod buffer;
+mod controller;
+mod driver;
+mod forwarder;
+mod layers;
+mod packet;
 mod patience;
 mod receive;
+mod relay;
 mod ring;
 mod steps;
 mod table;
@@ -26,6 +32,8 @@ fn main() -> ExitCode {
     let spent = match manner {
         Manner::Receive { batch } => receive::run(&load, batch),
         Manner::Transmit { report, completion } => transmit::run(&load, report, completion),
+        Manner::Relay { batch } => relay::run(&load, batch),
+        Manner::Pass { batch, in_threads } => layers::run(&load, batch, in_threads),
     };
     let nanoseconds = spent.as_nanos() as f64 / load.frames as f64;
     println!("frames {}", load.frames);

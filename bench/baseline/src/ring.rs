@@ -14,6 +14,10 @@ const EOP: u64 = 2;
 /// Where a written-back word has the segment's length, 16 bits.
 const LENGTH_SHIFT: u32 = 32;
 
+/// The control word where the driver asks for the queue to be enabled, and where it is.
+pub const ENABLE_ASKED: u64 = 1;
+pub const ENABLED: u64 = 2;
+
 pub struct Ring {
     table: Table,
 }
@@ -33,11 +37,13 @@ impl Ring {
             table,
             fill: 0,
             next: 0,
+            on: false,
         };
         let controller = Controller {
             table,
             next: 0,
             known: 0,
+            serving: false,
         };
         (driver, controller)
     }
@@ -62,9 +68,26 @@ pub struct Driver<'a> {
     table: &'a Table,
     fill: usize,
     next: usize,
+    // whether the queue was seen enabled, which the layers ask
+    on: bool,
 }
 
 impl Driver<'_> {
+    pub fn ask_enable(&mut self) {
+        self.table.store_register(Register::Control, ENABLE_ASKED);
+    }
+
+    /// Looks whether the queue is enabled.
+    pub fn look_on(&mut self) -> bool {
+        self.on = self.table.load_register(Register::Control) == ENABLED;
+        self.on
+    }
+
+    /// Whether the queue was seen enabled.
+    pub fn is_on(&self) -> bool {
+        self.on
+    }
+
     /// How many descriptors can be posted.
     pub fn room(&self) -> usize {
         self.table.size() - 1 - self.table.between(self.next, self.fill)
@@ -108,9 +131,31 @@ pub struct Controller<'a> {
     table: &'a Table,
     next: usize,
     known: usize,
+    serving: bool,
 }
 
 impl Controller<'_> {
+    /// Enables the queue where that is asked.
+    pub fn answer(&mut self) {
+        if self.table.load_register(Register::Control) == ENABLE_ASKED {
+            self.table.store_register(Register::Control, ENABLED);
+            self.serving = true;
+        }
+    }
+
+    pub fn is_serving(&self) -> bool {
+        self.serving
+    }
+
+    pub fn size(&self) -> usize {
+        self.table.size()
+    }
+
+    /// Stores the head.
+    pub fn set_head(&mut self) {
+        self.table.store_register(Register::Head, self.next as u64);
+    }
+
     /// How many descriptors are known to be free.
     pub fn known(&self) -> usize {
         self.known

@@ -32,10 +32,10 @@ pub fn run(load: &Load, report: usize, completion: Completion) -> Duration {
 /// Answers the enabling, and sends the frames, each as soon as it is ready.
 fn control(mut end: Controller, load: &Load) -> Tally {
     let mut patience = Patience::default();
-    while !end.is_asked() {
+    while !end.is_serving() {
         patience.wait();
+        end.answer();
     }
-    end.enable();
     let mut sent = Tally::default();
     while sent.frames < load.frames {
         if end.ready() == 0 && end.look() == 0 {
@@ -43,10 +43,8 @@ fn control(mut end: Controller, load: &Load) -> Tally {
             continue;
         }
         patience.reset();
-        let buffer = end.fetch();
-        sent.frames += 1;
-        sent.bytes += buffer.bytes().len() as u64;
-        sent.first_bytes += u64::from(buffer.bytes()[0]);
+        let (buffer, _eop) = end.fetch();
+        sent.add(buffer.bytes());
         end.give_back(buffer);
         if end.owes_report() {
             end.report();
@@ -81,7 +79,7 @@ fn drive(mut end: Driver, mut stock: Vec<Buffer>, load: &Load, report: usize) ->
     let frame = load.frame();
     let mut patience = Patience::default();
     end.ask_enable();
-    while !end.is_on() {
+    while !end.look_on() {
         patience.wait();
     }
     let mut course = Course {
@@ -110,7 +108,7 @@ fn post_more(end: &mut Driver, stock: &mut Vec<Buffer>, frame: &[u8], course: &m
         let mut buffer = stock.pop().expect("as many buffers as the ring has places");
         buffer.fill(frame);
         let asks = course.next();
-        end.post(buffer, asks);
+        end.post(buffer, true, asks, frame.len() as u16);
     }
     end.publish();
 }

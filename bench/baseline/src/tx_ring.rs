@@ -3,6 +3,7 @@
 //! stored, and by nobody in between.
 
 use crate::buffer::Buffer;
+use crate::ring::{ENABLE_ASKED, ENABLED};
 use crate::table::{Register, Table};
 use std::collections::VecDeque;
 
@@ -20,10 +21,6 @@ const PAYLEN_SHIFT: u32 = 46;
 
 /// The word of a report by its descriptor: done.
 const DD: u64 = 1 << 32;
-
-/// The control word where the driver asks for the queue to be enabled, and where it is.
-const ENABLE_ASKED: u64 = 1;
-const ENABLED: u64 = 2;
 
 /// How the controller reports that frames are sent.
 #[derive(Clone, Copy, PartialEq, Eq)]
@@ -54,6 +51,7 @@ impl TxRing {
         let driver = Driver {
             table,
             completion,
+            on: false,
             fill: 0,
             next: 0,
             out: 0,
@@ -64,6 +62,7 @@ impl TxRing {
         let controller = Controller {
             table,
             completion,
+            serving: false,
             serve: 0,
             last: 0,
             ready: 0,
@@ -78,6 +77,8 @@ impl TxRing {
 pub struct Driver<'a> {
     table: &'a Table,
     completion: Completion,
+    // whether the queue was seen enabled, which the layers ask
+    on: bool,
     fill: usize,
     next: usize,
     out: usize,
@@ -93,8 +94,19 @@ impl Driver<'_> {
         self.table.store_register(Register::Control, ENABLE_ASKED);
     }
 
-    pub fn is_on(&mut self) -> bool {
-        self.table.load_register(Register::Control) == ENABLED
+    /// Looks whether the queue is enabled.
+    pub fn look_on(&mut self) -> bool {
+        self.on = self.table.load_register(Register::Control) == ENABLED;
+        self.on
+    }
+
+    /// Whether the queue was seen enabled.
+    pub fn is_on(&self) -> bool {
+        self.on
+    }
+
+    pub fn size(&self) -> usize {
+        self.table.size()
     }
 
     /// How many descriptors can be posted.
@@ -107,10 +119,13 @@ impl Driver<'_> {
         self.out == 0
     }
 
-    /// Posts a buffer with a whole frame. There has to be room.
-    pub fn post(&mut self, buffer: Buffer, rs: bool) {
-        let length = buffer.bytes().len() as u64;
-        let word = length + KIND + EOP + if rs { RS } else { 0 } + (length << PAYLEN_SHIFT);
+    /// Posts a buffer of a frame of so many bytes. There has to be room.
+    pub fn post(&mut self, buffer: Buffer, eop: bool, rs: bool, paylen: u16) {
+        let word = buffer.len() as u64
+            + KIND
+            + if eop { EOP } else { 0 }
+            + if rs { RS } else { 0 }
+            + (u64::from(paylen) << PAYLEN_SHIFT);
         // SAFETY: the place is not posted, so it is the driver's until the tail is stored.
         unsafe { self.table.put_in(self.fill, buffer) };
         self.table.store(self.fill, word);
@@ -169,6 +184,7 @@ impl Driver<'_> {
 pub struct Controller<'a> {
     table: &'a Table,
     completion: Completion,
+    serving: bool,
     serve: usize,
     last: usize,
     ready: usize,
@@ -177,12 +193,16 @@ pub struct Controller<'a> {
 }
 
 impl Controller<'_> {
-    pub fn is_asked(&mut self) -> bool {
-        self.table.load_register(Register::Control) == ENABLE_ASKED
+    /// Enables the queue where that is asked.
+    pub fn answer(&mut self) {
+        if self.table.load_register(Register::Control) == ENABLE_ASKED {
+            self.table.store_register(Register::Control, ENABLED);
+            self.serving = true;
+        }
     }
 
-    pub fn enable(&mut self) {
-        self.table.store_register(Register::Control, ENABLED);
+    pub fn is_serving(&self) -> bool {
+        self.serving
     }
 
     /// How many descriptors are known to be ready.
@@ -197,11 +217,13 @@ impl Controller<'_> {
         self.ready
     }
 
-    /// Takes the buffer of the next descriptor. One has to be known to be ready.
-    pub fn fetch(&mut self) -> Buffer {
-        self.asks = self.table.load(self.serve) & RS != 0;
+    /// Takes the buffer of the next descriptor, and whether it ends its frame. One has to be known to be ready.
+    pub fn fetch(&mut self) -> (Buffer, bool) {
+        let word = self.table.load(self.serve);
+        self.asks = word & RS != 0;
         // SAFETY: the place lies before a published tail, so the driver has given it.
-        unsafe { self.table.take_out(self.serve) }
+        let buffer = unsafe { self.table.take_out(self.serve) };
+        (buffer, word & EOP != 0)
     }
 
     /// Gives the fetched buffer back, as sent, and stores the head.

@@ -1,11 +1,14 @@
 //! The command line, and what both kinds of run share.
 
 use crate::buffer::BUFFER_BYTES;
+use crate::driver::MOST_BATCH;
 use crate::tx_ring::Completion;
 use std::collections::HashMap;
 
 pub const USAGE: &str = "usage: baseline ring --ring N --frames N --size BYTES --batch N
        baseline tx --ring N --frames N --size BYTES --report N --completion status|head
+       baseline batch --ring N --frames N --size BYTES --batch N
+       baseline pass --ring N --frames N --size BYTES --batch N --threads 1|2
        baseline steps";
 
 /// The first byte of each frame, which the side that receives it reads.
@@ -50,6 +53,15 @@ pub struct Tally {
     pub first_bytes: u64,
 }
 
+impl Tally {
+    /// Reads one more frame.
+    pub fn add(&mut self, frame: &[u8]) {
+        self.frames += 1;
+        self.bytes += frame.len() as u64;
+        self.first_bytes += u64::from(frame[0]);
+    }
+}
+
 /// What is done with the frames.
 pub enum Manner {
     /// They are received; after at most `batch` of them the driver publishes.
@@ -59,6 +71,10 @@ pub enum Manner {
         report: usize,
         completion: Completion,
     },
+    /// They go through both drivers, and `batch` of them are stored and received at once.
+    Relay { batch: usize },
+    /// They go through both layers, on one thread or with one for either side.
+    Pass { batch: usize, in_threads: bool },
 }
 
 /// What is run.
@@ -90,11 +106,27 @@ impl Settings {
                 let completion = completion_of(options.get("--completion")?)?;
                 (Manner::Transmit { report, completion }, 5)
             }
+            "batch" => {
+                let batch = number("--batch")? as usize;
+                (Manner::Relay { batch }, 4)
+            }
+            "pass" => {
+                let batch = number("--batch")? as usize;
+                let in_threads = match number("--threads")? {
+                    1 => false,
+                    2 => true,
+                    _ => return None,
+                };
+                (Manner::Pass { batch, in_threads }, 5)
+            }
             _ => return None,
         };
         let lawful = match manner {
             Manner::Receive { batch } => batch > 0,
             Manner::Transmit { report, .. } => (1..load.ring).contains(&report),
+            Manner::Relay { batch } | Manner::Pass { batch, .. } => {
+                (1..=MOST_BATCH).contains(&batch)
+            }
         };
         (options.len() == count && load.is_lawful() && lawful).then_some(Settings { load, manner })
     }

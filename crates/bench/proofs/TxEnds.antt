@@ -185,7 +185,7 @@ posted_all ring frame plan driver stock course room size run same none_left is_r
       all_cleaned = omega arith;
     }
 
-serving_on : (state : ControllerState) → is_serving state ≡ true → is_ended state ≡ false
+pub serving_on : (state : ControllerState) → is_serving state ≡ true → is_ended state ≡ false
 serving_on Off e = absurd (false≢true e)
 serving_on Serving e = refl
 serving_on Ended e = absurd (false≢true e)

@@ -1,3 +1,5 @@
 pub mod Copies
+pub mod Forwarding
 pub mod Passing
 pub mod Sending
+pub mod Serving

@@ -1,5 +1,5 @@
 //! The controller's thread of a transmit ring.
-ghost use Rattle.std.specs.Prelude.{◌<◌};
+ghost use Rattle.std.specs.Prelude.{◌≡◌, ◌+◌, ◌<◌};
 ghost use Rattle.tx_ring.specs.Ends.{known_ready};
 ghost use Rattle.bench.specs.Sending.{CanFetch, CanServe, HasServed};
 
@@ -46,7 +46,7 @@ pub fn send_all<R: Wait>(
 }
 
 /// Waits until the enabling is asked, and answers it.
-fn serve<R: Wait>(rt: &R, ring: &TxRing, controller: &mut TxControllerEnd)
+pub fn serve<R: Wait>(rt: &R, ring: &TxRing, controller: &mut TxControllerEnd)
     requires can { CanServe ring.now controller.old }
     ensures { HasServed ring.now controller.old.completion controller.new }
 {
@@ -64,10 +64,11 @@ fn serve<R: Wait>(rt: &R, ring: &TxRing, controller: &mut TxControllerEnd)
 
 /// Sends the next frame, and reports where it asks for that.
 #[inline]
-fn send(ring: &TxRing, controller: &mut TxControllerEnd, tally: &mut Tally)
+pub fn send(ring: &TxRing, controller: &mut TxControllerEnd, tally: &mut Tally)
     requires can { CanFetch ring.now controller.old }
     requires ready { 0 < known_ready controller.old }
-    ensures { HasServed ring.now controller.old.completion controller.new }
+    ensures served { HasServed ring.now controller.old.completion controller.new }
+    ensures one { known_ready controller.old ≡ known_ready controller.new + 1 }
 {
     let (buf, _read) = controller.fetch(ring);
     tally.add(buf.bytes());

@@ -10,11 +10,16 @@
 #![tactic(auto)]
 
 mod asking;
+mod batching;
 mod fetching;
+mod forwarding;
+mod layers;
+mod meeting;
 mod passing;
 mod patience;
 mod posting;
 mod sending;
+mod serving;
 mod storing;
 mod supply;
 mod taking;
@@ -22,6 +27,8 @@ mod tally;
 mod words;
 
 use anyhow::Result;
+use batching::relay;
+use layers::pass_layers;
 use passing::pass;
 use sending::send_frames;
 use std::process::ExitCode;
@@ -46,6 +53,8 @@ fn main(rt: HostRuntime) -> Result<ExitCode> {
     let spent = match plan {
         Plan::Ring(plan) => pass(&rt, rt.alloc(), plan)?.spent,
         Plan::Tx(plan) => send_frames(&rt, rt.alloc(), plan)?.spent,
+        Plan::Batch(plan) => relay(&rt, rt.alloc(), plan)?.spent,
+        Plan::Pass(plan) => pass_layers(&rt, rt.alloc(), plan)?.spent,
     };
     report(&rt, plan.load().frames, spent)?;
     Ok(ExitCode::SUCCESS)

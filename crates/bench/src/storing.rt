@@ -42,7 +42,7 @@ pub fn store_all<R: Wait>(
 }
 
 /// Waits until the enabling is asked, and answers it.
-fn serve<R: Wait>(rt: &R, ring: &RxRing, controller: &mut RxControllerEnd)
+pub fn serve<R: Wait>(rt: &R, ring: &RxRing, controller: &mut RxControllerEnd)
     requires can { CanServe ring.now controller.old }
     ensures { HasBegun ring.now controller.new }
 {
@@ -60,7 +60,7 @@ fn serve<R: Wait>(rt: &R, ring: &RxRing, controller: &mut RxControllerEnd)
 
 /// Stores the frame in the next descriptor.
 #[inline]
-fn store(ring: &RxRing, controller: &mut RxControllerEnd, frame: &[u8])
+pub fn store(ring: &RxRing, controller: &mut RxControllerEnd, frame: &[u8])
     requires size { IsRingLength ring.now.slots }
     requires can { CanStore ring.now frame.now controller.old }
     requires free { 0 < known_free controller.old }

@@ -4,7 +4,7 @@ ghost use Rattle.buffer_pool.specs.Stocked.{Shares};
 ghost use Rattle.bench.specs.Copies.{IsFrameLength};
 
 use anyhow::{Result, bail};
-use buffer_pool::Stock;
+use buffer_pool::{STASH_BUFFERS, Stock};
 use limits::{BUFFER_BYTES, FEWEST_BUFFERS, LEAST_FRAME};
 use std::alloc::Global;
 
@@ -28,4 +28,9 @@ pub fn stock_for(alloc: Global, ring: u32) -> Result<Stock>
     ensures enough { IfOk result (λ stock. ring ≤ length stock.numbers) }
 {
     Ok(Stock::new(alloc, 0, ring.max(FEWEST_BUFFERS))?)
+}
+
+/// Buffers for each descriptor of a ring and for a stash beside it.
+pub fn spare_for(alloc: Global, ring: u32) -> Result<Stock> {
+    Ok(Stock::new(alloc, 0, ring.saturating_add(STASH_BUFFERS as u32))?)
 }

@@ -1,5 +1,6 @@
 //! The command line.
 
+use driver::MOST_BATCH;
 use limits::{BUFFER_BYTES, MOST_RING};
 use ring_model::Completion;
 
@@ -28,11 +29,31 @@ pub struct TxPlan {
     pub completion: Completion,
 }
 
+/// A run of frames through both drivers.
+#[derive(Clone, Copy)]
+pub struct BatchPlan {
+    pub load: Load,
+    /// How many frames are stored and received at once.
+    pub batch: u32,
+}
+
+/// A run of frames through both layers, controllers and drivers.
+#[derive(Clone, Copy)]
+pub struct PassPlan {
+    pub load: Load,
+    /// How many frames are offered, received and put onto the wire at once.
+    pub batch: u32,
+    /// Whether controllers and drivers have a thread each.
+    pub in_threads: bool,
+}
+
 /// What is run.
 #[derive(Clone, Copy)]
 pub enum Plan {
     Ring(RingPlan),
     Tx(TxPlan),
+    Batch(BatchPlan),
+    Pass(PassPlan),
 }
 
 impl Plan {
@@ -41,6 +62,8 @@ impl Plan {
         match self {
             Plan::Ring(plan) => plan.load,
             Plan::Tx(plan) => plan.load,
+            Plan::Batch(plan) => plan.load,
+            Plan::Pass(plan) => plan.load,
         }
     }
 }
@@ -48,26 +71,36 @@ impl Plan {
 /// What is told in place of a run.
 pub const USAGE: &str = "Usage: bench ring --ring N --frames N --size N --batch N
        bench tx --ring N --frames N --size N --report N --completion status|head
+       bench batch --ring N --frames N --size N --batch N
+       bench pass --ring N --frames N --size N --batch N --threads 1|2
 
-Passes frames through a receive ring or a transmit ring, with a thread at each end, and prints what one costs.
+Passes frames through a receive ring (ring) or a transmit ring (tx) with a thread at each end; through a receive ring, both
+drivers and a transmit ring on one thread (batch); or through controllers and drivers of both rings onto a wire (pass); and
+prints what one frame costs.
 
-  --ring        the descriptors of the ring, a power of two from 8 to 4096
+  --ring        the descriptors of each ring, a power of two from 8 to 4096
   --frames      how many frames are passed, from 1
   --size        the bytes of each frame, 14 to 2048
-  --batch       after how many frames at most the driver publishes, 1 to 4096
+  --batch       ring: after how many frames at most the driver publishes, 1 to 4096
+                batch, pass: how many frames are stored, received and sent at once, 1 to 32
   --report      how many frames one report covers, from 1 to the ring's descriptors less one
   --completion  how frames are reported as sent: by their descriptors, or by the head
+  --threads     1, or 2 where controllers and drivers have a thread each
 
 Examples:
   bench ring --ring 512 --frames 1000000 --size 60 --batch 32
-  bench tx --ring 512 --frames 1000000 --size 60 --report 32 --completion status";
+  bench tx --ring 512 --frames 1000000 --size 60 --report 32 --completion status
+  bench batch --ring 512 --frames 1000000 --size 60 --batch 32
+  bench pass --ring 512 --frames 1000000 --size 60 --batch 32 --threads 2";
 
-/// Reads the words after the program's name: `ring` or `tx`, and each of its options once with its value.
+/// Reads the words after the program's name: the command, and each of its options once with its value.
 pub fn plan_of(words: &[String]) -> Option<Plan> {
     let (command, options) = words.split_first()?;
     match (command.as_str(), options.len()) {
         ("ring", 8) => Some(Plan::Ring(ring_plan(options)?)),
         ("tx", 10) => Some(Plan::Tx(tx_plan(options)?)),
+        ("batch", 8) => Some(Plan::Batch(batch_plan(options)?)),
+        ("pass", 10) => Some(Plan::Pass(pass_plan(options)?)),
         _ => None,
     }
 }
@@ -85,6 +118,23 @@ fn tx_plan(options: &[String]) -> Option<TxPlan> {
         load,
         report: number_of(options, "--report", load.ring.saturating_sub(1))?,
         completion: completion_of(value_of(options, "--completion")?)?,
+    })
+}
+
+fn batch_plan(options: &[String]) -> Option<BatchPlan> {
+    Some(BatchPlan {
+        load: load_of(options)?,
+        batch: number_of(options, "--batch", MOST_BATCH as u32)?,
+    })
+}
+
+fn pass_plan(options: &[String]) -> Option<PassPlan> {
+    let BatchPlan { load, batch } = batch_plan(options)?;
+    let threads = number_of(options, "--threads", 2)?;
+    Some(PassPlan {
+        load,
+        batch,
+        in_threads: threads == 2,
     })
 }
 

@@ -1,0 +1,185 @@
+//! The controllers of both directions: frames are offered and stored, and sent onto a wire.
+
+use crate::{ring, tx_ring};
+
+const LEAST_FRAME: usize = 14;
+const MOST_FRAME: usize = 15_000;
+
+/// What became of a frame that was offered, and of a turn.
+#[derive(Clone, Copy, Debug, PartialEq, Eq)]
+pub enum Offer {
+    Off,
+    Oversize,
+    Stored,
+    Dropped,
+    Held,
+}
+
+/// How many frames were offered, and what became of them.
+#[derive(Clone, Copy, Debug, Default)]
+pub struct Tally {
+    pub offered: u64,
+    pub stored: u64,
+    pub dropped: u64,
+    pub oversize: u64,
+}
+
+/// No frame has so many bytes.
+#[derive(Debug)]
+pub struct FrameLength;
+
+/// The device's side of a receive queue.
+pub struct RxController<'a> {
+    end: ring::Controller<'a>,
+    bsize: usize,
+    drop_en: bool,
+    tally: Tally,
+}
+
+impl<'a> RxController<'a> {
+    pub fn new(end: ring::Controller<'a>, bsize: usize, drop_en: bool) -> Self {
+        RxController {
+            end,
+            bsize,
+            drop_en,
+            tally: Tally::default(),
+        }
+    }
+
+    /// Answers the enabling that is asked.
+    pub fn answer(&mut self) {
+        self.end.answer();
+    }
+
+    /// Stores a frame whole, where descriptors are free.
+    pub fn offer(&mut self, frame: &[u8]) -> Result<Offer, FrameLength> {
+        if frame.len() < LEAST_FRAME || MOST_FRAME < frame.len() {
+            return Err(FrameLength);
+        }
+        let offer = self.decide(frame);
+        let tally = &mut self.tally;
+        match offer {
+            Offer::Stored => tally.stored += 1,
+            Offer::Dropped => tally.dropped += 1,
+            Offer::Oversize => tally.oversize += 1,
+            Offer::Off | Offer::Held => return Ok(offer),
+        }
+        tally.offered += 1;
+        Ok(offer)
+    }
+
+    fn decide(&mut self, frame: &[u8]) -> Offer {
+        if !self.end.is_serving() {
+            return Offer::Off;
+        }
+        let needed = frame.len().div_ceil(self.bsize);
+        if self.end.size() <= needed {
+            return Offer::Oversize;
+        }
+        if self.end.known() < needed && self.end.look() < needed {
+            return if self.drop_en {
+                Offer::Dropped
+            } else {
+                Offer::Held
+            };
+        }
+        let mut rest = frame;
+        while self.bsize < rest.len() {
+            let (piece, more) = rest.split_at(self.bsize);
+            self.store(piece, false);
+            rest = more;
+        }
+        self.store(rest, true);
+        self.end.set_head();
+        Offer::Stored
+    }
+
+    fn store(&mut self, bytes: &[u8], eop: bool) {
+        let mut buffer = self.end.fetch();
+        buffer.fill(bytes);
+        self.end.write_back(buffer, eop);
+    }
+
+    pub fn tally(&self) -> Tally {
+        self.tally
+    }
+}
+
+/// The frames that went out, one behind another in one block, with the place where each ends.
+#[derive(Default)]
+pub struct Wire {
+    bytes: Vec<u8>,
+    ends: Vec<usize>,
+}
+
+impl Wire {
+    pub fn len(&self) -> usize {
+        self.ends.len()
+    }
+
+    /// The bytes of frame `i`.
+    pub fn frame(&self, i: usize) -> &[u8] {
+        let start = if i == 0 { 0 } else { self.ends[i - 1] };
+        &self.bytes[start..self.ends[i]]
+    }
+
+    /// Makes room for the longest frame and its entry, by at least a quarter of what there is.
+    fn reserve(&mut self) {
+        if self.bytes.capacity() - self.bytes.len() < MOST_FRAME {
+            let more = (self.bytes.capacity() / 4).max(MOST_FRAME + MOST_FRAME / 2);
+            self.bytes.reserve_exact(more);
+        }
+        if self.ends.len() == self.ends.capacity() {
+            let more = (self.ends.capacity() / 4).max(16);
+            self.ends.reserve_exact(more);
+        }
+    }
+}
+
+/// What a turn did.
+#[derive(Clone, Copy, Debug, PartialEq, Eq)]
+pub enum Turn {
+    Off,
+    Idle,
+    Sent,
+}
+
+/// The device's side of a transmit queue.
+pub struct TxController<'a> {
+    end: tx_ring::Controller<'a>,
+}
+
+impl<'a> TxController<'a> {
+    pub fn new(end: tx_ring::Controller<'a>) -> Self {
+        TxController { end }
+    }
+
+    /// Answers the enabling that is asked.
+    pub fn answer(&mut self) {
+        self.end.answer();
+    }
+
+    /// Sends the next frame onto the wire, if one is ready.
+    pub fn turn(&mut self, wire: &mut Wire) -> Turn {
+        if !self.end.is_serving() {
+            return Turn::Off;
+        }
+        if self.end.look() == 0 {
+            return Turn::Idle;
+        }
+        wire.reserve();
+        loop {
+            let (buffer, eop) = self.end.fetch();
+            wire.bytes.extend_from_slice(buffer.bytes());
+            self.end.give_back(buffer);
+            if eop {
+                break;
+            }
+        }
+        wire.ends.push(wire.bytes.len());
+        if self.end.owes_report() {
+            self.end.report();
+        }
+        Turn::Sent
+    }
+}

@@ -1,0 +1,76 @@
+//! The packets of the layers, and the empty buffers at hand.
+
+use crate::buffer::Buffer;
+
+/// The buffers of a frame, one hanging behind another.
+#[derive(Default)]
+pub struct Packet {
+    first: Option<Buffer>,
+    len: u32,
+    segments: u32,
+}
+
+impl Packet {
+    pub fn len(&self) -> usize {
+        self.len as usize
+    }
+
+    /// How many buffers there are.
+    pub fn segments(&self) -> usize {
+        self.segments as usize
+    }
+
+    /// Adds a buffer behind the others.
+    pub fn push_back(&mut self, buffer: Buffer) {
+        self.len += buffer.len() as u32;
+        self.segments += 1;
+        match &mut self.first {
+            Some(first) => first.push(buffer),
+            empty => *empty = Some(buffer),
+        }
+    }
+
+    /// Takes the first buffer off.
+    pub fn pop_front(&mut self) -> Option<Buffer> {
+        let mut buffer = self.first.take()?;
+        buffer.swap_next(&mut self.first);
+        self.len -= buffer.len() as u32;
+        self.segments -= 1;
+        Some(buffer)
+    }
+}
+
+/// The most buffers of a stash.
+pub const STASH_BUFFERS: usize = 256;
+
+/// The empty buffers at hand, of which the one that was put last is taken first.
+pub struct Stash {
+    buffers: Vec<Buffer>,
+}
+
+impl Stash {
+    pub fn new() -> Self {
+        Stash {
+            buffers: Vec::with_capacity(STASH_BUFFERS),
+        }
+    }
+
+    pub fn len(&self) -> usize {
+        self.buffers.len()
+    }
+
+    pub fn is_full(&self) -> bool {
+        self.buffers.len() == STASH_BUFFERS
+    }
+
+    pub fn take(&mut self) -> Option<Buffer> {
+        self.buffers.pop()
+    }
+
+    /// Empties a buffer and puts it in. There has to be room.
+    pub fn put(&mut self, mut buffer: Buffer) {
+        assert!(!self.is_full());
+        buffer.clear();
+        self.buffers.push(buffer);
+    }
+}

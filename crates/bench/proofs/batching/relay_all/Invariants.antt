@@ -1,0 +1,16 @@
+use Rattle.std.proofs.Common.{◌+◌, ◌≤◌, length}
+use Rattle.ring_model.specs.shared.Frames.{frames}
+use Rattle.ring_model.specs.transmit.Ring.{carried}
+use Rattle.tx_ring.specs.Ends.{posted}
+use Rattle.bench.specs.Forwarding.{CanForward}
+use Rattle.bench.specs.Passing.{CanStore}
+use Rattle.bench.specs.Sending.{CanFetch}
+use Rattle.bench.proofs.batching.relay_all.Given as goal
+
+abbrev pub invariant-loop : goal.invariant-loop
+invariant-loop g l = record {
+  stores : CanStore l.from l.frame l.device.rx;
+  sends : CanFetch l.to l.device.tx;
+  forwards : CanForward l.from l.to l.forwarder;
+  count : l.plan.load.frames ≤ l.to_send + length (frames carried (posted l.forwarder.tx.end));
+}
