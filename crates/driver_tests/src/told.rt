@@ -38,14 +38,14 @@ impl Told {
         if holds { Told::Yes } else { Told::No }
     }
 
-    fn count(told: Result<usize, DriverError>) -> Told {
+    pub(crate) fn count(told: Result<usize, DriverError>) -> Told {
         match told {
             Ok(count) => Told::Count(count),
             Err(refusal) => Told::Refused(refusal),
         }
     }
 
-    fn done(told: Result<(), DriverError>) -> Told {
+    pub(crate) fn done(told: Result<(), DriverError>) -> Told {
         match told {
             Ok(()) => Told::Yes,
             Err(refusal) => Told::Refused(refusal),
@@ -53,53 +53,33 @@ impl Told {
     }
 }
 
-/// A driver of either direction with its ring, its stash, its list of packets and a device.
-pub(crate) trait Driven {
-    /// A call that the other direction doesn't have.
-    type Own: Copy;
-
-    fn enable(&mut self) -> Result<bool, DriverError>;
-
-    fn ask_disable(&mut self) -> Result<(), DriverError>;
-
-    fn finish_disable(&mut self) -> Option<u32>;
-
-    fn reclaim(&mut self) -> Result<usize, DriverError>;
-
-    fn renew(&mut self) -> Result<(), DriverError>;
-
-    fn batch(&mut self) -> Result<usize, DriverError>;
-
-    fn answer(&mut self) -> bool;
-
-    fn room(&self) -> u32;
-
-    fn at_hand(&self) -> usize;
-
-    fn listed(&self) -> usize;
-
-    fn own(&mut self, call: Self::Own) -> Told;
-}
-
-/// Makes a call.
-pub(crate) fn make<D: Driven>(driven: &mut D, call: Call<D::Own>) -> Told {
-    match call {
-        Call::Enable => match driven.enable() {
-            Ok(enabled) => Told::whether(enabled),
-            Err(refusal) => Told::Refused(refusal),
-        },
-        Call::AskDisable => Told::done(driven.ask_disable()),
-        Call::FinishDisable => match driven.finish_disable() {
-            Some(left) => Told::Count(left as usize),
-            None => Told::No,
-        },
-        Call::Reclaim => Told::count(driven.reclaim()),
-        Call::Renew => Told::done(driven.renew()),
-        Call::Batch => Told::count(driven.batch()),
-        Call::Answer => Told::whether(driven.answer()),
-        Call::Room => Told::Count(driven.room() as usize),
-        Call::AtHand => Told::Count(driven.at_hand()),
-        Call::Listed => Told::Count(driven.listed()),
-        Call::Own(own) => driven.own(own),
-    }
+/// Makes a call on a struct with fields `ring`, `driver`, `stash` and `packets` and methods `answer` and `own`, and tells
+/// what it told.
+#[macro_export]
+macro_rules! made {
+    ($both:expr, $call:expr, $batch:ident) => {
+        match $call {
+            Call::Enable => match $both.driver.enable(&$both.ring) {
+                Ok(enabled) => Told::whether(enabled),
+                Err(refusal) => Told::Refused(refusal),
+            },
+            Call::AskDisable => Told::done($both.driver.ask_disable(&$both.ring)),
+            Call::FinishDisable => match $both.driver.finish_disable(&$both.ring) {
+                Some(left) => Told::Count(left as usize),
+                None => Told::No,
+            },
+            Call::Reclaim => Told::count($both.driver.reclaim_into(&$both.ring, &mut $both.stash)),
+            Call::Renew => Told::done($both.driver.renew(&$both.ring)),
+            Call::Batch => Told::count($both.driver.$batch(
+                &$both.ring,
+                &mut $both.stash,
+                &mut $both.packets,
+            )),
+            Call::Answer => Told::whether($both.answer()),
+            Call::Room => Told::Count($both.driver.room() as usize),
+            Call::AtHand => Told::Count($both.stash.len()),
+            Call::Listed => Told::Count($both.packets.len()),
+            Call::Own(own) => $both.own(own),
+        }
+    };
 }

@@ -1,7 +1,8 @@
 //! A receive driver and a controller's end of one ring, in one thread.
 ghost use Rattle.std.specs.Prelude.{◌≡◌, ◌<◌, ◌≤◌};
 
-use crate::told::{Call, Driven, Told, make};
+use crate::made;
+use crate::told::{Call, Told};
 use arrayvec::ArrayVec;
 use buffer_pool::{Packet, Stash};
 use driver::{DriverError, MOST_BATCH, RxDriver};
@@ -86,60 +87,9 @@ impl Both {
             }
         }
     }
-}
-
-impl Tells for Both {
-    type Step = Call<RxCall>;
-
-    type Told = Told;
-
-    fn make(&mut self, step: Call<RxCall>) -> Told {
-        make(self, step)
-    }
-}
-
-impl Driven for Both {
-    type Own = RxCall;
-
-    fn enable(&mut self) -> Result<bool, DriverError> {
-        self.driver.enable(&self.ring)
-    }
-
-    fn ask_disable(&mut self) -> Result<(), DriverError> {
-        self.driver.ask_disable(&self.ring)
-    }
-
-    fn finish_disable(&mut self) -> Option<u32> {
-        self.driver.finish_disable(&self.ring)
-    }
-
-    fn reclaim(&mut self) -> Result<usize, DriverError> {
-        self.driver.reclaim_into(&self.ring, &mut self.stash)
-    }
-
-    fn renew(&mut self) -> Result<(), DriverError> {
-        self.driver.renew(&self.ring)
-    }
-
-    fn batch(&mut self) -> Result<usize, DriverError> {
-        self.driver
-            .rx_batch(&self.ring, &mut self.stash, &mut self.packets)
-    }
 
     fn answer(&mut self) -> bool {
         self.storer.answer(&self.ring)
-    }
-
-    fn room(&self) -> u32 {
-        self.driver.room()
-    }
-
-    fn at_hand(&self) -> usize {
-        self.stash.len()
-    }
-
-    fn listed(&self) -> usize {
-        self.packets.len()
     }
 
     fn own(&mut self, call: RxCall) -> Told {
@@ -157,6 +107,16 @@ impl Driven for Both {
             RxCall::Clear => self.packets.clear(),
         }
         Told::Yes
+    }
+}
+
+impl Tells for Both {
+    type Step = Call<RxCall>;
+
+    type Told = Told;
+
+    fn make(&mut self, step: Call<RxCall>) -> Told {
+        made!(self, step, rx_batch)
     }
 }
 

@@ -2,7 +2,8 @@
 ghost use Rattle.std.specs.Prelude.{◌≡◌, ◌≤◌, All};
 ghost use Rattle.buffer_pool.specs.Packed.{IsPacket};
 
-use crate::told::{Call, Driven, Told, make};
+use crate::made;
+use crate::told::{Call, Told};
 use arrayvec::ArrayVec;
 use buffer_pool::{Packet, STASH_BUFFERS, Stash, Stock};
 use descriptor::TxRead;
@@ -124,6 +125,29 @@ impl Queue {
         }
         places
     }
+
+    fn answer(&mut self) -> bool {
+        self.controller.asked(&self.ring);
+        if self.controller.can_answer() {
+            self.controller.answer(&self.ring);
+        }
+        self.controller.is_serving()
+    }
+
+    fn own(&mut self, call: TxCall) -> Told {
+        match call {
+            TxCall::Ready => return Told::Count(self.ready() as usize),
+            TxCall::Asks(rs) => return Told::whether(self.send().is_some_and(|read| read.rs == rs)),
+            TxCall::Word(word) => {
+                return Told::whether(self.send().is_some_and(|read| read.second_word() == word));
+            }
+            TxCall::Clean => return Told::Count(self.driver.clean(&self.ring, &mut self.stash)),
+            TxCall::Add(count, segments, len) => self.add(count, segments, len),
+            TxCall::Fill(room) => self.fill_stash(room),
+            TxCall::Drop => drop(mem::take(&mut self.stash)),
+        }
+        Told::Yes
+    }
 }
 
 /// A packet of so many segments, 15 at most, of so many bytes; of fewer where the stock has no buffer more.
@@ -147,70 +171,6 @@ impl Tells for Queue {
     type Told = Told;
 
     fn make(&mut self, step: Call<TxCall>) -> Told {
-        make(self, step)
-    }
-}
-
-impl Driven for Queue {
-    type Own = TxCall;
-
-    fn enable(&mut self) -> Result<bool, DriverError> {
-        self.driver.enable(&self.ring)
-    }
-
-    fn ask_disable(&mut self) -> Result<(), DriverError> {
-        self.driver.ask_disable(&self.ring)
-    }
-
-    fn finish_disable(&mut self) -> Option<u32> {
-        self.driver.finish_disable(&self.ring)
-    }
-
-    fn reclaim(&mut self) -> Result<usize, DriverError> {
-        self.driver.reclaim_into(&self.ring, &mut self.stash)
-    }
-
-    fn renew(&mut self) -> Result<(), DriverError> {
-        self.driver.renew(&self.ring)
-    }
-
-    fn batch(&mut self) -> Result<usize, DriverError> {
-        self.driver
-            .tx_batch(&self.ring, &mut self.stash, &mut self.packets)
-    }
-
-    fn answer(&mut self) -> bool {
-        self.controller.asked(&self.ring);
-        if self.controller.can_answer() {
-            self.controller.answer(&self.ring);
-        }
-        self.controller.is_serving()
-    }
-
-    fn room(&self) -> u32 {
-        self.driver.room()
-    }
-
-    fn at_hand(&self) -> usize {
-        self.stash.len()
-    }
-
-    fn listed(&self) -> usize {
-        self.packets.len()
-    }
-
-    fn own(&mut self, call: TxCall) -> Told {
-        match call {
-            TxCall::Ready => return Told::Count(self.ready() as usize),
-            TxCall::Asks(rs) => return Told::whether(self.send().is_some_and(|read| read.rs == rs)),
-            TxCall::Word(word) => {
-                return Told::whether(self.send().is_some_and(|read| read.second_word() == word));
-            }
-            TxCall::Clean => return Told::Count(self.driver.clean(&self.ring, &mut self.stash)),
-            TxCall::Add(count, segments, len) => self.add(count, segments, len),
-            TxCall::Fill(room) => self.fill_stash(room),
-            TxCall::Drop => drop(mem::take(&mut self.stash)),
-        }
-        Told::Yes
+        made!(self, step, tx_batch)
     }
 }
