@@ -47,9 +47,7 @@ fn frames_go_round(rt: HostRuntime) -> Result<(), Fail> {
     Ok(())
 }
 
-const DROPPING: &[Row] = &[
-    (Step::Enable, Told::Yes),
-    (Step::Fill, Told::Count(7)),
+const SEVEN: &[Row] = &[
     (Step::Offer(60, 0), STORED),
     (Step::Offer(60, 1), STORED),
     (Step::Offer(60, 2), STORED),
@@ -57,20 +55,14 @@ const DROPPING: &[Row] = &[
     (Step::Offer(60, 4), STORED),
     (Step::Offer(60, 5), STORED),
     (Step::Offer(60, 6), STORED),
+];
+
+const DROPPING: &[Row] = &[
     (Step::Offer(60, 7), DROPPED),
     (Step::Counted(8, 7, 1, 0), Told::Yes),
 ];
 
 const HOLDING: &[Row] = &[
-    (Step::Enable, Told::Yes),
-    (Step::Fill, Told::Count(7)),
-    (Step::Offer(60, 0), STORED),
-    (Step::Offer(60, 1), STORED),
-    (Step::Offer(60, 2), STORED),
-    (Step::Offer(60, 3), STORED),
-    (Step::Offer(60, 4), STORED),
-    (Step::Offer(60, 5), STORED),
-    (Step::Offer(60, 6), STORED),
     (Step::Offer(60, 7), HELD),
     (Step::Counted(7, 7, 0, 0), Told::Yes),
     (Step::Take(0, 0, 60), Told::Yes),
@@ -79,10 +71,20 @@ const HOLDING: &[Row] = &[
     (Step::Counted(8, 8, 0, 0), Told::Yes),
 ];
 
+/// Whether the rows tell so of a ready ring of 8 with seven frames.
+fn told_of_the_eighth(alloc: Global, drop_en: bool, rows: &[Row]) -> Result<bool, Fail> {
+    let mut receive = Receive::new(alloc, 8, true, drop_en)?;
+    Ok(
+        all_told_so(&mut receive, READY)
+            && all_told_so(&mut receive, SEVEN)
+            && all_told_so(&mut receive, rows),
+    )
+}
+
 #[test]
 fn the_eighth_is_dropped_or_held(rt: HostRuntime) -> Result<(), Fail> {
-    assert_eq!(rt; told(rt.alloc(), 8, true, true, DROPPING)?, DROPPING.len());
-    assert_eq!(rt; told(rt.alloc(), 8, true, false, HOLDING)?, HOLDING.len());
+    assert!(rt; told_of_the_eighth(rt.alloc(), true, DROPPING)?);
+    assert!(rt; told_of_the_eighth(rt.alloc(), false, HOLDING)?);
     Ok(())
 }
 
