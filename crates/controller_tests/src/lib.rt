@@ -7,6 +7,8 @@ mod receive;
 #[cfg(test)]
 mod receive_tests;
 #[cfg(test)]
+mod told;
+#[cfg(test)]
 mod transmit;
 #[cfg(test)]
 mod transmit_tests;

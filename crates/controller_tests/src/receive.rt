@@ -1,19 +1,40 @@
 //! A receive queue whose driver the test plays.
 ghost use Rattle.std.specs.Prelude.{◌≡◌};
 
+use crate::told::{Bytes, Told};
 use buffer_pool::Stash;
-use controller::{CtlError, Offer, RxController, Tally};
-use limits::MOST_SEGMENTS;
+use controller::{RxController, Tally};
 use rx_ring::{Control, ControllerEnd, DriverEnd, Poll, RxDriverEnd, RxRing};
 use std::alloc::Global;
 use std::test::Fail;
-use test_kit::{full_stash, put_back, renewed};
+use test_kit::{Tells, asked, full_stash, put_back, renewed};
 
-/// A frame that was taken: how long its segments are, and its bytes.
-#[derive(Drop)]
-pub(crate) struct Taken {
-    pub lens: Vec<usize>,
-    pub bytes: Vec<u8>,
+/// A step of the controller or of the driver. A frame is so many bytes from a place on.
+#[derive(Clone, Copy, Drop)]
+pub(crate) enum Step {
+    /// The driver has the queue enabled, or disabled: whether both sides saw it so.
+    Enable,
+    Disable,
+    /// The driver takes all buffers of the disabled queue back, and renews it: how many came back.
+    Renew,
+    /// The driver posts buffers while there is room, and publishes them: how many they are.
+    Fill,
+    /// A frame of so many bytes from this place on is offered.
+    Offer(usize, usize),
+    /// The driver takes the next frame: whether it is the one from this place on, in so many full segments and a last one
+    /// of so many bytes.
+    Take(usize, usize, usize),
+    /// Whether the driver finds no segment.
+    FindsNone,
+    /// Whether the driver finds a descriptor that is not done.
+    IsNotDone,
+    /// Whether the driver finds that the queue is off.
+    IsOff,
+    /// The controller says that it stores no more: whether it did.
+    Finish,
+    IsQuiet,
+    /// Whether so many frames were offered, stored, dropped and oversize.
+    Counted(u64, u64, u64, u64),
 }
 
 /// A ring, its driver's end, the controller, and the buffers at hand.
@@ -23,6 +44,8 @@ pub(crate) struct Receive {
     driver: RxDriverEnd,
     controller: RxController,
     spare: Stash,
+    bytes: Bytes,
+    bsize: usize,
     ghost drives: { driver.table ≡ ring },
     ghost serves: { controller.end.table ≡ ring },
 }
@@ -31,57 +54,22 @@ impl Receive {
     /// A ring of so many places that is not enabled, and buffers at hand. Buffers are filled to 1,024 bytes, or to 2,048
     /// where they are `large`.
     pub(crate) fn new(alloc: Global, n: u32, large: bool, drop_en: bool) -> Result<Receive, Fail> {
-        let (ring, driver, end) = RxRing::new(alloc, n)?;
         let spare = full_stash(alloc, 32)?;
+        let bytes = Bytes::new(alloc)?;
         let bsize = if large { 2_048 } else { 1_024 };
+        let (ring, driver, end) = RxRing::new(alloc, n)?;
         let _size = end.size();
         Ok(Receive {
             controller: RxController::new(end, bsize, drop_en),
             ring,
             driver,
             spare,
+            bytes,
+            bsize,
         })
     }
 
-    /// The same, enabled and with all its descriptors posted and published.
-    pub(crate) fn ready(
-        alloc: Global,
-        n: u32,
-        large: bool,
-        drop_en: bool,
-    ) -> Result<Receive, Fail> {
-        let mut receive = Self::new(alloc, n, large, drop_en)?;
-        if receive.enable() && receive.fill() == n.saturating_sub(1) {
-            Ok(receive)
-        } else {
-            Err(Fail::new("not ready"))
-        }
-    }
-
-    /// Has the queue enabled, and answers whether both sides saw it so.
-    pub(crate) fn enable(&mut self) -> bool {
-        if !self.driver.is_new() {
-            return false;
-        }
-        self.driver.ask_enable(&self.ring);
-        let told = self.controller.turn_control(&self.ring);
-        self.driver.state(&self.ring);
-        told == Control::Enabled && self.driver.is_on()
-    }
-
-    /// Asks for the queue to be disabled, has the controller answer, and answers whether both sides saw it so.
-    pub(crate) fn disable(&mut self) -> bool {
-        if !self.driver.is_on() {
-            return false;
-        }
-        self.driver.ask_disable(&self.ring);
-        let told = self.controller.turn_control(&self.ring);
-        self.driver.state(&self.ring);
-        told == Control::Disabled && self.driver.is_stopped()
-    }
-
-    /// Reclaims all buffers of the disabled queue, and renews it; answers how many came back.
-    pub(crate) fn renew(&mut self) -> Option<u32> {
+    fn renew(&mut self) -> Option<u32> {
         let mut count = 0_u32;
         for _ in 0..32 {
             if !self.driver.is_stopped() {
@@ -97,8 +85,7 @@ impl Receive {
         Some(count)
     }
 
-    /// Posts buffers while there is room, publishes them, and answers how many they are.
-    pub(crate) fn fill(&mut self) -> u32 {
+    fn fill(&mut self) -> u32 {
         let mut count = 0_u32;
         for _ in 0..32 {
             if self.driver.room() == 0 || !self.driver.is_open() {
@@ -116,50 +103,21 @@ impl Receive {
         count
     }
 
-    /// Offers a frame.
-    pub(crate) fn offer(&mut self, frame: &[u8]) -> Result<Offer, CtlError> {
-        self.controller.offer(&self.ring, frame)
-    }
-
-    /// Has the controller say that it stores no more, and answers whether it did.
-    pub(crate) fn finish(&mut self) -> bool {
-        self.controller.finish(&self.ring)
-    }
-
-    /// Whether the driver sees the queue quiet.
-    pub(crate) fn is_quiet(&mut self) -> bool {
-        self.driver.is_quiet(&self.ring)
-    }
-
-    /// Whether this is what was counted.
-    pub(crate) fn has_counted(
-        &self,
-        offered: u64,
-        stored: u64,
-        dropped: u64,
-        oversize: u64,
-    ) -> bool {
-        let wanted = Tally {
-            offered,
-            stored,
-            dropped,
-            oversize,
-        };
-        self.controller.tally() == wanted
-    }
-
-    /// What the driver finds where it is to find no segment.
-    pub(crate) fn finds(&mut self, wanted: &str) -> bool {
-        let found = match self.driver.poll(&self.ring) {
-            Poll::Segment(buf, _) => {
-                put_back(&mut self.spare, buf);
-                "segment"
+    fn take(&mut self, from: usize, full: usize, last: usize) -> bool {
+        let mut at = from;
+        for k in 0..full.saturating_add(1) {
+            let Poll::Segment(buf, eop) = self.driver.poll(&self.ring) else {
+                return false;
+            };
+            let len = if k == full { last } else { self.bsize };
+            let is_next = self.bytes.are_at(at, buf.bytes()) && buf.len() == len;
+            put_back(&mut self.spare, buf);
+            if !is_next || eop != (k == full) {
+                return false;
             }
-            Poll::NotDone => "not done",
-            Poll::Empty => "empty",
-            Poll::Off => "off",
-        };
-        found == wanted
+            at = at.saturating_add(len);
+        }
+        true
     }
 
     /// Whether the controller's end stands between two frames of an enabled queue.
@@ -167,24 +125,54 @@ impl Receive {
         let end = self.controller.into_end();
         end.is_serving() && end.is_between_frames() && !end.is_holding()
     }
+}
 
-    /// Takes the next frame that is done.
-    pub(crate) fn take(&mut self, alloc: Global) -> Result<Option<Taken>, Fail> {
-        let mut taken = Taken {
-            lens: Vec::new(alloc),
-            bytes: Vec::new(alloc),
-        };
-        for _ in 0..MOST_SEGMENTS {
-            let Poll::Segment(buf, eop) = self.driver.poll(&self.ring) else {
-                return Ok(None);
-            };
-            taken.lens.push(buf.len())?;
-            taken.bytes.extend_from_slice(buf.bytes())?;
-            put_back(&mut self.spare, buf);
-            if eop {
-                return Ok(Some(taken));
+impl Tells for Receive {
+    type Step = Step;
+
+    type Told = Told;
+
+    fn make(&mut self, step: Step) -> Told {
+        match step {
+            Step::Enable => {
+                Told::whether(asked!(self, is_new, ask_enable, Control::Enabled, is_on))
+            }
+            Step::Disable => {
+                Told::whether(asked!(self, is_on, ask_disable, Control::Disabled, is_stopped))
+            }
+            Step::Renew => match self.renew() {
+                Some(count) => Told::Count(count),
+                None => Told::No,
+            },
+            Step::Fill => Told::Count(self.fill()),
+            Step::Offer(len, from) => {
+                match self
+                    .controller
+                    .offer(&self.ring, self.bytes.frame(from, len))
+                {
+                    Ok(offer) => Told::Offered(offer),
+                    Err(refusal) => Told::Refused(refusal),
+                }
+            }
+            Step::Take(from, full, last) => Told::whether(self.take(from, full, last)),
+            Step::FindsNone => {
+                Told::whether(!matches!(self.driver.poll(&self.ring), Poll::Segment(_, _)))
+            }
+            Step::IsNotDone => {
+                Told::whether(matches!(self.driver.poll(&self.ring), Poll::NotDone))
+            }
+            Step::IsOff => Told::whether(matches!(self.driver.poll(&self.ring), Poll::Off)),
+            Step::Finish => Told::whether(self.controller.finish(&self.ring)),
+            Step::IsQuiet => Told::whether(self.driver.is_quiet(&self.ring)),
+            Step::Counted(offered, stored, dropped, oversize) => {
+                let wanted = Tally {
+                    offered,
+                    stored,
+                    dropped,
+                    oversize,
+                };
+                Told::whether(self.controller.tally() == wanted)
             }
         }
-        Ok(None)
     }
 }

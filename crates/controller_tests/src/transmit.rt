@@ -6,13 +6,37 @@ ghost use Rattle.ring_model.specs.transmit.Ring.{carried};
 ghost use Rattle.tx_ring.specs.Ends.{posted};
 ghost use Rattle.tx_tests.specs.Begun.{AreOfFrame};
 
+use crate::told::{Bytes, Told};
 use buffer_pool::Stash;
 use controller::{CtlError, Turn, TxController, Wire};
 use limits::{LEAST_FRAME, MOST_FRAME, MOST_SEGMENTS};
 use std::alloc::Global;
 use std::test::Fail;
-use test_kit::{full_stash, put_back, renewed};
+use test_kit::{Tells, asked, full_stash, put_back, renewed};
 use tx_ring::{Completion, Control, ControllerEnd, DriverEnd, TxDriverEnd, TxRing};
+
+/// A step of the driver or of the controller. A frame is so many bytes from a place on.
+#[derive(Clone, Copy, Drop)]
+pub(crate) enum Step {
+    /// The driver has the queue enabled, or disabled: whether both sides saw it so.
+    Enable,
+    Disable,
+    /// The driver takes all buffers of the disabled queue back, and renews it.
+    Renew,
+    /// The driver posts a frame of so many bytes from a place on, in segments of so many bytes and a last one, which asks
+    /// for a report or not, and publishes it: whether there was room and a buffer for each.
+    Post(usize, usize, usize, bool),
+    /// A turn of the controller.
+    Turn,
+    /// Whether the oldest report that is outstanding is made.
+    HasReport,
+    /// The driver cleans all that is seen reported: how many buffers came back.
+    Clean,
+    /// Whether so many frames are on the wire.
+    HasSent(usize),
+    /// Whether a frame of the wire has so many bytes from a place on.
+    IsOnWire(usize, usize, usize),
+}
 
 /// The frame that is begun: its segments so far, their bytes, and the length of the whole.
 #[derive(Clone, Copy, Drop)]
@@ -37,6 +61,7 @@ pub(crate) struct Transmit {
     pub controller: TxController,
     wire: Wire,
     spare: Stash,
+    bytes: Bytes,
     begun: Begun,
     ghost drives: { driver.table ≡ ring },
     ghost serves: { controller.table ≡ ring },
@@ -49,42 +74,21 @@ pub(crate) struct Transmit {
 impl Transmit {
     /// A ring of so many places that is not enabled, with nothing on its wire.
     pub(crate) fn new(alloc: Global, n: u32, completion: Completion) -> Result<Transmit, Fail> {
-        let (ring, driver, end) = TxRing::new_with(alloc, n, completion)?;
         let spare = full_stash(alloc, 32)?;
+        let bytes = Bytes::new(alloc)?;
+        let (ring, driver, end) = TxRing::new_with(alloc, n, completion)?;
         Ok(Transmit {
             controller: TxController::new(end),
             wire: Wire::new(alloc),
             ring,
             driver,
             spare,
+            bytes,
             begun: NONE,
         })
     }
 
-    /// Has the queue enabled, and answers whether both sides saw it so.
-    pub(crate) fn enable(&mut self) -> bool {
-        if !self.driver.is_new() {
-            return false;
-        }
-        self.driver.ask_enable(&self.ring);
-        let told = self.controller.turn_control(&self.ring);
-        self.driver.state(&self.ring);
-        told == Control::Enabled && self.driver.is_on()
-    }
-
-    /// Asks for the queue to be disabled, has the controller answer, and answers whether both sides saw it so.
-    pub(crate) fn disable(&mut self) -> bool {
-        if !self.driver.is_on() {
-            return false;
-        }
-        self.driver.ask_disable(&self.ring);
-        let told = self.controller.turn_control(&self.ring);
-        self.driver.state(&self.ring);
-        told == Control::Disabled && self.driver.is_stopped()
-    }
-
-    /// Reclaims all buffers of the disabled queue, and renews it.
-    pub(crate) fn renew(&mut self) -> Option<()> {
+    fn renew(&mut self) -> Option<()> {
         for _ in 0..32 {
             if !self.driver.is_stopped() {
                 return None;
@@ -99,18 +103,18 @@ impl Transmit {
         Some(())
     }
 
-    /// Posts a frame in segments of so many bytes and a last one, publishes it, and answers whether there was room and a
-    /// buffer for each. Only the last may ask for a report.
-    pub(crate) fn post(&mut self, frame: &[u8], bsize: usize, rs: bool) -> bool {
-        let mut rest = frame;
+    /// Posts a frame of so many bytes from a place on, in segments of `bsize` bytes and a last one, publishes it, and
+    /// answers whether there was room and a buffer for each. Only the last may ask for a report.
+    pub(crate) fn post(&mut self, len: usize, from: usize, bsize: usize, rs: bool) -> bool {
+        let mut at = 0usize;
         for _ in 0..MOST_SEGMENTS {
-            let len = rest.len().min(bsize);
-            let (piece, more) = rest.split_at(len);
-            if !self.post_piece(piece, more.is_empty(), rs, frame.len()) {
+            let size = len.saturating_sub(at).min(bsize);
+            let start = from.saturating_add(at);
+            at = at.saturating_add(size);
+            if !self.post_piece((start, size), at == len, rs, len) {
                 return false;
             }
-            rest = more;
-            if rest.is_empty() {
+            if at == len {
                 break;
             }
         }
@@ -121,8 +125,10 @@ impl Transmit {
         true
     }
 
-    // Posts the next piece of a frame of so many bytes, where it may follow, and answers whether it did.
-    fn post_piece(&mut self, piece: &[u8], eop: bool, rs: bool, len: usize) -> bool {
+    // Posts the next piece of a frame of `len` bytes, which is so many bytes from a place on, where it may follow, and
+    // answers whether it did.
+    fn post_piece(&mut self, piece: (usize, usize), eop: bool, rs: bool, len: usize) -> bool {
+        let piece = self.bytes.frame(piece.0, piece.1);
         let Begun {
             segments,
             bytes,
@@ -159,8 +165,7 @@ impl Transmit {
         true
     }
 
-    /// Cleans all that is seen reported, and answers how many buffers came back.
-    pub(crate) fn clean(&mut self) -> u32 {
+    fn clean(&mut self) -> u32 {
         let mut count = 0_u32;
         for _ in 0..32 {
             if self.driver.reported() == 0 || !self.driver.is_live() {
@@ -178,20 +183,8 @@ impl Transmit {
         self.controller.turn(&self.ring, &mut self.wire)
     }
 
-    /// Whether these frames are on the wire, in order, and no other.
-    pub(crate) fn has_sent(&self, frames: &[&[u8]]) -> bool {
-        if self.wire.len() != frames.len() || self.wire.is_empty() != frames.is_empty() {
-            return false;
-        }
-        let mut sent = self.wire.iter();
-        for (k, frame) in frames.iter().enumerate() {
-            if k < self.wire.len()
-                && (self.wire.frame(k) != *frame || sent.next() != Some(*frame))
-            {
-                return false;
-            }
-        }
-        sent.next().is_none()
+    fn is_on_wire(&self, k: usize, len: usize, from: usize) -> bool {
+        k < self.wire.len() && self.wire.frame(k) == self.bytes.frame(from, len)
     }
 
     /// How many frames are on the wire.
@@ -199,17 +192,16 @@ impl Transmit {
         self.wire.len()
     }
 
-    /// Whether each frame on the wire has so many bytes as `len` says, each the last byte of its number.
+    /// Whether so many frames are on the wire, in order, each as long as `len_of` says and from the place of its number on.
     pub(crate) fn are_sent(&self, count: usize) -> bool {
         let mut k = 0_usize;
         for frame in self.wire.iter() {
-            let byte = (k % 256) as u8;
-            if frame.len() != len_of(k) || !frame.iter().all(|other| *other == byte) {
+            if frame != self.bytes.frame(k, len_of(k)) {
                 return false;
             }
             k = k.saturating_add(1);
         }
-        k == count
+        k == count && self.wire.is_empty() == (count == 0)
     }
 
     /// Whether the controller's end stands between two frames of an enabled queue.
@@ -217,10 +209,34 @@ impl Transmit {
         let end = self.controller.into_end();
         end.is_serving() && end.is_between_frames() && !end.owes_report()
     }
+}
 
-    /// Whether the oldest report that is outstanding is made.
-    pub(crate) fn has_report(&mut self) -> bool {
-        self.driver.poll_report(&self.ring)
+impl Tells for Transmit {
+    type Step = Step;
+
+    type Told = Told;
+
+    fn make(&mut self, step: Step) -> Told {
+        match step {
+            Step::Enable => {
+                Told::whether(asked!(self, is_new, ask_enable, Control::Enabled, is_on))
+            }
+            Step::Disable => {
+                Told::whether(asked!(self, is_on, ask_disable, Control::Disabled, is_stopped))
+            }
+            Step::Renew => Told::whether(self.renew().is_some()),
+            Step::Post(len, from, bsize, rs) => Told::whether(self.post(len, from, bsize, rs)),
+            Step::Turn => match self.turn() {
+                Ok(turn) => Told::Turned(turn),
+                Err(refusal) => Told::Refused(refusal),
+            },
+            Step::HasReport => Told::whether(self.driver.poll_report(&self.ring)),
+            Step::Clean => Told::Count(self.clean()),
+            Step::HasSent(count) => {
+                Told::whether(self.sent() == count && self.wire.is_empty() == (count == 0))
+            }
+            Step::IsOnWire(k, len, from) => Told::whether(self.is_on_wire(k, len, from)),
+        }
     }
 }
 

@@ -1,113 +1,152 @@
 //! Worked rows of a transmit queue's controller, and of the wire.
 
-use crate::transmit::{Transmit, len_of};
+use crate::told::Told;
+use crate::transmit::{Step, Transmit, len_of};
 use controller::{CtlError, Turn};
 use std::alloc::Global;
 use std::test::Fail;
+use test_kit::{all_told_so, told_so};
 use tx_ring::Completion;
 
 const BOTH_WAYS: [Completion; 2] = [Completion::Status, Completion::Head];
 
-/// So many bytes that are all this one.
-fn all_of(alloc: Global, len: usize, byte: u8) -> Result<Vec<u8>, Fail> {
-    Ok(vec![in alloc; byte; len]?)
+const OFF: Told = Told::Turned(Turn::Off);
+
+const IDLE: Told = Told::Turned(Turn::Idle);
+
+const SENT: Told = Told::Turned(Turn::Sent);
+
+/// A step, and what it has to tell.
+type Row = (Step, Told);
+
+/// How many of the rows tell so on a ring of so many places that is not enabled.
+fn told(alloc: Global, n: u32, completion: Completion, rows: &[Row]) -> Result<usize, Fail> {
+    let mut transmit = Transmit::new(alloc, n, completion)?;
+    Ok(told_so(&mut transmit, rows))
 }
+
+const TWO: &[Row] = &[
+    (Step::Post(60, 1, 2_048, false), Told::Yes),
+    (Step::Post(14, 2, 2_048, true), Told::Yes),
+    (Step::Turn, OFF),
+    (Step::HasSent(0), Told::Yes),
+    (Step::Enable, Told::Yes),
+    (Step::Turn, SENT),
+    (Step::HasReport, Told::No),
+    (Step::Turn, SENT),
+    (Step::Turn, IDLE),
+    (Step::HasReport, Told::Yes),
+    (Step::Clean, Told::Count(2)),
+    (Step::HasSent(2), Told::Yes),
+    (Step::IsOnWire(0, 60, 1), Told::Yes),
+    (Step::IsOnWire(1, 14, 2), Told::Yes),
+];
 
 #[test]
 fn frames_go_onto_the_wire(rt: HostRuntime) -> Result<(), Fail> {
     for completion in BOTH_WAYS {
-        let mut transmit = Transmit::new(rt.alloc(), 8, completion)?;
-        let (one, two) = (all_of(rt.alloc(), 60, 1)?, all_of(rt.alloc(), 14, 2)?);
-        assert!(rt; transmit.post(&one, 2_048, false) && transmit.post(&two, 2_048, true));
-        assert!(rt; transmit.turn()? == Turn::Off && transmit.has_sent(&[]));
-        assert!(rt; transmit.enable());
-        assert!(rt; transmit.turn()? == Turn::Sent && !transmit.has_report());
-        assert!(rt; transmit.turn()? == Turn::Sent);
-        assert!(rt; transmit.turn()? == Turn::Idle);
-        assert!(rt; transmit.has_report() && transmit.clean() == 2);
-        assert!(rt; transmit.has_sent(&[one.as_slice(), two.as_slice()]));
+        assert_eq!(rt; told(rt.alloc(), 8, completion, TWO)?, TWO.len());
     }
     Ok(())
+}
+
+/// An enabled queue with four frames.
+const FOUR: &[Row] = &[
+    (Step::Enable, Told::Yes),
+    (Step::Post(60, 5, 2_048, true), Told::Yes),
+    (Step::Post(60, 6, 2_048, true), Told::Yes),
+    (Step::Post(60, 7, 2_048, true), Told::Yes),
+    (Step::Post(60, 8, 2_048, true), Told::Yes),
+];
+
+/// A queue that is disabled after so many of four frames were sent, and then renewed: whether no other was sent before,
+/// and one was after it.
+fn is_over_after(alloc: Global, before: usize) -> Result<bool, Fail> {
+    let mut transmit = Transmit::new(alloc, 8, Completion::Status)?;
+    let mut good = all_told_so(&mut transmit, FOUR);
+    for _ in 0..before {
+        good &= all_told_so(&mut transmit, &[(Step::Turn, SENT)]);
+    }
+    let over = [
+        (Step::Disable, Told::Yes),
+        (Step::Turn, OFF),
+        (Step::HasSent(before), Told::Yes),
+        (Step::Renew, Told::Yes),
+        (Step::Post(60, 9, 2_048, true), Told::Yes),
+        (Step::Turn, OFF),
+        (Step::Enable, Told::Yes),
+        (Step::Turn, SENT),
+        (Step::Turn, IDLE),
+        (Step::HasSent(before.saturating_add(1)), Told::Yes),
+        (Step::IsOnWire(before, 60, 9), Told::Yes),
+    ];
+    Ok(good && all_told_so(&mut transmit, &over) && transmit.ends_between_frames())
 }
 
 #[test]
 fn nothing_is_sent_once_it_is_disabled(rt: HostRuntime) -> Result<(), Fail> {
     for before in 0..4 {
-        let mut transmit = Transmit::new(rt.alloc(), 8, Completion::Status)?;
-        let frame = all_of(rt.alloc(), 60, 5)?;
-        assert!(rt; transmit.enable());
-        for _ in 0..4 {
-            assert!(rt; transmit.post(&frame, 2_048, true));
-        }
-        for _ in 0..before {
-            assert!(rt; transmit.turn()? == Turn::Sent);
-        }
-        assert!(rt; transmit.disable());
-        assert!(rt; transmit.turn()? == Turn::Off && transmit.sent() == before);
-        assert!(rt; transmit.renew().is_some() && transmit.post(&frame, 2_048, true));
-        assert!(rt; transmit.turn()? == Turn::Off);
-        assert!(rt; transmit.enable() && transmit.turn()? == Turn::Sent);
-        assert!(rt; transmit.turn()? == Turn::Idle && transmit.sent() == before + 1);
-        assert!(rt; transmit.ends_between_frames());
+        assert!(rt; is_over_after(rt.alloc(), before)?);
     }
     Ok(())
+}
+
+/// Posts frame `k` and has it sent, by the second call where memory was refused to the first: whether it was.
+fn is_sent(transmit: &mut Transmit, k: usize) -> bool {
+    let mut good = transmit.post(len_of(k), k, 2_048, true);
+    let turned = transmit.turn();
+    if turned == Err(CtlError::Memory) {
+        good &= transmit.sent() == k && transmit.turn() == Ok(Turn::Sent);
+    } else {
+        good &= turned == Ok(Turn::Sent);
+    }
+    let cleaned = [(Step::HasReport, Told::Yes), (Step::Clean, Told::Count(1))];
+    good && all_told_so(transmit, &cleaned)
 }
 
 #[test]
 fn a_wire_grows(rt: HostRuntime) -> Result<(), Fail> {
     let mut transmit = Transmit::new(rt.alloc(), 8, Completion::Status)?;
-    assert!(rt; transmit.enable());
-    for k in 0_usize..300 {
-        let bytes = [(k % 256) as u8; 2_048];
-        assert!(rt;
-            transmit.post(&bytes[..len_of(k)], 2_048, true),
-            "frame {k}"
-        );
-        // refused once, it is sent by the next call
-        let turned = transmit.turn();
-        if turned == Err(CtlError::Memory) {
-            assert!(rt; transmit.sent() == k, "frame {k}");
-            assert!(rt; transmit.turn()? == Turn::Sent, "frame {k}");
-        } else {
-            assert!(rt; turned == Ok(Turn::Sent), "frame {k}");
-        }
-        assert!(rt; transmit.has_report() && transmit.clean() == 1, "frame {k}");
+    assert!(rt; all_told_so(&mut transmit, &[(Step::Enable, Told::Yes)]));
+    for k in 0..300 {
+        assert!(rt; is_sent(&mut transmit, k), "frame {k}");
     }
     assert!(rt; transmit.turn()? == Turn::Idle && transmit.are_sent(300));
     Ok(())
 }
 
+/// Whether a frame of so many bytes, in segments of so many bytes and a last one, so many in all, goes onto the wire as one.
+fn is_joined(
+    alloc: Global,
+    completion: Completion,
+    (len, bsize, segments): (usize, usize, u32),
+) -> Result<bool, Fail> {
+    let rows = [
+        (Step::Enable, Told::Yes),
+        (Step::Post(len, 3, bsize, true), Told::Yes),
+        (Step::Turn, SENT),
+        (Step::HasReport, Told::Yes),
+        (Step::Turn, IDLE),
+        (Step::HasSent(1), Told::Yes),
+        (Step::IsOnWire(0, len, 3), Told::Yes),
+        (Step::Clean, Told::Count(segments)),
+    ];
+    Ok(told(alloc, 16, completion, &rows)? == rows.len())
+}
+
 #[test]
 fn segments_are_joined(rt: HostRuntime) -> Result<(), Fail> {
     let rows = [
-        (14, 7),
-        (1_025, 1_024),
-        (2_500, 1_024),
-        (9_000, 2_048),
-        (15_000, 1_024),
-        (15_000, 2_048),
+        (14, 7, 2),
+        (1_025, 1_024, 2),
+        (2_500, 1_024, 3),
+        (9_000, 2_048, 5),
+        (15_000, 1_024, 15),
+        (15_000, 2_048, 8),
     ];
     for completion in BOTH_WAYS {
-        for (len, bsize) in rows {
-            let mut transmit = Transmit::new(rt.alloc(), 16, completion)?;
-            let mut frame = Vec::with_capacity(rt.alloc(), len)?;
-            for i in 0..len {
-                frame.push((i % 251) as u8)?;
-            }
-            assert!(rt;
-                transmit.enable() && transmit.post(&frame, bsize, true),
-                "{len} bytes"
-            );
-            assert!(rt;
-                transmit.turn()? == Turn::Sent && transmit.has_report(),
-                "{len} bytes"
-            );
-            assert!(rt; transmit.turn()? == Turn::Idle, "{len} bytes");
-            assert!(rt; transmit.has_sent(&[frame.as_slice()]), "{len} bytes");
-            assert!(rt;
-                transmit.clean() as usize == (len + bsize - 1) / bsize,
-                "{len} bytes"
-            );
+        for row in rows {
+            assert!(rt; is_joined(rt.alloc(), completion, row)?, "{} bytes", row.0);
         }
     }
     Ok(())

@@ -4,4 +4,6 @@
 #[cfg(test)]
 mod rx_tests;
 #[cfg(test)]
+mod told;
+#[cfg(test)]
 mod tx_tests;

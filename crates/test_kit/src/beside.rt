@@ -261,6 +261,20 @@ macro_rules! renewed {
     };
 }
 
+/// Asks for what the driver may ask for, has the controller answer, and lets the driver see it: whether both saw it so. It
+/// is for a struct with fields `ring`, `driver` and `controller`, of which the last is one of `controller`.
+#[macro_export]
+macro_rules! asked {
+    ($both:expr, $may:ident, $ask:ident, $wanted:path, $then:ident) => {
+        $both.driver.$may() && {
+            $both.driver.$ask(&$both.ring);
+            let told = $both.controller.turn_control(&$both.ring);
+            $both.driver.state(&$both.ring);
+            told == $wanted && $both.driver.$then()
+        }
+    };
+}
+
 /// Makes a step of the handshake by a call, where its condition holds, on a struct with fields `ring`, `driver` and
 /// `controller` and a method `answer`.
 #[macro_export]

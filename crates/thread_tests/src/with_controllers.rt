@@ -30,72 +30,60 @@ struct Case {
 
 /// Whether the frames with these numbers are on the wire, in order, and no others.
 fn carries(wire: &Wire, frames: &Frames, numbers: &[u32]) -> bool {
-    let mut rest = numbers.iter();
+    let mut k = 0usize;
     for sent in wire.iter() {
-        let Some(number) = rest.next() else {
+        let Some(number) = numbers.get(k) else {
             return false;
         };
         if frames.frame(*number) != sent {
             return false;
         }
+        k = k.saturating_add(1);
     }
-    rest.next().is_none()
+    k == numbers.len()
 }
 
-/// What the device counted, if all that it stored was taken and sent, and is on the wire.
-fn told(frames: &Frames, forwarder: &Forwarder, device: Device) -> Result<Tally, Fail> {
-    let Device {
-        offering,
-        wiring,
-        ..
-    } = device;
+/// What was counted, if all that was stored was taken and sent on, and nothing was refused.
+fn seen(forwarder: &Forwarder, device: &Device, frames: &Frames) -> Option<Tally> {
+    let (offering, wiring) = (&device.offering, &device.wiring);
     let stored = offering.stored.len();
-    if offering.refused || wiring.refused || forwarder.taken != stored || forwarder.sent != stored {
-        return Err("not all was stored, taken and sent".into());
+    let is_whole = forwarder.taken == stored
+        && forwarder.sent == stored
+        && carries(&wiring.wire, frames, offering.stored.as_slice());
+    let is_counted = offering.seen.stored == stored as u64
+        && offering.seen == offering.controller.tally();
+    if is_whole && is_counted && !offering.refused && !wiring.refused {
+        Some(offering.seen)
+    } else {
+        None
     }
-    if !carries(&wiring.wire, frames, offering.stored.as_slice()) {
-        return Err("the wire has other frames".into());
-    }
-    if offering.seen != offering.controller.tally() || offering.seen.stored != stored as u64 {
-        return Err("the tally is another".into());
-    }
-    Ok(offering.seen)
 }
 
 /// Runs both sides: what was counted, if all was as it should be.
-fn counted<R: Threads + Wait + Sync>(rt: &R, alloc: Global, case: Case) -> Result<Tally, Fail> {
-    let Case {
-        n,
-        large,
-        drop_en,
-        lens,
-        completion,
-        epochs,
-        frames: least,
-    } = case;
-    let (from, takes, stores) = RxRing::new(alloc, n)?;
-    let (to, posts, sends) = TxRing::new_with(alloc, n, completion)?;
+fn counted<R: Threads + Wait + Sync>(
+    rt: &R,
+    alloc: Global,
+    case: Case,
+) -> Result<Option<Tally>, Fail> {
+    let frames = Frames::new(alloc, case.lens)?;
+    let stash = full_stash(alloc, 128)?;
+    let (from, takes, stores) = RxRing::new(alloc, case.n)?;
+    let (to, posts, sends) = TxRing::new_with(alloc, case.n, case.completion)?;
     let plan = Plan {
         batch: 7,
         ends: Ends::WhenQuiet,
-        epochs,
+        epochs: case.epochs,
     };
-    let forwarder = Forwarder::new(takes, posts, full_stash(alloc, 128)?, plan);
-    let bsize = if large { 2_048 } else { 1_024 };
+    let forwarder = Forwarder::new(takes, posts, stash, plan);
+    let bsize = if case.large { 2_048 } else { 1_024 };
     let _size = stores.size();
-    let offering = Offering::new(alloc, RxController::new(stores, bsize, drop_en), least);
-    let device = Device::new(
-        offering,
-        Wiring::new(alloc, TxController::new(sends)),
-        epochs,
-    );
-    let shared = Shared {
-        from,
-        to,
-        frames: Frames::new(alloc, lens)?,
-    };
+    let controller = RxController::new(stores, bsize, case.drop_en);
+    let offering = Offering::new(alloc, controller, case.frames);
+    let wiring = Wiring::new(alloc, TxController::new(sends));
+    let device = Device::new(offering, wiring, case.epochs);
+    let shared = Shared { from, to, frames };
     let (forwarder, device) = run_both(rt, &shared, forwarder, device);
-    told(&shared.frames, &forwarder, device)
+    Ok(seen(&forwarder, &device, &shared.frames))
 }
 
 const BOTH_WAYS: [Completion; 2] = [Completion::Status, Completion::Head];
@@ -114,9 +102,9 @@ fn all_that_is_stored_goes_out(rt: HostRuntime) -> Result<(), Fail> {
                 epochs: 3,
                 frames: 3_334,
             };
-            let tally = counted(&rt, rt.alloc(), case)?;
-            assert!(rt; tally.offered >= 10_002 && tally.oversize == 0, "ring {n}");
-            assert!(rt; drop_en || tally.dropped == 0, "ring {n}");
+            let tally = counted(&rt, rt.alloc(), case)?.ok_or("another wire or count")?;
+            assert!(rt; tally.offered >= 10_002 && tally.oversize == 0);
+            assert!(rt; drop_en || tally.dropped == 0);
         }
     }
     Ok(())
@@ -140,7 +128,7 @@ fn oversize_frames_between_others(rt: HostRuntime) -> Result<(), Fail> {
             dropped: 0,
             oversize: 100,
         };
-        assert!(rt; counted(&rt, rt.alloc(), case)? == wanted);
+        assert!(rt; counted(&rt, rt.alloc(), case)? == Some(wanted));
     }
     Ok(())
 }

@@ -35,6 +35,7 @@ fn passes<R: Threads + Wait + Sync>(
 {
     // a ring of 8 has 7 descriptors
     let frames = Frames::new(alloc, Lens::UpTo(if n == 8 { 14_336 } else { 15_000 }))?;
+    let stash = full_stash(alloc, BUFFERS)?;
     let (from, takes, stores) = RxRing::new(alloc, n)?;
     let (to, posts, sends) = TxRing::new_with(alloc, n, completion)?;
     let plan = Plan {
@@ -42,7 +43,7 @@ fn passes<R: Threads + Wait + Sync>(
         ends: Ends::After(FRAMES),
         epochs: EPOCHS,
     };
-    let forwarder = Forwarder::new(takes, posts, full_stash(alloc, BUFFERS)?, plan);
+    let forwarder = Forwarder::new(takes, posts, stash, plan);
     let storing = Storing::new(Storer::new(stores));
     let played = Played::new(storing, Hearing::new(sends), EPOCHS);
     let shared = Shared { from, to, frames };

@@ -1,27 +1,53 @@
 //! A receive driver and a controller's end of one ring, in one thread.
 ghost use Rattle.std.specs.Prelude.{◌≡◌, ◌<◌, ◌≤◌};
 
+use crate::made;
+use crate::told::{Call, Told};
 use arrayvec::ArrayVec;
 use buffer_pool::{Packet, Stash};
 use driver::{DriverError, MOST_BATCH, RxDriver};
 use limits::BUFFER_BYTES;
 use rx_ring::RxRing;
 use std::alloc::Global;
+use std::mem;
 use std::test::Fail;
-use test_kit::{Storer, full_stash};
+use test_kit::{Storer, Tells, full_stash};
 
 /// A ring with a driver and a controller's end.
 #[derive(Drop)]
 pub(crate) struct Both {
     ring: RxRing,
-    pub driver: RxDriver,
+    driver: RxDriver,
     storer: Storer,
-    /// The buffers at hand.
-    pub stash: Stash,
+    /// The buffers at hand, and others that can be put in their place.
+    stash: Stash,
+    others: Stash,
     /// What was taken.
-    pub packets: ArrayVec<Packet, MOST_BATCH>,
+    packets: ArrayVec<Packet, MOST_BATCH>,
     ghost drives: { driver.end.table ≡ ring },
     ghost serves: { storer.controller.table ≡ ring },
+}
+
+/// A call that only receiving has.
+#[derive(Clone, Copy, Drop)]
+pub(crate) enum RxCall {
+    /// The controller stores a segment of so many bytes, each of them the same, which ends its frame or not.
+    Store(usize, bool, u8),
+    /// The controller says that it stores no more.
+    SayQuiet,
+    IsQuiet,
+    HasChain,
+    /// Drops buffers until only so many are at hand.
+    Cut(usize),
+    /// Puts the 256 other buffers in the place of those at hand.
+    Exchange,
+    /// Puts packets without bytes into the list, until there are so many.
+    Blanks(usize),
+    /// Empties the list.
+    Clear,
+    /// Whether the packet at this place has segments of these lengths, as far as they aren't 0, all bytes of the first
+    /// being this one, and those of each next one one more.
+    Packet(usize, [usize; 3], u8),
 }
 
 impl Both {
@@ -30,57 +56,21 @@ impl Both {
         requires some { 0 < batch }
         requires few { batch ≤ MOST_BATCH }
     {
-        let (ring, driver, controller) = RxRing::new(alloc, 8)?;
         let mut stash = full_stash(alloc, 16)?;
+        let others = full_stash(alloc, 256)?;
         cut(&mut stash, buffers);
+        let (ring, driver, controller) = RxRing::new(alloc, 8)?;
         Ok(Both {
             ring,
             driver: RxDriver::new(driver, batch),
             storer: Storer::new(controller),
             stash,
+            others,
             packets: ArrayVec::new(),
         })
     }
 
-    pub(crate) fn enable(&mut self) -> Result<bool, DriverError> {
-        self.driver.enable(&self.ring)
-    }
-
-    pub(crate) fn ask_disable(&mut self) -> Result<(), DriverError> {
-        self.driver.ask_disable(&self.ring)
-    }
-
-    pub(crate) fn finish_disable(&mut self) -> Option<u32> {
-        self.driver.finish_disable(&self.ring)
-    }
-
-    pub(crate) fn reclaim(&mut self) -> Result<usize, DriverError> {
-        self.driver.reclaim_into(&self.ring, &mut self.stash)
-    }
-
-    pub(crate) fn renew(&mut self) -> Result<(), DriverError> {
-        self.driver.renew(&self.ring)
-    }
-
-    pub(crate) fn batch(&mut self) -> Result<usize, DriverError> {
-        self.driver
-            .rx_batch(&self.ring, &mut self.stash, &mut self.packets)
-    }
-
-    pub(crate) fn is_quiet(&mut self) -> bool {
-        self.driver.is_quiet(&self.ring)
-    }
-
-    pub(crate) fn answer(&mut self) -> bool {
-        self.storer.answer(&self.ring)
-    }
-
-    pub(crate) fn say_quiet(&mut self) {
-        self.storer.say_quiet(&self.ring);
-    }
-
-    /// The controller stores a segment of so many bytes, each of them `byte`.
-    pub(crate) fn store(&mut self, len: usize, eop: bool, byte: u8) -> bool {
+    fn store(&mut self, len: usize, eop: bool, byte: u8) -> bool {
         let bytes = [byte; BUFFER_BYTES];
         let Some(bytes) = bytes.get(..len) else {
             return false;
@@ -90,44 +80,66 @@ impl Both {
         is_stored
     }
 
-    /// Puts a packet without bytes into the list.
-    pub(crate) fn add_blank(&mut self) -> bool {
-        self.packets.try_push(Packet::default()).is_ok()
-    }
-
-    /// The queue is enabled, and its ring filled.
-    pub(crate) fn begin(&mut self) -> bool {
-        self.enable().is_ok() && self.answer() && self.enable() == Ok(true) && self.batch() == Ok(0)
-    }
-
-    /// The queue is disabled: how many segments were left to take.
-    pub(crate) fn end(&mut self) -> Option<u32> {
-        if self.ask_disable().is_err() || self.answer() {
-            return None;
+    fn add_blanks(&mut self, count: usize) {
+        for _ in 0..MOST_BATCH {
+            if self.packets.len() < count {
+                let _ = self.packets.try_push(Packet::default());
+            }
         }
-        self.finish_disable()
+    }
+
+    fn answer(&mut self) -> bool {
+        self.storer.answer(&self.ring)
+    }
+
+    fn own(&mut self, call: RxCall) -> Told {
+        match call {
+            RxCall::Store(len, eop, byte) => return Told::whether(self.store(len, eop, byte)),
+            RxCall::IsQuiet => return Told::whether(self.driver.is_quiet(&self.ring)),
+            RxCall::HasChain => return Told::whether(self.driver.has_chain()),
+            RxCall::Packet(k, lens, first) => {
+                return Told::whether(is_chain(self.packets.get(k), &lens, first));
+            }
+            RxCall::SayQuiet => self.storer.say_quiet(&self.ring),
+            RxCall::Cut(buffers) => cut(&mut self.stash, buffers),
+            RxCall::Exchange => mem::swap(&mut self.stash, &mut self.others),
+            RxCall::Blanks(count) => self.add_blanks(count),
+            RxCall::Clear => self.packets.clear(),
+        }
+        Told::Yes
     }
 }
 
-/// Whether a packet has segments of these lengths, all bytes of each the same, and those of the next one more.
-pub(crate) fn is_chain(packet: &Packet, lens: &[usize], first: u8) -> bool {
+impl Tells for Both {
+    type Step = Call<RxCall>;
+
+    type Told = Told;
+
+    fn make(&mut self, step: Call<RxCall>) -> Told {
+        made!(self, step, rx_batch)
+    }
+}
+
+/// Whether there is a packet with segments of these lengths, as far as they aren't 0, all bytes of each the same, and
+/// those of the next one more.
+fn is_chain(packet: Option<&Packet>, lens: &[usize], first: u8) -> bool {
+    let Some(packet) = packet else {
+        return false;
+    };
     let mut byte = first;
-    let mut count = 0usize;
+    let mut rest = lens.iter();
     for bytes in packet.iter() {
-        if lens.get(count).is_none_or(|len| bytes.len() != *len) {
-            return false;
-        }
-        if !bytes.iter().all(|b| *b == byte) {
+        let wanted = [byte; BUFFER_BYTES];
+        if rest.next() != Some(&bytes.len()) || wanted.get(..bytes.len()) != Some(bytes) {
             return false;
         }
         byte = byte.wrapping_add(1);
-        count = count.saturating_add(1);
     }
-    count == lens.len()
+    rest.next().is_none_or(|len| *len == 0)
 }
 
 /// Drops buffers until only so many are at hand.
-pub(crate) fn cut(stash: &mut Stash, buffers: usize) {
+fn cut(stash: &mut Stash, buffers: usize) {
     for _ in 0..stash.len() {
         if stash.len() <= buffers {
             return;

@@ -1,10 +1,24 @@
 //! Worked rows of a receive driver.
+ghost use Rattle.std.specs.Prelude.{◌<◌, ◌≤◌};
 
-use crate::rx_tests::both::{Both, cut, is_chain};
+use crate::rx_tests::both::{Both, RxCall};
+use crate::told::{Call, Told};
 use driver::DriverError;
-use std::mem;
+use std::alloc::Global;
 use std::test::Fail;
-use test_kit::full_stash;
+use test_kit::told_so;
+
+/// A call, and what it has to tell.
+type Row = (Call<RxCall>, Told);
+
+/// How many of the rows tell so on a ring of 8 that is not enabled, in batches of so many, with so many buffers at hand.
+fn told(alloc: Global, batch: usize, buffers: usize, rows: &[Row]) -> Result<usize, Fail>
+    requires some { 0 < batch }
+    requires few { batch ≤ 32 }
+{
+    let mut both = Both::new(alloc, batch, buffers)?;
+    Ok(told_so(&mut both, rows))
+}
 
 #[test]
 fn refusals_have_a_number_and_a_text(rt: HostRuntime) -> Result<(), Fail> {
@@ -20,99 +34,172 @@ fn refusals_have_a_number_and_a_text(rt: HostRuntime) -> Result<(), Fail> {
     Ok(())
 }
 
+const FILLED: &[Row] = &[
+    (Call::Batch, Told::Refused(DriverError::QueueOff)),
+    (Call::AtHand, Told::Count(10)),
+    (Call::Enable, Told::No),
+    (Call::Answer, Told::Yes),
+    (Call::Enable, Told::Yes),
+    // seven are posted and published
+    (Call::Room, Told::Count(7)),
+    (Call::Batch, Told::Count(0)),
+    (Call::Room, Told::Count(0)),
+    (Call::AtHand, Told::Count(3)),
+    (Call::Own(RxCall::Store(60, true, 0)), Told::Yes),
+    (Call::Own(RxCall::Store(60, true, 1)), Told::Yes),
+    (Call::Own(RxCall::Store(60, true, 2)), Told::Yes),
+    // two more are posted, after the first two segments
+    (Call::Own(RxCall::Cut(2)), Told::Yes),
+    (Call::Batch, Told::Count(3)),
+    (Call::Listed, Told::Count(3)),
+    (Call::Room, Told::Count(1)),
+    (Call::AtHand, Told::Count(0)),
+    (Call::Own(RxCall::Packet(0, [60, 0, 0], 0)), Told::Yes),
+    (Call::Own(RxCall::Packet(1, [60, 0, 0], 1)), Told::Yes),
+    (Call::Own(RxCall::Packet(2, [60, 0, 0], 2)), Told::Yes),
+    // what was posted is published: six descriptors are free
+    (Call::Own(RxCall::Store(60, true, 0)), Told::Yes),
+    (Call::Own(RxCall::Store(60, true, 1)), Told::Yes),
+    (Call::Own(RxCall::Store(60, true, 2)), Told::Yes),
+    (Call::Own(RxCall::Store(60, true, 3)), Told::Yes),
+    (Call::Own(RxCall::Store(60, true, 4)), Told::Yes),
+    (Call::Own(RxCall::Store(60, true, 5)), Told::Yes),
+    (Call::Own(RxCall::Store(60, true, 6)), Told::No),
+];
+
 #[test]
 fn a_batch_fills_the_ring_and_takes_what_is_done(rt: HostRuntime) -> Result<(), Fail> {
-    let mut both = Both::new(rt.alloc(), 32, 10)?;
-    assert!(rt; both.batch() == Err(DriverError::QueueOff) && both.stash.len() == 10);
-    assert!(rt; both.enable() == Ok(false) && both.answer() && both.enable() == Ok(true));
-    // seven are posted and published
-    assert!(rt; both.driver.room() == 7 && both.batch() == Ok(0));
-    assert!(rt; both.driver.room() == 0 && both.stash.len() == 3);
-    for k in 0..3 {
-        assert!(rt; both.store(60, true, k), "frame {k}");
-    }
-    // two more are posted, after the first two segments
-    cut(&mut both.stash, 2);
-    assert!(rt; both.batch() == Ok(3) && both.packets.len() == 3);
-    assert!(rt; both.driver.room() == 1 && both.stash.is_empty());
-    for (k, packet) in both.packets.iter().enumerate() {
-        assert!(rt; is_chain(packet, &[60], (k % 256) as u8), "packet {k}");
-    }
-    // what was posted is published: six descriptors are free
-    for k in 0..6 {
-        assert!(rt; both.store(60, true, k), "frame {k}");
-    }
-    assert!(rt; !both.store(60, true, 6));
+    assert_eq!(rt; told(rt.alloc(), 32, 10, FILLED)?, FILLED.len());
     Ok(())
 }
+
+const ENDED: &[Row] = &[
+    (Call::Enable, Told::No),
+    (Call::Answer, Told::Yes),
+    (Call::Enable, Told::Yes),
+    (Call::Batch, Told::Count(0)),
+    (Call::Own(RxCall::Store(60, true, 0)), Told::Yes),
+    (Call::Own(RxCall::Store(60, true, 1)), Told::Yes),
+    (Call::Own(RxCall::Store(60, true, 2)), Told::Yes),
+    (Call::Own(RxCall::Store(60, true, 3)), Told::Yes),
+    (Call::Own(RxCall::Store(60, true, 4)), Told::Yes),
+    (Call::Own(RxCall::Store(60, true, 5)), Told::Yes),
+    (Call::Batch, Told::Count(2)),
+    (Call::Batch, Told::Count(2)),
+    (Call::Listed, Told::Count(4)),
+    (Call::Own(RxCall::Blanks(31)), Told::Yes),
+    (Call::Batch, Told::Count(1)),
+    (Call::Listed, Told::Count(32)),
+    (Call::Batch, Told::Count(0)),
+    (Call::Own(RxCall::Clear), Told::Yes),
+    (Call::Batch, Told::Count(1)),
+    (Call::Batch, Told::Count(0)),
+];
 
 #[test]
 fn a_batch_and_a_list_have_an_end(rt: HostRuntime) -> Result<(), Fail> {
-    let mut both = Both::new(rt.alloc(), 2, 7)?;
-    assert!(rt; both.begin());
-    for k in 0..6 {
-        assert!(rt; both.store(60, true, k), "frame {k}");
-    }
-    assert!(rt; both.batch() == Ok(2) && both.batch() == Ok(2) && both.packets.len() == 4);
-    for _ in 0..27 {
-        assert!(rt; both.add_blank());
-    }
-    assert!(rt; both.batch() == Ok(1) && both.packets.is_full() && both.batch() == Ok(0));
-    both.packets.clear();
-    assert!(rt; both.batch() == Ok(1) && both.batch() == Ok(0));
+    assert_eq!(rt; told(rt.alloc(), 2, 7, ENDED)?, ENDED.len());
     Ok(())
 }
+
+const CHAINED: &[Row] = &[
+    (Call::Enable, Told::No),
+    (Call::Answer, Told::Yes),
+    (Call::Enable, Told::Yes),
+    (Call::Batch, Told::Count(0)),
+    (Call::Own(RxCall::Store(2_048, false, 0)), Told::Yes),
+    (Call::Own(RxCall::Store(1_000, false, 1)), Told::Yes),
+    (Call::Batch, Told::Count(0)),
+    (Call::Own(RxCall::HasChain), Told::Yes),
+    (Call::Own(RxCall::Store(60, true, 2)), Told::Yes),
+    (Call::Own(RxCall::Store(60, true, 3)), Told::Yes),
+    (Call::Batch, Told::Count(2)),
+    (Call::Own(RxCall::HasChain), Told::No),
+    (Call::Listed, Told::Count(2)),
+    (
+        Call::Own(RxCall::Packet(0, [2_048, 1_000, 60], 0)),
+        Told::Yes,
+    ),
+    (Call::Own(RxCall::Packet(1, [60, 0, 0], 3)), Told::Yes),
+];
 
 #[test]
 fn a_chain_waits_for_its_end(rt: HostRuntime) -> Result<(), Fail> {
-    let mut both = Both::new(rt.alloc(), 32, 7)?;
-    assert!(rt; both.begin());
-    assert!(rt; both.store(2_048, false, 0) && both.store(1_000, false, 1));
-    assert!(rt; both.batch() == Ok(0) && both.driver.has_chain());
-    assert!(rt; both.store(60, true, 2) && both.store(60, true, 3));
-    assert!(rt; both.batch() == Ok(2) && !both.driver.has_chain());
-    let [chain, alone] = both.packets.as_slice() else {
-        return Err("two packets".into());
-    };
-    assert!(rt; is_chain(chain, &[2_048, 1_000, 60], 0));
-    assert!(rt; is_chain(alone, &[60], 3));
+    assert_eq!(rt; told(rt.alloc(), 32, 7, CHAINED)?, CHAINED.len());
     Ok(())
 }
+
+const RENEWED: &[Row] = &[
+    (Call::AskDisable, Told::Refused(DriverError::QueueOff)),
+    (Call::FinishDisable, Told::No),
+    (Call::Reclaim, Told::Count(0)),
+    (Call::Enable, Told::No),
+    (Call::Answer, Told::Yes),
+    (Call::Enable, Told::Yes),
+    (Call::Batch, Told::Count(0)),
+    (Call::Renew, Told::Refused(DriverError::NotReclaimed)),
+    // a chain of two, of which the end is left
+    (Call::Own(RxCall::Store(60, false, 0)), Told::Yes),
+    (Call::Own(RxCall::Store(60, false, 1)), Told::Yes),
+    (Call::Batch, Told::Count(0)),
+    (Call::Own(RxCall::Store(60, true, 2)), Told::Yes),
+    (Call::AskDisable, Told::Yes),
+    (Call::AskDisable, Told::Refused(DriverError::QueueOff)),
+    (Call::Enable, Told::No),
+    (Call::FinishDisable, Told::No),
+    (Call::Answer, Told::No),
+    (Call::FinishDisable, Told::Count(1)),
+    (Call::FinishDisable, Told::No),
+    (Call::Batch, Told::Refused(DriverError::QueueOff)),
+    (Call::Enable, Told::Refused(DriverError::NotReclaimed)),
+    // room for two of seven: those of the chain
+    (Call::Own(RxCall::Exchange), Told::Yes),
+    (Call::Own(RxCall::Cut(254)), Told::Yes),
+    (Call::Reclaim, Told::Refused(DriverError::StashFull)),
+    (Call::AtHand, Told::Count(256)),
+    (Call::Own(RxCall::HasChain), Told::No),
+    (Call::Renew, Told::Refused(DriverError::NotReclaimed)),
+    (Call::Own(RxCall::Exchange), Told::Yes),
+    (Call::AtHand, Told::Count(0)),
+    (Call::Reclaim, Told::Count(5)),
+    (Call::Reclaim, Told::Count(0)),
+    (Call::Enable, Told::Refused(DriverError::NotReclaimed)),
+    (Call::Renew, Told::Yes),
+    (Call::Renew, Told::Refused(DriverError::NotReclaimed)),
+    (Call::Enable, Told::No),
+    (Call::Answer, Told::Yes),
+    (Call::Enable, Told::Yes),
+    (Call::Batch, Told::Count(0)),
+    (Call::Room, Told::Count(2)),
+    (Call::Own(RxCall::Store(60, true, 0)), Told::Yes),
+    (Call::Batch, Told::Count(1)),
+    (Call::AskDisable, Told::Yes),
+    (Call::Answer, Told::No),
+    (Call::FinishDisable, Told::Count(0)),
+];
 
 #[test]
 fn disabled_reclaimed_and_renewed(rt: HostRuntime) -> Result<(), Fail> {
-    let mut both = Both::new(rt.alloc(), 32, 7)?;
-    assert!(rt; both.ask_disable() == Err(DriverError::QueueOff));
-    assert!(rt; both.finish_disable().is_none() && both.reclaim() == Ok(0));
-    assert!(rt; both.begin() && both.renew() == Err(DriverError::NotReclaimed));
-    // a chain of two, of which the end is left
-    assert!(rt; both.store(60, false, 0) && both.store(60, false, 1) && both.batch() == Ok(0));
-    assert!(rt; both.store(60, true, 2) && both.ask_disable().is_ok());
-    assert!(rt; both.ask_disable() == Err(DriverError::QueueOff));
-    assert!(rt; both.enable() == Ok(false) && both.finish_disable().is_none());
-    assert!(rt; !both.answer() && both.finish_disable() == Some(1));
-    assert!(rt; both.finish_disable().is_none() && both.batch() == Err(DriverError::QueueOff));
-    assert!(rt; both.enable() == Err(DriverError::NotReclaimed));
-    // room for two of seven: those of the chain
-    both.stash = full_stash(rt.alloc(), 256)?;
-    cut(&mut both.stash, 254);
-    assert!(rt; both.reclaim() == Err(DriverError::StashFull) && both.stash.is_full());
-    assert!(rt; !both.driver.has_chain() && both.renew() == Err(DriverError::NotReclaimed));
-    let _full = mem::take(&mut both.stash);
-    assert!(rt; both.reclaim() == Ok(5) && both.reclaim() == Ok(0));
-    assert!(rt; both.enable() == Err(DriverError::NotReclaimed));
-    assert!(rt; both.renew().is_ok() && both.renew() == Err(DriverError::NotReclaimed));
-    assert!(rt; both.begin() && both.driver.room() == 2 && both.store(60, true, 0));
-    assert!(rt; both.batch() == Ok(1) && both.end() == Some(0));
+    assert_eq!(rt; told(rt.alloc(), 32, 7, RENEWED)?, RENEWED.len());
     Ok(())
 }
 
+const QUIET: &[Row] = &[
+    (Call::Enable, Told::No),
+    (Call::Answer, Told::Yes),
+    (Call::Enable, Told::Yes),
+    (Call::Batch, Told::Count(0)),
+    (Call::Own(RxCall::IsQuiet), Told::No),
+    (Call::Own(RxCall::Store(60, true, 0)), Told::Yes),
+    (Call::Own(RxCall::SayQuiet), Told::Yes),
+    (Call::Own(RxCall::IsQuiet), Told::Yes),
+    (Call::Own(RxCall::Store(60, true, 1)), Told::No),
+    (Call::Batch, Told::Count(1)),
+    (Call::Batch, Told::Count(0)),
+];
+
 #[test]
 fn quiet_by_calls(rt: HostRuntime) -> Result<(), Fail> {
-    let mut both = Both::new(rt.alloc(), 32, 7)?;
-    assert!(rt; both.begin() && !both.is_quiet() && both.store(60, true, 0));
-    both.say_quiet();
-    assert!(rt; both.is_quiet() && !both.store(60, true, 1));
-    assert!(rt; both.batch() == Ok(1) && both.batch() == Ok(0));
+    assert_eq!(rt; told(rt.alloc(), 32, 7, QUIET)?, QUIET.len());
     Ok(())
 }

@@ -1,4 +1,4 @@
-use Rattle.std.proofs.Common.{rules, ◌∙◌, ◌+◌, length, ap, refl}
+use Rattle.std.proofs.Common.{◌∙◌, ◌+◌, length, ap, refl}
 use Rattle.buffer_pool.specs.Buffer.{Buffer}
 use Rattle.ring_model.specs.shared.Frames.{join}
 use Rattle.ring_model.specs.transmit.Ring.{carried}

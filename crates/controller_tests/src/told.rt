@@ -1,0 +1,51 @@
+//! What a step of a controller, or of the driver beside it, tells.
+
+use controller::{CtlError, Offer, Turn};
+use std::alloc::{AllocError, Global};
+use test_kit::Random;
+
+/// What was told.
+#[derive(Clone, Copy, PartialEq, Drop)]
+pub(crate) enum Told {
+    Yes,
+    No,
+    Count(u32),
+    /// What became of a frame that was offered.
+    Offered(Offer),
+    /// What a turn did.
+    Turned(Turn),
+    Refused(CtlError),
+}
+
+impl Told {
+    /// Yes or no.
+    pub(crate) fn whether(holds: bool) -> Told {
+        if holds { Told::Yes } else { Told::No }
+    }
+}
+
+/// Random bytes, of which frames are parts.
+#[derive(Drop)]
+pub(crate) struct Bytes(Vec<u8>);
+
+impl Bytes {
+    /// 20,300 bytes.
+    pub(crate) fn new(alloc: Global) -> Result<Bytes, AllocError> {
+        let mut random = Random::new(82_599);
+        let mut bytes = Vec::with_capacity(alloc, 20_300)?;
+        for _ in 0..20_300 {
+            bytes.push(random.below(256) as u8)?;
+        }
+        Ok(Bytes(bytes))
+    }
+
+    /// So many bytes from this place on.
+    pub(crate) fn frame(&self, from: usize, len: usize) -> &[u8] {
+        self.0.get(from..from.saturating_add(len)).unwrap_or(&[])
+    }
+
+    /// Whether these bytes are those from this place on.
+    pub(crate) fn are_at(&self, from: usize, bytes: &[u8]) -> bool {
+        self.frame(from, bytes.len()) == bytes
+    }
+}
