@@ -9,7 +9,8 @@ use Rattle.rx_ring.specs.Ends.{stored}
 use Rattle.tx_ring.specs.Ends.{ControllerSide, sent}
 use Rattle.bench.specs.declared.meeting.Ends.{Ends}
 use Rattle.bench.specs.declared.serving.Device.{Device}
-use Rattle.bench.specs.Forwarding.{HasMet}
+use Rattle.bench.specs.declared.forwarding.Forwarder.{Forwarder}
+use Rattle.bench.specs.Forwarding.{CanForward, HasMet}
 
 -- it stored no frame but this one at the ring
 pub record StoresCopies (ring : TableId) (frame : Bytes) (controller : Receiving) : Type 0 where
@@ -24,6 +25,11 @@ pub record PutsOn (ring : TableId) (controller : ControllerSide) (wire : List By
 pub record Serves (from to : TableId) (frame : Bytes) (d : Device) : Type 0 where
   pub stores : StoresCopies from frame d.rx
   pub sends : PutsOn to d.tx d.wire
+
+-- controllers that stored nothing but the frame, and drivers that forward, are at work on these rings
+pub record AreAtWork (from to : TableId) (frame : Bytes) (d : Device) (f : Forwarder) : Type 0 where
+  pub serves : Serves from to frame d
+  pub forwards : CanForward from to f
 
 -- the controllers belong to these rings, and did nothing with a frame yet
 pub record HasNothing (from to : TableId) (d : Device) : Type 0 where

@@ -1,7 +1,7 @@
 //! Frames through both layers: offered to a controller, received and sent on by the drivers, and put onto a wire.
 ghost use Rattle.std.specs.Prelude.{◌≡◌, replicate, IfOk};
 ghost use Rattle.bench.specs.Forwarding.{CanForward};
-ghost use Rattle.bench.specs.Serving.{HasGone, HasNothing, Serves};
+ghost use Rattle.bench.specs.Serving.{AreAtWork, HasGone, HasNothing, Serves};
 ghost use Rattle.bench.specs.declared.supply.TheConstants.{BYTE};
 
 use crate::forwarding::Forwarder;
@@ -90,8 +90,7 @@ fn timed<R: Threads + Wait + Clock + Sync>(
     frame: &[u8],
     plan: PassPlan,
 ) -> Result<Gone>
-    requires serves { Serves from.now to.now frame.now device }
-    requires forwards { CanForward from.now to.now forwarder }
+    requires { AreAtWork from.now to.now frame.now device forwarder }
     ensures { IfOk result (λ p. HasGone plan.load.frames frame.now p.ends p.wire) }
 {
     let start = Instant::now(rt)?;
@@ -119,10 +118,8 @@ fn pass_all<R: Threads + Wait + Sync>(
     frame: &[u8],
     plan: PassPlan,
 ) -> Result<(Device, Forwarder)>
-    requires serves { Serves from.now to.now frame.now device }
-    requires forwards { CanForward from.now to.now forwarder }
-    ensures serves { IfOk result (λ ends. Serves from.now to.now frame.now ends.0) }
-    ensures forwards { IfOk result (λ ends. CanForward from.now to.now ends.1) }
+    requires { AreAtWork from.now to.now frame.now device forwarder }
+    ensures { IfOk result (λ ends. AreAtWork from.now to.now frame.now ends.0 ends.1) }
 {
     if plan.in_threads {
         in_threads(rt, from, to, device, forwarder, frame, plan)
@@ -141,10 +138,8 @@ fn alone<R: Wait>(
     frame: &[u8],
     plan: PassPlan,
 ) -> Result<(Device, Forwarder)>
-    requires serves { Serves from.now to.now frame.now device }
-    requires forwards { CanForward from.now to.now forwarder }
-    ensures serves { IfOk result (λ ends. Serves from.now to.now frame.now ends.0) }
-    ensures forwards { IfOk result (λ ends. CanForward from.now to.now ends.1) }
+    requires { AreAtWork from.now to.now frame.now device forwarder }
+    ensures { IfOk result (λ ends. AreAtWork from.now to.now frame.now ends.0 ends.1) }
 {
     let mut left = plan.load.frames;
     for _ in rt.forever() {
@@ -168,10 +163,8 @@ fn in_threads<R: Threads + Wait + Sync>(
     frame: &[u8],
     plan: PassPlan,
 ) -> Result<(Device, Forwarder)>
-    requires serves { Serves from.now to.now frame.now device }
-    requires forwards { CanForward from.now to.now forwarder }
-    ensures serves { IfOk result (λ ends. Serves from.now to.now frame.now ends.0) }
-    ensures forwards { IfOk result (λ ends. CanForward from.now to.now ends.1) }
+    requires { AreAtWork from.now to.now frame.now device forwarder }
+    ensures { IfOk result (λ ends. AreAtWork from.now to.now frame.now ends.0 ends.1) }
 {
     let stop = AtomicBool::new(false);
     let stop = &stop;
@@ -179,10 +172,8 @@ fn in_threads<R: Threads + Wait + Sync>(
         thread::scope_env(),
         rt,
         move |scope| -> Result<(Device, Forwarder)>
-            requires serves { Serves from.now to.now frame.now device }
-            requires forwards { CanForward from.now to.now forwarder }
-            ensures serves { IfOk result (λ ends. Serves from.entry.now to.entry.now frame.entry.now ends.0) }
-            ensures forwards { IfOk result (λ ends. CanForward from.entry.now to.entry.now ends.1) }
+            requires { AreAtWork from.now to.now frame.now device forwarder }
+            ensures { IfOk result (λ ends. AreAtWork from.entry.now to.entry.now frame.entry.now ends.0 ends.1) }
         {
             let serving = scope.spawn_with(ServesOn(from, to, frame), move || {
                 failing(stop, serve_all(rt, from, to, device, frame, plan, stop))
