@@ -1,6 +1,7 @@
-//! What the tests of both running rings share: random numbers, frames that tell themselves apart by their bytes, buffers
-//! that are counted, and a running ring beside its pure machine. Its contracts have what a test needs to call a ring, and
-//! promise nothing else; of a frame that is begun, `proofs/Begun` has how it grows.
+//! What the tests of rings, drivers and controllers share: random numbers, frames that tell themselves apart by their
+//! bytes, buffers that are counted, a running ring beside its pure machine, rows of steps with what each has to tell, and
+//! a controller's end that stores segments. Its contracts have what a test needs to call a ring, and promise nothing else;
+//! of a frame that is begun, `proofs/Begun` has how it grows.
 #![tactic(auto)]
 
 mod beside;
