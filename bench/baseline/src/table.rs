@@ -68,8 +68,7 @@ impl Table {
     /// # Safety
     /// The caller is the one end that may reach the slot, and the slot is empty.
     pub unsafe fn put_in(&self, place: usize, buffer: Buffer) {
-        // SAFETY: as above. Nothing is there to be dropped, so it is not looked at.
-        unsafe { self.slots[place].get().write(Some(buffer)) }
+        unsafe { *self.slots[place].get() = Some(buffer) }
     }
 
     /// # Safety

@@ -198,8 +198,8 @@ fn failing<T>(stop: &AtomicBool, done: Result<T>) -> Result<T>
     done
 }
 
-/// The controllers' side: offers the frames and serves the wire, until all frames are on it. Where there is nothing to do
-/// it looks whether the other side has failed.
+/// The controllers' side: offers the frames and serves the wire, until all frames are on it. Where there was
+/// nothing to do for long it looks whether the other side has failed.
 fn serve_all<R: Wait>(
     rt: &R,
     from: &RxRing,
@@ -221,16 +221,18 @@ fn serve_all<R: Wait>(
             patience.reset();
             continue;
         }
-        if device.wire.len() == plan.load.frames as usize || stop.load(Ordering::SeqCst) {
+        if device.wire.len() == plan.load.frames as usize {
             return Ok(device);
         }
-        patience.wait();
+        if patience.wait() && stop.load(Ordering::SeqCst) {
+            return Ok(device);
+        }
     }
     unreachable!()
 }
 
-/// The drivers' side: forwards until all frames are sent on. Where there is nothing to do it looks whether the other side
-/// has failed.
+/// The drivers' side: forwards until all frames are sent on. Where there was nothing to do for long it looks whether the
+/// other side has failed.
 fn forward_all<R: Wait>(
     rt: &R,
     from: &RxRing,
@@ -254,10 +256,9 @@ fn forward_all<R: Wait>(
             patience.reset();
             continue;
         }
-        if stop.load(Ordering::SeqCst) {
+        if patience.wait() && stop.load(Ordering::SeqCst) {
             return Ok(forwarder);
         }
-        patience.wait();
     }
     unreachable!()
 }

@@ -16,16 +16,17 @@ impl Patience {
         Patience { tries: 0 }
     }
 
-    /// After a try in vain: waits a moment, and every so often lets another thread run.
+    /// After a try in vain: waits a moment, and every so often lets another thread run. Answers whether it did that.
     #[inline]
-    pub fn wait(&mut self) {
+    pub fn wait(&mut self) -> bool {
         if self.tries < TRIES_BEFORE_YIELD {
             self.tries += 1;
             hint::spin_loop();
-        } else {
-            self.tries = 0;
-            thread::yield_now();
+            return false;
         }
+        self.tries = 0;
+        thread::yield_now();
+        true
     }
 
     /// After a try that was not in vain.
