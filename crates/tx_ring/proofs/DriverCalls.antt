@@ -26,7 +26,8 @@ use Rattle.tx_ring.specs.Steps.{OldestAt, Looked, CameClean}
 use Rattle.tx_ring.specs.Calls.{IsEndOf, IsDriverEnd, OldestAhead, SawReported, SawUnreported, CleanedOne, NoneOut, CameHome, Reclaimed, FoundLeft, GoneOver, gone_over, item_of}
 use Rattle.tx_ring.proofs.Words.{posting-posted}
 use Rattle.tx_ring.proofs.Reported.{first_report-asks}
-use Rattle.tx_ring.proofs.DriverEnds.{end-as, end-anew, end-same, end-post, end-clean, end-left, end-report}
+use Rattle.tx_ring.proofs.DriverEnds.{end-as, end-anew, end-same, end-post, end-clean, end-left, end-report, end-passed}
+use Rattle.tx_ring.proofs.Passed.{first-skip, from-passed, passed-found}
 use Rattle.limits.specs.RingLength.{IsRingLength}
 use Rattle.shared_ring.specs.declared.ends.DriverPlaces.{DriverPlaces}
 use Rattle.shared_ring.proofs.Posting.{record-after, known-after, anew}
@@ -36,11 +37,7 @@ pub first-here : (ps : List Posting) (k count : ℕ) → 0 < count → asks_repo
 first-here ps k zero pos e = absurd (omega arith)
 first-here ps k (suc more) pos e = ap (λ (b : Bool). if b then Some k else first_report ps (k + 1) more) e
 
-pub first-skip : (ps : List Posting) (k count : ℕ) → 0 < count → asks_report (slice_get ps k) ≡ false → first_report ps k count ≡ first_report ps (k + 1) (count - 1)
-first-skip ps k zero pos e = absurd (omega arith)
-first-skip ps k (suc more) pos e = ap (λ (b : Bool). if b then Some k else first_report ps (k + 1) more) e ∙ ap (first_report ps (k + 1)) (let f : more ≡ suc more - 1 = omega arith in f)
-
-module _ (d : DriverSide) (at : DriverPlaces) (seen done unseen : ℕ) (whole : Bool) (asks : List Bool) (h : IsDriverEnd d at seen done unseen whole asks) (now : DriverSide) (was : d ≡ now) where
+module _ (d : DriverSide) (at : DriverPlaces) (seen done unseen : ℕ) (whole : Bool) (asks : List Bool) (passed : ℕ) (h : IsDriverEnd d at seen done unseen whole asks passed) (now : DriverSide) (was : d ≡ now) where
   big : 8 ≤ driver_size d
   big = h.lawful.0
 
@@ -51,10 +48,10 @@ module _ (d : DriverSide) (at : DriverPlaces) (seen done unseen : ℕ) (whole : 
 
     module _ (new : DriverSide) (step : new ≡ appended d (driver.Posted at.fill (tx_word (length buf.bytes) eop rs paylen) buf)) where
       pub post-keeps : (fill' : ℕ) → is_open (driver_state now) ≡ true → length (posted now) + 1 < returned now + driver_size now → fill' ≡ (if (at.fill + 1) == driver_size d then 0 else (at.fill + 1))
-          → IsDriverEnd new (record at { fill = fill'; out = at.out + 1 }) seen done (unseen + 1) eop (slice_set asks at.fill rs)
+          → IsDriverEnd new (record at { fill = fill'; out = at.out + 1 }) seen done (unseen + 1) eop (slice_set asks at.fill rs) passed
       post-keeps fill' opened room f = end-as d new (driver.Posted at.fill (tx_word (length buf.bytes) eop rs paylen) buf) (record (driver_record d) { posted = posted d ++ item_of buf eop rs paylen ∷ [] }) (known_of d)
-          (record at { fill = fill'; out = at.out + 1 }) seen done (unseen + 1) eop (slice_set asks at.fill rs) step (ap (λ (p : Posting). let x : TxDriven = record (driver_record d) { posted = posted d ++ p ∷ [] } in x) item-is) refl
-          (end-post (driver_size d) (driver_record d) (known_of d) at seen done unseen whole asks h (item_of buf eop rs paylen) fill'
+          (record at { fill = fill'; out = at.out + 1 }) seen done (unseen + 1) eop (slice_set asks at.fill rs) passed step (ap (λ (p : Posting). let x : TxDriven = record (driver_record d) { posted = posted d ++ p ∷ [] } in x) item-is) refl
+          (end-post (driver_size d) (driver_record d) (known_of d) at seen done unseen whole asks passed h (item_of buf eop rs paylen) fill'
           (ap (λ (s : DriverSide). is_open (driver_state s)) was ∙ opened) (subst (λ (s : DriverSide). length (posted s) + 1 < returned s + driver_size s) (sym was) room) f)
 
       pub post-record : driver_record new ≡ record (driver_record now) { posted = posted now ++ item_of buf eop rs paylen ∷ [] }
@@ -72,9 +69,9 @@ module _ (d : DriverSide) (at : DriverPlaces) (seen done unseen : ℕ) (whole : 
     on : is_live (driver_state d) ≡ true
     on = ap (λ (s : DriverSide). is_live (driver_state s)) was ∙ live
 
-    pub clean-keeps : (new : DriverSide) (buf : Buffer) (next' : ℕ) → CameClean d at.next buf new → next' ≡ (if (at.next + 1) == driver_size d then 0 else (at.next + 1)) → IsDriverEnd new (record at { next = next'; out = at.out - 1 }) seen (done - 1) unseen whole asks
-    clean-keeps new buf next' f e = end-as d new (driver.Own (Cleaned at.next buf)) (record (driver_record d) { given = cleaned d ++ buf.number ∷ [] }) (known_of d) (record at { next = next'; out = at.out - 1 }) seen (done - 1) unseen whole asks f.step refl refl
-        (end-clean (driver_size d) (driver_record d) (known_of d) at seen done unseen whole asks h buf.number next' below on e)
+    pub clean-keeps : (new : DriverSide) (buf : Buffer) (next' : ℕ) → CameClean d at.next buf new → next' ≡ (if (at.next + 1) == driver_size d then 0 else (at.next + 1)) → IsDriverEnd new (record at { next = next'; out = at.out - 1 }) seen (done - 1) unseen whole asks passed
+    clean-keeps new buf next' f e = end-as d new (driver.Own (Cleaned at.next buf)) (record (driver_record d) { given = cleaned d ++ buf.number ∷ [] }) (known_of d) (record at { next = next'; out = at.out - 1 }) seen (done - 1) unseen whole asks passed f.step refl refl
+        (end-clean (driver_size d) (driver_record d) (known_of d) at seen done unseen whole asks passed h buf.number next' below on e)
 
     pub cleaned-one : (new : DriverSide) (buf : Buffer) → CameClean d at.next buf new → CleanedOne now buf new
     cleaned-one new buf f = subst (λ (s : DriverSide). CleanedOne s buf new) was (record {
@@ -87,12 +84,12 @@ module _ (d : DriverSide) (at : DriverPlaces) (seen done unseen : ℕ) (whole : 
     })
 
   -- C6
-  pub back-keeps : (o : Option Buffer) (new : DriverSide) (at' : DriverPlaces) → ReclaimedNext d o new → IsPoster (driver_size new) (driver_record new) at' → IsDriverEnd new at' seen done unseen whole asks
-  back-keeps None new at' f p = let same : new ≡ d = f.same in subst (λ (s : DriverSide). IsDriverEnd s at' seen done unseen whole asks) (sym same)
-      (end-left (driver_size d) (driver_record d) (known_of d) at seen done unseen whole asks h (driver_record d) (known_of d).head at' (subst (λ (s : DriverSide). IsPoster (driver_size s) (driver_record s) at') same p) refl refl)
+  pub back-keeps : (o : Option Buffer) (new : DriverSide) (at' : DriverPlaces) → ReclaimedNext d o new → IsPoster (driver_size new) (driver_record new) at' → IsDriverEnd new at' seen done unseen whole asks passed
+  back-keeps None new at' f p = let same : new ≡ d = f.same in subst (λ (s : DriverSide). IsDriverEnd s at' seen done unseen whole asks passed) (sym same)
+      (end-left (driver_size d) (driver_record d) (known_of d) at seen done unseen whole asks passed h (driver_record d) (known_of d).head at' (subst (λ (s : DriverSide). IsPoster (driver_size s) (driver_record s) at') same p) refl refl)
   back-keeps (Some buf) new at' f p = let e : DriverStep = driver.Reclaimed (next_place d) buf in let x : TxDriven = record (driver_record d) { reclaimed = reclaimed d + 1 } in
-      end-as d new e x (known_of d) at' seen done unseen whole asks f.step refl refl
-      (end-left (driver_size d) (driver_record d) (known_of d) at seen done unseen whole asks h x (known_of d).head at'
+      end-as d new e x (known_of d) at' seen done unseen whole asks passed f.step refl refl
+      (end-left (driver_size d) (driver_record d) (known_of d) at seen done unseen whole asks passed h x (known_of d).head at'
       (subst (λ (n : ℕ). IsPoster n x at') (ap driver_size f.step) (subst (λ (y : TxDriven). IsPoster (driver_size new) y at') (record-after d new e f.step) p)) refl refl)
 
   pub back-home : (o : Option Buffer) (new : DriverSide) → ReclaimedNext d o new → Reclaimed now o new
@@ -107,9 +104,9 @@ module _ (d : DriverSide) (at : DriverPlaces) (seen done unseen : ℕ) (whole : 
   })
 
   -- the load of the head
-  pub left-keeps : (new : DriverSide) (head : ℕ) → new ≡ appended d (driver.LoadedHead head) → IsDriverEnd new at seen done unseen whole asks
-  left-keeps new head step = end-as d new (driver.LoadedHead head) (driver_record d) (record (known_of d) { head = Some head }) at seen done unseen whole asks step refl refl
-      (end-same (driver_size d) (driver_record d) (known_of d) at seen done unseen whole asks h (Some head))
+  pub left-keeps : (new : DriverSide) (head : ℕ) → new ≡ appended d (driver.LoadedHead head) → IsDriverEnd new at seen done unseen whole asks passed
+  left-keeps new head step = end-as d new (driver.LoadedHead head) (driver_record d) (record (known_of d) { head = Some head }) at seen done unseen whole asks passed step refl refl
+      (end-same (driver_size d) (driver_record d) (known_of d) at seen done unseen whole asks passed h (Some head))
 
   pub left-found : (new : DriverSide) (head left : ℕ) → new ≡ appended d (driver.LoadedHead head) → left ≡ between_places at.size head at.fill → FoundLeft now left new
   left-found new head left step is = subst (λ (s : DriverSide). FoundLeft s left new) was (record {
@@ -142,10 +139,11 @@ module _ (d : DriverSide) (at : DriverPlaces) (seen done unseen : ℕ) (whole : 
       on-live : is_live (driver_state d) ≡ true
       on-live = sym (ap is_live h.state_is) ∙ live
 
-      nothing-keeps : (l : Looked d new false) → IsDriverEnd new at seen done unseen whole asks
-      nothing-keeps l = end-as d new (driver.Own (NoReport (report_word (driver_size d) d.completion l.item) l.word)) (driver_record d) (known_of d) at seen done unseen whole asks (l.nothing refl) refl refl h
+      nothing-keeps : (l : Looked d new false) → IsDriverEnd new at seen done unseen whole asks ahead
+      nothing-keeps l = end-as d new (driver.Own (NoReport (report_word (driver_size d) d.completion l.item) l.word)) (driver_record d) (known_of d) at seen done unseen whole asks ahead (l.nothing refl) refl refl
+          (end-passed (driver_size d) (driver_record d) (known_of d) at seen done unseen whole asks passed h ahead (passed-found (posted d) (seen_reported d) ahead oldest))
 
-      pub unseen-keeps : (b : Bool) → b ≡ false → Looked d new b → IsDriverEnd new at seen done unseen whole asks
+      pub unseen-keeps : (b : Bool) → b ≡ false → Looked d new b → IsDriverEnd new at seen done unseen whole asks ahead
       unseen-keeps b e l = nothing-keeps (subst (λ (x : Bool). Looked d new x) e l)
 
       unreported : (l : Looked d new false) → SawUnreported d new
@@ -165,11 +163,11 @@ module _ (d : DriverSide) (at : DriverPlaces) (seen done unseen : ℕ) (whole : 
       known-report : (l : Looked d new true) → know (driver_record d) (known_of d) (driver.Own (SawReport (report_word (driver_size d) d.completion l.item) l.word)) ≡ record (known_of d) { seen = seen_reported d + ahead + 1 }
       known-report l = ap (λ (o : Option ℕ). seen_after (known_of d) o) oldest
 
-      pub seen-keeps : (b : Bool) (seen' : ℕ) → b ≡ true → Looked d new b → seen' ≡ (if (place + 1) == driver_size d then 0 else (place + 1)) → IsDriverEnd new at seen' (done + (ahead + 1)) (unseen - (ahead + 1)) whole asks
+      pub seen-keeps : (b : Bool) (seen' : ℕ) → b ≡ true → Looked d new b → seen' ≡ (if (place + 1) == driver_size d then 0 else (place + 1)) → IsDriverEnd new at seen' (done + (ahead + 1)) (unseen - (ahead + 1)) whole asks 0
       seen-keeps b seen' e l f = let t = subst (λ (x : Bool). Looked d new x) e l in let g = big in
-          end-as d new (driver.Own (SawReport (report_word (driver_size d) d.completion t.item) t.word)) (driver_record d) (record (known_of d) { seen = seen_reported d + ahead + 1 }) at seen' (done + (ahead + 1)) (unseen - (ahead + 1)) whole asks
+          end-as d new (driver.Own (SawReport (report_word (driver_size d) d.completion t.item) t.word)) (driver_record d) (record (known_of d) { seen = seen_reported d + ahead + 1 }) at seen' (done + (ahead + 1)) (unseen - (ahead + 1)) whole asks 0
           (t.report refl) refl (known-report t)
-          (end-report (driver_size d) (driver_record d) (known_of d) at seen done unseen whole asks h ahead seen' below-posted
+          (end-report (driver_size d) (driver_record d) (known_of d) at seen done unseen whole asks passed h ahead seen' below-posted
           (f ∙ ap (λ (j : ℕ). if (j + 1) == driver_size d then 0 else (j + 1)) at-place ∙ next_place-of (driver_size d) (seen_reported d + ahead) (omega arith)))
 
       reported-it : (l : Looked d new true) → SawReported d new
@@ -187,14 +185,14 @@ module _ (d : DriverSide) (at : DriverPlaces) (seen done unseen : ℕ) (whole : 
   abbrev pub FromAhead : ℕ → Type 0
   FromAhead ahead = outstanding d ≡ first_report (posted d) (seen_reported d + ahead) (length (posted d) - (seen_reported d + ahead))
 
-  pub from-first : FromAhead 0
-  from-first = ap (λ (j : ℕ). first_report (posted d) j (length (posted d) - j)) (let e : seen_reported d ≡ seen_reported d + 0 = omega arith in e)
+  pub from-first : FromAhead passed
+  from-first = from-passed (posted d) (seen_reported d) passed h.passed_by passed (omega arith)
 
   abbrev pub IsAhead : ℕ → ℕ → Type 0
   IsAhead ahead place = place ≡ (seen_reported d + ahead) % driver_size d
 
-  pub ahead-first : IsAhead 0 seen
-  ahead-first = h.seen_is ∙ ap (λ (j : ℕ). j % driver_size d) (let e : seen_reported d ≡ seen_reported d + 0 = omega arith in e)
+  pub ahead-first : (place : ℕ) → place ≡ (seen + passed) % at.size → IsAhead passed place
+  ahead-first place is = is ∙ ap (λ (n : ℕ). (seen + passed) % n) h.size_is ∙ ap (λ (j : ℕ). (j + passed) % driver_size d) h.seen_is ∙ mod-add-mod (seen_reported d) (driver_size d) passed
 
   pub ahead-next : (ahead place next : ℕ) → IsAhead ahead place → next ≡ place_next at.size place → IsAhead (ahead + 1) next
   ahead-next ahead place next is f = let b = big in f ∙ ap (λ (n : ℕ). place_next n place) h.size_is ∙ ap (place_next (driver_size d)) is ∙ next_place-of (driver_size d) (seen_reported d + ahead) (omega arith)
@@ -246,10 +244,10 @@ module _ (d : DriverSide) (at : DriverPlaces) (seen done unseen : ℕ) (whole : 
   gone-size Head x = refl
 
   module _ (new : DriverSide) (step : new ≡ gone_over d.completion d) where
-    pub gone-keeps : IsDriverEnd new (anew at.size) 0 0 0 true asks
-    gone-keeps = subst (λ (x : TxDriven). IsEndOf (driver_size new) x (known_of new) (anew at.size) 0 0 0 true asks) (sym (ap driver_record step ∙ gone-record d.completion d))
-        (subst (λ (k : Knowing). IsEndOf (driver_size new) undriven k (anew at.size) 0 0 0 true asks) (sym (ap known_of step ∙ gone-known d.completion d))
-        (subst (λ (n : ℕ). IsEndOf n undriven unknown (anew at.size) 0 0 0 true asks) (h.size_is ∙ sym (ap driver_size step ∙ gone-size d.completion d)) (end-anew at.size 0 asks (subst IsRingLength (sym h.size_is) h.lawful) (h.asks_count ∙ sym h.size_is))))
+    pub gone-keeps : IsDriverEnd new (anew at.size) 0 0 0 true asks 0
+    gone-keeps = subst (λ (x : TxDriven). IsEndOf (driver_size new) x (known_of new) (anew at.size) 0 0 0 true asks 0) (sym (ap driver_record step ∙ gone-record d.completion d))
+        (subst (λ (k : Knowing). IsEndOf (driver_size new) undriven k (anew at.size) 0 0 0 true asks 0) (sym (ap known_of step ∙ gone-known d.completion d))
+        (subst (λ (n : ℕ). IsEndOf n undriven unknown (anew at.size) 0 0 0 true asks 0) (h.size_is ∙ sym (ap driver_size step ∙ gone-size d.completion d)) (end-anew at.size 0 asks (subst IsRingLength (sym h.size_is) h.lawful) (h.asks_count ∙ sym h.size_is))))
 
     pub gone : GoneOver now new
     gone = record {

@@ -10,6 +10,7 @@ pub mod Owning
 pub mod Looking
 pub mod Meeting
 pub mod ControllerEnds
+pub mod Passed
 pub mod DriverEnds
 pub mod DriverCalls
 pub mod Renewing

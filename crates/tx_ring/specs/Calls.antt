@@ -134,8 +134,13 @@ pub record GoneOver (old new : DriverSide) : Type 0 where
 abbrev pub AskedAt : ℕ → List Posting → ℕ → List Bool → Type 0
 AskedAt n posted seen asks = (j : ℕ) → seen ≤ j → j < length posted → slice_get asks (j % n) ≡ Some (asks_report (slice_get posted j))
 
+-- so many of those that are not seen reported, the oldest first, asked for no report
+pub record HasPassed (posted : List Posting) (seen passed : ℕ) : Type 0 where
+  pub there : seen + passed ≤ length posted
+  pub none : (j : ℕ) → seen ≤ j → j < seen + passed → asks_report (slice_get posted j) ≡ false
+
 -- What the fields of a driver's end keep, over its record and what it has learnt
-pub record IsEndOf (n : ℕ) (x : TxDriven) (k : Knowing) (at : DriverPlaces) (seen done unseen : ℕ) (whole : Bool) (asks : List Bool) : Type 0 where
+pub record IsEndOf (n : ℕ) (x : TxDriven) (k : Knowing) (at : DriverPlaces) (seen done unseen : ℕ) (whole : Bool) (asks : List Bool) (passed : ℕ) : Type 0 where
   pub poster : IsPoster n x at
   pub open poster use *
   pub seen_is : seen ≡ k.seen % n
@@ -145,6 +150,7 @@ pub record IsEndOf (n : ℕ) (x : TxDriven) (k : Knowing) (at : DriverPlaces) (s
   pub whole_is : whole ≡ are_whole x.posted
   pub asks_count : length asks ≡ n
   pub asks_are : AskedAt n x.posted k.seen asks
+  pub passed_by : HasPassed x.posted k.seen passed
 
-abbrev pub IsDriverEnd : DriverSide → DriverPlaces → ℕ → ℕ → ℕ → Bool → List Bool → Type 0
-IsDriverEnd d at seen done unseen whole asks = IsEndOf (driver_size d) (driver_record d) (known_of d) at seen done unseen whole asks
+abbrev pub IsDriverEnd : DriverSide → DriverPlaces → ℕ → ℕ → ℕ → Bool → List Bool → ℕ → Type 0
+IsDriverEnd d at seen done unseen whole asks passed = IsEndOf (driver_size d) (driver_record d) (known_of d) at seen done unseen whole asks passed

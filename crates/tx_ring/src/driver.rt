@@ -39,6 +39,8 @@ pub struct TxDriverEnd {
     whole: bool,
     // at each place, whether a report was asked for
     asks: Vec<bool>,
+    // how many of those that are not seen reported, the oldest first, are known to have asked for none
+    passed: u16,
 }
 
 impl Model for TxDriverEnd {
@@ -51,7 +53,7 @@ impl Model for TxDriverEnd {
 
     ghost view = { λ e. driver_of tx e.seat };
 
-    ghost invariant = { λ e. IsDriverEnd (driver_of tx e.seat) e.at e.seen e.done e.unseen e.whole e.asks.items };
+    ghost invariant = { λ e. IsDriverEnd (driver_of tx e.seat) e.at e.seen e.done e.unseen e.whole e.asks.items e.passed };
 }
 
 impl TxDriverEnd {
@@ -69,6 +71,7 @@ impl TxDriverEnd {
             unseen: 0,
             whole: true,
             asks,
+            passed: 0,
         }
     }
 
@@ -128,8 +131,8 @@ impl TxDriverEnd {
     fn oldest(&self) -> Option<u16>
         ensures { OldestAhead self.now result }
     {
-        let mut place = self.seen;
-        for ahead in 0..self.unseen {
+        let mut place = (self.seen + self.passed) % self.at.size;
+        for ahead in self.passed..self.unseen {
             if self.asks[place as usize] {
                 return Some(ahead);
             }
@@ -155,8 +158,10 @@ impl TxDriverEnd {
         let size = self.at.size;
         let place = (self.seen + ahead) % size;
         if !steps::find_report(&mut self.seat, &ring.0, place, self.seen) {
+            self.passed = ahead;
             return false;
         }
+        self.passed = 0;
         self.seen = place_after(place, size);
         self.done += ahead + 1;
         self.unseen -= ahead + 1;
@@ -215,6 +220,7 @@ impl TxDriverEnd {
         self.done = 0;
         self.unseen = 0;
         self.whole = true;
+        self.passed = 0;
     }
 }
 

@@ -10,8 +10,8 @@ use Rattle.tx_ring.proofs.DriverEnds.{end-as, end-published}
 use Rattle.tx_ring.proofs.driver.TxDriverEnd.publish.Goals as goal
 
 pub invariant_of-self : goal.invariant_of-self
-invariant_of-self c = let i = c.self.inside in end-as (driver_of tx i.seat) (driver_of tx c.publish.new.self) (driver.Published i.at.fill) (record (driver_record (driver_of tx i.seat)) { published = length (posted (driver_of tx i.seat)) }) (known_of (driver_of tx i.seat)) i.at i.seen i.done i.unseen i.whole i.asks.items (ap (driver_of tx) c.publish.ensures) refl refl
-    (end-published (driver_size (driver_of tx i.seat)) (driver_record (driver_of tx i.seat)) (known_of (driver_of tx i.seat)) i.at i.seen i.done i.unseen i.whole i.asks.items c.self.invariant (length (posted (driver_of tx i.seat))))
+invariant_of-self c = let i = c.self.inside in end-as (driver_of tx i.seat) (driver_of tx c.publish.new.self) (driver.Published i.at.fill) (record (driver_record (driver_of tx i.seat)) { published = length (posted (driver_of tx i.seat)) }) (known_of (driver_of tx i.seat)) i.at i.seen i.done i.unseen i.whole i.asks.items i.passed (ap (driver_of tx) c.publish.ensures) refl refl
+    (end-published (driver_size (driver_of tx i.seat)) (driver_record (driver_of tx i.seat)) (known_of (driver_of tx i.seat)) i.at i.seen i.done i.unseen i.whole i.asks.items i.passed c.self.invariant (length (posted (driver_of tx i.seat))))
 
 pub returns-clause-record : goal.returns-clause-record
 returns-clause-record c = let i = c.self.inside in record-after (driver_of tx i.seat) (driver_of tx c.publish.new.self) (driver.Published i.at.fill) (ap (driver_of tx) c.publish.ensures) ∙ ap (λ (s : DriverSide). drive (driver_record s) (driver.Published i.at.fill)) c.self.view_is
