@@ -3,7 +3,7 @@ ghost use Rattle.std.specs.Prelude.{◌≡◌, ◌↔◌, ◌+◌, ◌<◌, true
 ghost use Rattle.limits.specs.RingLength.{IsRingLength};
 ghost use Rattle.ring_model.specs.receive.Lawful.{IsLawfulRxLedger};
 ghost use Rattle.ring_model.specs.shared.Frames.{Bytes};
-ghost use Rattle.rx_ring.specs.Ends.{driver_size, taken, is_drained};
+ghost use Rattle.rx_ring.specs.Ends.{driver_size, taken, saw_quiet, is_drained, is_quiet};
 ghost use Rattle.rx_ring.specs.Calls.{told_left, IsTold};
 ghost use Rattle.rx_ring.specs.Meeting.{MadeSeats, ledger_of, stored_now, Met, IsClosed};
 
@@ -41,8 +41,8 @@ impl RxRing {
 ///
 /// What is said of the ledger is of the driver's epoch: as long as the controller has not answered its enabling,
 /// nothing is stored in it. What the driver has learnt in this epoch is so: where it loaded the head after its
-/// disabling was answered, so many segments were left as that told; where it saw the queue quiet and drained, all that
-/// is stored is taken.
+/// disabling was answered, so many segments were left as that told; where it saw the queue quiet, the controller said
+/// that it is; where it saw it quiet and drained, all that is stored is taken.
 pub fn meet_rx(ring: &RxRing, driver: &mut RxDriverEnd, controller: &mut RxControllerEnd)
     requires driver { driver.old.table ≡ ring.now }
     requires controller { controller.old.table ≡ ring.now }
@@ -51,6 +51,7 @@ pub fn meet_rx(ring: &RxRing, driver: &mut RxDriverEnd, controller: &mut RxContr
     ensures lawful { IsLawfulRxLedger Bytes (driver_size driver.old) (ledger_of driver.old controller.old) }
     ensures places { Met driver.old controller.old }
     ensures left { IsTold (told_left driver.old) (length (taken driver.old)) (length (stored_now driver.old controller.old)) }
+    ensures quiet { saw_quiet driver.old ≡ true → is_quiet controller.old ≡ true }
     ensures drained { is_drained driver.old ≡ true → taken driver.old ≡ stored_now driver.old controller.old }
 {
     let _size = driver.size(); // which says that the length is lawful
