@@ -5,7 +5,7 @@ ghost use Rattle.ring_model.specs.receive.Lawful.{IsLawfulRxLedger};
 ghost use Rattle.ring_model.specs.shared.Frames.{Bytes};
 ghost use Rattle.rx_ring.specs.Ends.{driver_size, taken, saw_quiet, is_drained, is_quiet};
 ghost use Rattle.rx_ring.specs.Calls.{told_left, IsTold};
-ghost use Rattle.rx_ring.specs.Meeting.{MadeSeats, ledger_of, stored_now, Met, IsClosed};
+ghost use Rattle.rx_ring.specs.Meeting.{MadeSeats, ledger_of, stored_now, Met, IsClosed, AllReal, AllCameBack};
 
 use crate::controller::RxControllerEnd;
 use crate::direction::RxShared;
@@ -60,11 +60,14 @@ pub fn meet_rx(ring: &RxRing, driver: &mut RxDriverEnd, controller: &mut RxContr
 
 /// Closes a ring, wherever its two ends stand: one entry a place, with the buffer that lay there where one did, be it
 /// posted, published or written back. A place whose buffer the controller has fetched, and those of the driver, have
-/// none. The list stands in the room that `new` reserved, so this takes no memory.
+/// none. So each buffer that is out comes back once, but one that the controller holds; none is a blank. The list
+/// stands in the room that `new` reserved, so this takes no memory.
 pub fn close(ring: RxRing, driver: RxDriverEnd, controller: RxControllerEnd) -> Vec<Option<Buf>>
     requires driver { driver.table ≡ ring }
     requires controller { controller.table ≡ ring }
-    ensures { IsClosed driver controller result.items }
+    ensures places { IsClosed driver controller result.items }
+    ensures real { AllReal result.items }
+    ensures once { AllCameBack driver controller result.items }
 {
     let _size = driver.size(); // which says that the length is lawful
     let RxDriverEnd { seat, at } = driver;
