@@ -1,0 +1,3 @@
+mod Weights
+mod Batches
+mod Returns

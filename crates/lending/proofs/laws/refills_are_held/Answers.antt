@@ -1,0 +1,5 @@
+use Rattle.lending.proofs.Returns.{refills-held}
+use Rattle.lending.proofs.laws.refills_are_held.Goals as goal
+
+pub returns-clause : goal.returns-clause
+returns-clause c = refills-held
