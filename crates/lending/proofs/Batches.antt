@@ -46,7 +46,7 @@ module _ (h : ℕ → ℕ) where
       let number : Segment Bytes → ℕ = λ s. s.number in
       let left = map-append number (going_on before) segments ∙ ap (λ (l : List ℕ). l ++ of_segments segments) (numbers-going_on before) in
       let right = map-append number (segments_in packets) (going_on after)
-          ∙ (ap (λ (l : List ℕ). l ++ of_segments (going_on after)) (numbers-segments_in packets) ∙ ap (λ (l : List ℕ). numbers_in packets ++ l) (numbers-going_on after)) in
+      ∙ (ap (λ (l : List ℕ). l ++ of_segments (going_on after)) (numbers-segments_in packets) ∙ ap (λ (l : List ℕ). numbers_in packets ++ l) (numbers-going_on after)) in
       sym (total-append h (numbers_of before) (of_segments segments))
       ∙ (ap (total h) (sym left ∙ (ap (map number) e ∙ right)) ∙ total-append h (numbers_in packets) (numbers_of after))
 

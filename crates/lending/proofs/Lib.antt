@@ -1,3 +1,4 @@
 mod Weights
 mod Batches
 mod Returns
+pub mod Giving

@@ -1,5 +1,5 @@
 use Rattle.lending.proofs.Batches.{batches-move}
 use Rattle.lending.proofs.laws.batches_move_buffers.Goals as goal
 
-pub returns-clause : goal.returns-clause
-returns-clause c = batches-move
+pub returns : goal.returns
+returns c = batches-move

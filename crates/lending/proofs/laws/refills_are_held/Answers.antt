@@ -1,5 +1,5 @@
 use Rattle.lending.proofs.Returns.{refills-held}
 use Rattle.lending.proofs.laws.refills_are_held.Goals as goal
 
-pub returns-clause : goal.returns-clause
-returns-clause c = refills-held
+pub returns : goal.returns
+returns c = refills-held
