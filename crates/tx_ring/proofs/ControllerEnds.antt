@@ -62,6 +62,9 @@ module _ (c : ControllerSide) (at : ControllerPlaces) (last : ℕ) (ends asks ow
       word = word;
       step = f.step ∙ ap (λ (k : ℕ). answered c (controller.Fetched k word buf)) h.serve_is;
       says = f.fetched.says ∙ ap (λ (b : Bool). tx_word (length buf.bytes) b (rs_of word) (paylen_of word)) (sym e) ∙ ap (λ (b : Bool). tx_word (length buf.bytes) read.eop b (paylen_of word)) (sym r) ∙ ap (λ (v : ℕ). tx_word (length buf.bytes) read.eop read.rs v) (sym p);
+      eop = e;
+      rs = r;
+      paylen = p;
       number = number;
       len = len;
       real = f.fetched.real;

@@ -229,6 +229,9 @@ module _ (d : DriverSide) (at : DriverPlaces) (seen done unseen : ℕ) (whole : 
       let t = first_report-asks (posted d) (seen_reported d) (length (posted d) - seen_reported d) (seen_reported d + ahead) oldest in let w = t.0 in
       (omega arith, omega arith, omega arith)
 
+  pub ahead-fits : (ahead : ℕ) → OldestAhead d (Some ahead) → ahead ≤ at.size
+  ahead-fits ahead oldest = let t = few-ahead ahead oldest in let a = t.0 in let ui = h.unseen_is in let di = h.done_is in let fw = h.few in let z = h.size_is in omega arith
+
   -- C9, C10 and C12
   gone-record : (mode : Completion) (x : DriverSide) → driver_record (gone_over mode x) ≡ undriven
   gone-record Status x = let y = appended x driver.ClearedHead in record-after y (appended y (driver.Own EndedEpoch)) (driver.Own EndedEpoch) refl

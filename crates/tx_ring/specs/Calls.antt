@@ -19,18 +19,21 @@ use Rattle.tx_ring.specs.Rule.{filled}
 use Rattle.tx_ring.specs.Steps.{Looked}
 use Rattle.tx_ring.specs.declared.events.TxDriverOwn.TheVariants.{Cleaned, EndedEpoch, ClearedReport}
 use Rattle.shared_ring.specs.Records.{undriven}
-use Rattle.tx_ring.specs.Records.{Posting, TxDriven, TxControlled, Knowing, unknown, eop_of, rs_of, posting_of}
+use Rattle.tx_ring.specs.Records.{Posting, TxDriven, TxControlled, Knowing, unknown, eop_of, rs_of, paylen_of, posting_of}
 use Rattle.tx_ring.specs.Ends.{DriverSide, driver_size, driver_record, posted, cleaned, reclaimed, returned, seen_reported, outstanding, driver_state, known_of, next_place, appended, ControllerSide, controller_size, controller_record, sent, known_ready, held_word, seen, serve_place, answered}
 pub use Rattle.shared_ring.specs.Calls.{IsFreshDriver, IsFreshController, NoneOut, FoundAhead as FoundReady, MayEnable, IsSettled, MayDisable, MayAnswer, AnsweredEnabling, AnsweredDisabling, Answered}
 use Rattle.shared_ring.specs.Calls.{IsPoster, IsServer}
 use Rattle.shared_ring.specs.declared.ends.DriverPlaces.{DriverPlaces}
 use Rattle.shared_ring.specs.declared.ends.ControllerPlaces.{ControllerPlaces}
 
--- B4: the next descriptor was loaded, and its buffer came out with the bytes that were posted. What the descriptor says may follow the frame so far; and where it does not end its frame, more is known to be ready
+-- B4: the next descriptor was loaded, and its buffer came out with the bytes that were posted. The word says what the descriptor that is answered does; what the descriptor says may follow the frame so far; and where it does not end its frame, more is known to be ready
 pub record Fetched (old : ControllerSide) (buf : Buffer) (read : TxRead) (new : ControllerSide) : Type 0 where
   pub word : ℕ
   pub step : new ≡ answered old (controller.Fetched (serve_place old) word buf)
   pub says : word ≡ tx_word (length buf.bytes) read.eop read.rs read.paylen
+  pub eop : read.eop ≡ eop_of word
+  pub rs : read.rs ≡ rs_of word
+  pub paylen : read.paylen ≡ paylen_of word
   pub number : read.number ≡ buf.number
   pub len : read.len ≡ length buf.bytes
   pub real : buf ≡ buffer buf.number buf.bytes

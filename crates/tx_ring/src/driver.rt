@@ -1,6 +1,7 @@
 //! The driver's end: it enables and disables the queue, posts frames, publishes them by the tail, looks for reports, and
 //! cleans up after what is reported.
-ghost use Rattle.std.specs.Prelude.{◌≡◌, ◌+◌, ◌-◌, ◌%◌, ◌<◌, true, false, [], ◌∷◌, ◌++◌, length};
+ghost use Rattle.std.specs.Prelude.{◌≡◌, ◌+◌, ◌-◌, ◌%◌, ◌<◌, ◌≤◌, true, false, [], ◌∷◌, ◌++◌, length};
+ghost use Rattle.std.specs.Box.{boxed_slice_items};
 ghost use Rattle.buffer_pool.specs.Buffer.{buffer};
 ghost use Rattle.limits.specs.RingLength.{IsRingLength};
 ghost use Rattle.ring_model.specs.declared.states.DriverState.TheVariants as state;
@@ -23,6 +24,8 @@ use crate::steps;
 use buffer_pool::Buf;
 use ring_model::{place_after, places_between};
 use shared_ring::{Control, DriverEnd, DriverPlaces, Handshake};
+use std::alloc::Global;
+use std::boxed::BoxedSlice;
 use std::marker::Model;
 
 /// The driver's end of a transmit ring. Contracts see the ring's identity and the record of the end's own steps.
@@ -38,7 +41,7 @@ pub struct TxDriverEnd {
     unseen: u16,
     whole: bool,
     // at each place, whether a report was asked for
-    asks: Vec<bool>,
+    asks: BoxedSlice<bool, Global>,
     // how many of those that are not seen reported, the oldest first, are known to have asked for none
     passed: u16,
 }
@@ -48,18 +51,19 @@ impl Model for TxDriverEnd {
     ghost use Rattle.tx_ring.specs.Ends.{DriverSide};
     ghost use Rattle.tx_ring.specs.Form.{tx};
     ghost use Rattle.tx_ring.specs.Calls.{IsDriverEnd};
+    ghost use Rattle.std.specs.Box.{boxed_slice_items};
 
     ghost Value = { DriverSide };
 
     ghost view = { λ e. driver_of tx e.seat };
 
-    ghost invariant = { λ e. IsDriverEnd (driver_of tx e.seat) e.at e.seen e.done e.unseen e.whole e.asks.items e.passed };
+    ghost invariant = { λ e. IsDriverEnd (driver_of tx e.seat) e.at e.seen e.done e.unseen e.whole (boxed_slice_items e.asks) e.passed };
 }
 
 impl TxDriverEnd {
-    pub(crate) fn new(seat: TxDriverSeat, asks: Vec<bool>) -> TxDriverEnd
+    pub(crate) fn new(seat: TxDriverSeat, asks: BoxedSlice<bool, Global>) -> TxDriverEnd
         requires fresh { IsFreshDriver (driver_of tx seat) }
-        requires asks { length asks.items ≡ driver_size (driver_of tx seat) }
+        requires asks { length (boxed_slice_items asks) ≡ driver_size (driver_of tx seat) }
         ensures { result ≡ driver_of tx seat }
     {
         let at = DriverPlaces::new(seat.size());
@@ -131,7 +135,7 @@ impl TxDriverEnd {
     fn oldest(&self) -> Option<u16>
         ensures { OldestAhead self.now result }
     {
-        let mut place = (self.seen + self.passed) % self.at.size;
+        let mut place = place_ahead(self.seen, self.passed, self.at.size);
         for ahead in self.passed..self.unseen {
             if self.asks[place as usize] {
                 return Some(ahead);
@@ -156,7 +160,7 @@ impl TxDriverEnd {
             return false;
         };
         let size = self.at.size;
-        let place = (self.seen + ahead) % size;
+        let place = place_ahead(self.seen, ahead, size);
         if !steps::find_report(&mut self.seat, &ring.0, place, self.seen) {
             self.passed = ahead;
             return false;
@@ -221,6 +225,21 @@ impl TxDriverEnd {
         self.unseen = 0;
         self.whole = true;
         self.passed = 0;
+    }
+}
+
+/// The place so many after `place`.
+#[inline]
+fn place_ahead(place: u16, ahead: u16, size: u16) -> u16
+    requires place { place < size }
+    requires ahead { ahead ≤ size }
+    ensures { result ≡ (place + ahead) % size }
+{
+    let before = size - place; // places up to the first
+    if ahead < before {
+        place + ahead
+    } else {
+        ahead - before
     }
 }
 

@@ -47,7 +47,7 @@ impl TxRing {
         };
         Ok((
             TxRing(ring),
-            TxDriverEnd::new(driver, asks),
+            TxDriverEnd::new(driver, asks.into_boxed_slice()),
             TxControllerEnd::new(controller),
         ))
     }

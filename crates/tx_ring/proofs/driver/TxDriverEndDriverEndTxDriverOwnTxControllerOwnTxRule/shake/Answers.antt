@@ -1,5 +1,6 @@
 -- A step of the handshake: the record has one more event, and the state follows it.
 use Rattle.std.proofs.Common.{ap, sym, ◌∙◌, subst}
+use Rattle.std.specs.Box.{boxed_slice_items}
 use Rattle.ring_model.specs.declared.states.DriverState.{DriverState}
 use Rattle.shared_ring.specs.Calls.{MayShake, shake_event, shaken}
 use Rattle.shared_ring.specs.Ends.{driver_of}
@@ -13,8 +14,8 @@ use Rattle.tx_ring.proofs.DriverEnds.{end-shake}
 use Rattle.tx_ring.proofs.driver.TxDriverEndDriverEndTxDriverOwnTxControllerOwnTxRule.shake.Goals as goal
 
 pub invariant_of-self : goal.invariant_of-self
-invariant_of-self c = let i = c.self.inside in subst (λ (s : DriverState). IsDriverEnd (driver_of tx c.shake.new.self) (record i.at { state = s }) i.seen i.done i.unseen i.whole i.asks.items i.passed) (sym c.shake.ensures.state)
-    (end-shake (driver_of tx i.seat) (driver_of tx c.shake.new.self) i.at i.seen i.done i.unseen i.whole i.asks.items i.passed c.args.step (control_word c.shake.result) (ap (driver_of tx) c.shake.ensures.step) (subst (λ (s : DriverSide). MayShake c.args.step (driver_state s)) (sym c.self.view_is) c.requires.may) c.self.invariant)
+invariant_of-self c = let i = c.self.inside in subst (λ (s : DriverState). IsDriverEnd (driver_of tx c.shake.new.self) (record i.at { state = s }) i.seen i.done i.unseen i.whole (boxed_slice_items i.asks) i.passed) (sym c.shake.ensures.state)
+    (end-shake (driver_of tx i.seat) (driver_of tx c.shake.new.self) i.at i.seen i.done i.unseen i.whole (boxed_slice_items i.asks) i.passed c.args.step (control_word c.shake.result) (ap (driver_of tx) c.shake.ensures.step) (subst (λ (s : DriverSide). MayShake c.args.step (driver_state s)) (sym c.self.view_is) c.requires.may) c.self.invariant)
 
 pub returns-clause-record : goal.returns-clause-record
 returns-clause-record c = let i = c.self.inside in let w = control_word c.shake.result in record-after (driver_of tx i.seat) (driver_of tx c.shake.new.self) (shake_event c.args.step w) (ap (driver_of tx) c.shake.ensures.step) ∙ shaken-record (driver_of tx i.seat) c.args.step w
