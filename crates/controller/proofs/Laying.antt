@@ -1,7 +1,8 @@
 -- Frames one behind another in one block: what more bytes, and one more end, make of them.
 use Rattle.std.proofs.Common.{◌≡◌, ℕ, zero, suc, ◌+◌, ◌-◌, ◌<◌, ◌≤◌, List, [], ◌∷◌, ◌++◌, length, take, drop, get_or, Some, sym, refl, ap, subst, ◌∙◌, arith, length-drop}
-use Rattle.std.specs.Prelude.{slice_get}
-use Rattle.std.proofs.lemmas.List.{take-append-le, drop-append-le, drop-drop}
+use Rattle.std.specs.Prelude.{slice_get, sum_by}
+use Rattle.std.proofs.lemmas.List.{length-take-le, take-append-le, drop-append-le, drop-drop}
+use Rattle.std.proofs.lemmas.List.Sums.{sum_by-cons}
 use Rattle.std.proofs.lemmas.Option.{none-some, same_Some, slice_get-get_or}
 use Rattle.ring_model.specs.shared.Frames.{Bytes}
 use Rattle.controller.specs.Laid.{frames_from, behind, AreEnds}
@@ -59,6 +60,17 @@ behind-snoc start past bytes (e ∷ es) all a = let next = next_span start past 
 pub length-frames : (start : ℕ) (bytes : Bytes) (es : List ℕ) → length (frames_from start bytes es) ≡ length es
 length-frames start bytes [] = refl
 length-frames start bytes (e ∷ es) = ap suc (length-frames e (drop (e - start) bytes) es)
+
+-- all bytes are those of the frames, and those behind them
+pub lengths-frames : (start past : ℕ) (bytes : Bytes) (es : List ℕ) → past ≡ start + length bytes → AreEnds start past es → sum_by length (frames_from start bytes es) + length (behind start bytes es) ≡ length bytes
+lengths-frames start past bytes [] all a = omega arith
+lengths-frames start past bytes (e ∷ es) all a =
+    let next = next_span start past e bytes es all a in
+    let front = length-take-le (e - start) bytes next.1 in
+    let left = length-drop (e - start) bytes in
+    let others = lengths-frames e past (drop (e - start) bytes) es next.0 a.1 in
+    let first = sum_by-cons length (take (e - start) bytes) (frames_from e (drop (e - start) bytes) es) in
+    let below = next.1 in omega arith
 
 -- where frame i begins
 abbrev pub start_of : ℕ → List ℕ → ℕ → ℕ

@@ -1,5 +1,5 @@
 //! Where a wire has its frames: all their bytes in one block, and for each frame where it ends.
-ghost use Rattle.std.specs.Prelude.{◌≡◌, ◌+◌, ◌-◌, ◌<◌, ◌≤◌, [], ◌∷◌, ◌++◌, length, take, drop, Some, slice_get, OnOk};
+ghost use Rattle.std.specs.Prelude.{◌≡◌, ◌+◌, ◌-◌, ◌<◌, ◌≤◌, [], ◌∷◌, ◌++◌, length, sum_by, take, drop, Some, slice_get, OnOk};
 ghost use Rattle.limits.specs.declared.profile.TheConstants.{MOST_FRAME};
 ghost use Rattle.controller.specs.Laid.{frames_from, AreEnds};
 
@@ -93,6 +93,14 @@ impl Arena {
         ensures { result ≡ length self.now.frames }
     {
         self.ends.as_slice().len()
+    }
+
+    /// For how many frames there is an entry, and for how many bytes there is room, those that are there among them.
+    pub(crate) fn capacity(&self) -> (usize, usize)
+        ensures entries { result.0 ≡ length self.now.frames + self.now.entries }
+        ensures room { result.1 ≡ sum_by length self.now.frames + length self.now.begun + self.now.room }
+    {
+        (self.ends.capacity(), self.bytes.capacity())
     }
 
     /// Frame `i`.

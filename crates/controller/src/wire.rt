@@ -1,5 +1,5 @@
 //! What went out.
-ghost use Rattle.std.specs.Prelude.{◌≡◌, ◌<◌, ◌↔◌, [], length, drop, Some, slice_get, IsTrue};
+ghost use Rattle.std.specs.Prelude.{◌≡◌, ◌<◌, ◌≤◌, ◌↔◌, [], length, sum_by, drop, Some, slice_get, IsTrue};
 ghost use Rattle.std.specs.Iterator.{YieldsFirstRef, item_count};
 
 use crate::arena::Arena;
@@ -39,6 +39,15 @@ impl Wire {
         ensures { result ≡ length self.now }
     {
         self.arena.len()
+    }
+
+    /// How many frames and how many bytes the wire has memory for, those that went out among them: it takes more once
+    /// either is used up.
+    pub fn capacity(&self) -> (usize, usize)
+        ensures frames { length self.now ≤ result.0 }
+        ensures bytes { sum_by length self.now ≤ result.1 }
+    {
+        self.arena.capacity()
     }
 
     /// Whether no frame went out.
