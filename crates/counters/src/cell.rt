@@ -95,8 +95,8 @@ impl<T: Moment<N>, const N: usize> MomentCell<T, N> {
         requires none_falls { NoneFalls (T.words pen.old.last) (T.words numbers) }
         ensures written { pen.new ≡ with_moment numbers pen.old }
     {
-        self.numbers
-            .swap_as::<Writes<N>, R>(rt, &mut pen.pass, numbers);
+        let cell = &self.numbers;
+        cell.swap_as::<Writes<N>, R>(rt, &mut pen.pass, numbers);
     }
 
     /// The numbers of one moment, of those that the pen wrote or of the opening.

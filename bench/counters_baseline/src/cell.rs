@@ -1,0 +1,83 @@
+//! Four numbers under a sequence lock: the steps of the proved cell, each sequentially consistent. The version is
+//! odd while a writer has the words. A reader reads them with no lock, and takes it only where a writer came between.
+
+use std::sync::atomic::{AtomicU64, Ordering::SeqCst};
+use std::{hint, thread};
+
+pub type Numbers = [u64; 4];
+
+pub struct Cell {
+    version: AtomicU64,
+    words: [AtomicU64; 4],
+}
+
+/// Waits a little longer each time, and yields in the end.
+struct Backoff {
+    step: u32,
+}
+
+impl Backoff {
+    fn snooze(&mut self) {
+        if self.step <= 6 {
+            for _ in 0..1 << self.step {
+                hint::spin_loop();
+            }
+        } else {
+            thread::yield_now();
+        }
+        if self.step <= 10 {
+            self.step += 1;
+        }
+    }
+}
+
+impl Cell {
+    pub fn new() -> Self {
+        Cell {
+            version: AtomicU64::new(0),
+            words: Default::default(),
+        }
+    }
+
+    fn gather(&self) -> Numbers {
+        std::array::from_fn(|i| self.words[i].load(SeqCst))
+    }
+
+    /// Takes the lock. The version that is answered is odd.
+    fn lock(&self) -> (u64, Numbers) {
+        let mut backoff = Backoff { step: 0 };
+        loop {
+            let version = self.version.load(SeqCst);
+            if version % 2 == 0
+                && version < u64::MAX - 1
+                && self.version.compare_exchange(version, version + 1, SeqCst, SeqCst).is_ok()
+            {
+                return (version + 1, self.gather());
+            }
+            backoff.snooze();
+        }
+    }
+
+    /// Writes the numbers, and answers those before.
+    pub fn write(&self, numbers: Numbers) -> Numbers {
+        let (version, old) = self.lock();
+        for (word, number) in self.words.iter().zip(numbers) {
+            word.store(number, SeqCst);
+        }
+        self.version.store(version + 1, SeqCst);
+        old
+    }
+
+    pub fn read(&self) -> Numbers {
+        let version = self.version.load(SeqCst);
+        if version % 2 == 0 {
+            let numbers = self.gather();
+            if self.version.load(SeqCst) == version {
+                return numbers;
+            }
+        }
+        let (version, numbers) = self.lock();
+        self.version.store(version - 1, SeqCst);
+        numbers
+    }
+}

@@ -1,0 +1,79 @@
+//! What it costs to write four numbers and to read them, in plain Rust: the same turns as the program
+//! `counters_bench`, over a sequence lock.
+
+mod cell;
+
+use cell::{Cell, Numbers};
+use std::hint::black_box;
+use std::sync::Arc;
+use std::time::{Duration, Instant};
+use std::{env, process, thread};
+
+fn all_stored(frames: u64) -> Numbers {
+    [frames, frames, 0, 0]
+}
+
+fn reads_alone(reads: u32) -> Duration {
+    let cell = Arc::new(Cell::new());
+    cell.write(all_stored(1));
+    let start = Instant::now();
+    for _ in 0..reads {
+        black_box(cell.read());
+    }
+    start.elapsed()
+}
+
+fn write_all(cell: &Cell, writes: u32) {
+    for written in 0..writes {
+        cell.write(all_stored(u64::from(written) + 1));
+    }
+}
+
+fn read_until(cell: &Cell, writes: u32) -> u64 {
+    let mut reads = 0;
+    loop {
+        let now = cell.read();
+        reads += 1;
+        if u64::from(writes) <= now[0] {
+            return reads;
+        }
+    }
+}
+
+fn writes_beside(writes: u32, readers: u32) -> (Duration, u64) {
+    let cell = Arc::new(Cell::new());
+    let start = Instant::now();
+    let reads = thread::scope(|scope| {
+        let reading: Vec<_> = (0..readers).map(|_| scope.spawn(|| read_until(&cell, writes))).collect();
+        write_all(&cell, writes);
+        reading.into_iter().map(|reader| reader.join().expect("a reader failed")).sum()
+    });
+    (start.elapsed(), reads)
+}
+
+fn number_of(words: &[String], name: &str) -> Option<u32> {
+    let at = words.iter().position(|word| word == name)?;
+    words.get(at + 1)?.parse().ok()
+}
+
+fn each(spent: Duration, count: f64) -> f64 {
+    spent.as_secs_f64() * 1e9 / count
+}
+
+fn main() {
+    let words: Vec<String> = env::args().skip(1).collect();
+    if let Some(reads) = number_of(&words, "--reads") {
+        println!("read ns {:.1}", each(reads_alone(reads), f64::from(reads)));
+        return;
+    }
+    let (Some(writes), Some(readers)) = (number_of(&words, "--writes"), number_of(&words, "--readers")) else {
+        eprintln!("Usage: counters_baseline --writes N --readers N, or counters_baseline --reads N");
+        process::exit(2);
+    };
+    let (spent, reads) = writes_beside(writes, readers);
+    println!("readers {readers}");
+    println!("write ns {:.1}", each(spent, f64::from(writes)));
+    if 0 < readers {
+        println!("read ns {:.1}", each(spent, reads as f64 / f64::from(readers)));
+    }
+}

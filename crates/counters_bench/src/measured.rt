@@ -1,0 +1,158 @@
+//! A cell is made, and the time of its threads is taken.
+ghost use Rattle.std.specs.Prelude.{◌≡◌};
+ghost use Rattle.counters.specs.Kinds.{none_offered};
+
+use anyhow::Result;
+use counters::{Offered, StatCell, StatPass, StatPen};
+use std::alloc::Global;
+use std::rt::Clock;
+use std::sync::Wait;
+use std::thread::{Threads, join};
+use std::time::{Duration, Instant};
+
+/// The numbers after so many frames, all of which were stored.
+fn all_stored(frames: u64) -> Offered
+    ensures { result ≡ record { offered = frames; stored = frames; dropped = 0; oversize = 0 } }
+{
+    Offered {
+        offered: frames,
+        stored: frames,
+        dropped: 0,
+        oversize: 0,
+    }
+}
+
+/// How long so many reads beside nobody take.
+pub fn reads_alone<R: Wait + Clock>(rt: &R, alloc: Global, reads: u32) -> Result<Duration> {
+    let (cell, mut pen, _) = StatCell::new(alloc)?;
+    cell.write(rt, &mut pen, all_stored(1));
+    let pass = pen.pass();
+    let start = Instant::now(rt)?;
+    read_all(rt, &cell, pass, reads);
+    Ok(start.elapsed(rt)?)
+}
+
+/// How long so many writes take beside up to three readers, and how often these read meanwhile.
+pub fn writes_beside<R: Threads + Wait + Clock + Sync>(
+    rt: &R,
+    alloc: Global,
+    writes: u32,
+    readers: u32,
+) -> Result<(Duration, u32)> {
+    let (cell, pen, mut pass) = StatCell::new(alloc)?;
+    let second = cell.split(&mut pass);
+    let third = cell.split(&mut pass);
+    let shared = &cell;
+    let start = Instant::now(rt)?;
+    let reads = match readers {
+        0 => {
+            write_all(rt, shared, pen, writes);
+            0
+        }
+        1 => {
+            join(
+                rt,
+                || write_all(rt, shared, pen, writes),
+                || read_until(rt, shared, pass, writes),
+            )
+            .1
+        }
+        2 => {
+            join(
+                rt,
+                || write_all(rt, shared, pen, writes),
+                move || -> u32
+                    requires { (pass.cell ≡ shared.now) × (second.cell ≡ shared.now) }
+                { read_in_two(rt, shared, pass, second, writes) },
+            )
+            .1
+        }
+        _ => {
+            join(
+                rt,
+                || write_all(rt, shared, pen, writes),
+                move || -> u32
+                    requires { (pass.cell ≡ shared.now) × (second.cell ≡ shared.now) × (third.cell ≡ shared.now) }
+                { read_in_three(rt, shared, pass, second, third, writes) },
+            )
+            .1
+        }
+    };
+    Ok((start.elapsed(rt)?, reads))
+}
+
+/// Writes so many times, each time one frame more.
+fn write_all<R: Wait>(rt: &R, cell: &StatCell, mut pen: StatPen, writes: u32)
+    requires own { pen.cell ≡ cell.now }
+    requires opening { pen.last ≡ none_offered }
+{
+    for written in 0..writes {
+        cell.write(rt, &mut pen, all_stored(u64::from(written) + 1));
+    }
+}
+
+/// Reads so many times.
+fn read_all<R: Wait>(rt: &R, cell: &StatCell, mut pass: StatPass, reads: u32)
+    requires own { pass.cell ≡ cell.now }
+{
+    for _ in 0..reads {
+        cell.read(rt, &mut pass);
+    }
+}
+
+/// Reads until the last write is seen, and tells how often that was.
+fn read_until<R: Wait>(rt: &R, cell: &StatCell, mut pass: StatPass, writes: u32) -> u32
+    requires own { pass.cell ≡ cell.now }
+{
+    let mut reads: u32 = 0;
+    for _ in rt.forever() {
+        let now = cell.read(rt, &mut pass);
+        reads = reads.saturating_add(1);
+        if u64::from(writes) <= now.offered {
+            return reads;
+        }
+    }
+    unreachable!()
+}
+
+/// Two threads read, and how often both did.
+fn read_in_two<R: Threads + Wait + Sync>(
+    rt: &R,
+    cell: &StatCell,
+    first: StatPass,
+    second: StatPass,
+    writes: u32,
+) -> u32
+    requires first { first.cell ≡ cell.now }
+    requires second { second.cell ≡ cell.now }
+{
+    let (one, two) = join(
+        rt,
+        || read_until(rt, cell, first, writes),
+        || read_until(rt, cell, second, writes),
+    );
+    one.saturating_add(two)
+}
+
+/// Three threads read, and how often all did.
+fn read_in_three<R: Threads + Wait + Sync>(
+    rt: &R,
+    cell: &StatCell,
+    first: StatPass,
+    second: StatPass,
+    third: StatPass,
+    writes: u32,
+) -> u32
+    requires first { first.cell ≡ cell.now }
+    requires second { second.cell ≡ cell.now }
+    requires third { third.cell ≡ cell.now }
+{
+    let (one, others) = join(
+        rt,
+        || read_until(rt, cell, first, writes),
+        move || -> u32
+            requires { (second.cell ≡ cell.now) × (third.cell ≡ cell.now) }
+        { read_in_two(rt, cell, second, third, writes) },
+    );
+    one.saturating_add(others)
+}
