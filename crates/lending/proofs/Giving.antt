@@ -2,15 +2,21 @@
 use Rattle.std.proofs.Common.{◌≡◌, ◌∙◌, ℕ, ◌+◌, ◌<◌, List, [], ◌∷◌, ◌++◌, length, map, drop, IsPermutation, refl, sym, ap, subst, arith, append_assoc, append-nil, length-append}
 use Rattle.std.proofs.lemmas.List.{drop_all}
 use Rattle.std.proofs.lemmas.List.Sorted.{IsPermutation-append_left, IsPermutation-trans, length_permutation}
+use Rattle.buffer_pool.specs.Buffer.{Buffer}
 use Rattle.ring_model.specs.transmit.Ring.{number_of_posting}
 use Rattle.rx_ring.specs.Ends as receive
 use Rattle.tx_ring.specs.Ends as transmit
 use Rattle.driver.specs.Reclaiming.{CameBack}
 use Rattle.driver.specs.receive.Receiver.{Receiver}
 use Rattle.driver.specs.receive.Returns as received
+use Rattle.driver.specs.receive.Returns.{numbers_of}
+use Rattle.driver.specs.transmit.Frames.{numbers_in}
 use Rattle.driver.specs.transmit.Returns as sent
 use Rattle.driver.specs.transmit.Transmitter.{Transmitter}
-use Rattle.pool.specs.Hands.{HoldsAll}
+use Rattle.pool.specs.Hands.{HoldsAll, total}
+use Rattle.pool.proofs.Totals.{total-append}
+use Rattle.pool.proofs.Accounts.{same-members}
+use Rattle.lending.proofs.Weights.{total-packets}
 use Rattle.lending.specs.Lent.{with_receiver, with_transmitter, Exchanged, GivenBack}
 use Rattle.lending.proofs.Returns.{reclaiming-moves}
 
@@ -67,3 +73,13 @@ pub all-given : (held stash out new empty next still : List ℕ) → GivenBack h
 all-given held stash out new empty next still g e x none = λ rest p.
     subst (λ (l : List ℕ). IsPermutation next (l ++ rest)) none
     (x rest (subst (λ (l : List ℕ). IsPermutation new ((l ++ out) ++ rest)) (sym e) (given-first held stash out new g rest p)))
+
+-- the last packet of a list, and those before it
+pub last-packet : (ps qs : List (List Buffer)) (p : List Buffer) → ps ≡ qs ++ p ∷ [] → IsPermutation (numbers_in ps) (numbers_of p ++ numbers_in qs)
+last-packet ps qs p e = same-members (numbers_in ps) (numbers_of p ++ numbers_in qs) (λ h. omega (
+  arith,
+  ap (λ (l : List (List Buffer)). total h (numbers_in l)) e,
+  total-packets h qs (p ∷ []),
+  total-append h (numbers_of p) [],
+  total-append h (numbers_of p) (numbers_in qs),
+))

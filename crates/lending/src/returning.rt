@@ -5,12 +5,15 @@ ghost use Rattle.rx_ring.specs.Ends as receive;
 ghost use Rattle.tx_ring.specs.Ends as transmit;
 ghost use Rattle.driver.specs.receive.Returns as received;
 ghost use Rattle.driver.specs.transmit.Returns as sent;
+ghost use Rattle.driver.specs.receive.Returns.{numbers_of};
+ghost use Rattle.driver.specs.transmit.Frames.{numbers_in};
 ghost use Rattle.pool.specs.Hands.{HoldsAll};
 ghost use Rattle.pool.specs.Owned.{IsOf};
 ghost use Rattle.lending.specs.Lent.{GivenBack, with_receiver, with_transmitter};
 
-use buffer_pool::Stash;
-use driver::{RxDriver, TxDriver};
+use arrayvec::ArrayVec;
+use buffer_pool::{Packet, Stash};
+use driver::{MOST_BATCH, RxDriver, TxDriver};
 use pool::{Pool, PoolPass};
 use rx_ring::RxRing;
 use std::sync::Wait;
@@ -26,6 +29,35 @@ fn give_stash<R: Wait>(rt: &R, pool: &Pool, pass: &mut PoolPass, stash: &mut Sta
 {
     let count = stash.len();
     pool.give_all(rt, pass, stash, count);
+}
+
+/// Gives the buffers of packets to the pool: nothing is left in the list.
+pub fn give_packets<R: Wait>(
+    rt: &R,
+    pool: &Pool,
+    pass: &mut PoolPass,
+    packets: &mut ArrayVec<Packet, MOST_BATCH>,
+)
+    requires pool { IsOf pool.now pass.old }
+    requires held { HoldsAll pass.old.hand.held (numbers_in packets.old.items) }
+    ensures pool { IsOf pool.now pass.new }
+    ensures empty { packets.new.items ≡ [] }
+    ensures given { GivenBack pass.old.hand.held (numbers_in packets.old.items) pass.new.hand.held }
+{
+    while let Some(packet) = packets.pop() {
+        give_packet(rt, pool, pass, packet);
+    }
+}
+
+fn give_packet<R: Wait>(rt: &R, pool: &Pool, pass: &mut PoolPass, mut packet: Packet)
+    requires pool { IsOf pool.now pass.old }
+    requires held { HoldsAll pass.old.hand.held (numbers_of packet) }
+    ensures pool { IsOf pool.now pass.new }
+    ensures given { GivenBack pass.old.hand.held (numbers_of packet) pass.new.hand.held }
+{
+    while let Some(buf) = packet.pop_front() {
+        pool.give(rt, pass, buf);
+    }
 }
 
 /// Gives the buffers of a stash to the pool, and all that a receive driver has of a disabled queue.
