@@ -2,6 +2,7 @@
 #![tactic(auto)]
 
 mod forwarder;
+mod lent;
 mod moves;
 mod one_frame;
 mod queue_pair;
