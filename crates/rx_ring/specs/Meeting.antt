@@ -7,7 +7,7 @@ use Rattle.ring_model.specs.declared.states.Owner.TheVariants.{Ring}
 use Rattle.ring_model.specs.receive.Ring.{RxLedger}
 use Rattle.ring_model.specs.shared.Frames.{Bytes}
 use Rattle.shared_ring.specs.Meeting as shared
-pub use Rattle.shared_ring.specs.Meeting.{is_unanswered, served_now as stored_now, Met, IsReal, AllReal}
+pub use Rattle.shared_ring.specs.Meeting.{is_unanswered, served_now as stored_now, Met, IsReal, AllReal, numbers_at}
 use Rattle.rx_ring.specs.Ends.{DriverSide, driver_size, posted, taken, returned, ControllerSide}
 use Rattle.rx_ring.specs.Form.{AreOf}
 

@@ -5,7 +5,7 @@ use Rattle.ring_model.specs.declared.states.Owner.TheVariants.{Ring}
 use Rattle.ring_model.specs.shared.Frames.{Bytes}
 use Rattle.ring_model.specs.transmit.Ring.{TxLedger, number_of_posting}
 use Rattle.shared_ring.specs.Meeting as shared
-pub use Rattle.shared_ring.specs.Meeting.{MadeSeats, is_unanswered, served_now as sent_now, Met, IsTold, IsReal, AllReal}
+pub use Rattle.shared_ring.specs.Meeting.{MadeSeats, is_unanswered, served_now as sent_now, Met, IsTold, IsReal, AllReal, numbers_at}
 use Rattle.tx_ring.specs.Ends.{DriverSide, driver_size, posted, returned, cleaned, known_of, ControllerSide}
 use Rattle.tx_ring.specs.Form.{AreOf}
 use Rattle.tx_ring.specs.Records.{Posting}

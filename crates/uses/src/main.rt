@@ -1,6 +1,7 @@
 //! The program `uses`: the README's examples of library use. The gate proves it and runs it.
 #![tactic(auto)]
 
+mod closing;
 mod forwarder;
 mod lent;
 mod moves;
@@ -9,6 +10,7 @@ mod queue_pair;
 mod worker;
 
 use anyhow::Result;
+use closing::closed;
 use moves::told;
 use one_frame::passed;
 use pool::Pool;
@@ -25,6 +27,8 @@ fn main(rt: HostRuntime) -> Result<()> {
     let (pool, mut pass) = Pool::new(&rt, rt.alloc(), 64)?;
     let given = work(&rt, &pool, &mut pass, &frame, 4);
     println!(rt; "gave {given} buffers back")?;
+    let stock = closed(rt.alloc())?;
+    println!(rt; "{} buffers are in the stock again", stock.len())?;
     let count = forwarded(rt.alloc(), &frame)?;
     println!(rt; "forwarded {count} frames")?;
     print!(rt; "{}", told(rt.alloc(), MOVES.as_slice())?)?;

@@ -1,0 +1,39 @@
+//! A ring that is closed with buffers in it, each of which goes back to its stock.
+ghost use Rattle.std.specs.Prelude.{◌≡◌, [], None, IfOk};
+ghost use Rattle.buffer_pool.specs.Stocked.{Shares};
+ghost use Rattle.rx_ring.specs.Ends.{held};
+ghost use Rattle.rx_ring.specs.Meeting.{out_of};
+
+use anyhow::Result;
+use buffer_pool::Stock;
+use rx_ring::{RxControllerEnd, RxDriverEnd, RxRing, close};
+use std::alloc::Global;
+
+/// Posts a buffer of a stock of 16 into a ring of 8, closes the ring, and answers the stock, which has all of its
+/// buffers again.
+pub fn closed(alloc: Global) -> Result<Stock>
+    ensures { IfOk result (λ stock. Shares stock []) }
+{
+    let (ring, mut driver, controller) = RxRing::new(alloc, 8)?;
+    let mut stock = Stock::new(alloc, 0, 16)?;
+    if let Some(buf) = stock.take() {
+        driver.post(&ring, buf);
+        give_back(ring, driver, controller, &mut stock);
+    }
+    Ok(stock)
+}
+
+/// Closes a ring whose controller holds no buffer, and gives each buffer that is out back to the stock.
+fn give_back(ring: RxRing, driver: RxDriverEnd, controller: RxControllerEnd, stock: &mut Stock)
+    requires driver { driver.table ≡ ring }
+    requires controller { controller.table ≡ ring }
+    requires free { held controller ≡ None }
+    requires shared { Shares stock.old (out_of driver) }
+    ensures { Shares stock.new [] }
+{
+    for slot in close(ring, driver, controller) {
+        if let Some(buf) = slot {
+            stock.give(buf); // it is out of the stock, and no blank
+        }
+    }
+}
