@@ -1,5 +1,5 @@
 -- What the numbers of each kind of cell owe one another.
-use Rattle.std.specs.Prelude.{◌≡◌, ℕ, ◌+◌, ◌*◌, ◌≤◌}
+use Rattle.std.specs.Prelude.{◌≡◌, ◌+◌, ◌*◌, ◌≤◌}
 use Rattle.limits.specs.declared.profile.TheConstants.{LEAST_FRAME, MOST_FRAME}
 use Rattle.counters.specs.declared.kinds.Offered.{Offered}
 use Rattle.counters.specs.declared.kinds.Driven.{Driven}
