@@ -1,6 +1,7 @@
 //! The program `uses`: the README's examples of library use. The gate proves it and runs it.
 #![tactic(auto)]
 
+mod device;
 mod forwarder;
 mod moves;
 mod one_frame;
@@ -8,6 +9,7 @@ mod queue_pair;
 mod worker;
 
 use anyhow::Result;
+use device::served;
 use moves::told;
 use one_frame::passed;
 use pool::Pool;
@@ -26,6 +28,8 @@ fn main(rt: HostRuntime) -> Result<()> {
     println!(rt; "gave {given} buffers back")?;
     let count = forwarded(rt.alloc(), &frame)?;
     println!(rt; "forwarded {count} frames")?;
+    let (stored, sent) = served(rt.alloc(), &frame)?;
+    println!(rt; "stored {stored} frame of 2, sent {sent}")?;
     print!(rt; "{}", told(rt.alloc(), MOVES.as_slice())?)?;
     Ok(())
 }
