@@ -192,6 +192,11 @@ impl Transmit {
         self.wire.len()
     }
 
+    /// How many frames and how many bytes the wire has memory for.
+    pub(crate) fn capacity(&self) -> (usize, usize) {
+        self.wire.capacity()
+    }
+
     /// Whether so many frames are on the wire, in order, each as long as `len_of` says and from the place of its number on.
     pub(crate) fn are_sent(&self, count: usize) -> bool {
         let mut k = 0_usize;

@@ -115,6 +115,36 @@ fn a_wire_grows(rt: HostRuntime) -> Result<(), Fail> {
     Ok(())
 }
 
+/// Sends 100,000 frames of 60 bytes, each by the first call, and answers how often the list of frames took memory, and how
+/// often the block of their bytes did. Nothing where a frame was not sent.
+fn growths(transmit: &mut Transmit) -> Option<(u32, u32)> {
+    let (mut entries, mut bytes) = (0_u32, 0_u32);
+    let cleaned = [(Step::HasReport, Told::Yes), (Step::Clean, Told::Count(1))];
+    for k in 0..100_000 {
+        let before = transmit.capacity();
+        let posted = transmit.post(60, k % 20_000, 2_048, true);
+        if !posted || transmit.turn() != Ok(Turn::Sent) || !all_told_so(transmit, &cleaned) {
+            return None;
+        }
+        let after = transmit.capacity();
+        entries = entries.saturating_add(u32::from(after.0 != before.0));
+        bytes = bytes.saturating_add(u32::from(after.1 != before.1));
+    }
+    Some((entries, bytes))
+}
+
+#[test]
+fn a_long_wire_grows_seldom(rt: HostRuntime) -> Result<(), Fail> {
+    let mut transmit = Transmit::new(rt.alloc(), 8, Completion::Status)?;
+    assert!(rt; all_told_so(&mut transmit, &[(Step::Enable, Told::Yes)]));
+    let Some((entries, bytes)) = growths(&mut transmit) else {
+        return Err(Fail::new("a frame was not sent"));
+    };
+    assert!(rt; entries <= 60 && bytes <= 60, "{entries} and {bytes}");
+    assert!(rt; transmit.sent() == 100_000);
+    Ok(())
+}
+
 /// Whether a frame of so many bytes, in segments of so many bytes and a last one, so many in all, goes onto the wire as one.
 fn is_joined(
     alloc: Global,

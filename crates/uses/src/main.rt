@@ -2,6 +2,7 @@
 #![tactic(auto)]
 
 mod closing;
+mod device;
 mod forwarder;
 mod lent;
 mod moves;
@@ -11,6 +12,7 @@ mod worker;
 
 use anyhow::Result;
 use closing::closed;
+use device::served;
 use moves::told;
 use one_frame::passed;
 use pool::Pool;
@@ -31,6 +33,8 @@ fn main(rt: HostRuntime) -> Result<()> {
     println!(rt; "{} buffers are in the stock again", stock.len())?;
     let count = forwarded(rt.alloc(), &frame)?;
     println!(rt; "forwarded {count} frames")?;
+    let (stored, sent) = served(rt.alloc(), &frame)?;
+    println!(rt; "stored {stored} frame of 2, sent {sent}")?;
     print!(rt; "{}", told(rt.alloc(), MOVES.as_slice())?)?;
     Ok(())
 }

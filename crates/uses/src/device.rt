@@ -1,0 +1,151 @@
+//! A device on one thread: the controllers of a receive queue and of a transmit queue, served by turns.
+ghost use Rattle.std.specs.Prelude.{◌≡◌};
+ghost use Rattle.ring_model.specs.shared.Frames.{frames};
+ghost use Rattle.ring_model.specs.shared.Segments.{piece_of};
+ghost use Rattle.ring_model.specs.transmit.Ring.{carried};
+ghost use Rattle.rx_ring.specs.Ends.{stored};
+ghost use Rattle.tx_ring.specs.Ends.{sent};
+
+use anyhow::Result;
+use buffer_pool::Stock;
+use controller::{CtlError, Offer, RxController, TxController, Wire};
+use limits::BUFFER_BYTES;
+use rx_ring::{DriverEnd, RxRing};
+use std::alloc::Global;
+use tx_ring::TxRing;
+
+/// A frame that comes in.
+pub type Frame = [u8; 60];
+
+/// A receive queue's controller, and the frames that it stored in this epoch: those that were answered `Stored`.
+#[derive(Drop)]
+pub struct Incoming {
+    controller: RxController,
+    pub listed: Vec<Frame>,
+    ghost kept: { frames piece_of (stored controller.end) ≡ listed.items },
+}
+
+impl Incoming {
+    /// Answers what the driver asks. With an answered enabling an epoch begins, in which nothing is stored yet.
+    fn answer(&mut self, ring: &RxRing)
+        requires own { self.old.controller.end.table ≡ ring.now }
+        ensures own { self.new.controller.end.table ≡ ring.now }
+    {
+        let served = self.controller.is_serving();
+        self.controller.turn_control(ring); // RXDCTL.ENABLE
+        if !served && self.controller.is_serving() {
+            self.listed.clear();
+        }
+    }
+
+    /// Offers a frame that came in, and answers whether it is to be offered again.
+    fn offer(&mut self, ring: &RxRing, frame: &Frame) -> Result<bool, CtlError>
+        requires own { self.old.controller.end.table ≡ ring.now }
+        ensures own { self.new.controller.end.table ≡ ring.now }
+    {
+        self.listed.reserve(1)?; // so that a frame that is stored is listed too
+        let offer = self.controller.offer(ring, frame)?;
+        if offer == Offer::Stored {
+            self.listed.push_reserved(*frame);
+        }
+        Ok(offer == Offer::Held || offer == Offer::Off)
+    }
+}
+
+/// A transmit queue's controller, and the frames that it sent in this epoch.
+#[derive(Drop)]
+pub struct Outgoing {
+    controller: TxController,
+    pub wire: Wire,
+    alloc: Global,
+    ghost kept: { wire ≡ frames carried (sent controller) },
+}
+
+impl Outgoing {
+    /// Answers what the driver asks. With an answered enabling an epoch begins, in which nothing is sent yet.
+    fn answer(&mut self, ring: &TxRing)
+        requires own { self.old.controller.table ≡ ring.now }
+        ensures own { self.new.controller.table ≡ ring.now }
+    {
+        let served = self.controller.is_serving();
+        self.controller.turn_control(ring); // TXDCTL.ENABLE
+        if !served && self.controller.is_serving() {
+            self.wire = Wire::new(self.alloc);
+        }
+    }
+
+    /// Sends a frame, if one is ready.
+    fn send(&mut self, ring: &TxRing) -> Result<(), CtlError>
+        requires own { self.old.controller.table ≡ ring.now }
+        ensures own { self.new.controller.table ≡ ring.now }
+    {
+        self.controller.turn(ring, &mut self.wire)?;
+        Ok(())
+    }
+}
+
+/// Serves both queues by turns, and answers how many of these frames were offered and are not to be offered again. What
+/// the receive queue has of this epoch are the frames that were answered `Stored`, and the wire what the transmit queue
+/// sent in it.
+pub fn serve(
+    from: &RxRing,
+    incoming: &mut Incoming,
+    to: &TxRing,
+    outgoing: &mut Outgoing,
+    arrivals: &[Frame],
+    turns: u32,
+) -> Result<usize, CtlError>
+    requires receives { incoming.old.controller.end.table ≡ from.now }
+    requires sends { outgoing.old.controller.table ≡ to.now }
+    ensures receives { incoming.new.controller.end.table ≡ from.now }
+    ensures sends { outgoing.new.controller.table ≡ to.now }
+    ensures stored { frames piece_of (stored incoming.new.controller.end) ≡ incoming.new.listed.items }
+    ensures wire { outgoing.new.wire ≡ frames carried (sent outgoing.new.controller) }
+{
+    let mut next = 0;
+    for _ in 0..turns {
+        incoming.answer(from);
+        outgoing.answer(to);
+        if next < arrivals.len() && !incoming.offer(from, &arrivals[next])? {
+            next += 1;
+        }
+        outgoing.send(to)?;
+    }
+    Ok(next)
+}
+
+/// Has two frames come in where one buffer is posted, and one frame go out: how many were stored, and how many went out.
+pub fn served(alloc: Global, frame: &Frame) -> Result<(usize, usize)> {
+    let (from, mut receiving, storing) = RxRing::new(alloc, 8)?;
+    let (to, mut sending, transmitting) = TxRing::new(alloc, 8)?;
+    let mut incoming = Incoming {
+        controller: RxController::new(storing, BUFFER_BYTES, true),
+        listed: Vec::new(alloc),
+    };
+    let mut outgoing = Outgoing {
+        controller: TxController::new(transmitting),
+        wire: Wire::new(alloc),
+        alloc,
+    };
+    let mut stock = Stock::new(alloc, 0, 16)?;
+    if let Some(buf) = stock.take() {
+        receiving.post(&from, buf);
+        receiving.publish(&from);
+    }
+    if let Some(mut buf) = stock.take() {
+        buf.fill(frame);
+        sending.post(&to, buf, true, true, 60);
+        sending.publish(&to);
+    }
+    receiving.ask_enable(&from);
+    sending.ask_enable(&to);
+    serve(
+        &from,
+        &mut incoming,
+        &to,
+        &mut outgoing,
+        &[*frame, *frame],
+        2,
+    )?;
+    Ok((incoming.listed.len(), outgoing.wire.len()))
+}
