@@ -50,7 +50,7 @@ module _ (h : ℕ → ℕ) where
       sym (total-append h (numbers_of before) (of_segments segments))
       ∙ (ap (total h) (sym left ∙ (ap (map number) e ∙ right)) ∙ total-append h (numbers_in packets) (numbers_of after))
 
-  total-received : (old new : Receiver) (tx : Transmitter) (had has : List ℕ) (before after : List (List Buffer)) → GrewBy (hands old had before) (hands new has after)
+  pub total-received : (old new : Receiver) (tx : Transmitter) (had has : List ℕ) (before after : List (List Buffer)) → GrewBy (hands old had before) (hands new has after)
       → total h (lent old tx had before) ≡ total h (lent new tx has after)
   total-received old new tx had has before after g = omega (
     arith,
@@ -68,7 +68,7 @@ module _ (h : ℕ → ℕ) where
     total-packets h before g.packets,
   )
 
-  total-cleaned : (rx : Receiver) (old new : Transmitter) (had has : List ℕ) (packets : List (List Buffer)) → transmit.CleanedInto old.end had new.end has
+  pub total-cleaned : (rx : Receiver) (old new : Transmitter) (had has : List ℕ) (packets : List (List Buffer)) → transmit.CleanedInto old.end had new.end has
       → total h (lent rx old had packets) ≡ total h (lent rx new has packets)
   total-cleaned rx old new had has packets c = omega (
     arith,
@@ -81,7 +81,7 @@ module _ (h : ℕ → ℕ) where
     total-reverse h c.numbers,
   )
 
-  total-sent : (count : ℕ) (rx : Receiver) (old new : Transmitter) (had has : List ℕ) (before after : List (List Buffer)) → transmit.Batched count (sending old had before) (sending new has after)
+  pub total-sent : (count : ℕ) (rx : Receiver) (old new : Transmitter) (had has : List ℕ) (before after : List (List Buffer)) → transmit.Batched count (sending old had before) (sending new has after)
       → total h (lent rx old had before) ≡ total h (lent rx new has after)
   total-sent count rx old new had has before after b = omega (
     arith,

@@ -1,5 +1,5 @@
 -- Buffers of a disabled queue on their way to the pool.
-use Rattle.std.proofs.Common.{◌≡◌, ◌∙◌, ℕ, ◌+◌, ◌<◌, List, [], ◌∷◌, ◌++◌, length, map, drop, IsPermutation, refl, sym, ap, subst, arith, append_assoc, append-nil, length-append}
+use Rattle.std.proofs.Common.{◌≡◌, ◌∙◌, ℕ, ◌+◌, ◌<◌, List, [], ◌∷◌, ◌++◌, length, map, drop, reverse, IsPermutation, refl, sym, ap, subst, arith, append_assoc, append-nil, length-append}
 use Rattle.std.proofs.lemmas.List.{drop_all}
 use Rattle.std.proofs.lemmas.List.Sorted.{IsPermutation-append_left, IsPermutation-trans, length_permutation}
 use Rattle.buffer_pool.specs.Buffer.{Buffer}
@@ -16,9 +16,23 @@ use Rattle.driver.specs.transmit.Transmitter.{Transmitter}
 use Rattle.pool.specs.Hands.{HoldsAll, total}
 use Rattle.pool.proofs.Totals.{total-append}
 use Rattle.pool.proofs.Accounts.{same-members}
-use Rattle.lending.proofs.Weights.{total-packets}
-use Rattle.lending.specs.Lent.{with_receiver, with_transmitter, Exchanged, GivenBack}
+use Rattle.pool.specs.declared.hand.Hand.{Hand}
+use Rattle.pool.specs.Bulk.{Refilled}
+use Rattle.lending.proofs.Weights.{total-packets, total-lent}
+use Rattle.pool.proofs.Moving.{total-shuffled}
+use Rattle.lending.specs.Lent.{with_receiver, with_transmitter, lent, Exchanged, GivenBack, SameNumbers}
 use Rattle.lending.proofs.Returns.{reclaiming-moves}
+
+-- the same numbers are a permutation, and the other way round
+pub weighed : (xs ys : List ℕ) → IsPermutation xs ys → SameNumbers xs ys
+weighed xs ys p = λ h. sym (total-shuffled h xs ys p)
+
+pub shuffled : (xs ys : List ℕ) → SameNumbers xs ys → IsPermutation xs ys
+shuffled = same-members
+
+-- what is given or exchanged is among what is held
+pub holds-all : (held before rest : List ℕ) → SameNumbers held (before ++ rest) → HoldsAll held before
+holds-all held before rest e = (rest, shuffled held (before ++ rest) e)
 
 -- where something is held beside the first numbers, it is beside those that they were exchanged for
 pub holds-on : (held before new after : List ℕ) → Exchanged held before new after → HoldsAll held before → HoldsAll new after
@@ -83,3 +97,19 @@ last-packet ps qs p e = same-members (numbers_in ps) (numbers_of p ++ numbers_in
   total-append h (numbers_of p) [],
   total-append h (numbers_of p) (numbers_in qs),
 ))
+
+-- ---- a worker's turn
+
+module _ (rx : Receiver) (tx : Transmitter) (stash : List ℕ) (packets : List (List Buffer)) where
+  -- a refill
+  pub lent-refilled : (v w : Hand) (moved : ℕ) (has : List ℕ) → SameNumbers v.held (lent rx tx stash packets) → Refilled v stash moved w has → SameNumbers w.held (lent rx tx has packets)
+  lent-refilled v w moved has e r = λ h. omega (
+    arith,
+    e h,
+    total-lent h rx tx stash packets,
+    total-lent h rx tx has packets,
+    ap (total h) r.stashed,
+    total-append h (reverse r.numbers) stash,
+    ap (total h) r.took.held,
+    total-append h (reverse r.numbers) v.held,
+  )

@@ -1,4 +1,4 @@
 mod Weights
-mod Batches
-mod Returns
+pub mod Batches
+pub mod Returns
 pub mod Giving

@@ -1,5 +1,6 @@
 -- Which buffers a worker has: at hand, in its rings, in a frame that has not ended, and in the packets that wait.
 use Rattle.std.specs.Prelude.{◌≡◌, ℕ, List, [], ◌++◌, IsPermutation}
+use Rattle.pool.specs.Hands.{total}
 use Rattle.buffer_pool.specs.Buffer.{Buffer}
 use Rattle.ring_model.specs.transmit.Ring.{number_of_posting}
 use Rattle.driver.specs.Reclaiming.{out_of}
@@ -27,3 +28,7 @@ Exchanged held before new after = (rest : List ℕ) → IsPermutation held (befo
 -- these were given back, and nothing else
 abbrev pub GivenBack : List ℕ → List ℕ → List ℕ → Type 0
 GivenBack held numbers new = (rest : List ℕ) → IsPermutation held (numbers ++ rest) → IsPermutation new rest
+
+-- The same numbers, each as often, said by weights, as the pool's rule says it: however they are weighed, both weigh the same
+abbrev pub SameNumbers : List ℕ → List ℕ → Type 0
+SameNumbers xs ys = (h : ℕ → ℕ) → total h xs ≡ total h ys

@@ -1,18 +1,24 @@
 //! A worker that forwards with buffers of a pool: they go round in both of its rings, and all of them come back.
-ghost use Rattle.std.specs.Prelude.{◌≡◌, true, [], All, IsPermutation};
+ghost use Rattle.std.specs.Prelude.{◌≡◌, true, [], All};
 ghost use Rattle.buffer_pool.specs.Packed.{IsPacket};
 ghost use Rattle.ring_model.specs.shared.Handshakes.{is_stopped};
 ghost use Rattle.rx_ring.specs.Ends as receive;
 ghost use Rattle.tx_ring.specs.Ends as transmit;
 ghost use Rattle.pool.specs.Owned.{IsOf};
-ghost use Rattle.lending.specs.Lent.{lent};
+ghost use Rattle.lending.specs.Lent.{lent, SameNumbers};
+ghost use Rattle.driver.specs.receive.Receiver.{Receiver};
+ghost use Rattle.driver.specs.transmit.Transmitter.{Transmitter};
 
+use anyhow::Result as Answer;
 use arrayvec::ArrayVec;
 use buffer_pool::{Packet, Stash};
+use controller::{RxController, TxController, Wire};
 use driver::{DriverError, MOST_BATCH, RxDriver, TxDriver};
 use lending::{give_packets, give_received, give_sent};
+use limits::BUFFER_BYTES;
 use pool::{Pool, PoolPass};
 use rx_ring::RxRing;
+use std::alloc::Global;
 use std::sync::Wait;
 use tx_ring::TxRing;
 
@@ -35,7 +41,7 @@ pub struct Worker<'a> {
     ghost receives: { rx.end.table ≡ from.now },
     ghost sends: { tx.end.table ≡ to.now },
     ghost whole: { All IsPacket packets.items },
-    ghost lent: { IsPermutation pass.hand.held (lent rx tx stash packets.items) },
+    ghost lent: { SameNumbers pass.hand.held (lent rx tx stash packets.items) },
 }
 
 impl<'a> Worker<'a> {
@@ -51,7 +57,7 @@ impl<'a> Worker<'a> {
         requires shares { IsOf pool.now pass }
         requires receives { rx.end.table ≡ from.now }
         requires sends { tx.end.table ≡ to.now }
-        requires none { IsPermutation pass.hand.held (lent rx tx [] []) }
+        requires lent { SameNumbers pass.hand.held (lent rx tx [] []) }
     {
         Worker {
             pool,
@@ -69,17 +75,52 @@ impl<'a> Worker<'a> {
     pub fn turn<R: Wait>(&mut self, rt: &R) -> Result<usize, DriverError> {
         self.pool
             .refill(rt, &mut self.pass, &mut self.stash, REFILL);
-        self.rx
-            .rx_batch(self.from, &mut self.stash, &mut self.packets)?;
-        self.tx
-            .tx_batch(self.to, &mut self.stash, &mut self.packets)
+        receive(
+            &mut self.rx,
+            self.from,
+            &mut self.stash,
+            &mut self.packets,
+        )?;
+        send(
+            &mut self.tx,
+            self.to,
+            &mut self.stash,
+            &mut self.packets,
+        )
+    }
+
+    /// Asks for the receive queue to be enabled; called again, sees that it is.
+    pub fn enable_receive(&mut self) -> Result<bool, DriverError> {
+        self.rx.enable(self.from)
+    }
+
+    /// The same for the transmit queue.
+    pub fn enable_send(&mut self) -> Result<bool, DriverError> {
+        self.tx.enable(self.to)
+    }
+
+    /// Asks for both queues to be disabled, where they are enabled; called again, sees that they are. It answers whether
+    /// both were seen disabled.
+    pub fn disable(&mut self) -> bool
+        ensures received { result ≡ true → is_stopped (receive.driver_state self.new.rx.end) ≡ true }
+        ensures sent { result ≡ true → is_stopped (transmit.driver_state self.new.tx.end) ≡ true }
+    {
+        if self.rx.is_on() {
+            let _ = self.rx.ask_disable(self.from);
+        }
+        if self.tx.is_on() {
+            let _ = self.tx.ask_disable(self.to);
+        }
+        self.rx.finish_disable(self.from);
+        self.tx.finish_disable(self.to);
+        self.rx.is_stopped() && self.tx.is_stopped()
     }
 
     /// Both queues were seen disabled: all buffers go back to the pool, and the pass holds none.
-    pub fn give_back<R: Wait>(mut self, rt: &R) -> PoolPass
+    pub fn give_back<R: Wait>(self, rt: &R) -> PoolPass
         requires received { is_stopped (receive.driver_state self.rx.end) ≡ true }
         requires sent { is_stopped (transmit.driver_state self.tx.end) ≡ true }
-        ensures pool { IsOf self.pool.now result }
+        ensures pool { IsOf self.entry.pool.now result }
         ensures none { result.hand.held ≡ [] }
     {
         let Worker {
@@ -97,4 +138,84 @@ impl<'a> Worker<'a> {
         give_packets(rt, pool, &mut pass, &mut packets);
         pass
     }
+}
+
+/// A batch is received. No buffer comes in or goes out by it.
+fn receive(
+    rx: &mut RxDriver,
+    from: &RxRing,
+    stash: &mut Stash,
+    packets: &mut ArrayVec<Packet, MOST_BATCH>,
+) -> Result<usize, DriverError>
+    requires own { rx.old.end.table ≡ from.now }
+    requires whole { All IsPacket packets.old.items }
+    ensures own { rx.new.end.table ≡ from.now }
+    ensures whole { All IsPacket packets.new.items }
+    ensures moved { (tx : Transmitter) → SameNumbers (lent rx.old tx stash.old packets.old.items) (lent rx.new tx stash.new packets.new.items) }
+{
+    rx.rx_batch(from, stash, packets)
+}
+
+/// What waits is sent on. No buffer comes in or goes out by it.
+fn send(
+    tx: &mut TxDriver,
+    to: &TxRing,
+    stash: &mut Stash,
+    packets: &mut ArrayVec<Packet, MOST_BATCH>,
+) -> Result<usize, DriverError>
+    requires own { tx.old.end.table ≡ to.now }
+    requires whole { All IsPacket packets.old.items }
+    ensures own { tx.new.end.table ≡ to.now }
+    ensures whole { All IsPacket packets.new.items }
+    ensures moved { (rx : Receiver) → SameNumbers (lent rx tx.old stash.old packets.old.items) (lent rx tx.new stash.new packets.new.items) }
+{
+    tx.tx_batch(to, stash, packets)
+}
+
+/// Has a frame come in ten times to a worker with buffers of the pool, and answers how many frames went out. The worker's
+/// pass has no buffer before and after.
+pub fn lent_and_returned<R: Wait>(
+    rt: &R,
+    alloc: Global,
+    pool: &Pool,
+    pass: PoolPass,
+    frame: &[u8],
+) -> Answer<usize>
+    requires shares { IsOf pool.now pass }
+    requires none { pass.hand.held ≡ [] }
+{
+    let (from, receiving, storing) = RxRing::new(alloc, 8)?;
+    let (to, sending, transmitting) = TxRing::new(alloc, 8)?;
+    let mut port_in = RxController::new(storing, BUFFER_BYTES, false);
+    let mut port_out = TxController::new(transmitting);
+    let mut wire = Wire::new(alloc);
+    let mut worker = Worker::new(
+        pool,
+        pass,
+        &from,
+        RxDriver::new(receiving, 32),
+        &to,
+        TxDriver::new(sending, 32),
+    );
+    for _ in 0..2 {
+        worker.enable_receive()?; // asked, and then seen
+        worker.enable_send()?;
+        port_in.turn_control(&from);
+        port_out.turn_control(&to);
+    }
+    for _ in 0..11 {
+        worker.turn(rt)?;
+        port_in.offer(&from, frame)?;
+        port_out.turn(&to, &mut wire)?;
+    }
+    for _ in 0..2 {
+        if worker.disable() {
+            let pass = worker.give_back(rt); // it holds no buffer
+            pass.accounts();
+            return Ok(wire.len());
+        }
+        port_in.turn_control(&from);
+        port_out.turn_control(&to);
+    }
+    Ok(wire.len())
 }

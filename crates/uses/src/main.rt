@@ -13,6 +13,7 @@ mod worker;
 use anyhow::Result;
 use closing::closed;
 use device::served;
+use lent::lent_and_returned;
 use moves::told;
 use one_frame::passed;
 use pool::Pool;
@@ -33,6 +34,9 @@ fn main(rt: HostRuntime) -> Result<()> {
     println!(rt; "{} buffers are in the stock again", stock.len())?;
     let count = forwarded(rt.alloc(), &frame)?;
     println!(rt; "forwarded {count} frames")?;
+    let (pool, pass) = Pool::new(&rt, rt.alloc(), 64)?;
+    let count = lent_and_returned(&rt, rt.alloc(), &pool, pass, &frame)?;
+    println!(rt; "forwarded {count} frames in buffers of a pool")?;
     let (stored, sent) = served(rt.alloc(), &frame)?;
     println!(rt; "stored {stored} frame of 2, sent {sent}")?;
     print!(rt; "{}", told(rt.alloc(), MOVES.as_slice())?)?;
