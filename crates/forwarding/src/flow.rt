@@ -1,0 +1,38 @@
+//! One side of a flow, as a worker serves it.
+ghost use Rattle.std.specs.Prelude.{◌≡◌, IfErr};
+
+use crate::error::ForwardError;
+use crate::gate::Gate;
+use std::sync::Wait;
+
+/// What a turn came to.
+#[derive(Clone, Copy, Debug, PartialEq, Eq)]
+pub enum Progress {
+    /// Something was done.
+    Worked,
+    /// There was nothing to do.
+    Idle,
+    /// The flow is over: nothing is left to do.
+    Over,
+}
+
+/// One side of a flow: a driver's or a controller's. A worker gives it one turn after another until it is over.
+pub trait Flow: Drop + Send {
+    ghost use Rattle.std.specs.Prelude.{◌≡◌, IfErr};
+    ghost use Rattle.forwarding.specs.declared.error.ForwardError.TheVariants.{Gate as GateRefused};
+    ghost use Rattle.forwarding.specs.Gates.{CanRefuse};
+
+    /// What a flow is of.
+    ghost Key: { Type 0 };
+
+    /// It stays so, whatever the flow does.
+    ghost key: { Self → Key };
+
+    /// One turn. Where it is refused, the flow is as the calls before left it, and can be asked again.
+    fn turn<R: Wait, G: Gate>(&mut self, rt: &R, gate: &G) -> Result<Progress, ForwardError>
+        ensures key { key self.new ≡ key self.old }
+        ensures refused { IfErr result (λ e. e ≡ GateRefused → CanRefuse G.answers gate.now) };
+
+    /// Whether nothing is left to do. A flow that is over need not be asked again.
+    fn is_over(&self) -> bool;
+}
