@@ -1,6 +1,4 @@
 //! One side of a flow, as a worker serves it.
-ghost use Rattle.std.specs.Prelude.{◌≡◌, IfErr};
-
 use crate::error::ForwardError;
 use crate::gate::Gate;
 use std::sync::Wait;
@@ -18,8 +16,9 @@ pub enum Progress {
 
 /// One side of a flow: a driver's or a controller's. A worker gives it one turn after another until it is over.
 pub trait Flow: Drop + Send {
-    ghost use Rattle.std.specs.Prelude.{◌≡◌, IfErr};
+    ghost use Rattle.std.specs.Prelude.{◌≡◌, Bool, true, IfOk, IfErr};
     ghost use Rattle.forwarding.specs.declared.error.ForwardError.TheVariants.{Gate as GateRefused};
+    ghost use Rattle.forwarding.specs.declared.flow.Progress.TheVariants as progress;
     ghost use Rattle.forwarding.specs.Gates.{CanRefuse};
 
     /// What a flow is of.
@@ -28,11 +27,16 @@ pub trait Flow: Drop + Send {
     /// It stays so, whatever the flow does.
     ghost key: { Self → Key };
 
+    /// Whether nothing is left to do.
+    ghost over: { Self → Bool };
+
     /// One turn. Where it is refused, the flow is as the calls before left it, and can be asked again.
     fn turn<R: Wait, G: Gate>(&mut self, rt: &R, gate: &G) -> Result<Progress, ForwardError>
         ensures key { key self.new ≡ key self.old }
+        ensures ended { IfOk result (λ p. p ≡ progress.Over → over self.new ≡ true) }
         ensures refused { IfErr result (λ e. e ≡ GateRefused → CanRefuse G.answers gate.now) };
 
     /// Whether nothing is left to do. A flow that is over need not be asked again.
-    fn is_over(&self) -> bool;
+    fn is_over(&self) -> bool
+        ensures { result ≡ over self.now };
 }
