@@ -123,7 +123,7 @@ ends_frame_with b f old now last new rest pos some whole i h st head e =
         each = chained-snoc StoredSegment old i.segments now s last i.each st.stored;
         head = head;
         pieces = pieces;
-        grew = after;
+        grew = e ∙ ap (λ (x : RxControlled). record x { head = serve_place last }) grew;
         frames_are = ap (frames piece_of) after ∙ done.0;
       },
       record {

@@ -1,7 +1,8 @@
 -- A frame as it is sent, segment by segment, over the record of the controller's end and the arena of the wire.
-use Rattle.std.proofs.Common.{◌≡◌, ◌%◌, ◌<◌, ◌≤◌, Bool, true, false, List, [], ◌∷◌, ◌++◌, length, None, sym, refl, ap, ◌∙◌, arith, if◌then◌else◌, append_assoc, append-nil, length-append}
+use Rattle.std.proofs.Common.{◌≡◌, ℕ, ◌%◌, ◌<◌, ◌≤◌, Bool, true, false, List, [], ◌∷◌, ◌++◌, length, Option, None, sym, refl, ap, ◌∙◌, arith, if◌then◌else◌, append_assoc, append-nil, length-append}
 use Rattle.std.proofs.lemmas.Bool.{false≢true}
 use Rattle.atomic_table.specs.Seated.{TableId}
+use Rattle.buffer_pool.specs.Buffer.{Buffer}
 use Rattle.limits.specs.declared.profile.TheConstants.{MOST_FRAME}
 use Rattle.ring_model.specs.shared.Frames.{Bytes, ends_frame, frames, unfinished, join}
 use Rattle.ring_model.specs.shared.Handshakes.{is_serving}
@@ -20,7 +21,7 @@ use Rattle.controller.proofs.Stepping.{chained-nil, chained-snoc}
 pub record IsSending (old : ControllerSide) (arena : Laid) (now : ControllerSide) (arena' : Laid) : Type 0 where
   pub postings : List Posting
   pub each : Chained SentSegment old postings now
-  pub grew : sent now ≡ sent old ++ postings
+  pub grew : controller_record now ≡ record (controller_record old) { served = sent old ++ postings; held = None; head = head_stored now; barred = false }
   pub begun : unfinished carried (sent now) ≡ postings
   pub frames_same : frames carried (sent now) ≡ frames carried (sent old)
   pub can : CanSend now arena'
@@ -33,7 +34,9 @@ pub starts : (old : ControllerSide) (arena : Laid) → held old ≡ None → is_
 starts old arena unheld paid whole serving ready begun room = record {
   postings = [];
   each = chained-nil SentSegment old;
-  grew = sym (append-nil (sent old));
+  grew = ap (λ (h : Option Buffer). record (controller_record old) { held = h }) unheld
+      ∙ (ap (λ (b : Bool). record (controller_record old) { held = None; barred = b }) paid
+      ∙ ap (λ (l : List Posting). record (controller_record old) { served = l; held = None; barred = false }) (sym (append-nil (sent old))));
   begun = whole;
   frames_same = refl;
   can = record {
@@ -67,6 +70,15 @@ no_report false eop asks goes = refl
 own_table : (old new : ControllerSide) (p : Posting) → SentSegment old p new → new.table ≡ old.table
 own_table old new p st = ap (λ (c : ControllerSide). c.table) st.step
 
+-- the record after one more posting, which asks for a report or not
+grown : (old now new : ControllerSide) (postings : List Posting) (p : Posting) (owed : Bool)
+    → controller_record now ≡ record (controller_record old) { served = sent old ++ postings; held = None; head = head_stored now; barred = false }
+    → controller_record new ≡ record (controller_record now) { served = sent now ++ p ∷ []; held = None; head = head_stored new; barred = owed }
+    → controller_record new ≡ record (controller_record old) { served = sent old ++ (postings ++ p ∷ []); held = None; head = head_stored new; barred = owed }
+grown old now new postings p owed was e = e
+    ∙ (ap (λ (x : TxControlled). record x { served = x.served ++ p ∷ []; held = None; head = head_stored new; barred = owed }) was
+    ∙ ap (λ (l : List Posting). record (controller_record old) { served = l; held = None; head = head_stored new; barred = owed }) (append_assoc (sent old) postings (p ∷ [])))
+
 -- one more is sent, and the frame goes on
 pub sends_on : (old now new : ControllerSide) (arena arena' arena'' : Laid) → IsSending old arena now arena' → SentBytes now arena' false new arena'' → IsSending old arena new arena''
 sends_on old now new arena arena' arena'' i st =
@@ -79,16 +91,18 @@ sends_on old now new arena arena' arena'' i st =
     let count = ap length more ∙ length-append (sent now) (p ∷ []) in
     let known : (controller_record new).known ≡ (controller_record now).known = ap (λ (x : TxControlled). x.known) st.same in
     let ready = st.ready refl in
+    let none = no_report p.rs p.eop st.follows.asks_at_end st.ends_is in
     record {
       postings = i.postings ++ p ∷ [];
       each = chained-snoc SentSegment old i.postings now p new i.each st.sent_it;
-      grew = more ∙ (ap (λ (l : List Posting). l ++ p ∷ []) i.grew ∙ append_assoc (sent old) i.postings (p ∷ []));
+      grew = grown old now new i.postings p p.rs i.grew st.same
+          ∙ ap (λ (b : Bool). record (controller_record old) { served = sent old ++ (i.postings ++ p ∷ []); held = None; head = head_stored new; barred = b }) none;
       begun = begun ∙ ap (λ (l : List Posting). l ++ p ∷ []) i.begun;
       frames_same = ap (frames carried) more ∙ (frames_more (sent now) p false st.ends_is ∙ (append-nil (frames carried (sent now)) ∙ i.frames_same));
       can = record {
         serving = ap (λ (x : TxControlled). is_serving x.state) st.same ∙ i.can.serving;
         unheld = ap (λ (x : TxControlled). x.held) st.same;
-        paid = ap (λ (x : TxControlled). x.barred) st.same ∙ no_report p.rs p.eop st.follows.asks_at_end st.ends_is;
+        paid = ap (λ (x : TxControlled). x.barred) st.same ∙ none;
         ready = omega arith;
         begun = bytes;
         room = omega arith;
@@ -108,12 +122,11 @@ reported_own false c = refl
 
 -- the last is sent, its frame is one more on the wire, and the report is made where it is owed
 pub sends_last : (old now last new : ControllerSide) (arena arena' arena'' wire : Laid) → IsSending old arena now arena' → SentBytes now arena' true last arena''
-    → wire.frames ≡ arena''.frames ++ arena''.begun ∷ [] → wire.begun ≡ [] → new ≡ reported (is_owed last) last → sent new ≡ sent last → SentOn old arena new wire
+    → wire.frames ≡ arena''.frames ++ arena''.begun ∷ [] → wire.begun ≡ [] → new ≡ reported (is_owed last) last → controller_record new ≡ record (controller_record last) { barred = false } → SentOn old arena new wire
 sends_last old now last new arena arena' arena'' wire i st on_wire begun report same =
     let p = st.posting in
     let all = i.postings ++ p ∷ [] in
     let more : sent last ≡ sent now ++ p ∷ [] = ap (λ (x : TxControlled). x.served) st.same in
-    let grew : sent last ≡ sent old ++ all = more ∙ (ap (λ (l : List Posting). l ++ p ∷ []) i.grew ∙ append_assoc (sent old) i.postings (p ∷ [])) in
     let bytes : arena''.begun ≡ join carried all = st.begun ∙ (ap (λ (b : Bytes). b ++ p.payload) (i.can.begun ∙ ap (join carried) i.begun) ∙ sym (join_more i.postings p)) in
     let owed : is_owed last ≡ asks all = ap (λ (x : TxControlled). x.barred) st.same ∙ sym (asks-snoc false i.postings p) in
     record {
@@ -124,8 +137,9 @@ sends_last old now last new arena arena' arena'' wire i st on_wire begun report 
         each = chained-snoc SentSegment old i.postings now p last i.each st.sent_it;
         report = report ∙ ap (λ (b : Bool). reported b last) owed;
         bytes = bytes;
-        grew = same ∙ grew;
-        frames_are = ap (frames carried) (same ∙ more) ∙ (frames_more (sent now) p true st.ends_is
+        grew = same ∙ (ap (λ (x : TxControlled). record x { barred = false }) (grown old now last i.postings p p.rs i.grew st.same)
+            ∙ ap (λ (h : ℕ). record (controller_record old) { served = sent old ++ all; held = None; head = h; barred = false }) st.head);
+        frames_are = ap (frames carried) (ap (λ (x : TxControlled). x.served) same ∙ more) ∙ (frames_more (sent now) p true st.ends_is
             ∙ (ap (λ (l : List Bytes). l ++ join carried (unfinished carried (sent now) ++ p ∷ []) ∷ []) i.frames_same
             ∙ ap (λ (f : Bytes). frames carried (sent old) ++ f ∷ []) (ap (λ (l : List Posting). join carried (l ++ p ∷ [])) i.begun ∙ sym bytes)));
       };

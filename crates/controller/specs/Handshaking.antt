@@ -1,5 +1,5 @@
 -- How a controller of either direction answers what is asked.
-use Rattle.std.specs.Prelude.{◌≡◌, ◌⊎◌, Bool, true, false, not, []}
+use Rattle.std.specs.Prelude.{◌≡◌, ◌&&◌, Bool, true, false, not, []}
 use Rattle.ring_model.specs.declared.states.ControllerState.TheVariants.{Serving, Ended}
 use Rattle.ring_model.specs.shared.Handshakes.{is_serving}
 use Rattle.shared_ring.specs.declared.control.Control.{Control}
@@ -9,33 +9,38 @@ use Rattle.shared_ring.specs.Ends.{ControllerSide, controller_record, controller
 use Rattle.shared_ring.specs.Forms.{Form}
 use Rattle.shared_ring.specs.Words.{control_word}
 
--- whether there is something to answer: an enabling is asked of an end that doesn't serve, or a disabling of one that does
-abbrev pub is_due : Control → Bool → Bool
-is_due control.Disabled serving = false
-is_due control.EnableAsked serving = not serving
-is_due control.Enabled serving = false
-is_due control.DisableAsked serving = serving
-
 module _ {Ring Posted Served Given D C : Type 0} {form : Form Ring Posted Served Given D C} where
-  -- C2: the control word was loaded, and there is nothing to answer
-  pub record OnlyLoaded (old : ControllerSide form) (told : Control) (new : ControllerSide form) : Type 0 where
-    pub not_due : is_due told (is_serving (controller_state old)) ≡ false
-    pub step : new ≡ answered old (LoadedRequest (control_word told))
-    pub same : controller_record new ≡ record (controller_record old) { seen = control_word told }
+  -- C2: this request was loaded, and nothing is answered to it
+  pub record OnlyLoaded (asked : Control) (old : ControllerSide form) (told : Control) (new : ControllerSide form) : Type 0 where
+    pub told_is : told ≡ asked
+    pub step : new ≡ answered old (LoadedRequest (control_word asked))
+    pub same : controller_record new ≡ record (controller_record old) { seen = control_word asked }
 
   -- C2 and C3: an enabling was loaded and answered. A new epoch begins, in which nothing is served
   pub record WasEnabled (old : ControllerSide form) (told : Control) (new : ControllerSide form) : Type 0 where
-    pub idle : is_serving (controller_state old) ≡ false
     pub told_is : told ≡ control.Enabled
     pub step : new ≡ answered (answered old (LoadedRequest 1)) Enabled
     pub fresh : controller_record new ≡ record (controller_record old) { served = []; known = 0; head = 0; state = Serving; seen = 2; barred = false }
 
   -- C2 and C3: a disabling was loaded and answered. Nothing more is served in this epoch
   pub record WasDisabled (old : ControllerSide form) (told : Control) (new : ControllerSide form) : Type 0 where
-    pub serving : is_serving (controller_state old) ≡ true
     pub told_is : told ≡ control.Disabled
     pub step : new ≡ answered (answered old (LoadedRequest 3)) Disabled
     pub ended : controller_record new ≡ record (controller_record old) { state = Ended; seen = 0 }
 
-  abbrev pub TurnedControl : ControllerSide form → Control → ControllerSide form → Type 0
-  TurnedControl old told new = WasEnabled old told new ⊎ WasDisabled old told new ⊎ OnlyLoaded old told new
+  -- what becomes of a request that was loaded: an enabling is answered where the end doesn't serve, a disabling where it does, and nothing else is
+  abbrev pub WasTurned : Control → Bool → ControllerSide form → Control → ControllerSide form → Type 0
+  WasTurned control.EnableAsked false old told new = WasEnabled old told new
+  WasTurned control.EnableAsked true old told new = OnlyLoaded control.EnableAsked old told new
+  WasTurned control.DisableAsked true old told new = WasDisabled old told new
+  WasTurned control.DisableAsked false old told new = OnlyLoaded control.DisableAsked old told new
+  WasTurned control.Disabled serving old told new = OnlyLoaded control.Disabled old told new
+  WasTurned control.Enabled serving old told new = OnlyLoaded control.Enabled old told new
+
+  pub record TurnedControl (old : ControllerSide form) (told : Control) (new : ControllerSide form) : Type 0 where
+    pub asked : Control
+    pub turned : WasTurned asked (is_serving (controller_state old)) old told new
+
+  -- the end didn't serve, and now does: by an answered enabling alone
+  abbrev pub begins : ControllerSide form → ControllerSide form → Bool
+  begins old new = not (is_serving (controller_state old)) && is_serving (controller_state new)

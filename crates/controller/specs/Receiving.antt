@@ -72,7 +72,7 @@ pub record StoredFrame (b : ℕ) (f : Bytes) (old new : ControllerSide) : Type 0
   pub each : Chained StoredSegment old segments last
   pub head : new ≡ answered last (StoredHead (serve_place last))
   pub pieces : map piece_of segments ≡ cut b f
-  pub grew : stored new ≡ stored old ++ segments
+  pub grew : controller_record new ≡ record (controller_record old) { served = stored old ++ segments; held = None; head = serve_place last }
   pub frames_are : frames piece_of (stored new) ≡ frames piece_of (stored old) ++ f ∷ []
 
 -- What `offer` answers. No frame has so many bytes

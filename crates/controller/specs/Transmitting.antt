@@ -7,7 +7,7 @@ use Rattle.ring_model.specs.transmit.Ring.{carried}
 use Rattle.shared_ring.specs.declared.events.ControllerEvent.TheVariants.{Fetched, Own}
 use Rattle.tx_ring.specs.declared.events.TxControllerOwn.TheVariants.{Sent}
 use Rattle.tx_ring.specs.Records.{Posting, posting_of}
-use Rattle.tx_ring.specs.Ends.{ControllerSide, controller_size, controller_state, sent, held, is_owed, is_between, head_stored, serve_place, answered}
+use Rattle.tx_ring.specs.Ends.{ControllerSide, controller_size, controller_record, controller_state, sent, held, is_owed, is_between, head_stored, serve_place, answered}
 use Rattle.tx_ring.specs.Calls.{FoundReady, report_of}
 use Rattle.controller.specs.declared.error.CtlError.{CtlError}
 use Rattle.controller.specs.declared.error.CtlError.TheVariants.{FrameLength, Memory}
@@ -46,7 +46,7 @@ pub record SentFrame (old : ControllerSide) (f : Bytes) (new : ControllerSide) :
   pub each : Chained SentSegment old postings last
   pub report : new ≡ reported (asks postings) last
   pub bytes : f ≡ join carried postings
-  pub grew : sent new ≡ sent old ++ postings
+  pub grew : controller_record new ≡ record (controller_record old) { served = sent old ++ postings; held = None; head = serve_place last; barred = false }
   pub frames_are : frames carried (sent new) ≡ frames carried (sent old) ++ f ∷ []
 
 -- What `turn` answers. The end doesn't serve

@@ -1,10 +1,11 @@
 //! The device's side of a receive queue.
-ghost use Rattle.std.specs.Prelude.{◌≡◌, ◌↔◌, ◌++◌, false};
+ghost use Rattle.std.specs.Prelude.{◌≡◌, ◌↔◌, [], ◌++◌, false, if◌then◌else◌};
 ghost use Rattle.ring_model.specs.shared.Frames.{HasFrameLength, frames};
+ghost use Rattle.ring_model.specs.shared.Handshakes.{is_serving};
 ghost use Rattle.ring_model.specs.shared.Segments.{piece_of};
-ghost use Rattle.rx_ring.specs.Ends.{stored};
+ghost use Rattle.rx_ring.specs.Ends.{controller_state, stored, seen, is_quiet};
 ghost use Rattle.controller.specs.FillSize.{IsFillSize};
-ghost use Rattle.controller.specs.Handshaking.{TurnedControl};
+ghost use Rattle.controller.specs.Handshaking.{TurnedControl, begins};
 ghost use Rattle.controller.specs.Receiving.{IsIdle, Offered, Finished, frames_by, may_store};
 ghost use Rattle.controller.specs.Tallying.{AddsUp, nothing};
 
@@ -53,12 +54,31 @@ impl RxController {
         }
     }
 
+    /// Whether the controller answered the enabling of this epoch, and no disabling since.
+    #[inline]
+    pub fn is_serving(&self) -> bool
+        ensures { result ≡ is_serving (controller_state self.now.end) }
+    {
+        self.end.is_serving()
+    }
+
+    /// Whether the controller said that it stores no more in this epoch.
+    #[inline]
+    pub fn has_finished(&self) -> bool
+        ensures { result ≡ is_quiet self.now.end }
+    {
+        self.end.has_finished()
+    }
+
     /// Offers a frame that came in.
     pub fn offer(&mut self, ring: &RxRing, frame: &[u8]) -> Result<Offer, CtlError>
         requires own { self.old.end.table ≡ ring.now }
         ensures refused { (result ≡ Err CtlError.FrameLength) ↔ ¬ HasFrameLength frame.now }
         ensures decided { Offered self.old frame.now result self.new }
         ensures frames { frames piece_of (stored self.new.end) ≡ frames piece_of (stored self.old.end) ++ frames_by result frame.now }
+        ensures state { controller_state self.new.end ≡ controller_state self.old.end }
+        ensures seen { seen self.new.end ≡ seen self.old.end }
+        ensures quiet { is_quiet self.new.end ≡ is_quiet self.old.end }
         ensures over { may_store self.old.end ≡ false → self.new ≡ self.old }
         ensures own { self.new.end.table ≡ ring.now }
     {
@@ -80,6 +100,8 @@ impl RxController {
     pub fn turn_control(&mut self, ring: &RxRing) -> Control
         requires own { self.old.end.table ≡ ring.now }
         ensures turned { TurnedControl self.old.end result self.new.end }
+        ensures lists { stored self.new.end ≡ (if begins self.old.end self.new.end then [] else stored self.old.end) }
+        ensures quiet { is_quiet self.new.end ≡ (if begins self.old.end self.new.end then false else is_quiet self.old.end) }
         ensures same { self.new ≡ record self.old { end = self.new.end } }
         ensures own { self.new.end.table ≡ ring.now }
     {

@@ -2,7 +2,7 @@
 ghost use Rattle.std.specs.Prelude.{◌≡◌, ◌<◌, ◌≤◌, true, [], None};
 ghost use Rattle.limits.specs.declared.profile.TheConstants.{MOST_FRAME};
 ghost use Rattle.ring_model.specs.shared.Handshakes.{is_serving};
-ghost use Rattle.tx_ring.specs.Ends.{controller_state, known_ready, held, is_owed};
+ghost use Rattle.tx_ring.specs.Ends.{controller_state, known_ready, held, seen, is_owed};
 ghost use Rattle.controller.specs.Sending.{CanSend, SentBytes, SentOn};
 ghost use Rattle.controller.specs.Transmitting.{IsIdle};
 
@@ -20,6 +20,8 @@ pub(crate) fn send_frame(ring: &TxRing, end: &mut TxControllerEnd, arena: &mut A
     requires room { MOST_FRAME ≤ arena.old.room }
     requires entries { 0 < arena.old.entries }
     ensures sent { SentOn end.old arena.old end.new arena.new }
+    ensures state { controller_state end.new ≡ controller_state end.old }
+    ensures seen { seen end.new ≡ seen end.old }
     ensures idle { IsIdle end.new }
 {
     while !send_segment(ring, end, arena) {}

@@ -5,7 +5,7 @@ ghost use Rattle.limits.specs.declared.profile.TheConstants.{BUFFER_BYTES};
 ghost use Rattle.ring_model.specs.shared.Frames.{Follows, HasFrameLength, piece_count, unfinished};
 ghost use Rattle.ring_model.specs.shared.Handshakes.{is_serving};
 ghost use Rattle.ring_model.specs.shared.Segments.{piece_of};
-ghost use Rattle.rx_ring.specs.Ends.{controller_size, controller_state, stored, known_free, held, is_quiet};
+ghost use Rattle.rx_ring.specs.Ends.{controller_size, controller_state, stored, known_free, held, seen, is_quiet};
 ghost use Rattle.controller.specs.Receiving.{IsIdle, StoredFrame};
 ghost use Rattle.controller.specs.Storing.{Decided, StoredBytes};
 
@@ -27,6 +27,9 @@ pub(crate) fn decide(
     requires most { bsize ≤ BUFFER_BYTES }
     requires frame { HasFrameLength frame.now }
     ensures decided { Decided scarce end.old bsize frame.now result end.new }
+    ensures state { controller_state end.new ≡ controller_state end.old }
+    ensures seen { seen end.new ≡ seen end.old }
+    ensures quiet { is_quiet end.new ≡ is_quiet end.old }
     ensures idle { IsIdle end.new }
     ensures own { end.new.table ≡ end.old.table }
 {
@@ -56,6 +59,9 @@ fn store_frame(ring: &RxRing, end: &mut RxControllerEnd, bsize: usize, frame: &[
     requires fits { piece_count bsize (length frame.now) < controller_size end.old }
     requires free { piece_count bsize (length frame.now) ≤ known_free end.old }
     ensures stored { StoredFrame bsize frame.now end.old end.new }
+    ensures state { controller_state end.new ≡ controller_state end.old }
+    ensures seen { seen end.new ≡ seen end.old }
+    ensures quiet { is_quiet end.new ≡ is_quiet end.old }
     ensures idle { IsIdle end.new }
     ensures own { end.new.table ≡ end.old.table }
 {

@@ -1,9 +1,10 @@
 //! The device's side of a transmit queue.
-ghost use Rattle.std.specs.Prelude.{◌≡◌};
+ghost use Rattle.std.specs.Prelude.{◌≡◌, [], if◌then◌else◌};
 ghost use Rattle.ring_model.specs.shared.Frames.{frames};
+ghost use Rattle.ring_model.specs.shared.Handshakes.{is_serving};
 ghost use Rattle.ring_model.specs.transmit.Ring.{carried};
-ghost use Rattle.tx_ring.specs.Ends.{sent};
-ghost use Rattle.controller.specs.Handshaking.{TurnedControl};
+ghost use Rattle.tx_ring.specs.Ends.{controller_state, sent, seen};
+ghost use Rattle.controller.specs.Handshaking.{TurnedControl, begins};
 ghost use Rattle.controller.specs.Transmitting.{IsIdle, Turned};
 
 use crate::error::CtlError;
@@ -51,11 +52,20 @@ impl TxController {
         TxController { end }
     }
 
+    /// Whether the controller answered the enabling of this epoch, and no disabling since.
+    #[inline]
+    pub fn is_serving(&self) -> bool
+        ensures { result ≡ is_serving (controller_state self.now) }
+    {
+        self.end.is_serving()
+    }
+
     /// Loads the control word, and answers what is asked, if anything is. It gives the control value that it stored, else
     /// the one that it loaded.
     pub fn turn_control(&mut self, ring: &TxRing) -> Control
         requires own { self.old.table ≡ ring.now }
         ensures turned { TurnedControl self.old result self.new }
+        ensures lists { sent self.new ≡ (if begins self.old self.new then [] else sent self.old) }
         ensures own { self.new.table ≡ ring.now }
     {
         let asked = self.end.asked(ring);
@@ -76,6 +86,8 @@ impl TxController {
         requires own { self.old.table ≡ ring.now }
         ensures turned { Turned self.old wire.old result self.new wire.new }
         ensures frames { wire.old ≡ frames carried (sent self.old) → wire.new ≡ frames carried (sent self.new) }
+        ensures state { controller_state self.new ≡ controller_state self.old }
+        ensures seen { seen self.new ≡ seen self.old }
         ensures own { self.new.table ≡ ring.now }
     {
         if !self.end.is_serving() {

@@ -1,8 +1,8 @@
-use Rattle.std.proofs.Common.{◌∙◌, Bool, sym, ap, subst, refl}
+use Rattle.std.proofs.Common.{◌∙◌, Bool, sym, ap, subst}
 use Rattle.ring_model.specs.transmit.Ring.{carried, are_whole}
 use Rattle.ring_model.proofs.shared.Following.{whole-unfinished}
 use Rattle.tx_ring.specs.Records.{TxControlled}
-use Rattle.tx_ring.specs.Ends.{ControllerSide, sent}
+use Rattle.tx_ring.specs.Ends.{ControllerSide, controller_record, sent}
 use Rattle.controller.specs.Sending.{SentBytes}
 use Rattle.controller.specs.Transmitting.{reported}
 use Rattle.controller.proofs.Putting.{starts, sends_on, sends_last, sent_whole, same_head}
@@ -18,7 +18,7 @@ pub returns-then-owes_report-clause-sent : goal.returns-then-owes_report-clause-
 returns-then-owes_report-clause-sent c =
     let last = subst (λ (ends : Bool). SentBytes c.loop.end c.loop.arena ends c.send_segment.new.end c.send_segment.new.arena) c.loop-test.false c.send_segment.ensures in
     let owed = sym c.owes_report.ensures ∙ c.if-owes_report.true in
-    sends_last _ _ _ _ _ _ _ _ c.loop.invariant last c.end_frame.ensures.frames c.end_frame.ensures.begun (c.report.ensures.step ∙ sym (ap (λ (b : Bool). reported b c.send_segment.new.end) owed)) (ap (λ (x : TxControlled). x.served) c.report.ensures.record)
+    sends_last _ _ _ _ _ _ _ _ c.loop.invariant last c.end_frame.ensures.frames c.end_frame.ensures.begun (c.report.ensures.step ∙ sym (ap (λ (b : Bool). reported b c.send_segment.new.end) owed)) c.report.ensures.record
 
 pub returns-then-owes_report-clause-idle : goal.returns-then-owes_report-clause-idle
 returns-then-owes_report-clause-idle c =
@@ -33,7 +33,7 @@ pub returns-else-owes_report-clause-sent : goal.returns-else-owes_report-clause-
 returns-else-owes_report-clause-sent c =
     let last = subst (λ (ends : Bool). SentBytes c.loop.end c.loop.arena ends c.send_segment.new.end c.send_segment.new.arena) c.loop-test.false c.send_segment.ensures in
     let owed = sym c.owes_report.ensures ∙ c.if-owes_report.false in
-    sends_last _ _ _ _ _ _ _ _ c.loop.invariant last c.end_frame.ensures.frames c.end_frame.ensures.begun (sym (ap (λ (b : Bool). reported b c.send_segment.new.end) owed)) refl
+    sends_last _ _ _ _ _ _ _ _ c.loop.invariant last c.end_frame.ensures.frames c.end_frame.ensures.begun (sym (ap (λ (b : Bool). reported b c.send_segment.new.end) owed)) (ap (λ (b : Bool). record (controller_record c.send_segment.new.end) { barred = b }) owed)
 
 pub returns-else-owes_report-clause-idle : goal.returns-else-owes_report-clause-idle
 returns-else-owes_report-clause-idle c =
@@ -43,3 +43,19 @@ returns-else-owes_report-clause-idle c =
       head = λ _. last.head;
       paid = sym c.owes_report.ensures ∙ c.if-owes_report.false;
     }
+
+pub returns-then-owes_report-clause-state : goal.returns-then-owes_report-clause-state
+returns-then-owes_report-clause-state c = let last = subst (λ (ends : Bool). SentBytes c.loop.end c.loop.arena ends c.send_segment.new.end c.send_segment.new.arena) c.loop-test.false c.send_segment.ensures in
+    ap (λ (x : TxControlled). x.state) c.report.ensures.record ∙ (ap (λ (x : TxControlled). x.state) last.same ∙ ap (λ (x : TxControlled). x.state) c.loop.invariant.grew)
+
+pub returns-else-owes_report-clause-state : goal.returns-else-owes_report-clause-state
+returns-else-owes_report-clause-state c = let last = subst (λ (ends : Bool). SentBytes c.loop.end c.loop.arena ends c.send_segment.new.end c.send_segment.new.arena) c.loop-test.false c.send_segment.ensures in
+    ap (λ (x : TxControlled). x.state) last.same ∙ ap (λ (x : TxControlled). x.state) c.loop.invariant.grew
+
+pub returns-then-owes_report-clause-seen : goal.returns-then-owes_report-clause-seen
+returns-then-owes_report-clause-seen c = let last = subst (λ (ends : Bool). SentBytes c.loop.end c.loop.arena ends c.send_segment.new.end c.send_segment.new.arena) c.loop-test.false c.send_segment.ensures in
+    ap (λ (x : TxControlled). x.seen) c.report.ensures.record ∙ (ap (λ (x : TxControlled). x.seen) last.same ∙ ap (λ (x : TxControlled). x.seen) c.loop.invariant.grew)
+
+pub returns-else-owes_report-clause-seen : goal.returns-else-owes_report-clause-seen
+returns-else-owes_report-clause-seen c = let last = subst (λ (ends : Bool). SentBytes c.loop.end c.loop.arena ends c.send_segment.new.end c.send_segment.new.arena) c.loop-test.false c.send_segment.ensures in
+    ap (λ (x : TxControlled). x.seen) last.same ∙ ap (λ (x : TxControlled). x.seen) c.loop.invariant.grew

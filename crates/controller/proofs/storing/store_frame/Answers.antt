@@ -1,6 +1,7 @@
-use Rattle.std.proofs.Common.{arith}
+use Rattle.std.proofs.Common.{arith, ap, ◌∙◌}
 use Rattle.ring_model.specs.shared.Segments.{piece_of}
 use Rattle.ring_model.proofs.shared.Following.{whole-unfinished}
+use Rattle.rx_ring.specs.Records.{RxControlled}
 use Rattle.rx_ring.specs.Ends.{stored}
 use Rattle.controller.proofs.Cutting.{can_cut}
 use Rattle.controller.proofs.Growing.{begins, goes_on, can_go_on, can_end, ends_frame_with}
@@ -40,3 +41,12 @@ returns-clause-idle c = let r = c.requires in let least = r.frame.0 in
 pub returns-clause-own : goal.returns-clause-own
 returns-clause-own c = let r = c.requires in let least = r.frame.0 in
     let done = ends_frame_with _ _ _ _ _ _ _ (omega arith) (omega arith) (whole-unfinished piece_of (stored c.args.end.now) r.idle.between) c.loop-rest.invariant c.loop-rest-test.false c.store_piece-2.ensures c.set_head.ensures.step c.set_head.ensures.record in done.2
+
+pub returns-clause-state : goal.returns-clause-state
+returns-clause-state c = ap (λ (x : RxControlled). x.state) c.set_head.ensures.record ∙ (ap (λ (x : RxControlled). x.state) c.store_piece-2.ensures.stored.grew ∙ ap (λ (x : RxControlled). x.state) c.loop-rest.invariant.grew)
+
+pub returns-clause-seen : goal.returns-clause-seen
+returns-clause-seen c = ap (λ (x : RxControlled). x.seen) c.set_head.ensures.record ∙ (ap (λ (x : RxControlled). x.seen) c.store_piece-2.ensures.stored.grew ∙ ap (λ (x : RxControlled). x.seen) c.loop-rest.invariant.grew)
+
+pub returns-clause-quiet : goal.returns-clause-quiet
+returns-clause-quiet c = ap (λ (x : RxControlled). x.barred) c.set_head.ensures.record ∙ (ap (λ (x : RxControlled). x.barred) c.store_piece-2.ensures.stored.grew ∙ ap (λ (x : RxControlled). x.barred) c.loop-rest.invariant.grew)
