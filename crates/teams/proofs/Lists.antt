@@ -1,5 +1,5 @@
 -- Lists to which an item is added at the end.
-use Rattle.std.proofs.Common.{◌≡◌, ◌∙◌, List, [], ◌∷◌, ◌++◌, refl, ap, sym, subst, map, All, suc, arith, rules, length}
+use Rattle.std.proofs.Common.{◌≡◌, ◌∙◌, ◌<◌, ℕ, zero, get_or, List, [], ◌∷◌, ◌++◌, refl, ap, sym, subst, map, All, suc, arith, rules, length}
 use Rattle.std.proofs.lemmas.List.{map-append, length-append, length-map, append-nil}
 use Rattle.std.proofs.lemmas.List.Elements.{All-append}
 use Rattle.std.proofs.lemmas.Simd.{map-map}
@@ -46,3 +46,14 @@ begun-all f given back xs ws ys rest first same all =
 -- where none were taken
 pub none-begun : {A C D : Type 0} (f : A → C) (back : D → C) (xs : List A) (ys : List D) → ys ≡ [] → map f xs ≡ map back ys ++ map f xs
 none-begun f back xs ys none = sym (ap (λ l. map back l ++ map f xs) none)
+
+-- what was the first of the rest is now the last of those before it
+pub append-one : {X : Type 0} (done : List X) (x : X) (rest tail : List X) → rest ≡ x ∷ tail → done ++ rest ≡ (done ++ x ∷ []) ++ tail
+append-one [] x rest tail first = first
+append-one (y ∷ ys) x rest tail first = ap (λ l. y ∷ l) (append-one ys x rest tail first)
+
+-- what a mapped list has at a place, whatever stands for a missing item
+pub mapped-at : {A B : Type 0} (f : A → B) (xs : List A) (i : ℕ) (y d : B) → i < length xs → ((e : A) → f (get_or xs i e) ≡ y) → get_or (map f xs) i d ≡ y
+mapped-at f [] i y d low each = absurd (omega (arith, low))
+mapped-at f (x ∷ xs) zero y d low each = each x
+mapped-at f (x ∷ xs) (suc i) y d low each = mapped-at f xs i y d (omega (arith, low)) each

@@ -1,3 +1,4 @@
 pub mod Refusals
 pub mod Endings
 pub mod Hands
+pub mod Dealing

@@ -8,9 +8,11 @@
 //! come back, whether or not they are over.
 #![tactic(auto)]
 
+mod dealing;
 mod ending;
 mod running;
 mod serving;
 mod team;
 
+pub use dealing::deal;
 pub use running::{Ran, run_teams};
