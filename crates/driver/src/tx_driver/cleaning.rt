@@ -21,9 +21,7 @@ fn clean_reported(driver: &mut TxDriverEnd, ring: &TxRing, stash: &mut Stash)
     let count = (driver.reported() as usize).min(STASH_BUFFERS - stash.len());
     for _ in 0..count {
         let buf = driver.clean(ring);
-        let Ok(()) = stash.put(buf) else {
-            unreachable!()
-        };
+        stash.push(buf);
     }
 }
 
