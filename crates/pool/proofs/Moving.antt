@@ -76,7 +76,7 @@ total-is : (h : ℕ → ℕ) (xs : List ℕ) → total h xs ≡ sum_by h xs
 total-is h [] = refl
 total-is h (x ∷ xs) = ap (λ (s : ℕ). h x + s) (total-is h xs) ∙ sym (sum_by-cons h x xs)
 
-total-shuffled : (h : ℕ → ℕ) (xs ys : List ℕ) → IsPermutation xs ys → total h ys ≡ total h xs
+pub total-shuffled : (h : ℕ → ℕ) (xs ys : List ℕ) → IsPermutation xs ys → total h ys ≡ total h xs
 total-shuffled h xs ys p = total-is h ys ∙ sum_by-IsPermutation h xs ys p ∙ sym (total-is h xs)
 
 pub held-first : (held : List ℕ) (n : ℕ) (ns : List ℕ) → HoldsAll held (n ∷ ns) → Contains held n
