@@ -42,6 +42,11 @@ impl Buffer {
         &self.room.bytes[..self.len()]
     }
 
+    pub fn bytes_mut(&mut self) -> &mut [u8] {
+        let len = self.len();
+        &mut self.room.bytes[..len]
+    }
+
     /// Puts `bytes` into the buffer, at most `BUFFER_BYTES`, in place of those that were there.
     pub fn fill(&mut self, bytes: &[u8]) {
         self.room.bytes[..bytes.len()].copy_from_slice(bytes);

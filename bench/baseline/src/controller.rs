@@ -46,9 +46,18 @@ impl<'a> RxController<'a> {
         }
     }
 
-    /// Answers the enabling that is asked.
+    /// Answers what is asked.
     pub fn answer(&mut self) {
         self.end.answer();
+    }
+
+    pub fn is_serving(&self) -> bool {
+        self.end.is_serving()
+    }
+
+    /// Says that no more is stored.
+    pub fn finish(&mut self) {
+        self.end.set_quiet();
     }
 
     /// Stores a frame whole, where descriptors are free.
@@ -123,6 +132,12 @@ impl Wire {
         &self.bytes[start..self.ends[i]]
     }
 
+    /// Throws all frames away, and keeps the room.
+    pub fn clear(&mut self) {
+        self.bytes.clear();
+        self.ends.clear();
+    }
+
     /// Makes room for the longest frame and its entry, by at least a quarter of what there is.
     fn reserve(&mut self) {
         if self.bytes.capacity() - self.bytes.len() < MOST_FRAME {
@@ -154,9 +169,13 @@ impl<'a> TxController<'a> {
         TxController { end }
     }
 
-    /// Answers the enabling that is asked.
+    /// Answers what is asked.
     pub fn answer(&mut self) {
         self.end.answer();
+    }
+
+    pub fn is_serving(&self) -> bool {
+        self.end.is_serving()
     }
 
     /// Sends the next frame onto the wire, if one is ready.

@@ -42,6 +42,23 @@ impl<'a> RxDriver<'a> {
         self.end.look_on()
     }
 
+    pub fn is_quiet(&self) -> bool {
+        self.end.is_quiet()
+    }
+
+    pub fn ask_disable(&mut self) {
+        self.end.ask_disable();
+    }
+
+    pub fn look_off(&self) -> bool {
+        self.end.look_off()
+    }
+
+    /// Whether segments were taken of a frame that has not ended.
+    pub fn has_chain(&self) -> bool {
+        !self.chain.is_empty()
+    }
+
     /// Takes the packets that are done, up to a batch, and posts buffers of the stash in their place.
     pub fn rx_batch(
         &mut self,
@@ -82,6 +99,12 @@ impl<'a> RxDriver<'a> {
         count
     }
 
+    /// Posts what the stash has and the ring has room for, and publishes it.
+    pub fn post_all(&mut self, stash: &mut Stash) {
+        self.fill(stash);
+        self.end.publish();
+    }
+
     /// Posts what the stash has and the ring has room for.
     fn fill(&mut self, stash: &mut Stash) {
         for _ in 0..self.end.room() {
@@ -110,6 +133,19 @@ impl<'a> TxDriver<'a> {
 
     pub fn look_on(&mut self) -> bool {
         self.end.look_on()
+    }
+
+    pub fn ask_disable(&mut self) {
+        self.end.ask_disable();
+    }
+
+    pub fn look_off(&self) -> bool {
+        self.end.look_off()
+    }
+
+    /// Whether all that was posted is cleaned.
+    pub fn is_clean(&self) -> bool {
+        self.end.is_clean()
     }
 
     /// Takes back what is reported as sent, and posts and publishes the packets from the front that fit.

@@ -3,7 +3,9 @@
 mod buffer;
 mod controller;
 mod driver;
+mod forward;
 mod forwarder;
+mod forwarding;
 mod layers;
 mod packet;
 mod patience;
@@ -12,6 +14,7 @@ mod relay;
 mod ring;
 mod steps;
 mod table;
+mod text;
 mod transmit;
 mod tx_ring;
 mod words;
@@ -25,6 +28,14 @@ fn main() -> ExitCode {
         steps::print();
         return ExitCode::SUCCESS;
     }
+    let words: Vec<String> = env::args().skip(1).collect();
+    if let ["text", pairs, ring, workers] = words.iter().map(String::as_str).collect::<Vec<_>>()[..] {
+        let numbers = [pairs, ring, workers].map(|word| word.parse::<usize>().unwrap_or(1));
+        return match text::run(numbers[0], numbers[1], numbers[2]) {
+            Ok(true) => ExitCode::SUCCESS,
+            _ => ExitCode::FAILURE,
+        };
+    }
     let Some(Settings { load, manner }) = Settings::parse(env::args().skip(1)) else {
         eprintln!("{USAGE}");
         return ExitCode::from(2);
@@ -34,6 +45,12 @@ fn main() -> ExitCode {
         Manner::Transmit { report, completion } => transmit::run(&load, report, completion),
         Manner::Relay { batch } => relay::run(&load, batch),
         Manner::Pass { batch, in_threads } => layers::run(&load, batch, in_threads),
+        Manner::Forward {
+            batch,
+            flows,
+            workers,
+            keeps,
+        } => forwarding::run(&load, batch, flows, workers, keeps),
     };
     let nanoseconds = spent.as_nanos() as f64 / load.frames as f64;
     println!("frames {}", load.frames);

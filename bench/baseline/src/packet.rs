@@ -20,6 +20,19 @@ impl Packet {
         self.segments as usize
     }
 
+    /// Whether there is no buffer.
+    pub fn is_empty(&self) -> bool {
+        self.segments == 0
+    }
+
+    /// Lets the byte at offset 1 grow by one. There has to be one.
+    pub fn touch(&mut self) {
+        if let Some(first) = &mut self.first {
+            let byte = &mut first.bytes_mut()[1];
+            *byte = byte.wrapping_add(1);
+        }
+    }
+
     /// Adds a buffer behind the others.
     pub fn push_back(&mut self, buffer: Buffer) {
         self.len += buffer.len() as u32;
@@ -65,6 +78,11 @@ impl Stash {
 
     pub fn take(&mut self) -> Option<Buffer> {
         self.buffers.pop()
+    }
+
+    /// Puts a buffer in, also where there is no room for so many: a start has those that a whole ring gets.
+    pub fn put_any(&mut self, buffer: Buffer) {
+        self.buffers.push(buffer);
     }
 
     /// Empties a buffer and puts it in. There has to be room.

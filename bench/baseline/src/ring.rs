@@ -14,9 +14,11 @@ const EOP: u64 = 2;
 /// Where a written-back word has the segment's length, 16 bits.
 const LENGTH_SHIFT: u32 = 32;
 
-/// The control word where the driver asks for the queue to be enabled, and where it is.
+/// The values of the control word: the driver stores what it asks for, and the controller what it answers.
+pub const DISABLED: u64 = 0;
 pub const ENABLE_ASKED: u64 = 1;
 pub const ENABLED: u64 = 2;
+pub const DISABLE_ASKED: u64 = 3;
 
 pub struct Ring {
     table: Table,
@@ -46,6 +48,21 @@ impl Ring {
             serving: false,
         };
         (driver, controller)
+    }
+}
+
+/// Answers what is asked of a queue, and whether it is served then.
+pub fn answer(table: &Table, serving: bool) -> bool {
+    match table.load_register(Register::Control) {
+        ENABLE_ASKED => {
+            table.store_register(Register::Control, ENABLED);
+            true
+        }
+        DISABLE_ASKED => {
+            table.store_register(Register::Control, DISABLED);
+            false
+        }
+        _ => serving,
     }
 }
 
@@ -86,6 +103,21 @@ impl Driver<'_> {
     /// Whether the queue was seen enabled.
     pub fn is_on(&self) -> bool {
         self.on
+    }
+
+    /// Whether the controller said that it stores no more.
+    pub fn is_quiet(&self) -> bool {
+        self.table.load_register(Register::Quiet) == 1
+    }
+
+    pub fn ask_disable(&mut self) {
+        self.table.store_register(Register::Control, DISABLE_ASKED);
+        self.on = false;
+    }
+
+    /// Looks whether the queue is disabled.
+    pub fn look_off(&self) -> bool {
+        self.table.load_register(Register::Control) == DISABLED
     }
 
     /// How many descriptors can be posted.
@@ -135,12 +167,14 @@ pub struct Controller<'a> {
 }
 
 impl Controller<'_> {
-    /// Enables the queue where that is asked.
+    /// Enables or disables the queue where that is asked.
     pub fn answer(&mut self) {
-        if self.table.load_register(Register::Control) == ENABLE_ASKED {
-            self.table.store_register(Register::Control, ENABLED);
-            self.serving = true;
-        }
+        self.serving = answer(self.table, self.serving);
+    }
+
+    /// Says that no more is stored.
+    pub fn set_quiet(&mut self) {
+        self.table.store_register(Register::Quiet, 1);
     }
 
     pub fn is_serving(&self) -> bool {

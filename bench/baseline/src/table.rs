@@ -14,7 +14,8 @@ pub enum Register {
     Head,
     Tail,
     Control,
-    Reported = 4,
+    Quiet,
+    Reported,
 }
 
 pub struct Table {

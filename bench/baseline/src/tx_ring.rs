@@ -3,7 +3,7 @@
 //! stored, and by nobody in between.
 
 use crate::buffer::Buffer;
-use crate::ring::{ENABLE_ASKED, ENABLED};
+use crate::ring::{self, DISABLE_ASKED, DISABLED, ENABLE_ASKED, ENABLED};
 use crate::table::{Register, Table};
 use std::collections::VecDeque;
 
@@ -105,6 +105,16 @@ impl Driver<'_> {
         self.on
     }
 
+    pub fn ask_disable(&mut self) {
+        self.table.store_register(Register::Control, DISABLE_ASKED);
+        self.on = false;
+    }
+
+    /// Looks whether the queue is disabled.
+    pub fn look_off(&self) -> bool {
+        self.table.load_register(Register::Control) == DISABLED
+    }
+
     pub fn size(&self) -> usize {
         self.table.size()
     }
@@ -193,12 +203,9 @@ pub struct Controller<'a> {
 }
 
 impl Controller<'_> {
-    /// Enables the queue where that is asked.
+    /// Enables or disables the queue where that is asked.
     pub fn answer(&mut self) {
-        if self.table.load_register(Register::Control) == ENABLE_ASKED {
-            self.table.store_register(Register::Control, ENABLED);
-            self.serving = true;
-        }
+        self.serving = ring::answer(self.table, self.serving);
     }
 
     pub fn is_serving(&self) -> bool {

@@ -9,6 +9,8 @@ pub const USAGE: &str = "usage: baseline ring --ring N --frames N --size BYTES -
        baseline tx --ring N --frames N --size BYTES --report N --completion status|head
        baseline batch --ring N --frames N --size BYTES --batch N
        baseline pass --ring N --frames N --size BYTES --batch N --threads 1|2
+       baseline forward --ring N --frames N --size BYTES --batch N --flows N --workers N --keep 0|1
+       baseline text PAIRS RING WORKERS <SCRIPT
        baseline steps";
 
 /// The first byte of each frame, which the side that receives it reads.
@@ -75,6 +77,13 @@ pub enum Manner {
     Relay { batch: usize },
     /// They go through both layers, on one thread or with one for either side.
     Pass { batch: usize, in_threads: bool },
+    /// They are forwarded on so many flows, by as many workers on either side, and the wire is kept or thrown away.
+    Forward {
+        batch: usize,
+        flows: usize,
+        workers: usize,
+        keeps: bool,
+    },
 }
 
 /// What is run.
@@ -119,6 +128,15 @@ impl Settings {
                 };
                 (Manner::Pass { batch, in_threads }, 5)
             }
+            "forward" => {
+                let manner = Manner::Forward {
+                    batch: number("--batch")? as usize,
+                    flows: number("--flows")? as usize,
+                    workers: number("--workers")? as usize,
+                    keeps: number("--keep")? == 1,
+                };
+                (manner, 7)
+            }
             _ => return None,
         };
         let lawful = match manner {
@@ -126,6 +144,16 @@ impl Settings {
             Manner::Transmit { report, .. } => (1..load.ring).contains(&report),
             Manner::Relay { batch } | Manner::Pass { batch, .. } => {
                 (1..=MOST_BATCH).contains(&batch)
+            }
+            Manner::Forward {
+                batch,
+                flows,
+                workers,
+                ..
+            } => {
+                (1..=MOST_BATCH).contains(&batch)
+                    && [1, 2, 4, 8, 16].contains(&flows)
+                    && (1..=flows.max(2)).contains(&workers)
             }
         };
         (options.len() == count && load.is_lawful() && lawful).then_some(Settings { load, manner })

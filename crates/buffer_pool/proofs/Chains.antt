@@ -5,7 +5,7 @@ use Rattle.buffer_pool.specs.declared.chain.Chain.{Chain}
 use Rattle.buffer_pool.specs.declared.chain.Chain.TheVariants.{End, To'}
 use Rattle.buffer_pool.specs.Buffer.{Buffer}
 use Rattle.buffer_pool.specs.Chain.{IsChain, chained}
-use Rattle.buffer_pool.specs.Packed.{IsPacket, bytes_of}
+use Rattle.buffer_pool.specs.Packed.{AreReal, IsPacket, bytes_of}
 
 pub bytes_of-append : (bs cs : List Buffer) → bytes_of (bs ++ cs) ≡ bytes_of bs ++ bytes_of cs
 bytes_of-append [] cs = refl
@@ -23,6 +23,12 @@ pub chain-none_empty : (c : Chain) → IsChain c → All (λ b. 0 < length b.byt
 chain-none_empty End h k d l = absurd (omega arith)
 chain-none_empty (To' p room next) h zero d l = omega (arith, length-take room.len room.bytes, h.0.bytes, h.0.len, h.1)
 chain-none_empty (To' p room next) h (suc k) d l = chain-none_empty next h.2 k d (omega arith)
+
+-- nor is one a blank
+pub chain-real : (c : Chain) → AreReal (chained c)
+chain-real End k d l = absurd (omega arith)
+chain-real (To' p room next) zero d l = refl
+chain-real (To' p room next) (suc k) d l = chain-real next k d (omega arith)
 
 pub chain-whole : (c : Chain) → IsChain c → length (chained c) ≤ MOST_SEGMENTS → LEAST_FRAME ≤ length (bytes_of (chained c)) → length (bytes_of (chained c)) ≤ MOST_FRAME
     → IsPacket (chained c)

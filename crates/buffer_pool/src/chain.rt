@@ -1,6 +1,7 @@
 //! Buffers that hang one behind another.
 ghost use Rattle.std.specs.Prelude.{◌≡◌, ◌<◌, ◌≤◌, ◌∷◌, ◌++◌, ◌↔◌, [], length, map, drop, slice_index, slice_set, IsNone, IfNone, IfSome};
 ghost use Rattle.std.specs.Iterator.{YieldsFirstRef, item_count};
+ghost use Rattle.buffer_pool.specs.Buffer.{buffer};
 ghost use Rattle.buffer_pool.specs.Chain.{IsChain, chained};
 ghost use Rattle.buffer_pool.specs.Packed.{bytes_of, shape_of};
 
@@ -60,6 +61,7 @@ impl Chain {
         ensures none { IsNone result ↔ (chained self.old ≡ []) }
         ensures unchanged { IfNone result (self.new ≡ self.old) }
         ensures bufs { IfSome result (λ b. chained self.old ≡ b ∷ chained self.new) }
+        ensures real { IfSome result (λ b. b ≡ buffer b.number b.bytes) }
     {
         match mem::replace(self, Chain::End) {
             Chain::To(mut link) => {

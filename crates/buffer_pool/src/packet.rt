@@ -1,6 +1,7 @@
 //! A packet, in the buffers that its segments fill.
 ghost use Rattle.std.specs.Prelude.{◌≡◌, ◌<◌, ◌≤◌, ◌↔◌, [], ◌∷◌, ◌++◌, length, map, drop, slice_index, slice_set, IsTrue, IsNone, IfNone, IfSome};
-ghost use Rattle.buffer_pool.specs.Packed.{IsPacket, bytes_of, shape_of};
+ghost use Rattle.buffer_pool.specs.Buffer.{buffer};
+ghost use Rattle.buffer_pool.specs.Packed.{AreReal, IsPacket, bytes_of, shape_of};
 
 use crate::Buf;
 use crate::chain::{Chain, Segments};
@@ -52,7 +53,8 @@ impl Packet {
 
     /// The packet's buffers, in order.
     pub fn into_bufs(self) -> ArrayVec<Buf, MOST_SEGMENTS>
-        ensures { result.items ≡ self }
+        ensures value { result.items ≡ self }
+        ensures real { AreReal result.items }
     {
         let mut bufs = ArrayVec::new();
         let mut packet = self;
@@ -81,6 +83,7 @@ impl Packet {
         ensures none { IsNone result ↔ (self.old ≡ []) }
         ensures unchanged { IfNone result (self.new ≡ self.old) }
         ensures rest { IfSome result (λ b. self.old ≡ b ∷ self.new) }
+        ensures real { IfSome result (λ b. b ≡ buffer b.number b.bytes) }
     {
         let buf = self.chain.pop()?;
         self.len -= buf.len() as u32;
@@ -146,6 +149,7 @@ impl Packet {
         requires { i < length (bytes_of self.old) }
         ensures bytes { bytes_of self.new ≡ slice_set (bytes_of self.old) i v }
         ensures shape { map shape_of self.new ≡ map shape_of self.old }
+        ensures real { AreReal self.new }
     {
         self.chain.set_byte(i, v);
     }

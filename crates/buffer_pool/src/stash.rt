@@ -1,5 +1,5 @@
 //! The empty buffers that a worker has at hand.
-ghost use Rattle.std.specs.Prelude.{◌≡◌, ◌≤◌, ◌↔◌, ℕ, [], ◌∷◌, length, IsTrue, IsErr, IsNone, IfNone, IfSome, IfErr, OnOk, OnErr};
+ghost use Rattle.std.specs.Prelude.{◌≡◌, ◌<◌, ◌≤◌, ◌↔◌, ℕ, [], ◌∷◌, length, IsTrue, IsErr, IsNone, IfNone, IfSome, IfErr, OnOk, OnErr};
 ghost use Rattle.buffer_pool.specs.Buffer.{buffer};
 ghost use Rattle.buffer_pool.specs.declared.error.PoolError.TheVariants.{StashFull};
 
@@ -85,7 +85,7 @@ impl Stash {
     /// Puts a buffer in, and empties it. Into a full stash nothing is put, and the buffer comes back
     /// as it was with `PoolError::StashFull`. It allocates nothing.
     #[inline]
-    pub fn put(&mut self, mut buf: Buf) -> Result<(), (PoolError, Buf)>
+    pub fn put(&mut self, buf: Buf) -> Result<(), (PoolError, Buf)>
         requires real { buf.capacity ≡ BUFFER_BYTES }
         ensures refused { IsErr result ↔ (length self.old ≡ STASH_BUFFERS) }
         ensures kept { OnOk result (self.new ≡ buf.number ∷ self.old) }
@@ -95,9 +95,20 @@ impl Stash {
         if self.bufs.is_full() {
             return Err((PoolError::StashFull, buf));
         }
+        self.push(buf);
+        Ok(())
+    }
+
+    /// Puts a buffer into a stash that is not full, and empties it. Where that isn't known, `put` refuses a buffer too
+    /// many. It allocates nothing.
+    #[inline]
+    pub fn push(&mut self, mut buf: Buf)
+        requires room { length self.old < STASH_BUFFERS }
+        requires real { buf.capacity ≡ BUFFER_BYTES }
+        ensures { self.new ≡ buf.number ∷ self.old }
+    {
         buf.clear();
         self.bufs.push(buf);
-        Ok(())
     }
 }
 

@@ -14,7 +14,7 @@ use Rattle.driver.specs.Reclaiming.{out_of, CameBack}
 use Rattle.driver.proofs.Running.{runs-none, runs-one, runs-trans}
 
 -- a list from one of its items on
-from_item : {X : Type 0} (xs : List X) (k : ℕ) (x : X) → slice_get xs k ≡ Some x → drop k xs ≡ x ∷ drop (k + 1) xs
+pub from_item : {X : Type 0} (xs : List X) (k : ℕ) (x : X) → slice_get xs k ≡ Some x → drop k xs ≡ x ∷ drop (k + 1) xs
 from_item xs k x e = drop-cons xs k x (slice_get_within xs k x e)
     ∙ (ap (λ y. y ∷ drop (suc k) xs) (get_or_from_slice_get xs k x x e) ∙ ap (λ (j : ℕ). x ∷ drop j xs) (sym (add-one k)))
 

@@ -1,4 +1,5 @@
 pub mod Chains
+pub mod Exchanges
 pub mod Batches
 pub mod Receiver
 pub mod Returns

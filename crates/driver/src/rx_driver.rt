@@ -1,7 +1,9 @@
 //! The receive driver.
 ghost use Rattle.std.specs.Prelude.{◌≡◌, ◌+◌, ◌<◌, ◌≤◌, ◌↔◌, true, false, [], length, IsTrue, IsErr, IfErr, OnErr, IfOk, OnOk};
-ghost use Rattle.rx_ring.specs.Ends.{driver_size, driver_record, driver_state, posted, returned, known_of, saw_quiet, appended};
-ghost use Rattle.ring_model.specs.shared.Handshakes.{is_live, is_open};
+ghost use Rattle.rx_ring.specs.Ends.{driver_size, driver_record, driver_state, posted, reclaimed, returned, known_of, saw_quiet, appended};
+ghost use Rattle.ring_model.specs.shared.Handshakes.{is_live, is_on, is_open, is_stopped};
+ghost use Rattle.limits.specs.RingLength.{IsRingLength};
+ghost use Rattle.rx_ring.specs.Calls.{told_quiet};
 ghost use Rattle.ring_model.specs.shared.Agreement.{bit};
 ghost use Rattle.shared_ring.specs.declared.events.DriverEvent.TheVariants.{Own};
 ghost use Rattle.rx_ring.specs.declared.events.RxDriverOwn.TheVariants.{LoadedQuiet};
@@ -76,6 +78,49 @@ impl RxDriver {
         self.end.room()
     }
 
+    /// The ring's length.
+    #[inline]
+    pub fn size(&self) -> u32
+        ensures lawful { IsRingLength result }
+        ensures value { result ≡ driver_size self.now.end }
+    {
+        self.end.size()
+    }
+
+    /// The most packets that it takes at once.
+    #[inline]
+    pub fn batch(&self) -> usize
+        ensures value { result ≡ self.now.batch }
+        ensures some { 0 < result }
+        ensures few { result ≤ MOST_BATCH }
+    {
+        self.batch
+    }
+
+    /// Whether the queue was seen enabled, and its disabling not yet seen answered.
+    #[inline]
+    pub fn is_live(&self) -> bool
+        ensures { result ≡ is_live (driver_state self.now.end) }
+    {
+        self.end.is_live()
+    }
+
+    /// Whether the queue was seen enabled, and no disabling asked.
+    #[inline]
+    pub fn is_on(&self) -> bool
+        ensures { result ≡ is_on (driver_state self.now.end) }
+    {
+        self.end.is_on()
+    }
+
+    /// Whether the disabling was seen answered.
+    #[inline]
+    pub fn is_stopped(&self) -> bool
+        ensures { result ≡ is_stopped (driver_state self.now.end) }
+    {
+        self.end.is_stopped()
+    }
+
     /// Whether segments were taken of a frame that has not ended.
     #[inline]
     pub fn has_chain(&self) -> bool
@@ -89,9 +134,11 @@ impl RxDriver {
     #[inline]
     pub fn is_quiet(&mut self, ring: &RxRing) -> bool
         requires own { self.old.end.table ≡ ring.now }
+        ensures ring { self.new.end.table ≡ self.old.end.table }
         ensures step { self.new ≡ record self.old { end = appended self.old.end (Own (LoadedQuiet (bit result))) } }
         ensures record { driver_record self.new.end ≡ driver_record self.old.end }
         ensures seen { result ≡ true → saw_quiet self.new.end ≡ true }
+        ensures known { known_of self.new.end ≡ told_quiet result self.old.end }
     {
         self.end.is_quiet(ring)
     }
@@ -109,10 +156,14 @@ impl RxDriver {
         packets: &mut ArrayVec<Packet, MOST_BATCH>,
     ) -> Result<usize, DriverError>
         requires own { self.old.end.table ≡ ring.now }
+        ensures ring { self.new.end.table ≡ self.old.end.table }
+        ensures state { driver_state self.new.end ≡ driver_state self.old.end }
+        ensures none_back { reclaimed self.new.end ≡ reclaimed self.old.end }
         ensures off { IsErr result ↔ (is_live (driver_state self.old.end) ≡ false) }
         ensures refusal { IfErr result (λ e. e ≡ QueueOff) }
         ensures unchanged { OnErr result (hands self.new stash.new packets.new.items ≡ hands self.old stash.old packets.old.items) }
         ensures batch { self.new.batch ≡ self.old.batch }
+        ensures few { IfOk result (λ count. count ≤ self.old.batch) }
         ensures done { IfOk result (λ count. Batched self.old.batch MOST_BATCH count (hands self.old stash.old packets.old.items)
             (hands self.new stash.new packets.new.items)) }
         ensures filled { OnOk result (is_open (driver_state self.old.end) ≡ true → IsFilled self.new.end stash.new) }

@@ -1,10 +1,11 @@
 //! The driver of a transmit queue.
 ghost use Rattle.std.specs.Prelude.{◌≡◌, ◌+◌, ◌<◌, ◌≤◌, ◌↔◌, ◌⊎◌, true, false, ◌++◌, length, take, map, All, IfOk, IfErr, Err};
 ghost use Rattle.buffer_pool.specs.Packed.{IsPacket, bytes_of};
-ghost use Rattle.ring_model.specs.shared.Handshakes.{is_live};
+ghost use Rattle.limits.specs.RingLength.{IsRingLength};
+ghost use Rattle.ring_model.specs.shared.Handshakes.{is_answered, is_live, is_on, is_stopped};
 ghost use Rattle.ring_model.specs.shared.Frames.{frames};
 ghost use Rattle.ring_model.specs.transmit.Ring.{are_whole, carried};
-ghost use Rattle.tx_ring.specs.Ends.{driver_size, posted, returned, driver_state};
+ghost use Rattle.tx_ring.specs.Ends.{driver_size, posted, reclaimed, returned, driver_state};
 ghost use Rattle.driver.specs.declared.error.DriverError.TheVariants.{QueueOff, TooLong};
 ghost use Rattle.driver.specs.transmit.Transmitter.{IsReady, room_of, sending};
 ghost use Rattle.driver.specs.transmit.Frames.{IsTooLong};
@@ -58,6 +59,7 @@ impl TxDriver {
         requires few { rs_every ≤ MOST_RS_EVERY }
         ensures { result ≡ record { end = end; every = rs_every; frames = 0 } }
     {
+        let _places = end.at(); // by which nothing was reclaimed so far
         TxDriver {
             end,
             every: rs_every,
@@ -73,11 +75,57 @@ impl TxDriver {
         self.end
     }
 
-    /// How many more descriptors can be posted.
+    /// The ring's length.
+    #[inline]
+    pub fn size(&self) -> u32
+        ensures lawful { IsRingLength result }
+        ensures value { result ≡ driver_size self.now.end }
+    {
+        self.end.size()
+    }
+
+    /// Of how many frames one asks for a report.
+    #[inline]
+    pub fn rs_every(&self) -> u16
+        ensures some { 0 < result }
+        ensures few { result ≤ MOST_RS_EVERY }
+        ensures value { result ≡ self.now.every }
+    {
+        self.every
+    }
+
+    /// Whether the queue was seen enabled, and its disabling not yet seen answered: then `clean` and
+    /// `tx_batch` clean.
+    #[inline]
+    pub fn is_live(&self) -> bool
+        ensures { result ≡ is_live (driver_state self.now.end) }
+    {
+        self.end.is_live()
+    }
+
+    /// Whether the queue was seen enabled, and no disabling asked.
+    #[inline]
+    pub fn is_on(&self) -> bool
+        ensures { result ≡ is_on (driver_state self.now.end) }
+    {
+        self.end.is_on()
+    }
+
+    /// Whether the disabling was seen answered: then `reclaim_into` brings the buffers back.
+    #[inline]
+    pub fn is_stopped(&self) -> bool
+        ensures { result ≡ is_stopped (driver_state self.now.end) }
+    {
+        self.end.is_stopped()
+    }
+
+    /// How many more descriptors can be posted. Until the disabling was seen answered it is the ring's length less 1
+    /// exactly where all that was posted is cleaned.
     #[inline]
     pub fn room(&self) -> u32
         ensures sum { result + length (posted self.now.end) + 1 ≡ driver_size self.now.end + returned self.now.end }
         ensures value { result ≡ room_of self.now.end }
+        ensures none_back { is_answered (driver_state self.now.end) ≡ false → reclaimed self.now.end ≡ 0 }
     {
         self.end.room()
     }
@@ -89,6 +137,8 @@ impl TxDriver {
         ensures ring { self.new.end.table ≡ self.old.end.table }
         ensures off { is_live (driver_state self.old.end) ≡ false → (self.new ≡ self.old) × (stash.new ≡ stash.old) }
         ensures done { is_live (driver_state self.old.end) ≡ true → CleanedAll self.old.end stash.old self.new.end stash.new }
+        ensures state { driver_state self.new.end ≡ driver_state self.old.end }
+        ensures none_back { reclaimed self.new.end ≡ reclaimed self.old.end }
         ensures count { length stash.new ≡ length stash.old + result }
         ensures same { self.new ≡ record self.old { end = self.new.end } }
     {
@@ -115,6 +165,8 @@ impl TxDriver {
         requires own { self.old.end.table ≡ ring.now }
         requires packets { All IsPacket packets.old.items }
         ensures ring { self.new.end.table ≡ self.old.end.table }
+        ensures state { driver_state self.new.end ≡ driver_state self.old.end }
+        ensures none_back { reclaimed self.new.end ≡ reclaimed self.old.end }
         ensures whole { All IsPacket packets.new.items }
         ensures off { (result ≡ Err QueueOff) ↔ (is_live (driver_state self.old.end) ≡ false) }
         ensures unchanged { result ≡ Err QueueOff → sending self.new stash.new packets.new.items ≡ sending self.old stash.old packets.old.items }

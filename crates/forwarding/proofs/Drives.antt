@@ -11,8 +11,6 @@ use Rattle.ring_model.specs.shared.Frames.{frames}
 use Rattle.ring_model.specs.shared.Handshakes.{is_live}
 use Rattle.ring_model.specs.shared.Segments.{piece_of}
 use Rattle.ring_model.specs.transmit.Ring.{carried}
-use Rattle.shared_ring.specs.declared.events.DriverEvent.TheVariants.{Published}
-use Rattle.shared_ring.proofs.Posting.{record-after}
 use Rattle.rx_ring.specs.Ends as receive
 use Rattle.tx_ring.specs.Ends.{DriverSide, driver_state, posted, fill_place, appended}
 use Rattle.tx_ring.specs.Records.{TxDriven}
@@ -26,15 +24,6 @@ use Rattle.driver.specs.receive.Batches.{Hands}
 use Rattle.forwarding.specs.Touching.{touch, touched, shapes}
 use Rattle.forwarding.specs.Driving.{Driving, driving, CanDrive, Moved, Received, Sent, Drove, Counted}
 use Rattle.forwarding.proofs.Touches.{touched-behind, same-length}
-
--- ---- what a transmit batch leaves of the state
-
-after-state : (count : ℕ) (d : DriverSide) → driver_state (published_after count d) ≡ driver_state d
-after-state zero d = refl
-after-state (suc k) d = ap (λ (x : TxDriven). x.state) (record-after d (appended d (Published (fill_place d))) (Published (fill_place d)) refl)
-
-pub sent-state : (count : ℕ) (old new : Sending) → sent.Batched count old new → driver_state new.driver.end ≡ driver_state old.driver.end
-sent-state count old new b = ap driver_state b.posting.publishing ∙ after-state count b.posting.filled ∙ ap (λ (x : TxDriven). x.state) b.posting.posting.did ∙ ap (λ (x : TxDriven). x.state) b.cleaning.went.did
 
 -- ---- the two halves
 
@@ -89,7 +78,7 @@ module _ (from to : TableId) (old : Driving) (can : CanDrive from to old) (count
       sends = s.own ∙ can.sends;
       one_length = can.one_length;
       rx_live = ap is_live r.batch.grew.state ∙ can.rx_live;
-      tx_live = ap is_live (sent-state posts (sending old.tx has list) (sending tx stash left) s.batch) ∙ can.tx_live;
+      tx_live = ap is_live s.batch.state ∙ can.tx_live;
       waiting = subst (λ n. All (IsTaken n) left) can.one_length waiting;
     }
 

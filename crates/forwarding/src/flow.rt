@@ -17,9 +17,8 @@ pub enum Progress {
 /// One side of a flow: a driver's or a controller's. A worker gives it one turn after another until it is over.
 pub trait Flow: Drop + Send {
     ghost use Rattle.std.specs.Prelude.{◌≡◌, Bool, true, IfOk, IfErr};
-    ghost use Rattle.forwarding.specs.declared.error.ForwardError.TheVariants.{Gate as GateRefused};
     ghost use Rattle.forwarding.specs.declared.flow.Progress.TheVariants as progress;
-    ghost use Rattle.forwarding.specs.Gates.{CanRefuse};
+    ghost use Rattle.forwarding.specs.Gates.{Met};
 
     /// What a flow is of.
     ghost Key: { Type 0 };
@@ -34,7 +33,7 @@ pub trait Flow: Drop + Send {
     fn turn<R: Wait, G: Gate>(&mut self, rt: &R, gate: &G) -> Result<Progress, ForwardError>
         ensures key { key self.new ≡ key self.old }
         ensures ended { IfOk result (λ p. p ≡ progress.Over → over self.new ≡ true) }
-        ensures refused { IfErr result (λ e. e ≡ GateRefused → CanRefuse G.answers gate.now) };
+        ensures refused { IfErr result (λ e. Met G.answers gate.now e) };
 
     /// Whether nothing is left to do. A flow that is over need not be asked again.
     fn is_over(&self) -> bool

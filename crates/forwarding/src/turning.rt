@@ -1,8 +1,9 @@
 //! A driver's turn for one flow: what was taken is touched and sent on.
-ghost use Rattle.std.specs.Prelude.{◌≡◌, true, All, IfErr, OnErr, IfOk};
+ghost use Rattle.std.specs.Prelude.{◌≡◌, ◌≤◌, true, All, length, IfErr, OnErr, IfOk};
 ghost use Rattle.ring_model.specs.shared.Handshakes.{is_live};
 ghost use Rattle.rx_ring.specs.Ends as receive;
 ghost use Rattle.tx_ring.specs.Ends as transmit;
+ghost use Rattle.driver.specs.declared.rx_driver.TheConstants.{MOST_BATCH};
 ghost use Rattle.driver.specs.receive.Chains.{IsTaken};
 ghost use Rattle.forwarding.specs.declared.gate.Who.TheVariants as who;
 ghost use Rattle.forwarding.specs.Driving.{CanDrive, Counted, Drove, HeldBack, Moved, Received, Sent, driving};
@@ -45,6 +46,7 @@ pub fn drive<G: Gate>(
     ensures moved { Moved (driving rx.old tx.old stash.old packets.old.items) (driving rx.new tx.new stash.new packets.new.items) }
     ensures steps { IfOk result (λ t. Drove t.taken t.posted (driving rx.old tx.old stash.old packets.old.items) (driving rx.new tx.new stash.new packets.new.items)) }
     ensures counted { IfOk result (λ t. Counted t.taken t.posted (driving rx.old tx.old stash.old packets.old.items) (driving rx.new tx.new stash.new packets.new.items)) }
+    ensures few { IfOk result (λ t. (t.taken ≤ MOST_BATCH) × (t.posted ≤ MOST_BATCH)) }
     ensures refusal { IfErr result (λ e. (e ≡ ForwardError.Gate) × MayRefuse G.answers gate.now (who.Driver flow)) }
     ensures refused { OnErr result (HeldBack (driving rx.old tx.old stash.old packets.old.items) (driving rx.new tx.new stash.new packets.new.items)) }
 {
@@ -68,12 +70,15 @@ fn receive(
     requires waiting { All (IsTaken from.now.slots) packets.old.items }
     ensures received { Received result rx.old stash.old packets.old.items rx.new stash.new packets.new.items }
     ensures waiting { All (IsTaken from.now.slots) packets.new.items }
+    ensures few { result ≤ length packets.new.items }
+    ensures fits { length packets.new.items ≤ MOST_BATCH }
 {
     let had = packets.len();
     let Ok(taken) = rx.rx_batch(from, stash, packets) else {
         unreachable!()
     };
     touch_from(packets.as_mut_slice(), had);
+    let _fits = packets.len(); // which says that the list is no longer than it may be
     taken
 }
 
@@ -90,6 +95,7 @@ fn send(
     requires waiting { All (IsTaken to.now.slots) packets.old.items }
     ensures sent { Sent result tx.old stash.old packets.old.items tx.new stash.new packets.new.items }
     ensures waiting { All (IsTaken to.now.slots) packets.new.items }
+    ensures few { result ≤ length packets.old.items }
 {
     let Ok(posted) = tx.tx_batch(to, stash, packets) else {
         unreachable!()

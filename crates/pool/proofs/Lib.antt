@@ -1,5 +1,5 @@
-mod Totals
+pub mod Totals
 mod Rules
-mod Accounts
+pub mod Accounts
 mod Filling
-mod Moving
+pub mod Moving

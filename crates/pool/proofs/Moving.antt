@@ -76,18 +76,23 @@ total-is : (h : ℕ → ℕ) (xs : List ℕ) → total h xs ≡ sum_by h xs
 total-is h [] = refl
 total-is h (x ∷ xs) = ap (λ (s : ℕ). h x + s) (total-is h xs) ∙ sym (sum_by-cons h x xs)
 
-total-shuffled : (h : ℕ → ℕ) (xs ys : List ℕ) → IsPermutation xs ys → total h ys ≡ total h xs
+pub total-shuffled : (h : ℕ → ℕ) (xs ys : List ℕ) → IsPermutation xs ys → total h ys ≡ total h xs
 total-shuffled h xs ys p = total-is h ys ∙ sum_by-IsPermutation h xs ys p ∙ sym (total-is h xs)
 
 pub held-first : (held : List ℕ) (n : ℕ) (ns : List ℕ) → HoldsAll held (n ∷ ns) → Contains held n
 held-first held n ns (rest, p) = Contains-permutation (n ∷ ns ++ rest) held n (IsPermutation-sym held (n ∷ ns ++ rest) p) (0, omega arith, refl)
 
+-- what is held but for a number that is given, and but for all that are
+pub given-left : (held : List ℕ) (n : ℕ) (rest : List ℕ) → IsPermutation held (n ∷ rest) → IsPermutation (without n held) rest
+given-left held n rest p = same-members (without n held) rest
+    (λ h. omega (arith, total-without h n held (held-first held n [] (rest, p)), total-shuffled h held (n ∷ rest) p))
+
+pub all-left : (ns held rest : List ℕ) → IsPermutation held (ns ++ rest) → IsPermutation (without_all ns held) rest
+all-left [] held rest p = p
+all-left (n ∷ ns) held rest p = all-left ns (without n held) rest (given-left held n (ns ++ rest) p)
+
 held-rest : (held : List ℕ) (n : ℕ) (ns : List ℕ) → HoldsAll held (n ∷ ns) → HoldsAll (without n held) ns
-held-rest held n ns (rest, p) = (
-  rest,
-  same-members (without n held) (ns ++ rest)
-      (λ h. omega (arith, total-without h n held (held-first held n ns (rest, p)), total-shuffled h held (n ∷ ns ++ rest) p)),
-)
+held-rest held n ns (rest, p) = (rest, given-left held n (ns ++ rest) p)
 
 -- where a loop stands that has given so many of these numbers, of k at most
 pub record IsGiving (k moved : ℕ) (v : Hand) (all : List ℕ) (w : Hand) (now : List ℕ) : Type 0 where

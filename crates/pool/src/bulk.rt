@@ -1,5 +1,5 @@
 //! Many buffers at once, between a pool and a worker's stash.
-ghost use Rattle.std.specs.Prelude.{◌≡◌, ◌≤◌, ◌⊎◌, length, take, drop, min};
+ghost use Rattle.std.specs.Prelude.{◌≡◌, ◌≤◌, ◌⊎◌, ℕ, List, ◌++◌, length, take, drop, min, IsPermutation};
 ghost use Rattle.buffer_pool.specs.declared.stash.TheConstants.{STASH_BUFFERS};
 ghost use Rattle.pool.specs.Bulk.{Refilled};
 ghost use Rattle.pool.specs.Hands.{Gave, Accounts, WasDry, HoldsAll};
@@ -25,10 +25,8 @@ impl Pool {
             let Ok(buf) = self.take(rt, pass) else {
                 break;
             };
-            match stash.put(buf) {
-                Ok(()) => moved += 1,
-                Err(_) => unreachable!(),
-            }
+            stash.push(buf);
+            moved += 1;
         }
         pass.accounts();
         moved
@@ -48,6 +46,7 @@ impl Pool {
         ensures how_many { result ≡ min k (length stash.old) }
         ensures stash { stash.new ≡ drop result stash.old }
         ensures gave { Gave pass.old.hand (take result stash.old) pass.new.hand }
+        ensures left { (rest : List ℕ) → IsPermutation pass.old.hand.held (take result stash.old ++ rest) → IsPermutation pass.new.hand.held rest }
         ensures pool { IsOf self.now pass.new }
         ensures accounts { Accounts pass.new.hand }
     {

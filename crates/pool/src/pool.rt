@@ -1,5 +1,5 @@
 //! A pool, and taking and giving single buffers.
-ghost use Rattle.std.specs.Prelude.{◌≡◌, ◌<◌, ◌⊎◌, ◌↔◌, ℕ, [], ◌∷◌, IfOk, IfErr, OnOk, OnErr, IsErrOf, Contains};
+ghost use Rattle.std.specs.Prelude.{◌≡◌, ◌<◌, ◌⊎◌, ◌↔◌, ℕ, List, [], ◌∷◌, IsPermutation, IfOk, IfErr, OnOk, OnErr, IsErrOf, Contains};
 ghost use Rattle.crossbeam_queue.specs.Passes.{view, IsPassOf, IsSamePass, ruled_capacity};
 ghost use Rattle.buffer_pool.specs.Buffer.{buffer};
 ghost use Rattle.buffer_pool.specs.Stocked.{full_stock};
@@ -69,6 +69,7 @@ impl Pool {
     /// `PoolError::Memory` only where memory was refused.
     pub fn new<R: Wait>(rt: &R, alloc: Global, count: u32) -> Result<(Pool, PoolPass), PoolError>
         ensures refused { IsErrOf result PoolError.Count ↔ ((count < FEWEST_BUFFERS) ⊎ (MOST_BUFFERS < count)) }
+        ensures refusals { IfErr result (λ e. (e ≡ PoolError.Count) ⊎ (e ≡ PoolError.Memory)) }
         ensures count { IfOk result (λ made. made.0.count ≡ count) }
         ensures pass { IfOk result (λ made. made.1 ≡ record { pool = made.0.id; hand = fresh_hand count }) }
         ensures accounts { IfOk result (λ made. Accounts made.1.hand) }
@@ -110,6 +111,7 @@ impl Pool {
         requires held { Contains pass.old.hand.held buf.number }
         requires real { buf.capacity ≡ BUFFER_BYTES }
         ensures given { Gave pass.old.hand (buf.number ∷ []) pass.new.hand }
+        ensures left { (rest : List ℕ) → IsPermutation pass.old.hand.held (buf.number ∷ rest) → IsPermutation pass.new.hand.held rest }
         ensures knows { Knows pass.new.hand }
         ensures pool { IsOf self.now pass.new }
         ensures accounts { Accounts pass.new.hand }

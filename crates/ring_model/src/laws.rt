@@ -17,7 +17,7 @@ ghost use Rattle.ring_model.specs.Worlds.{QueueMove, World, after_move, after_mo
 /// bytes or the number of their bytes: its ledgers, of this epoch and of those that ended, and its owner map are lawful;
 /// its counts stand in their order; where the driver saw the disabling answered, the controller has ended; where its
 /// controller stores no more, the last frame is whole, and the head tells how many segments were stored until it is
-/// cleared; where the quiet word is 1, the controller stores no more in this epoch.
+/// cleared; where the quiet word is 1, the controller said so, and stores no more in this epoch.
 pub fn rx_rings_are_lawful()
     ensures bytes { (n : ℕ) (r : RxRing Bytes) → 1 < n → IsRxReachable Bytes n r → IsLawfulRx Bytes r }
     ensures lengths { (n : ℕ) (r : RxRing ℕ) → 1 < n → IsRxReachable ℕ n r → IsLawfulRx ℕ r }

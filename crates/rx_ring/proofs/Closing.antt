@@ -1,23 +1,26 @@
 -- A ring's end: what its slots have, and which of them lie in the ring.
-use Rattle.std.proofs.Common.{◌≡◌, ℕ, ◌<◌, ◌≤◌, List, [], Option, Some, None, sym, refl, ap, ◌∙◌, subst, arith}
+use Rattle.std.proofs.Common.{◌≡◌, ℕ, ◌+◌, ◌%◌, ◌<◌, ◌≤◌, Bool, if◌then◌else◌, List, [], ◌++◌, length, map, drop, Option, Some, None, IsPermutation, sym, refl, ap, ◌∙◌, subst, arith}
 use Rattle.std.specs.Prelude.{slice_get, slice_index}
+use Rattle.std.proofs.lemmas.Option.{same_Some}
+use Rattle.atomic_table.specs.Seated.{TableId}
 use Rattle.buffer_pool.specs.Buffer.{Buffer, buffer}
 use Rattle.ring_model.specs.receive.Ring.{RxRing}
 use Rattle.ring_model.specs.shared.Segments.{Segment, ends_segment, piece_of}
 use Rattle.ring_model.specs.shared.Frames.{Bytes}
-use Rattle.ring_model.specs.shared.Queue.{posted_count, served_count}
+use Rattle.ring_model.specs.shared.Queue.{posted_count, served_count, returned_count}
 use Rattle.ring_model.proofs.receive.Kept.{IsRxKept}
 use Rattle.ring_model.proofs.receive.Reached.{rx_kept}
-use Rattle.ring_model.proofs.shared.Beginnings.{number_at, next_number}
+use Rattle.ring_model.proofs.shared.Beginnings.{next_number}
+use Rattle.ring_model.proofs.shared.Beginnings as beginnings
 use Rattle.shared_ring.specs.declared.ends.DriverPlaces.{DriverPlaces}
 use Rattle.shared_ring.specs.declared.ends.ControllerPlaces.{ControllerPlaces}
-use Rattle.shared_ring.specs.Meeting.{TakenApart}
-use Rattle.shared_ring.proofs.Closing.{IsPlaced, closes, kept-count, kept-there, kept-else}
+use Rattle.shared_ring.specs.Meeting.{TakenApart, kept_at, kept_upto, number_at, numbers_at}
+use Rattle.shared_ring.proofs.Closing.{IsPlaced, closes, kept-count, kept-there, kept-else, kept-all, kept-once}
 use Rattle.shared_ring.proofs.Laying.{index_there}
 use Rattle.shared_ring.specs.Calls.{IsPoster, IsServer}
-use Rattle.rx_ring.specs.Ends.{DriverSide, driver_size, driver_record, posted, ControllerSide, controller_size, controller_record}
-use Rattle.rx_ring.specs.Meeting.{IsClosed}
-use Rattle.rx_ring.specs.Records.{RxDriven}
+use Rattle.rx_ring.specs.Ends.{DriverSide, driver_size, driver_record, posted, ControllerSide, controller_size, controller_record, held}
+use Rattle.rx_ring.specs.Meeting.{IsClosed, GaveBack, IsReal, AllReal, AllCameBack}
+use Rattle.rx_ring.specs.Records.{RxDriven, controlling}
 use Rattle.rx_ring.specs.Rule.{says, lies_there}
 use Rattle.rx_ring.proofs.Lawful.{posted-some}
 
@@ -33,13 +36,19 @@ module _ (d : DriverSide) (c : ControllerSide) (at : DriverPlaces) (e : IsPoster
   kept : IsRxKept Bytes (driver_size d) ((t.left).of_one_ring).queue
   kept = let l = t.left in let a = l.of_one_ring in rx_kept (driver_size d) a.queue big a.reachable
 
+  abbrev Lies : ℕ → Buffer → Type 0
+  Lies j y = lies_there (slice_get q.ledger.posted j) (slice_get q.ledger.served j) ≡ Some y
+
+  abbrev Is : ℕ → Buffer → Type 0
+  Is j y = (slice_get (posted d) j ≡ Some y.number) × IsReal y
+
   -- what lies at an item that is out
-  buffer-of : (k : ℕ) → k < posted_count q.queue → (b : Buffer) × ((lies_there (slice_get q.ledger.posted k) (slice_get q.ledger.served k) ≡ Some b) × (slice_get (posted d) k ≡ Some b.number))
-  buffer-of k past = let l = t.left in let a = l.of_one_ring in let b = found (slice_get q.ledger.served k) refl in (b.0, (b.1.0, ap (λ (x : RxDriven). slice_get x.posted k) a.driver ∙ b.1.1))
+  buffer-of : (k : ℕ) → k < posted_count q.queue → (b : Buffer) × (Lies k b × Is k b)
+  buffer-of k past = let l = t.left in let a = l.of_one_ring in let b = found (slice_get q.ledger.served k) refl in (b.0, (b.1.0, (ap (λ (x : RxDriven). slice_get x.posted k) a.driver ∙ b.1.1, b.1.2)))
     where
-      found : (o : Option (Segment Bytes)) → slice_get q.ledger.served k ≡ o → (b : Buffer) × ((lies_there (slice_get q.ledger.posted k) (slice_get q.ledger.served k) ≡ Some b) × (slice_get q.ledger.posted k ≡ Some b.number))
-      found None e = let h = index_there q.ledger.posted k past in (buffer (slice_index q.ledger.posted k) [], (rw (h, e) refl, h))
-      found (Some s) e = let kk = kept in let h = number_at q.ledger.served q.ledger.posted k s kk.stored e in (buffer s.number s.payload, (rw (h, e) refl, h))
+      found : (o : Option (Segment Bytes)) → slice_get q.ledger.served k ≡ o → (b : Buffer) × (Lies k b × (slice_get q.ledger.posted k ≡ Some b.number) × IsReal b)
+      found None e = let h = index_there q.ledger.posted k past in (buffer (slice_index q.ledger.posted k) [], (rw (h, e) refl, h, refl))
+      found (Some s) e = let kk = kept in let h = beginnings.number_at q.ledger.served q.ledger.posted k s kk.stored e in (buffer s.number s.payload, (rw (h, e) refl, h, refl))
 
   some-there : served_count q.queue < posted_count q.queue → ¬ (lies_there (slice_get q.ledger.posted (served_count q.queue)) None ≡ None)
   some-there more = posted-some (slice_get q.ledger.posted (served_count q.queue)) (slice_index q.ledger.posted (served_count q.queue)) (next_number q.ledger.served q.ledger.posted more)
@@ -47,13 +56,43 @@ module _ (d : DriverSide) (c : ControllerSide) (at : DriverPlaces) (e : IsPoster
   placed : IsPlaced (driver_size d) q.queue at.next at.out places.serve places.holding
   placed = let l = t.left in let a = l.of_one_ring in let k = kept in closes d c at e same places h says lies_there ends_segment q.queue k.queue q.still a.driver a.controller some-there
 
+  gave-back : (place : ℕ) (bs : List (Option Buffer))
+      → ((k : ℕ) × (b : Buffer) × ((returned_count q.queue ≤ k) × (k < posted_count q.queue) × (k % driver_size d ≡ place) × (slice_get bs place ≡ Some (Some b)) × Is k b)) → GaveBack d bs place
+  gave-back place bs (k, b, f) = let l = t.left in let a = l.of_one_ring in record {
+    item = k;
+    buf = b;
+    out = subst (λ (x : RxDriven). length x.given + x.reclaimed ≤ k) (sym a.driver) f.0;
+    posted_item = subst (λ (x : RxDriven). k < length x.posted) (sym a.driver) f.1;
+    place_is = f.2;
+    there = f.3;
+    number = f.4.0;
+  }
+
   pub closed-by : IsClosed d c buffers
   closed-by = let l = t.left in let a = l.of_one_ring in let b = a.lawful in let k = kept in let p = placed in
-      let Lies : ℕ → Buffer → Type 0 = λ j y. lies_there (slice_get q.ledger.posted j) (slice_get q.ledger.served j) ≡ Some y in
-      let Is : ℕ → Buffer → Type 0 = λ j y. slice_get (posted d) j ≡ Some y.number in
       subst (λ (bs : List (Option Buffer)). IsClosed d c bs) (sym t.kept) (record {
         of_one_ring = l.of_one_ring;
         count = kept-count q.queue (driver_size d) ends_segment k.queue q.owners b.map a.size_is at.next at.out places.serve places.holding big p.next_is p.out_is p.held_is p.serve_is t.slots Lies Is buffer-of l.buffers;
-        ring = kept-there q.queue (driver_size d) ends_segment k.queue q.owners b.map a.size_is at.next at.out places.serve places.holding big p.next_is p.out_is p.held_is p.serve_is t.slots Lies Is buffer-of l.buffers;
+        ring = λ place e. gave-back place (kept_upto (kept_at (driver_size d) at.next at.out places.serve places.holding t.slots) (driver_size d))
+            (kept-there q.queue (driver_size d) ends_segment k.queue q.owners b.map a.size_is at.next at.out places.serve places.holding big p.next_is p.out_is p.held_is p.serve_is t.slots Lies Is buffer-of l.buffers place e);
         others = kept-else q.queue (driver_size d) ends_segment k.queue q.owners b.map a.size_is at.next at.out places.serve places.holding big p.next_is p.out_is p.held_is p.serve_is t.slots Lies Is buffer-of l.buffers;
       })
+
+  pub closed-real : AllReal buffers
+  closed-real = let l = t.left in let a = l.of_one_ring in let b = a.lawful in let k = kept in let p = placed in
+      subst AllReal (sym t.kept) (kept-all q.queue (driver_size d) ends_segment k.queue q.owners b.map a.size_is at.next at.out places.serve places.holding big p.next_is p.out_is p.held_is p.serve_is t.slots Lies Is buffer-of l.buffers
+      IsReal (λ j past. let y = buffer-of j past in y.1.1.1))
+
+  -- what the controller's record says that it holds
+  held-here : number_at (held c) ≡ number_at (if q.held then lies_there (slice_get q.ledger.posted (served_count q.queue)) None else None)
+  held-here = let l = t.left in let a = l.of_one_ring in let o = a.controller in ap (λ (z : TableId). number_at (controlling z.slots c.events).held) same ∙ ap number_at o.held
+
+  pub closed-once : AllCameBack d c buffers
+  closed-once = let l = t.left in let a = l.of_one_ring in let b = a.lawful in let k = kept in let p = placed in
+      subst (λ (bs : List (Option Buffer)). AllCameBack d c bs) (sym t.kept)
+      (subst (λ (x : RxDriven). IsPermutation (map (λ (j : ℕ). j) (drop (length x.given + x.reclaimed) x.posted)) (numbers_at (kept_upto (kept_at (driver_size d) at.next at.out places.serve places.holding t.slots) (driver_size d)) ++ number_at (held c))) (sym a.driver)
+      (kept-once q.queue (driver_size d) ends_segment k.queue q.owners b.map a.size_is at.next at.out places.serve places.holding big p.next_is p.out_is p.held_is p.serve_is t.slots Lies Is buffer-of l.buffers
+      (λ j. j) (λ j past x e. let y = buffer-of j past in same_Some y.0.number x (sym y.1.1.0 ∙ ap (λ (z : RxDriven). slice_get z.posted j) a.driver ∙ e))
+      (number_at (held c))
+      (λ no. held-here ∙ ap (λ (h : Bool). number_at (if h then lies_there (slice_get q.ledger.posted (served_count q.queue)) None else None)) no)
+      (λ yes x e. held-here ∙ ap (λ (h : Bool). number_at (if h then lies_there (slice_get q.ledger.posted (served_count q.queue)) None else None)) yes ∙ ap (λ (o : Option ℕ). number_at (lies_there o None)) e)))

@@ -8,6 +8,7 @@ use Rattle.ring_model.specs.shared.Segments.{Segment}
 use Rattle.ring_model.specs.shared.Frames.{Bytes}
 use Rattle.ring_model.specs.shared.Handshakes.{is_live, is_cleared, is_tailed}
 use Rattle.ring_model.specs.shared.Places.{between_places}
+use Rattle.ring_model.proofs.shared.Shakes.{live_unanswered}
 use Rattle.shared_ring.specs.declared.events.DriverEvent.TheVariants as driver
 use Rattle.rx_ring.specs.declared.events.RxDriverOwn.TheVariants.{NotDone, Taken, ClearedQuiet}
 use Rattle.rx_ring.specs.Records.{RxDriven, DriverStep, drive, segment_of, Knowing, unknown}
@@ -46,6 +47,7 @@ module _ (d : DriverSide) (at : DriverPlaces) (h : IsDriverEnd d at) (now : Driv
       step = f.step ∙ ap (λ (p : ℕ). appended d (driver.Own (NotDone p f.word))) h.next_is;
       same = record-after d new (driver.Own (NotDone at.next f.word)) f.step;
       drained = λ q. ap (λ (k : Knowing). k.drained) (known-after d new (driver.Own (NotDone at.next f.word)) f.step) ∙ or_right (known_of d).drained (known_of d).quiet q;
+      known = known-after d new (driver.Own (NotDone at.next f.word)) f.step;
     })
 
     pub segment-keeps : (new : DriverSide) (buf : Buffer) (eop : Bool) (next' : ℕ) → FoundSegment d at.next buf eop new → next' ≡ (if (at.next + 1) == driver_size d then 0 else (at.next + 1)) → IsDriverEnd new (record at { next = next'; out = at.out - 1 })
@@ -59,6 +61,7 @@ module _ (d : DriverSide) (at : DriverPlaces) (h : IsDriverEnd d at) (now : Driv
     segment-taken new buf eop f = subst (λ (s : DriverSide). TookSegment s buf eop new) was (record {
       live = is-live;
       some_out = some-out;
+      none_back = h.unreclaimed (live_unanswered (driver_state d) is-live);
       step = f.step ∙ ap (λ (p : ℕ). appended d (driver.Own (Taken p (rx_word (length buf.bytes) eop) buf))) h.next_is;
       number = f.number;
       real = f.real;
@@ -66,6 +69,7 @@ module _ (d : DriverSide) (at : DriverPlaces) (h : IsDriverEnd d at) (now : Driv
       grew = record-after d new (driver.Own (Taken at.next (rx_word (length buf.bytes) eop) buf)) f.step ∙ grew buf eop;
       room = let o = h.out_is in let r = h.room in let len = length-append (taken d) (segment_of (rx_word (length buf.bytes) eop) buf ∷ []) in let z : driver_size new ≡ driver_size d = ap driver_size f.step in
           subst (λ (x : RxDriven). length x.posted + 1 < length x.given + x.reclaimed + driver_size new) (sym (record-after d new (driver.Own (Taken at.next (rx_word (length buf.bytes) eop) buf)) f.step)) (omega arith);
+      known = known-after d new (driver.Own (Taken at.next (rx_word (length buf.bytes) eop) buf)) f.step;
     })
 
   -- C6
@@ -96,6 +100,7 @@ module _ (d : DriverSide) (at : DriverPlaces) (h : IsDriverEnd d at) (now : Driv
     head = head;
     step = step;
     same = record-after d new (driver.LoadedHead head) step;
+    known = known-after d new (driver.LoadedHead head) step;
     told = ap (left_at new) (ap (λ (k : Knowing). k.head) (known-after d new (driver.LoadedHead head) step)) ∙ ap Some (sym counted);
   })
     where

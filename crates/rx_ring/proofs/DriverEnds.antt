@@ -65,3 +65,9 @@ end-fresh n lawful = end-anew n 0 lawful
 pub quiet-seen : (was b : Bool) → b ≡ true → (was || (bit b == 1)) ≡ true
 quiet-seen was true e = or_right was true refl
 quiet-seen was false e = absurd (false≢true e)
+
+-- the quiet word, as a bit, was 1 where the answer is true
+pub quiet-told : (x : RxDriven) (k : Knowing) (b : Bool) → know x k (driver.Own (LoadedQuiet (bit b)))
+    ≡ (let l : Knowing = record k { quiet = k.quiet || b; drained = k.drained || ((k.quiet || b) && (length x.given == length x.posted)) } in l)
+quiet-told x k true = refl
+quiet-told x k false = refl

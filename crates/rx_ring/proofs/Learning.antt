@@ -14,7 +14,7 @@ use Rattle.ring_model.specs.shared.Segments.{Segment, ends_segment}
 use Rattle.ring_model.specs.receive.Steps.{rx_can, rx_changed, took}
 use Rattle.ring_model.proofs.receive.Kept.{IsRxKept}
 use Rattle.ring_model.proofs.receive.Reached.{rx_later-all}
-use Rattle.ring_model.proofs.receive.Over.{over-ended}
+use Rattle.ring_model.proofs.receive.Over.{over-ended, said-stays}
 use Rattle.ring_model.proofs.shared.Reaching.{next-happens}
 use Rattle.ring_model.proofs.shared.Shakes.{answered_closed, stopped_answered, stopped_full}
 use Rattle.ring_model.proofs.shared.Stepping.{answered_over}
@@ -43,21 +43,23 @@ module _ (n : ℕ) (q : RxRing Bytes) (k : IsRxKept Bytes n q) where
 
   module _ (x : Knowing) (l : Learnt n q x) where
     -- a step that leaves what was taken
-    pub learnt-on : (p : RxRing Bytes) → SameEpoch q.queue (rx_over q) p.queue (rx_over p) → p.ledger.given ≡ q.ledger.given → Learnt n p x
-    learnt-on p e same = record {
+    pub learnt-on : (p : RxRing Bytes) → SameEpoch q.queue (rx_over q) p.queue (rx_over p) → (rx_over q ≡ true → q.still ≡ true → p.still ≡ true) → p.ledger.given ≡ q.ledger.given → Learnt n p x
+    learnt-on p e stays same = record {
       head = λ place f. let h = l.head place f in let s = e.served (answered_rx_over h.0) in let g = e.given h.0 in (g.1, h.1 ∙ ap (λ (xs : List (Segment Bytes)). length xs % n) (sym s.0));
       quiet = λ f. let s = e.served (l.quiet f) in s.1;
+      said = λ f. stays (l.quiet f) (l.said f);
       drained = λ f. let h = l.drained f in let s = e.served h.0 in (s.1, ap length same ∙ h.1 ∙ ap length (sym s.0));
     }
 
     pub learnt-step : (s : RxStep Bytes) → rx_can q s ≡ true → (rx_changed q s).past ≡ q.past → (rx_changed q s).ledger.given ≡ q.ledger.given → Learnt n (rx_changed q s) x
-    learnt-step s may past given = learnt-on (rx_changed q s) (same-epoch s may past) given
+    learnt-step s may past given = learnt-on (rx_changed q s) (same-epoch s may past) (said-stays n q k s may) given
 
     -- the head, once the disabling was seen answered
     pub learnt-head : (w : ℕ) → is_stopped q.handshake.driver ≡ true → w ≡ q.head → Learnt n q (record x { head = Some w })
     learnt-head w stopped e = let a = stopped_answered q.handshake.driver stopped in let o = k.queue in record {
       head = λ place f. (a, sym (same_Some w place f) ∙ e ∙ o.told (answered_over n ends_segment q.queue o a) (answered_closed q.handshake.driver a) (stopped_full q.handshake.driver stopped) ∙ ap (λ (j : ℕ). served_count q.queue % j) o.size_is);
       quiet = l.quiet;
+      said = l.said;
       drained = l.drained;
     }
 
@@ -66,6 +68,7 @@ module _ (n : ℕ) (q : RxRing Bytes) (k : IsRxKept Bytes n q) where
     learnt-not_done p w e = record {
       head = l.head;
       quiet = l.quiet;
+      said = l.said;
       drained = λ f. ⊎_elim (λ a. l.drained a) (λ b. (l.quiet b, let o = k.queue.order in let gs = o.given_served in let none = none_past q.ledger.served (given_count q.queue) e in omega arith)) (or_cases x.drained x.quiet f);
     }
       where
@@ -84,6 +87,7 @@ module _ (n : ℕ) (q : RxRing Bytes) (k : IsRxKept Bytes n q) where
     learnt-quiet w e = record {
       head = l.head;
       quiet = λ f. quiet_learnt w e f;
+      said = λ f. ⊎_elim (λ a. l.said a) (λ b. k.said (sym e ∙ eqb-true w 1 b)) (or_cases x.quiet (w == 1) f);
       drained = λ f. ⊎_elim (λ a. l.drained a)
           (λ b. let t = and_parts (x.quiet || (w == 1)) (length q.ledger.given == length q.ledger.posted) b in (quiet_learnt w e t.0, all_taken (eqb-true (length q.ledger.given) (length q.ledger.posted) t.1)))
           (or_cases x.drained ((x.quiet || (w == 1)) && (length q.ledger.given == length q.ledger.posted)) f);
@@ -93,6 +97,7 @@ module _ (n : ℕ) (q : RxRing Bytes) (k : IsRxKept Bytes n q) where
     learnt-taken s p w b is e = let below : given_count q.queue < served_count q.queue = slice_get_within q.ledger.served (given_count q.queue) s is in let more = length-append q.ledger.given (s ∷ []) in record {
       head = λ place f. let h = l.head place f in let t = e.served (answered_rx_over h.0) in let g = e.given h.0 in (g.1, h.1 ∙ ap (λ (xs : List (Segment Bytes)). length xs % n) (sym t.0));
       quiet = λ f. let t = e.served (l.quiet f) in t.1;
+      said = l.said;
       drained = λ f. ⊎_elim (λ a. let h = l.drained a in let c = h.1 in absurd (omega arith))
           (λ c. let t = and_parts x.quiet (length q.ledger.given + 1 == length q.ledger.posted) c in let full = eqb-true (length q.ledger.given + 1) (length q.ledger.posted) t.1 in
           let o = k.queue.order in let sp = o.served_posted in let u = e.served (l.quiet t.0) in (u.1, omega arith))
@@ -100,4 +105,4 @@ module _ (n : ℕ) (q : RxRing Bytes) (k : IsRxKept Bytes n q) where
     }
 
   pub learnt-unknown : Learnt n q unknown
-  learnt-unknown = record { head = λ place f. absurd (none-some place f); quiet = λ f. absurd (false≢true f); drained = λ f. absurd (false≢true f) }
+  learnt-unknown = record { head = λ place f. absurd (none-some place f); quiet = λ f. absurd (false≢true f); said = λ f. absurd (false≢true f); drained = λ f. absurd (false≢true f) }

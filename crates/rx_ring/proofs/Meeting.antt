@@ -1,5 +1,6 @@
 -- What two ends that met know of their ledger.
 use Rattle.std.proofs.Common.{◌≡◌, ℕ, ◌+◌, ◌-◌, ◌%◌, ◌<◌, true, List, length, Option, Some, None, sym, refl, ap, ◌∙◌, subst, arith, ◌++◌, append-nil, length-append}
+use Rattle.atomic_table.specs.Seated.{TableId}
 use Rattle.ring_model.specs.shared.Lists.{IsBeginning}
 use Rattle.ring_model.specs.receive.Ring.{RxLedger}
 use Rattle.ring_model.specs.shared.Segments.{Segment, ends_segment}
@@ -10,10 +11,10 @@ use Rattle.ring_model.proofs.receive.Kept.{IsRxKept}
 use Rattle.ring_model.proofs.receive.Reached.{rx_kept}
 use Rattle.ring_model.proofs.shared.Places.{ahead}
 use Rattle.shared_ring.proofs.Laying.{none-empty}
-use Rattle.rx_ring.specs.Records.{RxDriven}
+use Rattle.rx_ring.specs.Records.{RxDriven, controlling}
 use Rattle.shared_ring.proofs.Meeting.{served-is}
 use Rattle.rx_ring.specs.Rule.{says, lies_there}
-use Rattle.rx_ring.specs.Ends.{DriverSide, driver_size, taken, known_of, is_drained, ControllerSide}
+use Rattle.rx_ring.specs.Ends.{DriverSide, driver_size, taken, known_of, saw_quiet, is_drained, ControllerSide, is_quiet}
 use Rattle.rx_ring.specs.Calls.{IsTold, left_at, told_left}
 use Rattle.rx_ring.specs.Meeting.{ledger_of, stored_now, left_by, Met}
 
@@ -46,6 +47,10 @@ module _ (d : DriverSide) (c : ControllerSide) (m : Met d c) (same : c.table ≡
       let b : left_by d head ≡ (served_count m.queue.queue % driver_size d + driver_size d - given_count m.queue.queue % driver_size d) % driver_size d =
       ap (λ (x : ℕ). (head + driver_size d - x % driver_size d) % driver_size d) t ∙ ap (λ (x : ℕ). (x + driver_size d - given_count m.queue.queue % driver_size d) % driver_size d) h.1 in
       omega arith
+
+  -- where it saw the queue quiet, the controller said that it is
+  pub met-quiet : saw_quiet d ≡ true → is_quiet c ≡ true
+  met-quiet e = let l = m.learnt in let o = m.controller in ap (λ (z : TableId). (controlling z.slots c.events).barred) same ∙ o.barred ∙ l.said e
 
   pub met-drained : is_drained d ≡ true → taken d ≡ stored_now d c
   met-drained e = let l = m.learnt in let h = l.drained e in let k = kept in

@@ -30,6 +30,8 @@ module _ (n : ℕ) (mode : Completion) (es : List DriverStep) where
     goes = λ q cs words homes pos l f. found n mode l.reports q es cs words homes pos l.lies place at out (state-is n mode l.reports q es cs words homes pos l.lies is_live true live) (due q) refl f;
     same = λ r. record { posted = refl; given = refl; reclaimed = refl };
     back = λ r b. record { posted = refl; back = let e = length-append d.given (segment_of r b ∷ []) in omega arith };
+    names_missed = λ r. refl;
+    names = λ r b. refl;
   }
 
   pub may-load_quiet : MayLoad rx loads_quiet IsBit n mode es (n + 3)
@@ -40,6 +42,7 @@ module _ (n : ℕ) (mode : Completion) (es : List DriverStep) where
       lie n mode l.reports q es cs words homes pos m q (es ++ loads_quiet n es (n + 3) (slice_index words (n + 3)) blank ∷ []) cs words homes (quiet-lies n q es cs words homes pos m (slice_index words (n + 3)) r.quiet),
     );
     same = λ r. record { posted = refl; given = refl; reclaimed = refl };
+    names = λ r. refl;
   }
 
   pub may-clear_quiet : is_tailed d.state ≡ true → MayEnd rx clears_quiet n mode es (n + 3)
@@ -48,6 +51,7 @@ module _ (n : ℕ) (mode : Completion) (es : List DriverStep) where
     goes = λ q cs words homes pos l. let m = l.lies in lie n mode l.reports q es cs words homes pos m (rx_changed q step.ClearQuiet) (es ++ clears_quiet n es (n + 3) 0 blank ∷ []) cs (slice_set words (n + 3) 0) homes
         (clear_quiet-lies n q es cs words homes pos m (state-is n mode l.reports q es cs words homes pos m is_tailed true tailed));
     gone = record { posted = refl; given = refl; reclaimed = refl };
+    names = refl;
   }
 
 module _ (n : ℕ) (mode : Completion) (es : List ControllerStep) where
@@ -66,6 +70,7 @@ module _ (n : ℕ) (mode : Completion) (es : List ControllerStep) where
         (posted-there n mode ok q ds es words homes pos m (held_below n ends_segment q.queue k.queue t.0) ∙ ap Some (sym number)) number
         (subst (λ (xs : List (Segment Bytes)). Follows piece_of n (unfinished piece_of xs) b.bytes eop) sv follows));
     held = refl;
+    names = refl;
   })
 
   pub may-set_head : (h : ℕ) → h ≡ length c.served % n → is_serving c.state ≡ true → c.held ≡ None → MayStore rx stores_head n mode es n h
@@ -75,6 +80,7 @@ module _ (n : ℕ) (mode : Completion) (es : List ControllerStep) where
         (head-lies n q ds es words homes pos m h (serve-there n mode ok q ds es words homes pos m h at serving) (serving-there n mode ok q ds es words homes pos m serving) (unheld-there n mode ok q ds es words homes pos m unheld));
     served = refl;
     held = refl;
+    names = refl;
   }
 
   pub may-say_quiet : is_serving c.state ≡ true → c.held ≡ None → ends_frame ends_segment true c.served ≡ true → MayStore rx says_quiet n mode es (n + 3) 1
@@ -85,4 +91,5 @@ module _ (n : ℕ) (mode : Completion) (es : List ControllerStep) where
         (sym (ap (ends_frame ends_segment true) (served-there n mode ok q ds es words homes pos m serving)) ∙ whole));
     served = refl;
     held = refl;
+    names = refl;
   }

@@ -1,5 +1,5 @@
 -- What the calls of both ends do, where their answer depends on what was loaded; and what the fields of an end keep.
-use Rattle.std.specs.Prelude.{◌≡◌, ℕ, ◌+◌, ◌%◌, ◌<◌, Bool, true, false, [], ◌∷◌, ◌++◌, length, Option, Some, None, slice_get}
+use Rattle.std.specs.Prelude.{◌≡◌, ℕ, ◌+◌, ◌%◌, ◌<◌, Bool, true, false, ◌||◌, ◌&&◌, [], ◌∷◌, ◌++◌, length, Option, Some, None, slice_get, ◌==◌}
 use Rattle.buffer_pool.specs.Buffer.{Buffer, buffer}
 use Rattle.ring_model.specs.receive.Agreement.{rx_word}
 use Rattle.ring_model.specs.shared.Segments.{Segment, piece_of}
@@ -32,17 +32,20 @@ pub record SawNotDone (old new : DriverSide) : Type 0 where
   pub step : new ≡ appended old (driver.Own (NotDone (next_place old) word))
   pub same : driver_record new ≡ driver_record old
   pub drained : saw_quiet old ≡ true → is_drained new ≡ true
+  pub known : known_of new ≡ record (known_of old) { drained = is_drained old || saw_quiet old }
 
--- the next descriptor was loaded, and had DD: the segment lies in the buffer that was posted next in order, with the length and EOP of the word, and it follows the frame so far; so there is room for one more
+-- the next descriptor was loaded, and had DD: the segment lies in the buffer that was posted next in order, with the length and EOP of the word, and it follows the frame so far; so there is room for one more. Where the queue was seen quiet and this was the last that is posted, nothing is left to take
 pub record TookSegment (old : DriverSide) (buf : Buffer) (eop : Bool) (new : DriverSide) : Type 0 where
   pub live : is_live (driver_state old) ≡ true
   pub some_out : length (taken old) < length (posted old)
+  pub none_back : reclaimed old ≡ 0
   pub step : new ≡ appended old (driver.Own (Taken (next_place old) (rx_word (length buf.bytes) eop) buf))
   pub number : slice_get (posted old) (length (taken old)) ≡ Some buf.number
   pub real : buf ≡ buffer buf.number buf.bytes
   pub follows : Follows piece_of (driver_size old) (unfinished piece_of (taken old)) buf.bytes eop
   pub grew : driver_record new ≡ record (driver_record old) { given = taken old ++ segment buf eop ∷ [] }
   pub room : length (posted new) + 1 < returned new + driver_size new
+  pub known : known_of new ≡ record (known_of old) { drained = is_drained old || (saw_quiet old && (length (taken old) + 1 == length (posted old))) }
 
 -- all that is posted is taken. Where the queue was seen quiet, nothing is left to take
 pub record SawEmpty (old new : DriverSide) : Type 0 where
@@ -61,6 +64,10 @@ Polled old poll.NotDone new = SawNotDone old new
 Polled old poll.Empty new = SawEmpty old new
 Polled old poll.Off new = SawOff old new
 
+-- what is known after a load of the quiet word: that it was 1 once, and, where all that is posted is taken then, that nothing is left to take; all else is the same
+abbrev pub told_quiet : Bool → DriverSide → Knowing
+told_quiet said d = record (known_of d) { quiet = saw_quiet d || said; drained = is_drained d || ((saw_quiet d || said) && (length (taken d) == length (posted d))) }
+
 -- how many segments were left to take, if the head was loaded after the disabling was seen answered
 abbrev pub left_at : DriverSide → Option ℕ → Option ℕ
 left_at d None = None
@@ -73,6 +80,7 @@ pub record FoundLeft (old : DriverSide) (left : ℕ) (new : DriverSide) : Type 0
   pub head : ℕ
   pub step : new ≡ appended old (driver.LoadedHead head)
   pub same : driver_record new ≡ driver_record old
+  pub known : known_of new ≡ record (known_of old) { head = Some head }
   pub told : told_left new ≡ Some left
 
 -- the oldest buffer that was out came back

@@ -16,7 +16,7 @@ use Rattle.shared_ring.specs.Forms.{Form}
 use Rattle.shared_ring.specs.Lies.{driven, IsControlled}
 use Rattle.rx_ring.specs.declared.events.RxDriverOwn.{RxDriverOwn}
 use Rattle.rx_ring.specs.declared.events.RxControllerOwn.{RxControllerOwn}
-use Rattle.rx_ring.specs.Records.{DriverStep, ControllerStep, driving, controlling, Knowing, unknown, saw_head, know_own, knowing, posting, drive_own, control_own}
+use Rattle.rx_ring.specs.Records.{DriverStep, ControllerStep, driving, controlling, Knowing, unknown, saw_head, know_own, knowing, posting, drive_own, control_own, driver_names, controller_names}
 use Rattle.rx_ring.specs.Rule.{Learnt, LiesAs, says, lies_there}
 
 -- both records are those of one lawful ring that a schedule makes, of which the driver has learnt what it says
@@ -46,6 +46,8 @@ rx = record {
   posting = posting;
   drive_own = drive_own;
   control_own = control_own;
+  driver_names = driver_names;
+  controller_names = controller_names;
   Known = Knowing;
   unknown = unknown;
   saw_head = saw_head;

@@ -1,5 +1,5 @@
 -- What both ends know together: as they are made, as they meet, and as the ring is closed.
-use Rattle.std.specs.Prelude.{◌≡◌, ℕ, ◌+◌, ◌-◌, ◌%◌, ◌<◌, List, length, Option, Some, None, slice_get}
+use Rattle.std.specs.Prelude.{◌≡◌, ℕ, ◌+◌, ◌-◌, ◌%◌, ◌<◌, ◌≤◌, List, length, Option, Some, None, slice_get}
 use Rattle.atomic_table.specs.Seated.{TableId}
 use Rattle.buffer_pool.specs.Buffer.{Buffer}
 use Rattle.ring_model.specs.declared.states.Completion.TheVariants.{Status}
@@ -7,8 +7,8 @@ use Rattle.ring_model.specs.declared.states.Owner.TheVariants.{Ring}
 use Rattle.ring_model.specs.receive.Ring.{RxLedger}
 use Rattle.ring_model.specs.shared.Frames.{Bytes}
 use Rattle.shared_ring.specs.Meeting as shared
-pub use Rattle.shared_ring.specs.Meeting.{is_unanswered, served_now as stored_now, Met}
-use Rattle.rx_ring.specs.Ends.{DriverSide, driver_size, posted, taken, ControllerSide}
+pub use Rattle.shared_ring.specs.Meeting.{is_unanswered, served_now as stored_now, Met, IsReal, AllReal}
+use Rattle.rx_ring.specs.Ends.{DriverSide, driver_size, posted, taken, returned, ControllerSide}
 use Rattle.rx_ring.specs.Form.{AreOf}
 
 -- A made ring, whose two ends have done nothing yet: it is disabled, and reports by its descriptors
@@ -23,9 +23,27 @@ ledger_of d c = record { posted = posted d; served = stored_now d c; given = tak
 abbrev pub left_by : DriverSide → ℕ → ℕ
 left_by d head = (head + driver_size d - length (taken d) % driver_size d) % driver_size d
 
--- A closed ring gave a buffer back at exactly the places that were with Ring, with the number that was posted there
+-- the numbers of the buffers that are out, the oldest first
+abbrev pub out_of : DriverSide → List ℕ
+out_of d = shared.out_of (λ number. number) d
+
+-- each buffer that is out is once among those of these places and the one that the controller holds
+abbrev pub AllCameBack : DriverSide → ControllerSide → List (Option Buffer) → Type 0
+AllCameBack d c buffers = shared.AllCameBack (λ number. number) d c buffers
+
+-- at this place lay the buffer of an item that is out, with the number that was posted there
+pub record GaveBack (d : DriverSide) (buffers : List (Option Buffer)) (place : ℕ) : Type 0 where
+  pub item : ℕ
+  pub buf : Buffer
+  pub out : returned d ≤ item
+  pub posted_item : item < length (posted d)
+  pub place_is : item % driver_size d ≡ place
+  pub there : slice_get buffers place ≡ Some (Some buf)
+  pub number : slice_get (posted d) item ≡ Some buf.number
+
+-- A closed ring gave a buffer back at exactly the places that were with Ring, and each is that of an item that is out
 pub record IsClosed (d : DriverSide) (c : ControllerSide) (buffers : List (Option Buffer)) : Type 0 where
   pub of_one_ring : AreOf (driver_size d) d.events c.events
   pub count : length buffers ≡ driver_size d
-  pub ring : (place : ℕ) → slice_get of_one_ring.queue.owners place ≡ Some Ring → (k : ℕ) × (b : Buffer) × ((k % driver_size d ≡ place) × (slice_get buffers place ≡ Some (Some b)) × (slice_get (posted d) k ≡ Some b.number))
+  pub ring : (place : ℕ) → slice_get of_one_ring.queue.owners place ≡ Some Ring → GaveBack d buffers place
   pub others : (place : ℕ) → place < driver_size d → ¬ (slice_get of_one_ring.queue.owners place ≡ Some Ring) → slice_get buffers place ≡ Some None

@@ -6,6 +6,7 @@ use Rattle.ring_model.specs.shared.Frames.{Bytes}
 use Rattle.ring_model.specs.shared.Segments.{Segment}
 use Rattle.shared_ring.specs.declared.events.DriverEvent.{DriverEvent}
 use Rattle.shared_ring.specs.declared.events.ControllerEvent.{ControllerEvent}
+use Rattle.shared_ring.specs.Accesses.{Access, access}
 use Rattle.shared_ring.specs.Records as shared
 use Rattle.shared_ring.specs.Records.{Driven, Controlled, undriven, uncontrolled}
 use Rattle.rx_ring.specs.declared.events.RxDriverOwn.{RxDriverOwn}
@@ -52,6 +53,17 @@ driving es = shared.driving_from posting drive_own undriven es
 abbrev pub control_own : RxControlled → RxControllerOwn → RxControlled
 control_own c (WroteBack place word b) = record c { served = c.served ++ segment_of word b ∷ []; held = None }
 control_own c SaidQuiet = record c { barred = true }
+
+-- which word a step loads or stores in a ring of n places, and the value that it finds or stores there
+abbrev pub driver_names : ℕ → RxDriverOwn → Access
+driver_names n (NotDone place word) = access place word
+driver_names n (Taken place word b) = access place word
+driver_names n (LoadedQuiet word) = access (n + 3) word
+driver_names n ClearedQuiet = access (n + 3) 0
+
+abbrev pub controller_names : ℕ → RxControllerOwn → Access
+controller_names n (WroteBack place word b) = access place word
+controller_names n SaidQuiet = access (n + 3) 1
 
 abbrev pub control : ℕ → RxControlled → ControllerStep → RxControlled
 control n = shared.control n control_own

@@ -20,10 +20,11 @@ says = rx_says {Payload = Bytes} length (λ b. buffer b []) buffer
 abbrev pub lies_there : Option ℕ → Option (Segment Bytes) → Option Buffer
 lies_there = rx_lies {Payload = Bytes} length (λ b. buffer b []) buffer
 
--- What the driver has learnt is so: the head that it loaded is the place after the last stored segment; the controller stores no more; and what is stored is taken
+-- What the driver has learnt is so: the head that it loaded is the place after the last stored segment; the controller said that it stores no more, and stores no more; and what is stored is taken
 pub record Learnt (n : ℕ) (q : RxRing Bytes) (k : Knowing) : Type 0 where
   pub head : (place : ℕ) → k.head ≡ Some place → (is_answered q.handshake.driver ≡ true) × (place ≡ served_count q.queue % n)
   pub quiet : k.quiet ≡ true → rx_over q ≡ true
+  pub said : k.quiet ≡ true → q.still ≡ true
   pub drained : k.drained ≡ true → (rx_over q ≡ true) × (given_count q.queue ≡ served_count q.queue)
 
 -- the records are those of the ring q, and words and slots lie as q has them

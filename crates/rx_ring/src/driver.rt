@@ -12,7 +12,7 @@ ghost use Rattle.rx_ring.specs.declared.events.RxDriverOwn.TheVariants.{LoadedQu
 ghost use Rattle.rx_ring.specs.Ends.{driver_size, driver_record, posted, taken, returned, driver_state, known_of, saw_quiet, fill_place, appended};
 ghost use Rattle.shared_ring.specs.Ends.{driver_of, driver_side};
 ghost use Rattle.rx_ring.specs.Form.{rx};
-ghost use Rattle.rx_ring.specs.Calls.{IsFreshDriver, Polled, Reclaimed, FoundLeft, GoneOver};
+ghost use Rattle.rx_ring.specs.Calls.{IsFreshDriver, Polled, told_quiet, Reclaimed, FoundLeft, GoneOver};
 
 use crate::direction::{RxDriverSeat, RxRule};
 use crate::events::{RxControllerOwn, RxDriverOwn};
@@ -128,6 +128,7 @@ impl RxDriverEnd {
         ensures step { self.new ≡ appended self.old (Own (LoadedQuiet (bit result))) }
         ensures record { driver_record self.new ≡ driver_record self.old }
         ensures seen { result ≡ true → saw_quiet self.new ≡ true }
+        ensures known { known_of self.new ≡ told_quiet result self.old }
     {
         steps::load_quiet(&mut self.seat, &ring.0)
     }

@@ -3,9 +3,9 @@ ghost use Rattle.std.specs.Prelude.{◌≡◌, ◌↔◌, ◌+◌, ◌<◌, true
 ghost use Rattle.limits.specs.RingLength.{IsRingLength};
 ghost use Rattle.ring_model.specs.receive.Lawful.{IsLawfulRxLedger};
 ghost use Rattle.ring_model.specs.shared.Frames.{Bytes};
-ghost use Rattle.rx_ring.specs.Ends.{driver_size, taken, is_drained};
+ghost use Rattle.rx_ring.specs.Ends.{driver_size, taken, saw_quiet, is_drained, is_quiet};
 ghost use Rattle.rx_ring.specs.Calls.{told_left, IsTold};
-ghost use Rattle.rx_ring.specs.Meeting.{MadeSeats, ledger_of, stored_now, Met, IsClosed};
+ghost use Rattle.rx_ring.specs.Meeting.{MadeSeats, ledger_of, stored_now, Met, IsClosed, AllReal, AllCameBack};
 
 use crate::controller::RxControllerEnd;
 use crate::direction::RxShared;
@@ -41,8 +41,8 @@ impl RxRing {
 ///
 /// What is said of the ledger is of the driver's epoch: as long as the controller has not answered its enabling,
 /// nothing is stored in it. What the driver has learnt in this epoch is so: where it loaded the head after its
-/// disabling was answered, so many segments were left as that told; where it saw the queue quiet and drained, all that
-/// is stored is taken.
+/// disabling was answered, so many segments were left as that told; where it saw the queue quiet, the controller said
+/// that it is; where it saw it quiet and drained, all that is stored is taken.
 pub fn meet_rx(ring: &RxRing, driver: &mut RxDriverEnd, controller: &mut RxControllerEnd)
     requires driver { driver.old.table ≡ ring.now }
     requires controller { controller.old.table ≡ ring.now }
@@ -51,6 +51,7 @@ pub fn meet_rx(ring: &RxRing, driver: &mut RxDriverEnd, controller: &mut RxContr
     ensures lawful { IsLawfulRxLedger Bytes (driver_size driver.old) (ledger_of driver.old controller.old) }
     ensures places { Met driver.old controller.old }
     ensures left { IsTold (told_left driver.old) (length (taken driver.old)) (length (stored_now driver.old controller.old)) }
+    ensures quiet { saw_quiet driver.old ≡ true → is_quiet controller.old ≡ true }
     ensures drained { is_drained driver.old ≡ true → taken driver.old ≡ stored_now driver.old controller.old }
 {
     let _size = driver.size(); // which says that the length is lawful
@@ -59,11 +60,14 @@ pub fn meet_rx(ring: &RxRing, driver: &mut RxDriverEnd, controller: &mut RxContr
 
 /// Closes a ring, wherever its two ends stand: one entry a place, with the buffer that lay there where one did, be it
 /// posted, published or written back. A place whose buffer the controller has fetched, and those of the driver, have
-/// none. The list stands in the room that `new` reserved, so this takes no memory.
+/// none. So each buffer that is out comes back once, but one that the controller holds; none is a blank. The list
+/// stands in the room that `new` reserved, so this takes no memory.
 pub fn close(ring: RxRing, driver: RxDriverEnd, controller: RxControllerEnd) -> Vec<Option<Buf>>
     requires driver { driver.table ≡ ring }
     requires controller { controller.table ≡ ring }
-    ensures { IsClosed driver controller result.items }
+    ensures places { IsClosed driver controller result.items }
+    ensures real { AllReal result.items }
+    ensures once { AllCameBack driver controller result.items }
 {
     let _size = driver.size(); // which says that the length is lawful
     let RxDriverEnd { seat, at } = driver;

@@ -1,8 +1,9 @@
 -- A ring's end: what its slots have, and which of them lie in the ring.
-use Rattle.std.proofs.Common.{◌≡◌, ◌≢◌, ℕ, ◌+◌, ◌-◌, ◌%◌, ◌<◌, ◌≤◌, ⊎_elim, Bool, true, false, not, ◌&&◌, if◌then◌else◌, List, length, Option, Some, None, sym, refl, ap, ◌∙◌, subst, arith, mod-lt, mod-eq_of_lt}
+use Rattle.std.proofs.Common.{◌≡◌, ◌≢◌, ℕ, zero, suc, ◌+◌, ◌-◌, ◌%◌, ◌<◌, ◌≤◌, ⊎_elim, Bool, true, false, not, ◌&&◌, if◌then◌else◌, List, [], ◌∷◌, ◌++◌, length, Option, Some, None, IfSome, All, IsPermutation, sym, refl, ap, ◌∙◌, subst, arith, mod-lt, mod-eq_of_lt}
 use Rattle.std.specs.Prelude.{slice_get, ◌==◌, nat_lt}
 use Rattle.std.proofs.Math.Nat.{mod-add-mod, add-mod-mod, add-mod_right}
 use Rattle.std.proofs.lemmas.Bool.{cases_Bool, and_parts, and_from, ltb-true, lt-ltb, eqb-true, eq-eqb, not-true, not_from_false, both_ways, cases_lt}
+use Rattle.std.proofs.lemmas.List.Elements.{All-nil, All-push}
 use Rattle.std.proofs.lemmas.Option.{same_Some, slice_get_within}
 use mathlib.Core.Option.{some}
 use lib.ListN.{get_elem?}
@@ -23,10 +24,11 @@ use Rattle.shared_ring.specs.Calls.{IsPoster, IsServer}
 use Rattle.shared_ring.specs.Ends.{DriverSide, driver_size, driver_record, ControllerSide, controller_size, controller_record}
 use Rattle.shared_ring.specs.Forms.{Form, controlling}
 use Rattle.shared_ring.specs.Lies.{driven, IsControlled}
-use Rattle.shared_ring.specs.Meeting.{slot_of, is_kept, kept_at, kept_upto}
+use Rattle.shared_ring.specs.Meeting.{slot_of, is_kept, kept_at, kept_upto, number_at, numbers_at}
 use Rattle.shared_ring.specs.Records.{Driven, Controlled}
 use Rattle.shared_ring.specs.Slots.{is_there}
 use Rattle.shared_ring.proofs.Controlling.{serving_settled}
+use Rattle.shared_ring.proofs.Gathered.{numbers_from, all-back}
 use Rattle.shared_ring.proofs.Meeting.{kept-length, kept-get}
 
 -- A place, counted from the oldest that is out
@@ -39,6 +41,10 @@ holder-held held k s h e = rw (h, eq-eqb k s e) refl
 
 ring_not : (o p : Owner) → o ≡ p → p ≢ Ring → ¬ (Some o ≡ Some Ring)
 ring_not o p e ne f = ne (sym e ∙ same_Some o Ring f)
+
+kept-every : (P : Option Buffer → Type 0) (f : ℕ → Option Buffer) (n : ℕ) → ((p : ℕ) → p < n → P (f p)) → All P (kept_upto f n)
+kept-every P f zero h = All-nil P
+kept-every P f (suc n) h = All-push P (kept_upto f n) (f n) (kept-every P f n (λ p below. h p (omega arith))) (h n (omega arith))
 
 -- What a closed ring gives back, by the places of its two ends
 module _ {Posted Served Given : Type 0} (q : Queue Posted Served Given) (n : ℕ) (ends : Served → Bool) (kept : IsKept n ends q) (owners : List Owner) (map : IsLawfulMap (window q) owners) (size_is : q.size ≡ n)
@@ -104,6 +110,10 @@ module _ {Posted Served Given : Type 0} (q : Queue Posted Served Given) (n : ℕ
           sole : (i k : ℕ) → returned_count q ≤ i → i < posted_count q → returned_count q ≤ k → k < posted_count q → i % n ≡ k % n → i ≡ k
           sole i k a b x y same = let w = window-is in ⊎_elim (λ lt. same_item i k n (omega arith) (omega arith) same) (λ le. sym (same_item k i n le (omega arith) (sym same))) (cases_lt i k)
 
+  -- the item that is held is out
+  held-out : q.held ≡ true → (returned_count q ≤ served_count q) × (served_count q < posted_count q)
+  held-out hold = let o = kept.order in (returned_served n ends q kept (o.held_serving hold), held_below n ends q kept hold)
+
   free-item : (p : ℕ) → p < n → is_kept n next out serve holding p ≡ true → q.held ≡ true → ¬ (item p ≡ served_count q)
   free-item p below e h same = let t = and_parts (nat_lt (between_places n next p) out) (not (holding && (p == serve))) e in let at = item-place p below in
       both_ways (holding && (p == serve)) (not-true (holding && (p == serve)) t.1) (and_from holding (p == serve) (held_is ∙ h) (eq-eqb p serve (sym at ∙ ap (λ (j : ℕ). j % n) same ∙ sym (serve_is (held_is ∙ h)))))
@@ -114,12 +124,54 @@ module _ {Posted Served Given : Type 0} (q : Queue Posted Served Given) (n : ℕ
     pub kept-count : length (kept_upto (kept_at n next out serve holding slots) n) ≡ n
     kept-count = kept-length (kept_at n next out serve holding slots) n
 
-    pub kept-there : (p : ℕ) → slice_get owners p ≡ Some Ring → (k : ℕ) × (b : Buffer) × ((k % n ≡ p) × (slice_get (kept_upto (kept_at n next out serve holding slots) n) p ≡ Some (Some b)) × Is k b)
+    -- the buffer of an item that is out and not held is at its place
+    kept-item : (k : ℕ) → returned_count q ≤ k → (past : k < posted_count q) → (q.held ≡ true → ¬ (k ≡ served_count q)) → kept_at n next out serve holding slots (k % n) ≡ Some (lies k past).0
+    kept-item k first past free = let b = lies k past in ap (λ (x : Bool). if x then slot_of (get_elem? slots (k % n)) else None) (ring-kept (k % n) (mod-lt k (omega arith)) (owner-out k first past ∙ ap Some (holder-ring k free)))
+        ∙ ap slot_of (left k b.0 first past free b.1.0)
+
+    -- none is at that of the item that is held
+    kept-held : q.held ≡ true → kept_at n next out serve holding slots (served_count q % n) ≡ None
+    kept-held h = let w = held-out h in ap (λ (x : Bool). if x then slot_of (get_elem? slots (served_count q % n)) else None) (⊎_elim
+        (λ yes. absurd (ring_not (holder (window q) (served_count q)) Controller (holder-held q.held (served_count q) (served_count q) h refl) (λ y. cc)
+        (sym (owner-out (served_count q) w.0 w.1) ∙ kept-ring (served_count q % n) (mod-lt (served_count q) (omega arith)) yes)))
+        (λ no. no)
+        (cases_Bool (is_kept n next out serve holding (served_count q % n))))
+
+    -- nor at one of the driver's
+    kept-home : (p : ℕ) → p < n → ((k : ℕ) → returned_count q ≤ k → k < posted_count q → ¬ (k % n ≡ p)) → kept_at n next out serve holding slots p ≡ None
+    kept-home p below none = ap (λ (x : Bool). if x then slot_of (get_elem? slots p) else None) (⊎_elim
+        (λ yes. let t = and_parts (nat_lt (between_places n next p) out) (not (holding && (p == serve))) yes in let w = nth p t.0 in absurd (none (item p) w.0 w.1 (item-place p below)))
+        (λ no. no)
+        (cases_Bool (is_kept n next out serve holding p)))
+
+    -- so each buffer that is kept is one that lies at an item
+    pub kept-all : (P : Buffer → Type 0) → ((k : ℕ) (past : k < posted_count q) → P (lies k past).0) → All (λ o. IfSome o P) (kept_upto (kept_at n next out serve holding slots) n)
+    kept-all P is = kept-every (λ o. IfSome o P) (kept_at n next out serve holding slots) n (λ p below. ⊎_elim
+        (λ yes. let t = and_parts (nat_lt (between_places n next p) out) (not (holding && (p == serve))) yes in let w = nth p t.0 in
+        subst (λ (o : Option Buffer). IfSome o P) (sym (kept-item (item p) w.0 w.1 (free-item p below yes)) ∙ ap (kept_at n next out serve holding slots) (item-place p below)) (is (item p) w.1))
+        (λ no. subst (λ (b : Bool). IfSome (if b then slot_of (get_elem? slots p) else None) P) (sym no) tt)
+        (cases_Bool (is_kept n next out serve holding p)))
+
+    -- each buffer that is out is once among those that are kept and the one that is held
+    pub kept-once : (number : Posted → ℕ) → ((k : ℕ) (past : k < posted_count q) (x : Posted) → slice_get q.ledger.posted k ≡ Some x → (lies k past).0.number ≡ number x)
+        → (hold : List ℕ) → (q.held ≡ false → hold ≡ []) → (q.held ≡ true → (x : Posted) → slice_get q.ledger.posted (served_count q) ≡ Some x → hold ≡ number x ∷ [])
+        → IsPermutation (numbers_from number (returned_count q) q.ledger.posted) (numbers_at (kept_upto (kept_at n next out serve holding slots) n) ++ hold)
+    kept-once number numbered hold idle busy = let o = kept.order in let back = o.returned_posted in let few = window-is in
+        all-back number q.ledger.posted (returned_count q) n (served_count q) q.held (kept_at n next out serve holding slots) back few
+        (λ k first past free x is. ap number_at (kept-item k first past free) ∙ ap (λ (j : ℕ). j ∷ []) (numbered k past x is))
+        (λ h. ap number_at (kept-held h))
+        (λ p below none. ap number_at (kept-home p below none))
+        hold idle busy held-out
+
+    pub kept-there : (p : ℕ) → slice_get owners p ≡ Some Ring
+        → (k : ℕ) × (b : Buffer) × ((returned_count q ≤ k) × (k < posted_count q) × (k % n ≡ p) × (slice_get (kept_upto (kept_at n next out serve holding slots) n) p ≡ Some (Some b)) × Is k b)
     kept-there p e = let m = map in let below : p < n = let b = slice_get_within owners p Ring e in let z = m.places in let s = size_is in omega arith in
         let k = ring-kept p below e in let t = and_parts (nat_lt (between_places n next p) out) (not (holding && (p == serve))) k in let w = nth p t.0 in let at = item-place p below in let b = lies (item p) w.1 in (
           item p,
           b.0,
           (
+            w.0,
+            w.1,
             at,
             kept-get (kept_at n next out serve holding slots) n p below
                 ∙ ap Some (ap (λ (x : Bool). if x then slot_of (get_elem? slots p) else None) k

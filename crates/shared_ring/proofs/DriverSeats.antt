@@ -160,15 +160,15 @@ module _ {Ring Posted Served Given D C : Type 0} (form : Form Ring Posted Served
           post-empty = front-is me.1 _ (place, blank) front
 
           pub post-asks : (id : ℕ) (table' : TableId) (me' : It) → table' ≡ table → me' ≡ (me.0, (place, b) ∷ rest me.1) → is_open (done_by now).state ≡ true → form.MayPost now.table.slots (done_by now).posted word b
-              → (table' ≡ ring) × (place < ring.words) × Allows (IsRuled form key.0 key.1) ring.slots id me' place (λ _. word) (λ _. posts (step ring.slots place word 0 none) me' word)
+              → (table' ≡ ring) × (place < ring.words) × Allows (IsRuled form key.0 key.1) ring.slots id me' place (λ _. word) (λ _. posts form (step ring.slots place word 0 none) me' word)
           post-asks id table' me' t m opened may = (
             t ∙ own,
             within place (below place (length d.posted) (filled place at)),
-            allow-at (λ n z r z'. posts (step n place word 0 none) z word z') id place (λ _. word) (Driver es, (place, b) ∷ rest me.1) me'
+            allow-at (λ n z r z'. posts form (step n place word 0 none) z word z') id place (λ _. word) (Driver es, (place, b) ∷ rest me.1) me'
                 (m ∙ ap (λ (v : View (DriverEvent D) (ControllerEvent C)). let x : It = (v, (place, b) ∷ rest me.1) in x) view-is)
-                (driver-give form size mode es id (rest me.1) posts place word place b (driver.Posted place word b)
+                (driver-give form size mode es id (rest me.1) (posts form) place word place b (driver.Posted place word b)
                 (λ q cs words homes pos l. let a = inv.law.allowed size mode q es cs words homes pos l in let f = a.driver in
-                f.post place word b (filled place at) (sym (words-are (λ x n. is_open x.state)) ∙ opened) room (here (λ n m xs. form.MayPost n (driving form xs).posted word b) may)) refl),
+                f.post place word b (filled place at) (sym (words-are (λ x n. is_open x.state)) ∙ opened) room (here (λ n m xs. form.MayPost n (driving form xs).posted word b) may)) (record { seat = refl; names = refl })),
           )
 
           post-seat : (me' me'' : It) → me' ≡ (me.0, (place, b) ∷ rest me.1) → me'' ≡ (driver_does me' (driver.Posted place word (front_buffer me'.1)), rest me'.1) → me'' ≡ (Driver (es ++ driver.Posted place word b ∷ []), rest me.1)
@@ -184,41 +184,41 @@ module _ {Ring Posted Served Given D C : Type 0} (form : Form Ring Posted Served
           post-steps table' me' me'' t put stored = one-more (driver.Posted place word b) table' me'' (rest me.1) t (post-seat me' me'' put stored)
 
         -- A2, B2
-        pub publish-asks : (id t : ℕ) → t ≡ length (done_by now).posted % now.table.slots → is_open (done_by now).state ≡ true → form.MayPublish (done_by now).posted → Asks publishes id (size + 1) t
-        publish-asks id t at opened may = store-asks publishes id (size + 1) t (low (size + 1) (omega arith)) (driver-store form size mode es id its publishes (size + 1) t (driver.Published t)
+        pub publish-asks : (id t : ℕ) → t ≡ length (done_by now).posted % now.table.slots → is_open (done_by now).state ≡ true → form.MayPublish (done_by now).posted → Asks (publishes form) id (size + 1) t
+        publish-asks id t at opened may = store-asks (publishes form) id (size + 1) t (low (size + 1) (omega arith)) (driver-store form size mode es id its (publishes form) (size + 1) t (driver.Published t)
             (λ q cs words homes pos l. let a = inv.law.allowed size mode q es cs words homes pos l in let f = a.driver in
-            f.publish t (filled t at) (sym (words-are (λ x n. is_open x.state)) ∙ opened) (here (λ n m xs. form.MayPublish (driving form xs).posted) may)) refl)
+            f.publish t (filled t at) (sym (words-are (λ x n. is_open x.state)) ∙ opened) (here (λ n m xs. form.MayPublish (driving form xs).posted) may)) (record { seat = refl; names = refl }))
 
         -- C1
-        pub ask_enable-asks : (id : ℕ) → is_new (done_by now).state ≡ true → Asks asks_enable id (size + 2) 1
-        ask_enable-asks id new = store-asks asks_enable id (size + 2) 1 (low (size + 2) (omega arith)) (driver-store form size mode es id its asks_enable (size + 2) 1 driver.AskedEnable
-            (λ q cs words homes pos l. let a = inv.law.allowed size mode q es cs words homes pos l in let f = a.driver in f.ask_enable (sym (words-are (λ x n. is_new x.state)) ∙ new)) refl)
+        pub ask_enable-asks : (id : ℕ) → is_new (done_by now).state ≡ true → Asks (asks_enable form) id (size + 2) 1
+        ask_enable-asks id new = store-asks (asks_enable form) id (size + 2) 1 (low (size + 2) (omega arith)) (driver-store form size mode es id its (asks_enable form) (size + 2) 1 driver.AskedEnable
+            (λ q cs words homes pos l. let a = inv.law.allowed size mode q es cs words homes pos l in let f = a.driver in f.ask_enable (sym (words-are (λ x n. is_new x.state)) ∙ new)) (record { seat = refl; names = refl }))
 
         -- C4
-        pub control-asks : (id : ℕ) → LoadAsks LoadsControl id (size + 2)
-        control-asks id = load-asks LoadsControl id (size + 2) (low (size + 2) (omega arith)) (driver-load form size mode es id its LoadsControl (size + 2) driver.LoadedControl (λ r. r ≤ 3)
-            (λ q cs words homes pos l. let a = inv.law.allowed size mode q es cs words homes pos l in let f = a.driver in f.control) (λ r v. record { seat = refl; value = v }))
+        pub control-asks : (id : ℕ) → LoadAsks (LoadsControl form) id (size + 2)
+        control-asks id = load-asks (LoadsControl form) id (size + 2) (low (size + 2) (omega arith)) (driver-load form size mode es id its (LoadsControl form) (size + 2) driver.LoadedControl (λ r. r ≤ 3)
+            (λ q cs words homes pos l. let a = inv.law.allowed size mode q es cs words homes pos l in let f = a.driver in f.control) (λ r v. record { adds = record { seat = refl; names = refl }; value = v }))
 
         -- C5
-        pub ask_disable-asks : (id : ℕ) → is_on (done_by now).state ≡ true → Asks asks_disable id (size + 2) 3
-        ask_disable-asks id on = store-asks asks_disable id (size + 2) 3 (low (size + 2) (omega arith)) (driver-store form size mode es id its asks_disable (size + 2) 3 driver.AskedDisable
-            (λ q cs words homes pos l. let a = inv.law.allowed size mode q es cs words homes pos l in let f = a.driver in f.ask_disable (sym (words-are (λ x n. is_on x.state)) ∙ on)) refl)
+        pub ask_disable-asks : (id : ℕ) → is_on (done_by now).state ≡ true → Asks (asks_disable form) id (size + 2) 3
+        ask_disable-asks id on = store-asks (asks_disable form) id (size + 2) 3 (low (size + 2) (omega arith)) (driver-store form size mode es id its (asks_disable form) (size + 2) 3 driver.AskedDisable
+            (λ q cs words homes pos l. let a = inv.law.allowed size mode q es cs words homes pos l in let f = a.driver in f.ask_disable (sym (words-are (λ x n. is_on x.state)) ∙ on)) (record { seat = refl; names = refl }))
 
         -- the load of the head
-        pub head-asks : (id : ℕ) → is_stopped (done_by now).state ≡ true → LoadAsks LoadsHead id size
-        head-asks id stopped = load-asks LoadsHead id size (low size (omega arith)) (driver-load form size mode es id its LoadsHead size driver.LoadedHead (λ r. r < size)
-            (λ q cs words homes pos l. let a = inv.law.allowed size mode q es cs words homes pos l in let f = a.driver in f.head (sym (words-are (λ x n. is_stopped x.state)) ∙ stopped)) (λ r v. record { seat = refl; below = v }))
+        pub head-asks : (id : ℕ) → is_stopped (done_by now).state ≡ true → LoadAsks (LoadsHead form) id size
+        head-asks id stopped = load-asks (LoadsHead form) id size (low size (omega arith)) (driver-load form size mode es id its (LoadsHead form) size driver.LoadedHead (λ r. r < size)
+            (λ q cs words homes pos l. let a = inv.law.allowed size mode q es cs words homes pos l in let f = a.driver in f.head (sym (words-are (λ x n. is_stopped x.state)) ∙ stopped)) (λ r v. record { adds = record { seat = refl; names = refl }; below = v }))
 
         -- C9
-        pub clear_head-asks : (id : ℕ) → is_stopped (done_by now).state ≡ true → length (done_by now).given + (done_by now).reclaimed ≡ length (done_by now).posted → Asks clears_head id size 0
-        clear_head-asks id stopped back = store-asks clears_head id size 0 (low size (omega arith)) (driver-store form size mode es id its clears_head size 0 driver.ClearedHead
+        pub clear_head-asks : (id : ℕ) → is_stopped (done_by now).state ≡ true → length (done_by now).given + (done_by now).reclaimed ≡ length (done_by now).posted → Asks (clears_head form) id size 0
+        clear_head-asks id stopped back = store-asks (clears_head form) id size 0 (low size (omega arith)) (driver-store form size mode es id its (clears_head form) size 0 driver.ClearedHead
             (λ q cs words homes pos l. let a = inv.law.allowed size mode q es cs words homes pos l in let f = a.driver in f.clear_head (sym (words-are (λ x n. is_stopped x.state)) ∙ stopped)
-            (sym (words-are (λ x n. length x.given + x.reclaimed)) ∙ back ∙ words-are (λ x n. length x.posted))) refl)
+            (sym (words-are (λ x n. length x.given + x.reclaimed)) ∙ back ∙ words-are (λ x n. length x.posted))) (record { seat = refl; names = refl }))
 
         -- C10
-        pub clear_tail-asks : (id : ℕ) → form.MayClearTail now.completion → is_cleared (done_by now).state ≡ true → Asks clears_tail id (size + 1) 0
-        clear_tail-asks id may cleared = store-asks clears_tail id (size + 1) 0 (low (size + 1) (omega arith)) (driver-store form size mode es id its clears_tail (size + 1) 0 driver.ClearedTail
-            (λ q cs words homes pos l. let a = inv.law.allowed size mode q es cs words homes pos l in let f = a.driver in f.clear_tail (here (λ n m xs. form.MayClearTail m) may) (sym (words-are (λ x n. is_cleared x.state)) ∙ cleared)) refl)
+        pub clear_tail-asks : (id : ℕ) → form.MayClearTail now.completion → is_cleared (done_by now).state ≡ true → Asks (clears_tail form) id (size + 1) 0
+        clear_tail-asks id may cleared = store-asks (clears_tail form) id (size + 1) 0 (low (size + 1) (omega arith)) (driver-store form size mode es id its (clears_tail form) (size + 1) 0 driver.ClearedTail
+            (λ q cs words homes pos l. let a = inv.law.allowed size mode q es cs words homes pos l in let f = a.driver in f.clear_tail (here (λ n m xs. form.MayClearTail m) may) (sym (words-are (λ x n. is_cleared x.state)) ∙ cleared)) (record { seat = refl; names = refl }))
 
         -- Steps of one direction's own
         module _ (event : Event (DriverEvent D)) (tells : Tells (DriverEvent D)) where
@@ -227,13 +227,13 @@ module _ {Ring Posted Served Given D C : Type 0} (form : Form Ring Posted Served
             load-may : MayLoad form event tells size mode (driver_part me.0) word
             load-may = here (λ n m xs. MayLoad form event tells n m xs word) may
 
-            pub load_own-asks : (id : ℕ) → LoadAsks (DriverDoes event tells) id word
-            load_own-asks id = let m = load-may in load-asks (DriverDoes event tells) id word m.word_is
-                (driver-load form size mode es id its (DriverDoes event tells) word (λ r. event size es word r blank) (λ r. tells size es word r blank) m.goes (λ r t. record { seat = refl; told = t }))
+            pub load_own-asks : (id : ℕ) → LoadAsks (DriverDoes form event tells) id word
+            load_own-asks id = let m = load-may in load-asks (DriverDoes form event tells) id word m.word_is
+                (driver-load form size mode es id its (DriverDoes form event tells) word (λ r. event size es word r blank) (λ r. tells size es word r blank) m.goes (λ r t. record { adds = record { seat = refl; names = m.names r }; told = t }))
 
-            module _ (r : ℕ) (me' : It) (told : DriverDoes event tells (step ring.slots word 0 0 none) me r me') where
+            module _ (r : ℕ) (me' : It) (told : DriverDoes form event tells (step ring.slots word 0 0 none) me r me') where
               load_own-seat : me' ≡ (driver_does me (event size es word r blank), me.1)
-              load_own-seat = told.seat ∙ ap (λ (n : ℕ). let x : It = (driver_does me (event n es word r blank), me.1) in x) counts
+              load_own-seat = told.adds.seat ∙ ap (λ (n : ℕ). let x : It = (driver_does me (event n es word r blank), me.1) in x) counts
 
               pub load_own-keeps : (table' : TableId) → table' ≡ table → IsDriverSeat form table' me' size mode
               load_own-keeps table' t = let m = load-may in same-keeps (event size es word r blank) table' me' t load_own-seat (m.same r)
@@ -262,17 +262,17 @@ module _ {Ring Posted Served Given D C : Type 0} (form : Form Ring Posted Served
                 (record { back = omega arith; room = omega arith })
 
             -- what the event is, of what was loaded there or stored
-            came-seat : (r : ℕ) (me1 : It) (t : DriverTakes event tells (step ring.slots place 0 0 none) me r me1) → me1 ≡ (driver_does me (event size es place r t.buf), (place, t.buf) ∷ me.1)
-            came-seat r me1 t = t.seat ∙ ap (λ (n : ℕ). let x : It = (driver_does me (event n es place r t.buf), (place, t.buf) ∷ me.1) in x) counts
+            came-seat : (r : ℕ) (me1 : It) (t : DriverTakes form event tells (step ring.slots place 0 0 none) me r me1) → me1 ≡ (driver_does me (event size es place r t.buf), (place, t.buf) ∷ me.1)
+            came-seat r me1 t = t.adds.seat ∙ ap (λ (n : ℕ). let x : It = (driver_does me (event n es place r t.buf), (place, t.buf) ∷ me.1) in x) counts
 
-            module _ (r : ℕ) (b : Buffer) (table' : TableId) (me1 me2 me3 : It) (same : table' ≡ table) (t : DriverTakes event tells (step ring.slots place 0 0 none) me r me1) (l : me2 ≡ (me1.0, (place, blank) ∷ rest me1.1)) (turn : me3 ≡ (me2.0, turned me2.1)) where
+            module _ (r : ℕ) (b : Buffer) (table' : TableId) (me1 me2 me3 : It) (same : table' ≡ table) (t : DriverTakes form event tells (step ring.slots place 0 0 none) me r me1) (l : me2 ≡ (me1.0, (place, blank) ∷ rest me1.1)) (turn : me3 ≡ (me2.0, turned me2.1)) where
               came-steps : b ≡ front_buffer me1.1 → side table' me3 ≡ grown now (event now.table.slots now.events place r b)
-              came-steps got = let is : b ≡ t.buf = got ∙ ap (λ (m : It). front_buffer m.1) t.seat in
+              came-steps got = let is : b ≡ t.buf = got ∙ ap (λ (m : It). front_buffer m.1) t.adds.seat in
                   one-more (event size es place r t.buf) table' me3 (me.1 ++ (place, blank) ∷ []) same (back-seat (event size es place r t.buf) t.buf me1 me2 me3 (came-seat r me1 t) l turn)
                   ∙ ap (λ (y : Buffer). grown now (event size es place r y)) (sym is) ∙ ap (grown now) (back-there (λ n m xs. event size es place r b ≡ event n xs place r b) refl)
 
               came-told : b ≡ front_buffer me1.1 → tells now.table.slots now.events place r b
-              came-told got = let is : b ≡ t.buf = got ∙ ap (λ (m : It). front_buffer m.1) t.seat in
+              came-told got = let is : b ≡ t.buf = got ∙ ap (λ (m : It). front_buffer m.1) t.adds.seat in
                   back-there (λ n m xs. tells n xs place r b) (subst (λ (y : Buffer). tells size es place r y) (sym is) (subst (λ (n : ℕ). tells n es place r t.buf) counts t.told))
 
             -- a store of 0 into its descriptor
@@ -280,12 +280,12 @@ module _ {Ring Posted Served Given D C : Type 0} (form : Form Ring Posted Served
               clear-may : MayClear form event tells size mode (driver_part me.0) place
               clear-may = here (λ n m xs. MayClear form event tells n m xs place) may
 
-              pub clear_own-asks : (id : ℕ) → Asks (DriverTakes event tells) id place 0
-              clear_own-asks id = let m = clear-may in store-asks (DriverTakes event tells) id place 0 (below place (length d.given + d.reclaimed) (next-is place at))
-                  (driver-clear form size mode es id its (DriverTakes event tells) place (λ b. event size es place 0 b) (λ b. tells size es place 0 b)
-                  (λ q cs words homes pos l. let o = m.goes q cs words homes pos l in (o.buf, o.home, o.told, o.agrees)) (λ b t. record { buf = b; seat = refl; told = t }))
+              pub clear_own-asks : (id : ℕ) → Asks (DriverTakes form event tells) id place 0
+              clear_own-asks id = let m = clear-may in store-asks (DriverTakes form event tells) id place 0 (below place (length d.given + d.reclaimed) (next-is place at))
+                  (driver-clear form size mode es id its (DriverTakes form event tells) place (λ b. event size es place 0 b) (λ b. tells size es place 0 b)
+                  (λ q cs words homes pos l. let o = m.goes q cs words homes pos l in (o.buf, o.home, o.told, o.agrees)) (λ b t. record { buf = b; adds = record { seat = refl; names = m.names b }; told = t }))
 
-              module _ (b : Buffer) (table' : TableId) (me1 me2 me3 : It) (same : table' ≡ table) (t : DriverTakes event tells (step ring.slots place 0 0 none) me 0 me1) (l : me2 ≡ (me1.0, (place, blank) ∷ rest me1.1)) (turn : me3 ≡ (me2.0, turned me2.1)) where
+              module _ (b : Buffer) (table' : TableId) (me1 me2 me3 : It) (same : table' ≡ table) (t : DriverTakes form event tells (step ring.slots place 0 0 none) me 0 me1) (l : me2 ≡ (me1.0, (place, blank) ∷ rest me1.1)) (turn : me3 ≡ (me2.0, turned me2.1)) where
                 pub clear_own-keeps : IsDriverSeat form table' me3 size mode
                 clear_own-keeps = let m = clear-may in back-keeps (event size es place 0 t.buf) t.buf table' me1 me2 me3 same (came-seat 0 me1 t) l turn (m.back t.buf)
 
@@ -300,19 +300,19 @@ module _ {Ring Posted Served Given D C : Type 0} (form : Form Ring Posted Served
               take-may : MayTake form event tells size mode (driver_part me.0) missed done place
               take-may = here (λ n m xs. MayTake form event tells n m xs missed done place) may
 
-              pub take_own-asks : (id : ℕ) → LoadAsks (DriverFinds event tells missed done) id place
-              take_own-asks id = let m = take-may in load-asks (DriverFinds event tells missed done) id place (below place (length d.given + d.reclaimed) (next-is place at))
-                  (driver-find form size mode es id its (DriverFinds event tells missed done) place done (missed place) (λ r b. event size es place r b) (λ r b. tells size es place r b)
+              pub take_own-asks : (id : ℕ) → LoadAsks (DriverFinds form event tells missed done) id place
+              take_own-asks id = let m = take-may in load-asks (DriverFinds form event tells missed done) id place (below place (length d.given + d.reclaimed) (next-is place at))
+                  (driver-find form size mode es id its (DriverFinds form event tells missed done) place done (missed place) (λ r b. event size es place r b) (λ r b. tells size es place r b)
                   m.undone (λ q cs words homes pos l f. let o = m.goes q cs words homes pos l f in (o.buf, o.home, o.told, o.agrees))
-                  (λ r f. record { undone = λ e. refl; taken = λ e. absurd (false≢true (sym f ∙ e)) })
-                  (λ r b f t. record { undone = λ e. absurd (false≢true (sym e ∙ f)); taken = λ e. record { buf = b; seat = refl; told = t } }))
+                  (λ r f. record { undone = λ e. record { seat = refl; names = m.names_missed r }; taken = λ e. absurd (false≢true (sym f ∙ e)) })
+                  (λ r b f t. record { undone = λ e. absurd (false≢true (sym e ∙ f)); taken = λ e. record { buf = b; adds = record { seat = refl; names = m.names r b }; told = t } }))
 
-              module _ (r : ℕ) (me1 : It) (t : DriverFinds event tells missed done (step ring.slots place 0 0 none) me r me1) where
+              module _ (r : ℕ) (me1 : It) (t : DriverFinds form event tells missed done (step ring.slots place 0 0 none) me r me1) where
                 pub missed-keeps : (table' : TableId) → table' ≡ table → done r ≡ false → IsDriverSeat form table' me1 size mode
-                missed-keeps table' same f = let m = take-may in same-keeps (missed place r) table' me1 same (t.undone f) (m.same r)
+                missed-keeps table' same f = let m = take-may in same-keeps (missed place r) table' me1 same (t.undone f).seat (m.same r)
 
                 pub missed-steps : (table' : TableId) → table' ≡ table → done r ≡ false → Missed event tells missed done now place r (side table' me1)
-                missed-steps table' same f = record { undone = f; step = same-steps (missed place r) table' me1 same (t.undone f) }
+                missed-steps table' same f = record { undone = f; step = same-steps (missed place r) table' me1 same (t.undone f).seat }
 
                 module _ (b : Buffer) (table' : TableId) (me2 me3 : It) (same : table' ≡ table) (f : done r ≡ true) (l : me2 ≡ (me1.0, (place, blank) ∷ rest me1.1)) (turn : me3 ≡ (me2.0, turned me2.1)) where
                   pub take_own-keeps : IsDriverSeat form table' me3 size mode
@@ -326,8 +326,8 @@ module _ {Ring Posted Served Given D C : Type 0} (form : Form Ring Posted Served
             end-may : MayEnd form event size mode (driver_part me.0) word
             end-may = here (λ n m xs. MayEnd form event n m xs word) may
 
-            pub end_own-asks : (id : ℕ) → Asks (driver_ends event) id word 0
-            end_own-asks id = let m = end-may in store-asks (driver_ends event) id word 0 m.word_is (driver-store form size mode es id its (driver_ends event) word 0 (event size es word 0 blank) m.goes refl)
+            pub end_own-asks : (id : ℕ) → Asks (driver_ends form event) id word 0
+            end_own-asks id = let m = end-may in store-asks (driver_ends form event) id word 0 m.word_is (driver-store form size mode es id its (driver_ends form event) word 0 (event size es word 0 blank) m.goes (record { seat = refl; names = m.names }))
 
             module _ (me1 : It) (ends : me1 ≡ (driver_does me (event ring.slots es word 0 blank), me.1)) where
               end-seat : me1 ≡ (driver_does me (event size es word 0 blank), me.1)

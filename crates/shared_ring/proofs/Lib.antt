@@ -11,6 +11,7 @@ pub mod DriverSeats
 pub mod Reclaiming
 pub mod ControllerSeats
 pub mod Gathering
+pub mod Gathered
 pub mod Meeting
 pub mod Closing
 pub mod Serving

@@ -19,4 +19,5 @@ module _ {Ring Posted Served Given D C : Type 0} (form : Form Ring Posted Served
       agrees = t.agrees;
     };
     back = λ b. record { posted = refl; back = omega arith };
+    names = λ b. refl;
   }

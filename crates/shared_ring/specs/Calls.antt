@@ -7,6 +7,8 @@ use Rattle.ring_model.specs.declared.states.DriverState.{DriverState}
 use Rattle.ring_model.specs.declared.states.DriverState.TheVariants.{Asked, Stopping}
 use Rattle.ring_model.specs.shared.Handshakes.{is_new, is_on, is_answered, is_serving, learned}
 use Rattle.ring_model.specs.shared.Frames.{Piece}
+use Rattle.shared_ring.specs.declared.control.Control.{Control}
+use Rattle.shared_ring.specs.declared.control.Control.TheVariants.{EnableAsked, DisableAsked}
 use Rattle.shared_ring.specs.declared.ends.DriverPlaces.{DriverPlaces}
 use Rattle.shared_ring.specs.declared.ends.ControllerPlaces.{ControllerPlaces}
 use Rattle.shared_ring.specs.declared.ends.ControllerLoad.{ControllerLoad}
@@ -107,6 +109,12 @@ abbrev pub shaken : Handshake → DriverState → ℕ → DriverState
 shaken AskEnable s w = Asked
 shaken LoadControl s w = learned s w
 shaken AskDisable s w = Stopping
+
+-- an asking stores this value
+abbrev pub StoredBy : Handshake → Control → Type 0
+StoredBy AskEnable c = c ≡ EnableAsked
+StoredBy LoadControl c = Unit {0}
+StoredBy AskDisable c = c ≡ DisableAsked
 
 abbrev pub MayShake : Handshake → DriverState → Type 0
 MayShake AskEnable s = is_new s ≡ true

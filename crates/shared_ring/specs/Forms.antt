@@ -6,6 +6,8 @@ use Rattle.ring_model.specs.declared.states.Completion.{Completion}
 use Rattle.ring_model.specs.shared.Frames.{Piece}
 use Rattle.shared_ring.specs.declared.events.DriverEvent.{DriverEvent}
 use Rattle.shared_ring.specs.declared.events.ControllerEvent.{ControllerEvent}
+use Rattle.shared_ring.specs.Accesses as accesses
+use Rattle.shared_ring.specs.Accesses.{Access}
 use Rattle.shared_ring.specs.Records as records
 use Rattle.shared_ring.specs.Records.{Driven, Controlled, undriven, uncontrolled}
 
@@ -14,6 +16,9 @@ pub record Form (Ring Posted Served Given D C : Type 0) : Type 1 where
   pub posting : ℕ → Buffer → Posted
   pub drive_own : Driven Posted Given → D → Driven Posted Given
   pub control_own : Controlled Served → C → Controlled Served
+  -- which word of a table of n places, and which value, a step of the direction's own names
+  pub driver_names : ℕ → D → Access
+  pub controller_names : ℕ → C → Access
   -- what a driver learns of its controller: by the head that it loads, and by steps of the direction's own
   pub Known : Type 0
   pub unknown : Known
@@ -56,3 +61,10 @@ module _ {Ring Posted Served Given D C : Type 0} (form : Form Ring Posted Served
 
   abbrev pub controlling : ℕ → List (ControllerEvent C) → Controlled Served
   controlling n es = records.controlling_from n form.control_own uncontrolled es
+
+  -- which word, and which value, an event names
+  abbrev pub driver_access : ℕ → DriverEvent D → Access
+  driver_access n e = accesses.driver_access form.driver_names n e
+
+  abbrev pub controller_access : ℕ → ControllerEvent C → Access
+  controller_access n e = accesses.controller_access form.controller_names n e

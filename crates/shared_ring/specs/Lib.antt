@@ -3,6 +3,7 @@ pub mod Words
 pub mod Seats
 pub mod Slots
 pub mod Records
+pub mod Accesses
 pub mod Forms
 pub mod Ends
 pub mod Directions
@@ -10,6 +11,7 @@ pub mod Own
 pub mod Lies
 pub mod Tables
 pub mod Plays
+pub mod Counting
 pub mod Keeping
 pub mod Steps
 pub mod Reclaims

@@ -1,15 +1,15 @@
 -- What both ends know together: as they are made, as they meet, and as the ring is closed.
-use Rattle.std.specs.Prelude.{◌≡◌, ℕ, zero, suc, ◌+◌, Bool, not, ◌&&◌, ◌==◌, nat_lt, List, [], ◌∷◌, ◌++◌, Option, Some, None, if◌then◌else◌}
+use Rattle.std.specs.Prelude.{◌≡◌, ℕ, zero, suc, ◌+◌, Bool, not, ◌&&◌, ◌==◌, nat_lt, List, [], ◌∷◌, ◌++◌, map, drop, Option, Some, None, IfSome, All, IsPermutation, if◌then◌else◌}
 use mathlib.Core.Option as maybe
 use mathlib.Core.Option.{some, none}
 use lib.ListN.{get_elem?}
 use Rattle.atomic_table.specs.Seated.{TableId}
-use Rattle.buffer_pool.specs.Buffer.{Buffer}
+use Rattle.buffer_pool.specs.Buffer.{Buffer, buffer}
 use Rattle.limits.specs.RingLength.{IsRingLength}
 use Rattle.ring_model.specs.declared.states.Completion.{Completion}
 use Rattle.ring_model.specs.shared.Handshakes.{is_open, is_ended}
 use Rattle.ring_model.specs.shared.Places.{between_places}
-use Rattle.shared_ring.specs.Ends.{DriverSide, driver_size, driver_state, ControllerSide, controller_state, served}
+use Rattle.shared_ring.specs.Ends.{DriverSide, driver_size, driver_state, posted, returned, ControllerSide, controller_state, served, held}
 use Rattle.shared_ring.specs.Forms.{Form}
 
 -- the slot at a place, where one lies in the ring: fewer than `out` places after `next`, and not held
@@ -26,6 +26,22 @@ kept_at n next out serve holding slots place = if is_kept n next out serve holdi
 abbrev pub kept_upto : (ℕ → Option Buffer) → ℕ → List (Option Buffer)
 kept_upto f zero = []
 kept_upto f (suc k) = kept_upto f k ++ f k ∷ []
+
+-- the numbers of the buffers of a list of places, in their order
+abbrev pub number_at : Option Buffer → List ℕ
+number_at None = []
+number_at (Some b) = b.number ∷ []
+
+abbrev pub numbers_at : List (Option Buffer) → List ℕ
+numbers_at [] = []
+numbers_at (o ∷ os) = number_at o ++ numbers_at os
+
+-- a buffer with its number and with room, no blank
+abbrev pub IsReal : Buffer → Type 0
+IsReal b = b ≡ buffer b.number b.bytes
+
+abbrev pub AllReal : List (Option Buffer) → Type 0
+AllReal buffers = All (λ o. IfSome o IsReal) buffers
 
 -- where it was told how many are left, a list is longer than another by as many
 abbrev pub IsTold : Option ℕ → ℕ → ℕ → Type 0
@@ -47,6 +63,14 @@ module _ {Ring Posted Served Given D C : Type 0} {form : Form Ring Posted Served
   -- the driver is in an epoch that the controller has not answered yet
   abbrev pub is_unanswered : DriverSide form → ControllerSide form → Bool
   is_unanswered d c = is_ended (controller_state c) && is_open (driver_state d)
+
+  -- the numbers of the buffers that are out, the oldest first; a posting's is `number`
+  abbrev pub out_of : (Posted → ℕ) → DriverSide form → List ℕ
+  out_of number d = map number (drop (returned d) (posted d))
+
+  -- each buffer that is out is once among those of these places and the one that the controller holds
+  abbrev pub AllCameBack : (Posted → ℕ) → DriverSide form → ControllerSide form → List (Option Buffer) → Type 0
+  AllCameBack number d c buffers = IsPermutation (out_of number d) (numbers_at buffers ++ number_at (held c))
 
   -- what is served in the driver's epoch: nothing, as long as the controller has not answered its enabling
   abbrev pub served_now : DriverSide form → ControllerSide form → List Served

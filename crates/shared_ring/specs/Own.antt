@@ -1,4 +1,4 @@
--- Steps of one direction's own: what each asks of the agreement, and what it makes of its end's record. `event` is the event by which the record grows, of the ring's length, the record so far, the place of the word, the number found or stored there, and the buffer of the slot that it takes or gives; `tells` is what it tells beside that.
+-- Steps of one direction's own: what each asks of the agreement, and what it makes of its end's record. An event names the word of its step, and the value found or stored there. `event` is the event by which the record grows, of the ring's length, the record so far, the place of the word, the number found or stored there, and the buffer of the slot that it takes or gives; `tells` is what it tells beside that.
 use Rattle.std.specs.Prelude.{◌≡◌, ℕ, ◌+◌, ◌<◌, Bool, true, false, List, [], ◌∷◌, ◌++◌, length, slice_index, slice_set, None}
 use mathlib.Core.Option as maybe
 use mathlib.Core.Option.{some, none}
@@ -9,7 +9,8 @@ use Rattle.shared_ring.specs.declared.events.DriverEvent.{DriverEvent}
 use Rattle.shared_ring.specs.declared.events.ControllerEvent.{ControllerEvent}
 use Rattle.shared_ring.specs.Directions.{Agrees}
 use Rattle.shared_ring.specs.Ends.{Side, grown}
-use Rattle.shared_ring.specs.Forms.{Form, drive, driving, control, controlling}
+use Rattle.shared_ring.specs.Accesses.{access}
+use Rattle.shared_ring.specs.Forms.{Form, drive, driving, control, controlling, driver_access, controller_access}
 use Rattle.shared_ring.specs.Records.{Driven, Controlled}
 use Rattle.shared_ring.specs.Tables.{words_of}
 
@@ -54,11 +55,13 @@ module _ {Ring Posted Served Given D C : Type 0} (form : Form Ring Posted Served
     pub goes : (q : Ring) (cs : List (ControllerEvent C)) (words : List ℕ) (homes : List (maybe.Option Buffer)) → 1 < n → form.Lies n mode q es cs words homes
         → tells n es word (slice_index words word) blank × Agrees form n mode (es ++ event n es word (slice_index words word) blank ∷ []) cs words homes
     pub same : (r : ℕ) → SameOut d (drive form d (event n es word r blank))
+    pub names : (r : ℕ) → driver_access form n (event n es word r blank) ≡ access word r
 
   -- a store of 0 by which a buffer comes back
   pub record MayClear (place : ℕ) : Type 0 where
     pub goes : (q : Ring) (cs : List (ControllerEvent C)) (words : List ℕ) (homes : List (maybe.Option Buffer)) → 1 < n → form.Lies n mode q es cs words homes → Out place 0 homes cs (slice_set words place 0)
     pub back : (b : Buffer) → OneBack d (drive form d (event n es place 0 b))
+    pub names : (b : Buffer) → driver_access form n (event n es place 0 b) ≡ access place 0
 
   -- a load by which a buffer comes back where the word is done, and else the event is `missed`
   pub record MayTake (missed : ℕ → ℕ → DriverEvent D) (done : ℕ → Bool) (place : ℕ) : Type 0 where
@@ -68,6 +71,8 @@ module _ {Ring Posted Served Given D C : Type 0} (form : Form Ring Posted Served
         → Out place (slice_index words place) homes cs words
     pub same : (r : ℕ) → SameOut d (drive form d (missed place r))
     pub back : (r : ℕ) (b : Buffer) → OneBack d (drive form d (event n es place r b))
+    pub names_missed : (r : ℕ) → driver_access form n (missed place r) ≡ access place r
+    pub names : (r : ℕ) (b : Buffer) → driver_access form n (event n es place r b) ≡ access place r
 
 module _ {Ring Posted Served Given D C : Type 0} (form : Form Ring Posted Served Given D C) (event : Event (DriverEvent D)) (n : ℕ) (mode : Completion) (es : List (DriverEvent D)) where
   -- a store of 0 that ends the epoch
@@ -76,6 +81,7 @@ module _ {Ring Posted Served Given D C : Type 0} (form : Form Ring Posted Served
     pub goes : (q : Ring) (cs : List (ControllerEvent C)) (words : List ℕ) (homes : List (maybe.Option Buffer)) → 1 < n → form.Lies n mode q es cs words homes
         → Agrees form n mode (es ++ event n es word 0 blank ∷ []) cs (slice_set words word 0) homes
     pub gone : AllGone (drive form (driving form es) (event n es word 0 blank))
+    pub names : driver_access form n (event n es word 0 blank) ≡ access word 0
 
 module _ {Ring Posted Served Given D C : Type 0} (form : Form Ring Posted Served Given D C) (event : Event (ControllerEvent C)) (n : ℕ) (mode : Completion) (es : List (ControllerEvent C)) where
   abbrev c : Controlled Served
@@ -88,6 +94,7 @@ module _ {Ring Posted Served Given D C : Type 0} (form : Form Ring Posted Served
         → Agrees form n mode ds (es ++ event n es word v blank ∷ []) (slice_set words word v) homes
     pub served : length (control form n c (event n es word v blank)).served ≡ length c.served
     pub held : (control form n c (event n es word v blank)).held ≡ c.held
+    pub names : controller_access form n (event n es word v blank) ≡ access word v
 
   -- a store by which the slot of the fetched buffer is given back
   pub record MayGive (place word v : ℕ) (b : Buffer) : Type 0 where
@@ -95,6 +102,7 @@ module _ {Ring Posted Served Given D C : Type 0} (form : Form Ring Posted Served
     pub goes : (q : Ring) (ds : List (DriverEvent D)) (words : List ℕ) (homes : List (maybe.Option Buffer)) → 1 < n → form.Lies n mode q ds es words homes
         → Agrees form n mode ds (es ++ event n es word v b ∷ []) (slice_set words word v) (slice_set homes place (some b))
     pub held : (control form n c (event n es word v b)).held ≡ None
+    pub names : controller_access form n (event n es word v b) ≡ access word v
 
 -- What a load by which a buffer may come back tells
 module _ {E : Type 0} (event : Event E) (tells : Tells E) (missed : ℕ → ℕ → E) (done : ℕ → Bool) (old : Side E) (place r : ℕ) where

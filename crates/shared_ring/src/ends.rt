@@ -5,7 +5,7 @@ ghost use Rattle.ring_model.specs.declared.states.DriverState.TheVariants as sta
 ghost use Rattle.ring_model.specs.shared.Handshakes.{is_open, is_live, is_new, is_on, is_stopped, is_serving, learned};
 ghost use Rattle.ring_model.specs.shared.Frames.{unfinished};
 ghost use Rattle.ring_model.specs.declared.states.ControllerState.TheVariants as controller_state_is;
-ghost use Rattle.shared_ring.specs.Calls.{IsPoster, MayShake, shake_event, shaken, IsServer, IsSettled, MayAnswer, Answered, MayLoadWord, LoadedWord, FoundAhead};
+ghost use Rattle.shared_ring.specs.Calls.{IsPoster, MayShake, StoredBy, shake_event, shaken, IsServer, IsSettled, MayAnswer, Answered, MayLoadWord, LoadedWord, FoundAhead};
 ghost use Rattle.shared_ring.specs.Ends.{Side, driver_of, driver_size, driver_record, posted, returned, driver_state, known_of, appended, controller_of, controller_size, controller_record, served, known_ahead, held, controller_state, is_between, answered};
 ghost use Rattle.shared_ring.specs.Words.{control_word};
 ghost use Rattle.shared_ring.specs.declared.events.DriverEvent.{DriverEvent};
@@ -84,6 +84,7 @@ pub trait DriverEnd<D, C, R: Direction<D, C>>: Sized {
     fn shake(&mut self, ring: &Self::Ring, step: Handshake) -> Control
         requires own { (side self.old).table ≡ Self.Ring.table ring.now }
         requires may { MayShake step (driver_state (driver_of R.form (side self.old))) }
+        ensures stored { StoredBy step result }
         ensures step { driver_of R.form (side self.new) ≡ appended (driver_of R.form (side self.old)) (shake_event step (control_word result)) }
         ensures record { driver_record (driver_of R.form (side self.new)) ≡ record (driver_record (driver_of R.form (side self.old))) { state = shaken step (driver_state (driver_of R.form (side self.old))) (control_word result) } }
         ensures known { known_of (driver_of R.form (side self.new)) ≡ known_of (driver_of R.form (side self.old)) };

@@ -1,7 +1,11 @@
-//! How the records of two ends are cut and put together. These types are for proofs alone.
+//! How the records of two ends are cut and put together, and the two loads that belong to neither: as a ring is made, and
+//! as its ends meet. These types are for proofs alone.
 
-use crate::events::View;
-use atomic_table::{Join, Split};
+use crate::direction::Direction;
+use crate::events::{ControllerEvent, DriverEvent, View};
+use atomic_table::{Join, Play, Split};
+use buffer_pool::Buf;
+use std::marker::PhantomData;
 
 /// The driver's record stays, and the controller's goes to the new seat.
 pub struct Halve;
@@ -46,4 +50,22 @@ impl<D, C> Join<View<D, C>> for Return {
     ghost both = { λ v w. w };
 
     ghost spent = { Nobody };
+}
+
+/// The load by which the first seat takes all slots, as the ring is made.
+pub struct Deal;
+
+impl<D, C> Play<Buf, View<D, C>> for Deal {
+    ghost use Rattle.shared_ring.specs.Plays.{Deals};
+
+    ghost then = { Deals };
+}
+
+/// The load of two ends that meet.
+pub struct MeetLoad<R>(PhantomData<R>);
+
+impl<D, C, R: Direction<D, C>> Play<Buf, View<DriverEvent<D>, ControllerEvent<C>>> for MeetLoad<R> {
+    ghost use Rattle.shared_ring.specs.Plays.{Meets};
+
+    ghost then = { Meets R.form };
 }

@@ -9,14 +9,15 @@
 //! of which makes its end's record longer by its event.
 #![tactic(auto)]
 
+mod accesses;
 mod control;
 mod direction;
 mod ends;
 mod error;
 mod events;
-mod exchange;
 mod lending;
 mod plays;
+mod slots;
 mod steps;
 
 pub use control::Control;

@@ -1,5 +1,4 @@
-//! Every access to a ring's table. Its fields are named nowhere else, and each function below makes one kind of step,
-//! by which its end's record grows: so a step that no record tells of can't be made.
+//! The steps on a ring's table. Each function below makes one kind of step, by which its end's record grows.
 
 mod controller;
 mod driver;
@@ -16,6 +15,16 @@ use std::marker::{Model, PhantomData};
 
 /// The ring's length, and how it reports.
 type Key = (usize, Completion);
+
+pub(crate) type RingTable<D, C, R> = Table<
+    Buf,
+    View<DriverEvent<D>, ControllerEvent<C>>,
+    Key,
+    Rule<R>,
+    Global,
+>;
+
+pub(crate) type RingSeat<D, C> = Seat<Buf, View<DriverEvent<D>, ControllerEvent<C>>>;
 
 /// The rule of a direction's table: between any two steps, the words, the slots and both records agree with one ring
 /// that a schedule makes.

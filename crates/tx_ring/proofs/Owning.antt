@@ -22,7 +22,8 @@ use Rattle.shared_ring.specs.declared.events.DriverEvent.TheVariants as driver
 use Rattle.shared_ring.specs.Directions.{Agrees}
 use Rattle.shared_ring.specs.Lies.{driven}
 use Rattle.shared_ring.specs.Own.{MayLoad, MayClear, MayEnd, MayStore, MayGive, SameOut}
-use Rattle.shared_ring.specs.Forms.{drive}
+use Rattle.shared_ring.specs.Accesses.{access}
+use Rattle.shared_ring.specs.Forms.{drive, driver_access}
 use Rattle.shared_ring.specs.Tables.{words_of}
 use Rattle.shared_ring.proofs.Standing.{low}
 use Rattle.tx_ring.specs.declared.events.TxDriverOwn.TheVariants.{NoReport, SawReport}
@@ -50,6 +51,11 @@ seen-same : (d : TxDriven) (place r : ℕ) (b : Bool) → SameOut d (drive tx d 
 seen-same d place r true = record { posted = refl; given = refl; reclaimed = refl }
 seen-same d place r false = record { posted = refl; given = refl; reclaimed = refl }
 
+-- and names its word, and what it found there
+seen-names : (n place r : ℕ) (b : Bool) → driver_access tx n (driver.Own (if b then SawReport place r else NoReport place r)) ≡ access place r
+seen-names n place r true = refl
+seen-names n place r false = refl
+
 module _ (n : ℕ) (mode : Completion) (es : List DriverStep) where
   abbrev d : TxDriven
   d = driving es
@@ -73,6 +79,7 @@ module _ (n : ℕ) (mode : Completion) (es : List DriverStep) where
               (looked i j q cs words homes pos l old on (nat_lt j q.reported) refl),
         );
     same = λ r. seen-same d i r (shows_report n es i r);
+    names = λ r. seen-names n i r (shows_report n es i r);
   }
 
   -- B8
@@ -90,6 +97,7 @@ module _ (n : ℕ) (mode : Completion) (es : List DriverStep) where
           agrees = (cleaned_one q (Some y.0), clean-lies n mode q es cs words homes pos l y.0 p y.1 place on few);
         };
     back = λ b. record { posted = refl; back = let e = length-append d.given (b.number ∷ []) in omega arith };
+    names = λ b. refl;
   }
 
   pub may-end_epoch : by_head mode ≡ false → is_cleared d.state ≡ true → MayEnd tx ends_epoch n mode es (n + 1)
@@ -97,6 +105,7 @@ module _ (n : ℕ) (mode : Completion) (es : List DriverStep) where
     word_is = low n mode (n + 1) (omega arith);
     goes = λ q cs words homes pos l. (tx_cleared q false, end_epoch-lies n mode q es cs words homes pos l alone (state-is n mode q es cs words homes pos l is_cleared true cleared));
     gone = record { posted = refl; given = refl; reclaimed = refl };
+    names = refl;
   }
 
   pub may-clear_report : by_head mode ≡ true → is_tailed d.state ≡ true → MayEnd tx clears_report n mode es (n + 4)
@@ -104,6 +113,7 @@ module _ (n : ℕ) (mode : Completion) (es : List DriverStep) where
     word_is = head-there n mode more;
     goes = λ q cs words homes pos l. (tx_renewed q, clear_report-lies n mode q es cs words homes pos l more (state-is n mode q es cs words homes pos l is_tailed true tailed));
     gone = record { posted = refl; given = refl; reclaimed = refl };
+    names = refl;
   }
 
 module _ (n : ℕ) (mode : Completion) (es : List ControllerStep) where
@@ -119,6 +129,7 @@ module _ (n : ℕ) (mode : Completion) (es : List ControllerStep) where
         subst (λ (y : Buffer). Agrees tx n mode ds (es ++ sends n es n h y ∷ []) (slice_set words n h) (slice_set homes place (some y))) (sym t.1.1.1)
         (sent_one q (Some t.1.0), send-lies n mode q ds es words homes pos l t.1.0 place h is (at ∙ ap (λ (xs : List Posting). length xs % n) sv) (next ∙ ap (λ (xs : List Posting). (length xs + 1) % n) sv) t.0 few.few_bytes);
     held = refl;
+    names = refl;
   }
 
   -- B6
@@ -129,6 +140,7 @@ module _ (n : ℕ) (mode : Completion) (es : List ControllerStep) where
         (tx_changed q step.Report, report_status-lies n mode q ds es words homes pos l (sym m.barred ∙ owed) alone p (at ∙ ap (λ (xs : List Posting). (length xs - 1) % n) (served-there n mode q ds es words homes pos l serving)));
     served = refl;
     held = refl;
+    names = refl;
   }
 
   pub may-report_head : (h : ℕ) → by_head mode ≡ true → h ≡ length c.served % n → is_serving c.state ≡ true → c.barred ≡ true → MayStore tx reports n mode es (n + 4) h
@@ -138,4 +150,5 @@ module _ (n : ℕ) (mode : Completion) (es : List ControllerStep) where
         (tx_changed q step.Report, report_head-lies n mode q ds es words homes pos l (sym m.barred ∙ owed) more h (at ∙ ap (λ (xs : List Posting). length xs % n) (served-there n mode q ds es words homes pos l serving)));
     served = refl;
     held = refl;
+    names = refl;
   }

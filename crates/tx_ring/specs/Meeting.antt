@@ -1,11 +1,12 @@
 -- What both ends know together: as they are made, as they meet, and as the ring is closed.
-use Rattle.std.specs.Prelude.{◌≡◌, ℕ, ◌+◌, ◌-◌, ◌%◌, ◌<◌, List, length, Option, Some, None, slice_get}
+use Rattle.std.specs.Prelude.{◌≡◌, ℕ, ◌+◌, ◌-◌, ◌%◌, ◌<◌, ◌≤◌, List, length, Option, Some, None, slice_get}
 use Rattle.buffer_pool.specs.Buffer.{Buffer}
 use Rattle.ring_model.specs.declared.states.Owner.TheVariants.{Ring}
 use Rattle.ring_model.specs.shared.Frames.{Bytes}
-use Rattle.ring_model.specs.transmit.Ring.{TxLedger}
-pub use Rattle.shared_ring.specs.Meeting.{MadeSeats, is_unanswered, served_now as sent_now, Met, IsTold}
-use Rattle.tx_ring.specs.Ends.{DriverSide, driver_size, posted, cleaned, known_of, ControllerSide}
+use Rattle.ring_model.specs.transmit.Ring.{TxLedger, number_of_posting}
+use Rattle.shared_ring.specs.Meeting as shared
+pub use Rattle.shared_ring.specs.Meeting.{MadeSeats, is_unanswered, served_now as sent_now, Met, IsTold, IsReal, AllReal}
+use Rattle.tx_ring.specs.Ends.{DriverSide, driver_size, posted, returned, cleaned, known_of, ControllerSide}
 use Rattle.tx_ring.specs.Form.{AreOf}
 use Rattle.tx_ring.specs.Records.{Posting}
 use Rattle.tx_ring.specs.Rule.{filled}
@@ -26,9 +27,27 @@ left_at d (Some head) = Some (left_by d head)
 abbrev pub told_left : DriverSide → Option ℕ
 told_left d = left_at d (known_of d).head
 
--- A closed ring gave a buffer back at exactly the places that were with Ring, with what was posted there
+-- the numbers of the buffers that are out, the oldest first
+abbrev pub out_of : DriverSide → List ℕ
+out_of d = shared.out_of number_of_posting d
+
+-- each buffer that is out is once among those of these places and the one that the controller holds
+abbrev pub AllCameBack : DriverSide → ControllerSide → List (Option Buffer) → Type 0
+AllCameBack d c buffers = shared.AllCameBack number_of_posting d c buffers
+
+-- at this place lay the buffer of an item that is out, with what was posted there
+pub record GaveBack (d : DriverSide) (buffers : List (Option Buffer)) (place : ℕ) : Type 0 where
+  pub item : ℕ
+  pub posting : Posting
+  pub out : returned d ≤ item
+  pub posted_item : item < length (posted d)
+  pub place_is : item % driver_size d ≡ place
+  pub there : slice_get buffers place ≡ Some (Some (filled posting))
+  pub posting_is : slice_get (posted d) item ≡ Some posting
+
+-- A closed ring gave a buffer back at exactly the places that were with Ring, and each is that of an item that is out
 pub record IsClosed (d : DriverSide) (c : ControllerSide) (buffers : List (Option Buffer)) : Type 0 where
   pub of_one_ring : AreOf (driver_size d) d.events c.events
   pub count : length buffers ≡ driver_size d
-  pub ring : (place : ℕ) → slice_get of_one_ring.queue.owners place ≡ Some Ring → (k : ℕ) × (b : Buffer) × ((k % driver_size d ≡ place) × (slice_get buffers place ≡ Some (Some b)) × ((p : Posting) × ((slice_get (posted d) k ≡ Some p) × (b ≡ filled p))))
+  pub ring : (place : ℕ) → slice_get of_one_ring.queue.owners place ≡ Some Ring → GaveBack d buffers place
   pub others : (place : ℕ) → place < driver_size d → ¬ (slice_get of_one_ring.queue.owners place ≡ Some Ring) → slice_get buffers place ≡ Some None

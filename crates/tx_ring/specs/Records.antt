@@ -9,6 +9,7 @@ use Rattle.ring_model.specs.transmit.Ring.{new_posting}
 use Rattle.shared_ring.specs.declared.events.DriverEvent.{DriverEvent}
 use Rattle.shared_ring.specs.declared.events.ControllerEvent.{ControllerEvent}
 use Rattle.shared_ring.specs.declared.events.ControllerEvent.TheVariants as controller
+use Rattle.shared_ring.specs.Accesses.{Access, access}
 use Rattle.shared_ring.specs.Records as shared
 use Rattle.shared_ring.specs.Records.{Driven, Controlled, undriven, uncontrolled}
 use Rattle.tx_ring.specs.declared.events.TxDriverOwn.{TxDriverOwn}
@@ -63,6 +64,18 @@ driving es = shared.driving_from posting_of drive_own undriven es
 abbrev pub control_own : TxControlled → TxControllerOwn → TxControlled
 control_own c (Sent head word b) = record c { served = c.served ++ posting_of word b ∷ []; held = None; head = head; barred = rs_of word }
 control_own c (Reported place word) = record c { barred = false }
+
+-- which word a step loads or stores in a ring of n places, and the value that it finds or stores there
+abbrev pub driver_names : ℕ → TxDriverOwn → Access
+driver_names n (NoReport place word) = access place word
+driver_names n (SawReport place word) = access place word
+driver_names n (Cleaned place b) = access place 0
+driver_names n EndedEpoch = access (n + 1) 0
+driver_names n ClearedReport = access (n + 4) 0
+
+abbrev pub controller_names : ℕ → TxControllerOwn → Access
+controller_names n (Sent head word b) = access n head
+controller_names n (Reported place word) = access place word
 
 abbrev pub control : ℕ → TxControlled → ControllerStep → TxControlled
 control n = shared.control n control_own

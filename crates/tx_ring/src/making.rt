@@ -5,7 +5,7 @@ ghost use Rattle.ring_model.specs.declared.states.Completion.TheVariants as comp
 ghost use Rattle.ring_model.specs.transmit.Lawful.{IsLawfulTxLedger};
 ghost use Rattle.ring_model.specs.shared.Frames.{Bytes};
 ghost use Rattle.tx_ring.specs.Ends.{driver_size, posted, cleaned};
-ghost use Rattle.tx_ring.specs.Meeting.{MadeSeats, ledger_of, sent_now, Met, told_left, IsTold, IsClosed};
+ghost use Rattle.tx_ring.specs.Meeting.{MadeSeats, ledger_of, sent_now, Met, told_left, IsTold, IsClosed, AllReal, AllCameBack};
 
 use crate::controller::TxControllerEnd;
 use crate::direction::TxShared;
@@ -75,11 +75,14 @@ pub fn meet_tx(ring: &TxRing, driver: &mut TxDriverEnd, controller: &mut TxContr
 
 /// Closes a ring, wherever its two ends stand: one entry a place, with the buffer that lay there where one did, be it
 /// posted, published or sent. A place whose buffer the controller has fetched, and those of the driver, have
-/// none. The list stands in the room that `new` reserved, so this takes no memory.
+/// none. So each buffer that is out comes back once, but one that the controller holds; none is a blank. The list
+/// stands in the room that `new` reserved, so this takes no memory.
 pub fn close(ring: TxRing, driver: TxDriverEnd, controller: TxControllerEnd) -> Vec<Option<Buf>>
     requires driver { driver.table ≡ ring }
     requires controller { controller.table ≡ ring }
-    ensures { IsClosed driver controller result.items }
+    ensures places { IsClosed driver controller result.items }
+    ensures real { AllReal result.items }
+    ensures once { AllCameBack driver controller result.items }
 {
     let _size = driver.size();
     let TxDriverEnd { seat, at, .. } = driver;

@@ -8,6 +8,9 @@ pub record Frame : Type 0 where
   pub queue : ℕ
   pub bytes : List ℕ
 
+abbrev pub frame_of : ℕ → ℕ → List ℕ → Frame
+frame_of port queue bytes = record { port = port; queue = queue; bytes = bytes }
+
 -- the frame is one that a wire may have
 pub record InRange (f : Frame) : Type 0 where
   pub port : f.port < PORTS

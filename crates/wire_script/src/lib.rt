@@ -25,7 +25,7 @@ mod split;
 
 pub use error::ScriptError;
 pub use frame::WireFrame;
-pub use printing::print;
+pub use printing::{print, print_line};
 pub use reading::parse;
 pub use script::Script;
 

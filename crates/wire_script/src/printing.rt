@@ -1,9 +1,9 @@
 //! Writing frames as a script.
 
-ghost use Rattle.std.specs.Prelude.{◌≡◌, ◌++◌, ◌≤◌, length, IfErr, IfOk, Ok, OnOk};
+ghost use Rattle.std.specs.Prelude.{◌≡◌, ◌++◌, ◌<◌, ◌≤◌, length, IfErr, IfOk, Ok, OnOk};
 ghost use Rattle.std.specs.String.{string_bytes};
-ghost use Rattle.limits.specs.declared.profile.TheConstants.{MOST_SCRIPT_FRAMES};
-ghost use Rattle.wire_script.specs.Frame.{InRange};
+ghost use Rattle.limits.specs.declared.profile.TheConstants.{MOST_PAIRS, MOST_SCRIPT_FRAMES, PORTS};
+ghost use Rattle.wire_script.specs.Frame.{frame_of};
 ghost use Rattle.wire_script.specs.Script.{line_for, script_of, text_for};
 ghost use Rattle.wire_script.specs.declared.error.ScriptError.TheVariants.{Memory};
 
@@ -22,21 +22,46 @@ pub fn print(alloc: Global, frames: &[WireFrame]) -> Result<String, ScriptError>
 {
     let mut text = String::new(alloc);
     for frame in frames {
-        push_line(alloc, &mut text, frame).map_err(|_| ScriptError::Memory)?;
+        print_line(alloc, &mut text, frame.port(), frame.queue(), frame.bytes())?;
     }
     Ok(text)
 }
 
-// Writes a frame's line at the end.
-#[tactic(auto, unfolding(crate::specs::Script::line_for))]
-fn push_line(alloc: Global, text: &mut String, frame: &WireFrame) -> Result<(), AllocError>
-    ensures line { OnOk result (string_bytes text.new ≡ string_bytes text.old ++ line_for frame.now) }
-    ensures in_range { OnOk result (InRange frame.now) }
+/// Writes one frame's line at the end of a text, as [`print`] writes it: for frames that lie elsewhere, and need not be
+/// made `WireFrame`s. `port` is 0 or 1, `queue` is 0 to 7.
+///
+/// Where memory is refused the text may have a beginning of the line at its end.
+pub fn print_line(
+    alloc: Global,
+    text: &mut String,
+    port: u8,
+    queue: u8,
+    bytes: &[u8],
+) -> Result<(), ScriptError>
+    requires port { port < PORTS }
+    requires queue { queue < MOST_PAIRS }
+    ensures line { OnOk result (string_bytes text.new ≡ string_bytes text.old ++ line_for (frame_of port queue bytes.now)) }
+    ensures err { IfErr result (λ e. e ≡ Memory) }
 {
-    text.push(char::from(b'0' + frame.port()))?;
+    push_line(alloc, text, port, queue, bytes).map_err(|_| ScriptError::Memory)
+}
+
+#[tactic(auto, unfolding(crate::specs::Script::line_for))]
+fn push_line(
+    alloc: Global,
+    text: &mut String,
+    port: u8,
+    queue: u8,
+    bytes: &[u8],
+) -> Result<(), AllocError>
+    requires port { port < PORTS }
+    requires queue { queue < MOST_PAIRS }
+    ensures { OnOk result (string_bytes text.new ≡ string_bytes text.old ++ line_for (frame_of port queue bytes.now)) }
+{
+    text.push(char::from(b'0' + port))?;
     text.push(' ')?;
-    text.push(char::from(b'0' + frame.queue()))?;
+    text.push(char::from(b'0' + queue))?;
     text.push(' ')?;
-    text.push_str(hex::encode(alloc, frame.bytes())?.as_str())?;
+    text.push_str(hex::encode(alloc, bytes)?.as_str())?;
     text.push('\n')
 }

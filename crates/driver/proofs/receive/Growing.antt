@@ -1,9 +1,9 @@
 -- How the lists grow: not at all, one after another, by a posting, by a segment.
-use Rattle.std.proofs.Common.{◌≡◌, ◌∙◌, ℕ, ◌||◌, Bool, true, false, List, [], ◌∷◌, ◌++◌, map, sym, refl, ap, subst, append_assoc, append-nil}
-use Rattle.std.specs.Prelude.{All}
-use Rattle.std.proofs.lemmas.List.{map-append}
+use Rattle.std.proofs.Common.{◌≡◌, ◌∙◌, ℕ, ◌+◌, ◌≤◌, ◌||◌, Bool, true, false, List, [], ◌∷◌, ◌++◌, length, map, drop, Some, sym, refl, ap, subst, arith, append_assoc, append-nil, length-append}
+use Rattle.std.specs.Prelude.{All, slice_get}
+use Rattle.std.proofs.lemmas.List.{map-append, drop-append-le}
 use Rattle.std.proofs.lemmas.List.Elements.{All-nil, All-push, All-append}
-use Rattle.buffer_pool.specs.Buffer.{Buffer}
+use Rattle.buffer_pool.specs.Buffer.{Buffer, buffer}
 use Rattle.buffer_pool.specs.Packed.{bytes_of}
 use Rattle.ring_model.specs.shared.Segments.{Segment, piece_of}
 use Rattle.ring_model.specs.shared.Frames.{Bytes, frames}
@@ -11,18 +11,52 @@ use Rattle.ring_model.specs.shared.Handshakes.{is_open}
 use Rattle.shared_ring.specs.declared.events.DriverEvent.TheVariants as driver
 use Rattle.rx_ring.specs.declared.events.RxDriverOwn.TheVariants.{NotDone, Taken}
 use Rattle.rx_ring.specs.Records.{RxDriven, Knowing}
-use Rattle.rx_ring.specs.Ends.{DriverSide, driver_size, driver_record, driver_state, posted, taken, known_of, next_place, appended}
+use Rattle.rx_ring.specs.Ends.{DriverSide, driver_size, driver_record, driver_state, posted, taken, returned, known_of, fill_place, next_place, appended}
 use Rattle.rx_ring.specs.Calls.{segment, TookSegment, SawNotDone}
 use Rattle.shared_ring.proofs.Posting.{known-after}
 use Rattle.driver.specs.Steps.{is_post}
 use Rattle.driver.specs.receive.Chains.{going_on, segments_of, segments_in, IsTaken, HasSegment, IsRest}
-use Rattle.driver.specs.receive.Batches.{Hands, at, GrewBy, Filled}
+use Rattle.driver.specs.Reclaiming.{out_of}
+use Rattle.driver.specs.receive.Exchanges.{posting}
+use Rattle.driver.specs.receive.Batches.{Hands, at, itself, numbers_in, GrewBy, Filled}
 use Rattle.driver.proofs.Running.{runs-none, runs-one, runs-trans, runs-own}
+use Rattle.driver.proofs.Returning.{from_item}
 use Rattle.driver.proofs.receive.Chaining.{going_on-push, segments_of-push, segments_in-append, rest-more, rest-ended, frames-more, frames-ended, packet-ended}
 
 -- two growths of a list, one behind the other
 then_grew : {X : Type 0} (a b c xs ys : List X) → b ≡ a ++ xs → c ≡ b ++ ys → c ≡ a ++ (xs ++ ys)
 then_grew a b c xs ys f g = g ∙ (ap (λ l. l ++ ys) f ∙ append_assoc a xs ys)
+
+-- the numbers of the buffers that are out, as the record tells them
+abbrev out_in : RxDriven → List ℕ
+out_in x = map itself (drop (length x.given + x.reclaimed) x.posted)
+
+-- buffers that are out, as more are posted and the oldest come back
+then_out : (a b c f g s t : List ℕ) → a ++ f ≡ s ++ b → b ++ g ≡ t ++ c → a ++ (f ++ g) ≡ (s ++ t) ++ c
+then_out a b c f g s t e h = sym (append_assoc a f g) ∙ (ap (λ (l : List ℕ). l ++ g) e ∙ (append_assoc s b g ∙ (ap (λ (l : List ℕ). s ++ l) h ∙ sym (append_assoc s t c))))
+
+pub out-same : (d new : DriverSide) → out_of itself new ≡ out_of itself d → out_of itself d ++ [] ≡ out_of itself new
+out-same d new e = append-nil (out_of itself d) ∙ sym e
+
+out-posted : (d new : DriverSide) (number : ℕ) → returned d ≤ length (posted d) → driver_record new ≡ record (driver_record d) { posted = posted d ++ number ∷ [] }
+    → out_of itself d ++ number ∷ [] ≡ out_of itself new
+out-posted d new number within did = sym (ap out_in did ∙ (ap (map itself) (drop-append-le (returned d) (posted d) (number ∷ []) within) ∙ map-append itself (drop (returned d) (posted d)) (number ∷ [])))
+
+-- the oldest that was out came back, with a segment
+out-taken : (d new : DriverSide) (buf : Buffer) (eop : Bool) → TookSegment d buf eop new → out_of itself d ++ [] ≡ buf.number ∷ out_of itself new
+out-taken d new buf eop t = append-nil (out_of itself d)
+    ∙ (ap (map itself) (from_item (posted d) (returned d) buf.number oldest)
+    ∙ (ap (λ (k : ℕ). buf.number ∷ map itself (drop k (posted d))) after
+    ∙ ap (λ (x : RxDriven). buf.number ∷ map itself (drop (returned new) x.posted)) (sym t.grew)))
+  where
+    none_back : length (taken d) ≡ returned d
+    none_back = let e = t.none_back in omega arith
+
+    oldest : slice_get (posted d) (returned d) ≡ Some buf.number
+    oldest = subst (λ (k : ℕ). slice_get (posted d) k ≡ Some buf.number) none_back t.number
+
+    after : returned d + 1 ≡ returned new
+    after = let e = ap (λ (x : RxDriven). length x.given + x.reclaimed) t.grew in let l = length-append (taken d) (segment buf eop ∷ []) in omega arith
 
 pub grew-none : (h : Hands) → GrewBy h h
 grew-none h = record {
@@ -39,6 +73,7 @@ grew-none h = record {
   lawful = All-nil (IsTaken (driver_size h.end));
   shut = λ e. refl;
   none_back = refl;
+  out = append-nil (out_of itself h.end);
   state = refl;
   head = refl;
   quiet = refl;
@@ -66,6 +101,8 @@ grew-trans a b c f g = record {
   lawful = All-append (IsTaken (driver_size a.end)) f.packets g.packets f.lawful (subst (λ (n : ℕ). All (IsTaken n) g.packets) (ap (λ t. t.slots) f.own) g.lawful);
   shut = λ e. ap (λ (l : List ℕ). l ++ g.numbers) (f.shut e) ∙ g.shut (ap is_open f.state ∙ e);
   none_back = g.none_back ∙ f.none_back;
+  out = then_out (out_of itself a.end) (out_of itself b.end) (out_of itself c.end) f.numbers g.numbers (numbers_in f.segments) (numbers_in g.segments) f.out g.out
+      ∙ ap (λ (l : List ℕ). l ++ out_of itself c.end) (sym (map-append (λ (s : Segment Bytes). s.number) f.segments g.segments));
   state = g.state ∙ f.state;
   head = g.head ∙ f.head;
   quiet = g.quiet ∙ f.quiet;
@@ -77,32 +114,42 @@ grew-trans a b c f g = record {
 pub filled-none : (d : DriverSide) (stash : List ℕ) → Filled d stash d stash
 filled-none d stash = record {
   numbers = [];
+  fills = refl;
   runs = runs-none is_post d;
   did = ap (λ (l : List ℕ). let x : RxDriven = record (driver_record d) { posted = l } in x) (sym (append-nil (posted d)));
   known = refl;
   stash = refl;
+  out = append-nil (out_of itself d);
   shut = λ e. refl;
 }
 
-pub filled-one : (d new : DriverSide) (had has : List ℕ) (place word number : ℕ) (buf : Buffer) → is_open (driver_state d) ≡ true → new ≡ appended d (driver.Posted place word buf)
+pub filled-one : (d new : DriverSide) (had has : List ℕ) (number : ℕ) → is_open (driver_state d) ≡ true → returned d ≤ length (posted d) → new ≡ appended d (driver.Posted (fill_place d) 0 (buffer number []))
     → driver_record new ≡ record (driver_record d) { posted = posted d ++ number ∷ [] } → known_of new ≡ known_of d → had ≡ number ∷ has → Filled d had new has
-filled-one d new had has place word number buf opened step did known stash = record {
+filled-one d new had has number opened within step did known stash = record {
   numbers = number ∷ [];
-  runs = runs-one is_post d new (driver.Posted place word buf) step refl;
+  fills = step;
+  runs = runs-one is_post d new (driver.Posted (fill_place d) 0 (buffer number [])) step refl;
   did = did;
   known = known;
   stash = stash;
+  out = out-posted d new number within did;
   shut = λ e. absurd (cc);
 }
+
+pub posting-append : (xs ys : List ℕ) (d : DriverSide) → posting (xs ++ ys) d ≡ posting ys (posting xs d)
+posting-append [] ys d = refl
+posting-append (x ∷ xs) ys d = posting-append xs ys (appended d (driver.Posted (fill_place d) 0 (buffer x [])))
 
 pub filled-trans : (a b c : DriverSide) (had has left : List ℕ) → Filled a had b has → Filled b has c left → Filled a had c left
 filled-trans a b c had has left f g = record {
   numbers = f.numbers ++ g.numbers;
+  fills = g.fills ∙ (ap (posting g.numbers) f.fills ∙ sym (posting-append f.numbers g.numbers a));
   runs = runs-trans is_post a b c f.runs g.runs;
   did = g.did ∙ (ap (λ (y : RxDriven). let x : RxDriven = record y { posted = y.posted ++ g.numbers } in x) f.did
       ∙ ap (λ (l : List ℕ). let x : RxDriven = record (driver_record a) { posted = l } in x) (append_assoc (posted a) f.numbers g.numbers));
   known = g.known ∙ f.known;
   stash = f.stash ∙ (ap (λ (l : List ℕ). f.numbers ++ l) g.stash ∙ sym (append_assoc f.numbers g.numbers left));
+  out = sym (append_assoc (out_of itself a) f.numbers g.numbers) ∙ (ap (λ (l : List ℕ). l ++ g.numbers) f.out ∙ g.out);
   shut = λ e. ap (λ (l : List ℕ). l ++ g.numbers) (f.shut e) ∙ g.shut (ap (λ (x : RxDriven). is_open x.state) f.did ∙ e);
 }
 
@@ -122,6 +169,7 @@ grew-filled d new had has chain list f = record {
   lawful = All-nil (IsTaken (driver_size d));
   shut = f.shut;
   none_back = ap (λ (x : RxDriven). x.reclaimed) f.did;
+  out = f.out;
   state = ap (λ (x : RxDriven). x.state) f.did;
   head = ap (λ (k : Knowing). k.head) f.known;
   quiet = ap (λ (k : Knowing). k.quiet) f.known;
@@ -151,6 +199,7 @@ module _ (d new : DriverSide) (buf : Buffer) (stash : List ℕ) (list : List (Li
     lawful = All-nil (IsTaken (driver_size d));
     shut = λ e. refl;
     none_back = ap (λ (x : RxDriven). x.reclaimed) t.grew;
+    out = out-taken d new buf false t;
     state = ap (λ (x : RxDriven). x.state) t.grew;
     head = ap (λ (x : Knowing). x.head) k;
     quiet = ap (λ (x : Knowing). x.quiet) k;
@@ -179,6 +228,7 @@ module _ (d new : DriverSide) (buf : Buffer) (stash : List ℕ) (list : List (Li
     lawful = All-push (IsTaken (driver_size d)) [] (chain ++ buf ∷ []) (All-nil (IsTaken (driver_size d))) (packet-ended (driver_size d) (taken d) (taken new) chain buf r.rest true t.follows refl r.each);
     shut = λ e. refl;
     none_back = ap (λ (x : RxDriven). x.reclaimed) t.grew;
+    out = out-taken d new buf true t;
     state = ap (λ (x : RxDriven). x.state) t.grew;
     head = ap (λ (x : Knowing). x.head) k;
     quiet = ap (λ (x : Knowing). x.quiet) k;
@@ -207,6 +257,7 @@ module _ (d new : DriverSide) (buf : Buffer) (stash : List ℕ) (list : List (Li
     lawful = All-nil (IsTaken (driver_size d));
     shut = λ e. refl;
     none_back = ap (λ (x : RxDriven). x.reclaimed) s.same;
+    out = out-same d new (ap out_in s.same);
     state = ap (λ (x : RxDriven). x.state) s.same;
     head = ap (λ (x : Knowing). x.head) k;
     quiet = ap (λ (x : Knowing). x.quiet) k;

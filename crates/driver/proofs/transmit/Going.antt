@@ -1,9 +1,15 @@
 -- Going on by no step, by one, and by some after others.
-use Rattle.std.proofs.Common.{◌≡◌, ℕ, Bool, List, [], ◌++◌, ap, sym, refl, ◌∙◌, append_assoc, append-nil}
-use Rattle.tx_ring.specs.Ends.{DriverSide, driver_record}
-use Rattle.tx_ring.specs.Records.{DriverStep, Posting, TxDriven}
+use Rattle.std.proofs.Common.{◌≡◌, ℕ, Bool, true, List, [], ◌∷◌, ◌++◌, ap, sym, refl, ◌∙◌, append_assoc, append-nil}
+use Rattle.std.specs.Prelude.{All}
+use Rattle.std.proofs.lemmas.Bool.{false≢true}
+use Rattle.std.proofs.lemmas.List.Elements.{All-head, All-tail}
+use Rattle.shared_ring.specs.declared.events.DriverEvent.TheVariants.{Posted}
+use Rattle.shared_ring.proofs.Posting.{known-after}
+use Rattle.tx_ring.specs.Ends.{DriverSide, driver_record, known_of, appended}
+use Rattle.tx_ring.specs.Records.{DriverStep, Posting, TxDriven, knowing, know}
+use Rattle.driver.specs.Steps.{Runs, is_post}
 use Rattle.driver.specs.transmit.Going.{WentOn}
-use Rattle.driver.proofs.Running.{runs-none, runs-trans}
+use Rattle.driver.proofs.Running.{runs-none, runs-trans, runs-more}
 
 -- the record with other lists
 pub with_lists : (x : TxDriven) (ps qs : List Posting) (us vs : List ℕ) → ps ≡ qs → us ≡ vs → record x { posted = ps; given = us } ≡ record x { posted = qs; given = vs }
@@ -28,3 +34,22 @@ module _ {kinds : DriverStep → Bool} where
     did = more_lists (driver_record a) (driver_record b) (driver_record c) xs ys us vs p.did q.did;
     head = q.head ∙ p.head;
   }
+
+-- steps of some kinds are steps of more kinds
+pub went-more : {some more : DriverStep → Bool} {a b : DriverSide} {xs : List Posting} {us : List ℕ} → ((e : DriverStep) → some e ≡ true → more e ≡ true) → WentOn some a xs us b → WentOn more a xs us b
+went-more {some} {more} {a} {b} wider p = record { runs = runs-more some more a b wider p.runs; did = p.did; head = p.head }
+
+-- posting teaches nothing
+post-known : (d : DriverSide) (e : DriverStep) → is_post e ≡ true → know (driver_record d) (known_of d) e ≡ known_of d
+post-known d (Posted place word buf) is = refl
+post-known d e is = absurd (false≢true is)
+
+posts-known : (steps : List DriverStep) (d : DriverSide) → All (λ e. is_post e ≡ true) steps → knowing (d.events ++ steps) ≡ known_of d
+posts-known [] d only = ap (λ (es : List DriverStep). knowing es) (append-nil d.events)
+posts-known (e ∷ steps) d only =
+    ap (λ (es : List DriverStep). knowing es) (sym (append_assoc d.events (e ∷ []) steps))
+    ∙ (posts-known steps (appended d e) (All-tail (λ x. is_post x ≡ true) e steps only)
+    ∙ (known-after d (appended d e) e refl ∙ post-known d e (All-head (λ x. is_post x ≡ true) e steps only)))
+
+pub runs-known : (d new : DriverSide) → Runs is_post d new → known_of new ≡ known_of d
+runs-known d new f = ap (λ (s : DriverSide). known_of s) f.step ∙ posts-known f.steps d f.only

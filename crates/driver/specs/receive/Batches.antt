@@ -1,5 +1,5 @@
 -- What a batch takes and posts.
-use Rattle.std.specs.Prelude.{◌≡◌, ℕ, ◌+◌, ◌<◌, ◌⊎◌, Bool, true, false, All, List, [], ◌++◌, length, map}
+use Rattle.std.specs.Prelude.{◌≡◌, ℕ, ◌+◌, ◌-◌, ◌≤◌, ◌⊎◌, Bool, true, false, All, List, [], ◌++◌, length, map, min}
 use Rattle.buffer_pool.specs.Buffer.{Buffer}
 use Rattle.buffer_pool.specs.Packed.{bytes_of}
 use Rattle.ring_model.specs.shared.Segments.{Segment, piece_of}
@@ -8,10 +8,13 @@ use Rattle.ring_model.specs.shared.Handshakes.{is_open}
 use Rattle.shared_ring.specs.declared.events.DriverEvent.TheVariants as driver
 use Rattle.rx_ring.specs.declared.events.RxDriverOwn.TheVariants.{NotDone, Taken}
 use Rattle.rx_ring.specs.Records.{DriverStep}
-use Rattle.rx_ring.specs.Ends.{DriverSide, driver_size, driver_record, driver_state, posted, published, taken, reclaimed, returned, known_of, saw_quiet, is_drained, fill_place, appended}
+use Rattle.rx_ring.specs.Ends.{DriverSide, driver_size, driver_record, driver_state, posted, published, taken, reclaimed, known_of, saw_quiet, is_drained}
 use Rattle.rx_ring.specs.Calls.{SawNotDone, SawEmpty}
 use Rattle.driver.specs.Steps.{Runs, is_post}
+use Rattle.driver.specs.Reclaiming.{out_of}
 use Rattle.driver.specs.receive.Chains.{going_on, segments_in, IsTaken, IsRest}
+use Rattle.driver.specs.receive.Exchanges.{posting, Exchanges}
+pub use Rattle.driver.specs.receive.Exchanges.{IsFilled, Published}
 
 -- A driver's end, the chain of a frame that has not ended, the stash at hand, and the list of packets
 pub record Hands : Type 0 where
@@ -23,7 +26,14 @@ pub record Hands : Type 0 where
 abbrev pub at : DriverSide → List Buffer → List ℕ → List (List Buffer) → Hands
 at end chain stash list = record { end = end; chain = chain; stash = stash; list = list }
 
--- By how much the lists grew between two states: these segments were taken, which are, behind the chain, those of the appended packets and of the chain now; buffers with these numbers went from the stash to the ring, none where a disabling was asked
+abbrev pub itself : ℕ → ℕ
+itself number = number
+
+-- the numbers of the buffers in which these segments lie
+abbrev pub numbers_in : List (Segment Bytes) → List ℕ
+numbers_in segments = map (λ s. s.number) segments
+
+-- By how much the lists grew between two states: these segments were taken, which are, behind the chain, those of the appended packets and of the chain now; buffers with these numbers went from the stash to the ring, none where a disabling was asked. The buffers that were out, and behind them those that were posted, are the ones in which segments came back, and behind them those that are out now
 pub record GrewBy (old new : Hands) : Type 0 where
   pub own : new.end.table ≡ old.end.table
   pub segments : List (Segment Bytes)
@@ -38,6 +48,7 @@ pub record GrewBy (old new : Hands) : Type 0 where
   pub lawful : All (IsTaken (driver_size old.end)) packets
   pub shut : is_open (driver_state old.end) ≡ false → numbers ≡ []
   pub none_back : reclaimed new.end ≡ reclaimed old.end
+  pub out : out_of itself old.end ++ numbers ≡ numbers_in segments ++ out_of itself new.end
   pub state : driver_state new.end ≡ driver_state old.end
   pub head : (known_of new.end).head ≡ (known_of old.end).head
   pub quiet : saw_quiet new.end ≡ saw_quiet old.end
@@ -60,10 +71,9 @@ pub record SawNothing (old new : DriverSide) : Type 0 where
 abbrev pub Stopped : ℕ → ℕ → ℕ → List (List Buffer) → DriverSide → DriverSide → Type 0
 Stopped batch most count list old new = (count ≡ batch) ⊎ ((length list ≡ most) ⊎ SawNothing old new)
 
--- the tail was stored if more is posted than before, so that all is published; and else nothing was done
-abbrev pub Published : DriverSide → DriverSide → DriverSide → Type 0
-Published before filled new = ((posted filled ≡ posted before) × (new ≡ filled) × (published new ≡ published before))
-    ⊎ ((length (posted before) < length (posted filled)) × (new ≡ appended filled (driver.Published (fill_place filled))) × (published new ≡ length (posted new)))
+-- how many packets a batch may append to a list that may have so many
+abbrev pub batch_of : ℕ → ℕ → List (List Buffer) → ℕ
+batch_of batch most list = min batch (most - length list)
 
 -- What polling did: the lists grew so, and the chain is what is left of a frame
 pub record Polled (old : Hands) (count : ℕ) (new : Hands) : Type 0 where
@@ -76,23 +86,22 @@ pub record Polled (old : Hands) (count : ℕ) (new : Hands) : Type 0 where
 -- What posting did: buffers with these numbers went from the stash to the ring, none where a disabling was asked
 pub record Filled (old : DriverSide) (had : List ℕ) (new : DriverSide) (has : List ℕ) : Type 0 where
   pub numbers : List ℕ
+  pub fills : new ≡ posting numbers old
   pub runs : Runs is_post old new
   pub did : driver_record new ≡ record (driver_record old) { posted = posted old ++ numbers }
   pub known : known_of new ≡ known_of old
   pub stash : had ≡ numbers ++ has
+  pub out : out_of itself old ++ numbers ≡ out_of itself new
   pub shut : is_open (driver_state old) ≡ false → numbers ≡ []
 
--- What a batch of a live queue did: polling went on until it stopped, then buffers were posted, and then the tail was stored if any was
+-- What a batch of a live queue did: polling went on until it stopped, then buffers were posted, and then the tail was stored if any was. Where the queue was seen quiet, and neither a whole batch was taken nor the list is full, nothing is left to take
 pub record Batched (batch most count : ℕ) (old new : Hands) : Type 0 where
   pub grew : GrewBy old new
   pub count_is : length new.list ≡ length old.list + count
-  pub polled : DriverSide
+  pub few : count ≤ batch
+  pub steps : Exchanges (batch_of batch most old.list) grew.segments old.end old.stash new.end new.stash
+  pub open steps use {polled, filled, tail}
   pub polling : Runs is_exchange old.end polled
   pub stopped : Stopped batch most count new.list old.end polled
-  pub filled : DriverSide
   pub filling : Runs is_post polled filled
-  pub tail : Published old.end filled new.end
-
--- nothing is left to post, or no more can be posted
-abbrev pub IsFilled : DriverSide → List ℕ → Type 0
-IsFilled end stash = (stash ≡ []) ⊎ (length (posted end) + 1 ≡ returned end + driver_size end)
+  pub drained : saw_quiet old.end ≡ true → ¬ (count ≡ batch) → ¬ (length new.list ≡ most) → is_drained new.end ≡ true

@@ -4,13 +4,11 @@ use Rattle.buffer_pool.specs.Buffer.{Buffer}
 use Rattle.ring_model.specs.shared.Handshakes.{is_stopped}
 use Rattle.rx_ring.specs.Ends.{driver_state, posted, returned, known_of}
 use Rattle.driver.specs.Reclaiming.{CameBack}
+pub use Rattle.driver.specs.receive.Batches.{itself}
 use Rattle.driver.specs.receive.Receiver.{Receiver}
 
 abbrev pub numbers_of : List Buffer → List ℕ
 numbers_of bufs = map (λ b. b.number) bufs
-
-abbrev pub itself : ℕ → ℕ
-itself number = number
 
 -- nothing is left of a disabled queue: no chain, and no buffer that is out
 pub record IsEmptied (r : Receiver) : Type 0 where

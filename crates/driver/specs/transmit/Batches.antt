@@ -1,21 +1,22 @@
 -- What the cleaning and the batches of a transmit driver do.
-use Rattle.std.specs.Prelude.{◌≡◌, ℕ, zero, suc, ◌+◌, ◌%◌, ◌<◌, ◌≤◌, ◌⊎◌, true, false, List, [], ◌++◌, length, reverse, take, drop}
+use Rattle.std.specs.Prelude.{◌≡◌, ℕ, zero, suc, ◌+◌, ◌%◌, ◌<◌, ◌≤◌, ◌⊎◌, true, false, List, [], ◌++◌, length, take, drop}
 use Rattle.buffer_pool.specs.Buffer.{Buffer}
 use Rattle.buffer_pool.specs.declared.stash.TheConstants.{STASH_BUFFERS}
 use Rattle.ring_model.specs.shared.Handshakes.{is_on}
+use Rattle.ring_model.specs.transmit.Ring.{number_of_posting}
 use Rattle.shared_ring.specs.declared.events.DriverEvent.TheVariants.{Published}
 use Rattle.tx_ring.specs.Calls.{Polled}
-use Rattle.tx_ring.specs.Ends.{DriverSide, posted, published, cleaned, seen_reported, driver_state, fill_place, appended}
+use Rattle.tx_ring.specs.Ends.{DriverSide, posted, published, cleaned, reclaimed, seen_reported, driver_state, known_of, fill_place, appended}
+use Rattle.driver.specs.Reclaiming.{out_of}
 use Rattle.driver.specs.Steps.{is_post}
-use Rattle.driver.specs.transmit.Frames.{frames_of, NeedsMore}
+use Rattle.driver.specs.transmit.Cleaning.{CleanedBy, Cleans}
+use Rattle.driver.specs.transmit.Frames.{frames_of, numbers_in, NeedsMore}
 use Rattle.driver.specs.transmit.Going.{WentOn, is_cleaning}
 use Rattle.driver.specs.transmit.Transmitter.{room_of, Sending}
 
--- Buffers were cleaned, and went into the stash in their order
-pub record CleanedInto (old : DriverSide) (had : List ℕ) (new : DriverSide) (has : List ℕ) : Type 0 where
-  pub numbers : List ℕ
-  pub went : WentOn is_cleaning old [] numbers new
-  pub stashed : has ≡ reverse numbers ++ had
+-- Buffers were cleaned, and went into the stash in their order, by cleaning and looking for reports alone
+abbrev pub CleanedInto : DriverSide → List ℕ → DriverSide → List ℕ → Type 0
+CleanedInto = CleanedBy is_cleaning
 
 -- all that was seen reported was cleaned, and then a load showed no report, or none was outstanding
 pub record FoundNoMore (old new : DriverSide) : Type 0 where
@@ -25,11 +26,15 @@ pub record FoundNoMore (old new : DriverSide) : Type 0 where
   pub all : length (cleaned last) ≡ seen_reported last
   pub none : Polled last false new
 
--- cleaning ends with a full stash, or where there is no more to clean
+-- A cleaning: its steps, and what it leaves. It ends with a full stash, or where there is no more to clean. The state is as it was, nothing was reclaimed, and no report that was seen is forgotten
 pub record CleanedAll (old : DriverSide) (had : List ℕ) (new : DriverSide) (has : List ℕ) : Type 0 where
   pub into : CleanedInto old had new has
   pub open into use *
+  pub steps : Cleans old had new has
   pub ends : (length has ≡ STASH_BUFFERS) ⊎ FoundNoMore old new
+  pub state : driver_state new ≡ driver_state old
+  pub none_back : reclaimed new ≡ reclaimed old
+  pub seen : seen_reported old ≤ seen_reported new
 
 -- what is posted is published, once
 abbrev pub published_after : ℕ → DriverSide → DriverSide
@@ -40,6 +45,8 @@ published_after (suc k) d = appended d (Published (fill_place d))
 pub record PostedFront (every frames count : ℕ) (old : DriverSide) (had : List (List Buffer)) (new : DriverSide) (has : List (List Buffer)) : Type 0 where
   pub filled : DriverSide
   pub posting : WentOn is_post old (frames_of every frames (take count had)) [] filled
+  pub out : out_of number_of_posting new ≡ out_of number_of_posting old ++ numbers_in (take count had)
+  pub known : known_of new ≡ known_of old
   pub publishing : new ≡ published_after count filled
   pub shown : 0 < count → published new ≡ length (posted new)
   pub few : count ≤ length had
@@ -47,13 +54,17 @@ pub record PostedFront (every frames count : ℕ) (old : DriverSide) (had : List
   pub none : is_on (driver_state old) ≡ false → count ≡ 0
   pub stays : is_on (driver_state old) ≡ true → NeedsMore (room_of new) has
 
--- First what is reported was cleaned, and then packets were posted, none while a disabling is asked
+-- First what is reported was cleaned, and then packets were posted, none while a disabling is asked. Of the buffers that were out and those that were posted, in this order, the first were cleaned and the others are out. The state is as it was, nothing was reclaimed, and posting teaches nothing
 pub record Batched (count : ℕ) (old new : Sending) : Type 0 where
   pub between : DriverSide
   pub cleaning : CleanedAll old.driver.end old.stash between new.stash
   pub posting : PostedFront old.driver.every old.driver.frames count between old.packets new.driver.end new.packets
   pub posts : posted new.driver.end ≡ posted old.driver.end ++ frames_of old.driver.every old.driver.frames (take count old.packets)
   pub cleans : cleaned new.driver.end ≡ cleaned old.driver.end ++ cleaning.numbers
+  pub out : out_of number_of_posting old.driver.end ++ numbers_in (take count old.packets) ≡ cleaning.numbers ++ out_of number_of_posting new.driver.end
+  pub state : driver_state new.driver.end ≡ driver_state old.driver.end
+  pub none_back : reclaimed new.driver.end ≡ reclaimed old.driver.end
+  pub known : known_of new.driver.end ≡ known_of between
   pub asked : is_on (driver_state old.driver.end) ≡ false → count ≡ 0
   pub stays : is_on (driver_state old.driver.end) ≡ true → NeedsMore (room_of new.driver.end) new.packets
   pub counted : new.driver ≡ record old.driver { end = new.driver.end; frames = (old.driver.frames + count) % old.driver.every }

@@ -1,5 +1,5 @@
 -- Packets as they are posted, and how many descriptors they need.
-use Rattle.std.specs.Prelude.{ℕ, ◌+◌, ◌%◌, ◌<◌, ◌≤◌, ◌==◌, Bool, true, false, ◌||◌, List, [], ◌∷◌, ◌++◌, length}
+use Rattle.std.specs.Prelude.{ℕ, ◌+◌, ◌%◌, ◌<◌, ◌≤◌, ◌==◌, Bool, true, false, ◌||◌, List, [], ◌∷◌, ◌++◌, length, map}
 use Rattle.buffer_pool.specs.Buffer.{Buffer}
 use Rattle.buffer_pool.specs.Packed.{bytes_of}
 use Rattle.tx_ring.specs.Calls.{item_of}
@@ -28,6 +28,11 @@ frames_of every count (p ∷ ps) = frame_of ((count + 1) % every == 0 || is_none
 abbrev pub segment_count : List (List Buffer) → ℕ
 segment_count [] = 0
 segment_count (p ∷ ps) = length p + segment_count ps
+
+-- the numbers of their buffers, in order
+abbrev pub numbers_in : List (List Buffer) → List ℕ
+numbers_in [] = []
+numbers_in (p ∷ ps) = map (λ b. b.number) p ++ numbers_in ps
 
 -- the first of them needs more descriptors than so many
 abbrev pub NeedsMore : ℕ → List (List Buffer) → Type 0

@@ -13,6 +13,11 @@ is_cleaning (Own (SawReport place word)) = true
 is_cleaning (Own (Cleaned place buf)) = true
 is_cleaning _ = false
 
+-- B8 alone
+abbrev pub is_clean : DriverStep → Bool
+is_clean (Own (Cleaned place buf)) = true
+is_clean _ = false
+
 -- By steps of these kinds these were posted, and the buffers with these numbers were cleaned; nothing else changed of the record, nor is another head known
 pub record WentOn (kinds : DriverStep → Bool) (old : DriverSide) (postings : List Posting) (numbers : List ℕ) (new : DriverSide) : Type 0 where
   pub runs : Runs kinds old new

@@ -3,7 +3,7 @@ use Rattle.std.specs.Prelude.{◌≡◌, ℕ, ◌+◌, ◌-◌, ◌<◌, ◌≤�
 use Rattle.buffer_pool.specs.Buffer.{Buffer}
 use Rattle.ring_model.specs.shared.Handshakes.{is_answered}
 use Rattle.ring_model.specs.transmit.Ring.{are_whole}
-use Rattle.tx_ring.specs.Ends.{DriverSide, driver_size, driver_state, posted, returned}
+use Rattle.tx_ring.specs.Ends.{DriverSide, driver_size, driver_state, posted, reclaimed, returned}
 
 -- its end; of how many frames one asks for a report; and how many frames it posted in this epoch, modulo that
 pub record Transmitter : Type 0 where
@@ -16,9 +16,10 @@ pub record IsReady (d : DriverSide) : Type 0 where
   pub whole : are_whole (posted d) ≡ true
   pub unanswered : is_answered (driver_state d) ≡ false
 
--- What the fields of a driver keep
+-- What the fields of a driver keep. Until it saw its disabling answered, it reclaimed nothing
 pub record IsTransmitter (most : ℕ) (t : Transmitter) : Type 0 where
   pub whole : are_whole (posted t.end) ≡ true
+  pub none_back : is_answered (driver_state t.end) ≡ false → reclaimed t.end ≡ 0
   pub counted : t.frames < t.every
   pub few : t.every ≤ most
 

@@ -1,5 +1,5 @@
 //! Enabling, disabling, and what comes back between the two.
-ghost use Rattle.std.specs.Prelude.{◌≡◌, ◌+◌, ◌↔◌, true, false, [], length, Ok, None, IsErr, IsOk, IfErr, OnErr, IfOk, OnOk};
+ghost use Rattle.std.specs.Prelude.{◌≡◌, ◌+◌, ◌↔◌, true, false, [], length, Ok, IsErr, IsOk, IsSome, IfNone, IfErr, OnErr, IfOk, OnOk};
 ghost use Rattle.ring_model.specs.declared.states.DriverState.TheVariants as state;
 ghost use Rattle.ring_model.specs.shared.Handshakes.{is_on, is_open, is_stopped};
 ghost use Rattle.shared_ring.specs.declared.events.DriverEvent.TheVariants.{AskedDisable};
@@ -22,6 +22,7 @@ impl RxDriver {
     /// `NotReclaimed` where the queue was seen disabled and is not renewed: then nothing is done.
     pub fn enable(&mut self, ring: &RxRing) -> Result<bool, DriverError>
         requires own { self.old.end.table ≡ ring.now }
+        ensures ring { self.new.end.table ≡ self.old.end.table }
         ensures refused { IsErr result ↔ (is_stopped (driver_state self.old.end) ≡ true) }
         ensures refusal { IfErr result (λ e. e ≡ NotReclaimed) }
         ensures told { IfOk result (λ enabled. enabled ≡ is_on (driver_state self.new.end)) }
@@ -38,6 +39,7 @@ impl RxDriver {
     /// `QueueOff` where the queue was not seen enabled, or a disabling was asked already: then nothing is done.
     pub fn ask_disable(&mut self, ring: &RxRing) -> Result<(), DriverError>
         requires own { self.old.end.table ≡ ring.now }
+        ensures ring { self.new.end.table ≡ self.old.end.table }
         ensures refused { IsErr result ↔ (is_on (driver_state self.old.end) ≡ false) }
         ensures refusal { IfErr result (λ e. e ≡ QueueOff) }
         ensures unchanged { OnErr result (self.new ≡ self.old) }
@@ -53,7 +55,12 @@ impl RxDriver {
     /// step.
     pub fn finish_disable(&mut self, ring: &RxRing) -> Option<u32>
         requires own { self.old.end.table ≡ ring.now }
+        ensures ring { self.new.end.table ≡ self.old.end.table }
         ensures finishes { Finishes told_left self.old.end result self.new.end }
+        ensures answered { IsSome result ↔ ((is_stopped (driver_state self.old.end) ≡ false) × (is_stopped (driver_state self.new.end) ≡ true)) }
+        ensures lists { driver_record self.new.end ≡ record (driver_record self.old.end) { state = driver_state self.new.end } }
+        ensures known { known_of self.new.end ≡ record (known_of self.old.end) { head = (known_of self.new.end).head } }
+        ensures unlearnt { IfNone result (known_of self.new.end ≡ known_of self.old.end) }
         ensures rest { self.new ≡ record self.old { end = self.new.end } }
     {
         if self.end.is_stopped() {
@@ -73,6 +80,7 @@ impl RxDriver {
     /// made again.
     pub fn reclaim_into(&mut self, ring: &RxRing, stash: &mut Stash) -> Result<usize, DriverError>
         requires own { self.old.end.table ≡ ring.now }
+        ensures ring { self.new.end.table ≡ self.old.end.table }
         ensures waits { is_stopped (driver_state self.old.end) ≡ false → (result ≡ Ok 0) × (self.new ≡ self.old) × (stash.new ≡ stash.old) }
         ensures back { is_stopped (driver_state self.old.end) ≡ true → GaveBack self.old stash.old self.new stash.new }
         ensures count { IfOk result (λ count. length stash.new ≡ length stash.old + count) }
@@ -100,6 +108,7 @@ impl RxDriver {
     /// `NotReclaimed` where it was not seen disabled, or buffers or a chain are left: then nothing is done.
     pub fn renew(&mut self, ring: &RxRing) -> Result<(), DriverError>
         requires own { self.old.end.table ≡ ring.now }
+        ensures ring { self.new.end.table ≡ self.old.end.table }
         ensures renewed { IsOk result ↔ IsEmptied self.old }
         ensures refusal { IfErr result (λ e. e ≡ NotReclaimed) }
         ensures unchanged { OnErr result (self.new ≡ self.old) }

@@ -1,9 +1,10 @@
 //! The loops of a batch.
-ghost use Rattle.std.specs.Prelude.{◌≡◌, ◌+◌, ◌<◌, true, length};
+ghost use Rattle.std.specs.Prelude.{◌≡◌, ◌+◌, ◌<◌, ◌≤◌, ◌++◌, true, length};
 ghost use Rattle.ring_model.specs.shared.Handshakes.{is_live, is_open};
 ghost use Rattle.rx_ring.specs.Ends.{driver_size, driver_state, posted, returned};
 ghost use Rattle.driver.specs.receive.Chains.{IsRest};
-ghost use Rattle.driver.specs.receive.Batches.{at, Polled, Stopped, Filled, IsFilled};
+ghost use Rattle.driver.specs.receive.Exchanges.{posting, in_place, PolledAll, IsFilled};
+ghost use Rattle.driver.specs.receive.Batches.{at, Polled, Stopped, batch_of, Filled};
 
 use super::MOST_BATCH;
 use arrayvec::ArrayVec;
@@ -26,7 +27,9 @@ pub(super) fn take(
     requires live { is_live (driver_state driver.old) ≡ true }
     requires rest { IsRest driver.old chain.old }
     ensures polled { Polled (at driver.old chain.old stash.old packets.old.items) result (at driver.new chain.new stash.new packets.new.items) }
+    ensures few { result ≤ batch }
     ensures stopped { Stopped batch MOST_BATCH result packets.new.items driver.old driver.new }
+    ensures all { PolledAll (batch_of batch MOST_BATCH packets.old.items) driver.old stash.old driver.new stash.new }
 {
     let mut count = 0;
     while count < batch && !packets.is_full() {
@@ -48,7 +51,10 @@ pub(super) fn take(
 fn post_one(driver: &mut RxDriverEnd, ring: &RxRing, stash: &mut Stash)
     requires own { driver.old.table ≡ ring.now }
     requires room { length (posted driver.old) + 1 < returned driver.old + driver_size driver.old }
-    ensures { Filled driver.old stash.old driver.new stash.new }
+    requires within { returned driver.old ≤ length (posted driver.old) }
+    ensures posted { Filled driver.old stash.old driver.new stash.new }
+    ensures step { driver.new ≡ posting (in_place (is_open (driver_state driver.old)) stash.old) driver.old }
+    ensures left { stash.old ≡ in_place (is_open (driver_state driver.old)) stash.old ++ stash.new }
 {
     if driver.is_open()
         && let Some(buf) = stash.take()

@@ -1,8 +1,10 @@
 //! Buffers of what is reported as sent come back.
 ghost use Rattle.std.specs.Prelude.{◌≡◌, ◌≤◌, ◌⊎◌, true, length};
 ghost use Rattle.ring_model.specs.shared.Handshakes.{is_live};
-ghost use Rattle.tx_ring.specs.Ends.{cleaned, seen_reported, driver_state};
-ghost use Rattle.driver.specs.transmit.Batches.{CleanedInto, CleanedAll};
+ghost use Rattle.tx_ring.specs.Ends.{cleaned, reclaimed, seen_reported, driver_state, known_of};
+ghost use Rattle.driver.specs.transmit.Going.{is_clean};
+ghost use Rattle.driver.specs.transmit.Cleaning.{CleanedBy};
+ghost use Rattle.driver.specs.transmit.Batches.{CleanedAll};
 
 use buffer_pool::{STASH_BUFFERS, Stash};
 use tx_ring::{TxDriverEnd, TxRing};
@@ -11,16 +13,15 @@ use tx_ring::{TxDriverEnd, TxRing};
 fn clean_reported(driver: &mut TxDriverEnd, ring: &TxRing, stash: &mut Stash)
     requires own { driver.old.table ≡ ring.now }
     requires live { is_live (driver_state driver.old) ≡ true }
-    ensures into { CleanedInto driver.old stash.old driver.new stash.new }
-    ensures seen { seen_reported driver.new ≡ seen_reported driver.old }
+    requires none_back { reclaimed driver.old ≡ 0 }
+    ensures into { CleanedBy is_clean driver.old stash.old driver.new stash.new }
+    ensures known { known_of driver.new ≡ known_of driver.old }
     ensures all { (length stash.new ≡ STASH_BUFFERS) ⊎ (length (cleaned driver.new) ≡ seen_reported driver.new) }
 {
     let count = (driver.reported() as usize).min(STASH_BUFFERS - stash.len());
     for _ in 0..count {
         let buf = driver.clean(ring);
-        let Ok(()) = stash.put(buf) else {
-            unreachable!()
-        };
+        stash.push(buf);
     }
 }
 
@@ -28,6 +29,7 @@ fn clean_reported(driver: &mut TxDriverEnd, ring: &TxRing, stash: &mut Stash)
 pub(super) fn clean_all(driver: &mut TxDriverEnd, ring: &TxRing, stash: &mut Stash)
     requires own { driver.old.table ≡ ring.now }
     requires live { is_live (driver_state driver.old) ≡ true }
+    requires none_back { reclaimed driver.old ≡ 0 }
     ensures { CleanedAll driver.old stash.old driver.new stash.new }
 {
     loop {

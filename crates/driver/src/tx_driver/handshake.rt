@@ -1,10 +1,10 @@
 //! Enabling, disabling, and what comes back between the two.
-ghost use Rattle.std.specs.Prelude.{◌≡◌, ◌+◌, ◌↔◌, true, false, length, Ok, IsErr, IsOk, IfErr, OnErr, IfOk, OnOk};
+ghost use Rattle.std.specs.Prelude.{◌≡◌, ◌+◌, ◌↔◌, true, false, length, Ok, IsErr, IsOk, IsSome, IfNone, IfErr, OnErr, IfOk, OnOk};
 ghost use Rattle.ring_model.specs.declared.states.DriverState.TheVariants as state;
 ghost use Rattle.ring_model.specs.shared.Handshakes.{is_on, is_open, is_stopped};
 ghost use Rattle.ring_model.specs.transmit.Ring.{number_of_posting};
 ghost use Rattle.shared_ring.specs.declared.events.DriverEvent.TheVariants.{AskedDisable};
-ghost use Rattle.tx_ring.specs.Ends.{driver_record, driver_state, known_of, appended};
+ghost use Rattle.tx_ring.specs.Ends.{driver_record, driver_state, known_of, seen_reported, appended};
 ghost use Rattle.tx_ring.specs.Calls.{GoneOver};
 ghost use Rattle.tx_ring.specs.Meeting.{told_left};
 ghost use Rattle.driver.specs.declared.error.DriverError.TheVariants.{QueueOff, StashFull, NotReclaimed};
@@ -60,6 +60,10 @@ impl TxDriver {
         requires own { self.old.end.table ≡ ring.now }
         ensures ring { self.new.end.table ≡ self.old.end.table }
         ensures finishes { Finishes told_left self.old.end result self.new.end }
+        ensures answered { IsSome result ↔ ((is_stopped (driver_state self.old.end) ≡ false) × (is_stopped (driver_state self.new.end) ≡ true)) }
+        ensures lists { driver_record self.new.end ≡ record (driver_record self.old.end) { state = driver_state self.new.end } }
+        ensures seen { seen_reported self.new.end ≡ seen_reported self.old.end }
+        ensures unlearnt { IfNone result (known_of self.new.end ≡ known_of self.old.end) }
         ensures rest { self.new ≡ record self.old { end = self.new.end } }
     {
         if self.end.is_stopped() {

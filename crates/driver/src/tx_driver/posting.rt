@@ -45,11 +45,10 @@ fn fitting(packets: &[Packet], room: u32) -> usize
     packets.len()
 }
 
-/// Takes the first buffer off a packet. It is no blank, since it is not empty.
+/// Takes the first buffer off a packet.
 #[inline]
 fn first_of(packet: &mut Packet) -> Buf
-    requires some { 0 < length packet.old }
-    requires none_empty { All (λ b. 0 < length b.bytes) packet.old }
+    requires { 0 < length packet.old }
     ensures rest { packet.old ≡ result ∷ packet.new }
     ensures real { result ≡ buffer result.number result.bytes }
     ensures few { length result.bytes ≤ BUFFER_BYTES }
@@ -57,7 +56,7 @@ fn first_of(packet: &mut Packet) -> Buf
     let Some(buf) = packet.pop_front() else {
         unreachable!()
     };
-    let (_len, _capacity) = (buf.len(), buf.capacity());
+    let _len = buf.len();
     buf
 }
 

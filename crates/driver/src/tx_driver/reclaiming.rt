@@ -22,9 +22,7 @@ pub(super) fn empty_ring(driver: &mut TxDriverEnd, ring: &TxRing, stash: &mut St
         let Some(buf) = driver.reclaim(ring) else {
             return true;
         };
-        let Ok(()) = stash.put(buf) else {
-            unreachable!()
-        };
+        stash.push(buf);
     }
     handshake::is_back(driver)
 }

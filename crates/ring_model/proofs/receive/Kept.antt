@@ -18,3 +18,4 @@ pub record IsRxKept (Payload : Type 0) (n : ℕ) (r : RxRing Payload) : Type 0 w
   pub finished : is_serving r.handshake.controller ≡ true → r.still ≡ true → is_whole r ≡ true
   pub bit : r.quiet ≤ 1
   pub quiet : r.quiet ≡ 1 → rx_over r ≡ true
+  pub said : r.quiet ≡ 1 → r.still ≡ true

@@ -1,15 +1,17 @@
 -- When a receive ring's controller is over: it has ended, or it serves and said that it is quiet.
-use Rattle.std.proofs.Common.{◌≡◌, ◌⊎◌, inl, inr, ⊎_elim, ℕ, Bool, true, false, not, ◌&&◌, ◌||◌, ap, ◌∙◌}
+use Rattle.std.proofs.Common.{◌≡◌, ◌⊎◌, inl, inr, ⊎_elim, ℕ, Bool, true, false, not, ◌&&◌, ◌||◌, Option, Some, None, refl, ap, ◌∙◌}
 use Rattle.std.proofs.lemmas.Bool.{cases_Bool, both_ways, and_parts, and_from, or_cases, or_left, or_right, not_from_false}
 use Rattle.ring_model.specs.declared.handshake.Handshake.{Handshake}
 use Rattle.ring_model.specs.declared.steps.ControlStep.{ControlStep}
 use Rattle.ring_model.specs.shared.Handshakes.{is_ended, is_open, is_serving, has_ended, may_shake, shaken, enables}
-use Rattle.ring_model.specs.receive.Ring.{RxRing}
-use Rattle.ring_model.specs.shared.Segments.{ends_segment}
-use Rattle.ring_model.specs.receive.Steps.{rx_settled}
+use Rattle.ring_model.specs.declared.steps.RxStep.{RxStep}
+use Rattle.ring_model.specs.declared.steps.RxStep.TheVariants as rx
+use Rattle.ring_model.specs.receive.Ring.{RxRing, due}
+use Rattle.ring_model.specs.shared.Segments.{Segment, ends_segment}
+use Rattle.ring_model.specs.receive.Steps.{rx_can, rx_changed, rx_settled, took}
 use Rattle.ring_model.specs.receive.Laws.{rx_over}
 use Rattle.ring_model.proofs.shared.Stepping.{unended}
-use Rattle.ring_model.proofs.shared.Fixed.{ended-shake, serving-shake}
+use Rattle.ring_model.proofs.shared.Fixed.{ended-shake, ended-enables, serving-shake, serving-enables}
 use Rattle.ring_model.proofs.receive.Kept.{IsRxKept}
 
 abbrev pub over : Handshake → Bool → Bool
@@ -51,3 +53,19 @@ module _ {Payload : Type 0} (n : ℕ) (r : RxRing Payload) (k : IsRxKept Payload
       (λ f. over-ended (shaken r.handshake c) (not (enables r.handshake c) && r.still) f)
       (serving-shake n ends_segment r.queue k.queue c (rx_settled r) may b.0))
       (over-parts r.handshake r.still e)
+
+  -- a controller that is over answers no enabling, so that it said that it is quiet stays
+  pub over-still : (c : ControlStep) → rx_over r ≡ true → r.still ≡ true → (not (enables r.handshake c) && r.still) ≡ true
+  over-still c e said = still_stays (enables r.handshake c)
+      (⊎_elim (λ a. ended-enables n ends_segment r.queue k.queue c a) (λ b. serving-enables n ends_segment r.queue k.queue c b.0) (over-parts r.handshake r.still e)) said
+
+  took-still : (found : Option (Segment Payload)) → (took r found).still ≡ r.still
+  took-still None = refl
+  took-still (Some s) = refl
+
+  -- what a controller said that is over stays, whatever step is made
+  pub said-stays : (s : RxStep Payload) → rx_can r s ≡ true → rx_over r ≡ true → r.still ≡ true → (rx_changed r s).still ≡ true
+  said-stays rx.Take may e said = took-still (due r) ∙ said
+  said-stays (rx.Control c) may e said = over-still c e said
+  said-stays rx.StoreQuiet may e said = refl
+  said-stays _ may e said = said

@@ -33,7 +33,7 @@ module _ {Payload : Type 0} where
   whole_over n r k e = let q = k.queue in ⊎_elim (λ a. q.whole a) (λ b. k.finished b.0 b.1) (over-parts r.handshake r.still e)
 
   pub rx_concluded : (n : ℕ) (r : RxRing Payload) → IsRxKept Payload n r → IsRxConcluded r
-  rx_concluded n r k = record { order = ordered n r.queue k.queue; queue = concluded n r.queue k.queue; whole = whole_over n r k; bit = k.bit; quiet = k.quiet }
+  rx_concluded n r k = record { order = ordered n r.queue k.queue; queue = concluded n r.queue k.queue; whole = whole_over n r k; bit = k.bit; quiet = k.quiet; said = k.said }
 
   later-took : (n : ℕ) (r : RxRing Payload) → IsRxKept Payload n r → (found : Option (Segment Payload)) → due r ≡ found → is_live r.handshake.driver ≡ true → RxLater r (took r found)
   later-took n r k None e live = later-refl r.queue (rx_over r)

@@ -21,7 +21,7 @@ use Rattle.ring_model.proofs.shared.Kept.{IsKept}
 use Rattle.ring_model.proofs.shared.Beginnings.{beginning-append, beginning-snoc, numbers-snoc, slice_get-snoc}
 use Rattle.ring_model.proofs.shared.Stepping.{kept-opening, kept-by, held_below}
 use Rattle.ring_model.proofs.receive.Kept.{IsRxKept}
-use Rattle.ring_model.proofs.receive.Over.{over-quiet, over-close, over-shake}
+use Rattle.ring_model.proofs.receive.Over.{over-quiet, over-close, over-shake, over-still}
 
 pub rx_kept-opening : {Payload : Type 0} (n : ℕ) (enabled : Bool) → 1 < n → IsRxKept Payload n (rx_opening n enabled)
 rx_kept-opening n enabled h = record {
@@ -33,6 +33,7 @@ rx_kept-opening n enabled h = record {
   finished = λ e f. refl;
   bit = omega arith;
   quiet = λ e. absurd (let bad : ⊥ = omega arith in bad);
+  said = λ e. absurd (let bad : ⊥ = omega arith in bad);
 }
 
 module _ {Payload : Type 0} (n : ℕ) (r : RxRing Payload) (k : IsRxKept Payload n r) where
@@ -50,6 +51,7 @@ module _ {Payload : Type 0} (n : ℕ) (r : RxRing Payload) (k : IsRxKept Payload
     finished = k.finished;
     bit = k.bit;
     quiet = k.quiet;
+    said = k.said;
   }
 
   -- a step that leaves the ledger, the handshake and what is held
@@ -64,6 +66,7 @@ module _ {Payload : Type 0} (n : ℕ) (r : RxRing Payload) (k : IsRxKept Payload
     finished = rw (h, l) k.finished;
     bit = k.bit;
     quiet = rw h k.quiet;
+    said = k.said;
   }
 
   rx_kept-store : (x : Payload) (eop : Bool) → r.held ≡ true → IsRxKept Payload n (record r { queue = by r.queue (Serve (next_segment r x eop)) })
@@ -76,6 +79,7 @@ module _ {Payload : Type 0} (n : ℕ) (r : RxRing Payload) (k : IsRxKept Payload
     finished = λ serving f. absurd (both_ways r.held (k.at_rest f) e);
     bit = k.bit;
     quiet = k.quiet;
+    said = k.said;
   }
 
   rx_kept-took : (found : Option (Segment Payload)) → due r ≡ found → is_live r.handshake.driver ≡ true → IsRxKept Payload n (took r found)
@@ -89,6 +93,7 @@ module _ {Payload : Type 0} (n : ℕ) (r : RxRing Payload) (k : IsRxKept Payload
     finished = k.finished;
     bit = k.bit;
     quiet = k.quiet;
+    said = k.said;
   }
 
   -- a controller that serves after its answer was enabled by it, and then it isn't still
@@ -113,6 +118,7 @@ module _ {Payload : Type 0} (n : ℕ) (r : RxRing Payload) (k : IsRxKept Payload
     finished = finished-shake c;
     bit = k.bit;
     quiet = λ f. over-shake n r k c e (k.quiet f);
+    said = λ f. over-still n r k c (k.quiet f) (k.said f);
   }
 
   rx_kept-quiet : rx_can r rx.StoreQuiet ≡ true → IsRxKept Payload n (rx_changed r rx.StoreQuiet)
@@ -125,6 +131,7 @@ module _ {Payload : Type 0} (n : ℕ) (r : RxRing Payload) (k : IsRxKept Payload
     finished = λ serving f. t.1;
     bit = omega arith;
     quiet = λ f. over-quiet r.handshake true u.0 refl;
+    said = λ f. refl;
   }
 
   rx_kept-clear : (s : QueueStep ℕ (Segment Payload) (Segment Payload)) (g : Handshake) → IsKept n ends_segment (by r.queue s) → (by r.queue s).ledger ≡ r.ledger → (by r.queue s).past ≡ r.past → (by r.queue s).held ≡ r.held
@@ -138,6 +145,7 @@ module _ {Payload : Type 0} (n : ℕ) (r : RxRing Payload) (k : IsRxKept Payload
     finished = rw (h, c, l) k.finished;
     bit = k.bit;
     quiet = λ f. stays (k.quiet f);
+    said = k.said;
   }
 
   -- the ledger joins the past ones
@@ -154,6 +162,7 @@ module _ {Payload : Type 0} (n : ℕ) (r : RxRing Payload) (k : IsRxKept Payload
     finished = λ serving f. refl;
     bit = omega arith;
     quiet = λ f. absurd (let bad : ⊥ = omega arith in bad);
+    said = λ f. absurd (let bad : ⊥ = omega arith in bad);
   }
 
   pub rx_kept-changed : (s : RxStep Payload) → rx_can r s ≡ true → IsRxKept Payload n (rx_changed r s)

@@ -1,7 +1,7 @@
 -- What goes on for ever: each step leaves the lists that have ended, or begins a new epoch.
 use Rattle.std.proofs.Common.{◌≡◌, ℕ, ◌-◌, ◌⊎◌, inl, inr, ⊎_elim, Bool, true, false, not, ◌&&◌, [], ◌∷◌, ◌++◌, sym, refl, ap, ◌∙◌, subst, if◌then◌else◌, append_assoc}
 use Rattle.std.specs.Prelude.{◌==◌, nat_lt}
-use Rattle.std.proofs.lemmas.Bool.{both_ways, and_parts, or_cases, not_from_false, eqb-true}
+use Rattle.std.proofs.lemmas.Bool.{cases_Bool, both_ways, and_parts, or_cases, not_from_false, eqb-true}
 use Rattle.ring_model.specs.declared.steps.ControlStep.{ControlStep}
 use Rattle.ring_model.specs.declared.steps.ControlStep.TheVariants.{AskEnable, LookAsked, Answer, LookAnswered, AskDisable}
 use Rattle.ring_model.specs.shared.Handshakes.{is_open, is_live, is_answered, is_serving, can_enable, enable, can_disable, disable, may_shake, shaken, enables, has_ended}
@@ -48,6 +48,14 @@ module _ {Posted Served Given : Type 0} (n : ℕ) (ends : Served → Bool) (q : 
   ended-shake LookAnswered settled e over = rw (learned_open q.handshake.driver q.handshake.control) over
   ended-shake AskDisable settled e over = absurd (open_unended q.handshake (on_open q.handshake.driver e) over)
 
+  -- one that has ended answers no enabling
+  pub ended-enables : (c : ControlStep) → has_ended q.handshake ≡ true → enables q.handshake c ≡ false
+  ended-enables AskEnable over = refl
+  ended-enables LookAsked over = refl
+  ended-enables Answer over = ⊎_elim (λ a. absurd (open_unended q.handshake (enable_open a) over)) (λ no. no) (cases_Bool (can_enable q.handshake))
+  ended-enables LookAnswered over = refl
+  ended-enables AskDisable over = refl
+
   -- a controller that serves goes on serving, or has ended
   pub serving-shake : (c : ControlStep) (settled : Bool) → may_shake q.handshake c settled ≡ true → is_serving q.handshake.controller ≡ true
       → ((is_serving (shaken q.handshake c).controller ≡ true) × (enables q.handshake c ≡ false)) ⊎ (has_ended (shaken q.handshake c) ≡ true)
@@ -57,6 +65,14 @@ module _ {Posted Served Given : Type 0} (n : ℕ) (ends : Served → Bool) (q : 
       inr (ended_now (can_enable q.handshake) no (⊎_elim (λ a. absurd (both_ways (can_enable q.handshake) no a)) disable_closed (answers settled e)))
   serving-shake LookAnswered settled e serving = inl (serving, refl)
   serving-shake AskDisable settled e serving = inl (serving, refl)
+
+  -- and it answers no enabling
+  pub serving-enables : (c : ControlStep) → is_serving q.handshake.controller ≡ true → enables q.handshake c ≡ false
+  serving-enables AskEnable serving = refl
+  serving-enables LookAsked serving = refl
+  serving-enables Answer serving = serving_enables serving
+  serving-enables LookAnswered serving = refl
+  serving-enables AskDisable serving = refl
 
 module _ {Posted Served Given : Type 0} where
   pub grown-refl : (l : Ledger Posted Served Given) → IsGrown l l

@@ -9,13 +9,14 @@ module _ {Payload : Type 0} where
   abbrev pub rx_over : RxRing Payload → Bool
   rx_over r = has_ended r.handshake || (is_serving r.handshake.controller && r.still)
 
-  -- where the controller is over, no frame is left unfinished; and it is over wherever the quiet word of this epoch is 1
+  -- where the controller is over, no frame is left unfinished; and where the quiet word of this epoch is 1, it is over and has said so
   pub record IsRxConcluded (r : RxRing Payload) : Type 0 where
     pub order : IsOrdered r.queue
     pub queue : IsConcluded r.queue
     pub whole : rx_over r ≡ true → is_whole r ≡ true
     pub bit : r.quiet ≤ 1
     pub quiet : r.quiet ≡ 1 → rx_over r ≡ true
+    pub said : r.quiet ≡ 1 → r.still ≡ true
 
   abbrev pub RxLater : RxRing Payload → RxRing Payload → Type 0
   RxLater r later = Later r.queue (rx_over r) later.queue (rx_over later)

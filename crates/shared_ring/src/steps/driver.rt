@@ -4,21 +4,22 @@ ghost use Rattle.limits.specs.RingLength.{IsRingLength};
 ghost use Rattle.ring_model.specs.shared.Handshakes.{is_open, is_new, is_on, is_stopped, is_cleared};
 ghost use Rattle.shared_ring.specs.Words.{control_word};
 ghost use Rattle.shared_ring.specs.declared.events.DriverEvent.TheVariants.{Posted, Published, AskedEnable, LoadedControl, AskedDisable, LoadedHead, ClearedHead, ClearedTail};
-ghost use Rattle.shared_ring.specs.Calls.{IsPoster, MayShake, shake_event, shaken, ReclaimedNext};
+ghost use Rattle.shared_ring.specs.Calls.{IsPoster, MayShake, StoredBy, shake_event, shaken, ReclaimedNext};
 ghost use Rattle.shared_ring.specs.Directions.{IsDirection};
 ghost use Rattle.shared_ring.specs.Ends.{driver_record, posted, returned, driver_state, fill_place, next_place, driver_of, grown};
 ghost use Rattle.shared_ring.specs.Steps.{CameBack};
 
 use super::own::Reclaiming;
 use super::{DriverSeat, Ring};
+use crate::accesses::{driver_load, driver_store};
 use crate::control::Control;
 use crate::direction::Direction;
 use crate::ends::{DriverPlaces, Handshake};
-use crate::exchange::put_in;
 use crate::plays::{
     AskDisableStore, AskEnableStore, ClearHeadStore, ClearTailStore, ControlLoad, HeadLoad,
     PostStore, PublishStore,
 };
+use crate::slots::put_in;
 use buffer_pool::Buf;
 use ring_model::{Completion, DriverState, place_after};
 
@@ -52,10 +53,8 @@ impl<D, C, R: Direction<D, C>> DriverSeat<D, C, R> {
         ensures { self.new ≡ grown self.old (Posted place word buf) }
     {
         let place = place as usize;
-        put_in(&ring.table.shared, &mut self.seat, place, buf);
-        ring.table
-            .shared
-            .store::<PostStore>(&mut self.seat, place, word);
+        put_in(&ring.table, &mut self.seat, place, buf);
+        driver_store::<PostStore<R>, D, C, R>(&ring.table, &mut self.seat, place, word);
     }
 
     /// A2, B2: the tail is stored.
@@ -68,9 +67,7 @@ impl<D, C, R: Direction<D, C>> DriverSeat<D, C, R> {
         ensures { self.new ≡ grown self.old (Published tail) }
     {
         let word = self.size as usize + 1;
-        ring.table
-            .shared
-            .store::<PublishStore>(&mut self.seat, word, tail as u64);
+        driver_store::<PublishStore<R>, D, C, R>(&ring.table, &mut self.seat, word, tail as u64);
     }
 
     /// C1.
@@ -81,9 +78,7 @@ impl<D, C, R: Direction<D, C>> DriverSeat<D, C, R> {
         ensures { self.new ≡ grown self.old AskedEnable }
     {
         let word = self.size as usize + 2;
-        ring.table
-            .shared
-            .store::<AskEnableStore>(&mut self.seat, word, 1);
+        driver_store::<AskEnableStore<R>, D, C, R>(&ring.table, &mut self.seat, word, 1);
     }
 
     /// C4.
@@ -93,7 +88,7 @@ impl<D, C, R: Direction<D, C>> DriverSeat<D, C, R> {
         ensures { self.new ≡ grown self.old (LoadedControl (control_word result)) }
     {
         let word = self.size as usize + 2;
-        Control::of_word(ring.table.shared.load::<ControlLoad>(&mut self.seat, word))
+        Control::of_word(driver_load::<ControlLoad<R>, D, C, R>(&ring.table, &mut self.seat, word))
     }
 
     /// C5.
@@ -104,9 +99,7 @@ impl<D, C, R: Direction<D, C>> DriverSeat<D, C, R> {
         ensures { self.new ≡ grown self.old AskedDisable }
     {
         let word = self.size as usize + 2;
-        ring.table
-            .shared
-            .store::<AskDisableStore>(&mut self.seat, word, 3);
+        driver_store::<AskDisableStore<R>, D, C, R>(&ring.table, &mut self.seat, word, 3);
     }
 
     /// The load of the head.
@@ -118,7 +111,7 @@ impl<D, C, R: Direction<D, C>> DriverSeat<D, C, R> {
         ensures below { result < self.old.table.slots }
     {
         let word = self.size as usize;
-        ring.table.shared.load::<HeadLoad>(&mut self.seat, word) as u16
+        driver_load::<HeadLoad<R>, D, C, R>(&ring.table, &mut self.seat, word) as u16
     }
 
     /// C6: the oldest descriptor that is out becomes 0, and its buffer comes back.
@@ -161,9 +154,7 @@ impl<D, C, R: Direction<D, C>> DriverSeat<D, C, R> {
         ensures { self.new ≡ grown self.old ClearedHead }
     {
         let word = self.size as usize;
-        ring.table
-            .shared
-            .store::<ClearHeadStore>(&mut self.seat, word, 0);
+        driver_store::<ClearHeadStore<R>, D, C, R>(&ring.table, &mut self.seat, word, 0);
     }
 
     /// C10, where the epoch does not end by it.
@@ -175,9 +166,7 @@ impl<D, C, R: Direction<D, C>> DriverSeat<D, C, R> {
         ensures { self.new ≡ grown self.old ClearedTail }
     {
         let word = self.size as usize + 1;
-        ring.table
-            .shared
-            .store::<ClearTailStore>(&mut self.seat, word, 0);
+        driver_store::<ClearTailStore<R>, D, C, R>(&ring.table, &mut self.seat, word, 0);
     }
 
     /// C1, C4 or C5: how far the driver is goes on, and the control value that was stored or loaded is answered.
@@ -191,6 +180,7 @@ impl<D, C, R: Direction<D, C>> DriverSeat<D, C, R> {
         requires own { self.old.table ≡ ring.now }
         requires is { state.old ≡ driver_state (driver_of R.form self.old) }
         requires may { MayShake step (driver_state (driver_of R.form self.old)) }
+        ensures stored { StoredBy step result }
         ensures step { self.new ≡ grown self.old (shake_event step (control_word result)) }
         ensures state { state.new ≡ shaken step state.old (control_word result) }
     {

@@ -10,8 +10,7 @@ ghost use Rattle.shared_ring.specs.Tables.{words_of};
 
 use super::{ControllerSeat, DriverSeat, Ring};
 use crate::direction::Direction;
-use crate::lending::{Halve, Lend, Return, Unite};
-use crate::plays::{Deal, MeetLoad};
+use crate::lending::{Deal, Halve, Lend, MeetLoad, Return, Unite};
 use atomic_table::{Closed, Table};
 use buffer_pool::Buf;
 use ring_model::{Completion, places_between};

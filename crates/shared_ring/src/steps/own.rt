@@ -7,10 +7,11 @@ ghost use Rattle.shared_ring.specs.Own.{MayLoad, MayClear, MayTake, MayEnd, MayS
 ghost use Rattle.shared_ring.specs.Slots.{empty_slots};
 
 use super::{ControllerSeat, DriverSeat, Ring};
+use crate::accesses::{controller_store, driver_load, driver_store};
 use crate::direction::{Direction, OwnStep, OwnTake};
 use crate::events::{ControllerEvent, DriverEvent};
-use crate::exchange::{put_in, take_out};
 use crate::plays::{OwnClear, OwnEnd, OwnFind, OwnGive, OwnLoad, OwnStore};
+use crate::slots::{put_in, take_out};
 use atomic_table::Seat;
 use buffer_pool::Buf;
 use std::marker::PhantomData;
@@ -35,7 +36,7 @@ impl<D, C, R: Direction<D, C>> DriverSeat<D, C, R> {
         ensures step { self.new ≡ grown self.old (P.event self.old.table.slots self.old.events word result blank) }
         ensures told { P.tells self.old.table.slots self.old.events word result blank }
     {
-        ring.table.shared.load::<OwnLoad<P>>(&mut self.seat, word)
+        driver_load::<OwnLoad<P, R>, D, C, R>(&ring.table, &mut self.seat, word)
     }
 
     /// A store of 0 into the oldest descriptor that is out, whose buffer comes back.
@@ -49,10 +50,8 @@ impl<D, C, R: Direction<D, C>> DriverSeat<D, C, R> {
         ensures told { P.tells self.old.table.slots self.old.events place 0 result }
     {
         let place = place as usize;
-        ring.table
-            .shared
-            .store::<OwnClear<P>>(&mut self.seat, place, 0);
-        let buf = take_out(&ring.table.shared, &mut self.seat, place);
+        driver_store::<OwnClear<P, R>, D, C, R>(&ring.table, &mut self.seat, place, 0);
+        let buf = take_out(&ring.table, &mut self.seat, place);
         self.seat.turn();
         buf
     }
@@ -73,11 +72,11 @@ impl<D, C, R: Direction<D, C>> DriverSeat<D, C, R> {
         ensures some { IfSome result.1 (λ b. Came P.event P.tells P.missed P.done self.old place result.0 b self.new) }
     {
         let place = place as usize;
-        let word = ring.table.shared.load::<OwnFind<P>>(&mut self.seat, place);
+        let word = driver_load::<OwnFind<P, R>, D, C, R>(&ring.table, &mut self.seat, place);
         if !P::is_done(word) {
             return (word, None);
         }
-        let buf = take_out(&ring.table.shared, &mut self.seat, place);
+        let buf = take_out(&ring.table, &mut self.seat, place);
         self.seat.turn();
         (word, Some(buf))
     }
@@ -96,9 +95,7 @@ impl<D, C, R: Direction<D, C>> DriverSeat<D, C, R> {
         requires may { MayEnd R.form P.event self.old.table.slots self.old.completion self.old.events word }
         ensures { self.new ≡ grown self.old (P.event self.old.table.slots self.old.events word 0 blank) }
     {
-        ring.table
-            .shared
-            .store::<OwnEnd<P>>(&mut self.seat, word, 0);
+        driver_store::<OwnEnd<P, R>, D, C, R>(&ring.table, &mut self.seat, word, 0);
         turn_round(&mut self.seat, fill, self.size);
     }
 }
@@ -116,9 +113,7 @@ impl<D, C, R: Direction<D, C>> ControllerSeat<D, C, R> {
         requires may { MayStore R.form P.event self.old.table.slots self.old.completion self.old.events word value }
         ensures { self.new ≡ grown self.old (P.event self.old.table.slots self.old.events word value blank) }
     {
-        ring.table
-            .shared
-            .store::<OwnStore<P>>(&mut self.seat, word, value);
+        controller_store::<OwnStore<P, R>, D, C, R>(&ring.table, &mut self.seat, word, value);
     }
 
     /// The fetched buffer goes back into its slot, which the store gives to the ring.
@@ -137,10 +132,8 @@ impl<D, C, R: Direction<D, C>> ControllerSeat<D, C, R> {
         requires may { MayGive R.form P.event self.old.table.slots self.old.completion self.old.events place word value buf }
         ensures { self.new ≡ grown self.old (P.event self.old.table.slots self.old.events word value buf) }
     {
-        put_in(&ring.table.shared, &mut self.seat, place as usize, buf);
-        ring.table
-            .shared
-            .store::<OwnGive<P>>(&mut self.seat, word, value);
+        put_in(&ring.table, &mut self.seat, place as usize, buf);
+        controller_store::<OwnGive<P, R>, D, C, R>(&ring.table, &mut self.seat, word, value);
     }
 }
 

@@ -169,16 +169,27 @@ fn second_words_are_those_of_the_datasheet(rt: HostRuntime) -> Result<(), Fail> 
 }
 
 #[test]
-fn lengths(rt: HostRuntime) -> Result<(), Fail> {
-    for n in [8, 4_096] {
+fn lawful_lengths_are_made(rt: HostRuntime) -> Result<(), Fail> {
+    for n in [8, 16, 32, 64, 128, 256, 512, 1_024, 2_048, 4_096] {
+        for completion in BOTH_WAYS {
+            let (_ring, driver, controller) = TxRing::new_with(rt.alloc(), n, completion)?;
+            assert!(rt; driver.size() == n && controller.size() == n && driver.room() == n - 1);
+        }
         let (_ring, driver, controller) = TxRing::new(rt.alloc(), n)?;
         assert!(rt; driver.size() == n && controller.size() == n && driver.room() == n - 1);
     }
-    for n in [4, 12, 8_192] {
-        let Err(refusal) = TxRing::new(rt.alloc(), n) else {
-            panic!(rt; "a ring of {n}")
-        };
-        assert!(rt; refusal == RingError::RingLength);
+    Ok(())
+}
+
+#[test]
+fn other_lengths_are_refused(rt: HostRuntime) -> Result<(), Fail> {
+    for n in [0, 4, 7, 9, 12, 4_097, 8_192, u32::MAX] {
+        for completion in BOTH_WAYS {
+            let Err(refusal) = TxRing::new_with(rt.alloc(), n, completion) else {
+                panic!(rt; "a ring of {n}")
+            };
+            assert!(rt; refusal == RingError::RingLength);
+        }
     }
     Ok(())
 }

@@ -15,7 +15,7 @@ returns-then-len-had-clause-done c =
     let fewer : length c.fill.new.stash < length c.args.stash.now = omega arith in
     let took = c.take-count.ensures in let stored = c.publish.ensures in
     subst (λ (r : Receiver). Batched r.batch MOST_BATCH c.take-count.result (hands r c.args.stash.now c.args.packets.now.items) new) c.self.view_is
-    (batched-published c.self.inside.batch MOST_BATCH c.take-count.result old polled took.polled took.stopped c.fill.new.driver c.fill.new.stash c.fill.ensures.posted c.publish.new.self fewer stored.step stored.record stored.known)
+    (batched-published c.self.inside.batch MOST_BATCH c.take-count.result old polled took.polled took.few took.stopped took.all c.fill.new.driver c.fill.new.stash c.fill.ensures.posted (λ _. c.fill.ensures.filled) c.publish.new.self fewer stored.step stored.record stored.known)
 
 pub returns-else-len-had-clause-done : goal.returns-else-len-had-clause-done
 returns-else-len-had-clause-done c =
@@ -25,7 +25,7 @@ returns-else-len-had-clause-done c =
     let more : length c.args.stash.now ≤ length c.fill.new.stash = omega arith in
     let took = c.take-count.ensures in
     subst (λ (r : Receiver). Batched r.batch MOST_BATCH c.take-count.result (hands r c.args.stash.now c.args.packets.now.items) new) c.self.view_is
-    (batched-unpublished c.self.inside.batch MOST_BATCH c.take-count.result old polled took.polled took.stopped c.fill.new.driver c.fill.new.stash c.fill.ensures.posted more)
+    (batched-unpublished c.self.inside.batch MOST_BATCH c.take-count.result old polled took.polled took.few took.stopped took.all c.fill.new.driver c.fill.new.stash c.fill.ensures.posted (λ _. c.fill.ensures.filled) more)
 
 pub returns-else-is_open-clause-done : goal.returns-else-is_open-clause-done
 returns-else-is_open-clause-done c =
@@ -34,4 +34,4 @@ returns-else-is_open-clause-done c =
     let shut : is_open (driver_state c.take-count.new.driver) ≡ false = sym c.is_open.ensures ∙ c.if-is_open.false in
     let took = c.take-count.ensures in
     subst (λ (r : Receiver). Batched r.batch MOST_BATCH c.take-count.result (hands r c.args.stash.now c.args.packets.now.items) polled) c.self.view_is
-    (batched-shut c.self.inside.batch MOST_BATCH c.take-count.result old polled took.polled took.stopped shut)
+    (batched-shut c.self.inside.batch MOST_BATCH c.take-count.result old polled took.polled took.few took.stopped took.all shut)

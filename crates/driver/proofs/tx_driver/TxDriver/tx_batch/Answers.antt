@@ -1,10 +1,11 @@
 -- The batch is a cleaning and a posting.
-use Rattle.std.proofs.Common.{◌≡◌, ◌++◌, map, take, List, subst, ◌∙◌, ap}
+use Rattle.std.proofs.Common.{◌≡◌, ◌++◌, map, take, List, subst, sym, ◌∙◌, ap, arith}
 use Rattle.std.proofs.lemmas.List.Elements.{All-take}
 use Rattle.buffer_pool.specs.Packed.{IsPacket, bytes_of}
 use Rattle.ring_model.specs.shared.Frames.{frames}
+use Rattle.ring_model.specs.shared.Handshakes.{is_answered}
 use Rattle.ring_model.specs.transmit.Ring.{carried}
-use Rattle.tx_ring.specs.Ends.{posted}
+use Rattle.tx_ring.specs.Ends.{posted, reclaimed, driver_state}
 use Rattle.tx_ring.specs.Records.{Posting}
 use Rattle.driver.specs.transmit.Batches.{Batched}
 use Rattle.driver.specs.transmit.Transmitter.{Transmitter, sending}
@@ -30,3 +31,35 @@ returns-clause-frames c =
     c.args.packets.now.items c.post_fitting-count.new.packets.items c.clean_all.ensures c.post_fitting-count.ensures.posts c.post_fitting-count.ensures.counted in
     subst (λ (t : Transmitter). frames carried (posted end) ≡ frames carried (posted t.end) ++ map bytes_of (take count c.args.packets.now.items)) c.self.view_is
     (ap (λ (xs : List Posting). frames carried xs) batch.posts ∙ frames_posted i.every i.frames (posted i.end) (take count c.args.packets.now.items) c.self.invariant.whole (All-take IsPacket count c.args.packets.now.items c.requires.packets))
+
+pub invariant_of-self-2 : goal.invariant_of-self-2
+invariant_of-self-2 c =
+    let i = c.self.inside in
+    let count = c.post_fitting-count.result.0 in
+    let end = c.post_fitting-count.new.driver in
+    let batch = batched count i.every i.frames c.post_fitting-count.result.1 i.end c.clean_all.new.driver end c.args.stash.now c.clean_all.new.stash
+    c.args.packets.now.items c.post_fitting-count.new.packets.items c.clean_all.ensures c.post_fitting-count.ensures.posts c.post_fitting-count.ensures.counted in
+    record {
+      whole = c.post_fitting-count.ensures.whole;
+      none_back = λ going. batch.none_back ∙ c.self.invariant.none_back (ap is_answered (sym batch.state) ∙ going);
+      counted = omega (arith, c.post_fitting-count.ensures.counted, c.self.invariant.counted);
+      few = c.self.invariant.few;
+    }
+
+pub returns-clause-state : goal.returns-clause-state
+returns-clause-state c =
+    let i = c.self.inside in
+    let count = c.post_fitting-count.result.0 in
+    let end = c.post_fitting-count.new.driver in
+    let batch = batched count i.every i.frames c.post_fitting-count.result.1 i.end c.clean_all.new.driver end c.args.stash.now c.clean_all.new.stash
+    c.args.packets.now.items c.post_fitting-count.new.packets.items c.clean_all.ensures c.post_fitting-count.ensures.posts c.post_fitting-count.ensures.counted in
+    subst (λ (t : Transmitter). driver_state end ≡ driver_state t.end) c.self.view_is batch.state
+
+pub returns-clause-none_back : goal.returns-clause-none_back
+returns-clause-none_back c =
+    let i = c.self.inside in
+    let count = c.post_fitting-count.result.0 in
+    let end = c.post_fitting-count.new.driver in
+    let batch = batched count i.every i.frames c.post_fitting-count.result.1 i.end c.clean_all.new.driver end c.args.stash.now c.clean_all.new.stash
+    c.args.packets.now.items c.post_fitting-count.new.packets.items c.clean_all.ensures c.post_fitting-count.ensures.posts c.post_fitting-count.ensures.counted in
+    subst (λ (t : Transmitter). reclaimed end ≡ reclaimed t.end) c.self.view_is batch.none_back

@@ -15,3 +15,4 @@ returns-clause-posts c =
     c.fitting-count.result c.post_front-frames.new.driver c.if-count-eq0.false front.went publishes.step publishes.record c.room.ensures.value
     (subst (λ (ps : List (List Buffer)). c.fitting-count.result ≤ length ps) slice fits.within) front.stays (sym c.is_on.ensures ∙ c.if-not-is_on.false)
     (subst (λ (ps : List (List Buffer)). NeedsMore (c.room.result - segment_count (take c.fitting-count.result ps)) (drop c.fitting-count.result ps)) slice fits.stays)
+    c.room.ensures.most publishes.known

@@ -9,7 +9,7 @@ use Rattle.driver.proofs.tx_driver.reclaiming.empty_ring.Goals as goal
 pub loop-driver-preserved : goal.loop-driver-preserved
 loop-driver-preserved c =
     let home = c.in-Some.ensures in record {
-      back = back-one number_of_posting c.args.driver.now c.args.stash.now c.loop-driver.driver c.loop-driver.stash c.reclaim.new.self c.put.new.self (next_place c.loop-driver.driver) c.in-Some.buf home.item
-          c.loop-driver.invariant.back home.step home.there (sym (ap (λ (b : Buffer). b.number) home.is)) home.same c.in-Ok.ensures.kept;
+      back = back-one number_of_posting c.args.driver.now c.args.stash.now c.loop-driver.driver c.loop-driver.stash c.reclaim.new.self c.push.new.self (next_place c.loop-driver.driver) c.in-Some.buf home.item
+          c.loop-driver.invariant.back home.step home.there (sym (ap (λ (b : Buffer). b.number) home.is)) home.same c.push.ensures;
       known = home.known ∙ c.loop-driver.invariant.known;
     }

@@ -1,11 +1,13 @@
-use Rattle.std.proofs.Common.{◌≡◌, ℕ, [], rules, sym, ap, subst, Contains}
+use Rattle.std.proofs.Common.{◌≡◌, ℕ, List, [], ◌∷◌, rules, sym, ap, subst, Contains, IsPermutation}
 use Rattle.limits.specs.declared.profile.TheConstants.{BUFFER_BYTES}
 use Rattle.crossbeam_queue.specs.Passes.{view}
 use Rattle.buffer_pool.specs.Buffer.{Buffer, buffer}
+use Rattle.pool.specs.Hands.{Gave}
 use Rattle.pool.specs.Owned.{Passed}
 use Rattle.pool.specs.Plays.{IsFair}
 use Rattle.pool.proofs.Rules.{gives, learns}
 use Rattle.pool.proofs.Accounts.{accounts}
+use Rattle.pool.proofs.Moving.{given-left}
 use Rattle.pool.proofs.pool.Pool.give.Goals as goal
 
 -- a buffer with room is one of a pool once it is cleared
@@ -24,3 +26,8 @@ push_as-requires-clause-rule g c =
 
 pub returns-clause-accounts : goal.returns-clause-accounts
 returns-clause-accounts g c = accounts _ (let fair : IsFair (view c.push_as.new.pass) = search rules in fair)
+
+pub returns-clause-left : goal.returns-clause-left
+returns-clause-left g c = λ rest p.
+    let gave : Gave c.args.pass.now.hand (c.args.buf.number ∷ []) (view c.push_as.new.pass) = search rules in
+    subst (λ (held : List ℕ). IsPermutation held rest) (sym gave.held) (given-left c.args.pass.now.hand.held c.args.buf.number rest p)

@@ -1,5 +1,5 @@
-use Rattle.std.proofs.Common.{ℕ, ◌+◌, ◌-◌, subst, take}
-use Rattle.pool.proofs.Moving.{IsGiving, held-first, giving-first, giving-more}
+use Rattle.std.proofs.Common.{ℕ, ◌+◌, ◌-◌, List, sym, subst, take, IsPermutation}
+use Rattle.pool.proofs.Moving.{IsGiving, held-first, giving-first, giving-more, all-left}
 use Rattle.pool.proofs.pool.Pool.give_all.Goals as goal
 
 pub give-requires-clause-held : goal.give-requires-clause-held
@@ -16,3 +16,8 @@ loop-moved-preserved g c =
       pool = c.give.ensures.pool;
       giving = giving-more _ _ _ _ _ c.in-Some.buf.number c.take.new.self _ giving c.loop-moved-test.true c.give.ensures.given;
     }
+
+pub returns-clause-left : goal.returns-clause-left
+returns-clause-left g c = λ rest p.
+    let gave = c.loop-moved.invariant.giving.gave in
+    subst (λ (held : List ℕ). IsPermutation held rest) (sym gave.held) (all-left (take c.loop-moved.moved c.args.stash.now) c.args.pass.now.hand.held rest p)

@@ -6,5 +6,5 @@ pub loop-moved-preserved : goal.loop-moved-preserved
 loop-moved-preserved g c = record {
   pool = c.take.ensures.pool;
   some = omega arith;
-  moved = refilled-more _ _ _ _ _ c.in-Ok.buf.number _ _ c.loop-moved.invariant.moved c.in-Ok.ensures.taken c.in-Ok-put.ensures.kept;
+  moved = refilled-more _ _ _ _ _ c.in-Ok.buf.number _ _ c.loop-moved.invariant.moved c.in-Ok.ensures.taken c.push.ensures;
 }

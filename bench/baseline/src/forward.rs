@@ -1,0 +1,328 @@
+//! The whole two-port forwarder: each flow has a driver's side and a controller's side, and workers in threads serve the
+//! flows by turns, as many on either side.
+
+use crate::buffer::Buffer;
+use crate::controller::{Offer, RxController, Tally, Turn, TxController, Wire};
+use crate::driver::{MOST_BATCH, RxDriver, TxDriver};
+use crate::packet::{Packet, Stash};
+use crate::patience::Patience;
+use crate::ring::Ring;
+use crate::tx_ring::{Completion, TxRing};
+use std::sync::atomic::{AtomicBool, Ordering::SeqCst};
+use std::sync::Mutex;
+use std::thread;
+
+/// To how many bytes buffers are filled.
+const FILL: usize = 2048;
+
+/// The frames of a flow: those at these places of a list, as often as they are asked for.
+#[derive(Clone, Copy)]
+pub struct Feed<'a> {
+    pub frames: &'a [Vec<u8>],
+    pub places: &'a [u32],
+    pub count: u64,
+}
+
+impl Feed<'_> {
+    fn frame(&self, k: u64) -> &[u8] {
+        &self.frames[self.places[(k % self.places.len() as u64) as usize] as usize]
+    }
+}
+
+/// How the flows are forwarded.
+#[derive(Clone, Copy)]
+pub struct Plan {
+    pub ring: usize,
+    pub batch: usize,
+    pub workers: usize,
+    pub buffers: usize,
+    /// whether the wire is kept, and not thrown away
+    pub keeps: bool,
+}
+
+/// What became of a flow.
+pub struct Report {
+    pub tally: Tally,
+    pub taken: u64,
+    pub posted: u64,
+    pub sent: u64,
+    pub wire: Wire,
+}
+
+/// What a turn of a flow's side did.
+#[derive(PartialEq, Eq)]
+enum Progress {
+    Worked,
+    Idle,
+    Over,
+}
+
+trait Side: Send {
+    fn turn(&mut self) -> Progress;
+}
+
+#[derive(PartialEq, Eq)]
+enum Phase {
+    Enabling,
+    Going,
+    Disabling,
+    Over,
+}
+
+/// The empty buffers of all flows that no flow has.
+type Pool = Mutex<Vec<Buffer>>;
+
+struct Drivers<'a> {
+    rx: RxDriver<'a>,
+    tx: TxDriver<'a>,
+    pool: &'a Pool,
+    stash: Stash,
+    packets: Vec<Packet>,
+    phase: Phase,
+    taken: u64,
+    posted: u64,
+}
+
+impl Drivers<'_> {
+    /// Takes buffers up to its share, and asks for both queues.
+    fn start(&mut self, share: usize) {
+        let mut pool = self.pool.lock().expect("no worker failed");
+        let first = pool.len() - share;
+        for buffer in pool.drain(first..) {
+            self.stash.put_any(buffer);
+        }
+        self.rx.post_all(&mut self.stash);
+        self.rx.ask_enable();
+        self.tx.ask_enable();
+    }
+
+    fn go(&mut self) -> Progress {
+        let quiet = self.rx.is_quiet();
+        let had = self.packets.len();
+        let taken = self
+            .rx
+            .rx_batch(&mut self.stash, &mut self.packets)
+            .expect("the queue is enabled");
+        for packet in &mut self.packets[had..] {
+            packet.touch();
+        }
+        let posted = self
+            .tx
+            .tx_batch(&mut self.stash, &mut self.packets)
+            .expect("the queue is enabled");
+        self.taken += taken as u64;
+        self.posted += posted as u64;
+        if quiet
+            && taken == 0
+            && had < MOST_BATCH
+            && !self.rx.has_chain()
+            && self.packets.is_empty()
+            && self.tx.is_clean()
+        {
+            self.rx.ask_disable();
+            self.tx.ask_disable();
+            self.phase = Phase::Disabling;
+            return Progress::Worked;
+        }
+        if taken != 0 || posted != 0 {
+            Progress::Worked
+        } else {
+            Progress::Idle
+        }
+    }
+}
+
+impl Side for Drivers<'_> {
+    fn turn(&mut self) -> Progress {
+        match self.phase {
+            Phase::Enabling => {
+                if self.tx.look_on() && self.rx.look_on() {
+                    self.phase = Phase::Going;
+                }
+                Progress::Idle
+            }
+            Phase::Going => self.go(),
+            Phase::Disabling => {
+                if self.rx.look_off() && self.tx.look_off() {
+                    self.phase = Phase::Over;
+                }
+                Progress::Idle
+            }
+            Phase::Over => Progress::Over,
+        }
+    }
+}
+
+struct Controllers<'a> {
+    rx: RxController<'a>,
+    tx: TxController<'a>,
+    feed: Feed<'a>,
+    next: u64,
+    keeps: bool,
+    wire: Wire,
+    sent: u64,
+    enabled: bool,
+    finished: bool,
+}
+
+impl Side for Controllers<'_> {
+    fn turn(&mut self) -> Progress {
+        self.rx.answer();
+        self.tx.answer();
+        let serving = self.rx.is_serving() || self.tx.is_serving();
+        if self.enabled && !serving {
+            return Progress::Over;
+        }
+        self.enabled |= self.rx.is_serving() && self.tx.is_serving();
+        let mut progress = Progress::Idle;
+        if self.next < self.feed.count {
+            let offer = self.rx.offer(self.feed.frame(self.next));
+            if !matches!(offer.expect("a lawful frame"), Offer::Off | Offer::Held) {
+                self.next += 1;
+                progress = Progress::Worked;
+            }
+        } else if !self.finished && self.rx.is_serving() {
+            self.rx.finish();
+            self.finished = true;
+        }
+        if self.tx.turn(&mut self.wire) == Turn::Sent {
+            self.sent += 1;
+            if !self.keeps && self.wire.len() == 1_024 {
+                self.wire.clear();
+            }
+            progress = Progress::Worked;
+        }
+        progress
+    }
+}
+
+/// Serves each of its flows by turns, until all are over.
+fn serve<S: Side>(mut flows: Vec<S>, stop: &AtomicBool) -> Vec<S> {
+    let mut over = vec![false; flows.len()];
+    let mut left = flows.len();
+    let mut patience = Patience::default();
+    while left != 0 {
+        let mut worked = false;
+        for (flow, over) in flows.iter_mut().zip(&mut over) {
+            if *over {
+                continue;
+            }
+            if stop.load(SeqCst) {
+                return flows;
+            }
+            match flow.turn() {
+                Progress::Worked => worked = true,
+                Progress::Idle => {}
+                Progress::Over => {
+                    *over = true;
+                    left -= 1;
+                }
+            }
+        }
+        if worked {
+            patience.reset();
+        } else {
+            patience.wait();
+        }
+    }
+    flows
+}
+
+/// Deals flow `f` to the worker `f mod workers`.
+fn deal<S>(flows: Vec<S>, workers: usize) -> Vec<Vec<S>> {
+    let mut hands: Vec<Vec<S>> = (0..workers).map(|_| Vec::new()).collect();
+    for (f, flow) in flows.into_iter().enumerate() {
+        hands[f % workers].push(flow);
+    }
+    hands
+}
+
+/// The flows of all workers, in their order.
+fn collect<S>(hands: Vec<Vec<S>>) -> Vec<S> {
+    let mut hands: Vec<_> = hands.into_iter().map(Vec::into_iter).collect();
+    let mut flows = Vec::new();
+    loop {
+        for hand in &mut hands {
+            match hand.next() {
+                Some(flow) => flows.push(flow),
+                None => return flows,
+            }
+        }
+    }
+}
+
+/// Forwards the frames of each flow.
+pub fn forward(feeds: &[Feed<'_>], plan: &Plan) -> Vec<Report> {
+    let pool = Mutex::new((0..plan.buffers).map(|b| Buffer::new(b as u16)).collect());
+    let share = (plan.buffers / feeds.len()).min(plan.ring + 255);
+    let mut from: Vec<Ring> = feeds.iter().map(|_| Ring::new(plan.ring)).collect();
+    let mut to: Vec<TxRing> = feeds
+        .iter()
+        .map(|_| TxRing::new(plan.ring, Completion::Status))
+        .collect();
+    let mut drivers = Vec::new();
+    let mut controllers = Vec::new();
+    for ((from, to), feed) in from.iter_mut().zip(&mut to).zip(feeds) {
+        let (rx, rx_end) = from.ends();
+        let (tx, tx_end) = to.ends();
+        let mut driver = Drivers {
+            rx: RxDriver::new(rx, plan.batch),
+            tx: TxDriver::new(tx),
+            pool: &pool,
+            stash: Stash::new(),
+            packets: Vec::with_capacity(MOST_BATCH),
+            phase: Phase::Enabling,
+            taken: 0,
+            posted: 0,
+        };
+        driver.start(share);
+        drivers.push(driver);
+        controllers.push(Controllers {
+            rx: RxController::new(rx_end, FILL, false),
+            tx: TxController::new(tx_end),
+            feed: *feed,
+            next: 0,
+            keeps: plan.keeps,
+            wire: Wire::default(),
+            sent: 0,
+            enabled: false,
+            finished: false,
+        });
+    }
+    let (drivers, controllers) = run(drivers, controllers, plan.workers);
+    let sides = drivers.into_iter().zip(controllers);
+    sides.map(|(driver, controller)| report(driver, controller)).collect()
+}
+
+fn run<'a>(
+    drivers: Vec<Drivers<'a>>,
+    controllers: Vec<Controllers<'a>>,
+    workers: usize,
+) -> (Vec<Drivers<'a>>, Vec<Controllers<'a>>) {
+    let stop = AtomicBool::new(false);
+    let stop = &stop;
+    thread::scope(|scope| {
+        let driving: Vec<_> = deal(drivers, workers)
+            .into_iter()
+            .map(|hand| scope.spawn(move || serve(hand, stop)))
+            .collect();
+        let controlling: Vec<_> = deal(controllers, workers)
+            .into_iter()
+            .map(|hand| scope.spawn(move || serve(hand, stop)))
+            .collect();
+        let drivers = driving.into_iter().map(|it| it.join().expect("a worker ends"));
+        let drivers = collect(drivers.collect());
+        let controllers = controlling.into_iter().map(|it| it.join().expect("a worker ends"));
+        (drivers, collect(controllers.collect()))
+    })
+}
+
+fn report(driver: Drivers, controller: Controllers) -> Report {
+    Report {
+        tally: controller.rx.tally(),
+        taken: driver.taken,
+        posted: driver.posted,
+        sent: controller.sent,
+        wire: controller.wire,
+    }
+}

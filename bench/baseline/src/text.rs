@@ -1,0 +1,123 @@
+//! The whole forwarder from text to text: a script of frames on standard input, wires and counts on standard output.
+
+use crate::forward::{Feed, Plan, Report, forward};
+use std::io::{self, Read, Write};
+
+const DIGITS: &[u8; 16] = b"0123456789abcdef";
+
+/// What a script says: its frames, and of each flow the places of its frames.
+struct Script {
+    frames: Vec<Vec<u8>>,
+    places: Vec<Vec<u32>>,
+}
+
+fn nibble(digit: u8) -> Option<u8> {
+    char::from(digit).to_digit(16).map(|value| value as u8)
+}
+
+fn bytes_of(hex: &[u8]) -> Option<Vec<u8>> {
+    if hex.len() % 2 != 0 {
+        return None;
+    }
+    hex.chunks_exact(2)
+        .map(|two| Some(nibble(two[0])? << 4 | nibble(two[1])?))
+        .collect()
+}
+
+fn filled(len: &[u8], byte: &[u8]) -> Option<Vec<u8>> {
+    let len: usize = std::str::from_utf8(len).ok()?.parse().ok()?;
+    Some(vec![bytes_of(byte)?.first().copied()?; len])
+}
+
+impl Script {
+    fn parse(text: &[u8], pairs: usize) -> Option<Script> {
+        let mut script = Script {
+            frames: Vec::new(),
+            places: vec![Vec::new(); 2 * pairs],
+        };
+        for line in text.split(|byte| *byte == b'\n') {
+            if line.is_empty() || line[0] == b'#' {
+                continue;
+            }
+            let mut fields = line.split(|byte| *byte == b' ');
+            let port = usize::from(nibble(*fields.next()?.first()?)?);
+            let queue = usize::from(nibble(*fields.next()?.first()?)?);
+            let third = fields.next()?;
+            let frame = if third == b"fill" {
+                filled(fields.next()?, fields.next()?)?
+            } else {
+                bytes_of(third)?
+            };
+            let place = script.frames.len() as u32;
+            script.places.get_mut(port * pairs + queue)?.push(place);
+            script.frames.push(frame);
+        }
+        Some(script)
+    }
+}
+
+fn print(out: &mut impl Write, reports: &[Report], pairs: usize) -> io::Result<()> {
+    let mut line = Vec::new();
+    // a flow's frames leave the other port
+    for f in (pairs..2 * pairs).chain(0..pairs) {
+        let port = 1 - f / pairs;
+        for k in 0..reports[f].wire.len() {
+            line.clear();
+            write!(line, "{port} {} ", f % pairs)?;
+            for byte in reports[f].wire.frame(k) {
+                line.push(DIGITS[usize::from(byte >> 4)]);
+                line.push(DIGITS[usize::from(byte & 15)]);
+            }
+            line.push(b'\n');
+            out.write_all(&line)?;
+        }
+    }
+    for (f, report) in reports.iter().enumerate() {
+        let tally = &report.tally;
+        writeln!(
+            out,
+            "flow {} {} offered {} stored {} dropped {} oversize {} taken {} posted {} tx-dropped 0 wire {} left 0 ended drained",
+            f / pairs,
+            f % pairs,
+            tally.offered,
+            tally.stored,
+            tally.dropped,
+            tally.oversize,
+            report.taken,
+            report.posted,
+            report.sent
+        )?;
+    }
+    Ok(())
+}
+
+/// Forwards a script, and answers whether it was one.
+pub fn run(pairs: usize, ring: usize, workers: usize) -> io::Result<bool> {
+    let mut text = Vec::new();
+    io::stdin().read_to_end(&mut text)?;
+    let Some(script) = Script::parse(&text, pairs) else {
+        return Ok(false);
+    };
+    drop(text);
+    let feeds: Vec<Feed> = script
+        .places
+        .iter()
+        .map(|places| Feed {
+            frames: &script.frames,
+            places,
+            count: places.len() as u64,
+        })
+        .collect();
+    let plan = Plan {
+        ring,
+        batch: 32,
+        workers,
+        buffers: 4_096,
+        keeps: true,
+    };
+    let reports = forward(&feeds, &plan);
+    let mut out = io::BufWriter::with_capacity(1 << 16, io::stdout().lock());
+    print(&mut out, &reports, pairs)?;
+    out.flush()?;
+    Ok(true)
+}

@@ -1,0 +1,5 @@
+pub mod Kinds
+pub mod Moments
+pub mod Paired
+pub mod Refusal
+pub mod Watching

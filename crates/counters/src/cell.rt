@@ -1,0 +1,136 @@
+//! A cell, the pen that writes its numbers, and the passes that read them.
+ghost use Rattle.std.specs.Prelude.{◌≡◌, All, IfOk, IfErr};
+ghost use Rattle.counters.specs.Moments.{GoesOn, NoneFalls};
+ghost use Rattle.counters.specs.Watching.{fresh, with_moment, all_of};
+ghost use Rattle.counters.specs.declared.error.CounterError.TheVariants.{Memory};
+
+use crate::CounterError;
+use crate::moment::{Known, Moment, Reads, Tells, Watched, Writes};
+use crossbeam_utils::atomic::seq_cell::{Pass, RuledSeqCell};
+use std::alloc::{AllocError, Global};
+use std::marker::Model;
+use std::sync::{Arc, Wait};
+
+/// The words of a cell, under its rule.
+type Numbers<T, const N: usize> = RuledSeqCell<T, Known<T>, Watched<N>, N>;
+
+/// Numbers that one pen writes and any number of passes read. Threads share it.
+#[derive(Drop)]
+pub struct MomentCell<T: Moment<N>, const N: usize> {
+    numbers: Arc<Numbers<T, N>, Global>,
+}
+
+/// Writes the numbers of its cell. There is one for each cell.
+#[derive(Drop)]
+pub struct MomentPen<T: Moment<N>, const N: usize> {
+    numbers: Arc<Numbers<T, N>, Global>,
+    pass: Pass<T, Known<T>>,
+}
+
+/// Reads the numbers of its cell. It has no bytes.
+#[derive(Drop)]
+pub struct MomentPass<T> {
+    pass: Pass<T, Known<T>>,
+}
+
+impl<T: Moment<N>, const N: usize> Model for MomentCell<T, N> {
+    ghost use Rattle.std.specs.Arc.{arc_value};
+    ghost use Rattle.atomic_table.specs.Seated.{TableId};
+
+    ghost Value = { TableId };
+
+    ghost view = { λ c. (arc_value c.numbers).table.shared.table_id };
+}
+
+impl<T: Moment<N>, const N: usize> Model for MomentPen<T, N> {
+    ghost use Rattle.std.specs.Prelude.{◌≡◌, true};
+    ghost use Rattle.std.specs.Arc.{arc_value};
+    ghost use Rattle.crossbeam_utils.specs.Seq.{cell_view};
+    ghost use Rattle.counters.specs.Watching.{Knowing, knowing};
+
+    ghost Value = { Knowing T };
+
+    ghost view = { λ p. knowing p.pass.table_id (cell_view p.pass) };
+
+    ghost invariant = { λ p. (p.pass.table_id ≡ (arc_value p.numbers).table.shared.table_id)
+        × ((cell_view p.pass).writes ≡ true) };
+}
+
+impl<T> Model for MomentPass<T> {
+    ghost use Rattle.crossbeam_utils.specs.Seq.{cell_view};
+    ghost use Rattle.counters.specs.Watching.{Knowing, knowing};
+
+    ghost Value = { Knowing T };
+
+    ghost view = { λ p. knowing p.pass.table_id (cell_view p.pass) };
+}
+
+impl<T: Moment<N>, const N: usize> MomentCell<T, N> {
+    /// A cell whose numbers are all 0, its pen, and a pass. `CounterError::Memory` is answered only where
+    /// memory was refused.
+    pub fn new(alloc: Global) -> Result<(Self, MomentPen<T, N>, MomentPass<T>), CounterError>
+        ensures refused { IfErr result (λ e. e ≡ Memory) }
+        ensures zero { IfOk result (λ made. All (λ n. n ≡ 0) (T.words made.1.last)) }
+        ensures pen { IfOk result (λ made. made.1 ≡ fresh made.0 T.opening) }
+        ensures pass { IfOk result (λ made. made.2 ≡ fresh made.0 T.opening) }
+    {
+        let (cell, mut pen) = Numbers::<T, N>::ruled(alloc, T::opening())?;
+        let pass = cell.split_pass::<Tells>(&mut pen);
+        let numbers = Arc::new(alloc, cell).map_err(AllocError::from)?;
+        let theirs = Arc::try_clone(&numbers)?;
+        Ok((
+            MomentCell { numbers },
+            MomentPen {
+                numbers: theirs,
+                pass: pen,
+            },
+            MomentPass { pass },
+        ))
+    }
+
+    /// Writes the numbers, all at one moment. They are lawful, and none is below what the pen wrote last.
+    pub fn write<R: Wait>(&self, rt: &R, pen: &mut MomentPen<T, N>, numbers: T)
+        requires own { pen.old.cell ≡ self.now }
+        requires lawful { T.lawful numbers }
+        requires none_falls { NoneFalls (T.words pen.old.last) (T.words numbers) }
+        ensures written { pen.new ≡ with_moment numbers pen.old }
+    {
+        self.numbers
+            .swap_as::<Writes<N>, R>(rt, &mut pen.pass, numbers);
+    }
+
+    /// The numbers of one moment, of those that the pen wrote or of the opening.
+    pub fn read<R: Wait>(&self, rt: &R, pass: &mut MomentPass<T>) -> T
+        requires own { pass.old.cell ≡ self.now }
+        ensures own { pass.new.cell ≡ pass.old.cell }
+        ensures moment { result ≡ pass.new.last }
+        ensures later { GoesOn (all_of pass.old) (all_of pass.new) }
+        ensures lawful { T.lawful result }
+        ensures none_falls { NoneFalls (T.words pass.old.last) (T.words result) }
+    {
+        self.numbers.load_as::<Reads<N>, R>(rt, &mut pass.pass)
+    }
+
+    /// Another pass, which knows what this one has read. Either may go to another thread.
+    pub fn split(&self, pass: &mut MomentPass<T>) -> MomentPass<T>
+        requires own { pass.old.cell ≡ self.now }
+        ensures same { pass.new ≡ pass.old }
+        ensures knows { result ≡ pass.old }
+    {
+        MomentPass {
+            pass: self.numbers.split_pass::<Tells>(&mut pass.pass),
+        }
+    }
+}
+
+impl<T: Moment<N>, const N: usize> MomentPen<T, N> {
+    /// A pass that knows all that this pen has written: no number that it reads is below the pen's last.
+    pub fn pass(&mut self) -> MomentPass<T>
+        ensures same { self.new ≡ self.old }
+        ensures knows { result ≡ self.old }
+    {
+        MomentPass {
+            pass: self.numbers.split_pass::<Tells>(&mut self.pass),
+        }
+    }
+}

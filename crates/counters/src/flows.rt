@@ -1,0 +1,55 @@
+//! The cells of flows.
+ghost use Rattle.std.specs.Prelude.{◌≡◌, vec_len, IfOk, IfErr};
+ghost use Rattle.counters.specs.Paired.{ArePaired, IsFresh};
+ghost use Rattle.counters.specs.declared.error.CounterError.TheVariants.{Memory};
+
+use crate::{CounterError, DriveCell, DrivePen, StatCell, StatPen};
+use std::alloc::Global;
+
+/// The cells of a flow: its controller's and its driver's. Threads share them.
+#[derive(Drop)]
+pub struct FlowCells {
+    pub stat: StatCell,
+    pub drive: DriveCell,
+}
+
+/// The pens of a flow's cells. Who reads them takes passes from the pens before these go to the workers.
+#[derive(Drop)]
+pub struct FlowPens {
+    pub stat: StatPen,
+    pub drive: DrivePen,
+}
+
+impl FlowCells {
+    /// The cells of so many flows, and their pens, in the order of the flows. `CounterError::Memory` is
+    /// answered only where memory was refused.
+    pub fn of(alloc: Global, count: usize) -> Result<(Vec<FlowCells>, Vec<FlowPens>), CounterError>
+        ensures refused { IfErr result (λ e. e ≡ Memory) }
+        ensures count { IfOk result (λ made. vec_len made.0 ≡ count) }
+        ensures pens { IfOk result (λ made. ArePaired made.0.items made.1.items) }
+    {
+        let mut cells = Vec::with_capacity(alloc, count)?;
+        let mut pens = Vec::with_capacity(alloc, count)?;
+        for _ in 0..count {
+            let (flow, its_pens) = flow(alloc)?;
+            cells.push_reserved(flow);
+            pens.push_reserved(its_pens);
+        }
+        Ok((cells, pens))
+    }
+}
+
+/// The cells of one flow, and their pens.
+fn flow(alloc: Global) -> Result<(FlowCells, FlowPens), CounterError>
+    ensures refused { IfErr result (λ e. e ≡ Memory) }
+    ensures pens { IfOk result (λ made. IsFresh made.0 made.1) }
+{
+    let (stat, stat_pen, _) = StatCell::new(alloc)?;
+    let (drive, drive_pen, _) = DriveCell::new(alloc)?;
+    let cells = FlowCells { stat, drive };
+    let pens = FlowPens {
+        stat: stat_pen,
+        drive: drive_pen,
+    };
+    Ok((cells, pens))
+}

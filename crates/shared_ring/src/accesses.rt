@@ -1,0 +1,75 @@
+//! The loads and stores of a ring's words by its two ends. Each is made by a play whose law says that the end's record
+//! gets longer by one event, which names the word and the value. But for the making, the meeting and the closing of a
+//! ring, nothing else loads or stores a word.
+ghost use Rattle.std.specs.Prelude.{◌≡◌, ◌<◌};
+ghost use mathlib.Core.Option.{none};
+ghost use Rattle.atomic_table.specs.Table.{Allows, step};
+ghost use Rattle.shared_ring.specs.Keeping.{IsRuled};
+ghost use Rattle.shared_ring.specs.Plays.{DriverCounts, ControllerCounts};
+
+use crate::direction::Direction;
+use crate::events::{ControllerEvent, DriverEvent, View};
+use crate::plays::{ControllerPlay, DriverPlay};
+use crate::steps::{RingSeat, RingTable};
+
+/// A load by the driver.
+#[inline]
+pub(crate) fn driver_load<M: DriverPlay<D, C, R>, D, C, R: Direction<D, C>>(
+    table: &RingTable<D, C, R>,
+    seat: &mut RingSeat<D, C>,
+    word: usize,
+) -> u64
+    requires { (seat.old.table_id ≡ table.now.shared.table_id) × (word < table.now.shared.table_id.words) × Allows (IsRuled R.form table.now.shared.key.0 table.now.shared.key.1) table.now.shared.table_id.slots seat.old.id seat.old.me word (λ n. n) (M.then (step table.now.shared.table_id.slots word 0 0 none) seat.old.me) }
+    ensures same { (seat.new.table_id ≡ seat.old.table_id) × (seat.new.id ≡ seat.old.id) }
+    ensures told { M.then (step table.now.shared.table_id.slots word 0 0 none) seat.old.me result seat.new.me }
+    ensures counted { DriverCounts R.form (step table.now.shared.table_id.slots word 0 0 none) seat.old.me result seat.new.me }
+{
+    table.shared.load::<M>(seat, word)
+}
+
+/// A store by the driver.
+#[inline]
+pub(crate) fn driver_store<M: DriverPlay<D, C, R>, D, C, R: Direction<D, C>>(
+    table: &RingTable<D, C, R>,
+    seat: &mut RingSeat<D, C>,
+    word: usize,
+    value: u64,
+)
+    requires { (seat.old.table_id ≡ table.now.shared.table_id) × (word < table.now.shared.table_id.words) × Allows (IsRuled R.form table.now.shared.key.0 table.now.shared.key.1) table.now.shared.table_id.slots seat.old.id seat.old.me word (λ _. value) (λ _. M.then (step table.now.shared.table_id.slots word value 0 none) seat.old.me value) }
+    ensures same { (seat.new.table_id ≡ seat.old.table_id) × (seat.new.id ≡ seat.old.id) }
+    ensures told { M.then (step table.now.shared.table_id.slots word value 0 none) seat.old.me value seat.new.me }
+    ensures counted { DriverCounts R.form (step table.now.shared.table_id.slots word value 0 none) seat.old.me value seat.new.me }
+{
+    table.shared.store::<M>(seat, word, value);
+}
+
+/// A load by the controller.
+#[inline]
+pub(crate) fn controller_load<M: ControllerPlay<D, C, R>, D, C, R: Direction<D, C>>(
+    table: &RingTable<D, C, R>,
+    seat: &mut RingSeat<D, C>,
+    word: usize,
+) -> u64
+    requires { (seat.old.table_id ≡ table.now.shared.table_id) × (word < table.now.shared.table_id.words) × Allows (IsRuled R.form table.now.shared.key.0 table.now.shared.key.1) table.now.shared.table_id.slots seat.old.id seat.old.me word (λ n. n) (M.then (step table.now.shared.table_id.slots word 0 0 none) seat.old.me) }
+    ensures same { (seat.new.table_id ≡ seat.old.table_id) × (seat.new.id ≡ seat.old.id) }
+    ensures told { M.then (step table.now.shared.table_id.slots word 0 0 none) seat.old.me result seat.new.me }
+    ensures counted { ControllerCounts R.form (step table.now.shared.table_id.slots word 0 0 none) seat.old.me result seat.new.me }
+{
+    table.shared.load::<M>(seat, word)
+}
+
+/// A store by the controller.
+#[inline]
+pub(crate) fn controller_store<M: ControllerPlay<D, C, R>, D, C, R: Direction<D, C>>(
+    table: &RingTable<D, C, R>,
+    seat: &mut RingSeat<D, C>,
+    word: usize,
+    value: u64,
+)
+    requires { (seat.old.table_id ≡ table.now.shared.table_id) × (word < table.now.shared.table_id.words) × Allows (IsRuled R.form table.now.shared.key.0 table.now.shared.key.1) table.now.shared.table_id.slots seat.old.id seat.old.me word (λ _. value) (λ _. M.then (step table.now.shared.table_id.slots word value 0 none) seat.old.me value) }
+    ensures same { (seat.new.table_id ≡ seat.old.table_id) × (seat.new.id ≡ seat.old.id) }
+    ensures told { M.then (step table.now.shared.table_id.slots word value 0 none) seat.old.me value seat.new.me }
+    ensures counted { ControllerCounts R.form (step table.now.shared.table_id.slots word value 0 none) seat.old.me value seat.new.me }
+{
+    table.shared.store::<M>(seat, word, value);
+}
