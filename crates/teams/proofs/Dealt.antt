@@ -1,10 +1,9 @@
 -- Dealing one item more, and taking one back.
-use Rattle.std.proofs.Common.{◌≡◌, ◌≢◌, ◌∙◌, ℕ, ◌+◌, ◌-◌, ◌<◌, ◌≤◌, ◌⊎◌, ◌==◌, inl, inr, Bool, true, false, List, [], ◌∷◌, ◌++◌, refl, ap, sym, subst, cond, length, map, zero, suc, get_or, set, arith, rules}
+use Rattle.std.proofs.Common.{◌≡◌, ◌≢◌, ◌∙◌, ℕ, ◌+◌, ◌-◌, ◌<◌, ◌⊎◌, inl, inr, List, [], ◌∷◌, ◌++◌, refl, ap, sym, subst, length, zero, suc, get_or, set, arith}
 use Rattle.std.proofs.lemmas.Bool.{cases_eq}
-use Rattle.std.proofs.lemmas.Bool.Decides.{nat_tests}
-use Rattle.std.proofs.lemmas.List.{get_or-set_other, append-nil, length-set}
+use Rattle.std.proofs.lemmas.List.{get_or-set_other, length-set}
 use Rattle.std.proofs.lemmas.Grind.{get_or-set_at}
-use Rattle.teams.specs.Dealing.{every, IsDealt}
+use Rattle.teams.specs.Dealing.{every, IsDealt, Passes}
 
 -- how many others stand before the next item that is taken, after these
 abbrev pub after : {X : Type 0} → ℕ → ℕ → List X → ℕ
@@ -38,10 +37,6 @@ after-more count (suc k) (y ∷ ys) x = after-more count k ys x
 -- at this hand's turn, so many others stand before the next item of hand w
 abbrev pub Gap : ℕ → ℕ → ℕ → ℕ → Type 0
 Gap count turn w k = (k < count) × ((k + turn ≡ w) ⊎ (k + turn ≡ w + count))
-
--- the turn goes on to the next hand, and from the last to the first
-abbrev pub Passes : ℕ → ℕ → ℕ → Type 0
-Passes count turn turn' = ((turn + 1 ≡ count) × (turn' ≡ 0)) ⊎ ((turn + 1 < count) × (turn' ≡ turn + 1))
 
 pub gap-more : (count turn turn' w k : ℕ) → w < count → Passes count turn turn' → Gap count turn w k → Gap count turn' w (stepped count k)
 gap-more count turn turn' w zero low (inl last) gap = (omega (arith, low), inl (zero-last gap.1))
@@ -103,3 +98,33 @@ dealt-more items hands x turn more in-row grown count many gaps' was w d low = e
 
     gaps : (v : ℕ) → v < length hands → Gap (length hands) turn v (after (length hands) v items)
     gaps = subst (λ n. (v : ℕ) → v < n → Gap n turn v (after n v items)) (sym many) gaps'
+
+-- what is left in the hands, where it is this hand's turn and these are left of all
+abbrev pub Left : {X : Type 0} → ℕ → ℕ → List X → List (List X) → Type 0
+Left {X} count turn items hands = (w : ℕ) (d : List X) → w < count → (k : ℕ) × Gap count turn w k × (get_or hands w d ≡ every count k items)
+
+pub left-first : {X : Type 0} (items : List X) (hands : List (List X)) (count : ℕ) → length hands ≡ count → IsDealt items hands → Left count 0 items hands
+left-first items hands count many dealt w d low = (w, (low, inl (omega arith)), dealt w d (omega (arith, many, low)) ∙ ap (λ n. every n w items) many)
+
+-- the hand whose turn it is has the next item in front
+pub turn-has : {X : Type 0} (count turn : ℕ) (x : X) (tail : List X) (hands : List (List X)) (d : List X) → turn < count → Left count turn (x ∷ tail) hands
+    → get_or hands turn d ≡ x ∷ every count (count - 1) tail
+turn-has count turn x tail hands d in-row left =
+    let h = left turn d in-row in h.2 ∙ ap (λ k. every count k (x ∷ tail)) (at-turn count turn h.0 h.1)
+
+-- and once it is taken, the rest are left
+pub left-less : {X : Type 0} (count turn turn' : ℕ) (x : X) (tail : List X) (hands : List (List X)) (less : List X)
+    → turn < count → length hands ≡ count → Passes count turn turn' → less ≡ every count (count - 1) tail
+    → Left count turn (x ∷ tail) hands → Left count turn' tail (set hands turn less)
+left-less count turn turn' x tail hands less in-row many passes is left w d low = elim (cases_eq w turn) [
+  | inl same ↦ (
+    count - 1,
+    gap-more count turn turn' w 0 low passes (omega (arith, in-row), inl (omega (arith, same))),
+    get_or-set_at hands turn w less d same (omega (arith, in-row, many)) ∙ is,
+  )
+  | inr other ↦ others other (left w d low)
+]
+  where
+    others : w ≢ turn → (k : ℕ) × Gap count turn w k × (get_or hands w d ≡ every count k (x ∷ tail)) → (k : ℕ) × Gap count turn' w k × (get_or (set hands turn less) w d ≡ every count k tail)
+    others other (zero, gap, at) = absurd (omega (arith, off-turn count turn w 0 in-row other gap))
+    others other (suc k, gap, at) = (k, gap-more count turn turn' w (suc k) low passes gap, get_or-set_other hands turn w less d other ∙ at)

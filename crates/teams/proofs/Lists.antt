@@ -4,7 +4,7 @@ use Rattle.std.proofs.lemmas.List.{map-append, length-append, length-map, append
 use Rattle.std.proofs.lemmas.List.Elements.{All-append}
 use Rattle.std.proofs.lemmas.Simd.{map-map}
 
-length-zero : {A : Type 0} (xs : List A) → length xs ≡ 0 → xs ≡ []
+pub length-zero : {A : Type 0} (xs : List A) → length xs ≡ 0 → xs ≡ []
 length-zero [] e = refl
 length-zero (x ∷ xs) e = absurd (omega (arith, e))
 
@@ -57,3 +57,8 @@ pub mapped-at : {A B : Type 0} (f : A → B) (xs : List A) (i : ℕ) (y d : B) �
 mapped-at f [] i y d low each = absurd (omega (arith, low))
 mapped-at f (x ∷ xs) zero y d low each = each x
 mapped-at f (x ∷ xs) (suc i) y d low each = mapped-at f xs i y d (omega (arith, low)) each
+
+-- a list with an item has a first one
+pub first-of : {X : Type 0} (xs : List X) → 0 < length xs → (x : X) × (tail : List X) × (xs ≡ x ∷ tail)
+first-of [] some = absurd (omega (arith, some))
+first-of (x ∷ xs) some = (x, xs, refl)

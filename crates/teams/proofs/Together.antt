@@ -4,6 +4,10 @@ use Rattle.forwarding.specs.declared.gate.Who.{Who}
 use Rattle.forwarding.specs.declared.gate.Event.{Event}
 use Rattle.teams.specs.declared.ending.Ending.{Ending}
 use Rattle.teams.specs.declared.ending.Ending.TheVariants.{Done, Refused, Stopped}
+use Rattle.forwarding.specs.declared.error.ForwardError.{ForwardError}
+use Rattle.forwarding.specs.declared.error.ForwardError.TheVariants.{Memory, Gate, Thread, Config}
+use Rattle.forwarding.specs.Gates.{Met}
+use Rattle.teams.specs.Refusals.{Halted}
 use Rattle.teams.specs.Endings.{IsSo, worse, refusal_of}
 
 pub so-worse : {G : Type 0} (answers : G → Who → Event → Bool → Type 0) (gate : G) (A B C : Type 0) → (A → B → C) → (x y : Ending)
@@ -34,3 +38,10 @@ pub none-is-done : (x : Ending) → refusal_of x ≡ None → x ≡ Done
 none-is-done Done e = refl
 none-is-done (Refused f) e = search rules
 none-is-done Stopped e = search rules
+
+-- what a flow's turn may be refused with, its worker may be
+pub met_halted : {G : Type 0} (answers : G → Who → Event → Bool → Type 0) (gate : G) (e : ForwardError) → Met answers gate e → Halted answers gate e
+met_halted answers gate Memory met = met
+met_halted answers gate Gate met = met
+met_halted answers gate Thread met = absurd met
+met_halted answers gate Config met = absurd met

@@ -32,6 +32,7 @@ enum Round {
 }
 
 /// A turn of each flow that isn't over. The stop word is loaded before each of them.
+#[tactic(auto, using(crate::proofs::Together::met_halted))]
 fn serve_round<F: Flow, R: Wait, G: Gate>(
     rt: &R,
     stop: &AtomicBool,

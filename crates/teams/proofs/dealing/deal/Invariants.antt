@@ -1,4 +1,4 @@
-use Rattle.std.proofs.Common.{◌≡◌, ℕ, ◌<◌, ◌++◌, List, map, length, vec_items, vec_len}
+use Rattle.std.proofs.Common.{◌≡◌, ℕ, ◌<◌, ◌++◌, List, map, vec_items, vec_len}
 use Rattle.std.specs.Vec.Iter.{into_iter_items}
 use Rattle.teams.specs.Dealing.{IsDealt}
 use Rattle.teams.proofs.Dealt.{Gap, after}
