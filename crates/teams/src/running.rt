@@ -24,7 +24,7 @@ pub struct Ran<D: Drop, C: Drop> {
 /// and joins every worker that was started. The first refusal to set the stop word is the one that is
 /// answered: `Memory` where a growth was refused, `Thread` where a thread couldn't be started, or what a
 /// flow's turn was refused with. The flows of a worker that couldn't be started are dropped.
-pub fn run_teams<D: Flow, C: Flow, R: Threads + Wait + Sync, G: Gate>(
+pub fn run_teams<D: Flow, C: Flow, R: Threads + Wait + Sync, G: Gate + Sync>(
     rt: &R,
     alloc: Global,
     gate: &G,
@@ -53,7 +53,7 @@ pub fn run_teams<D: Flow, C: Flow, R: Threads + Wait + Sync, G: Gate>(
 }
 
 /// In a scope: starts both sides' workers and joins them.
-fn run_in<'s, 'e: 's, D: Flow + 's, C: Flow + 's, R: Threads + Wait + Sync, G: Gate>(
+fn run_in<'s, 'e: 's, D: Flow + 's, C: Flow + 's, R: Threads + Wait + Sync, G: Gate + Sync>(
     scope: &'s Scope<'s, &'e ()>,
     rt: &'e R,
     alloc: Global,

@@ -39,7 +39,7 @@ pub(crate) struct Team<'e, F: Flow, G: Gate> {
 
 /// Starts a worker for each hand, up to the first that can't be started. A hand that no worker was
 /// started for is dropped.
-pub(crate) fn start<'s, 'e: 's, F: Flow + 's, R: Threads + Wait + Sync, G: Gate>(
+pub(crate) fn start<'s, 'e: 's, F: Flow + 's, R: Threads + Wait + Sync, G: Gate + Sync>(
     scope: &'s Scope<'s, &'e ()>,
     rt: &'e R,
     alloc: Global,
