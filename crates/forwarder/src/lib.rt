@@ -6,6 +6,7 @@
 
 mod config;
 mod index;
+mod lines;
 
 pub use config::Config;
 pub use index::Index;
