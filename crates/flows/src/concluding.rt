@@ -1,6 +1,5 @@
 //! Both sides of a flow meet, once both its queues are disabled.
-ghost use Rattle.std.specs.Prelude.{◌≡◌, true};
-ghost use Rattle.rx_ring.specs.Ends.{saw_quiet, is_quiet};
+ghost use Rattle.std.specs.Prelude.{◌≡◌};
 ghost use Rattle.flows.specs.Driven.{HasDriven};
 ghost use Rattle.flows.specs.Keys.{DriverKey, ControllerKey, plan_of};
 ghost use Rattle.flows.specs.Reports.{IsReport};
@@ -46,7 +45,6 @@ pub fn conclude(
     requires to { (sides.0.to ≡ to.now) × (sides.1.to ≡ to.now) }
     requires driven { HasDriven sides.0 driver }
     requires served { HasServed sides.1 controller }
-    requires quiet { saw_quiet driver.rx ≡ true → is_quiet controller.rx ≡ true }
     ensures { IsReport (plan_of sides.0 sides.1) result }
 {
     let DriverDone {

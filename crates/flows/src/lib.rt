@@ -8,12 +8,25 @@
 #![tactic(auto)]
 
 mod concluding;
+mod controller_flow;
 mod counts;
+mod disabling;
+mod driver_flow;
+mod holding;
+mod load;
 mod offering;
+mod phase;
 mod report;
 mod service;
+mod starting;
+mod stepping;
 mod wiring;
 
 pub use concluding::{ControllerDone, DriverDone, conclude};
+pub use controller_flow::ControllerFlow;
 pub use counts::Counts;
+pub use driver_flow::DriverFlow;
+pub use load::Task;
+pub use phase::{Left, Phase};
 pub use report::{Ended, FlowReport};
+pub use service::Service;

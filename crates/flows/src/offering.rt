@@ -3,9 +3,7 @@ ghost use Rattle.std.specs.Prelude.{◌≡◌, ◌<◌, ◌≤◌, All, length, 
 ghost use Rattle.limits.specs.declared.profile.TheConstants.{MOST_SCRIPT_FRAMES};
 ghost use Rattle.controller.specs.FillSize.{IsFillSize};
 ghost use Rattle.rx_ring.specs.Calls.{IsFreshController};
-ghost use Rattle.forwarding.specs.declared.error.ForwardError.TheVariants.{Gate as GateRefused};
-ghost use Rattle.forwarding.specs.declared.gate.Who.TheVariants as who;
-ghost use Rattle.forwarding.specs.Gates.{MayRefuse};
+ghost use Rattle.forwarding.specs.Gates.{Met};
 ghost use Rattle.flows.specs.Keys.{frames_at};
 ghost use Rattle.flows.specs.Served.{HasOffered};
 
@@ -84,7 +82,7 @@ impl<'a> Offering<'a> {
     /// says that no more comes.
     pub(crate) fn offer<G: Gate>(&mut self, number: usize, gate: &G) -> Result<bool, ForwardError>
         ensures input { self.new.input ≡ self.old.input }
-        ensures refusal { IfErr result (λ e. (e ≡ GateRefused) × MayRefuse G.answers gate.now (who.Controller number)) }
+        ensures refused { IfErr result (λ e. Met G.answers gate.now e) }
     {
         if self.service != Service::Serving {
             return Ok(false);

@@ -4,9 +4,7 @@ ghost use Rattle.tx_ring.specs.Ends.{sent};
 ghost use Rattle.ring_model.specs.shared.Frames.{frames};
 ghost use Rattle.ring_model.specs.transmit.Ring.{carried};
 ghost use Rattle.shared_ring.specs.Calls.{IsFreshController};
-ghost use Rattle.forwarding.specs.declared.error.ForwardError.TheVariants.{Gate as GateRefused};
-ghost use Rattle.forwarding.specs.declared.gate.Who.TheVariants as who;
-ghost use Rattle.forwarding.specs.Gates.{MayRefuse};
+ghost use Rattle.forwarding.specs.Gates.{Met};
 
 use crate::service::Service;
 use controller::{Turn, TxController, Wire};
@@ -67,7 +65,7 @@ impl<'a> Wiring<'a> {
     /// grow: then the frame is sent by the next call.
     pub(crate) fn send<G: Gate>(&mut self, number: usize, gate: &G) -> Result<bool, ForwardError>
         ensures to { self.new.to ≡ self.old.to }
-        ensures refused { IfErr result (λ e. e ≡ GateRefused → MayRefuse G.answers gate.now (who.Controller number)) }
+        ensures refused { IfErr result (λ e. Met G.answers gate.now e) }
     {
         if self.service != Service::Serving {
             return Ok(false);

@@ -24,8 +24,9 @@ pub enum Event {
 }
 
 /// A gate is passed just before each of these calls. Where it answers false, forwarding ends. It may hold its caller back,
-/// and so let a program look at what runs, or bring about one order of steps.
-pub trait Gate: Sync {
+/// and so let a program look at what runs, or bring about one order of steps. Workers in several threads pass one gate, so
+/// whoever starts them asks for a gate that is `Sync` too.
+pub trait Gate {
     ghost use Rattle.std.specs.Prelude.{Bool};
     ghost use Rattle.forwarding.specs.declared.gate.Who.{Who};
     ghost use Rattle.forwarding.specs.declared.gate.Event.{Event};
