@@ -17,10 +17,10 @@ bit true = 1
 bit false = 0
 
 -- 1 for n, and 0 for every other number
-only : ℕ → ℕ → ℕ
+pub only : ℕ → ℕ → ℕ
 only n x = bit (eqb x n)
 
-only-itself : (n x : ℕ) → x ≡ n → only n x ≡ 1
+pub only-itself : (n x : ℕ) → x ≡ n → only n x ≡ 1
 unfolding only bit
 only-itself n x e = ap bit (eq-eqb x n e)
 
@@ -30,7 +30,7 @@ only-other n x apart = ap bit (ne_eqb x n apart)
 
 -- ---- a number that weighs something is there
 
-contained : (n : ℕ) (xs : List ℕ) → 0 < total (only n) xs → Contains xs n
+pub contained : (n : ℕ) (xs : List ℕ) → 0 < total (only n) xs → Contains xs n
 contained n [] h = absurd (omega arith)
 contained n (x ∷ xs) h = by_test (eqb x n) (eqb-true x n) (eqb-false x n) (contained n xs)
   where

@@ -12,7 +12,7 @@ ghost use Rattle.driver.specs.transmit.Transmitter.{Transmitter};
 use anyhow::Result as Answer;
 use arrayvec::ArrayVec;
 use buffer_pool::{Packet, Stash};
-use controller::{RxController, TxController, Wire};
+use controller::{CtlError, RxController, TxController, Wire};
 use driver::{DriverError, MOST_BATCH, RxDriver, TxDriver};
 use lending::{give_packets, give_received, give_sent};
 use limits::BUFFER_BYTES;
@@ -172,6 +172,62 @@ fn send(
     tx.tx_batch(to, stash, packets)
 }
 
+/// The device's side of both queues.
+#[derive(Drop)]
+struct Device<'a> {
+    from: &'a RxRing,
+    port_in: RxController,
+    to: &'a TxRing,
+    port_out: TxController,
+    wire: Wire,
+    ghost stores: { port_in.end.table ≡ from.now },
+    ghost transmits: { port_out.table ≡ to.now },
+}
+
+impl<'a> Device<'a> {
+    /// Answers what the drivers ask.
+    fn answer(&mut self) {
+        self.port_in.turn_control(self.from);
+        self.port_out.turn_control(self.to);
+    }
+
+    /// A frame comes in, and one may go out.
+    fn turn(&mut self, frame: &[u8]) -> Result<(), CtlError> {
+        self.port_in.offer(self.from, frame)?;
+        self.port_out.turn(self.to, &mut self.wire)?;
+        Ok(())
+    }
+}
+
+/// Has a frame come in ten times.
+fn forward<R: Wait>(
+    rt: &R,
+    worker: &mut Worker<'_>,
+    device: &mut Device<'_>,
+    frame: &[u8],
+) -> Answer<()> {
+    for _ in 0..2 {
+        worker.enable_receive()?; // asked, and then seen
+        worker.enable_send()?;
+        device.answer();
+    }
+    for _ in 0..11 {
+        worker.turn(rt)?;
+        device.turn(frame)?;
+    }
+    Ok(())
+}
+
+/// Whether both queues were seen disabled.
+fn stop(worker: &mut Worker<'_>, device: &mut Device<'_>) -> bool
+    ensures received { result ≡ true → is_stopped (receive.driver_state worker.new.rx.end) ≡ true }
+    ensures sent { result ≡ true → is_stopped (transmit.driver_state worker.new.tx.end) ≡ true }
+{
+    worker.disable(); // asked
+    device.answer();
+    worker.disable() // and then seen
+}
+
 /// Has a frame come in ten times to a worker with buffers of the pool, and answers how many frames went out. The worker's
 /// pass has no buffer before and after.
 pub fn lent_and_returned<R: Wait>(
@@ -186,36 +242,20 @@ pub fn lent_and_returned<R: Wait>(
 {
     let (from, receiving, storing) = RxRing::new(alloc, 8)?;
     let (to, sending, transmitting) = TxRing::new(alloc, 8)?;
-    let mut port_in = RxController::new(storing, BUFFER_BYTES, false);
-    let mut port_out = TxController::new(transmitting);
-    let mut wire = Wire::new(alloc);
-    let mut worker = Worker::new(
-        pool,
-        pass,
-        &from,
-        RxDriver::new(receiving, 32),
-        &to,
-        TxDriver::new(sending, 32),
-    );
-    for _ in 0..2 {
-        worker.enable_receive()?; // asked, and then seen
-        worker.enable_send()?;
-        port_in.turn_control(&from);
-        port_out.turn_control(&to);
+    let rx = RxDriver::new(receiving, 32);
+    let tx = TxDriver::new(sending, 32);
+    let mut worker = Worker::new(pool, pass, &from, rx, &to, tx);
+    let mut device = Device {
+        from: &from,
+        port_in: RxController::new(storing, BUFFER_BYTES, false),
+        to: &to,
+        port_out: TxController::new(transmitting),
+        wire: Wire::new(alloc),
+    };
+    forward(rt, &mut worker, &mut device, frame)?;
+    if stop(&mut worker, &mut device) {
+        let pass = worker.give_back(rt); // it holds no buffer
+        pass.accounts();
     }
-    for _ in 0..11 {
-        worker.turn(rt)?;
-        port_in.offer(&from, frame)?;
-        port_out.turn(&to, &mut wire)?;
-    }
-    for _ in 0..2 {
-        if worker.disable() {
-            let pass = worker.give_back(rt); // it holds no buffer
-            pass.accounts();
-            return Ok(wire.len());
-        }
-        port_in.turn_control(&from);
-        port_out.turn_control(&to);
-    }
-    Ok(wire.len())
+    Ok(device.wire.len())
 }

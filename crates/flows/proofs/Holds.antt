@@ -1,0 +1,76 @@
+-- What is held, by weights.
+use Rattle.std.proofs.Common.{◌≡◌, ◌∙◌, ℕ, zero, suc, ◌+◌, ◌<◌, ◌≤◌, List, [], ◌∷◌, ◌++◌, length, map, reverse, Contains, ap, sym, refl, subst, arith, append-nil}
+use Rattle.buffer_pool.specs.Buffer.{Buffer}
+use Rattle.pool.specs.Hands.{total, without}
+use Rattle.pool.proofs.Totals.{total-append, total-without, total-ones}
+use Rattle.pool.proofs.Accounts.{contained, only, only-itself}
+use Rattle.driver.specs.receive.Returns.{numbers_of}
+use Rattle.driver.specs.transmit.Frames.{numbers_in}
+use Rattle.flows.specs.Holding.{HoldsJust, Holds, Keeps}
+
+-- nothing was done
+pub keeps-still : (held has : List ℕ) → Keeps held has held has
+keeps-still held has = λ h. refl
+
+pub keeps-on : (a x b y c z : List ℕ) → Keeps a x b y → Keeps b y c z → Keeps a x c z
+keeps-on a x b y c z k l = λ h. (let e = k h in let f = l h in omega (arith, e, f))
+
+-- what is at hand is still held
+pub holds-on : (a x b y : List ℕ) → Holds a x → Keeps a x b y → Holds b y
+holds-on a x b y h k = λ w. (let e = h w in let f = k w in omega (arith, e, f))
+
+-- a number that is held and weighs is among them
+pub is-held : (held has : List ℕ) (n : ℕ) (front back : List ℕ) → has ≡ front ++ n ∷ back → Holds held has → Contains held n
+is-held held has n front back e h =
+    contained n held (let low = h (only n) in let one = only-itself n n refl in let split = ap (total (only n)) e ∙ total-append (only n) front (n ∷ back) in omega (arith, low, one, split))
+
+-- one was given to the pool
+pub gave-one : (held has held' has' : List ℕ) (n : ℕ) (front back : List ℕ) → has ≡ front ++ n ∷ back → has' ≡ front ++ back → Holds held has → held' ≡ without n held → Keeps held has held' has'
+gave-one held has held' has' n front back e e' h gone = λ w.
+    (let there = total-without w n held (is-held held has n front back e h) in
+    let now = ap (total w) gone in let was = ap (total w) e ∙ total-append w front (n ∷ back) in let is = ap (total w) e' ∙ total-append w front back in
+    omega (arith, there, now, was, is))
+
+-- one went from behind to the front
+pub moved-one : (held has has' : List ℕ) (n : ℕ) (front back : List ℕ) → has ≡ front ++ n ∷ back → has' ≡ (n ∷ front) ++ back → Keeps held has held has'
+moved-one held has has' n front back e e' = λ w.
+    (let was = ap (total w) e ∙ total-append w front (n ∷ back) in let is = ap (total w) e' ∙ total-append w (n ∷ front) back in omega (arith, was, is))
+
+-- two lists that weigh the same are as good as each other
+pub keeps-as : (held has held' has' x : List ℕ) → Keeps held has held' has' → ((h : ℕ → ℕ) → total h x ≡ total h has) → Keeps held x held' has'
+keeps-as held has held' has' x k e = λ w. (let a = k w in let b = e w in omega (arith, a, b))
+
+pub holds-as : (held has x : List ℕ) → Holds held has → ((h : ℕ → ℕ) → total h x ≡ total h has) → Holds held x
+holds-as held has x k e = λ w. (let a = k w in let b = e w in omega (arith, a, b))
+
+-- the last packet was taken off the list
+pub numbers-append : (h : ℕ → ℕ) (ps qs : List (List Buffer)) → total h (numbers_in (ps ++ qs)) ≡ total h (numbers_in ps) + total h (numbers_in qs)
+numbers-append h [] qs = omega arith
+numbers-append h (p ∷ ps) qs =
+    let a = total-append h (numbers_of p) (numbers_in (ps ++ qs)) in let b = total-append h (numbers_of p) (numbers_in ps) in let c = numbers-append h ps qs in omega (arith, a, b, c)
+
+pub last-packet : (h : ℕ → ℕ) (ps : List (List Buffer)) (p : List Buffer) → total h (numbers_in (ps ++ p ∷ [])) ≡ total h (numbers_in ps) + total h (numbers_of p)
+last-packet h ps p = let a = numbers-append h ps (p ∷ []) in let b = total-append h (numbers_of p) [] in omega (arith, a, b)
+
+-- what weighs nothing is empty
+pub weighs-nothing : (held has : List ℕ) → has ≡ [] → HoldsJust held has → held ≡ []
+weighs-nothing [] has e h = refl
+weighs-nothing (x ∷ xs) has e h = let w = h (λ k. 1) in let n = ap (total (λ k. 1)) e in absurd (omega (arith, w, n))
+
+pub ones : (held : List ℕ) → total (λ k. 1) held ≡ length held
+ones held = total-ones held
+
+-- the last packet of those that are held, with the stash
+pub holds-last : (held stash : List ℕ) (ps qs : List (List Buffer)) (p : List Buffer) → ps ≡ qs ++ p ∷ [] → Holds held (stash ++ numbers_in ps) → Holds held (stash ++ numbers_of p)
+holds-last held stash ps qs p e h = λ w.
+    (let all = h w in let a = total-append w stash (numbers_in ps) in let b = ap (λ l. total w (numbers_in l)) e ∙ last-packet w qs p in let c = total-append w stash (numbers_of p) in
+    omega (arith, all, a, b, c))
+
+pub drops-one : (held held' stash stash' : List ℕ) (ps qs : List (List Buffer)) (p : List Buffer) → ps ≡ qs ++ p ∷ [] → Keeps held (stash ++ numbers_of p) held' stash' → Keeps held (stash ++ numbers_in ps) held' (stash' ++ numbers_in qs)
+drops-one held held' stash stash' ps qs p e k = λ w.
+    (let one = k w in let a = total-append w stash (numbers_of p) in let b = total-append w stash (numbers_in ps) in let c = ap (λ l. total w (numbers_in l)) e ∙ last-packet w qs p in let d = total-append w stash' (numbers_in qs) in
+    omega (arith, one, a, b, c, d))
+
+-- what is at hand is held with all else
+pub holds-part : (held has all : List ℕ) → HoldsJust held all → ((h : ℕ → ℕ) → total h has ≤ total h all) → Holds held has
+holds-part held has all just part = λ h. (let a = just h in let b = part h in omega (arith, a, b))

@@ -1,0 +1,209 @@
+-- What the calls of a receive controller keep of a flow.
+use Rattle.std.proofs.Common.{◌≡◌, ◌∙◌, ℕ, zero, suc, ◌+◌, ◌<◌, ◌≤◌, ◌≢◌, Bool, true, false, cond, List, [], ◌∷◌, ◌++◌, length, map, take, drop, get_or, ap, sym, refl, subst, arith, append-nil, length-append, if◌then◌else◌}
+use Rattle.std.specs.Prelude.{nat_lt, Ok, Some, slice_get}
+use Rattle.std.proofs.lemmas.Bool.{lt-ltb, le-ltb, false≢true}
+use Rattle.std.proofs.Math.Arith.{lt_of_le-ne}
+use Rattle.std.proofs.lemmas.List.{length-map}
+use Rattle.std.proofs.lemmas.List.Elements.{filter_more}
+use Rattle.atomic_table.specs.Seated.{TableId}
+use Rattle.ring_model.specs.shared.Frames.{Bytes, frames, piece_count}
+use Rattle.ring_model.specs.shared.Segments.{piece_of}
+use Rattle.ring_model.specs.declared.states.ControllerState.{ControllerState}
+use Rattle.ring_model.specs.shared.Handshakes.{is_serving}
+use Rattle.rx_ring.specs.Ends.{controller_size, controller_state, is_quiet, stored}
+use Rattle.controller.specs.declared.tally.Tally.{Tally}
+use Rattle.controller.specs.declared.offer.Offer.{Offer}
+use Rattle.controller.specs.declared.offer.Offer.TheVariants.{Stored, Dropped, Oversize, Held, Off}
+use Rattle.controller.specs.Receiving.{Receiving, Offered, WasStored, WasDropped, WasOversize, WasHeld, WasOff, frames_by}
+use Rattle.controller.specs.Tallying.{exact, most_count}
+use Rattle.flows.specs.Outputs.{Chosen, fitting}
+use Rattle.wire_script.specs.Frame.{Frame}
+use Rattle.flows.specs.Keys.{Input, bytes_at, frames_at}
+use Rattle.flows.specs.declared.service.Service.{Service}
+use Rattle.flows.specs.declared.service.Service.TheVariants.{Waiting, Serving}
+use Rattle.flows.specs.Served.{OfferedSoFar, StandsAs, IsOffering, offering, decides}
+use Rattle.flows.proofs.Choosing.{chosen-both, chosen-of-more}
+
+take-one : {X : Type 0} (xs : List X) (i : ℕ) (d : X) → i < length xs → take (suc i) xs ≡ take i xs ++ get_or xs i d ∷ []
+take-one [] i d low = absurd (omega (arith, low))
+take-one (x ∷ xs) zero d low = refl
+take-one (x ∷ xs) (suc i) d low = ap (λ l. x ∷ l) (take-one xs i d (omega (arith, low)))
+
+exact-few : (t more : Tally) → t.offered < most_count → exact t more ≡ more
+exact-few t more h = ap (λ (b : Bool). if b then more else t) (lt-ltb t.offered most_count h)
+
+module _ (i : Input) (old new : Receiving) (f : Bytes) (next : ℕ) (o : OfferedSoFar i old next) (here : next < length i.frames) (f_is : get_or i.frames next f ≡ f) (own : new.end.table ≡ old.end.table) where
+  more : take (next + 1) i.frames ≡ take next i.frames ++ f ∷ []
+  more = ap (λ (k : ℕ). take k i.frames) (let e : next + 1 ≡ suc next = omega arith in e) ∙ (take-one i.frames next f here ∙ ap (λ (x : Bytes). take next i.frames ++ x ∷ []) f_is)
+
+  more_fitting : (b : Bool) → nat_lt (piece_count i.fill (length f)) i.from.slots ≡ b → fitting i.from.slots i.fill (take (next + 1) i.frames) ≡ fitting i.from.slots i.fill (take next i.frames) ++ cond b (f ∷ []) []
+  more_fitting b e = filter_more (λ x. nat_lt (piece_count i.fill (length x)) i.from.slots) i.frames next f here
+      ∙ (ap (λ (x : Bytes). fitting i.from.slots i.fill (take next i.frames) ++ cond (nat_lt (piece_count i.fill (length x)) i.from.slots) (x ∷ []) []) f_is
+      ∙ ap (λ (c : Bool). fitting i.from.slots i.fill (take next i.frames) ++ cond c (f ∷ []) []) e)
+
+  exactly : (t : Tally) → exact old.tally t ≡ t
+  exactly t = exact-few old.tally t (let a = o.offered in let b = o.few in let c = o.few_frames in omega (arith, a, b, c))
+
+  pub offers-stored : frames piece_of (stored new.end) ≡ frames piece_of (stored old.end) ++ f ∷ [] → WasStored old f new → OfferedSoFar i new (next + 1)
+  offers-stored ready w =
+      let tally : new.tally ≡ record old.tally { offered = old.tally.offered + 1; stored = old.tally.stored + 1 } = ap (λ (r : Receiving). r.tally) w.same ∙ exactly (record old.tally { offered = old.tally.offered + 1; stored = old.tally.stored + 1 }) in
+      let was = o.offered in let count = o.stored in
+      record {
+        own = own ∙ o.own;
+        fill = ap (λ (r : Receiving). r.bsize) w.same ∙ o.fill;
+        drops = ap (λ (r : Receiving). r.drop_en) w.same ∙ o.drops;
+        few_frames = o.few_frames;
+        few = omega (arith, here);
+        offered = ap (λ (t : Tally). t.offered) tally ∙ ap (λ (k : ℕ). k + 1) was;
+        chosen = subst (λ (l : List Bytes). Chosen (frames piece_of (stored new.end)) l) (sym more) (subst (λ (l : List Bytes). Chosen l (take next i.frames ++ f ∷ [])) (sym ready) (chosen-both (frames piece_of (stored old.end)) (take next i.frames) (f ∷ []) o.chosen));
+        stored = ap (λ (t : Tally). t.stored) tally ∙ (ap (λ (k : ℕ). k + 1) count ∙ sym (ap length ready ∙ length-append (frames piece_of (stored old.end)) (f ∷ [])));
+        full = λ holds. ready ∙ (ap (λ (l : List Bytes). l ++ f ∷ []) (o.full holds) ∙ sym (more_fitting true (lt-ltb (piece_count i.fill (length f)) i.from.slots
+            (let h = w.fits in let a = o.fill in let b = ap (λ (t : TableId). t.slots) o.own in subst (λ (k : ℕ). piece_count k (length f) < i.from.slots) a (subst (λ (k : ℕ). piece_count old.bsize (length f) < k) b h)))));
+        none_dropped = λ holds. ap (λ (t : Tally). t.dropped) tally ∙ o.none_dropped holds;
+      }
+
+  -- the frames are told by `frames` of `offer`, at each of its answers
+  module _ (same : frames piece_of (stored new.end) ≡ frames piece_of (stored old.end) ++ []) where
+    kept : frames piece_of (stored new.end) ≡ frames piece_of (stored old.end)
+    kept = same ∙ append-nil (frames piece_of (stored old.end))
+
+    still : Chosen (frames piece_of (stored new.end)) (take (next + 1) i.frames)
+    still = subst (λ (l : List Bytes). Chosen (frames piece_of (stored new.end)) l) (sym more) (subst (λ (l : List Bytes). Chosen l (take next i.frames ++ f ∷ [])) (sym kept) (chosen-of-more (frames piece_of (stored old.end)) (take next i.frames) (f ∷ []) o.chosen))
+
+    pub offers-dropped : WasDropped old f new → OfferedSoFar i new (next + 1)
+    offers-dropped w =
+        let same_new = w.scarce.same in
+        let tally : new.tally ≡ record old.tally { offered = old.tally.offered + 1; dropped = old.tally.dropped + 1 } = ap (λ (r : Receiving). r.tally) same_new ∙ exactly (record old.tally { offered = old.tally.offered + 1; dropped = old.tally.dropped + 1 }) in
+        let never : (i.drops ≡ false → ⊥) = λ holds. false≢true (sym (o.drops ∙ holds) ∙ w.drops) in
+        record {
+          own = own ∙ o.own;
+          fill = ap (λ (r : Receiving). r.bsize) same_new ∙ o.fill;
+          drops = ap (λ (r : Receiving). r.drop_en) same_new ∙ o.drops;
+          few_frames = o.few_frames;
+          few = omega (arith, here);
+          offered = ap (λ (t : Tally). t.offered) tally ∙ ap (λ (k : ℕ). k + 1) o.offered;
+          chosen = still;
+          stored = ap (λ (t : Tally). t.stored) tally ∙ (o.stored ∙ sym (ap length kept));
+          full = λ holds. absurd (never holds);
+          none_dropped = λ holds. absurd (never holds);
+        }
+
+    pub offers-oversize : WasOversize old f new → OfferedSoFar i new (next + 1)
+    offers-oversize w =
+        let tally : new.tally ≡ record old.tally { offered = old.tally.offered + 1; oversize = old.tally.oversize + 1 } = ap (λ (r : Receiving). r.tally) w.same ∙ exactly (record old.tally { offered = old.tally.offered + 1; oversize = old.tally.oversize + 1 }) in
+        record {
+          own = own ∙ o.own;
+          fill = ap (λ (r : Receiving). r.bsize) w.same ∙ o.fill;
+          drops = ap (λ (r : Receiving). r.drop_en) w.same ∙ o.drops;
+          few_frames = o.few_frames;
+          few = omega (arith, here);
+          offered = ap (λ (t : Tally). t.offered) tally ∙ ap (λ (k : ℕ). k + 1) o.offered;
+          chosen = still;
+          stored = ap (λ (t : Tally). t.stored) tally ∙ (o.stored ∙ sym (ap length kept));
+          full = λ holds. kept ∙ (o.full holds ∙ sym (more_fitting false (le-ltb (piece_count i.fill (length f)) i.from.slots
+              (let h = w.many in let a = o.fill in let b = ap (λ (t : TableId). t.slots) o.own in subst (λ (k : ℕ). i.from.slots ≤ piece_count k (length f)) a (subst (λ (k : ℕ). k ≤ piece_count old.bsize (length f)) b h))) ∙ append-nil (fitting i.from.slots i.fill (take next i.frames))));
+          none_dropped = λ holds. ap (λ (t : Tally). t.dropped) tally ∙ o.none_dropped holds;
+        }
+
+    -- nothing is counted of a frame that is held, or offered to a queue that is off
+    uncounted : new.tally ≡ old.tally → new.bsize ≡ old.bsize → new.drop_en ≡ old.drop_en → OfferedSoFar i new next
+    uncounted tally fill drops = record {
+      own = own ∙ o.own;
+      fill = fill ∙ o.fill;
+      drops = drops ∙ o.drops;
+      few_frames = o.few_frames;
+      few = o.few;
+      offered = ap (λ (t : Tally). t.offered) tally ∙ o.offered;
+      chosen = subst (λ (l : List Bytes). Chosen l (take next i.frames)) (sym kept) o.chosen;
+      stored = ap (λ (t : Tally). t.stored) tally ∙ (o.stored ∙ sym (ap length kept));
+      full = λ holds. kept ∙ o.full holds;
+      none_dropped = λ holds. ap (λ (t : Tally). t.dropped) tally ∙ o.none_dropped holds;
+    }
+
+    pub offers-held : WasHeld old f new → OfferedSoFar i new next
+    offers-held w = uncounted (ap (λ (r : Receiving). r.tally) w.scarce.same) (ap (λ (r : Receiving). r.bsize) w.scarce.same) (ap (λ (r : Receiving). r.drop_en) w.scarce.same)
+
+    pub offers-off : WasOff old f new → OfferedSoFar i new next
+    offers-off w = uncounted (ap (λ (r : Receiving). r.tally) w.same) (ap (λ (r : Receiving). r.bsize) w.same) (ap (λ (r : Receiving). r.drop_en) w.same)
+
+-- an offer by which a frame is decided
+pub offers-on : (i : Input) (old new : Receiving) (f : Bytes) (next : ℕ) (offer : Offer) → OfferedSoFar i old next → next < length i.frames → get_or i.frames next f ≡ f → new.end.table ≡ old.end.table
+    → frames piece_of (stored new.end) ≡ frames piece_of (stored old.end) ++ frames_by (Ok offer) f → Offered old f (Ok offer) new → decides offer ≡ true → OfferedSoFar i new (next + 1)
+offers-on i old new f next Stored o here f_is own ready w is = offers-stored i old new f next o here f_is own ready w
+offers-on i old new f next Dropped o here f_is own ready w is = offers-dropped i old new f next o here f_is own ready w
+offers-on i old new f next Oversize o here f_is own ready w is = offers-oversize i old new f next o here f_is own ready w
+offers-on i old new f next Held o here f_is own ready w is = absurd (false≢true is)
+offers-on i old new f next Off o here f_is own ready w is = absurd (false≢true is)
+
+-- and one by which none is
+pub offers-none : (i : Input) (old new : Receiving) (f : Bytes) (next : ℕ) (offer : Offer) → OfferedSoFar i old next → next < length i.frames → get_or i.frames next f ≡ f → new.end.table ≡ old.end.table
+    → frames piece_of (stored new.end) ≡ frames piece_of (stored old.end) ++ frames_by (Ok offer) f → Offered old f (Ok offer) new → decides offer ≡ false → OfferedSoFar i new next
+offers-none i old new f next Stored o here f_is own ready w is = absurd (false≢true (sym is))
+offers-none i old new f next Dropped o here f_is own ready w is = absurd (false≢true (sym is))
+offers-none i old new f next Oversize o here f_is own ready w is = absurd (false≢true (sym is))
+offers-none i old new f next Held o here f_is own ready w is = offers-held i old new f next o here f_is own ready w
+offers-none i old new f next Off o here f_is own ready w is = offers-off i old new f next o here f_is own ready w
+
+-- ---- the queue as its controller serves it
+
+pub read-at : (script : List Frame) (k : ℕ) (f e : Frame) → k < length script → f ≡ get_or script k e → slice_get script k ≡ Some f
+read-at [] k f e low is = absurd (omega (arith, low))
+read-at (x ∷ xs) zero f e low is = ap Some (sym is)
+read-at (x ∷ xs) (suc k) f e low is = read-at xs k f e (omega (arith, low)) is
+
+-- the frame at a place of the script
+pub frame-at : (script : List Frame) (places : List ℕ) (next d : ℕ) (f : Frame) → next < length places → slice_get script (get_or places next d) ≡ Some f → get_or (frames_at script places) next f.bytes ≡ f.bytes
+frame-at script [] next d f low e = absurd (omega (arith, low))
+frame-at script (k ∷ ks) zero d f low e = ap bytes_at e
+frame-at script (k ∷ ks) (suc next) d f low e = frame-at script ks next d f (omega (arith, low)) e
+
+-- where not all were decided, there is a next one
+pub some-left : (script : List Frame) (places : List ℕ) (next : ℕ) → next ≤ length (frames_at script places) → next ≢ length places → next < length places
+some-left script places next few more = lt_of_le-ne (let e = length-map places (λ k. bytes_at (slice_get script k)) in omega (arith, e, few)) more
+
+pub as-many : (script : List Frame) (places : List ℕ) (next : ℕ) → next < length places → next < length (frames_at script places)
+as-many script places next low = let e = length-map places (λ k. bytes_at (slice_get script k)) in omega (arith, e, low)
+
+same-config : (c new : Receiving) (f : Bytes) (offer : Offer) → Offered c f (Ok offer) new → (new.bsize ≡ c.bsize) × (new.drop_en ≡ c.drop_en)
+same-config c new f Stored w = (ap (λ (r : Receiving). r.bsize) w.same, ap (λ (r : Receiving). r.drop_en) w.same)
+same-config c new f Dropped w = (ap (λ (r : Receiving). r.bsize) w.scarce.same, ap (λ (r : Receiving). r.drop_en) w.scarce.same)
+same-config c new f Oversize w = (ap (λ (r : Receiving). r.bsize) w.same, ap (λ (r : Receiving). r.drop_en) w.same)
+same-config c new f Held w = (ap (λ (r : Receiving). r.bsize) w.scarce.same, ap (λ (r : Receiving). r.drop_en) w.scarce.same)
+same-config c new f Off w = (ap (λ (r : Receiving). r.bsize) w.same, ap (λ (r : Receiving). r.drop_en) w.same)
+
+waiting≢serving : Waiting ≡ Serving → ⊥
+waiting≢serving e = cc e
+
+module _ (from : TableId) (fs : List Bytes) (c new : Receiving) (next : ℕ) (s : Service) (f : Bytes) (offer : Offer) (was : IsOffering (offering from fs c next s)) (serves : s ≡ Serving) (here : next < length fs)
+    (f_is : get_or fs next f ≡ f) (own : new.end.table ≡ from) (ready : frames piece_of (stored new.end) ≡ frames piece_of (stored c.end) ++ frames_by (Ok offer) f) (w : Offered c f (Ok offer) new)
+    (state : controller_state new.end ≡ controller_state c.end) (quiet : is_quiet new.end ≡ is_quiet c.end) where
+  abbrev input : Receiving → Input
+  input r = record { from = from; frames = fs; fill = r.bsize; drops = r.drop_en }
+
+  same_input : input c ≡ input new
+  same_input = let same = same-config c new f offer w in ap (λ (b : ℕ). record { from = from; frames = fs; fill = b; drops = c.drop_en }) (sym same.0) ∙ ap (λ (b : Bool). record { from = from; frames = fs; fill = new.bsize; drops = b }) (sym same.1)
+
+  stands : StandsAs s (is_serving (controller_state new.end))
+  stands = subst (λ (x : ControllerState). StandsAs s (is_serving x)) (sym state) was.stands
+
+  loud : is_quiet new.end ≡ true → ⊥
+  loud is = let over = was.finished (sym quiet ∙ is) in omega (arith, over, here)
+
+  table : new.end.table ≡ c.end.table
+  table = own ∙ sym was.so_far.own
+
+  pub decided-on : decides offer ≡ true → IsOffering (offering from fs new (next + 1) s)
+  decided-on is = record {
+    so_far = subst (λ (i : Input). OfferedSoFar i new (next + 1)) same_input (offers-on (input c) c new f next offer was.so_far here f_is table ready w is);
+    stands = stands;
+    unserved = λ e. absurd (waiting≢serving (sym e ∙ serves));
+    finished = λ is. absurd (loud is);
+  }
+
+  pub undecided : decides offer ≡ false → IsOffering (offering from fs new next s)
+  undecided is = record {
+    so_far = subst (λ (i : Input). OfferedSoFar i new next) same_input (offers-none (input c) c new f next offer was.so_far here f_is table ready w is);
+    stands = stands;
+    unserved = λ e. absurd (waiting≢serving (sym e ∙ serves));
+    finished = λ is. absurd (loud is);
+  }

@@ -1,0 +1,69 @@
+use Rattle.std.proofs.Common.{rules, ◌≡◌, ◌-◌, [], ◌++◌, List, length, map, ap, sym, subst, false}
+use Rattle.buffer_pool.specs.Buffer.{Buffer}
+use Rattle.buffer_pool.specs.Packed.{bytes_of}
+use Rattle.driver.specs.transmit.Frames.{numbers_in}
+use Rattle.pool.specs.Owned.{IsOf}
+use Rattle.forwarding.specs.Driving.{driving}
+use Rattle.flows.specs.declared.counts.Counts.{Counts}
+use Rattle.flows.specs.Counting.{counted}
+use Rattle.flows.specs.Holding.{all_of}
+use Rattle.flows.specs.Driven.{IsLoaded, Relayed, driving_of}
+use Rattle.flows.proofs.Holds.{holds-part}
+use Rattle.flows.proofs.Loads.{at-hand, drove-all, held-all, loaded-by, given-all}
+use Rattle.flows.proofs.Relays.{relays-on, relays-dropping, held-counted, batch-drained}
+use Rattle.flows.proofs.load.Load.relay.Goals as goal
+
+pub returns-in-Err-clause-loaded : goal.returns-in-Err-clause-loaded
+returns-in-Err-clause-loaded g c =
+    let k = c.args.task.now in let old = driving_of c.args.self.now in let d = c.drive.new in let new = driving d.rx d.tx d.stash d.packets.items in
+    loaded-by k c.args.self.now.pass old new c.task.inside.from.now c.task.inside.to.now (search rules) (search rules) c.requires.loaded c.drive.ensures.can (held-all old new c.in-Err.ensures.refused)
+
+pub returns-in-Err-clause-relayed : goal.returns-in-Err-clause-relayed
+returns-in-Err-clause-relayed g c =
+    let k = c.args.task.now in let old = driving_of c.args.self.now in let d = c.drive.new in let new = driving d.rx d.tx d.stash d.packets.items in
+    let more = length new.packets - length old.packets in
+    let is : c.counted.result ≡ counted c.args.counts.now more 0 0 = search rules in
+    subst (λ (x : Counts). Relayed k.retries new.rx.end new.tx.end x (map bytes_of new.packets)) (sym is)
+    (relays-on k.retries old new c.args.counts.now more 0 c.requires.relayed c.drive.ensures.moved (held-counted old new c.in-Err.ensures.refused))
+
+pub returns-then-task-clause-loaded : goal.returns-then-task-clause-loaded
+returns-then-task-clause-loaded g c =
+    let k = c.args.task.now in let old = driving_of c.args.self.now in let d = c.drive.new in let new = driving d.rx d.tx d.stash d.packets.items in let t = c.in-Ok.turned in
+    loaded-by k c.args.self.now.pass old new c.task.inside.from.now c.task.inside.to.now (search rules) (search rules) c.requires.loaded c.drive.ensures.can (drove-all t.taken t.posted old new c.in-Ok.ensures.steps)
+
+pub returns-then-task-clause-relayed : goal.returns-then-task-clause-relayed
+returns-then-task-clause-relayed g c =
+    let k = c.args.task.now in let old = driving_of c.args.self.now in let d = c.drive.new in let new = driving d.rx d.tx d.stash d.packets.items in let t = c.in-Ok.turned in
+    subst (λ (x : Counts). Relayed k.retries new.rx.end new.tx.end x (map bytes_of new.packets)) (sym c.counted-then-task.ensures)
+    (relays-on k.retries old new c.args.counts.now t.taken t.posted c.requires.relayed c.drive.ensures.moved c.in-Ok.ensures.counted)
+
+pub returns-then-task-clause-drained : goal.returns-then-task-clause-drained
+returns-then-task-clause-drained g c =
+    let old = driving_of c.args.self.now in let d = c.drive.new in let t = c.in-Ok.turned in
+    batch-drained t.taken t.posted old (driving d.rx d.tx d.stash d.packets.items) c.in-Ok.ensures.steps (search rules)
+
+pub drop_packets-dropped-requires-clause-held : goal.drop_packets-dropped-requires-clause-held
+drop_packets-dropped-requires-clause-held g c =
+    let k = c.args.task.now in let old = driving_of c.args.self.now in let d = c.drive.new in let new = driving d.rx d.tx d.stash d.packets.items in let t = c.in-Ok.turned in
+    let l : IsLoaded k c.args.self.now.pass new = loaded-by k c.args.self.now.pass old new c.task.inside.from.now c.task.inside.to.now (search rules) (search rules) c.requires.loaded c.drive.ensures.can (drove-all t.taken t.posted old new c.in-Ok.ensures.steps) in
+    holds-part c.args.self.now.pass.hand.held (d.stash ++ numbers_in d.packets.items) (all_of new) l.holds (at-hand new)
+
+pub returns-clause-loaded : goal.returns-clause-loaded
+returns-clause-loaded g c =
+    let k = c.args.task.now in let old = driving_of c.args.self.now in let d = c.drive.new in let new = driving d.rx d.tx d.stash d.packets.items in let t = c.in-Ok.turned in let p = c.drop_packets-dropped in
+    let l : IsLoaded k c.args.self.now.pass new = loaded-by k c.args.self.now.pass old new c.task.inside.from.now c.task.inside.to.now (search rules) (search rules) c.requires.loaded c.drive.ensures.can (drove-all t.taken t.posted old new c.in-Ok.ensures.steps) in
+    let pool : IsOf k.pool p.new.pass = search rules in
+    given-all k c.args.self.now.pass p.new.pass new p.new.stash p.new.packets.items p.ensures.none l pool p.ensures.kept
+
+pub returns-clause-relayed : goal.returns-clause-relayed
+returns-clause-relayed g c =
+    let k = c.args.task.now in let old = driving_of c.args.self.now in let d = c.drive.new in let new = driving d.rx d.tx d.stash d.packets.items in let t = c.in-Ok.turned in let p = c.drop_packets-dropped in
+    let never : k.retries ≡ false = search rules in
+    let is : c.counted-2.result ≡ counted c.args.counts.now t.taken t.posted (length new.packets) = search rules in
+    subst (λ (ps : List (List Buffer)). Relayed k.retries new.rx.end new.tx.end c.counted-2.result (map bytes_of ps)) (sym p.ensures.none)
+    (subst (λ (x : Counts). Relayed k.retries new.rx.end new.tx.end x []) (sym is) (relays-dropping k.retries old new c.args.counts.now t.taken t.posted c.requires.relayed c.drive.ensures.moved c.in-Ok.ensures.counted never))
+
+pub returns-clause-drained : goal.returns-clause-drained
+returns-clause-drained g c =
+    let old = driving_of c.args.self.now in let d = c.drive.new in let t = c.in-Ok.turned in
+    batch-drained t.taken t.posted old (driving d.rx d.tx d.stash d.packets.items) c.in-Ok.ensures.steps (search rules)

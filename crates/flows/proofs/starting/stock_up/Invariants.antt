@@ -1,0 +1,12 @@
+use Rattle.std.proofs.Common.{◌-◌, ◌++◌}
+use Rattle.rx_ring.specs.Ends.{posted}
+use Rattle.pool.specs.Owned.{IsOf}
+use Rattle.flows.specs.Holding.{Keeps}
+use Rattle.flows.specs.Driven.{OnlyPosted}
+use Rattle.flows.proofs.starting.stock_up.Given as goal
+
+abbrev pub invariant-loop-taken : goal.invariant-loop-taken
+invariant-loop-taken g l = record { pool : IsOf l.pool l.pass; did : OnlyPosted l.fn.end l.end; kept : Keeps l.fn.pass.hand.held (l.fn.stash ++ posted l.fn.end) l.pass.hand.held (l.stash ++ posted l.end) }
+
+abbrev pub decreases-loop-taken : goal.decreases-loop-taken
+decreases-loop-taken g l = l.most - l.taken

@@ -1,0 +1,174 @@
+-- What the driver's side of a flow knows of it.
+use Rattle.std.specs.Prelude.{◌≡◌, ℕ, ◌+◌, ◌<◌, ◌≤◌, ◌⊎◌, Bool, true, false, All, List, [], ◌++◌, length, map, Option, Some, None}
+use Rattle.buffer_pool.specs.Packed.{bytes_of}
+use Rattle.ring_model.specs.declared.states.DriverState.TheVariants.{Stopping}
+use Rattle.ring_model.specs.shared.Frames.{Bytes, frames}
+use Rattle.ring_model.specs.shared.Handshakes.{is_new, is_on, is_open, is_stopped}
+use Rattle.ring_model.specs.shared.Segments.{piece_of}
+use Rattle.ring_model.specs.transmit.Ring.{carried}
+use Rattle.rx_ring.specs.Ends as receive
+use Rattle.rx_ring.specs.Calls as received
+use Rattle.tx_ring.specs.Ends as transmit
+use Rattle.tx_ring.specs.Meeting as transmitted
+use Rattle.pool.specs.Owned.{Passed, IsOf}
+use Rattle.driver.specs.receive.Chains.{IsTaken}
+use Rattle.driver.specs.receive.Receiver.{Receiver}
+use Rattle.driver.specs.transmit.Transmitter.{Transmitter}
+use Rattle.forwarding.specs.Driving.{Driving, driving}
+use Rattle.forwarding.specs.Touching.{touch}
+use Rattle.flows.specs.Outputs.{Chosen}
+use Rattle.flows.specs.Keys.{DriverKey}
+use Rattle.flows.specs.Counting.{most_exact}
+use Rattle.flows.specs.Holding.{HoldsJust, all_of, with_rx, with_tx}
+use Rattle.flows.specs.declared.counts.Counts.{Counts}
+use Rattle.flows.specs.declared.load.Load.{Load}
+use Rattle.flows.specs.declared.phase.Left.{Left}
+use Rattle.flows.specs.declared.phase.Phase.{Phase}
+use Rattle.flows.specs.declared.phase.Phase.TheVariants.{EnablingTx, EnablingRx, Forwarding, Disabling, Reclaiming, Over}
+use Rattle.flows.specs.declared.report.Ended.{Ended}
+use Rattle.flows.specs.declared.report.Ended.TheVariants.{Drained, Cut}
+use Rattle.flows.specs.declared.concluding.DriverDone.{DriverDone}
+
+abbrev pub taken_frames : receive.DriverSide → List Bytes
+taken_frames rx = frames piece_of (receive.taken rx)
+
+abbrev pub posted_frames : transmit.DriverSide → List Bytes
+posted_frames tx = frames carried (transmit.posted tx)
+
+-- the counts are the numbers of frames, of which so many wait
+pub record AreExact (rx : receive.DriverSide) (tx : transmit.DriverSide) (c : Counts) (waiting : ℕ) : Type 0 where
+  pub taken : c.taken ≡ length (taken_frames rx)
+  pub posted : c.posted ≡ length (posted_frames tx)
+  pub all : c.posted + c.tx_dropped + waiting ≡ c.taken
+
+-- more frames were taken than are counted
+pub record AreFull (rx : receive.DriverSide) (c : Counts) : Type 0 where
+  pub full : most_exact < c.taken
+  pub many : most_exact < length (taken_frames rx)
+
+-- The frames that were posted and those that wait are touched ones of those that were taken, in order, and the counts are theirs. With `retries` none was dropped
+pub record Relayed (retries : Bool) (rx : receive.DriverSide) (tx : transmit.DriverSide) (c : Counts) (waiting : List Bytes) : Type 0 where
+  pub chosen : Chosen (posted_frames tx ++ waiting) (map touch (taken_frames rx))
+  pub counted : AreExact rx tx c (length waiting) ⊎ AreFull rx c
+  pub no_more : c.posted + c.tx_dropped ≤ c.taken
+  pub retried : retries ≡ true → c.tx_dropped ≡ 0
+
+-- the queue was seen quiet, and all that was stored was seen taken; none waits, and all that was posted is cleaned
+pub record HasDrained (rx : receive.DriverSide) (tx : transmit.DriverSide) (waiting : List Bytes) : Type 0 where
+  pub quiet : receive.saw_quiet rx ≡ true
+  pub drained : receive.is_drained rx ≡ true
+  pub cleaned : length (transmit.posted tx) ≤ length (transmit.cleaned tx)
+  pub none_waits : waiting ≡ []
+
+-- a flow is cut only where it has a greatest number of turns
+abbrev pub EndedAs : ℕ → receive.DriverSide → transmit.DriverSide → List Bytes → Ended → Type 0
+EndedAs turns rx tx waiting Drained = HasDrained rx tx waiting
+EndedAs turns rx tx waiting Cut = 0 < turns
+
+-- by posting and publishing alone
+pub record OnlyPosted (old new : receive.DriverSide) : Type 0 where
+  pub own : new.table ≡ old.table
+  pub taken : receive.taken new ≡ receive.taken old
+  pub none_back : receive.reclaimed new ≡ receive.reclaimed old
+  pub state : receive.driver_state new ≡ receive.driver_state old
+
+-- a queue whose disabling is asked: it is not answered yet, or is, and so many segments are left in it
+abbrev pub RxStands : Option ℕ → receive.DriverSide → Type 0
+RxStands None d = receive.driver_state d ≡ Stopping
+RxStands (Some left) d = (is_stopped (receive.driver_state d) ≡ true) × (received.told_left d ≡ Some left)
+
+abbrev pub TxStands : Option ℕ → transmit.DriverSide → Type 0
+TxStands None d = transmit.driver_state d ≡ Stopping
+TxStands (Some left) d = (is_stopped (transmit.driver_state d) ≡ true) × (transmitted.told_left d ≡ Some left)
+
+-- the lists of a queue are as they were
+pub record RxAsBefore (old new : Receiver) : Type 0 where
+  pub own : new.end.table ≡ old.end.table
+  pub taken : receive.taken new.end ≡ receive.taken old.end
+  pub holds : with_rx new ≡ with_rx old
+
+pub record TxAsBefore (old new : Transmitter) : Type 0 where
+  pub own : new.end.table ≡ old.end.table
+  pub posted : transmit.posted new.end ≡ transmit.posted old.end
+  pub cleaned : transmit.cleaned new.end ≡ transmit.cleaned old.end
+  pub holds : with_tx new ≡ with_tx old
+
+-- and so is what was learnt of all that is stored
+pub record KnowsAsBefore (old new : Receiver) : Type 0 where
+  pub quiet : receive.saw_quiet new.end ≡ receive.saw_quiet old.end
+  pub drained : receive.is_drained new.end ≡ receive.is_drained old.end
+
+-- both queues were seen disabled, and how many segments were left in them is known
+pub record HasDriven (k : DriverKey) (d : DriverDone) : Type 0 where
+  pub receives : d.rx.table ≡ k.from
+  pub sends : d.tx.table ≡ k.to
+  pub one_length : k.to.slots ≡ k.from.slots
+  pub waiting : List Bytes
+  pub relayed : Relayed k.retries d.rx d.tx d.counts waiting
+  pub rx_over : is_open (receive.driver_state d.rx) ≡ false
+  pub tx_over : is_open (transmit.driver_state d.tx) ≡ false
+  pub untaken : received.told_left d.rx ≡ Some d.untaken
+  pub unsent : transmitted.told_left d.tx ≡ Some d.unsent
+  pub ended : EndedAs k.turns d.rx d.tx waiting d.ended
+
+-- what waits is as it was as the flow ended
+pub record HasEnded (k : DriverKey) (d : Driving) (c : Counts) (ended : Ended) : Type 0 where
+  pub waiting : List Bytes
+  pub relayed : Relayed k.retries d.rx.end d.tx.end c waiting
+  pub ended_as : EndedAs k.turns d.rx.end d.tx.end waiting ended
+
+-- both drivers are of their rings, and the pass holds just the buffers that are with them, in the stash and in the packets that wait
+pub record IsLoaded (k : DriverKey) (pass : Passed) (d : Driving) : Type 0 where
+  pub receives : d.rx.end.table ≡ k.from
+  pub sends : d.tx.end.table ≡ k.to
+  pub one_length : k.to.slots ≡ k.from.slots
+  pub pool : IsOf k.pool pass
+  pub holds : HoldsJust pass.hand.held (all_of d)
+  pub waiting : All (IsTaken k.from.slots) d.packets
+
+abbrev pub driving_of : Load → Driving
+driving_of l = driving l.rx l.tx l.stash l.packets.items
+
+-- What is known in each phase. The receive queue is asked for only once the transmit queue was seen enabled
+pub record IsOpening (k : DriverKey) (d : Driving) (c : Counts) : Type 0 where
+  pub rx_open : is_open (receive.driver_state d.rx.end) ≡ true
+  pub tx_open : is_open (transmit.driver_state d.tx.end) ≡ true
+  pub relayed : Relayed k.retries d.rx.end d.tx.end c (map bytes_of d.packets)
+
+pub record IsForwarding (k : DriverKey) (d : Driving) (c : Counts) : Type 0 where
+  pub rx_on : is_on (receive.driver_state d.rx.end) ≡ true
+  pub tx_on : is_on (transmit.driver_state d.tx.end) ≡ true
+  pub relayed : Relayed k.retries d.rx.end d.tx.end c (map bytes_of d.packets)
+
+pub record IsClosing (k : DriverKey) (d : Driving) (c : Counts) (ended : Ended) (untaken unsent : Option ℕ) : Type 0 where
+  pub rx_stands : RxStands untaken d.rx.end
+  pub tx_stands : TxStands unsent d.tx.end
+  pub has_ended : HasEnded k d c ended
+
+abbrev pub IsAt : DriverKey → Driving → Counts → Phase → Type 0
+IsAt k d c EnablingTx = IsOpening k d c × (is_new (receive.driver_state d.rx.end) ≡ true)
+IsAt k d c EnablingRx = IsOpening k d c × (is_on (transmit.driver_state d.tx.end) ≡ true)
+IsAt k d c (Forwarding made) = IsForwarding k d c
+IsAt k d c (Disabling ended untaken unsent) = IsClosing k d c ended untaken unsent
+IsAt k d c (Reclaiming left) = IsClosing k d c left.ended (Some left.untaken) (Some left.unsent)
+IsAt k d c (Over left) = IsClosing k d c left.ended (Some left.untaken) (Some left.unsent)
+
+abbrev pub is_over : Phase → Bool
+is_over (Over left) = true
+is_over _ = false
+
+-- the driver's side: what it is of, its load, its counts, and how far it is
+pub record Relaying : Type 0 where
+  pub key : DriverKey
+  pub pass : Passed
+  pub driving : Driving
+  pub counts : Counts
+  pub phase : Phase
+
+abbrev pub relaying : DriverKey → Load → Counts → Phase → Relaying
+relaying k l c phase = record { key = k; pass = l.pass; driving = driving_of l; counts = c; phase = phase }
+
+pub record IsRelaying (r : Relaying) : Type 0 where
+  pub loaded : IsLoaded r.key r.pass r.driving
+  pub at : IsAt r.key r.driving r.counts r.phase
+  pub given_back : is_over r.phase ≡ true → r.pass.hand.held ≡ []

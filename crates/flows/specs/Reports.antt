@@ -1,0 +1,47 @@
+-- What a flow's report says.
+use Rattle.std.specs.Prelude.{◌≡◌, ℕ, ◌+◌, ◌≤◌, true, false, List, length}
+use Rattle.ring_model.specs.receive.Lawful.{IsLawfulRxLedger}
+use Rattle.ring_model.specs.receive.Ring.{RxLedger}
+use Rattle.ring_model.specs.shared.Frames.{Bytes, frames}
+use Rattle.ring_model.specs.shared.Segments.{piece_of}
+use Rattle.ring_model.specs.transmit.Lawful.{IsLawfulTxLedger}
+use Rattle.ring_model.specs.transmit.Ring.{TxLedger, carried}
+use Rattle.flows.specs.declared.report.Ended.TheVariants.{Drained}
+use Rattle.flows.specs.declared.report.FlowReport.{FlowReport}
+use Rattle.flows.specs.Outputs.{IsLawfulOutput, IsFullOutput}
+use Rattle.flows.specs.Keys.{Plan}
+
+-- There are lawful ledgers of the flow's two queues: their frames were counted, the wire has those that were sent, and so many segments were left in both together
+pub record AreLedgers (n : ℕ) (r : FlowReport) : Type 0 where
+  pub received : RxLedger Bytes
+  pub sent : TxLedger Bytes
+  pub lawful_received : IsLawfulRxLedger Bytes n received
+  pub lawful_sent : IsLawfulTxLedger Bytes n sent
+  pub stored : r.stored ≡ length (frames piece_of received.served)
+  pub taken : r.taken ≡ length (frames piece_of received.given)
+  pub posted : r.posted ≡ length (frames carried sent.posted)
+  pub wire : r.wire ≡ frames carried sent.served
+  pub left : length received.given + length sent.served + r.left ≡ length received.served + length sent.posted
+
+-- each frame of the flow was offered, each that was stored was taken, and posted or dropped, and each that was posted is on the wire
+pub record IsDrained (p : Plan) (r : FlowReport) : Type 0 where
+  pub all_offered : r.offered ≡ length p.frames
+  pub all_taken : r.taken ≡ r.stored
+  pub all_posted : r.posted + r.tx_dropped ≡ r.taken
+  pub all_sent : length r.wire ≡ r.posted
+  pub none_left : r.left ≡ 0
+
+-- nothing but what is oversize was lost
+pub record IsFull (p : Plan) (r : FlowReport) : Type 0 where
+  pub none_dropped : r.dropped ≡ 0
+  pub all_posted : r.tx_dropped ≡ 0
+  pub output : IsFullOutput p.size p.fill p.frames r.wire
+
+pub record IsReport (p : Plan) (r : FlowReport) : Type 0 where
+  pub output : IsLawfulOutput p.frames r.wire
+  pub adds : r.offered ≡ r.stored + r.dropped + r.oversize
+  pub no_more : r.posted + r.tx_dropped ≤ r.taken
+  pub ledgers : AreLedgers p.size r
+  pub drained : r.ended ≡ Drained → IsDrained p r
+  pub never_cut : p.turns ≡ 0 → r.ended ≡ Drained
+  pub full : r.ended ≡ Drained → p.drops ≡ false → p.retries ≡ true → IsFull p r

@@ -1,0 +1,116 @@
+-- What the controller's side of a flow knows of it.
+use Rattle.std.specs.Prelude.{◌≡◌, ℕ, ◌≤◌, Bool, false, true, List, [], length, take}
+use Rattle.atomic_table.specs.Seated.{TableId}
+use Rattle.limits.specs.declared.profile.TheConstants.{MOST_SCRIPT_FRAMES}
+use Rattle.ring_model.specs.shared.Frames.{Bytes, frames}
+use Rattle.ring_model.specs.shared.Handshakes.{is_serving}
+use Rattle.ring_model.specs.shared.Segments.{piece_of}
+use Rattle.ring_model.specs.transmit.Ring.{carried}
+use Rattle.rx_ring.specs.Ends as receive
+use Rattle.tx_ring.specs.Ends as transmit
+use Rattle.controller.specs.declared.offer.Offer.{Offer}
+use Rattle.controller.specs.declared.offer.Offer.TheVariants.{Off, Oversize, Stored, Dropped, Held}
+use Rattle.controller.specs.Receiving.{Receiving}
+use Rattle.controller.specs.declared.tally.Tally.{Tally}
+use Rattle.controller.specs.Tallying.{AddsUp}
+use Rattle.flows.specs.Outputs.{Chosen, fitting}
+use Rattle.flows.specs.Keys.{Input, ControllerKey}
+use Rattle.flows.specs.declared.service.Service.{Service}
+use Rattle.flows.specs.declared.service.Service.TheVariants.{Waiting, Serving, Ended}
+use Rattle.flows.specs.declared.concluding.ControllerDone.{ControllerDone}
+
+-- The first `next` frames were decided, and no other. Those that were stored are among them, in order, and the tally is theirs. Where none is dropped just the oversize ones are left out
+pub record OfferedSoFar (i : Input) (r : Receiving) (next : ℕ) : Type 0 where
+  pub own : r.end.table ≡ i.from
+  pub fill : r.bsize ≡ i.fill
+  pub drops : r.drop_en ≡ i.drops
+  pub few_frames : length i.frames ≤ MOST_SCRIPT_FRAMES
+  pub few : next ≤ length i.frames
+  pub offered : r.tally.offered ≡ next
+  pub chosen : Chosen (frames piece_of (receive.stored r.end)) (take next i.frames)
+  pub stored : r.tally.stored ≡ length (frames piece_of (receive.stored r.end))
+  pub full : i.drops ≡ false → frames piece_of (receive.stored r.end) ≡ fitting i.from.slots i.fill (take next i.frames)
+  pub none_dropped : i.drops ≡ false → r.tally.dropped ≡ 0
+
+-- the offer decides on the frame: it isn't offered again
+abbrev pub decides : Offer → Bool
+decides Stored = true
+decides Dropped = true
+decides Oversize = true
+decides Held = false
+decides Off = false
+
+-- whether the end serves its queue now, by how far that is
+abbrev pub StandsAs : Service → Bool → Type 0
+StandsAs Waiting serving = serving ≡ false
+StandsAs Serving serving = serving ≡ true
+StandsAs Ended serving = serving ≡ false
+
+-- how far a controller is, where it serves its queue now, or does not
+abbrev pub after : Service → Bool → Service
+after Waiting true = Serving
+after Waiting false = Waiting
+after Serving true = Serving
+after Serving false = Ended
+after Ended serving = Ended
+
+-- the receive queue of a flow, as its controller serves it
+pub record Offering : Type 0 where
+  pub input : Input
+  pub controller : Receiving
+  pub next : ℕ
+  pub service : Service
+
+abbrev pub offering : TableId → List Bytes → Receiving → ℕ → Service → Offering
+offering from frames_in controller next service = record { input = record { from = from; frames = frames_in; fill = controller.bsize; drops = controller.drop_en }; controller = controller; next = next; service = service }
+
+-- nothing was done yet
+pub record IsUnserved (o : Offering) : Type 0 where
+  pub next : o.next ≡ 0
+  pub stored : receive.stored o.controller.end ≡ []
+  pub loud : receive.is_quiet o.controller.end ≡ false
+
+-- quiet was said only after all frames were decided
+pub record IsOffering (o : Offering) : Type 0 where
+  pub so_far : OfferedSoFar o.input o.controller o.next
+  pub stands : StandsAs o.service (is_serving (receive.controller_state o.controller.end))
+  pub unserved : o.service ≡ Waiting → IsUnserved o
+  pub finished : receive.is_quiet o.controller.end ≡ true → o.next ≡ length o.input.frames
+
+-- the transmit queue of a flow, as its controller serves it
+pub record Wiring : Type 0 where
+  pub to : TableId
+  pub controller : transmit.ControllerSide
+  pub wire : List Bytes
+  pub service : Service
+
+abbrev pub wiring : TableId → transmit.ControllerSide → List Bytes → Service → Wiring
+wiring to controller wire service = record { to = to; controller = controller; wire = wire; service = service }
+
+-- the wire has what was sent
+pub record IsWiring (w : Wiring) : Type 0 where
+  pub own : w.controller.table ≡ w.to
+  pub stands : StandsAs w.service (is_serving (transmit.controller_state w.controller))
+  pub unserved : w.service ≡ Waiting → transmit.sent w.controller ≡ []
+  pub wire : w.wire ≡ frames carried (transmit.sent w.controller)
+
+-- What is known of what came in, whenever the controller's end is given back
+pub record HasOffered (i : Input) (end : receive.ControllerSide) (tally : Tally) : Type 0 where
+  pub own : end.table ≡ i.from
+  pub few_frames : length i.frames ≤ MOST_SCRIPT_FRAMES
+  pub next : ℕ
+  pub few : next ≤ length i.frames
+  pub offered : tally.offered ≡ next
+  pub adds : AddsUp tally
+  pub chosen : Chosen (frames piece_of (receive.stored end)) (take next i.frames)
+  pub stored : tally.stored ≡ length (frames piece_of (receive.stored end))
+  pub full : i.drops ≡ false → frames piece_of (receive.stored end) ≡ fitting i.from.slots i.fill (take next i.frames)
+  pub none_dropped : i.drops ≡ false → tally.dropped ≡ 0
+  pub finished : receive.is_quiet end ≡ true → next ≡ length i.frames
+
+-- both halves together
+pub record HasServed (k : ControllerKey) (s : ControllerDone) : Type 0 where
+  pub input : HasOffered k.input s.rx s.tally
+  pub open input use *
+  pub sends : s.tx.table ≡ k.to
+  pub wire : s.wire ≡ frames carried (transmit.sent s.tx)

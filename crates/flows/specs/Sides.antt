@@ -1,0 +1,20 @@
+-- What contracts see of the two sides of a flow.
+use Rattle.std.specs.Prelude.{Bool, true, false, ◌&&◌}
+use Rattle.flows.specs.Keys.{ControllerKey}
+use Rattle.flows.specs.declared.service.Service.{Service}
+use Rattle.flows.specs.declared.service.Service.TheVariants.{Waiting, Serving, Ended}
+
+-- the controller's side: what it is of, and how far it is with each queue
+pub record Controlling : Type 0 where
+  pub key : ControllerKey
+  pub receiving : Service
+  pub sending : Service
+
+abbrev pub has_ended : Service → Bool
+has_ended Waiting = false
+has_ended Serving = false
+has_ended Ended = true
+
+-- both disablings were answered
+abbrev pub has_served : Controlling → Bool
+has_served c = has_ended c.receiving && has_ended c.sending

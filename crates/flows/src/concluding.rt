@@ -1,0 +1,78 @@
+//! Both sides of a flow meet, once both its queues are disabled.
+ghost use Rattle.std.specs.Prelude.{◌≡◌};
+ghost use Rattle.flows.specs.Driven.{HasDriven};
+ghost use Rattle.flows.specs.Keys.{DriverKey, ControllerKey, plan_of};
+ghost use Rattle.flows.specs.Reports.{IsReport};
+ghost use Rattle.flows.specs.Served.{HasServed};
+
+use crate::counts::Counts;
+use crate::report::{Ended, FlowReport};
+use controller::{Tally, Wire};
+use rx_ring::{RxControllerEnd, RxDriverEnd, RxRing, meet_rx};
+use tx_ring::{TxControllerEnd, TxDriverEnd, TxRing, meet_tx};
+
+/// What the driver's side gives back once it is over.
+#[derive(Drop)]
+pub struct DriverDone {
+    pub rx: RxDriverEnd,
+    pub tx: TxDriverEnd,
+    pub counts: Counts,
+    /// The segments that were stored and not taken when the disabling was answered.
+    pub untaken: u32,
+    /// The segments that were posted and not sent when the disabling was answered.
+    pub unsent: u32,
+    pub ended: Ended,
+}
+
+/// What the controller's side gives back.
+#[derive(Drop)]
+pub struct ControllerDone {
+    pub rx: RxControllerEnd,
+    pub tx: TxControllerEnd,
+    pub tally: Tally,
+    pub wire: Wire,
+}
+
+/// What became of a flow, of which both sides are given with what they know of it.
+pub fn conclude(
+    from: &RxRing,
+    to: &TxRing,
+    driver: DriverDone,
+    controller: ControllerDone,
+) -> FlowReport
+    ghost sides: { DriverKey × ControllerKey }
+    requires from { (sides.0.from ≡ from.now) × (sides.1.input.from ≡ from.now) }
+    requires to { (sides.0.to ≡ to.now) × (sides.1.to ≡ to.now) }
+    requires driven { HasDriven sides.0 driver }
+    requires served { HasServed sides.1 controller }
+    ensures { IsReport (plan_of sides.0 sides.1) result }
+{
+    let DriverDone {
+        mut rx,
+        mut tx,
+        counts,
+        untaken,
+        unsent,
+        ended,
+    } = driver;
+    let ControllerDone {
+        rx: mut storing,
+        tx: mut sending,
+        tally,
+        wire,
+    } = controller;
+    meet_rx(from, &mut rx, &mut storing);
+    meet_tx(to, &mut tx, &mut sending);
+    FlowReport {
+        offered: tally.offered,
+        stored: tally.stored,
+        dropped: tally.dropped,
+        oversize: tally.oversize,
+        taken: counts.taken,
+        posted: counts.posted,
+        tx_dropped: counts.tx_dropped,
+        wire,
+        left: u64::from(untaken) + u64::from(unsent),
+        ended,
+    }
+}

@@ -1,0 +1,126 @@
+//! The controller's side of a flow.
+ghost use Rattle.std.specs.Prelude.{◌≡◌, ◌<◌, ◌≤◌, All, length};
+ghost use Rattle.limits.specs.declared.profile.TheConstants.{MOST_SCRIPT_FRAMES};
+ghost use Rattle.controller.specs.FillSize.{IsFillSize};
+ghost use Rattle.shared_ring.specs.Calls.{IsFreshController};
+ghost use Rattle.flows.specs.Keys.{frames_at};
+ghost use Rattle.flows.specs.Served.{HasServed};
+ghost use Rattle.flows.specs.Sides.{has_served};
+
+use crate::concluding::ControllerDone;
+use crate::offering::Offering;
+use crate::service::Service;
+use crate::wiring::Wiring;
+use controller::Tally;
+use forwarding::{Flow, ForwardError, Gate, Progress};
+use rx_ring::{RxControllerEnd, RxRing};
+use std::alloc::Global;
+use std::marker::Model;
+use std::sync::Wait;
+use tx_ring::{TxControllerEnd, TxRing};
+use wire_script::WireFrame;
+
+/// The controller's side of a flow: it offers the flow's frames to the receive queue, one a turn, and sends what is posted to
+/// the transmit queue onto a wire, one frame a turn. It serves one epoch of each queue, and is over once the disabling of
+/// both is answered.
+///
+/// Contracts see what it is of, and how far each queue is.
+#[derive(Drop)]
+pub struct ControllerFlow<'a> {
+    number: usize,
+    input: Offering<'a>,
+    output: Wiring<'a>,
+}
+
+impl<'a> Model for ControllerFlow<'a> {
+    ghost use Rattle.flows.specs.Sides.{Controlling};
+
+    ghost Value = { Controlling };
+
+    ghost view = { λ f. record { key = record { number = f.number; input = f.input.input; to = f.output.to }; receiving = f.input.service; sending = f.output.service } };
+}
+
+impl<'a> ControllerFlow<'a> {
+    /// The side of flow `number`, whose frames are those at these places of the script, in order. The ends have done nothing
+    /// yet. Buffers are filled to `bsize` bytes; where too few descriptors are free a frame is dropped with `drop_en`, and
+    /// else held.
+    pub fn new(
+        alloc: Global,
+        number: usize,
+        rings: (&'a RxRing, &'a TxRing),
+        ends: (RxControllerEnd, TxControllerEnd),
+        frames: (&'a [WireFrame], &'a [u32]),
+        bsize: usize,
+        drop_en: bool,
+    ) -> ControllerFlow<'a>
+        requires from { ends.0.table ≡ rings.0.now }
+        requires to { ends.1.table ≡ rings.1.now }
+        requires fresh { IsFreshController ends.0 × IsFreshController ends.1 }
+        requires bsize { IsFillSize bsize }
+        requires few { length frames.1.now ≤ MOST_SCRIPT_FRAMES }
+        requires places { All (λ k. k < length frames.0.now) frames.1.now }
+        ensures { result.key ≡ record { number = number; input = record { from = rings.entry.0.now; frames = frames_at frames.entry.0.now frames.entry.1.now; fill = bsize; drops = drop_en }; to = rings.entry.1.now } }
+    {
+        ControllerFlow {
+            number,
+            input: Offering::new(rings.0, ends.0, frames.0, frames.1, bsize, drop_en),
+            output: Wiring::new(alloc, rings.1, ends.1),
+        }
+    }
+
+    /// How many frames were offered, and what became of them.
+    pub fn tally(&self) -> Tally {
+        self.input.tally()
+    }
+
+    /// Whether both disablings were answered.
+    #[inline]
+    pub fn has_served(&self) -> bool
+        ensures { result ≡ has_served self.now }
+    {
+        self.input.service() == Service::Ended && self.output.service() == Service::Ended
+    }
+
+    /// Both ends, the tally and the wire, wherever the flow stands.
+    pub fn into_done(self) -> ControllerDone
+        ensures { HasServed self.entry.key result }
+    {
+        let (rx, tally) = self.input.into_end();
+        let (tx, wire) = self.output.into_end();
+        ControllerDone {
+            rx,
+            tx,
+            tally,
+            wire,
+        }
+    }
+}
+
+impl<'a> Flow for ControllerFlow<'a> {
+    ghost use Rattle.flows.specs.Keys.{ControllerKey};
+    ghost use Rattle.flows.specs.Sides.{has_served};
+
+    ghost Key = { ControllerKey };
+
+    ghost key = { λ f. f.key };
+
+    ghost over = { λ f. has_served f };
+
+    fn turn<R: Wait, G: Gate>(&mut self, _rt: &R, gate: &G) -> Result<Progress, ForwardError> {
+        let asked = self.input.shake();
+        let told = self.output.shake();
+        let decided = self.input.offer(self.number, gate)?;
+        let sent = self.output.send(self.number, gate)?;
+        Ok(if self.has_served() {
+            Progress::Over
+        } else if asked || told || decided || sent {
+            Progress::Worked
+        } else {
+            Progress::Idle
+        })
+    }
+
+    fn is_over(&self) -> bool {
+        self.has_served()
+    }
+}

@@ -1,0 +1,72 @@
+//! The buffers of a flow, between its stash and the pool.
+ghost use Rattle.std.specs.Prelude.{◌≡◌, ◌≤◌, [], ◌++◌, length};
+ghost use Rattle.driver.specs.declared.rx_driver.TheConstants.{MOST_BATCH};
+ghost use Rattle.driver.specs.receive.Returns.{numbers_of};
+ghost use Rattle.driver.specs.transmit.Frames.{numbers_in};
+ghost use Rattle.pool.specs.Owned.{IsOf};
+ghost use Rattle.flows.specs.Holding.{Holds, Keeps};
+
+use arrayvec::ArrayVec;
+use buffer_pool::{Packet, Stash};
+use driver::MOST_BATCH;
+use pool::{Pool, PoolPass};
+use std::sync::Wait;
+
+/// Drops the packets that wait, and answers how many these were. Their buffers go to the stash, and to the pool where that is
+/// full.
+pub(crate) fn drop_packets<R: Wait>(
+    rt: &R,
+    pool: &Pool,
+    pass: &mut PoolPass,
+    stash: &mut Stash,
+    packets: &mut ArrayVec<Packet, MOST_BATCH>,
+) -> usize
+    requires pool { IsOf pool.now pass.old }
+    requires held { Holds pass.old.hand.held (stash.old ++ numbers_in packets.old.items) }
+    ensures pool { IsOf pool.now pass.new }
+    ensures count { result ≡ length packets.old.items }
+    ensures few { result ≤ MOST_BATCH }
+    ensures none { packets.new.items ≡ [] }
+    ensures kept { Keeps pass.old.hand.held (stash.old ++ numbers_in packets.old.items) pass.new.hand.held stash.new }
+{
+    let count = packets.len();
+    while let Some(packet) = packets.pop() {
+        drop_packet(rt, pool, pass, stash, packet);
+    }
+    count
+}
+
+/// Drops a packet.
+fn drop_packet<R: Wait>(
+    rt: &R,
+    pool: &Pool,
+    pass: &mut PoolPass,
+    stash: &mut Stash,
+    mut packet: Packet,
+)
+    requires pool { IsOf pool.now pass.old }
+    requires held { Holds pass.old.hand.held (stash.old ++ numbers_of packet) }
+    ensures pool { IsOf pool.now pass.new }
+    ensures kept { Keeps pass.old.hand.held (stash.old ++ numbers_of packet) pass.new.hand.held stash.new }
+{
+    while let Some(buf) = packet.pop_front() {
+        if stash.is_full() {
+            pool.give(rt, pass, buf);
+        } else {
+            stash.push(buf);
+        }
+    }
+}
+
+/// Gives the whole stash to the pool.
+pub(crate) fn give_stash<R: Wait>(rt: &R, pool: &Pool, pass: &mut PoolPass, stash: &mut Stash)
+    requires pool { IsOf pool.now pass.old }
+    requires held { Holds pass.old.hand.held stash.old }
+    ensures pool { IsOf pool.now pass.new }
+    ensures none { stash.new ≡ [] }
+    ensures kept { Keeps pass.old.hand.held stash.old pass.new.hand.held [] }
+{
+    while let Some(buf) = stash.take() {
+        pool.give(rt, pass, buf);
+    }
+}

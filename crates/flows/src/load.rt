@@ -1,0 +1,130 @@
+//! Both drivers of a flow, with the buffers that it holds.
+ghost use Rattle.std.specs.Prelude.{◌≡◌, ◌<◌, ◌≤◌, true, [], length, map, IfOk, IfErr};
+ghost use Rattle.ring_model.specs.declared.states.DriverState.TheVariants.{Stopping};
+ghost use Rattle.buffer_pool.specs.Packed.{bytes_of};
+ghost use Rattle.driver.specs.declared.rx_driver.TheConstants.{MOST_BATCH};
+ghost use Rattle.ring_model.specs.shared.Handshakes.{is_on};
+ghost use Rattle.rx_ring.specs.Ends as receive;
+ghost use Rattle.tx_ring.specs.Ends as transmit;
+ghost use Rattle.forwarding.specs.declared.error.ForwardError.TheVariants.{Gate as GateRefused};
+ghost use Rattle.forwarding.specs.declared.gate.Who.TheVariants as who;
+ghost use Rattle.forwarding.specs.Gates.{MayRefuse};
+ghost use Rattle.flows.specs.Driven.{IsLoaded, KnowsAsBefore, Relayed, RxAsBefore, TxAsBefore, driving_of};
+
+use crate::counts::Counts;
+use crate::holding::drop_packets;
+use arrayvec::ArrayVec;
+use buffer_pool::{Packet, Stash};
+use driver::{MOST_BATCH, RxDriver, TxDriver};
+use forwarding::{ForwardError, Gate, Turned, drive};
+use pool::{Pool, PoolPass};
+use rx_ring::RxRing;
+use std::marker::Model;
+use std::sync::Wait;
+use tx_ring::TxRing;
+
+/// What a driver's side is of: the flow's number, its two rings and the pool, whether packets that stayed are kept (else they
+/// are dropped), and after how many turns the flow is cut (0: never).
+#[derive(Drop)]
+pub struct Task<'a> {
+    pub number: usize,
+    pub from: &'a RxRing,
+    pub to: &'a TxRing,
+    pub pool: &'a Pool,
+    pub retry: bool,
+    pub turns: u32,
+}
+
+impl<'a> Model for Task<'a> {
+    ghost use Rattle.flows.specs.Keys.{DriverKey};
+
+    ghost Value = { DriverKey };
+
+    ghost view = { λ t. record { number = t.number; from = t.from.now; to = t.to.now; pool = t.pool.now; retries = t.retry; turns = t.turns } };
+}
+
+/// Both drivers, the stash, the packets that wait, and the pass by which all buffers of these are held.
+#[derive(Drop)]
+pub(crate) struct Load {
+    pub rx: RxDriver,
+    pub tx: TxDriver,
+    pub stash: Stash,
+    pub packets: ArrayVec<Packet, MOST_BATCH>,
+    pub pass: PoolPass,
+}
+
+impl Load {
+    /// Takes a batch, touches it, posts what waits, and drops what then stays unless that is kept; and counts all of these.
+    pub(crate) fn relay<R: Wait, G: Gate>(
+        &mut self,
+        rt: &R,
+        gate: &G,
+        task: &Task<'_>,
+        counts: &mut Counts,
+    ) -> Result<Turned, ForwardError>
+        requires loaded { IsLoaded task.now self.old.pass (driving_of self.old) }
+        requires rx { is_on (receive.driver_state self.old.rx.end) ≡ true }
+        requires tx { is_on (transmit.driver_state self.old.tx.end) ≡ true }
+        requires relayed { Relayed task.now.retries self.old.rx.end self.old.tx.end counts.old (map bytes_of self.old.packets.items) }
+        ensures loaded { IsLoaded task.now self.new.pass (driving_of self.new) }
+        ensures rx { is_on (receive.driver_state self.new.rx.end) ≡ true }
+        ensures tx { is_on (transmit.driver_state self.new.tx.end) ≡ true }
+        ensures relayed { Relayed task.now.retries self.new.rx.end self.new.tx.end counts.new (map bytes_of self.new.packets.items) }
+        ensures quiet { receive.saw_quiet self.new.rx.end ≡ receive.saw_quiet self.old.rx.end }
+        ensures drained { IfOk result (λ t. receive.saw_quiet self.old.rx.end ≡ true → t.taken ≡ 0 → length self.old.packets.items < MOST_BATCH → receive.is_drained self.new.rx.end ≡ true) }
+        ensures refusal { IfErr result (λ e. (e ≡ GateRefused) × MayRefuse G.answers gate.now (who.Driver task.now.number)) }
+    {
+        let had = self.packets.len();
+        let _batch = self.rx.batch(); // which says that it isn't 0
+        let turned = match drive(
+            &mut self.rx,
+            &mut self.tx,
+            task.from,
+            task.to,
+            &mut self.stash,
+            &mut self.packets,
+            task.number,
+            gate,
+        ) {
+            Ok(turned) => turned,
+            Err(e) => {
+                *counts = counts.counted(self.packets.len().saturating_sub(had), 0, 0);
+                return Err(e);
+            }
+        };
+        if task.retry {
+            *counts = counts.counted(turned.taken, turned.posted, 0);
+            return Ok(turned);
+        }
+        let (pool, pass) = (task.pool, &mut self.pass);
+        let dropped = drop_packets(rt, pool, pass, &mut self.stash, &mut self.packets);
+        *counts = counts.counted(turned.taken, turned.posted, dropped);
+        Ok(turned)
+    }
+
+    /// Whether no chain and no packet waits, and all that was posted is cleaned.
+    pub(crate) fn is_clean(&self) -> bool
+        requires { is_on (transmit.driver_state self.now.tx.end) ≡ true }
+        ensures packets { result ≡ true → self.now.packets.items ≡ [] }
+        ensures cleaned { result ≡ true → length (transmit.posted self.now.tx.end) ≤ length (transmit.cleaned self.now.tx.end) }
+    {
+        !self.rx.has_chain() && self.packets.is_empty() && self.tx.room() == self.tx.size() - 1
+    }
+
+    /// Asks for the disabling of both queues.
+    pub(crate) fn close(&mut self, task: &Task<'_>)
+        requires from { self.old.rx.end.table ≡ task.now.from }
+        requires to { self.old.tx.end.table ≡ task.now.to }
+        requires rx { is_on (receive.driver_state self.old.rx.end) ≡ true }
+        requires tx { is_on (transmit.driver_state self.old.tx.end) ≡ true }
+        ensures rx { RxAsBefore self.old.rx self.new.rx }
+        ensures known { KnowsAsBefore self.old.rx self.new.rx }
+        ensures tx { TxAsBefore self.old.tx self.new.tx }
+        ensures stopping { (receive.driver_state self.new.rx.end ≡ Stopping) × (transmit.driver_state self.new.tx.end ≡ Stopping) }
+        ensures rest { self.new ≡ record self.old { rx = self.new.rx; tx = self.new.tx } }
+    {
+        let (Ok(()), Ok(())) = (self.rx.ask_disable(task.from), self.tx.ask_disable(task.to)) else {
+            unreachable!()
+        };
+    }
+}

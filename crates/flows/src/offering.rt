@@ -1,0 +1,126 @@
+//! The receive queue of a flow, as its controller serves it.
+ghost use Rattle.std.specs.Prelude.{◌≡◌, ◌<◌, ◌≤◌, All, length, [], IfErr};
+ghost use Rattle.limits.specs.declared.profile.TheConstants.{MOST_SCRIPT_FRAMES};
+ghost use Rattle.controller.specs.FillSize.{IsFillSize};
+ghost use Rattle.rx_ring.specs.Calls.{IsFreshController};
+ghost use Rattle.forwarding.specs.Gates.{Met};
+ghost use Rattle.flows.specs.Keys.{frames_at};
+ghost use Rattle.flows.specs.Served.{HasOffered};
+
+use crate::service::{Service, is_decided};
+use controller::{RxController, Tally};
+use forwarding::{Event, ForwardError, Gate, Who, admit};
+use rx_ring::{RxControllerEnd, RxRing};
+use std::marker::Model;
+use wire_script::WireFrame;
+
+/// The frames of a flow, which are offered one after another.
+#[derive(Drop)]
+pub(crate) struct Offering<'a> {
+    ring: &'a RxRing,
+    script: &'a [WireFrame],
+    places: &'a [u32],
+    controller: RxController,
+    next: usize,
+    service: Service,
+}
+
+impl<'a> Model for Offering<'a> {
+    ghost use Rattle.std.specs.Prelude.{◌<◌, All, length};
+    ghost use Rattle.flows.specs.Keys.{frames_at};
+    ghost use Rattle.flows.specs.Served.{Offering, IsOffering, offering};
+
+    ghost Value = { Offering };
+
+    ghost view = { λ o. offering o.ring.now (frames_at o.script.now o.places.now) o.controller o.next o.service };
+
+    ghost invariant = { λ o. IsOffering (offering o.ring.now (frames_at o.script.now o.places.now) o.controller o.next o.service) × All (λ k. k < length o.script.now) o.places.now };
+}
+
+impl<'a> Offering<'a> {
+    /// The frames of a script at these places, in order. Nothing was done yet.
+    pub(crate) fn new(
+        ring: &'a RxRing,
+        end: RxControllerEnd,
+        script: &'a [WireFrame],
+        places: &'a [u32],
+        bsize: usize,
+        drop_en: bool,
+    ) -> Offering<'a>
+        requires own { end.table ≡ ring.now }
+        requires fresh { IsFreshController end }
+        requires bsize { IsFillSize bsize }
+        requires few { length places.now ≤ MOST_SCRIPT_FRAMES }
+        requires places { All (λ k. k < length script.now) places.now }
+        ensures { result.input ≡ record { from = ring.now; frames = frames_at script.now places.now; fill = bsize; drops = drop_en } }
+    {
+        Offering {
+            ring,
+            script,
+            places,
+            controller: RxController::new(end, bsize, drop_en),
+            next: 0,
+            service: Service::Waiting,
+        }
+    }
+
+    /// Answers what is asked, if anything is, and tells whether that was so. Once a disabling is answered nothing is done.
+    pub(crate) fn shake(&mut self) -> bool
+        ensures input { self.new.input ≡ self.old.input }
+    {
+        if self.service == Service::Ended {
+            return false;
+        }
+        self.controller.turn_control(self.ring);
+        let service = self.service.after(self.controller.is_serving());
+        let moved = service != self.service;
+        self.service = service;
+        moved
+    }
+
+    /// Offers the next frame where the queue is enabled, and tells whether that decided on it. Once all are decided it
+    /// says that no more comes.
+    pub(crate) fn offer<G: Gate>(&mut self, number: usize, gate: &G) -> Result<bool, ForwardError>
+        ensures input { self.new.input ≡ self.old.input }
+        ensures refused { IfErr result (λ e. Met G.answers gate.now e) }
+    {
+        if self.service != Service::Serving {
+            return Ok(false);
+        }
+        if self.next == self.places.len() {
+            return Ok(self.controller.finish(self.ring));
+        }
+        admit(gate, Who::Controller(number), Event::Offer)?;
+        let frame = self.script[self.places[self.next] as usize].bytes();
+        let Ok(offer) = self.controller.offer(self.ring, frame) else {
+            unreachable!()
+        };
+        let decided = is_decided(offer);
+        if decided {
+            self.next += 1;
+        }
+        Ok(decided)
+    }
+
+    /// How far the queue is.
+    pub(crate) fn service(&self) -> Service
+        ensures { result ≡ self.now.service }
+    {
+        self.service
+    }
+
+    /// What became of the frames.
+    pub(crate) fn tally(&self) -> Tally
+        ensures { result ≡ self.now.controller.tally }
+    {
+        self.controller.tally()
+    }
+
+    /// The end, and what became of the frames.
+    pub(crate) fn into_end(self) -> (RxControllerEnd, Tally)
+        ensures { HasOffered self.entry.input result.0 result.1 }
+    {
+        let tally = self.controller.tally();
+        (self.controller.into_end(), tally)
+    }
+}

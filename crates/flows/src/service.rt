@@ -1,0 +1,38 @@
+//! How far a controller is with a queue.
+ghost use Rattle.std.specs.Prelude.{◌≡◌, true, false};
+ghost use Rattle.flows.specs.Served.{after, decides};
+
+use controller::Offer;
+
+/// How far a controller is with a queue, of which it serves one epoch.
+#[derive(Clone, Copy, Debug, PartialEq, Eq)]
+pub enum Service {
+    /// The enabling was not answered yet.
+    Waiting,
+    /// The enabling was answered.
+    Serving,
+    /// The disabling was answered: nothing is left to do.
+    Ended,
+}
+
+impl Service {
+    /// How far it is, where it serves the queue now, or does not.
+    #[inline]
+    pub(crate) fn after(self, serves: bool) -> Service
+        ensures { result ≡ after self serves }
+    {
+        match (self, serves) {
+            (Service::Waiting, true) => Service::Serving,
+            (Service::Serving, false) => Service::Ended,
+            (service, _) => service,
+        }
+    }
+}
+
+/// Whether the offer decides on its frame, so that it isn't offered again.
+#[inline]
+pub(crate) fn is_decided(offer: Offer) -> bool
+    ensures { result ≡ decides offer }
+{
+    matches!(offer, Offer::Stored | Offer::Dropped | Offer::Oversize)
+}

@@ -1,0 +1,155 @@
+//! A turn of a driver's side, phase by phase.
+ghost use Rattle.std.specs.Prelude.{◌≡◌, [], IfOk, IfErr, OnErr};
+ghost use Rattle.forwarding.specs.Gates.{Met};
+ghost use Rattle.flows.specs.declared.phase.Phase.TheVariants as phase;
+ghost use Rattle.flows.specs.Driven.{IsLoaded, IsRelaying, driving_of, relaying};
+
+use crate::counts::Counts;
+use crate::disabling::{finish_rx, finish_tx};
+use crate::holding::{drop_packets, give_stash};
+use crate::load::{Load, Task};
+use crate::phase::{Left, Phase};
+use crate::report::Ended;
+use driver::MOST_BATCH;
+use forwarding::{ForwardError, Gate};
+use std::sync::Wait;
+
+impl Load {
+    /// One turn in this phase, and the phase that comes then. Where the gate refuses it stays the same.
+    pub(crate) fn step<R: Wait, G: Gate>(
+        &mut self,
+        rt: &R,
+        gate: &G,
+        task: &Task<'_>,
+        counts: &mut Counts,
+        at: Phase,
+    ) -> Result<Phase, ForwardError>
+        requires { IsRelaying (relaying task.now self.old counts.old at) }
+        ensures went { IfOk result (λ next. IsRelaying (relaying task.now self.new counts.new next)) }
+        ensures stayed { OnErr result (IsRelaying (relaying task.now self.new counts.new at)) }
+        ensures refused { IfErr result (λ e. Met G.answers gate.now e) }
+    {
+        match at {
+            Phase::EnablingTx => Ok(self.enable_tx(task, *counts)),
+            Phase::EnablingRx => Ok(self.enable_rx(task, *counts)),
+            Phase::Forwarding(made) => self.forward(rt, gate, task, counts, made),
+            Phase::Disabling(ended, untaken, unsent) => {
+                Ok(self.finish(task, *counts, ended, untaken, unsent))
+            }
+            Phase::Reclaiming(left) => Ok(self.reclaim(rt, task, *counts, left)),
+            Phase::Over(left) => Ok(Phase::Over(left)),
+        }
+    }
+
+    /// Has the transmit queue enabled.
+    fn enable_tx(&mut self, task: &Task<'_>, counts: Counts) -> Phase
+        requires { IsRelaying (relaying task.now self.old counts phase.EnablingTx) }
+        ensures { IsRelaying (relaying task.now self.new counts result) }
+    {
+        match self.tx.enable(task.to) {
+            Ok(true) => Phase::EnablingRx,
+            _ => Phase::EnablingTx,
+        }
+    }
+
+    /// Has the receive queue enabled.
+    fn enable_rx(&mut self, task: &Task<'_>, counts: Counts) -> Phase
+        requires { IsRelaying (relaying task.now self.old counts phase.EnablingRx) }
+        ensures { IsRelaying (relaying task.now self.new counts result) }
+    {
+        match self.rx.enable(task.from) {
+            Ok(true) => Phase::Forwarding(0),
+            _ => Phase::EnablingRx,
+        }
+    }
+
+    /// A turn for an enabled flow. The quiet word is loaded first: where it was set, and then nothing was taken though there
+    /// was room, nothing is left to take.
+    fn forward<R: Wait, G: Gate>(
+        &mut self,
+        rt: &R,
+        gate: &G,
+        task: &Task<'_>,
+        counts: &mut Counts,
+        made: u32,
+    ) -> Result<Phase, ForwardError>
+        requires { IsRelaying (relaying task.now self.old counts.old (phase.Forwarding made)) }
+        ensures went { IfOk result (λ next. IsRelaying (relaying task.now self.new counts.new next)) }
+        ensures stayed { OnErr result (IsRelaying (relaying task.now self.new counts.new (phase.Forwarding made))) }
+        ensures refused { IfErr result (λ e. Met G.answers gate.now e) }
+    {
+        let quiet = self.rx.is_quiet(task.from);
+        let room = self.packets.len() < MOST_BATCH;
+        let turned = self.relay(rt, gate, task, counts)?;
+        if quiet && room && turned.taken == 0 && self.is_clean() {
+            self.close(task);
+            return Ok(Phase::Disabling(Ended::Drained, None, None));
+        }
+        if task.turns == 0 {
+            return Ok(Phase::Forwarding(made));
+        }
+        if made < task.turns - 1 {
+            return Ok(Phase::Forwarding(made + 1));
+        }
+        self.close(task);
+        Ok(Phase::Disabling(Ended::Cut, None, None))
+    }
+
+    /// Waits for the answers to both disablings.
+    fn finish(
+        &mut self,
+        task: &Task<'_>,
+        counts: Counts,
+        ended: Ended,
+        untaken: Option<u32>,
+        unsent: Option<u32>,
+    ) -> Phase
+        requires { IsRelaying (relaying task.now self.old counts (phase.Disabling ended untaken unsent)) }
+        ensures { IsRelaying (relaying task.now self.new counts result) }
+    {
+        let untaken = finish_rx(&mut self.rx, task.from, untaken);
+        let unsent = finish_tx(&mut self.tx, task.to, unsent);
+        match (untaken, unsent) {
+            (Some(untaken), Some(unsent)) => Phase::Reclaiming(Left {
+                ended,
+                untaken,
+                unsent,
+            }),
+            (untaken, unsent) => Phase::Disabling(ended, untaken, unsent),
+        }
+    }
+
+    /// Gives the packets that wait and the stash to the pool, and fills the stash with buffers of both queues; where all are
+    /// back, gives these too.
+    fn reclaim<R: Wait>(&mut self, rt: &R, task: &Task<'_>, counts: Counts, left: Left) -> Phase
+        requires { IsRelaying (relaying task.now self.old counts (phase.Reclaiming left)) }
+        ensures { IsRelaying (relaying task.now self.new counts result) }
+    {
+        self.give_at_hand(rt, task);
+        if self.rx.reclaim_into(task.from, &mut self.stash).is_err() {
+            return Phase::Reclaiming(left);
+        }
+        if self.tx.reclaim_into(task.to, &mut self.stash).is_err() {
+            return Phase::Reclaiming(left);
+        }
+        self.give_at_hand(rt, task);
+        Phase::Over(left)
+    }
+
+    /// Gives what is at hand to the pool: the packets that wait and the stash.
+    fn give_at_hand<R: Wait>(&mut self, rt: &R, task: &Task<'_>)
+        requires { IsLoaded task.now self.old.pass (driving_of self.old) }
+        ensures loaded { IsLoaded task.now self.new.pass (driving_of self.new) }
+        ensures none { (self.new.stash ≡ []) × (self.new.packets.items ≡ []) }
+        ensures drivers { (self.new.rx ≡ self.old.rx) × (self.new.tx ≡ self.old.tx) }
+    {
+        drop_packets(
+            rt,
+            task.pool,
+            &mut self.pass,
+            &mut self.stash,
+            &mut self.packets,
+        );
+        give_stash(rt, task.pool, &mut self.pass, &mut self.stash);
+    }
+}

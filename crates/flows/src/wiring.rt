@@ -1,0 +1,94 @@
+//! The transmit queue of a flow, as its controller serves it.
+ghost use Rattle.std.specs.Prelude.{◌≡◌, [], IfErr};
+ghost use Rattle.tx_ring.specs.Ends.{sent};
+ghost use Rattle.ring_model.specs.shared.Frames.{frames};
+ghost use Rattle.ring_model.specs.transmit.Ring.{carried};
+ghost use Rattle.shared_ring.specs.Calls.{IsFreshController};
+ghost use Rattle.forwarding.specs.Gates.{Met};
+
+use crate::service::Service;
+use controller::{Turn, TxController, Wire};
+use forwarding::{Event, ForwardError, Gate, Who, admit};
+use std::alloc::Global;
+use std::marker::Model;
+use tx_ring::{TxControllerEnd, TxRing};
+
+/// What goes out of a flow, onto its wire.
+#[derive(Drop)]
+pub(crate) struct Wiring<'a> {
+    ring: &'a TxRing,
+    controller: TxController,
+    wire: Wire,
+    service: Service,
+}
+
+impl<'a> Model for Wiring<'a> {
+    ghost use Rattle.flows.specs.Served.{Wiring, IsWiring, wiring};
+
+    ghost Value = { Wiring };
+
+    ghost view = { λ w. wiring w.ring.now w.controller w.wire w.service };
+
+    ghost invariant = { λ w. IsWiring (wiring w.ring.now w.controller w.wire w.service) };
+}
+
+impl<'a> Wiring<'a> {
+    /// A wire on which nothing went out yet.
+    pub(crate) fn new(alloc: Global, ring: &'a TxRing, end: TxControllerEnd) -> Wiring<'a>
+        requires own { end.table ≡ ring.now }
+        requires fresh { IsFreshController end }
+        ensures { result.to ≡ ring.now }
+    {
+        Wiring {
+            ring,
+            controller: TxController::new(end),
+            wire: Wire::new(alloc),
+            service: Service::Waiting,
+        }
+    }
+
+    /// Answers what is asked, if anything is, and tells whether that was so. Once a disabling is answered nothing is done.
+    pub(crate) fn shake(&mut self) -> bool
+        ensures { self.new.to ≡ self.old.to }
+    {
+        if self.service == Service::Ended {
+            return false;
+        }
+        self.controller.turn_control(self.ring);
+        let service = self.service.after(self.controller.is_serving());
+        let moved = service != self.service;
+        self.service = service;
+        moved
+    }
+
+    /// Sends the next frame where the queue is enabled, and tells whether there was one. `Memory` where the wire couldn't
+    /// grow: then the frame is sent by the next call.
+    pub(crate) fn send<G: Gate>(&mut self, number: usize, gate: &G) -> Result<bool, ForwardError>
+        ensures to { self.new.to ≡ self.old.to }
+        ensures refused { IfErr result (λ e. Met G.answers gate.now e) }
+    {
+        if self.service != Service::Serving {
+            return Ok(false);
+        }
+        admit(gate, Who::Controller(number), Event::TxTurn)?;
+        match self.controller.turn(self.ring, &mut self.wire) {
+            Ok(turn) => Ok(turn == Turn::Sent),
+            Err(_) => Err(ForwardError::Memory),
+        }
+    }
+
+    /// How far the queue is.
+    pub(crate) fn service(&self) -> Service
+        ensures { result ≡ self.now.service }
+    {
+        self.service
+    }
+
+    /// The end and the wire, which has what was sent.
+    pub(crate) fn into_end(self) -> (TxControllerEnd, Wire)
+        ensures own { result.0.table ≡ self.entry.to }
+        ensures wire { result.1 ≡ frames carried (sent result.0) }
+    {
+        (self.controller.into_end(), self.wire)
+    }
+}

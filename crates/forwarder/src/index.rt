@@ -1,0 +1,100 @@
+//! The frames of a script, flow by flow.
+ghost use Rattle.std.specs.Prelude.{◌≡◌, ℕ, ◌*◌, ◌<◌, ◌≤◌, [], All, IfOk, length, vec_len, slice_index_or};
+ghost use Rattle.limits.specs.declared.profile.TheConstants.{MOST_PAIRS, PORTS};
+ghost use Rattle.forwarder.specs.Flows.{flow_of, places_of};
+
+use limits::{MOST_PAIRS, PORTS};
+use std::alloc::{AllocError, Global};
+use std::marker::Model;
+use wire_script::{Script, WireFrame};
+
+/// The most flows: a queue pair of either port.
+const MOST_FLOWS: usize = PORTS * MOST_PAIRS;
+
+/// For each flow the places of its frames in the script, in their order: 4 bytes a frame. Flow `f` comes
+/// in at port `f / pairs`, queue `f % pairs`.
+#[derive(Drop)]
+pub struct Index {
+    flows: Vec<Vec<u32>>,
+}
+
+impl Model for Index {
+    ghost use Rattle.std.specs.Prelude.{ℕ, List, map};
+
+    ghost Value = { List (List ℕ) };
+
+    ghost view = { λ x. map (λ v. v.items) x.flows.items };
+}
+
+/// The flow of a frame.
+fn flow_of(frame: &WireFrame, pairs: u32) -> usize
+    requires pairs { pairs ≤ MOST_PAIRS }
+    requires queue { frame.now.queue < pairs }
+    ensures is { result ≡ flow_of pairs frame.now }
+    ensures few { result < PORTS * pairs }
+{
+    usize::from(frame.port()) * pairs as usize + usize::from(frame.queue())
+}
+
+/// How many frames each flow has, so that room for them is taken once.
+fn counts(frames: &[WireFrame], pairs: u32) -> [usize; MOST_FLOWS]
+    requires pairs { pairs ≤ MOST_PAIRS }
+    requires queues { All (λ f. f.queue < pairs) frames.now }
+{
+    let mut counts = [0usize; MOST_FLOWS];
+    for frame in frames {
+        let flow = flow_of(frame, pairs);
+        counts[flow] = counts[flow].saturating_add(1);
+    }
+    counts
+}
+
+/// An empty list for each flow, with room for so many places.
+fn rooms(
+    alloc: Global,
+    counts: &[usize; MOST_FLOWS],
+    flows: usize,
+) -> Result<Vec<Vec<u32>>, AllocError>
+    requires { flows ≤ PORTS * MOST_PAIRS }
+    ensures flows { IfOk result (λ v. vec_len v ≡ flows) }
+    ensures empty { IfOk result (λ v. (k : ℕ) (d : _) → k < flows → (slice_index_or v.items k d).items ≡ []) }
+{
+    let mut rooms = Vec::with_capacity(alloc, flows)?;
+    for flow in 0..flows {
+        rooms.push(Vec::with_capacity(alloc, counts[flow])?)?;
+    }
+    Ok(rooms)
+}
+
+impl Index {
+    /// The index of a script all of whose queues are below `pairs`.
+    pub fn of(alloc: Global, script: &Script, pairs: u32) -> Result<Index, AllocError>
+        requires pairs { pairs ≤ MOST_PAIRS }
+        requires queues { All (λ f. f.queue < pairs) script.now }
+        ensures flows { IfOk result (λ x. length x ≡ PORTS * pairs) }
+        ensures places { IfOk result (λ x. (flow : ℕ) (d : _) → flow < PORTS * pairs → slice_index_or x flow d ≡ places_of pairs flow script.now) }
+    {
+        let frames = script.frames();
+        let mut flows = rooms(alloc, &counts(frames, pairs), PORTS * pairs as usize)?;
+        for k in 0..frames.len() {
+            let flow = flow_of(&frames[k], pairs);
+            flows[flow].push(k as u32)?;
+        }
+        Ok(Index { flows })
+    }
+
+    /// How many flows there are.
+    pub fn len(&self) -> usize
+        ensures { result ≡ length self.now }
+    {
+        self.flows.len()
+    }
+
+    /// The places in the script of a flow's frames, in their order.
+    pub fn places(&self, flow: usize) -> &[u32]
+        requires { flow < length self.now }
+        ensures { (d : _) → result.now ≡ slice_index_or self.now flow d }
+    {
+        &self.flows[flow]
+    }
+}

@@ -1,0 +1,12 @@
+//! The two-port forwarder.
+//!
+//! A [`Config`] says how it is to run, and is tested before anything else is done. An [`Index`] has the
+//! frames of a script flow by flow.
+#![tactic(auto)]
+
+mod config;
+mod index;
+mod lines;
+
+pub use config::Config;
+pub use index::Index;

@@ -1,0 +1,76 @@
+//! The rings of all flows.
+ghost use Rattle.std.specs.Prelude.{◌≡◌, ℕ, ◌*◌, ◌<◌, IfOk, IfErr, vec_len, slice_index_or};
+ghost use Rattle.limits.specs.RingLength.{IsRingLength};
+ghost use Rattle.limits.specs.declared.profile.TheConstants.{MOST_PAIRS, PORTS};
+ghost use Rattle.forwarding.specs.declared.error.ForwardError.TheVariants.{Memory};
+ghost use Rattle.forwarder.specs.Configs.{HasLawfulQueues};
+ghost use Rattle.forwarder.specs.Lines.{AreEnds};
+
+use crate::config::Config;
+use forwarding::ForwardError;
+use limits::PORTS;
+use rx_ring::{RxControllerEnd, RxDriverEnd, RxRing};
+use std::alloc::Global;
+use tx_ring::{Completion, TxControllerEnd, TxDriverEnd, TxRing};
+
+/// The two rings of a flow: its frames come in by one and go out by the other.
+#[derive(Drop)]
+pub(crate) struct Line {
+    pub from: RxRing,
+    pub to: TxRing,
+}
+
+/// The ends of a flow's two rings: a driver takes and posts, a controller stores and sends.
+#[derive(Drop)]
+pub(crate) struct LineEnds {
+    pub takes: RxDriverEnd,
+    pub stores: RxControllerEnd,
+    pub posts: TxDriverEnd,
+    pub sends: TxControllerEnd,
+}
+
+/// The two rings of one flow, with their ends.
+fn make_line(
+    alloc: Global,
+    n: u32,
+    completion: Completion,
+) -> Result<(Line, LineEnds), ForwardError>
+    requires { IsRingLength n }
+    ensures refused { IfErr result (λ e. e ≡ Memory) }
+    ensures made { IfOk result (λ r. AreEnds n completion r.0 r.1) }
+{
+    let Ok((from, takes, stores)) = RxRing::new(alloc, n) else {
+        return Err(ForwardError::Memory);
+    };
+    let Ok((to, posts, sends)) = TxRing::new_with(alloc, n, completion) else {
+        return Err(ForwardError::Memory);
+    };
+    let ends = LineEnds {
+        takes,
+        stores,
+        posts,
+        sends,
+    };
+    Ok((Line { from, to }, ends))
+}
+
+/// The rings of all flows, and their ends, in the order of the flows.
+pub(crate) fn make_lines(
+    alloc: Global,
+    config: &Config,
+) -> Result<(Vec<Line>, Vec<LineEnds>), ForwardError>
+    requires { HasLawfulQueues config.now }
+    ensures refused { IfErr result (λ e. e ≡ Memory) }
+    ensures flows { IfOk result (λ r. (vec_len r.0 ≡ PORTS * config.now.pairs) × (vec_len r.1 ≡ PORTS * config.now.pairs)) }
+    ensures made { IfOk result (λ r. (k : ℕ) (d : _) (e : _) → k < PORTS * config.now.pairs → AreEnds config.now.ring config.now.completion (slice_index_or r.0.items k d) (slice_index_or r.1.items k e)) }
+{
+    let flows = PORTS * config.pairs as usize;
+    let mut lines = Vec::with_capacity(alloc, flows)?;
+    let mut ends = Vec::with_capacity(alloc, flows)?;
+    for _ in 0..flows {
+        let (line, own) = make_line(alloc, config.ring, config.completion)?;
+        lines.push_reserved(line);
+        ends.push_reserved(own);
+    }
+    Ok((lines, ends))
+}

@@ -1,0 +1,4 @@
+pub mod Refusal
+pub mod Gates
+pub mod Touching
+pub mod Driving

@@ -1,0 +1,41 @@
+//! One side of a flow, as a worker serves it.
+use crate::error::ForwardError;
+use crate::gate::Gate;
+use std::sync::Wait;
+
+/// What a turn came to.
+#[derive(Clone, Copy, Debug, PartialEq, Eq)]
+pub enum Progress {
+    /// Something was done.
+    Worked,
+    /// There was nothing to do.
+    Idle,
+    /// The flow is over: nothing is left to do.
+    Over,
+}
+
+/// One side of a flow: a driver's or a controller's. A worker gives it one turn after another until it is over.
+pub trait Flow: Drop + Send {
+    ghost use Rattle.std.specs.Prelude.{◌≡◌, Bool, true, IfOk, IfErr};
+    ghost use Rattle.forwarding.specs.declared.flow.Progress.TheVariants as progress;
+    ghost use Rattle.forwarding.specs.Gates.{Met};
+
+    /// What a flow is of.
+    ghost Key: { Type 0 };
+
+    /// It stays so, whatever the flow does.
+    ghost key: { Self → Key };
+
+    /// Whether nothing is left to do.
+    ghost over: { Self → Bool };
+
+    /// One turn. Where it is refused, the flow is as the calls before left it, and can be asked again.
+    fn turn<R: Wait, G: Gate>(&mut self, rt: &R, gate: &G) -> Result<Progress, ForwardError>
+        ensures key { key self.new ≡ key self.old }
+        ensures ended { IfOk result (λ p. p ≡ progress.Over → over self.new ≡ true) }
+        ensures refused { IfErr result (λ e. Met G.answers gate.now e) };
+
+    /// Whether nothing is left to do. A flow that is over need not be asked again.
+    fn is_over(&self) -> bool
+        ensures { result ≡ over self.now };
+}

@@ -1,0 +1,4 @@
+pub mod Refusals
+pub mod Endings
+pub mod Hands
+pub mod Dealing

@@ -1,0 +1,14 @@
+-- What workers may be refused with.
+use Rattle.std.specs.Prelude.{Bool}
+use Rattle.forwarding.specs.declared.gate.Who.{Who}
+use Rattle.forwarding.specs.declared.gate.Event.{Event}
+use Rattle.forwarding.specs.declared.error.ForwardError.{ForwardError}
+use Rattle.forwarding.specs.declared.error.ForwardError.TheVariants.{Memory, Gate, Thread, Config}
+use Rattle.forwarding.specs.Gates.{CanRefuse}
+
+-- want of memory, a gate that can refuse, or a thread that couldn't be started; a configuration is tested before
+abbrev pub Halted : {G : Type 0} → (G → Who → Event → Bool → Type 0) → G → ForwardError → Type 0
+Halted answers gate Memory = Unit {0}
+Halted answers gate Gate = CanRefuse answers gate
+Halted answers gate Thread = Unit {0}
+Halted answers gate Config = ⊥

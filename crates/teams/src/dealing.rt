@@ -1,0 +1,73 @@
+//! Flows are dealt to workers in turn, and put back into their order.
+ghost use Rattle.std.specs.Prelude.{◌≡◌, ◌+◌, ◌<◌, ◌≤◌, true, List, [], ◌∷◌, ◌++◌, All, IfOk, length, map, vec_len, vec_capacity};
+ghost use Rattle.teams.specs.Dealing.{IsDealt, Passes};
+ghost use Rattle.teams.specs.Hands.{hand_keys, AllOver};
+
+use forwarding::Flow;
+use std::alloc::{AllocError, Global};
+
+/// Deals items to so many hands in turn: item `f` goes to hand `f mod count`. Each hand keeps the order.
+pub fn deal<T: Drop>(alloc: Global, items: Vec<T>, count: usize) -> Result<Vec<Vec<T>>, AllocError>
+    requires { 0 < count }
+    ensures count { IfOk result (λ hands. vec_len hands ≡ count) }
+    ensures dealt { IfOk result (λ hands. IsDealt items.items (map (λ h. h.items) hands.items)) }
+{
+    let mut hands = empty_hands(alloc, count)?;
+    let mut turn = 0;
+    for item in items {
+        hands[turn].push(item)?;
+        turn = next_turn(turn, count);
+    }
+    Ok(hands)
+}
+
+/// The hand whose turn is next.
+fn next_turn(turn: usize, count: usize) -> usize
+    requires { turn < count }
+    ensures in_row { result < count }
+    ensures passes { Passes count turn result }
+{
+    if turn + 1 == count { 0 } else { turn + 1 }
+}
+
+/// So many empty hands.
+fn empty_hands<T: Drop>(alloc: Global, count: usize) -> Result<Vec<Vec<T>>, AllocError>
+    ensures count { IfOk result (λ hands. vec_len hands ≡ count) }
+    ensures empty { IfOk result (λ hands. IsDealt [] (map (λ h. h.items) hands.items)) }
+{
+    let mut hands = Vec::with_capacity(alloc, count)?;
+    for _ in 0..count {
+        hands.push(Vec::new(alloc))?;
+    }
+    Ok(hands)
+}
+
+/// Puts flows that were dealt back into their order, in room that was there before.
+pub fn gather<F: Flow>(mut hands: Vec<Vec<F>>, total: usize, mut room: Vec<F>) -> Vec<F>
+    requires some { 0 < vec_len hands }
+    requires none { room.items ≡ [] }
+    requires room { total ≤ vec_capacity room }
+    ensures keys { (keys : List F.Key) → length keys ≡ total → IsDealt keys (hand_keys F.key hands.items) → map F.key result.items ≡ keys }
+    ensures over { AllOver F.over hands.items → All (λ f. F.over f ≡ true) result.items }
+{
+    let mut turn = 0;
+    for _ in 0..total {
+        move_first(&mut hands[turn], &mut room);
+        turn = next_turn(turn, hands.len());
+    }
+    room
+}
+
+/// Moves the first flow of a hand, if it has one, behind those that are there. A hand has few flows, so
+/// few move up.
+fn move_first<F: Flow>(hand: &mut Vec<F>, room: &mut Vec<F>)
+    requires { vec_len room.old < vec_capacity room.old }
+    ensures moved { (first : F.Key) (later : List F.Key) → map F.key hand.old.items ≡ first ∷ later → (map F.key hand.new.items ≡ later) × (map F.key room.new.items ≡ map F.key room.old.items ++ first ∷ []) }
+    ensures over { All (λ f. F.over f ≡ true) hand.old.items → All (λ f. F.over f ≡ true) room.old.items → All (λ f. F.over f ≡ true) hand.new.items × All (λ f. F.over f ≡ true) room.new.items }
+    ensures room { vec_capacity room.new ≡ vec_capacity room.old }
+    ensures few { vec_len room.new ≤ vec_len room.old + 1 }
+{
+    if !hand.is_empty() {
+        room.push_reserved(hand.remove(0));
+    }
+}
