@@ -46,7 +46,7 @@ module _ (old new : Transmitter) (had has : List ℕ) (before after : List (List
   batch-sent (Err e) refusal same cleaned done rx = refused e refusal (λ q. same (ap (λ (x : DriverError). Err x) q)) (λ q. cleaned (ap (λ (x : DriverError). Err x) q)) rx
 
 -- an enabling leaves all buffers where they are
-received-enabled : (old new : Receiver) (open : Bool) → is_open (receiving.driver_state old.end) ≡ open → (is_open (receiving.driver_state old.end) ≡ true → AskedEnabling old.end new.end)
+received-enabled : (old new : Receiver) (is : Bool) → is_open (receiving.driver_state old.end) ≡ is → (is_open (receiving.driver_state old.end) ≡ true → AskedEnabling old.end new.end)
     → (is_open (receiving.driver_state old.end) ≡ false → new ≡ old) → new.chain ≡ old.chain → with_receiver new ≡ with_receiver old
 received-enabled old new true e asked same chain = ap (λ (x : RxDriven). map itself (drop (length x.given + x.reclaimed) x.posted) ++ numbers_of new.chain) (asked e).did
     ∙ ap (λ (l : List Buffer). map itself (drop (receiving.returned old.end) (receiving.posted old.end)) ++ numbers_of l) chain
@@ -58,7 +58,7 @@ pub lent-receiving : (held : List ℕ) (old new : Receiver) (tx : Transmitter) (
 lent-receiving held old new tx stash packets s asked same chain = λ h. s h
     ∙ ap (λ (l : List ℕ). total h (stash ++ (l ++ (numbers_in packets ++ with_transmitter tx)))) (sym (received-enabled old new (is_open (receiving.driver_state old.end)) refl asked same chain))
 
-sent-enabled : (old new : Transmitter) (open : Bool) → is_open (transmitting.driver_state old.end) ≡ open → (is_open (transmitting.driver_state old.end) ≡ true → AskedEnabling old.end new.end)
+sent-enabled : (old new : Transmitter) (is : Bool) → is_open (transmitting.driver_state old.end) ≡ is → (is_open (transmitting.driver_state old.end) ≡ true → AskedEnabling old.end new.end)
     → (is_open (transmitting.driver_state old.end) ≡ false → new ≡ old) → with_transmitter new ≡ with_transmitter old
 sent-enabled old new true e asked same = ap (λ (x : TxDriven). map number_of_posting (drop (length x.given + x.reclaimed) x.posted)) (asked e).did
 sent-enabled old new false e asked same = ap with_transmitter (same e)

@@ -75,18 +75,8 @@ impl<'a> Worker<'a> {
     pub fn turn<R: Wait>(&mut self, rt: &R) -> Result<usize, DriverError> {
         self.pool
             .refill(rt, &mut self.pass, &mut self.stash, REFILL);
-        receive(
-            &mut self.rx,
-            self.from,
-            &mut self.stash,
-            &mut self.packets,
-        )?;
-        send(
-            &mut self.tx,
-            self.to,
-            &mut self.stash,
-            &mut self.packets,
-        )
+        receive(&mut self.rx, self.from, &mut self.stash, &mut self.packets)?;
+        send(&mut self.tx, self.to, &mut self.stash, &mut self.packets)
     }
 
     /// Asks for the receive queue to be enabled; called again, sees that it is.
