@@ -1,8 +1,7 @@
 -- What reclaiming keeps of a flow that has ended.
-use Rattle.std.proofs.Common.{◌≡◌, ◌∙◌, ◌⊎◌, ⊎_elim, inl, inr, ◌≢◌, arith, ℕ, zero, suc, ◌+◌, ◌-◌, ◌%◌, ◌<◌, ◌≤◌, Bool, true, List, ◌++◌, length, map, ap, sym, refl, subst}
+use Rattle.std.proofs.Common.{◌≡◌, ◌∙◌, ⊎_elim, inl, inr, ◌≢◌, arith, ℕ, zero, suc, ◌+◌, ◌-◌, ◌%◌, ◌<◌, ◌≤◌, Bool, List, ◌++◌, length, map, ap, sym, refl, subst}
 use Rattle.std.specs.Prelude.{Option, Some, None}
 use Rattle.atomic_table.specs.Seated.{TableId}
-use Rattle.ring_model.specs.declared.states.DriverState.{DriverState}
 use Rattle.ring_model.specs.shared.Frames.{Bytes, frames}
 use Rattle.ring_model.specs.shared.Handshakes.{is_stopped}
 use Rattle.ring_model.specs.shared.Segments.{Segment, piece_of}
@@ -27,7 +26,7 @@ use Rattle.flows.specs.Keys.{DriverKey}
 use Rattle.flows.specs.declared.counts.Counts.{Counts}
 use Rattle.flows.specs.declared.report.Ended.{Ended}
 use Rattle.flows.specs.declared.report.Ended.TheVariants.{Drained, Cut}
-use Rattle.flows.specs.Driven.{AreExact, AreFull, Relayed, EndedAs, HasDrained, HasEnded, IsClosing, RxStands, TxStands, taken_frames, posted_frames}
+use Rattle.flows.specs.Driven.{AreExact, AreFull, Relayed, EndedAs, HasEnded, IsClosing, RxStands, TxStands, taken_frames, posted_frames}
 
 -- how many are left is told by the head, the ring's length, and a number of segments
 rx-left : ℕ → ℕ → Option ℕ → Option ℕ
