@@ -1,9 +1,12 @@
 //! The driver's side of a flow.
-ghost use Rattle.std.specs.Prelude.{◌≡◌, ◌<◌, ◌≤◌, ◌↔◌, true, [], IsSome, IfSome};
+ghost use Rattle.std.specs.Prelude.{◌≡◌, ◌+◌, ◌<◌, ◌≤◌, ◌↔◌, true, [], length, IsSome, IfSome};
 ghost use Rattle.driver.specs.declared.rx_driver.TheConstants.{MOST_BATCH};
 ghost use Rattle.driver.specs.declared.tx_driver.TheConstants.{MOST_RS_EVERY};
 ghost use Rattle.shared_ring.specs.Calls.{IsFreshDriver};
 ghost use Rattle.pool.specs.Owned.{IsOf};
+ghost use Rattle.rx_ring.specs.Ends.{posted, published};
+ghost use Rattle.flows.specs.Counting.{none};
+ghost use Rattle.flows.specs.declared.phase.Phase.TheVariants.{EnablingTx};
 ghost use Rattle.flows.specs.Driven.{HasDriven, is_over};
 ghost use Rattle.flows.specs.Holding.{HoldsJust};
 ghost use Rattle.flows.specs.Parts.{parts_of};
@@ -78,6 +81,9 @@ impl<'a> DriverFlow<'a> {
         requires batch { (0 < batch) × (batch ≤ MOST_BATCH) }
         requires rs_every { (0 < rs_every) × (rs_every ≤ MOST_RS_EVERY) }
         ensures key { result.key ≡ task.entry }
+        ensures counts { result.counts ≡ none }
+        ensures phase { result.phase ≡ EnablingTx }
+        ensures published { published result.driving.rx.end ≡ length (posted result.driving.rx.end) }
     {
         let (mut end, tx) = ends;
         let mut stash = Stash::new();
@@ -101,7 +107,8 @@ impl<'a> DriverFlow<'a> {
 
     /// How many frames were taken, and of those posted or dropped.
     pub fn counts(&self) -> Counts
-        ensures { result ≡ self.now.counts }
+        ensures value { result ≡ self.now.counts }
+        ensures rule { result.posted + result.tx_dropped ≤ result.taken }
     {
         self.counts
     }
