@@ -1,8 +1,7 @@
 -- What reclaiming keeps of a flow that has ended.
-use Rattle.std.proofs.Common.{◌≡◌, ◌∙◌, ◌⊎◌, ⊎_elim, inl, inr, ◌≢◌, arith, ℕ, zero, suc, ◌+◌, ◌-◌, ◌%◌, ◌<◌, ◌≤◌, Bool, true, List, ◌++◌, length, map, ap, sym, refl, subst}
+use Rattle.std.proofs.Common.{◌≡◌, ◌∙◌, ⊎_elim, inl, inr, ◌≢◌, arith, ℕ, zero, suc, ◌+◌, ◌-◌, ◌%◌, ◌<◌, ◌≤◌, Bool, List, ◌++◌, length, map, ap, sym, refl, subst}
 use Rattle.std.specs.Prelude.{Option, Some, None}
 use Rattle.atomic_table.specs.Seated.{TableId}
-use Rattle.ring_model.specs.declared.states.DriverState.{DriverState}
 use Rattle.ring_model.specs.shared.Frames.{Bytes, frames}
 use Rattle.ring_model.specs.shared.Handshakes.{is_stopped}
 use Rattle.ring_model.specs.shared.Segments.{Segment, piece_of}
@@ -25,9 +24,11 @@ use Rattle.flows.specs.Counting.{most_exact}
 use Rattle.flows.specs.Outputs.{Chosen}
 use Rattle.flows.specs.Keys.{DriverKey}
 use Rattle.flows.specs.declared.counts.Counts.{Counts}
+use Rattle.flows.specs.declared.phase.Phase.{Phase}
+use Rattle.flows.specs.declared.phase.Phase.TheVariants.{EnablingTx, EnablingRx, Forwarding, Disabling, Reclaiming, Over}
 use Rattle.flows.specs.declared.report.Ended.{Ended}
 use Rattle.flows.specs.declared.report.Ended.TheVariants.{Drained, Cut}
-use Rattle.flows.specs.Driven.{AreExact, AreFull, Relayed, EndedAs, HasDrained, HasEnded, IsClosing, RxStands, TxStands, taken_frames, posted_frames}
+use Rattle.flows.specs.Driven.{AreExact, AreFull, Relayed, EndedAs, HasEnded, IsAt, IsClosing, RxStands, TxStands, taken_frames, posted_frames}
 
 -- how many are left is told by the head, the ring's length, and a number of segments
 rx-left : ℕ → ℕ → Option ℕ → Option ℕ
@@ -118,3 +119,12 @@ closing-still k d e c ended untaken unsent rx' tx' h = record {
 pub positive : (n : ℕ) → n ≢ 0 → 0 < n
 positive zero h = absurd (h refl)
 positive (suc n) h = omega arith
+
+-- in each phase no more is posted and dropped than is taken
+pub at-rule : (k : DriverKey) (d : Driving) (c : Counts) (phase : Phase) → IsAt k d c phase → c.posted + c.tx_dropped ≤ c.taken
+at-rule k d c EnablingTx h = h.0.relayed.no_more
+at-rule k d c EnablingRx h = h.0.relayed.no_more
+at-rule k d c (Forwarding made) h = h.relayed.no_more
+at-rule k d c (Disabling ended untaken unsent) h = h.has_ended.relayed.no_more
+at-rule k d c (Reclaiming left) h = h.has_ended.relayed.no_more
+at-rule k d c (Over left) h = h.has_ended.relayed.no_more

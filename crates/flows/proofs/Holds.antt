@@ -1,5 +1,5 @@
 -- What is held, by weights.
-use Rattle.std.proofs.Common.{◌≡◌, ◌∙◌, ℕ, zero, suc, ◌+◌, ◌<◌, ◌≤◌, List, [], ◌∷◌, ◌++◌, length, map, reverse, Contains, ap, sym, refl, subst, arith, append-nil}
+use Rattle.std.proofs.Common.{◌≡◌, ◌∙◌, ℕ, ◌+◌, ◌≤◌, List, [], ◌∷◌, ◌++◌, length, Contains, ap, refl, arith}
 use Rattle.buffer_pool.specs.Buffer.{Buffer}
 use Rattle.pool.specs.Hands.{total, without}
 use Rattle.pool.proofs.Totals.{total-append, total-without, total-ones}

@@ -6,11 +6,13 @@ use Rattle.driver.specs.receive.Chains.{IsTaken}
 use Rattle.std.proofs.lemmas.List.{take-append-drop, reverse-append, map-append, drop_all}
 use Rattle.atomic_table.specs.Seated.{TableId}
 use Rattle.buffer_pool.specs.Buffer.{Buffer}
-use Rattle.buffer_pool.specs.Packed.{shape_of}
+use Rattle.buffer_pool.specs.Packed.{bytes_of, shape_of}
 use Rattle.pool.specs.Hands.{total}
+use Rattle.pool.specs.Bulk.{Refilled}
 use Rattle.pool.specs.Owned.{Passed, IsOf}
 use Rattle.pool.proofs.Totals.{total-append}
 use Rattle.ring_model.specs.shared.Frames.{Bytes}
+use Rattle.ring_model.specs.shared.Handshakes.{is_on}
 use Rattle.ring_model.specs.shared.Segments.{Segment}
 use Rattle.ring_model.specs.transmit.Ring.{number_of_posting}
 use Rattle.rx_ring.specs.Ends as receive
@@ -25,9 +27,10 @@ use Rattle.driver.specs.transmit.Frames.{numbers_in}
 use Rattle.driver.specs.transmit.Transmitter.{Transmitter}
 use Rattle.forwarding.specs.Driving.{Driving, driving, CanDrive, Received, Sent, Drove, HeldBack, OnlyReceived}
 use Rattle.forwarding.specs.Touching.{shapes}
+use Rattle.flows.specs.declared.counts.Counts.{Counts}
 use Rattle.flows.specs.Keys.{DriverKey}
-use Rattle.flows.specs.Holding.{HoldsJust, Keeps, all_of, with_rx, with_tx}
-use Rattle.flows.specs.Driven.{IsLoaded, OnlyPosted, RxAsBefore, TxAsBefore}
+use Rattle.flows.specs.Holding.{Keeps, all_of, with_rx, with_tx}
+use Rattle.flows.specs.Driven.{IsForwarding, IsLoaded, OnlyPosted, Relayed, RxAsBefore, TxAsBefore}
 use Rattle.flows.proofs.Holds.{numbers-append, weighs-nothing}
 
 -- ---- segments and their numbers
@@ -229,3 +232,25 @@ all-back k pass d l stash packets chain rx tx = weighs-nothing pass.hand.held []
     let a = l.holds h in let e = parts h d in let s = ap (total h) stash in let p = ap (λ (ps : List (List Buffer)). total h (numbers_in ps)) packets in let c = ap (λ (bs : List Buffer). total h (numbers_of bs)) chain in
     let r = ap (total h) (none-out itself (receive.posted d.rx.end) (receive.returned d.rx.end) rx) in let t = ap (total h) (none-out number_of_posting (transmit.posted d.tx.end) (transmit.returned d.tx.end) tx) in
     omega (arith, a, e, s, p, c, r, t)))
+
+-- buffers came from the pool
+pub refilled : (k : DriverKey) (pass pass' : Passed) (d : Driving) (stash : List ℕ) (moved : ℕ) → IsLoaded k pass d → IsOf k.pool pass' → Refilled pass.hand d.stash moved pass'.hand stash → IsLoaded k pass' (driving d.rx d.tx stash d.packets)
+refilled k pass pass' d stash moved l pool r = record {
+  receives = l.receives;
+  sends = l.sends;
+  one_length = l.one_length;
+  pool = pool;
+  holds = λ h. (
+      let a = l.holds h in let e = parts h d in let f = parts h (driving d.rx d.tx stash d.packets) in
+      let took = ap (total h) r.took.held ∙ total-append h (reverse r.numbers) pass.hand.held in let put = ap (total h) r.stashed ∙ total-append h (reverse r.numbers) d.stash in
+      omega (arith, a, e, f, took, put));
+  waiting = l.waiting;
+}
+
+pub forwarding-still : (k : DriverKey) (d e : Driving) (c : Counts) → e.rx ≡ d.rx → e.tx ≡ d.tx → e.packets ≡ d.packets → IsForwarding k d c → IsForwarding k e c
+forwarding-still k d e c rx tx packets h = record {
+  rx_on = subst (λ (r : Receiver). is_on (receive.driver_state r.end) ≡ true) (sym rx) h.rx_on;
+  tx_on = subst (λ (t : Transmitter). is_on (transmit.driver_state t.end) ≡ true) (sym tx) h.tx_on;
+  relayed = subst (λ (r : Receiver). Relayed k.retries r.end e.tx.end c (map bytes_of e.packets)) (sym rx) (subst (λ (t : Transmitter). Relayed k.retries d.rx.end t.end c (map bytes_of e.packets)) (sym tx)
+      (subst (λ (ps : List (List Buffer)). Relayed k.retries d.rx.end d.tx.end c (map bytes_of ps)) (sym packets) h.relayed));
+}

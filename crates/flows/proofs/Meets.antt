@@ -1,6 +1,6 @@
 -- What follows for a flow once both its rings' ends met.
 use Rattle.std.proofs.Common.{◌≡◌, ◌∙◌, ℕ, ◌+◌, ◌≤◌, ◌<◌, Bool, true, false, List, [], ◌∷◌, ◌++◌, length, map, take, ap, sym, refl, subst, arith, append-nil, if◌then◌else◌, ⊎_elim, ◌⊎◌}
-use Rattle.std.specs.Prelude.{◌&&◌, Option, Some, None}
+use Rattle.std.specs.Prelude.{◌&&◌, Option, Some}
 use Rattle.std.proofs.lemmas.List.{length-map, take-append-drop, take_all}
 use Rattle.atomic_table.specs.Seated.{TableId}
 use Rattle.ring_model.specs.shared.Frames.{Bytes, frames}
@@ -11,7 +11,7 @@ use Rattle.ring_model.specs.receive.Lawful.{IsLawfulRxLedger}
 use Rattle.ring_model.specs.transmit.Lawful.{IsLawfulTxLedger}
 use Rattle.ring_model.specs.transmit.Ring.{carried}
 use Rattle.ring_model.proofs.shared.FrameLaws.{frames-beginning}
-use Rattle.shared_ring.specs.Meeting.{is_unanswered, served_now, IsTold}
+use Rattle.shared_ring.specs.Meeting.{served_now, IsTold}
 use Rattle.rx_ring.specs.Ends as receive
 use Rattle.rx_ring.specs.Calls as received
 use Rattle.rx_ring.specs.Meeting as meeting
@@ -27,11 +27,11 @@ use Rattle.flows.specs.declared.concluding.DriverDone.{DriverDone}
 use Rattle.flows.specs.declared.concluding.ControllerDone.{ControllerDone}
 use Rattle.flows.specs.Outputs.{Chosen, fitting}
 use Rattle.flows.specs.Counting.{most_exact}
-use Rattle.flows.specs.Driven.{AreExact, AreFull, Relayed, HasDriven, HasDrained, EndedAs, taken_frames, posted_frames}
+use Rattle.flows.specs.Driven.{AreExact, AreFull, HasDriven, HasDrained, EndedAs, taken_frames, posted_frames}
 use Rattle.flows.specs.Keys.{DriverKey, ControllerKey, Plan, plan_of}
 use Rattle.flows.specs.Reports.{AreLedgers, IsDrained, IsFull, IsReport}
 use Rattle.flows.specs.Served.{HasServed}
-use Rattle.flows.proofs.Choosing.{chosen-itself, chosen-front, chosen-beginning, chosen-of-more, chosen-through, chosen-few, chosen-all, chosen-map}
+use Rattle.flows.proofs.Choosing.{chosen-front, chosen-beginning, chosen-of-more, chosen-through, chosen-few, chosen-all, chosen-map}
 
 and-false : (a b : Bool) → b ≡ false → (a && b) ≡ false
 and-false true b e = e

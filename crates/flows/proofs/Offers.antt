@@ -1,5 +1,5 @@
 -- What the calls of a receive controller keep of a flow.
-use Rattle.std.proofs.Common.{◌≡◌, ◌∙◌, ℕ, zero, suc, ◌+◌, ◌<◌, ◌≤◌, ◌≢◌, Bool, true, false, cond, List, [], ◌∷◌, ◌++◌, length, map, take, drop, get_or, ap, sym, refl, subst, arith, append-nil, length-append, if◌then◌else◌}
+use Rattle.std.proofs.Common.{◌≡◌, ◌∙◌, ℕ, zero, suc, ◌+◌, ◌<◌, ◌≤◌, ◌≢◌, Bool, true, false, cond, List, [], ◌∷◌, ◌++◌, length, take, get_or, ap, sym, refl, subst, arith, append-nil, length-append, if◌then◌else◌}
 use Rattle.std.specs.Prelude.{nat_lt, Ok, Some, slice_get}
 use Rattle.std.proofs.lemmas.Bool.{lt-ltb, le-ltb, false≢true}
 use Rattle.std.proofs.Math.Arith.{lt_of_le-ne}
@@ -10,7 +10,7 @@ use Rattle.ring_model.specs.shared.Frames.{Bytes, frames, piece_count}
 use Rattle.ring_model.specs.shared.Segments.{piece_of}
 use Rattle.ring_model.specs.declared.states.ControllerState.{ControllerState}
 use Rattle.ring_model.specs.shared.Handshakes.{is_serving}
-use Rattle.rx_ring.specs.Ends.{controller_size, controller_state, is_quiet, stored}
+use Rattle.rx_ring.specs.Ends.{controller_state, is_quiet, stored}
 use Rattle.controller.specs.declared.tally.Tally.{Tally}
 use Rattle.controller.specs.declared.offer.Offer.{Offer}
 use Rattle.controller.specs.declared.offer.Offer.TheVariants.{Stored, Dropped, Oversize, Held, Off}

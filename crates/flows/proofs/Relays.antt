@@ -1,13 +1,9 @@
 -- What the calls of a driver's side keep of a flow.
-use Rattle.std.proofs.Common.{◌≡◌, ◌∙◌, ◌⊎◌, ⊎_elim, inl, inr, ℕ, zero, suc, ◌+◌, ◌-◌, ◌<◌, ◌≤◌, Bool, true, false, List, [], ◌∷◌, ◌++◌, length, map, take, drop, ap, sym, refl, subst, arith, append_assoc, append-nil, length-append, if◌then◌else◌}
-use Rattle.std.specs.Prelude.{All, nat_lt}
+use Rattle.std.proofs.Common.{◌≡◌, ◌∙◌, ◌⊎◌, ⊎_elim, inl, inr, ℕ, zero, suc, ◌+◌, ◌-◌, ◌<◌, ◌≤◌, Bool, true, false, List, [], ◌++◌, length, map, ap, sym, refl, subst, arith, append_assoc, append-nil, length-append, if◌then◌else◌}
 use Rattle.std.proofs.lemmas.Bool.{lt-ltb, le-ltb, false≢true}
 use Rattle.std.proofs.lemmas.List.{length-map, map-append}
-use Rattle.buffer_pool.specs.Buffer.{Buffer}
 use Rattle.buffer_pool.specs.Packed.{bytes_of, shape_of}
-use Rattle.ring_model.specs.shared.Frames.{Bytes, frames}
-use Rattle.ring_model.specs.shared.Segments.{piece_of}
-use Rattle.ring_model.specs.transmit.Ring.{carried}
+use Rattle.ring_model.specs.shared.Frames.{Bytes}
 use Rattle.rx_ring.specs.Ends as receive
 use Rattle.tx_ring.specs.Ends as transmit
 use Rattle.driver.specs.declared.rx_driver.TheConstants.{MOST_BATCH}

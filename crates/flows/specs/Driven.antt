@@ -22,7 +22,6 @@ use Rattle.flows.specs.Counting.{most_exact}
 use Rattle.flows.specs.Holding.{HoldsJust, all_of, with_rx, with_tx}
 use Rattle.flows.specs.declared.counts.Counts.{Counts}
 use Rattle.flows.specs.declared.load.Load.{Load}
-use Rattle.flows.specs.declared.phase.Left.{Left}
 use Rattle.flows.specs.declared.phase.Phase.{Phase}
 use Rattle.flows.specs.declared.phase.Phase.TheVariants.{EnablingTx, EnablingRx, Forwarding, Disabling, Reclaiming, Over}
 use Rattle.flows.specs.declared.report.Ended.{Ended}

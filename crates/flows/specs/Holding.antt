@@ -1,6 +1,5 @@
 -- Which buffers a driver's side holds. "The same numbers, each as often" is said by weights, as the pool says it: however the numbers are weighed, both sides weigh the same.
 use Rattle.std.specs.Prelude.{◌≡◌, ℕ, ◌+◌, ◌≤◌, List, ◌++◌}
-use Rattle.buffer_pool.specs.Buffer.{Buffer}
 use Rattle.pool.specs.Hands.{total}
 use Rattle.ring_model.specs.transmit.Ring.{number_of_posting}
 use Rattle.driver.specs.Reclaiming.{out_of}

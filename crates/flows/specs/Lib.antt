@@ -5,4 +5,5 @@ pub mod Holding
 pub mod Driven
 pub mod Served
 pub mod Sides
+pub mod Parts
 pub mod Reports

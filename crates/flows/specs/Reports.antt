@@ -1,5 +1,5 @@
 -- What a flow's report says.
-use Rattle.std.specs.Prelude.{◌≡◌, ℕ, ◌+◌, ◌≤◌, true, false, List, length}
+use Rattle.std.specs.Prelude.{◌≡◌, ℕ, ◌+◌, ◌≤◌, true, false, length}
 use Rattle.ring_model.specs.receive.Lawful.{IsLawfulRxLedger}
 use Rattle.ring_model.specs.receive.Ring.{RxLedger}
 use Rattle.ring_model.specs.shared.Frames.{Bytes, frames}

@@ -1,12 +1,14 @@
 -- What contracts see of the two sides of a flow.
 use Rattle.std.specs.Prelude.{Bool, true, false, ◌&&◌}
+use Rattle.controller.specs.declared.tally.Tally.{Tally}
 use Rattle.flows.specs.Keys.{ControllerKey}
 use Rattle.flows.specs.declared.service.Service.{Service}
 use Rattle.flows.specs.declared.service.Service.TheVariants.{Waiting, Serving, Ended}
 
--- the controller's side: what it is of, and how far it is with each queue
+-- the controller's side: what it is of, what became of its frames so far, and how far it is with each queue
 pub record Controlling : Type 0 where
   pub key : ControllerKey
+  pub tally : Tally
   pub receiving : Service
   pub sending : Service
 

@@ -2,6 +2,7 @@
 ghost use Rattle.std.specs.Prelude.{◌≡◌, ◌<◌, ◌≤◌, All, length};
 ghost use Rattle.limits.specs.declared.profile.TheConstants.{MOST_SCRIPT_FRAMES};
 ghost use Rattle.controller.specs.FillSize.{IsFillSize};
+ghost use Rattle.controller.specs.Tallying.{AddsUp, nothing};
 ghost use Rattle.shared_ring.specs.Calls.{IsFreshController};
 ghost use Rattle.flows.specs.Keys.{frames_at};
 ghost use Rattle.flows.specs.Served.{HasServed};
@@ -37,7 +38,7 @@ impl<'a> Model for ControllerFlow<'a> {
 
     ghost Value = { Controlling };
 
-    ghost view = { λ f. record { key = record { number = f.number; input = f.input.input; to = f.output.to }; receiving = f.input.service; sending = f.output.service } };
+    ghost view = { λ f. record { key = record { number = f.number; input = f.input.input; to = f.output.to }; tally = f.input.controller.tally; receiving = f.input.service; sending = f.output.service } };
 }
 
 impl<'a> ControllerFlow<'a> {
@@ -59,7 +60,8 @@ impl<'a> ControllerFlow<'a> {
         requires bsize { IsFillSize bsize }
         requires few { length frames.1.now ≤ MOST_SCRIPT_FRAMES }
         requires places { All (λ k. k < length frames.0.now) frames.1.now }
-        ensures { result.key ≡ record { number = number; input = record { from = rings.entry.0.now; frames = frames_at frames.entry.0.now frames.entry.1.now; fill = bsize; drops = drop_en }; to = rings.entry.1.now } }
+        ensures tally { result.tally ≡ nothing }
+        ensures key { result.key ≡ record { number = number; input = record { from = rings.entry.0.now; frames = frames_at frames.entry.0.now frames.entry.1.now; fill = bsize; drops = drop_en }; to = rings.entry.1.now } }
     {
         ControllerFlow {
             number,
@@ -69,7 +71,10 @@ impl<'a> ControllerFlow<'a> {
     }
 
     /// How many frames were offered, and what became of them.
-    pub fn tally(&self) -> Tally {
+    pub fn tally(&self) -> Tally
+        ensures value { result ≡ self.now.tally }
+        ensures adds { AddsUp result }
+    {
         self.input.tally()
     }
 

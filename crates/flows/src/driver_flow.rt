@@ -1,10 +1,15 @@
 //! The driver's side of a flow.
-ghost use Rattle.std.specs.Prelude.{◌≡◌, ◌<◌, ◌≤◌, ◌↔◌, true, [], IsSome, IfSome};
+ghost use Rattle.std.specs.Prelude.{◌≡◌, ◌+◌, ◌<◌, ◌≤◌, ◌↔◌, true, [], length, IsSome, IfSome};
 ghost use Rattle.driver.specs.declared.rx_driver.TheConstants.{MOST_BATCH};
 ghost use Rattle.driver.specs.declared.tx_driver.TheConstants.{MOST_RS_EVERY};
 ghost use Rattle.shared_ring.specs.Calls.{IsFreshDriver};
 ghost use Rattle.pool.specs.Owned.{IsOf};
+ghost use Rattle.rx_ring.specs.Ends.{posted, published};
+ghost use Rattle.flows.specs.Counting.{none};
+ghost use Rattle.flows.specs.declared.phase.Phase.TheVariants.{EnablingTx};
 ghost use Rattle.flows.specs.Driven.{HasDriven, is_over};
+ghost use Rattle.flows.specs.Holding.{HoldsJust};
+ghost use Rattle.flows.specs.Parts.{parts_of};
 
 use crate::concluding::DriverDone;
 use crate::counts::Counts;
@@ -12,14 +17,27 @@ use crate::load::{Load, Task};
 use crate::phase::{Left, Phase};
 use crate::starting::stock_up;
 use arrayvec::ArrayVec;
-use buffer_pool::Stash;
-use driver::{RxDriver, TxDriver};
+use buffer_pool::{Packet, Stash};
+use driver::{MOST_BATCH, RxDriver, TxDriver};
 use forwarding::{Flow, ForwardError, Gate, Progress};
 use pool::PoolPass;
 use rx_ring::RxDriverEnd;
 use std::marker::Model;
 use std::sync::Wait;
 use tx_ring::TxDriverEnd;
+
+/// What a driver's side has in hand, and the pass by which it holds the buffers of all of it and of both rings.
+#[derive(Drop)]
+pub struct DriverParts {
+    pub rx: RxDriverEnd,
+    /// The chain of a frame of which not all segments were taken.
+    pub chain: Packet,
+    pub tx: TxDriverEnd,
+    pub stash: Stash,
+    /// The packets that were taken and not posted.
+    pub packets: ArrayVec<Packet, MOST_BATCH>,
+    pub pass: PoolPass,
+}
 
 /// The driver's side of a flow: it has both queues enabled, the transmit queue first; takes, touches and posts packets turn
 /// by turn, until the flow is drained or cut; has both queues disabled, and gives all buffers back to the pool.
@@ -63,10 +81,13 @@ impl<'a> DriverFlow<'a> {
         requires batch { (0 < batch) × (batch ≤ MOST_BATCH) }
         requires rs_every { (0 < rs_every) × (rs_every ≤ MOST_RS_EVERY) }
         ensures key { result.key ≡ task.entry }
+        ensures counts { result.counts ≡ none }
+        ensures phase { result.phase ≡ EnablingTx }
+        ensures published { published result.driving.rx.end ≡ length (posted result.driving.rx.end) }
     {
         let (mut end, tx) = ends;
         let mut stash = Stash::new();
-        stock_up(
+        let short = stock_up(
             rt, task.pool, &mut pass, task.from, &mut end, &mut stash, most,
         );
         DriverFlow {
@@ -77,6 +98,7 @@ impl<'a> DriverFlow<'a> {
                 stash,
                 packets: ArrayVec::new(),
                 pass,
+                short,
             },
             counts: Counts::default(),
             phase: Phase::EnablingTx,
@@ -85,9 +107,36 @@ impl<'a> DriverFlow<'a> {
 
     /// How many frames were taken, and of those posted or dropped.
     pub fn counts(&self) -> Counts
-        ensures { result ≡ self.now.counts }
+        ensures value { result ≡ self.now.counts }
+        ensures rule { result.posted + result.tx_dropped ≤ result.taken }
     {
         self.counts
+    }
+
+    /// Both ends and all buffers, wherever the flow stands.
+    pub fn into_parts(self) -> DriverParts
+        ensures from { result.rx.table ≡ self.entry.key.from }
+        ensures to { result.tx.table ≡ self.entry.key.to }
+        ensures pool { IsOf self.entry.key.pool result.pass }
+        ensures held { HoldsJust result.pass.hand.held (parts_of result) }
+    {
+        let Load {
+            rx,
+            tx,
+            stash,
+            packets,
+            pass,
+            ..
+        } = self.load;
+        let (rx, chain) = rx.into_end();
+        DriverParts {
+            rx,
+            chain,
+            tx: tx.into_end(),
+            stash,
+            packets,
+            pass,
+        }
     }
 
     /// Gives both ends back, once the flow is over, and the pass, which then holds nothing.

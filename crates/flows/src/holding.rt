@@ -13,13 +13,14 @@ use pool::{Pool, PoolPass};
 use std::sync::Wait;
 
 /// Drops the packets that wait, and answers how many these were. Their buffers go to the stash, and to the pool where that is
-/// full.
+/// full; `short` grows by as many as went to the pool.
 pub(crate) fn drop_packets<R: Wait>(
     rt: &R,
     pool: &Pool,
     pass: &mut PoolPass,
     stash: &mut Stash,
     packets: &mut ArrayVec<Packet, MOST_BATCH>,
+    short: &mut usize,
 ) -> usize
     requires pool { IsOf pool.now pass.old }
     requires held { Holds pass.old.hand.held (stash.old ++ numbers_in packets.old.items) }
@@ -31,7 +32,7 @@ pub(crate) fn drop_packets<R: Wait>(
 {
     let count = packets.len();
     while let Some(packet) = packets.pop() {
-        drop_packet(rt, pool, pass, stash, packet);
+        drop_packet(rt, pool, pass, stash, packet, short);
     }
     count
 }
@@ -43,6 +44,7 @@ fn drop_packet<R: Wait>(
     pass: &mut PoolPass,
     stash: &mut Stash,
     mut packet: Packet,
+    short: &mut usize,
 )
     requires pool { IsOf pool.now pass.old }
     requires held { Holds pass.old.hand.held (stash.old ++ numbers_of packet) }
@@ -52,6 +54,7 @@ fn drop_packet<R: Wait>(
     while let Some(buf) = packet.pop_front() {
         if stash.is_full() {
             pool.give(rt, pass, buf);
+            *short = short.saturating_add(1);
         } else {
             stash.push(buf);
         }

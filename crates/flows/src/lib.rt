@@ -25,7 +25,7 @@ mod wiring;
 pub use concluding::{ControllerDone, DriverDone, conclude};
 pub use controller_flow::ControllerFlow;
 pub use counts::Counts;
-pub use driver_flow::DriverFlow;
+pub use driver_flow::{DriverFlow, DriverParts};
 pub use load::Task;
 pub use phase::{Left, Phase};
 pub use report::{Ended, FlowReport};

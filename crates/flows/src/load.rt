@@ -51,6 +51,8 @@ pub(crate) struct Load {
     pub stash: Stash,
     pub packets: ArrayVec<Packet, MOST_BATCH>,
     pub pass: PoolPass,
+    /// How many buffers more it may take from the pool.
+    pub short: usize,
 }
 
 impl Load {
@@ -96,10 +98,28 @@ impl Load {
             *counts = counts.counted(turned.taken, turned.posted, 0);
             return Ok(turned);
         }
-        let (pool, pass) = (task.pool, &mut self.pass);
-        let dropped = drop_packets(rt, pool, pass, &mut self.stash, &mut self.packets);
+        let dropped = drop_packets(
+            rt,
+            task.pool,
+            &mut self.pass,
+            &mut self.stash,
+            &mut self.packets,
+            &mut self.short,
+        );
         *counts = counts.counted(turned.taken, turned.posted, dropped);
         Ok(turned)
+    }
+
+    /// Takes buffers from the pool in place of those that went back to it, as far as the stash has room.
+    pub(crate) fn refill<R: Wait>(&mut self, rt: &R, task: &Task<'_>)
+        requires { IsLoaded task.now self.old.pass (driving_of self.old) }
+        ensures loaded { IsLoaded task.now self.new.pass (driving_of self.new) }
+        ensures rest { (self.new.rx ≡ self.old.rx) × (self.new.tx ≡ self.old.tx) × (self.new.packets ≡ self.old.packets) }
+    {
+        if self.short > 0 {
+            let pass = &mut self.pass;
+            self.short -= task.pool.refill(rt, pass, &mut self.stash, self.short);
+        }
     }
 
     /// Whether no chain and no packet waits, and all that was posted is cleaned.

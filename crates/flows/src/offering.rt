@@ -2,6 +2,7 @@
 ghost use Rattle.std.specs.Prelude.{◌≡◌, ◌<◌, ◌≤◌, All, length, [], IfErr};
 ghost use Rattle.limits.specs.declared.profile.TheConstants.{MOST_SCRIPT_FRAMES};
 ghost use Rattle.controller.specs.FillSize.{IsFillSize};
+ghost use Rattle.controller.specs.Tallying.{AddsUp, nothing};
 ghost use Rattle.rx_ring.specs.Calls.{IsFreshController};
 ghost use Rattle.forwarding.specs.Gates.{Met};
 ghost use Rattle.flows.specs.Keys.{frames_at};
@@ -52,7 +53,8 @@ impl<'a> Offering<'a> {
         requires bsize { IsFillSize bsize }
         requires few { length places.now ≤ MOST_SCRIPT_FRAMES }
         requires places { All (λ k. k < length script.now) places.now }
-        ensures { result.input ≡ record { from = ring.now; frames = frames_at script.now places.now; fill = bsize; drops = drop_en } }
+        ensures tally { result.controller.tally ≡ nothing }
+        ensures input { result.input ≡ record { from = ring.now; frames = frames_at script.now places.now; fill = bsize; drops = drop_en } }
     {
         Offering {
             ring,
@@ -111,7 +113,8 @@ impl<'a> Offering<'a> {
 
     /// What became of the frames.
     pub(crate) fn tally(&self) -> Tally
-        ensures { result ≡ self.now.controller.tally }
+        ensures value { result ≡ self.now.controller.tally }
+        ensures adds { AddsUp result }
     {
         self.controller.tally()
     }

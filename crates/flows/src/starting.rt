@@ -11,7 +11,8 @@ use pool::{Pool, PoolPass};
 use rx_ring::{DriverEnd, RxDriverEnd, RxRing};
 use std::sync::Wait;
 
-/// Takes up to `most` buffers from the pool, posts what fits the ring, and publishes it; the others are in the stash.
+/// Takes up to `most` buffers from the pool, posts what fits the ring, and publishes it; the others are in the stash. It answers
+/// how many more may be taken.
 pub(crate) fn stock_up<R: Wait>(
     rt: &R,
     pool: &Pool,
@@ -20,7 +21,7 @@ pub(crate) fn stock_up<R: Wait>(
     end: &mut RxDriverEnd,
     stash: &mut Stash,
     most: usize,
-)
+) -> usize
     requires pool { IsOf pool.now pass.old }
     requires own { end.old.table ≡ ring.now }
     requires open { is_open (driver_state end.old) ≡ true }
@@ -39,6 +40,7 @@ pub(crate) fn stock_up<R: Wait>(
         post_fitting(ring, end, stash);
     }
     end.publish(ring);
+    most - taken
 }
 
 /// Posts what the stash has and the ring has room for.

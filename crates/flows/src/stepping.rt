@@ -32,7 +32,10 @@ impl Load {
         match at {
             Phase::EnablingTx => Ok(self.enable_tx(task, *counts)),
             Phase::EnablingRx => Ok(self.enable_rx(task, *counts)),
-            Phase::Forwarding(made) => self.forward(rt, gate, task, counts, made),
+            Phase::Forwarding(made) => {
+                self.refill(rt, task);
+                self.forward(rt, gate, task, counts, made)
+            }
             Phase::Disabling(ended, untaken, unsent) => {
                 Ok(self.finish(task, *counts, ended, untaken, unsent))
             }
@@ -149,6 +152,7 @@ impl Load {
             &mut self.pass,
             &mut self.stash,
             &mut self.packets,
+            &mut self.short,
         );
         give_stash(rt, task.pool, &mut self.pass, &mut self.stash);
     }

@@ -1,4 +1,4 @@
-use Rattle.std.proofs.Common.{rules, ◌+◌, arith}
+use Rattle.std.proofs.Common.{◌+◌, arith}
 use Rattle.flows.proofs.Meets.{concluded}
 use Rattle.flows.proofs.concluding.conclude.Goals as goal
 

@@ -1,5 +1,4 @@
-use Rattle.std.proofs.Common.{[], ◌∷◌, ◌++◌, ◌≡◌, List, refl, rules}
-use Rattle.buffer_pool.specs.Buffer.{Buffer}
+use Rattle.std.proofs.Common.{[], ◌∷◌, ◌++◌, ◌≡◌, rules}
 use Rattle.driver.specs.transmit.Frames.{numbers_in}
 use Rattle.flows.proofs.Holds.{keeps-on, holds-on, holds-last, drops-one}
 use Rattle.flows.proofs.holding.drop_packets.Goals as goal

@@ -1,4 +1,4 @@
-use Rattle.std.proofs.Common.{◌++◌}
+use Rattle.std.proofs.Common.{rules, ◌++◌}
 use Rattle.rx_ring.specs.Ends.{posted}
 use Rattle.flows.proofs.Loads.{posted-trans, stocks-on}
 use Rattle.flows.proofs.starting.stock_up.Goals as goal
@@ -6,6 +6,7 @@ use Rattle.flows.proofs.starting.stock_up.Goals as goal
 pub loop-taken-preserved : goal.loop-taken-preserved
 loop-taken-preserved g c =
     let l = c.loop-taken in let r = c.refill-moved in let p = c.post_fitting in record {
+      few = search rules;
       pool = r.ensures.pool;
       did = posted-trans c.args.end.now l.end p.new.end l.invariant.did p.ensures.posted;
       kept = stocks-on c.args.pass.now.hand.held (c.args.stash.now ++ posted c.args.end.now) l.pass.hand.held l.stash (posted l.end) r.new.pass.hand.held r.new.stash r.ensures.moved.numbers p.new.stash (posted p.new.end)

@@ -1,4 +1,4 @@
-use Rattle.std.proofs.Common.{rules, ◌<◌, map, sym, subst}
+use Rattle.std.proofs.Common.{rules, map, sym, subst}
 use Rattle.std.proofs.lemmas.Bool.{false≢true}
 use Rattle.buffer_pool.specs.Packed.{bytes_of}
 use Rattle.flows.specs.declared.load.Load.{Load}

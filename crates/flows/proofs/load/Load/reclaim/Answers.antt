@@ -1,4 +1,4 @@
-use Rattle.std.proofs.Common.{rules, ◌≡◌, ◌∙◌, true, ap, sym, length}
+use Rattle.std.proofs.Common.{rules, ◌∙◌, ap, sym, length}
 use Rattle.std.specs.Prelude.{Some}
 use Rattle.std.proofs.lemmas.Bool.{false≢true}
 use Rattle.ring_model.specs.transmit.Ring.{number_of_posting}
@@ -10,7 +10,7 @@ use Rattle.driver.specs.receive.Returns.{GaveBack, IsEmptied}
 use Rattle.driver.specs.transmit.Returns as sent
 use Rattle.driver.specs.transmit.Transmitter.{Transmitter}
 use Rattle.forwarding.specs.Driving.{driving}
-use Rattle.flows.specs.Driven.{IsClosing, IsLoaded, driving_of}
+use Rattle.flows.specs.Driven.{IsClosing, driving_of}
 use Rattle.flows.proofs.Loads.{back-rx, back-tx, all-back}
 use Rattle.flows.proofs.Closing.{closing-rx, closing-tx, closing-still}
 use Rattle.flows.proofs.load.Load.reclaim.Goals as goal

@@ -1,4 +1,4 @@
-use Rattle.std.proofs.Common.{rules, ◌≡◌, ◌-◌, [], ◌++◌, List, length, map, ap, sym, subst, false}
+use Rattle.std.proofs.Common.{rules, ◌≡◌, ◌-◌, [], ◌++◌, List, length, map, sym, subst, false}
 use Rattle.buffer_pool.specs.Buffer.{Buffer}
 use Rattle.buffer_pool.specs.Packed.{bytes_of}
 use Rattle.driver.specs.transmit.Frames.{numbers_in}

@@ -1,4 +1,4 @@
-use Rattle.std.proofs.Common.{rules, ◌<◌, ◌≡◌, length, get_or}
+use Rattle.std.proofs.Common.{rules, ◌<◌, length, get_or}
 use Rattle.flows.specs.Keys.{frames_at}
 use Rattle.flows.proofs.Offers.{decided-on, frame-at, read-at, some-left, as-many}
 use Rattle.flows.proofs.offering.Offering.offer.Goals as goal
