@@ -21,7 +21,6 @@ mod direction;
 mod driver;
 mod events;
 mod making;
-mod reading;
 mod ring;
 mod steps;
 
