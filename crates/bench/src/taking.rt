@@ -74,7 +74,7 @@ fn take_batch(ring: &RxRing, driver: &mut RxDriverEnd, most: u32, tally: &mut Ta
     ensures taken { length (taken driver.new) ≡ length (taken driver.old) + result }
 {
     for got in 0..most {
-        let Poll::Segment(mut buf, _) = driver.poll(ring) else {
+        let Poll::Segment { mut buf, .. } = driver.poll(ring) else {
             return got;
         };
         tally.add(buf.bytes());

@@ -106,7 +106,7 @@ impl Receive {
     fn take(&mut self, from: usize, full: usize, last: usize) -> bool {
         let mut at = from;
         for k in 0..full.saturating_add(1) {
-            let Poll::Segment(buf, eop) = self.driver.poll(&self.ring) else {
+            let Poll::Segment { buf, eop } = self.driver.poll(&self.ring) else {
                 return false;
             };
             let len = if k == full { last } else { self.bsize };
@@ -156,7 +156,7 @@ impl Tells for Receive {
             }
             Step::Take(from, full, last) => Told::whether(self.take(from, full, last)),
             Step::FindsNone => {
-                Told::whether(!matches!(self.driver.poll(&self.ring), Poll::Segment(_, _)))
+                Told::whether(!matches!(self.driver.poll(&self.ring), Poll::Segment { .. }))
             }
             Step::IsNotDone => {
                 Told::whether(matches!(self.driver.poll(&self.ring), Poll::NotDone))

@@ -1,6 +1,6 @@
 -- The two forms of a transmit descriptor (82599 datasheet, 7.2.3.2.4 Advanced Transmit Data Descriptor).
 -- Beside each field stand the datasheet's name for it and its bits, the highest first.
-use Rattle.std.specs.Prelude.{ℕ, Bool, List, [], ◌∷◌}
+use Rattle.std.specs.Prelude.{ℕ, ◌/◌, ◌%◌, ◌^◌, Bool, List, [], ◌∷◌, ◌==◌}
 use Rattle.limits.specs.declared.profile.TheConstants.{BUFFER_BYTES, LEAST_FRAME, MOST_FRAME}
 use Rattle.descriptor.specs.declared.tx_back.TxBack.{TxBack}
 use Rattle.descriptor.specs.declared.tx_read.TxRead.{TxRead}
@@ -50,6 +50,20 @@ tx_read_second d = second_word tx_read_form (tx_read_numbers d.number d.len d.eo
 
 abbrev pub tx_read_bytes : TxRead → List ℕ
 tx_read_bytes d = bytes_of (tx_read_first d) (tx_read_second d)
+
+-- ---- what a second word of the read format says
+
+abbrev pub len_of : ℕ → ℕ
+len_of word = word % 2 ^ 16
+
+abbrev pub eop_of : ℕ → Bool
+eop_of word = word / 2 ^ 24 % 2 == 1
+
+abbrev pub rs_of : ℕ → Bool
+rs_of word = word / 2 ^ 27 % 2 == 1
+
+abbrev pub paylen_of : ℕ → ℕ
+paylen_of word = word / 2 ^ 46
 
 -- ---- write-back format
 

@@ -34,7 +34,7 @@ pub struct TxRead {
 
 impl TxRead {
     ghost use Rattle.descriptor.specs.Layout.{EachField, KeepsField};
-    ghost use Rattle.descriptor.specs.Transmit.{tx_read_form, tx_read_second};
+    ghost use Rattle.descriptor.specs.Transmit.{tx_read_form, tx_read_second, len_of, eop_of, rs_of, paylen_of};
 
     /// A descriptor of `len` bytes in buffer `number`, of a frame of `paylen` bytes.
     #[inline]
@@ -57,6 +57,39 @@ impl TxRead {
             rs,
             paylen,
         }
+    }
+
+    /// The length in a second word (DTALEN, bits 15:0). It tells something where the word has no DD.
+    #[inline]
+    pub fn data_len(word: u64) -> u16
+        ensures { result ≡ len_of word }
+    {
+        bits(word, 0, 16) as u16
+    }
+
+    /// Whether a second word has EOP (bit 24). It tells something where the word has no DD.
+    #[inline]
+    pub fn ends_frame(word: u64) -> bool
+        ensures { result ≡ eop_of word }
+    {
+        bits(word, 24, 1) == 1
+    }
+
+    /// Whether a second word has RS (bit 27). It tells something where the word has no DD.
+    #[inline]
+    pub fn asks_report(word: u64) -> bool
+        ensures { result ≡ rs_of word }
+    {
+        bits(word, 27, 1) == 1
+    }
+
+    /// The length of the whole frame in a second word (PAYLEN, bits 63:46). It tells something where
+    /// the word has no DD.
+    #[inline]
+    pub fn frame_len(word: u64) -> u32
+        ensures { result ≡ paylen_of word }
+    {
+        (word >> 46) as u32
     }
 
     /// The second word, which a ring's table keeps. It does not have the bit that DD of a `TxBack` is.

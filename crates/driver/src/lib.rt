@@ -15,5 +15,6 @@ mod rx_driver;
 mod tx_driver;
 
 pub use error::DriverError;
+pub use limits::MOST_RS_EVERY;
 pub use rx_driver::{MOST_BATCH, RxDriver};
-pub use tx_driver::{MOST_RS_EVERY, TxDriver};
+pub use tx_driver::TxDriver;

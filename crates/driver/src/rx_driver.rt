@@ -38,13 +38,13 @@ pub struct RxDriver {
 
 impl Model for RxDriver {
     ghost use Rattle.driver.specs.declared.rx_driver.TheConstants.{MOST_BATCH};
-    ghost use Rattle.driver.specs.receive.Receiver.{Receiver, IsReceiver};
+    ghost use Rattle.driver.specs.receive.Receiver.{Receiver, IsRxDriver};
 
     ghost Value = { Receiver };
 
     ghost view = { λ d. record { end = d.end; chain = d.chain; batch = d.batch } };
 
-    ghost invariant = { λ d. IsReceiver MOST_BATCH (record { end = d.end; chain = d.chain; batch = d.batch }) };
+    ghost invariant = { λ d. IsRxDriver MOST_BATCH (record { end = d.end; chain = d.chain; batch = d.batch }) };
 }
 
 impl RxDriver {

@@ -21,14 +21,10 @@ use crate::rx_driver::MOST_BATCH;
 use arrayvec::ArrayVec;
 use buffer_pool::{Packet, Stash};
 use cleaning::clean_all;
+use limits::MOST_RS_EVERY;
 use posting::{is_too_long, post_fitting};
 use std::marker::Model;
 use tx_ring::{DriverEnd, TxDriverEnd, TxRing};
-
-/// The most frames that are posted for each report that is asked for.
-pub const MOST_RS_EVERY: u16 = 4_096;
-
-const _: () = prove!(MOST_RS_EVERY == 4_096);
 
 /// A driver of a transmit queue: its end of the ring, how often it asks for a report, and its count of frames.
 ///
@@ -41,14 +37,14 @@ pub struct TxDriver {
 }
 
 impl Model for TxDriver {
-    ghost use Rattle.driver.specs.declared.tx_driver.TheConstants.{MOST_RS_EVERY};
-    ghost use Rattle.driver.specs.transmit.Transmitter.{Transmitter, IsTransmitter};
+    ghost use Rattle.limits.specs.declared.profile.TheConstants.{MOST_RS_EVERY};
+    ghost use Rattle.driver.specs.transmit.Transmitter.{Transmitter, IsTxDriver};
 
     ghost Value = { Transmitter };
 
     ghost view = { λ d. record { end = d.end; every = d.every; frames = d.frames } };
 
-    ghost invariant = { λ d. IsTransmitter MOST_RS_EVERY (record { end = d.end; every = d.every; frames = d.frames }) };
+    ghost invariant = { λ d. IsTxDriver MOST_RS_EVERY (record { end = d.end; every = d.every; frames = d.frames }) };
 }
 
 impl TxDriver {

@@ -51,6 +51,11 @@ pub const MOST_SEGMENTS: usize = 15;
 
 const _: () = prove!(MOST_SEGMENTS == 15);
 
+/// The most frames that a driver posts for each report that it asks for.
+pub const MOST_RS_EVERY: u16 = 4_096;
+
+const _: () = prove!(MOST_RS_EVERY == 4_096);
+
 /// The most frames of a wire script.
 pub const MOST_SCRIPT_FRAMES: usize = 1_000_000;
 

@@ -15,7 +15,7 @@ mod queues;
 pub use error::MachineError;
 pub use limits::is_ring_length;
 pub use machine::{RxMachine, TxMachine};
-pub use moves::arguments::{Descriptor, SegmentLength};
+pub use moves::arguments::{SegmentDescriptor, SegmentLength};
 pub use moves::{Move, MoveName, QueueNumber};
 pub use queues::Queues;
 pub use ring_model::{

@@ -8,7 +8,7 @@ mod fields;
 mod printing;
 mod reading;
 
-use arguments::{Descriptor, SegmentLength};
+use arguments::{SegmentDescriptor, SegmentLength};
 use limits::MOST_PAIRS;
 pub use printing::MoveName;
 use ring_model::{RxStep, TxStep};
@@ -60,5 +60,5 @@ pub enum Move {
     /// A step of a receive queue.
     Receive(QueueNumber, RxStep<SegmentLength>),
     /// A step of a transmit queue.
-    Transmit(QueueNumber, TxStep<Descriptor>),
+    Transmit(QueueNumber, TxStep<SegmentDescriptor>),
 }

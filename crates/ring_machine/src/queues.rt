@@ -15,7 +15,7 @@ ghost use Rattle.ring_machine.specs.Queues.{AllAgree, AreQueues, QueuesAgree, Qu
 use crate::counting::count_of;
 use crate::error::MachineError;
 use crate::machine::{RxMachine, TxMachine};
-use crate::moves::arguments::{Descriptor, SegmentLength};
+use crate::moves::arguments::{SegmentDescriptor, SegmentLength};
 use crate::moves::{Move, QueueNumber};
 use limits::{MOST_PAIRS, is_ring_length};
 use ring_model::{Completion, Note, RxStep, TxStep};
@@ -146,7 +146,7 @@ impl Queues {
     fn transmit_step(
         &mut self,
         queue: QueueNumber,
-        step: TxStep<Descriptor>,
+        step: TxStep<SegmentDescriptor>,
     ) -> Result<Note, MachineError>
         ensures follows { QueuesFollow self.old (queue_move.Transmit queue step) result self.new }
         ensures refused { IfErr result (λ e. (e ≡ NotEnabled) × (self.new ≡ self.old)) }

@@ -1,8 +1,8 @@
 //! Rows of machines and queues: which are made, what each move prints, and who has a place after it.
 
 use ring_machine::{
-    Completion, Descriptor, MachineError, Move, Owner, QueueNumber, Queues, RxMachine, RxStep,
-    SegmentLength, TxMachine, TxStep,
+    Completion, MachineError, Move, Owner, QueueNumber, Queues, RxMachine, RxStep,
+    SegmentDescriptor, SegmentLength, TxMachine, TxStep,
 };
 use std::alloc::Global;
 use std::test::Fail;
@@ -130,7 +130,7 @@ fn run_answers_how_many_moves_it_made(rt: HostRuntime) -> Result<(), Fail> {
     };
     let (Some(len), Some(posted)) = (
         SegmentLength::new(60),
-        Descriptor::new(7, 60, true, true, 60),
+        SegmentDescriptor::new(7, 60, true, true, 60),
     ) else {
         panic!(rt; "what is posted")
     };

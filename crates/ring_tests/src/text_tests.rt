@@ -1,7 +1,7 @@
 //! Rows of the texts of moves and notes: what each line means, which lines are refused, and the printed words.
 
 use ring_machine::{
-    ControlStep, Descriptor, FetchedSegment, MachineError, Move, Note, QueueNumber, RxStep,
+    ControlStep, FetchedSegment, MachineError, Move, Note, QueueNumber, RxStep, SegmentDescriptor,
     SegmentLength, TakenSegment, TxStep,
 };
 use std::test::Fail;
@@ -12,7 +12,7 @@ fn rx(queue: u8, step: RxStep<SegmentLength>) -> Option<Move> {
 }
 
 // A step of a transmit queue of this number.
-fn tx(queue: u8, step: TxStep<Descriptor>) -> Option<Move> {
+fn tx(queue: u8, step: TxStep<SegmentDescriptor>) -> Option<Move> {
     Some(Move::Transmit(QueueNumber::new(queue)?, step))
 }
 
@@ -23,7 +23,7 @@ fn stored(len: u16, eop: bool) -> Option<Move> {
 fn posted(number: u16, len: u16, eop: bool, rs: bool, paylen: u16) -> Option<Move> {
     tx(
         0,
-        TxStep::Post(Descriptor::new(number, len, eop, rs, paylen)?),
+        TxStep::Post(SegmentDescriptor::new(number, len, eop, rs, paylen)?),
     )
 }
 
@@ -189,14 +189,14 @@ fn arguments_have_their_bounds(rt: HostRuntime) {
             "{bytes} bytes"
         );
         assert_eq!(rt;
-            Descriptor::new(7, bytes, true, true, 60).is_some(),
+            SegmentDescriptor::new(7, bytes, true, true, 60).is_some(),
             lawful,
             "{bytes} bytes"
         );
     }
     for (paylen, lawful) in [(13, false), (14, true), (15_000, true), (15_001, false)] {
         assert_eq!(rt;
-            Descriptor::new(7, 60, true, true, paylen).is_some(),
+            SegmentDescriptor::new(7, 60, true, true, paylen).is_some(),
             lawful,
             "{paylen}"
         );
@@ -208,7 +208,7 @@ fn arguments_have_their_bounds(rt: HostRuntime) {
         (false, true, false),
     ] {
         assert_eq!(rt;
-            Descriptor::new(7, 60, eop, rs, 60).is_some(),
+            SegmentDescriptor::new(7, 60, eop, rs, 60).is_some(),
             lawful,
             "{eop} {rs}"
         );

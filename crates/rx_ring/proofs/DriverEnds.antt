@@ -7,7 +7,7 @@ use Rattle.limits.specs.RingLength.{IsRingLength}
 use Rattle.ring_model.specs.declared.states.DriverState.TheVariants.{New}
 use Rattle.ring_model.specs.shared.Agreement.{bit}
 use Rattle.shared_ring.specs.declared.ends.DriverPlaces.{DriverPlaces}
-use Rattle.shared_ring.specs.declared.ends.Handshake.{Handshake}
+use Rattle.shared_ring.specs.declared.ends.HandshakeStep.{HandshakeStep}
 use Rattle.shared_ring.specs.declared.events.DriverEvent.TheVariants as driver
 use Rattle.shared_ring.specs.Calls.{MayShake, shake_event, shaken}
 use Rattle.shared_ring.specs.Records.{undriven}
@@ -28,7 +28,7 @@ pub end-anew : (n published : ℕ) → IsRingLength n → IsEndOf n (record { po
 end-anew n published lawful = record { poster = poster-anew n published lawful; sure = λ a. absurd (false≢true a) }
 
 module _ (n : ℕ) (x : RxDriven) (k : Knowing) (at : DriverPlaces) (h : IsEndOf n x k at) where
-  pub end-shaken : (step : Handshake) (w : ℕ) → MayShake step x.state → IsEndOf n (record x { state = shaken step x.state w }) k (record at { state = shaken step at.state w })
+  pub end-shaken : (step : HandshakeStep) (w : ℕ) → MayShake step x.state → IsEndOf n (record x { state = shaken step x.state w }) k (record at { state = shaken step at.state w })
   end-shaken step w may = record { poster = poster-shaken n x at h.poster step w may; sure = h.sure }
 
   pub end-published : (published : ℕ) → IsEndOf n (record x { published = published }) k at
@@ -53,7 +53,7 @@ module _ (n : ℕ) (x : RxDriven) (k : Knowing) (at : DriverPlaces) (h : IsEndOf
   }
 
 -- C1, C4, C5
-pub end-shake : (d new : DriverSide) (at : DriverPlaces) (step : Handshake) (w : ℕ) → new ≡ appended d (shake_event step w) → MayShake step (driver_state d) → IsDriverEnd d at → IsDriverEnd new (record at { state = shaken step at.state w })
+pub end-shake : (d new : DriverSide) (at : DriverPlaces) (step : HandshakeStep) (w : ℕ) → new ≡ appended d (shake_event step w) → MayShake step (driver_state d) → IsDriverEnd d at → IsDriverEnd new (record at { state = shaken step at.state w })
 end-shake d new at step w is may h = end-after d new (shake_event step w) (record at { state = shaken step at.state w }) is
     (subst (λ (x : RxDriven). IsEndOf (driver_size d) x (know (driver_record d) (known_of d) (shake_event step w)) (record at { state = shaken step at.state w })) (sym (shaken-record d step w))
     (subst (λ (k : Knowing). IsEndOf (driver_size d) (record (driver_record d) { state = shaken step (driver_state d) w }) k (record at { state = shaken step at.state w })) (sym (shaken-known d step w))

@@ -20,14 +20,19 @@ use crate::ring::RxRing;
 use crate::steps;
 use buffer_pool::Buf;
 use ring_model::{place_after, places_between};
-use shared_ring::{Control, DriverEnd, DriverPlaces, Handshake};
+use shared_ring::{Control, DriverEnd, DriverPlaces, HandshakeStep};
 use std::marker::Model;
 
 /// What a look at the next descriptor found.
 #[derive(Drop)]
 pub enum Poll {
-    /// DD was set: the buffer with the bytes written to it, and whether they end a frame (EOP).
-    Segment(Buf, bool),
+    /// DD was set.
+    Segment {
+        /// The buffer, with the bytes that were written to it.
+        buf: Buf,
+        /// EOP: whether they end their frame.
+        eop: bool,
+    },
     /// The next descriptor was loaded, and had no DD.
     NotDone,
     /// Nothing is posted that did not come back. No step was made.
@@ -115,7 +120,7 @@ impl RxDriverEnd {
             Some((buf, eop)) => {
                 self.at.next = place_after(self.at.next, self.at.size);
                 self.at.out -= 1;
-                Poll::Segment(buf, eop)
+                Poll::Segment { buf, eop }
             }
         }
     }
@@ -184,7 +189,7 @@ impl DriverEnd<RxDriverOwn, RxControllerOwn, RxRule> for RxDriverEnd {
     }
 
     #[inline]
-    fn shake(&mut self, ring: &RxRing, step: Handshake) -> Control {
+    fn shake(&mut self, ring: &RxRing, step: HandshakeStep) -> Control {
         self.seat.shake(&ring.0, step, &mut self.at.state)
     }
 }

@@ -28,5 +28,6 @@ pub use events::{RxControllerEvent, RxControllerOwn, RxDriverEvent, RxDriverOwn}
 pub use making::{close, meet_rx};
 pub use ring::RxRing;
 pub use shared_ring::{
-    Control, ControllerEnd, ControllerEvent, DriverEnd, DriverEvent, RingError, View,
+    Control, ControllerEnd, ControllerEvent, ControllerLoad, ControllerPlaces, DriverEnd,
+    DriverEvent, DriverPlaces, HandshakeStep, RingError, SharedRing, View,
 };

@@ -12,8 +12,8 @@ use Rattle.ring_model.specs.shared.Places.{place_next}
 use Rattle.ring_model.proofs.shared.Places.{next_place}
 use Rattle.ring_model.proofs.shared.Shakes.{learned_unanswered, new_open, on_open, open_unanswered, stopped_answered}
 use Rattle.shared_ring.specs.declared.ends.DriverPlaces.{DriverPlaces}
-use Rattle.shared_ring.specs.declared.ends.Handshake.{Handshake}
-use Rattle.shared_ring.specs.declared.ends.Handshake.TheVariants.{AskEnable, LoadControl, AskDisable}
+use Rattle.shared_ring.specs.declared.ends.HandshakeStep.{HandshakeStep}
+use Rattle.shared_ring.specs.declared.ends.HandshakeStep.TheVariants.{AskEnable, LoadControl, AskDisable}
 use Rattle.shared_ring.specs.declared.events.DriverEvent.{DriverEvent}
 use Rattle.shared_ring.specs.declared.events.DriverEvent.TheVariants as driver
 use Rattle.shared_ring.specs.Calls.{IsPoster, MayShake, shake_event, shaken}
@@ -77,7 +77,7 @@ module _ {Posted Given : Type 0} (n : ℕ) (x : Driven Posted Given) (at : Drive
   }
 
   -- C1, C4, C5
-  pub poster-shaken : (step : Handshake) (w : ℕ) → MayShake step x.state → IsPoster n (record x { state = shaken step x.state w }) (record at { state = shaken step at.state w })
+  pub poster-shaken : (step : HandshakeStep) (w : ℕ) → MayShake step x.state → IsPoster n (record x { state = shaken step x.state w }) (record at { state = shaken step at.state w })
   poster-shaken AskEnable w may = poster-state (shaken AskEnable x.state w) x.published (λ a. open_unanswered x.state (new_open x.state may))
   poster-shaken LoadControl w may = subst (λ (s : DriverState). IsPoster n (record x { state = learned x.state w }) (record at { state = learned s w })) (sym h.state_is) (poster-state (learned x.state w) x.published (learned_unanswered x.state w))
   poster-shaken AskDisable w may = poster-state (shaken AskDisable x.state w) x.published (λ a. open_unanswered x.state (on_open x.state may))
@@ -91,12 +91,12 @@ module _ {Ring Posted Served Given D C : Type 0} {form : Form Ring Posted Served
   known-after d new e step = ap known_of step ∙ knowing-snoc form.posting form.drive_own form.saw_head form.know_own undriven form.unknown d.events e
 
   -- a step of the handshake changes the state alone, and teaches nothing else
-  pub shaken-record : (d : DriverSide form) (step : Handshake) (w : ℕ) → drive form (driver_record d) (shake_event step w) ≡ record (driver_record d) { state = shaken step (driver_state d) w }
+  pub shaken-record : (d : DriverSide form) (step : HandshakeStep) (w : ℕ) → drive form (driver_record d) (shake_event step w) ≡ record (driver_record d) { state = shaken step (driver_state d) w }
   shaken-record d AskEnable w = refl
   shaken-record d LoadControl w = refl
   shaken-record d AskDisable w = refl
 
-  pub shaken-known : (d : DriverSide form) (step : Handshake) (w : ℕ) → know form (driver_record d) (known_of d) (shake_event step w) ≡ known_of d
+  pub shaken-known : (d : DriverSide form) (step : HandshakeStep) (w : ℕ) → know form (driver_record d) (known_of d) (shake_event step w) ≡ known_of d
   shaken-known d AskEnable w = refl
   shaken-known d LoadControl w = refl
   shaken-known d AskDisable w = refl

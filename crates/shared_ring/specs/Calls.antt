@@ -13,8 +13,8 @@ use Rattle.shared_ring.specs.declared.ends.DriverPlaces.{DriverPlaces}
 use Rattle.shared_ring.specs.declared.ends.ControllerPlaces.{ControllerPlaces}
 use Rattle.shared_ring.specs.declared.ends.ControllerLoad.{ControllerLoad}
 use Rattle.shared_ring.specs.declared.ends.ControllerLoad.TheVariants.{Tail, Request}
-use Rattle.shared_ring.specs.declared.ends.Handshake.{Handshake}
-use Rattle.shared_ring.specs.declared.ends.Handshake.TheVariants.{AskEnable, LoadControl, AskDisable}
+use Rattle.shared_ring.specs.declared.ends.HandshakeStep.{HandshakeStep}
+use Rattle.shared_ring.specs.declared.ends.HandshakeStep.TheVariants.{AskEnable, LoadControl, AskDisable}
 use Rattle.shared_ring.specs.declared.events.DriverEvent.{DriverEvent}
 use Rattle.shared_ring.specs.declared.events.DriverEvent.TheVariants as driver
 use Rattle.shared_ring.specs.declared.events.ControllerEvent.TheVariants.{Looked, LoadedRequest, Enabled, Disabled}
@@ -100,23 +100,23 @@ module _ {Ring Posted Served Given D C : Type 0} {form : Form Ring Posted Served
   LoadedWord Request old word new = LoadedRequested old word new
 
 -- A step of the driver's half of the handshake, with the control value that it stored or loaded: its event, how far the driver then is, and where it may be made
-abbrev pub shake_event : {D : Type 0} → Handshake → ℕ → DriverEvent D
+abbrev pub shake_event : {D : Type 0} → HandshakeStep → ℕ → DriverEvent D
 shake_event AskEnable w = driver.AskedEnable
 shake_event LoadControl w = driver.LoadedControl w
 shake_event AskDisable w = driver.AskedDisable
 
-abbrev pub shaken : Handshake → DriverState → ℕ → DriverState
+abbrev pub shaken : HandshakeStep → DriverState → ℕ → DriverState
 shaken AskEnable s w = Asked
 shaken LoadControl s w = learned s w
 shaken AskDisable s w = Stopping
 
 -- an asking stores this value
-abbrev pub StoredBy : Handshake → Control → Type 0
+abbrev pub StoredBy : HandshakeStep → Control → Type 0
 StoredBy AskEnable c = c ≡ EnableAsked
 StoredBy LoadControl c = Unit {0}
 StoredBy AskDisable c = c ≡ DisableAsked
 
-abbrev pub MayShake : Handshake → DriverState → Type 0
+abbrev pub MayShake : HandshakeStep → DriverState → Type 0
 MayShake AskEnable s = is_new s ≡ true
 MayShake LoadControl s = Unit {0}
 MayShake AskDisable s = is_on s ≡ true

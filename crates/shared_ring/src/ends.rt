@@ -58,7 +58,7 @@ impl DriverPlaces {
 
 /// A step of the driver's half of the handshake.
 #[derive(Clone, Copy)]
-pub enum Handshake {
+pub enum HandshakeStep {
     /// C1.
     AskEnable,
     /// C4.
@@ -81,7 +81,7 @@ pub trait DriverEnd<D, C, R: Direction<D, C>>: Sized {
         ensures { IsPoster (driver_size (driver_of R.form (side self.now))) (driver_record (driver_of R.form (side self.now))) result };
 
     /// Makes a step of the handshake, and answers the control value that it stored or loaded.
-    fn shake(&mut self, ring: &Self::Ring, step: Handshake) -> Control
+    fn shake(&mut self, ring: &Self::Ring, step: HandshakeStep) -> Control
         requires own { (side self.old).table ≡ Self.Ring.table ring.now }
         requires may { MayShake step (driver_state (driver_of R.form (side self.old))) }
         ensures stored { StoredBy step result }
@@ -158,7 +158,7 @@ pub trait DriverEnd<D, C, R: Direction<D, C>>: Sized {
         ensures record { driver_record (driver_of R.form (side self.new)) ≡ record (driver_record (driver_of R.form (side self.old))) { state = state.Asked } }
         ensures known { known_of (driver_of R.form (side self.new)) ≡ known_of (driver_of R.form (side self.old)) }
     {
-        self.shake(ring, Handshake::AskEnable);
+        self.shake(ring, HandshakeStep::AskEnable);
     }
 
     /// Loads the control word. By it the end sees whether an enabling or a disabling that it asked was answered.
@@ -169,7 +169,7 @@ pub trait DriverEnd<D, C, R: Direction<D, C>>: Sized {
         ensures record { driver_record (driver_of R.form (side self.new)) ≡ record (driver_record (driver_of R.form (side self.old))) { state = learned (driver_state (driver_of R.form (side self.old))) (control_word result) } }
         ensures known { known_of (driver_of R.form (side self.new)) ≡ known_of (driver_of R.form (side self.old)) }
     {
-        self.shake(ring, Handshake::LoadControl)
+        self.shake(ring, HandshakeStep::LoadControl)
     }
 
     /// Asks the controller to disable the queue.
@@ -181,7 +181,7 @@ pub trait DriverEnd<D, C, R: Direction<D, C>>: Sized {
         ensures record { driver_record (driver_of R.form (side self.new)) ≡ record (driver_record (driver_of R.form (side self.old))) { state = state.Stopping } }
         ensures known { known_of (driver_of R.form (side self.new)) ≡ known_of (driver_of R.form (side self.old)) }
     {
-        self.shake(ring, Handshake::AskDisable);
+        self.shake(ring, HandshakeStep::AskDisable);
     }
 }
 

@@ -23,7 +23,8 @@ mod steps;
 pub use control::Control;
 pub use direction::{Direction, OwnStep, OwnTake};
 pub use ends::{
-    ControllerEnd, ControllerLoad, ControllerPlaces, DriverEnd, DriverPlaces, Handshake, SharedRing,
+    ControllerEnd, ControllerLoad, ControllerPlaces, DriverEnd, DriverPlaces, HandshakeStep,
+    SharedRing,
 };
 pub use error::RingError;
 pub use events::{ControllerEvent, DriverEvent, View};

@@ -20,7 +20,8 @@ use Rattle.shared_ring.specs.Records.{uncontrolled}
 use Rattle.shared_ring.proofs.Serving as shared
 use Rattle.shared_ring.proofs.Serving.{unplaced, record-after, loaded-leaves, server-fetch, server-served, server-same}
 use Rattle.tx_ring.specs.declared.events.TxControllerOwn.TheVariants.{Sent, Reported}
-use Rattle.tx_ring.specs.Records.{Posting, TxControlled, ControllerStep, control, fetch_word, eop_of, rs_of, paylen_of, posting_of}
+use Rattle.descriptor.specs.Transmit.{eop_of, rs_of, paylen_of}
+use Rattle.tx_ring.specs.Records.{Posting, TxControlled, ControllerStep, control, fetch_word, posting_of}
 use Rattle.tx_ring.specs.Ends.{ControllerSide, controller_size, controller_record, sent, known_ready, held, held_word, controller_state, is_owed, serve_place, answered}
 use Rattle.tx_ring.specs.Calls.{IsServerOf, IsControllerEnd, Fetched}
 use Rattle.tx_ring.proofs.Lying.{fetched-snoc}

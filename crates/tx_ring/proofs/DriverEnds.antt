@@ -12,7 +12,7 @@ use Rattle.ring_model.proofs.shared.Places.{apart, slice_set-writes}
 use Rattle.ring_model.proofs.shared.Beginnings.{slice_get-front}
 use Rattle.ring_model.proofs.shared.Shakes.{open_unanswered, live_unanswered}
 use Rattle.shared_ring.specs.declared.ends.DriverPlaces.{DriverPlaces}
-use Rattle.shared_ring.specs.declared.ends.Handshake.{Handshake}
+use Rattle.shared_ring.specs.declared.ends.HandshakeStep.{HandshakeStep}
 use Rattle.shared_ring.specs.Calls.{IsPoster, MayShake, shake_event, shaken}
 use Rattle.shared_ring.proofs.Laying.{slice_get-last}
 use Rattle.shared_ring.proofs.Posting.{record-after, known-after, anew, poster-anew, poster-post, poster-back, poster-shaken, poster-published, shaken-record, shaken-known}
@@ -54,7 +54,7 @@ module _ (n : ℕ) (x : TxDriven) (k : Knowing) (at : DriverPlaces) (seen done u
     passed_by = rw (posted) h.passed_by;
   }
 
-  pub end-shaken : (step : Handshake) (w : ℕ) → MayShake step x.state → IsEndOf n (record x { state = shaken step x.state w }) k (record at { state = shaken step at.state w }) seen done unseen whole asks passed
+  pub end-shaken : (step : HandshakeStep) (w : ℕ) → MayShake step x.state → IsEndOf n (record x { state = shaken step x.state w }) k (record at { state = shaken step at.state w }) seen done unseen whole asks passed
   end-shaken step w may = end-left (record x { state = shaken step x.state w }) k.head (record at { state = shaken step at.state w }) (poster-shaken n x at h.poster step w may) refl refl
 
   pub end-published : (published : ℕ) → IsEndOf n (record x { published = published }) k at seen done unseen whole asks passed
@@ -118,7 +118,7 @@ module _ (n : ℕ) (x : TxDriven) (k : Knowing) (at : DriverPlaces) (seen done u
   }
 
 -- C1, C4, C5
-pub end-shake : (d new : DriverSide) (at : DriverPlaces) (seen done unseen : ℕ) (whole : Bool) (asks : List Bool) (passed : ℕ) (step : Handshake) (w : ℕ) → new ≡ appended d (shake_event step w) → MayShake step (driver_state d) → IsDriverEnd d at seen done unseen whole asks passed
+pub end-shake : (d new : DriverSide) (at : DriverPlaces) (seen done unseen : ℕ) (whole : Bool) (asks : List Bool) (passed : ℕ) (step : HandshakeStep) (w : ℕ) → new ≡ appended d (shake_event step w) → MayShake step (driver_state d) → IsDriverEnd d at seen done unseen whole asks passed
     → IsDriverEnd new (record at { state = shaken step at.state w }) seen done unseen whole asks passed
 end-shake d new at seen done unseen whole asks passed step w is may h = end-as d new (shake_event step w) (record (driver_record d) { state = shaken step (driver_state d) w }) (known_of d) (record at { state = shaken step at.state w }) seen done unseen whole asks passed is (shaken-record d step w) (shaken-known d step w)
     (end-shaken (driver_size d) (driver_record d) (known_of d) at seen done unseen whole asks passed h step w may)

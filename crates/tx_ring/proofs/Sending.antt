@@ -25,7 +25,8 @@ use Rattle.shared_ring.proofs.Lying.{lies-look, lies-fetch, lies-serve, lies-hea
 use Rattle.shared_ring.proofs.Shaking.{early_enabling}
 use Rattle.shared_ring.proofs.Controlling.{ctl-look, ctl-fetch, ctl-serve, ctl-head, ctl-look_asked, ctl-enable, ctl-disable}
 use Rattle.tx_ring.specs.declared.events.TxControllerOwn.TheVariants.{Sent}
-use Rattle.tx_ring.specs.Records.{Posting, TxControlled, DriverStep, ControllerStep, control, controlling, fetch_word, fetched_word, Knowing, knowing, posting_of, rs_of}
+use Rattle.descriptor.specs.Transmit.{rs_of}
+use Rattle.tx_ring.specs.Records.{Posting, TxControlled, DriverStep, ControllerStep, control, controlling, fetch_word, fetched_word, Knowing, knowing, posting_of}
 use Rattle.shared_ring.specs.Tables.{words_of}
 use Rattle.tx_ring.specs.Rule.{LiesAs, Learnt, IsFetched, filled, says, lies_there, word_of}
 use Rattle.tx_ring.proofs.Words.{posting-posted, rs_of-tx_word}

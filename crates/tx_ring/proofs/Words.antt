@@ -7,7 +7,8 @@ use Rattle.descriptor.specs.declared.tx_read.TxRead.{TxRead}
 use Rattle.ring_model.specs.shared.Agreement.{bit}
 use Rattle.ring_model.specs.transmit.Agreement.{tx_word, done_word}
 use Rattle.ring_model.specs.transmit.Ring.{new_posting}
-use Rattle.tx_ring.specs.Records.{Posting, eop_of, rs_of, paylen_of, posting_of}
+use Rattle.descriptor.specs.Transmit.{eop_of, rs_of, paylen_of}
+use Rattle.tx_ring.specs.Records.{Posting, posting_of}
 use Rattle.tx_ring.specs.Rule.{filled, word_of}
 use Rattle.tx_ring.specs.Plays.{is_done}
 

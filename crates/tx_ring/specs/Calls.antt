@@ -19,7 +19,8 @@ use Rattle.tx_ring.specs.Rule.{filled}
 use Rattle.tx_ring.specs.Steps.{Looked}
 use Rattle.tx_ring.specs.declared.events.TxDriverOwn.TheVariants.{Cleaned, EndedEpoch, ClearedReport}
 use Rattle.shared_ring.specs.Records.{undriven}
-use Rattle.tx_ring.specs.Records.{Posting, TxDriven, TxControlled, Knowing, unknown, eop_of, rs_of, paylen_of, posting_of}
+use Rattle.descriptor.specs.Transmit.{eop_of, rs_of, paylen_of}
+use Rattle.tx_ring.specs.Records.{Posting, TxDriven, TxControlled, Knowing, unknown, posting_of}
 use Rattle.tx_ring.specs.Ends.{DriverSide, driver_size, driver_record, posted, cleaned, reclaimed, returned, seen_reported, outstanding, driver_state, known_of, next_place, appended, ControllerSide, controller_size, controller_record, sent, known_ready, held_word, seen, serve_place, answered}
 pub use Rattle.shared_ring.specs.Calls.{IsFreshDriver, IsFreshController, NoneOut, FoundAhead as FoundReady, MayEnable, IsSettled, MayDisable, MayAnswer, AnsweredEnabling, AnsweredDisabling, Answered}
 use Rattle.shared_ring.specs.Calls.{IsPoster, IsServer}

@@ -14,7 +14,8 @@ use Rattle.shared_ring.specs.Forms.{Form}
 use Rattle.shared_ring.specs.Lies.{driven, IsControlled}
 use Rattle.tx_ring.specs.declared.events.TxDriverOwn.{TxDriverOwn}
 use Rattle.tx_ring.specs.declared.events.TxControllerOwn.{TxControllerOwn}
-use Rattle.tx_ring.specs.Records.{Posting, TxControlled, DriverStep, ControllerStep, driving, controlling, Knowing, unknown, saw_head, know_own, knowing, posting_of, drive_own, control_own, driver_names, controller_names, eop_of, rs_of, paylen_of}
+use Rattle.descriptor.specs.Transmit.{eop_of, rs_of, paylen_of}
+use Rattle.tx_ring.specs.Records.{Posting, TxControlled, DriverStep, ControllerStep, driving, controlling, Knowing, unknown, saw_head, know_own, knowing, posting_of, drive_own, control_own, driver_names, controller_names}
 use Rattle.tx_ring.specs.Rule.{Learnt, LiesAs, filled, says, lies_there, word_of}
 
 -- both records are those of one lawful ring that a schedule makes, of which the driver has learnt what it says

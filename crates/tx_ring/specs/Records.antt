@@ -1,6 +1,7 @@
 -- What the records of a transmit ring's two ends amount to.
-use Rattle.std.specs.Prelude.{ℕ, ◌+◌, ◌-◌, ◌/◌, ◌%◌, ◌^◌, Bool, false, List, [], ◌∷◌, ◌++◌, length, Option, Some, None, ◌==◌}
+use Rattle.std.specs.Prelude.{ℕ, ◌+◌, ◌-◌, false, List, [], ◌∷◌, ◌++◌, length, Option, Some, None}
 use Rattle.buffer_pool.specs.Buffer.{Buffer}
+use Rattle.descriptor.specs.Transmit.{eop_of, rs_of, paylen_of}
 use Rattle.ring_model.specs.declared.states.DriverState.TheVariants.{New}
 use Rattle.ring_model.specs.shared.Frames.{Bytes}
 use Rattle.ring_model.specs.transmit.Ring as ring
@@ -31,16 +32,6 @@ TxDriven = Driven Posting ℕ
 
 abbrev pub TxControlled : Type 0
 TxControlled = Controlled Posting
-
--- EOP, RS and PAYLEN of a transmit descriptor (82599 datasheet, 7.2.3.2.4)
-abbrev pub eop_of : ℕ → Bool
-eop_of word = (word / 2 ^ 24) % 2 == 1
-
-abbrev pub rs_of : ℕ → Bool
-rs_of word = (word / 2 ^ 27) % 2 == 1
-
-abbrev pub paylen_of : ℕ → ℕ
-paylen_of word = word / 2 ^ 46
 
 -- what a driver posts with a word and a buffer
 abbrev pub posting_of : ℕ → Buffer → Posting

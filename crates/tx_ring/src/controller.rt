@@ -8,7 +8,8 @@ ghost use Rattle.ring_model.specs.transmit.Ring.{carried};
 ghost use Rattle.shared_ring.specs.Words.{control_word};
 ghost use Rattle.shared_ring.specs.declared.events.ControllerEvent.TheVariants.{LoadedRequest, Own};
 ghost use Rattle.tx_ring.specs.declared.events.TxControllerOwn.TheVariants.{Sent};
-ghost use Rattle.tx_ring.specs.Records.{posting_of, rs_of};
+ghost use Rattle.descriptor.specs.Transmit.{rs_of};
+ghost use Rattle.tx_ring.specs.Records.{posting_of};
 ghost use Rattle.shared_ring.specs.Ends.{controller_of, controller_side};
 ghost use Rattle.tx_ring.specs.Form.{tx};
 ghost use Rattle.tx_ring.specs.Ends.{controller_size, controller_record, sent, known_ready, held, held_word, controller_state, is_owed, is_between, serve_place, answered};
@@ -16,7 +17,6 @@ ghost use Rattle.tx_ring.specs.Calls.{IsFreshController, FoundReady, Fetched, Ma
 
 use crate::direction::{TxControllerSeat, TxRule};
 use crate::events::{TxControllerOwn, TxDriverOwn};
-use crate::reading::{eop_bit, paylen, rs_bit};
 use crate::ring::TxRing;
 use crate::steps;
 use buffer_pool::Buf;
@@ -81,14 +81,14 @@ impl TxControllerEnd {
     {
         let (buf, word) = self.seat.fetch(&ring.0, self.at.serve);
         self.at.holding = true;
-        self.ends = eop_bit(word);
-        self.asks = rs_bit(word);
+        self.ends = TxRead::ends_frame(word);
+        self.asks = TxRead::asks_report(word);
         let read = TxRead::new(
             buf.number(),
             buf.len() as u16,
             self.ends,
             self.asks,
-            paylen(word),
+            TxRead::frame_len(word) as u16,
         );
         (buf, read)
     }

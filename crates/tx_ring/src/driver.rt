@@ -23,7 +23,7 @@ use crate::ring::TxRing;
 use crate::steps;
 use buffer_pool::Buf;
 use ring_model::{place_after, places_between};
-use shared_ring::{Control, DriverEnd, DriverPlaces, Handshake};
+use shared_ring::{Control, DriverEnd, DriverPlaces, HandshakeStep};
 use std::alloc::Global;
 use std::boxed::BoxedSlice;
 use std::marker::Model;
@@ -254,7 +254,7 @@ impl DriverEnd<TxDriverOwn, TxControllerOwn, TxRule> for TxDriverEnd {
     }
 
     #[inline]
-    fn shake(&mut self, ring: &TxRing, step: Handshake) -> Control {
+    fn shake(&mut self, ring: &TxRing, step: HandshakeStep) -> Control {
         self.seat.shake(&ring.0, step, &mut self.at.state)
     }
 }

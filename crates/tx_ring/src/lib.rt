@@ -21,7 +21,6 @@ mod direction;
 mod driver;
 mod events;
 mod making;
-mod reading;
 mod ring;
 mod steps;
 
@@ -33,5 +32,6 @@ pub use making::{close, meet_tx};
 pub use ring::TxRing;
 pub use ring_model::Completion;
 pub use shared_ring::{
-    Control, ControllerEnd, ControllerEvent, DriverEnd, DriverEvent, RingError, View,
+    Control, ControllerEnd, ControllerEvent, ControllerLoad, ControllerPlaces, DriverEnd,
+    DriverEvent, DriverPlaces, HandshakeStep, RingError, SharedRing, View,
 };

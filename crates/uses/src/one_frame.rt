@@ -27,7 +27,7 @@ pub fn passed(alloc: Global, frame: &[u8; 60]) -> Result<Option<Buf>> {
         controller.set_head(&ring); // RDH
     }
     let taken = match driver.poll(&ring) {
-        Poll::Segment(buf, _eop) => Some(buf), // DD was set
+        Poll::Segment { buf, .. } => Some(buf), // DD was set
         Poll::NotDone | Poll::Empty | Poll::Off => None,
     };
     meet_rx(&ring, &mut driver, &mut controller); // both ends together: their ledger is lawful

@@ -21,7 +21,7 @@ pub record IsReady (d : DriverSide) : Type 0 where
   pub none_back : reclaimed d ≡ 0
 
 -- What holds of each driver. Until it saw its disabling answered, it reclaimed nothing, and its chain is what the taken segments have not ended; from then on it is stopped, until it is renewed
-pub record IsReceiver (most : ℕ) (r : Receiver) : Type 0 where
+pub record IsRxDriver (most : ℕ) (r : Receiver) : Type 0 where
   pub some_batch : 0 < r.batch
   pub few_batch : r.batch ≤ most
   pub each : All HasSegment r.chain

@@ -17,7 +17,7 @@ pub record IsReady (d : DriverSide) : Type 0 where
   pub unanswered : is_answered (driver_state d) ≡ false
 
 -- What the fields of a driver keep. Until it saw its disabling answered, it reclaimed nothing
-pub record IsTransmitter (most : ℕ) (t : Transmitter) : Type 0 where
+pub record IsTxDriver (most : ℕ) (t : Transmitter) : Type 0 where
   pub whole : are_whole (posted t.end) ≡ true
   pub none_back : is_answered (driver_state t.end) ≡ false → reclaimed t.end ≡ 0
   pub counted : t.frames < t.every

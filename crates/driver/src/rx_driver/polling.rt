@@ -33,7 +33,7 @@ pub(super) fn take(
 {
     let mut count = 0;
     while count < batch && !packets.is_full() {
-        let Poll::Segment(buf, eop) = driver.poll(ring) else {
+        let Poll::Segment { buf, eop } = driver.poll(ring) else {
             break;
         };
         post_one(driver, ring, stash);

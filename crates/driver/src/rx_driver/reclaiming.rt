@@ -1,5 +1,5 @@
 //! The loops of reclaiming.
-ghost use Rattle.std.specs.Prelude.{◌≡◌, ◌↔◌, ◌⊎◌, true, [], ◌∷◌, length, All, IsTrue};
+ghost use Rattle.std.specs.Prelude.{◌≡◌, ◌↔◌, ◌⊎◌, true, [], length, All, IsTrue};
 ghost use Rattle.ring_model.specs.shared.Handshakes.{is_stopped};
 ghost use Rattle.rx_ring.specs.Ends.{driver_state, known_of, posted, returned};
 ghost use Rattle.driver.specs.Reclaiming.{CameBack};
@@ -7,8 +7,7 @@ ghost use Rattle.driver.specs.receive.Chains.{HasSegment};
 ghost use Rattle.driver.specs.receive.Returns.{Unchained, itself};
 
 use crate::handshake;
-use buffer_pool::{Buf, Packet, STASH_BUFFERS, Stash};
-use limits::BUFFER_BYTES;
+use buffer_pool::{Packet, STASH_BUFFERS, Stash};
 use rx_ring::{DriverEnd, RxDriverEnd, RxRing};
 
 /// Moves the buffers of a chain into the stash, and answers whether all found room.
@@ -23,7 +22,7 @@ pub(super) fn empty_chain(chain: &mut Packet, stash: &mut Stash) -> bool
         let Some(buf) = chain.pop_front() else {
             return true;
         };
-        put(stash, buf);
+        stash.push(buf);
     }
     chain.segments() == 0
 }
@@ -41,18 +40,7 @@ pub(super) fn empty_ring(driver: &mut RxDriverEnd, ring: &RxRing, stash: &mut St
         let Some(buf) = driver.reclaim(ring) else {
             return true;
         };
-        put(stash, buf);
+        stash.push(buf);
     }
     handshake::is_back(driver)
-}
-
-/// Puts a buffer into a stash that has room.
-fn put(stash: &mut Stash, buf: Buf)
-    requires room { ¬ (length stash.old ≡ STASH_BUFFERS) }
-    requires real { buf.capacity ≡ BUFFER_BYTES }
-    ensures { stash.new ≡ buf.number ∷ stash.old }
-{
-    let Ok(()) = stash.put(buf) else {
-        unreachable!()
-    };
 }

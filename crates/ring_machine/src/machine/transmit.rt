@@ -14,7 +14,7 @@ use crate::counting::count_of;
 use crate::error::MachineError;
 use crate::machine::queue::QueueMachine;
 use crate::machine::words::{DONE, eop_in, first_asking, len_in, place_before, rs_in};
-use crate::moves::arguments::Descriptor;
+use crate::moves::arguments::SegmentDescriptor;
 use ring_model::{
     Completion, ControlStep, FetchedSegment, Note, Owner, TxStep, place_after, places_between,
 };
@@ -68,7 +68,7 @@ impl TxMachine {
     }
 
     /// Makes one step. Where the queue has no such step, it answers `NotEnabled`. An `Err` leaves the machine as it was.
-    pub fn step(&mut self, step: TxStep<Descriptor>) -> Result<Note, MachineError>
+    pub fn step(&mut self, step: TxStep<SegmentDescriptor>) -> Result<Note, MachineError>
         ensures follows { TxFollows self.old step result self.new }
         ensures refused { IfErr result (λ e. (e ≡ NotEnabled) × (self.new ≡ self.old)) }
     {
@@ -79,7 +79,7 @@ impl TxMachine {
     }
 
     // Whether the queue has the step, as far as words and places tell.
-    fn may(&self, step: &TxStep<Descriptor>) -> bool
+    fn may(&self, step: &TxStep<SegmentDescriptor>) -> bool
         ensures told { result ≡ tx_may self.now step.now }
         ensures sound { IsTxSound self.now }
     {
@@ -114,7 +114,7 @@ impl TxMachine {
 
 // What each step does.
 impl TxMachine {
-    fn post(&mut self, posted: &Descriptor) -> Note
+    fn post(&mut self, posted: &SegmentDescriptor) -> Note
         ensures told { Ok result ≡ tx_told self.old (step.Post posted.now) }
         ensures moved { self.new ≡ tx_moved self.old (step.Post posted.now) }
         ensures short { posted.now.payload < 2 ^ 16 }
@@ -245,7 +245,7 @@ impl TxMachine {
     }
 
     // The step, where the queue has it.
-    fn make(&mut self, step: &TxStep<Descriptor>) -> Result<Note, MachineError>
+    fn make(&mut self, step: &TxStep<SegmentDescriptor>) -> Result<Note, MachineError>
         ensures told { result ≡ tx_told self.old step.now }
         ensures moved { self.new ≡ tx_moved self.old step.now }
         ensures short { StepFits step.now }
@@ -267,7 +267,7 @@ impl TxMachine {
     }
 
     /// Makes each step that the queue has when its turn comes, passes over the others, and answers how many it made.
-    pub fn run(&mut self, steps: &[TxStep<Descriptor>]) -> usize
+    pub fn run(&mut self, steps: &[TxStep<SegmentDescriptor>]) -> usize
         ensures { TxRuns self.old steps.now result self.new }
     {
         let mut made = 0;

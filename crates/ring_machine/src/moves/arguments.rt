@@ -48,7 +48,7 @@ impl SegmentLength {
 /// What a transmit descriptor is posted with: the buffer's number, 1 to 2,048 bytes, whether they end the frame,
 /// whether a report is asked for, at the end of a frame alone, and the frame's length, 14 to 15,000.
 #[derive(Clone, Copy, PartialEq, Eq)]
-pub struct Descriptor {
+pub struct SegmentDescriptor {
     number: u16,
     len: u16,
     eop: bool,
@@ -56,7 +56,7 @@ pub struct Descriptor {
     paylen: u16,
 }
 
-impl Model for Descriptor {
+impl Model for SegmentDescriptor {
     ghost use Rattle.std.specs.Prelude.{◌≡◌, ℕ, ◌<◌, ◌≤◌, true};
     ghost use Rattle.ring_model.specs.transmit.Ring.{Posting, new_posting};
 
@@ -71,13 +71,13 @@ impl Model for Descriptor {
     ghost inverse = { λ p. record { number = p.number; len = p.payload; eop = p.eop; rs = p.rs; paylen = p.paylen } };
 }
 
-impl Descriptor {
+impl SegmentDescriptor {
     ghost use Rattle.ring_machine.specs.text.Arguments.{IsDescriptor};
     ghost use Rattle.ring_model.specs.transmit.Agreement.{tx_word};
     ghost use Rattle.ring_model.specs.transmit.Ring.{new_posting};
 
     /// These values, if a descriptor may have them.
-    pub fn new(number: u16, len: u16, eop: bool, rs: bool, paylen: u16) -> Option<Descriptor>
+    pub fn new(number: u16, len: u16, eop: bool, rs: bool, paylen: u16) -> Option<SegmentDescriptor>
         ensures lawful { IsSome result ↔ IsDescriptor len eop rs paylen }
         ensures value { IfSome result (λ d. d ≡ new_posting number len eop rs paylen) }
     {
@@ -89,7 +89,7 @@ impl Descriptor {
         if frame < LEAST_FRAME || frame > MOST_FRAME {
             return None;
         }
-        Some(Descriptor {
+        Some(SegmentDescriptor {
             number,
             len,
             eop,

@@ -8,7 +8,7 @@ ghost use Rattle.std.specs.Prelude.{◌≡◌, Some};
 ghost use Rattle.ring_machine.specs.text.Moves.{IsInRange, control_kind, name_of, rx_kind, text_of, tx_kind};
 
 use crate::moves::Move;
-use crate::moves::arguments::{Descriptor, SegmentLength};
+use crate::moves::arguments::{SegmentDescriptor, SegmentLength};
 use ring_model::{ControlStep, RxStep, TxStep};
 use std::fmt;
 use std::marker::Model;
@@ -104,7 +104,7 @@ fn rx_kind(step: RxStep<SegmentLength>) -> &'static str
     }
 }
 
-fn tx_kind(step: TxStep<Descriptor>) -> &'static str
+fn tx_kind(step: TxStep<SegmentDescriptor>) -> &'static str
     ensures { result.now ≡ tx_kind step }
 {
     match step {

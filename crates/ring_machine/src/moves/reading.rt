@@ -12,7 +12,7 @@ ghost use Rattle.ring_model.specs.declared.steps.RxStep.{RxStep};
 ghost use Rattle.ring_model.specs.declared.steps.TxStep.{TxStep};
 
 use crate::error::MachineError;
-use crate::moves::arguments::{Descriptor, SegmentLength};
+use crate::moves::arguments::{SegmentDescriptor, SegmentLength};
 use crate::moves::fields::arguments_in;
 use crate::moves::{Move, QueueNumber};
 use ring_model::{ControlStep, RxStep, TxStep};
@@ -114,7 +114,7 @@ fn plain_rx_step(kind: &[u8]) -> Option<RxStep<SegmentLength>>
 }
 
 // The transmit step of these fields.
-fn tx_step(kind: &[u8], arguments: &[u16]) -> Option<TxStep<Descriptor>>
+fn tx_step(kind: &[u8], arguments: &[u16]) -> Option<TxStep<SegmentDescriptor>>
     ensures { (s : TxStep (Posting ℕ)) → (result ≡ Some s) ↔ SpellsTx kind.now arguments.now s }
 {
     match (kind, arguments) {
@@ -125,18 +125,24 @@ fn tx_step(kind: &[u8], arguments: &[u16]) -> Option<TxStep<Descriptor>>
 }
 
 // B1 with these arguments.
-fn post_of(number: u16, len: u16, eop: u16, rs: u16, paylen: u16) -> Option<TxStep<Descriptor>>
+fn post_of(
+    number: u16,
+    len: u16,
+    eop: u16,
+    rs: u16,
+    paylen: u16,
+) -> Option<TxStep<SegmentDescriptor>>
     ensures { (s : TxStep (Posting ℕ)) → (result ≡ Some s)
         ↔ SpellsTx (codes "B1") (number ∷ len ∷ eop ∷ rs ∷ paylen ∷ []) s }
 {
     let eop = bool_of(eop)?;
     let rs = bool_of(rs)?;
-    let descriptor = Descriptor::new(number, len, eop, rs, paylen)?;
+    let descriptor = SegmentDescriptor::new(number, len, eop, rs, paylen)?;
     Some(TxStep::Post(descriptor))
 }
 
 // The transmit step of a kind that has no arguments.
-fn plain_tx_step(kind: &[u8]) -> Option<TxStep<Descriptor>>
+fn plain_tx_step(kind: &[u8]) -> Option<TxStep<SegmentDescriptor>>
     ensures { (s : TxStep (Posting ℕ)) → (result ≡ Some s) ↔ SpellsTx kind.now [] s }
 {
     match kind {

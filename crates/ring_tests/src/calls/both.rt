@@ -127,7 +127,7 @@ impl Both {
 
     fn take(&mut self) -> Option<Note> {
         match self.driver.poll(&self.ring) {
-            Poll::Segment(buf, eop) => {
+            Poll::Segment { buf, eop } => {
                 let taken = TakenSegment {
                     buffer: buf.number(),
                     len: buf.len() as u32,

@@ -60,7 +60,7 @@ pub(crate) fn receive<R: Wait>(rt: &R, ring: &RxRing, driver: &mut RxDriverEnd, 
         if k >= most {
             break;
         }
-        if let Poll::Segment(mut buf, eop) = driver.poll(ring) {
+        if let Poll::Segment { mut buf, eop } = driver.poll(ring) {
             if eop && is_frame(k, buf.bytes()) {
                 good = good.saturating_add(1);
             }

@@ -14,7 +14,7 @@ use super::{DriverSeat, Ring};
 use crate::accesses::{driver_load, driver_store};
 use crate::control::Control;
 use crate::direction::Direction;
-use crate::ends::{DriverPlaces, Handshake};
+use crate::ends::{DriverPlaces, HandshakeStep};
 use crate::plays::{
     AskDisableStore, AskEnableStore, ClearHeadStore, ClearTailStore, ControlLoad, HeadLoad,
     PostStore, PublishStore,
@@ -174,7 +174,7 @@ impl<D, C, R: Direction<D, C>> DriverSeat<D, C, R> {
     pub fn shake(
         &mut self,
         ring: &Ring<D, C, R>,
-        step: Handshake,
+        step: HandshakeStep,
         state: &mut DriverState,
     ) -> Control
         requires own { self.old.table ≡ ring.now }
@@ -185,17 +185,17 @@ impl<D, C, R: Direction<D, C>> DriverSeat<D, C, R> {
         ensures state { state.new ≡ shaken step state.old (control_word result) }
     {
         match step {
-            Handshake::AskEnable => {
+            HandshakeStep::AskEnable => {
                 self.ask_enable(ring);
                 *state = DriverState::Asked;
                 Control::EnableAsked
             }
-            Handshake::LoadControl => {
+            HandshakeStep::LoadControl => {
                 let control = self.load_control(ring);
                 *state = state.learned(control.word());
                 control
             }
-            Handshake::AskDisable => {
+            HandshakeStep::AskDisable => {
                 self.ask_disable(ring);
                 *state = DriverState::Stopping;
                 Control::DisableAsked

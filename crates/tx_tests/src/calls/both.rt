@@ -10,7 +10,7 @@ ghost use Rattle.tx_tests.specs.Begun.{AreOfFrame};
 
 use buffer_pool::{Buf, Stash};
 use limits::{LEAST_FRAME, MOST_FRAME, MOST_SEGMENTS};
-use ring_machine::{Descriptor, TxMachine};
+use ring_machine::{SegmentDescriptor, TxMachine};
 use ring_model::{ControlStep, FetchedSegment, Note, Owner, TxStep};
 use std::alloc::Global;
 use std::test::Fail;
@@ -21,7 +21,7 @@ use test_kit::{
 use tx_ring::{Completion, ControllerEnd, DriverEnd, TxControllerEnd, TxDriverEnd, TxRing, close};
 
 /// A step of a transmit ring.
-pub(crate) type Step = TxStep<Descriptor>;
+pub(crate) type Step = TxStep<SegmentDescriptor>;
 
 /// The frame that is begun: its postings so far, their bytes, and the length of the whole.
 #[derive(Clone, Copy, Drop)]
@@ -92,7 +92,7 @@ impl Both {
     }
 
     // Whether this may be posted behind the frame that is begun.
-    fn may_follow(&self, next: &Descriptor) -> bool
+    fn may_follow(&self, next: &SegmentDescriptor) -> bool
         ensures segments { result ≡ true → self.now.begun.segments < MOST_SEGMENTS }
         ensures descriptors { result ≡ true → self.now.begun.segments + 1 < driver_size self.now.driver }
         ensures some { result ≡ true → 0 < next.now.payload }
@@ -126,7 +126,7 @@ impl Both {
         }
     }
 
-    fn post(&mut self, next: Descriptor) -> Option<Note> {
+    fn post(&mut self, next: SegmentDescriptor) -> Option<Note> {
         if self.driver.room() == 0 || !self.driver.is_open() || !self.may_follow(&next) {
             return None;
         }
@@ -265,7 +265,7 @@ impl Both {
         let len = most.min(2_048);
         let eop = len == left;
         let rs = eop && random.below(2) == 0;
-        Descriptor::new(0, len as u16, eop, rs, frame).map_or(TxStep::Publish, TxStep::Post)
+        SegmentDescriptor::new(0, len as u16, eop, rs, frame).map_or(TxStep::Publish, TxStep::Post)
     }
 }
 
@@ -316,7 +316,7 @@ impl Beside for Both {
         match step {
             TxStep::Post(next) => {
                 let (eop, rs) = (next.eop(), next.rs());
-                let next = Descriptor::new(self.number, next.len(), eop, rs, next.paylen())?;
+                let next = SegmentDescriptor::new(self.number, next.len(), eop, rs, next.paylen())?;
                 machine.step(TxStep::Post(next)).ok()
             }
             TxStep::LoadReport => match machine.step(step) {

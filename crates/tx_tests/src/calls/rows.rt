@@ -1,7 +1,7 @@
 //! Rows by calls, on one thread, in both completions.
 
 use crate::calls::both::{Both, Step};
-use ring_machine::Descriptor;
+use ring_machine::SegmentDescriptor;
 use ring_model::{FetchedSegment, Note, TxStep};
 use std::alloc::Global;
 use std::test::Fail;
@@ -12,7 +12,7 @@ const BOTH_WAYS: [Completion; 2] = [Completion::Status, Completion::Head];
 
 /// A posting of so many bytes.
 fn posting(len: u16, eop: bool, rs: bool, paylen: u16) -> Step {
-    Descriptor::new(0, len, eop, rs, paylen).map_or(TxStep::ClearTail, TxStep::Post)
+    SegmentDescriptor::new(0, len, eop, rs, paylen).map_or(TxStep::ClearTail, TxStep::Post)
 }
 
 /// A frame of 60 bytes in the buffer of this number is to be sent.
