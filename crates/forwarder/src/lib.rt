@@ -5,8 +5,12 @@
 #![tactic(auto)]
 
 mod config;
+mod forward;
 mod index;
 mod lines;
+mod report;
 
-pub use config::Config;
+pub use config::{Config, LEAST_SHARE};
+pub use forward::forward;
 pub use index::Index;
+pub use report::Report;
