@@ -5,8 +5,13 @@
 #![tactic(auto)]
 
 mod config;
+
 mod index;
 mod lines;
+mod report;
+mod running;
 
-pub use config::Config;
+pub use config::{Config, LEAST_SHARE};
+pub use running::forward;
 pub use index::Index;
+pub use report::Report;
