@@ -1,7 +1,7 @@
 //! The driver's side of a flow.
 ghost use Rattle.std.specs.Prelude.{◌≡◌, ◌+◌, ◌<◌, ◌≤◌, ◌↔◌, true, [], length, IsSome, IfSome};
 ghost use Rattle.driver.specs.declared.rx_driver.TheConstants.{MOST_BATCH};
-ghost use Rattle.driver.specs.declared.tx_driver.TheConstants.{MOST_RS_EVERY};
+ghost use Rattle.limits.specs.declared.profile.TheConstants.{MOST_RS_EVERY};
 ghost use Rattle.shared_ring.specs.Calls.{IsFreshDriver};
 ghost use Rattle.pool.specs.Owned.{IsOf};
 ghost use Rattle.rx_ring.specs.Ends.{posted, published};

@@ -1,10 +1,9 @@
 -- Which configurations are lawful.
 use Rattle.std.specs.Prelude.{◌*◌, ◌/◌, ◌<◌, ◌≤◌, true, false, List, All}
-use Rattle.limits.specs.declared.profile.TheConstants.{FEWEST_BUFFERS, MOST_BUFFERS, MOST_PAIRS}
+use Rattle.limits.specs.declared.profile.TheConstants.{FEWEST_BUFFERS, MOST_BUFFERS, MOST_PAIRS, MOST_RS_EVERY}
 use Rattle.limits.specs.RingLength.{IsRingLength}
 use Rattle.controller.specs.FillSize.{IsFillSize}
 use Rattle.driver.specs.declared.rx_driver.TheConstants.{MOST_BATCH}
-use Rattle.driver.specs.declared.tx_driver.TheConstants.{MOST_RS_EVERY}
 use Rattle.ring_model.specs.declared.states.Completion.TheVariants.{Status}
 use Rattle.wire_script.specs.Frame.{Frame}
 use Rattle.forwarder.specs.declared.config.Config.{Config}

@@ -4,9 +4,9 @@ ghost use Rattle.forwarding.specs.declared.error.ForwardError.TheVariants.{Confi
 ghost use Rattle.forwarder.specs.Configs.{IsLawful, HasLawfulQueues, HasLawfulBuffers, HasLawfulWork, FitsIn};
 
 use controller::is_fill_size;
-use driver::{MOST_BATCH, MOST_RS_EVERY};
+use driver::MOST_BATCH;
 use forwarding::ForwardError;
-use limits::{FEWEST_BUFFERS, MOST_BUFFERS, MOST_PAIRS, is_ring_length};
+use limits::{FEWEST_BUFFERS, MOST_BUFFERS, MOST_PAIRS, MOST_RS_EVERY, is_ring_length};
 use std::fmt;
 use tx_ring::Completion;
 use wire_script::{Script, WireFrame};
