@@ -2,12 +2,12 @@
 use Rattle.std.proofs.Common.{◌≡◌, ◌∙◌, ℕ, ◌+◌, ◌<◌, List, [], ◌∷◌, ◌++◌, refl, ap, sym, subst, length, get_or, zero, suc, inl, inr, arith}
 use Rattle.std.proofs.lemmas.Bool.{cases_eq}
 
-before : {X : Type 0} (xs : List X) (x d : X) (i : ℕ) → i < length xs → get_or (xs ++ x ∷ []) i d ≡ get_or xs i d
+pub before : {X : Type 0} (xs : List X) (x d : X) (i : ℕ) → i < length xs → get_or (xs ++ x ∷ []) i d ≡ get_or xs i d
 before [] x d i low = absurd (omega (arith, low))
 before (y ∷ ys) x d zero low = refl
 before (y ∷ ys) x d (suc i) low = before ys x d i (omega (arith, low))
 
-last : {X : Type 0} (xs : List X) (x d : X) → get_or (xs ++ x ∷ []) (length xs) d ≡ x
+pub last : {X : Type 0} (xs : List X) (x d : X) → get_or (xs ++ x ∷ []) (length xs) d ≡ x
 last [] x d = refl
 last (y ∷ ys) x d = last ys x d
 

@@ -1,3 +1,4 @@
 pub mod Configs
 pub mod Flows
 pub mod Lines
+pub mod Plans

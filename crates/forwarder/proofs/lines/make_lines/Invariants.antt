@@ -1,5 +1,4 @@
-use Rattle.std.proofs.Common.{◌≡◌, ℕ, ◌*◌, ◌<◌, ◌≤◌, vec_items, vec_len, vec_capacity, get_or}
-use Rattle.limits.specs.declared.profile.TheConstants.{PORTS}
+use Rattle.std.proofs.Common.{◌≡◌, ℕ, ◌<◌, ◌≤◌, vec_items, vec_len, vec_capacity, get_or}
 use Rattle.forwarder.specs.Lines.{AreEnds}
 use Rattle.forwarder.proofs.lines.make_lines.Given as goal
 

@@ -1,0 +1,79 @@
+-- Places of a script, and lists that go together place by place.
+use Rattle.std.proofs.Common.{◌≡◌, ◌∙◌, ℕ, ◌+◌, ◌<◌, ◌≤◌, ◌==◌, Bool, true, false, List, [], ◌∷◌, ◌++◌, All, refl, ap, sym, subst, cond, drop, length, get_or, zero, suc, inl, inr, arith}
+use Rattle.std.proofs.lemmas.Bool.{cases_eq}
+use Rattle.wire_script.specs.Frame.{Frame}
+use Rattle.forwarder.specs.Flows.{flow_of, places_from, places_of}
+use Rattle.forwarder.proofs.Pairs.{before, last}
+
+all-more : {X : Type 0} (P : X → Type 0) (x : X) (xs : List X) → P x → All P xs → All P (x ∷ xs)
+all-more P x xs one later zero d low = one
+all-more P x xs one later (suc i) d low = later i d (omega (arith, low))
+
+places-from-low : (pairs flow k n : ℕ) (xs : List Frame) → k + length xs ≤ n → All (λ p. p < n) (places_from pairs flow k xs)
+places-from-low pairs flow k n [] low = λ i d far. absurd (omega (arith, far))
+places-from-low pairs flow k n (x ∷ xs) low = by-case (flow_of pairs x == flow) (places_from pairs flow (k + 1) xs) (omega (arith, low)) (places-from-low pairs flow (k + 1) n xs (omega (arith, low)))
+  where
+    by-case : (b : Bool) (later : List ℕ) → k < n → All (λ p. p < n) later → All (λ p. p < n) (cond b (k ∷ later) later)
+    by-case true later here all = all-more (λ p. p < n) k later here all
+    by-case false later here all = all
+
+places-from-few : (pairs flow k : ℕ) (xs : List Frame) → length (places_from pairs flow k xs) ≤ length xs
+places-from-few pairs flow k [] = omega arith
+places-from-few pairs flow k (x ∷ xs) = by-case (flow_of pairs x == flow) (places_from pairs flow (k + 1) xs) (places-from-few pairs flow (k + 1) xs)
+  where
+    by-case : (b : Bool) (later : List ℕ) → length later ≤ length xs → length (cond b (k ∷ later) later) ≤ length (x ∷ xs)
+    by-case true later few = omega (arith, few)
+    by-case false later few = omega (arith, few)
+
+-- the places of a flow's frames are places of the script
+pub places-low : (pairs flow : ℕ) (xs : List Frame) → All (λ p. p < length xs) (places_of pairs flow xs)
+places-low pairs flow xs = places-from-low pairs flow 0 (length xs) xs (omega arith)
+
+-- and no more than it has
+pub places-few : (pairs flow : ℕ) (xs : List Frame) → length (places_of pairs flow xs) ≤ length xs
+places-few pairs flow xs = places-from-few pairs flow 0 xs
+
+-- two lists that go together place by place, one item more in each
+pub places-more : {A B : Type 0} (R : ℕ → A → B → Type 0) (xs xs' : List A) (x : A) (ys ys' : List B) (y : B) (n : ℕ)
+    → length xs ≡ n → length ys ≡ n → xs' ≡ xs ++ x ∷ [] → ys' ≡ ys ++ y ∷ [] → R n x y
+    → ((k : ℕ) (d : A) (e : B) → k < n → R k (get_or xs k d) (get_or ys k e))
+    → (k : ℕ) (d : A) (e : B) → k < n + 1 → R k (get_or xs' k d) (get_or ys' k e)
+places-more R xs xs' x ys ys' y n many many' pushed pushed' new old k d e low = elim (cases_eq k n) [
+  | inl same ↦ subst (λ a. R k a (get_or ys' k e))
+      (sym (ap (λ l. get_or l k d) pushed ∙ ap (λ i. get_or (xs ++ x ∷ []) i d) (same ∙ sym many) ∙ last xs x d))
+      (subst (λ b. R k x b) (sym (ap (λ l. get_or l k e) pushed' ∙ ap (λ i. get_or (ys ++ y ∷ []) i e) (same ∙ sym many') ∙ last ys y e)) (subst (λ i. R i x y) (sym same) new))
+  | inr other ↦ (let less : k < n = omega (arith, low, other) in
+      subst (λ a. R k a (get_or ys' k e)) (sym (ap (λ l. get_or l k d) pushed ∙ before xs x d k (omega (arith, less, many))))
+      (subst (λ b. R k (get_or xs k d) b) (sym (ap (λ l. get_or l k e) pushed' ∙ before ys y e k (omega (arith, less, many')))) (old k d e less)))
+]
+
+-- the first of what is left, where n were taken, and what is left then
+pub drop-first : {X : Type 0} (n : ℕ) (xs : List X) (x : X) (tail : List X) → drop n xs ≡ x ∷ tail → (d : X) → get_or xs n d ≡ x
+drop-first zero xs x tail e d = ap (λ l. get_or l 0 d) e
+drop-first (suc n) [] x tail e d = absurd (omega (arith, ap length e))
+drop-first (suc n) (y ∷ ys) x tail e d = drop-first n ys x tail e d
+
+pub drop-later : {X : Type 0} (n : ℕ) (xs : List X) (x : X) (tail : List X) → drop n xs ≡ x ∷ tail → tail ≡ drop (n + 1) xs
+drop-later zero xs x tail e = sym (ap (drop 1) e)
+drop-later (suc n) [] x tail e = absurd (omega (arith, ap length e))
+drop-later (suc n) (y ∷ ys) x tail e = drop-later n ys x tail e ∙ ap (λ k. drop k (y ∷ ys)) (next n)
+  where
+    next : (k : ℕ) → suc (k + 1) ≡ suc k + 1
+    next k = omega arith
+
+pub drop-within : {X : Type 0} (n : ℕ) (xs : List X) (x : X) (tail : List X) → drop n xs ≡ x ∷ tail → n < length xs
+drop-within zero [] x tail e = absurd (omega (arith, ap length e))
+drop-within zero (y ∷ ys) x tail e = omega arith
+drop-within (suc n) [] x tail e = absurd (omega (arith, ap length e))
+drop-within (suc n) (y ∷ ys) x tail e = (let h = drop-within n ys x tail e in omega (arith, h))
+
+-- a list whose items say something of their places, one item more
+pub list-more : {B : Type 0} (R : ℕ → B → Type 0) (ys ys' : List B) (y : B) (n : ℕ) → length ys ≡ n → ys' ≡ ys ++ y ∷ [] → R n y
+    → ((k : ℕ) (e : B) → k < n → R k (get_or ys k e)) → (k : ℕ) (e : B) → k < n + 1 → R k (get_or ys' k e)
+list-more R ys ys' y n many pushed new old k e low = places-more (λ i a b. R i b) ys ys' y ys ys' y n many many pushed pushed new (λ i d f less. old i f less) k e e low
+
+-- an item that is there is the same whatever stands for a missing one
+pub any-default : {X : Type 0} (xs : List X) (n : ℕ) (d e : X) → n < length xs → get_or xs n d ≡ get_or xs n e
+any-default [] n d e low = absurd (omega (arith, low))
+any-default (x ∷ xs) zero d e low = refl
+any-default (x ∷ xs) (suc n) d e low = any-default xs n d e (omega (arith, low))

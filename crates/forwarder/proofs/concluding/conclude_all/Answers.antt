@@ -1,0 +1,69 @@
+use Rattle.std.proofs.Common.{rules, ◌≡◌, ◌∙◌, ◌<◌, ◌∷◌, true, length, map, get_or, ap, sym, subst, refl}
+use Rattle.std.specs.Vec.Iter.{into_iter_items}
+use Rattle.flows.specs.Driven.{is_over}
+use Rattle.flows.specs.Keys.{ControllerKey, DriverKey, plan_of}
+use Rattle.flows.specs.Reports.{IsReport}
+use Rattle.forwarder.specs.Plans.{AreOfLine}
+use Rattle.forwarder.proofs.Places.{by-map}
+use Rattle.forwarder.proofs.Plans.{drop-first, drop-later, drop-within, list-more}
+use Rattle.forwarder.proofs.concluding.conclude_all.Goals as goal
+
+pub conclude_flow-report-requires : goal.conclude_flow-report-requires
+conclude_flow-report-requires c =
+    let was = c.loop-driver.invariant in
+    let n = c.loop-driver.number in
+    let driver = c.in-Some.driver in
+    let controller = c.in-Some-next.controller in
+    let line = c.index-lines-number.result in
+    let drivers = c.args.drivers.items in
+    let controllers = c.args.controllers.items in
+    let first = sym was.drivers ∙ c.in-Some.ensures.steps.0 in
+    let other : into_iter_items c.loop-driver.controllers ≡ controller ∷ into_iter_items c.next-in-loop-driver.new.self = search rules in
+    let first' = sym was.controllers ∙ other in
+    let within = drop-within n drivers driver _ first in
+    let within' = drop-within n controllers controller _ first' in
+    let low : n < length c.args.lines.now = search rules in
+    let at : get_or c.args.lines.now n line ≡ line = search rules in
+    let key = by-map (λ f. f.key) drivers n driver.key driver.key within (λ e. ap (λ f. f.key) (drop-first n drivers driver _ first e)) in
+    let key' = by-map (λ f. f.key) controllers n controller.key controller.key within' (λ e. ap (λ f. f.key) (drop-first n controllers controller _ first' e)) in (
+      (refl, refl),
+      (
+        subst (λ f. is_over f.phase ≡ true) (drop-first n drivers driver _ first driver) (c.requires.over n driver within),
+        (
+          subst (λ l. AreOfLine c.args.pool.now l driver.key controller.key) at
+              (subst (λ k. AreOfLine c.args.pool.now (get_or c.args.lines.now n line) k controller.key) key
+              (subst (λ k. AreOfLine c.args.pool.now (get_or c.args.lines.now n line) (get_or (map (λ f. f.key) drivers) n driver.key) k) key' (c.requires.lines n line driver.key controller.key low))),
+          was.pool,
+        ),
+      ),
+    )
+
+pub loop-driver-preserved : goal.loop-driver-preserved
+loop-driver-preserved c =
+    let was = c.loop-driver.invariant in
+    let n = c.loop-driver.number in
+    let driver = c.in-Some.driver in
+    let controller = c.in-Some-next.controller in
+    let drivers = c.args.drivers.items in
+    let controllers = c.args.controllers.items in
+    let first = sym was.drivers ∙ c.in-Some.ensures.steps.0 in
+    let other : into_iter_items c.loop-driver.controllers ≡ controller ∷ into_iter_items c.next-in-loop-driver.new.self = search rules in
+    let first' = sym was.controllers ∙ other in
+    let within = drop-within n drivers driver _ first in
+    let within' = drop-within n controllers controller _ first' in
+    let key : (d : DriverKey) → get_or (map (λ f. f.key) drivers) n d ≡ driver.key = λ d. by-map (λ f. f.key) drivers n driver.key d within (λ e. ap (λ f. f.key) (drop-first n drivers driver _ first e)) in
+    let key' : (k : ControllerKey) → get_or (map (λ f. f.key) controllers) n k ≡ controller.key = λ k. by-map (λ f. f.key) controllers n controller.key k within' (λ e. ap (λ f. f.key) (drop-first n controllers controller _ first' e)) in
+    record {
+      drivers = drop-later n drivers driver _ first;
+      controllers = drop-later n controllers controller _ first';
+      count = search rules;
+      both = search rules;
+      room = search rules;
+      len = search rules;
+      pool = c.conclude_flow-report.ensures.pool;
+      reports = (λ flow d k r low. list-more (λ i report. (a : DriverKey) (b : ControllerKey) → IsReport (plan_of (get_or (map (λ f. f.key) drivers) i a) (get_or (map (λ f. f.key) controllers) i b)) report)
+          c.loop-driver.reports.items c.push_reserved.new.self.items c.conclude_flow-report.result n (search rules) c.push_reserved.ensures.items
+          (λ a b. subst (λ p. IsReport (plan_of p (get_or (map (λ f. f.key) controllers) n b)) c.conclude_flow-report.result) (sym (key a))
+          (subst (λ p. IsReport (plan_of driver.key p) c.conclude_flow-report.result) (sym (key' b)) c.conclude_flow-report.ensures.report))
+          (λ i e less a b. was.reports i a b e less) flow r low d k);
+    }

@@ -1,0 +1,21 @@
+use Rattle.std.proofs.Common.{◌≡◌, ◌+◌, ◌≤◌, map, drop, length, vec_items, vec_len, vec_capacity}
+use Rattle.std.specs.Vec.Iter.{into_iter_items, into_iter_len}
+use Rattle.pool.specs.Owned.{IsOf}
+use Rattle.forwarder.specs.Plans.{AreReports}
+use Rattle.forwarder.proofs.concluding.conclude_all.Given as goal
+
+abbrev pub ghost-conclude_flow : goal.ghost-conclude_flow
+ghost-conclude_flow a = (a.driver.key, a.controller.key)
+
+abbrev pub invariant-loop-driver : goal.invariant-loop-driver
+invariant-loop-driver l =
+    record {
+      drivers : into_iter_items l.driver-iterator ≡ drop l.number l.fn.drivers.items;
+      controllers : into_iter_items l.controllers ≡ drop l.number l.fn.controllers.items;
+      count : l.number + into_iter_len l.driver-iterator ≡ length l.lines;
+      both : l.number + into_iter_len l.controllers ≡ length l.lines;
+      room : length l.lines ≤ vec_capacity l.reports;
+      len : vec_len l.reports ≡ l.number;
+      pool : IsOf l.pool l.pass;
+      reports : AreReports l.number (map (λ f. f.key) l.fn.drivers.items) (map (λ f. f.key) l.fn.controllers.items) (vec_items l.reports);
+    }

@@ -1,0 +1,64 @@
+use Rattle.std.proofs.Common.{rules, ◌≡◌, ◌∙◌, ◌*◌, ◌<◌, [], ◌∷◌, length, map, get_or, ap, sym, subst, arith}
+use Rattle.std.proofs.lemmas.List.{length-map, map-append}
+use Rattle.limits.specs.declared.profile.TheConstants.{PORTS}
+use Rattle.pool.specs.Owned.{IsOf}
+use Rattle.forwarder.specs.Lines.{AreEnds}
+use Rattle.forwarder.specs.Plans.{AreSides, plan}
+use Rattle.forwarder.specs.declared.lines.Line.{Line}
+use Rattle.forwarder.proofs.Plans.{any-default, drop-first, drop-later, drop-within, places-more}
+use Rattle.forwarder.proofs.sides.make_sides.Goals as goal
+
+pub make_side-side-requires-clause-places : goal.make_side-side-requires-clause-places
+make_side-side-requires-clause-places g c =
+    let was = c.loop-own.invariant in
+    let within = drop-within c.loop-own.number c.args.ends.items c.in-Some.own _ (sym was.ends ∙ c.in-Some.ensures.steps.0) in
+    let low : c.loop-own.number < PORTS * c.args.config.now.pairs = search rules in
+    c.places-places.ensures [] ∙ c.requires.places c.loop-own.number [] low
+
+pub make_side-side-requires-clause-ends : goal.make_side-side-requires-clause-ends
+make_side-side-requires-clause-ends g c =
+    let was = c.loop-own.invariant in
+    let n = c.loop-own.number in
+    let config = c.args.config.now in
+    let line = c.index-lines-number.result in
+    let own = c.in-Some.own in
+    let first = sym was.ends ∙ c.in-Some.ensures.steps.0 in
+    let within = drop-within n c.args.ends.items own _ first in
+    let low : n < PORTS * config.pairs = search rules in
+    let at : get_or c.args.lines.now n line ≡ line = search rules in
+    subst (λ l. AreEnds config.ring config.completion l own) at
+    (subst (λ e. AreEnds config.ring config.completion (get_or c.args.lines.now n line) e) (drop-first n c.args.ends.items own _ first own) (c.requires.ends n line own low))
+
+pub loop-own-preserved : goal.loop-own-preserved
+loop-own-preserved g c =
+    let was = c.loop-own.invariant in
+    let n = c.loop-own.number in
+    let config = c.args.config.now in
+    let pool = c.args.pool.now in
+    let line = c.index-lines-number.result in
+    let side = c.make_side-side.result in
+    let first = sym was.ends ∙ c.in-Some.ensures.steps.0 in
+    let kept = c.split-share.ensures.kept in
+    let drivers = c.loop-own.drivers.items in
+    let controllers = c.loop-own.controllers.items in
+    let here : get_or c.args.lines.now n line ≡ line = search rules in
+    let within = drop-within n c.args.ends.items c.in-Some.own _ first in
+    let low : n < length c.args.lines.now = search rules in
+    let at : (e : Line) → get_or c.args.lines.now n e ≡ line = λ e. any-default c.args.lines.now n e line low ∙ here in
+    record {
+      ends = drop-later n c.args.ends.items c.in-Some.own _ first;
+      count = search rules;
+      drivers = search rules;
+      controllers = search rules;
+      room = search rules;
+      pool = subst (IsOf pool) (sym kept) (record { pool = was.pool.pool; count = was.pool.count });
+      share = (let less = ap (λ p. p.hand.share) kept in omega (arith, less, was.share));
+      sides = (λ k l d s low. places-more (λ i a b. (e : Line) → AreSides (plan config c.args.script.now i) pool (get_or c.args.lines.now i e) a b)
+          (map (λ f. f.key) drivers) (map (λ f. f.key) c.push_reserved.new.self.items) side.driver.key
+          (map (λ f. f.key) controllers) (map (λ f. f.key) c.push_reserved-in-loop-own.new.self.items) side.controller.key n
+          (search (rules, length-map)) (search (rules, length-map))
+          (ap (map (λ f. f.key)) c.push_reserved.ensures.items ∙ map-append (λ f. f.key) drivers (side.driver ∷ []))
+          (ap (map (λ f. f.key)) c.push_reserved-in-loop-own.ensures.items ∙ map-append (λ f. f.key) controllers (side.controller ∷ []))
+          (λ e. subst (λ l. AreSides (plan config c.args.script.now n) pool l side.driver.key side.controller.key) (sym (at e)) c.make_side-side.ensures)
+          (λ i a b less e. was.sides i e a b less) k d s low l);
+    }

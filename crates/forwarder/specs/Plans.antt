@@ -1,0 +1,39 @@
+-- What each flow is, and what its two sides are of.
+use Rattle.std.specs.Prelude.{◌≡◌, ℕ, ◌<◌, List, slice_index_or}
+use Rattle.flows.specs.Keys.{ControllerKey, DriverKey, Plan, frames_at, plan_of}
+use Rattle.flows.specs.Reports.{IsReport}
+use Rattle.flows.specs.declared.report.FlowReport.{FlowReport}
+use Rattle.pool.specs.Owned.{Pooled}
+use Rattle.wire_script.specs.Frame.{Frame}
+use Rattle.forwarder.specs.declared.config.Config.{Config}
+use Rattle.forwarder.specs.declared.lines.Line.{Line}
+use Rattle.forwarder.specs.Flows.{places_of}
+
+-- what a flow of the script is, under this configuration: its frames are the script's that come in at its port and queue, in order
+abbrev pub plan : Config → List Frame → ℕ → Plan
+plan c script flow = record { frames = frames_at script (places_of c.pairs flow script); size = c.ring; fill = c.bsize; drops = c.drop_en; retries = c.retry; turns = c.turns }
+
+-- both sides are of the flow's two rings, and the driver's is of the pool
+pub record AreOfLine (pool : Pooled) (line : Line) (d : DriverKey) (c : ControllerKey) : Type 0 where
+  pub of_pool : d.pool ≡ pool
+  pub from : (d.from ≡ line.from) × (c.input.from ≡ line.from)
+  pub to : (d.to ≡ line.to) × (c.to ≡ line.to)
+
+-- and what both were told is this plan
+pub record AreSides (p : Plan) (pool : Pooled) (line : Line) (d : DriverKey) (c : ControllerKey) : Type 0 where
+  pub of_line : AreOfLine pool line d c
+  pub plan : plan_of d c ≡ p
+
+-- these are the sides of the first n flows, place by place
+abbrev pub AreAllSides : (ℕ → Plan) → Pooled → ℕ → List Line → List DriverKey → List ControllerKey → Type 0
+AreAllSides plans pool n lines drivers controllers =
+    (flow : ℕ) (l : Line) (d : DriverKey) (c : ControllerKey) → flow < n → AreSides (plans flow) pool (slice_index_or lines flow l) (slice_index_or drivers flow d) (slice_index_or controllers flow c)
+
+abbrev pub AreOfLines : Pooled → ℕ → List Line → List DriverKey → List ControllerKey → Type 0
+AreOfLines pool n lines drivers controllers =
+    (flow : ℕ) (l : Line) (d : DriverKey) (c : ControllerKey) → flow < n → AreOfLine pool (slice_index_or lines flow l) (slice_index_or drivers flow d) (slice_index_or controllers flow c)
+
+-- a report for each of n flows, of what both sides were told
+abbrev pub AreReports : ℕ → List DriverKey → List ControllerKey → List FlowReport → Type 0
+AreReports n drivers controllers reports =
+    (flow : ℕ) (d : DriverKey) (c : ControllerKey) (r : FlowReport) → flow < n → IsReport (plan_of (slice_index_or drivers flow d) (slice_index_or controllers flow c)) (slice_index_or reports flow r)

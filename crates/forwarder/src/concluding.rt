@@ -1,0 +1,65 @@
+//! What became of all flows, once both sides of each are over.
+ghost use Rattle.std.specs.Prelude.{◌≡◌, ◌≤◌, true, All, [], length, map, vec_len, vec_capacity};
+ghost use Rattle.flows.specs.Driven.{is_over};
+ghost use Rattle.flows.specs.Keys.{ControllerKey, DriverKey, plan_of};
+ghost use Rattle.flows.specs.Reports.{IsReport};
+ghost use Rattle.pool.specs.Owned.{IsOf};
+ghost use Rattle.forwarder.specs.Plans.{AreOfLine, AreOfLines, AreReports};
+
+use crate::lines::Line;
+use flows::{ControllerFlow, DriverFlow, FlowReport, conclude};
+use pool::{Pool, PoolPass};
+
+/// Both sides of a flow meet. The driver's pass is joined.
+fn conclude_flow(
+    line: &Line,
+    driver: DriverFlow<'_>,
+    controller: ControllerFlow<'_>,
+    pool: &Pool,
+    pass: &mut PoolPass,
+) -> FlowReport
+    ghost keys: { DriverKey × ControllerKey }
+    requires keys { (driver.key ≡ keys.0) × (controller.key ≡ keys.1) }
+    requires over { is_over driver.phase ≡ true }
+    requires of_line { AreOfLine pool.now line.now keys.0 keys.1 }
+    requires pool { IsOf pool.now pass.old }
+    ensures report { IsReport (plan_of keys.0 keys.1) result }
+    ensures pool { IsOf pool.now pass.new }
+{
+    let Some((done, own)) = driver.into_done() else {
+        unreachable!()
+    };
+    pass.join(pool, own);
+    conclude(&line.from, &line.to, done, controller.into_done())
+}
+
+/// Both sides of each flow meet. The room for the reports was there before.
+pub(crate) fn conclude_all(
+    lines: &[Line],
+    drivers: Vec<DriverFlow<'_>>,
+    controllers: Vec<ControllerFlow<'_>>,
+    pool: &Pool,
+    pass: &mut PoolPass,
+    mut reports: Vec<FlowReport>,
+) -> Vec<FlowReport>
+    requires flows { (vec_len drivers ≡ length lines.now) × (vec_len controllers ≡ length lines.now) }
+    requires over { All (λ f. is_over f.phase ≡ true) drivers.items }
+    requires lines { AreOfLines pool.now (length lines.now) lines.now (map (λ f. f.key) drivers.items) (map (λ f. f.key) controllers.items) }
+    requires pool { IsOf pool.now pass.old }
+    requires none { reports.items ≡ [] }
+    requires room { length lines.now ≤ vec_capacity reports }
+    ensures flows { vec_len result ≡ length lines.now }
+    ensures reports { AreReports (length lines.now) (map (λ f. f.key) drivers.entry.items) (map (λ f. f.key) controllers.entry.items) result.items }
+{
+    let mut controllers = controllers.into_iter();
+    let mut number = 0;
+    for driver in drivers {
+        let Some(controller) = controllers.next() else {
+            unreachable!()
+        };
+        let report = conclude_flow(&lines[number], driver, controller, pool, pass);
+        reports.push_reserved(report);
+        number += 1;
+    }
+    reports
+}

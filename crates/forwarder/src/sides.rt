@@ -1,0 +1,138 @@
+//! Both sides of all flows.
+ghost use Rattle.std.specs.Prelude.{◌≡◌, ℕ, ◌*◌, ◌<◌, [], IfOk, IfErr, length, map, vec_len, slice_index_or};
+ghost use Rattle.limits.specs.declared.profile.TheConstants.{MOST_PAIRS, PORTS};
+ghost use Rattle.forwarding.specs.declared.error.ForwardError.TheVariants.{Memory};
+ghost use Rattle.pool.specs.Owned.{IsOf};
+ghost use Rattle.forwarder.specs.Configs.{IsLawful};
+ghost use Rattle.forwarder.specs.Flows.{places_of};
+ghost use Rattle.forwarder.specs.Lines.{AreEnds};
+ghost use Rattle.forwarder.specs.Plans.{AreSides, AreAllSides, plan};
+
+use crate::config::Config;
+use crate::index::Index;
+use crate::lines::{Line, LineEnds};
+use flows::{ControllerFlow, DriverFlow, Task};
+use forwarding::ForwardError;
+use pool::{Pool, PoolPass};
+use std::alloc::Global;
+use std::sync::Wait;
+use wire_script::Script;
+
+/// How many buffers a flow may hold beyond a full receive ring.
+const STASHED: u32 = 255;
+
+/// Both sides of one flow.
+#[derive(Drop)]
+struct Side<'a> {
+    driver: DriverFlow<'a>,
+    controller: ControllerFlow<'a>,
+}
+
+/// Both sides of all flows, in the order of the flows.
+#[derive(Drop)]
+pub(crate) struct Sides<'a> {
+    pub drivers: Vec<DriverFlow<'a>>,
+    pub controllers: Vec<ControllerFlow<'a>>,
+}
+
+/// Makes both sides of a flow. As many of its share of the buffers as fit are posted to its receive ring.
+fn make_side<'a, R: Wait>(
+    rt: &R,
+    alloc: Global,
+    config: &Config,
+    number: usize,
+    script: &'a Script,
+    places: &'a [u32],
+    line: &'a Line,
+    ends: LineEnds,
+    pool: &'a Pool,
+    pass: PoolPass,
+) -> Side<'a>
+    requires lawful { IsLawful config.now }
+    requires places { places.now ≡ places_of config.now.pairs number script.now }
+    requires ends { AreEnds config.now.ring config.now.completion line.now ends }
+    requires pool { IsOf pool.now pass }
+    requires none { pass.hand.held ≡ [] }
+    ensures { AreSides (plan config.now script.entry.now number) pool.entry.now line.entry.now result.driver.key result.controller.key }
+{
+    let share = config.buffers / (2 * config.pairs);
+    let most = share.min(config.ring + STASHED) as usize;
+    let task = Task {
+        number,
+        from: &line.from,
+        to: &line.to,
+        pool,
+        retry: config.retry,
+        turns: config.turns,
+    };
+    let driver = DriverFlow::start(
+        rt,
+        task,
+        (ends.takes, ends.posts),
+        pass,
+        most,
+        config.batch as usize,
+        config.rs_every as u16,
+    );
+    let controller = ControllerFlow::new(
+        alloc,
+        number,
+        (&line.from, &line.to),
+        (ends.stores, ends.sends),
+        (script.frames(), places),
+        config.bsize as usize,
+        config.drop_en,
+    );
+    Side { driver, controller }
+}
+
+/// Makes both sides of each flow. A pass is split off for each driver.
+pub(crate) fn make_sides<'a, R: Wait>(
+    rt: &R,
+    alloc: Global,
+    config: &Config,
+    script: &'a Script,
+    index: &'a Index,
+    lines: &'a [Line],
+    ends: Vec<LineEnds>,
+    pool: &'a Pool,
+    pass: &mut PoolPass,
+) -> Result<Sides<'a>, ForwardError>
+    requires lawful { IsLawful config.now }
+    requires flows { (length lines.now ≡ PORTS * config.now.pairs) × (vec_len ends ≡ PORTS * config.now.pairs) × (length index.now ≡ PORTS * config.now.pairs) }
+    requires ends { (k : ℕ) (d : _) (e : _) → k < PORTS * config.now.pairs → AreEnds config.now.ring config.now.completion (slice_index_or lines.now k d) (slice_index_or ends.items k e) }
+    requires places { (flow : ℕ) (d : _) → flow < PORTS * config.now.pairs → slice_index_or index.now flow d ≡ places_of config.now.pairs flow script.now }
+    requires pool { IsOf pool.now pass.old }
+    requires share { PORTS * MOST_PAIRS < pass.old.hand.share }
+    ensures refused { IfErr result (λ e. e ≡ Memory) }
+    ensures flows { IfOk result (λ s. (vec_len s.drivers ≡ PORTS * config.now.pairs) × (vec_len s.controllers ≡ PORTS * config.now.pairs)) }
+    ensures sides { IfOk result (λ s. AreAllSides (plan config.now script.entry.now) pool.entry.now (PORTS * config.now.pairs) lines.entry.now (map (λ f. f.key) s.drivers.items) (map (λ f. f.key) s.controllers.items)) }
+    ensures pool { IsOf pool.entry.now pass.new }
+{
+    let mut drivers = Vec::with_capacity(alloc, lines.len())?;
+    let mut controllers = Vec::with_capacity(alloc, lines.len())?;
+    let mut number = 0;
+    for own in ends {
+        let places = index.places(number);
+        let share = pass.split(pool, 1);
+        let side = make_side(
+            rt,
+            alloc,
+            config,
+            number,
+            script,
+            places,
+            &lines[number],
+            own,
+            pool,
+            share,
+        );
+        drivers.push_reserved(side.driver);
+        controllers.push_reserved(side.controller);
+        number += 1;
+    }
+    Ok(Sides {
+        drivers,
+        controllers,
+    })
+}
