@@ -1,9 +1,0 @@
-//! What became of all flows.
-
-use flows::FlowReport;
-
-/// What became of each flow, those of port 0 first and their queues ascending.
-#[derive(Drop)]
-pub struct Report {
-    pub flows: Vec<FlowReport>,
-}
