@@ -10,8 +10,10 @@ mod config;
 mod index;
 mod lines;
 mod report;
+mod running;
 mod sides;
 
 pub use config::{Config, LEAST_SHARE};
 pub use index::Index;
 pub use report::Report;
+pub use running::forward;
