@@ -1,3 +1,5 @@
+pub mod Sent
+pub mod Dealing
 pub mod Choosing
 pub mod Meets
 pub mod Offers

@@ -1,7 +1,14 @@
 -- Places of a script, and lists that go together place by place.
 use Rattle.std.proofs.Common.{◌≡◌, ◌∙◌, ℕ, ◌+◌, ◌<◌, ◌≤◌, ◌==◌, Bool, true, false, List, [], ◌∷◌, ◌++◌, All, refl, ap, sym, subst, cond, drop, length, get_or, zero, suc, inl, inr, arith}
 use Rattle.std.proofs.lemmas.Bool.{cases_eq}
+use Rattle.std.specs.Prelude.{slice_index_or}
+use Rattle.flows.specs.Keys.{ControllerKey, DriverKey, Plan}
+use Rattle.flows.specs.Reports.{IsReport}
+use Rattle.flows.specs.declared.report.FlowReport.{FlowReport}
+use Rattle.pool.specs.Owned.{Pooled}
 use Rattle.wire_script.specs.Frame.{Frame}
+use Rattle.forwarder.specs.Plans.{AreAllSides, AreOfLines, AreReports}
+use Rattle.forwarder.specs.declared.lines.Line.{Line}
 use Rattle.forwarder.specs.Flows.{flow_of, places_from, places_of}
 use Rattle.forwarder.proofs.Pairs.{before, last}
 
@@ -77,3 +84,30 @@ pub any-default : {X : Type 0} (xs : List X) (n : ℕ) (d e : X) → n < length 
 any-default [] n d e low = absurd (omega (arith, low))
 any-default (x ∷ xs) zero d e low = refl
 any-default (x ∷ xs) (suc n) d e low = any-default xs n d e (omega (arith, low))
+
+-- the sides at other lists of the same keys, and another name for how many there are
+pub sides-at : (pool : Pooled) (n m : ℕ) (plans : ℕ → Plan) (lines : List Line) (ds ds' : List DriverKey) (cs cs' : List ControllerKey)
+    → n ≡ m → ds' ≡ ds → cs' ≡ cs → AreAllSides plans pool n lines ds cs → AreAllSides plans pool m lines ds' cs'
+sides-at pool n m plans lines ds ds' cs cs' e same same' sides =
+    subst (λ k. AreAllSides plans pool k lines ds' cs') e
+    (subst (λ a. AreAllSides plans pool n lines a cs') (sym same) (subst (λ b. AreAllSides plans pool n lines ds b) (sym same') sides))
+
+pub lines-of : (pool : Pooled) (n : ℕ) (plans : ℕ → Plan) (lines : List Line) (ds : List DriverKey) (cs : List ControllerKey)
+    → AreAllSides plans pool n lines ds cs → AreOfLines pool n lines ds cs
+lines-of pool n plans lines ds cs sides flow l d c low = (sides flow l d c low).of_line
+
+-- an item that is there
+item : {X : Type 0} (xs : List X) (i : ℕ) → i < length xs → X
+item [] i low = absurd (omega (arith, low))
+item (x ∷ xs) zero low = x
+item (x ∷ xs) (suc i) low = item xs i (omega (arith, low))
+
+-- the reports are of the plans that the sides were told
+pub reports-of : (pool : Pooled) (n : ℕ) (plans : ℕ → Plan) (lines : List Line) (ds : List DriverKey) (cs : List ControllerKey) (reports : List FlowReport)
+    → length lines ≡ n → length ds ≡ n → length cs ≡ n → AreAllSides plans pool n lines ds cs → AreReports n ds cs reports
+    → (flow : ℕ) (r : FlowReport) → flow < n → IsReport (plans flow) (slice_index_or reports flow r)
+reports-of pool n plans lines ds cs reports many many' many'' sides are flow r low =
+    let l = item lines flow (omega (arith, low, many)) in
+    let d = item ds flow (omega (arith, low, many')) in
+    let c = item cs flow (omega (arith, low, many'')) in
+    subst (λ p. IsReport p (slice_index_or reports flow r)) (sides flow l d c low).plan (are flow d c r low)

@@ -5,11 +5,16 @@
 //! here once they are over.
 #![tactic(auto)]
 
+mod calls;
 mod concluding;
 mod config;
 mod index;
 mod lines;
+mod report;
+mod running;
 mod sides;
 
+pub use calls::{forward, forward_in};
 pub use config::{Config, LEAST_SHARE};
 pub use index::Index;
+pub use report::Report;

@@ -1,3 +1,3 @@
 mod Dealt
-mod Lists
+pub mod Lists
 mod Together
