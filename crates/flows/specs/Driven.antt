@@ -19,7 +19,8 @@ use Rattle.forwarding.specs.Touching.{touch}
 use Rattle.flows.specs.Outputs.{Chosen}
 use Rattle.flows.specs.Keys.{DriverKey}
 use Rattle.flows.specs.Counting.{most_exact}
-use Rattle.flows.specs.Holding.{HoldsJust, all_of, with_rx, with_tx}
+use Rattle.lending.specs.Lent.{with_receiver, with_transmitter}
+use Rattle.flows.specs.Holding.{HoldsJust, all_of}
 use Rattle.flows.specs.declared.counts.Counts.{Counts}
 use Rattle.flows.specs.declared.load.Load.{Load}
 use Rattle.flows.specs.declared.phase.Phase.{Phase}
@@ -84,13 +85,13 @@ TxStands (Some left) d = (is_stopped (transmit.driver_state d) ≡ true) × (tra
 pub record RxAsBefore (old new : Receiver) : Type 0 where
   pub own : new.end.table ≡ old.end.table
   pub taken : receive.taken new.end ≡ receive.taken old.end
-  pub holds : with_rx new ≡ with_rx old
+  pub holds : with_receiver new ≡ with_receiver old
 
 pub record TxAsBefore (old new : Transmitter) : Type 0 where
   pub own : new.end.table ≡ old.end.table
   pub posted : transmit.posted new.end ≡ transmit.posted old.end
   pub cleaned : transmit.cleaned new.end ≡ transmit.cleaned old.end
-  pub holds : with_tx new ≡ with_tx old
+  pub holds : with_transmitter new ≡ with_transmitter old
 
 -- and so is what was learnt of all that is stored
 pub record KnowsAsBefore (old new : Receiver) : Type 0 where
