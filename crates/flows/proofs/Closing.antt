@@ -124,7 +124,7 @@ positive (suc n) h = omega arith
 pub at-rule : (k : DriverKey) (d : Driving) (c : Counts) (phase : Phase) → IsAt k d c phase → c.posted + c.tx_dropped ≤ c.taken
 at-rule k d c EnablingTx h = h.0.relayed.no_more
 at-rule k d c EnablingRx h = h.0.relayed.no_more
-at-rule k d c (Forwarding made) h = h.relayed.no_more
+at-rule k d c (Forwarding made) h = h.0.relayed.no_more
 at-rule k d c (Disabling ended untaken unsent) h = h.has_ended.relayed.no_more
 at-rule k d c (Reclaiming left) h = h.has_ended.relayed.no_more
 at-rule k d c (Over left) h = h.has_ended.relayed.no_more

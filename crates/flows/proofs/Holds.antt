@@ -1,11 +1,12 @@
 -- What is held, by weights.
-use Rattle.std.proofs.Common.{◌≡◌, ◌∙◌, ℕ, ◌+◌, ◌≤◌, List, [], ◌∷◌, ◌++◌, length, Contains, ap, refl, arith}
+use Rattle.std.proofs.Common.{◌≡◌, ◌∙◌, ℕ, ◌+◌, ◌≤◌, List, [], ◌∷◌, ◌++◌, Contains, ap, refl, arith}
 use Rattle.buffer_pool.specs.Buffer.{Buffer}
 use Rattle.pool.specs.Hands.{total, without}
-use Rattle.pool.proofs.Totals.{total-append, total-without, total-ones}
+use Rattle.pool.proofs.Totals.{total-append, total-without}
 use Rattle.pool.proofs.Accounts.{contained, only, only-itself}
 use Rattle.driver.specs.receive.Returns.{numbers_of}
 use Rattle.driver.specs.transmit.Frames.{numbers_in}
+use Rattle.lending.proofs.Weights.{total-packets}
 use Rattle.flows.specs.Holding.{HoldsJust, Holds, Keeps}
 
 -- nothing was done
@@ -44,21 +45,13 @@ pub holds-as : (held has x : List ℕ) → Holds held has → ((h : ℕ → ℕ)
 holds-as held has x k e = λ w. (let a = k w in let b = e w in omega (arith, a, b))
 
 -- the last packet was taken off the list
-pub numbers-append : (h : ℕ → ℕ) (ps qs : List (List Buffer)) → total h (numbers_in (ps ++ qs)) ≡ total h (numbers_in ps) + total h (numbers_in qs)
-numbers-append h [] qs = omega arith
-numbers-append h (p ∷ ps) qs =
-    let a = total-append h (numbers_of p) (numbers_in (ps ++ qs)) in let b = total-append h (numbers_of p) (numbers_in ps) in let c = numbers-append h ps qs in omega (arith, a, b, c)
-
 pub last-packet : (h : ℕ → ℕ) (ps : List (List Buffer)) (p : List Buffer) → total h (numbers_in (ps ++ p ∷ [])) ≡ total h (numbers_in ps) + total h (numbers_of p)
-last-packet h ps p = let a = numbers-append h ps (p ∷ []) in let b = total-append h (numbers_of p) [] in omega (arith, a, b)
+last-packet h ps p = let a = total-packets h ps (p ∷ []) in let b = total-append h (numbers_of p) [] in omega (arith, a, b)
 
 -- what weighs nothing is empty
 pub weighs-nothing : (held has : List ℕ) → has ≡ [] → HoldsJust held has → held ≡ []
 weighs-nothing [] has e h = refl
 weighs-nothing (x ∷ xs) has e h = let w = h (λ k. 1) in let n = ap (total (λ k. 1)) e in absurd (omega (arith, w, n))
-
-pub ones : (held : List ℕ) → total (λ k. 1) held ≡ length held
-ones held = total-ones held
 
 -- the last packet of those that are held, with the stash
 pub holds-last : (held stash : List ℕ) (ps qs : List (List Buffer)) (p : List Buffer) → ps ≡ qs ++ p ∷ [] → Holds held (stash ++ numbers_in ps) → Holds held (stash ++ numbers_of p)

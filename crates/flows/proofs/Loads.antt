@@ -3,7 +3,7 @@ use Rattle.std.proofs.Common.{◌≡◌, ◌∙◌, ◌⊎◌, ⊎_elim, ℕ, ze
 use Rattle.std.specs.Prelude.{All}
 use Rattle.std.proofs.lemmas.List.Elements.{All-nil}
 use Rattle.driver.specs.receive.Chains.{IsTaken}
-use Rattle.std.proofs.lemmas.List.{take-append-drop, reverse-append, map-append, drop_all}
+use Rattle.std.proofs.lemmas.List.{drop_all}
 use Rattle.atomic_table.specs.Seated.{TableId}
 use Rattle.buffer_pool.specs.Buffer.{Buffer}
 use Rattle.buffer_pool.specs.Packed.{bytes_of, shape_of}
@@ -11,46 +11,28 @@ use Rattle.pool.specs.Hands.{total}
 use Rattle.pool.specs.Bulk.{Refilled}
 use Rattle.pool.specs.Owned.{Passed, IsOf}
 use Rattle.pool.proofs.Totals.{total-append}
-use Rattle.ring_model.specs.shared.Frames.{Bytes}
 use Rattle.ring_model.specs.shared.Handshakes.{is_on}
-use Rattle.ring_model.specs.shared.Segments.{Segment}
 use Rattle.ring_model.specs.transmit.Ring.{number_of_posting}
 use Rattle.rx_ring.specs.Ends as receive
 use Rattle.rx_ring.specs.Records.{DriverStep, RxDriven}
 use Rattle.tx_ring.specs.Ends as transmit
-use Rattle.driver.specs.Reclaiming.{out_of, CameBack}
-use Rattle.driver.specs.receive.Batches.{itself, numbers_in as segment_numbers}
-use Rattle.driver.specs.receive.Chains.{going_on, segments_of, segments_in}
+use Rattle.driver.specs.Reclaiming.{CameBack}
+use Rattle.driver.specs.receive.Batches.{itself}
 use Rattle.driver.specs.receive.Receiver.{Receiver}
 use Rattle.driver.specs.receive.Returns.{numbers_of, GaveBack}
 use Rattle.driver.specs.transmit.Frames.{numbers_in}
 use Rattle.driver.specs.transmit.Transmitter.{Transmitter}
-use Rattle.forwarding.specs.Driving.{Driving, driving, CanDrive, Received, Sent, Drove, HeldBack, OnlyReceived}
+use Rattle.forwarding.specs.Driving.{Driving, driving, CanDrive, Received, Drove, HeldBack, OnlyReceived}
 use Rattle.forwarding.specs.Touching.{shapes}
 use Rattle.flows.specs.declared.counts.Counts.{Counts}
 use Rattle.flows.specs.Keys.{DriverKey}
-use Rattle.flows.specs.Holding.{Keeps, all_of, with_rx, with_tx}
+use Rattle.lending.specs.Lent.{lent, with_receiver, with_transmitter, SameNumbers}
+use Rattle.lending.proofs.Weights.{total-lent, total-receiver}
+use Rattle.lending.proofs.Batches.{total-received, total-sent}
+use Rattle.lending.proofs.Returns.{total-given, total-returned}
+use Rattle.flows.specs.Holding.{Keeps, all_of}
 use Rattle.flows.specs.Driven.{IsForwarding, IsLoaded, OnlyPosted, Relayed, RxAsBefore, TxAsBefore}
-use Rattle.flows.proofs.Holds.{numbers-append, weighs-nothing}
-
--- ---- segments and their numbers
-
-going-numbers : (bufs : List Buffer) → segment_numbers (going_on bufs) ≡ numbers_of bufs
-going-numbers [] = refl
-going-numbers (b ∷ bs) = ap (λ l. b.number ∷ l) (going-numbers bs)
-
-packet-numbers : (bufs : List Buffer) → segment_numbers (segments_of bufs) ≡ numbers_of bufs
-packet-numbers [] = refl
-packet-numbers (b ∷ []) = refl
-packet-numbers (b ∷ c ∷ bs) = ap (λ l. b.number ∷ l) (packet-numbers (c ∷ bs))
-
-split-numbers : (xs ys : List (Segment Bytes)) → segment_numbers (xs ++ ys) ≡ segment_numbers xs ++ segment_numbers ys
-split-numbers [] ys = refl
-split-numbers (x ∷ xs) ys = ap (λ l. x.number ∷ l) (split-numbers xs ys)
-
-all-numbers : (ps : List (List Buffer)) → segment_numbers (segments_in ps) ≡ numbers_in ps
-all-numbers [] = refl
-all-numbers (p ∷ ps) = split-numbers (segments_of p) (segments_in ps) ∙ (ap (λ l. l ++ segment_numbers (segments_in ps)) (packet-numbers p) ∙ ap (λ l. numbers_of p ++ l) (all-numbers ps))
+use Rattle.flows.proofs.Holds.{weighs-nothing}
 
 -- a packet that was touched keeps its numbers
 one-shaped : (p q : List Buffer) → map shape_of q ≡ map shape_of p → numbers_of q ≡ numbers_of p
@@ -68,62 +50,29 @@ all-shaped (p ∷ ps) [] e = cc e
 all-shaped (p ∷ ps) (q ∷ qs) e =
     ap (λ l. l ++ numbers_in qs) (one-shaped p q (ap (λ l. Rattle.std.proofs.Common.get_or l 0 []) e)) ∙ ap (λ l. numbers_of p ++ l) (all-shaped ps qs (ap (λ l. drop 1 l) e))
 
-reversed : (h : ℕ → ℕ) (xs : List ℕ) → total h (reverse xs) ≡ total h xs
-reversed h [] = refl
-reversed h (x ∷ xs) = ap (total h) (reverse-append (x ∷ []) xs) ∙ (let a = total-append h (reverse xs) (x ∷ []) in let b = reversed h xs in omega (arith, a, b))
-
 -- ---- all that a flow holds, by its parts
 
-pub parts : (h : ℕ → ℕ) (d : Driving) → total h (all_of d) ≡ total h d.stash + total h (numbers_in d.packets) + total h (out_of itself d.rx.end) + total h (numbers_of d.rx.chain) + total h (with_tx d.tx)
-parts h d =
-    let a = total-append h d.stash (numbers_in d.packets ++ (with_rx d.rx ++ with_tx d.tx)) in
-    let b = total-append h (numbers_in d.packets) (with_rx d.rx ++ with_tx d.tx) in
-    let c = total-append h (with_rx d.rx) (with_tx d.tx) in
-    let e = total-append h (out_of itself d.rx.end) (numbers_of d.rx.chain) in
-    omega (arith, a, b, c, e)
+pub parts : (h : ℕ → ℕ) (d : Driving) → total h (all_of d) ≡ total h d.stash + total h (with_receiver d.rx) + total h (numbers_in d.packets) + total h (with_transmitter d.tx)
+parts h d = total-lent h d.rx d.tx d.stash d.packets
 
 module _ (h : ℕ → ℕ) where
-  received : (count : ℕ) (old : Receiver) (had : List ℕ) (waited : List (List Buffer)) (new : Receiver) (has : List ℕ) (list : List (List Buffer)) → Received count old had waited new has list
-      → total h has + total h (numbers_in list) + total h (out_of itself new.end) + total h (numbers_of new.chain) ≡ total h had + total h (numbers_in waited) + total h (out_of itself old.end) + total h (numbers_of old.chain)
-  received count old had waited new has list r =
-      let g = r.batch.grew in
-      let stash = ap (total h) g.stash ∙ total-append h g.numbers has in
-      let out = sym (total-append h (out_of itself old.end) g.numbers) ∙ (ap (total h) g.out ∙ total-append h (segment_numbers g.segments) (out_of itself new.end)) in
-      let left = ap (total h) (split-numbers (going_on old.chain) g.segments ∙ ap (λ l. l ++ segment_numbers g.segments) (going-numbers old.chain)) ∙ total-append h (numbers_of old.chain) (segment_numbers g.segments) in
-      let right = ap (total h) (split-numbers (segments_in g.packets) (going_on new.chain) ∙ (ap (λ l. l ++ segment_numbers (going_on new.chain)) (all-numbers g.packets) ∙ ap (λ l. numbers_in g.packets ++ l) (going-numbers new.chain)))
-      ∙ total-append h (numbers_in g.packets) (numbers_of new.chain) in
-      let chained = ap (λ l. total h (segment_numbers l)) g.chained in
-      let listed = ap (total h) (all-shaped r.untouched list r.touching.shape) ∙ (ap (λ l. total h (numbers_in l)) g.appended ∙ numbers-append h waited g.packets) in
-      omega (arith, stash, out, left, right, chained, listed)
+  received : (tx : Transmitter) (count : ℕ) (old : Receiver) (had : List ℕ) (waited : List (List Buffer)) (new : Receiver) (has : List ℕ) (list : List (List Buffer)) → Received count old had waited new has list
+      → total h (lent new tx has list) ≡ total h (lent old tx had waited)
+  received tx count old had waited new has list r =
+      ap (λ (ns : List ℕ). total h (has ++ (with_receiver new ++ (ns ++ with_transmitter tx)))) (all-shaped r.untouched list r.touching.shape) ∙ sym (total-received h old new tx had has waited r.untouched r.batch.grew)
 
-  sent : (count : ℕ) (old : Transmitter) (had : List ℕ) (waited : List (List Buffer)) (new : Transmitter) (has : List ℕ) (list : List (List Buffer)) → Sent count old had waited new has list
-      → total h has + total h (numbers_in list) + total h (with_tx new) ≡ total h had + total h (numbers_in waited) + total h (with_tx old)
-  sent count old had waited new has list s =
-      let b = s.batch in
-      let stash = ap (total h) b.cleaning.stashed ∙ (total-append h (reverse b.cleaning.numbers) had) in
-      let turned = reversed h b.cleaning.numbers in
-      let out = sym (total-append h (out_of number_of_posting old.end) (numbers_in (take count waited))) ∙ (ap (total h) b.out ∙ total-append h b.cleaning.numbers (out_of number_of_posting new.end)) in
-      let listed = ap (λ l. total h (numbers_in l)) (sym (take-append-drop count waited)) ∙ numbers-append h (take count waited) (drop count waited) in
-      let left = ap (λ l. total h (numbers_in l)) b.posting.left in
-      omega (arith, stash, turned, out, listed, left)
-
-pub drove-all : (a b : ℕ) (old new : Driving) → Drove a b old new → (h : ℕ → ℕ) → total h (all_of new) ≡ total h (all_of old)
+pub drove-all : (a b : ℕ) (old new : Driving) → Drove a b old new → SameNumbers (all_of new) (all_of old)
 drove-all a b old new d h =
-    let r = received h a old.rx old.stash old.packets new.rx d.stash d.packets d.receiving in
-    let s = sent h b old.tx d.stash d.packets new.tx new.stash new.packets d.sending in
-    let x = parts h old in let y = parts h new in omega (arith, r, s, x, y)
+    sym (total-sent h b new.rx old.tx new.tx d.stash new.stash d.packets new.packets d.sending.batch) ∙ received h old.tx a old.rx old.stash old.packets new.rx d.stash d.packets d.receiving
 
-pub held-all : (old new : Driving) → HeldBack old new → (h : ℕ → ℕ) → total h (all_of new) ≡ total h (all_of old)
+pub held-all : (old new : Driving) → HeldBack old new → SameNumbers (all_of new) (all_of old)
 held-all old new b h = ⊎_elim
     (λ (e : new ≡ old). ap (λ (d : Driving). total h (all_of d)) e)
-    (λ (o : OnlyReceived old new).
-    let r = received h o.count old.rx old.stash old.packets new.rx new.stash new.packets o.receiving in
-    let t = ap (λ (x : Transmitter). total h (with_tx x)) o.unsent in
-    let x = parts h old in let y = parts h new in omega (arith, r, t, x, y)) b
+    (λ (o : OnlyReceived old new). ap (λ (t : Transmitter). total h (lent new.rx t new.stash new.packets)) o.unsent ∙ received h old.tx o.count old.rx old.stash old.packets new.rx new.stash new.packets o.receiving) b
 
 -- ---- the load
 
-pub loaded-by : (k : DriverKey) (pass : Passed) (old new : Driving) (from to : TableId) → k.from ≡ from → k.to ≡ to → IsLoaded k pass old → CanDrive from to new → ((h : ℕ → ℕ) → total h (all_of new) ≡ total h (all_of old)) → IsLoaded k pass new
+pub loaded-by : (k : DriverKey) (pass : Passed) (old new : Driving) (from to : TableId) → k.from ≡ from → k.to ≡ to → IsLoaded k pass old → CanDrive from to new → SameNumbers (all_of new) (all_of old) → IsLoaded k pass new
 loaded-by k pass old new from to from_is to_is l can same = record {
   receives = can.receives ∙ sym from_is;
   sends = can.sends ∙ sym to_is;
@@ -140,7 +89,7 @@ loaded-still k pass d rx tx l r t = record {
   sends = t.own ∙ l.sends;
   one_length = l.one_length;
   pool = l.pool;
-  holds = λ h. l.holds h ∙ ap (λ (x : List ℕ). total h (d.stash ++ (numbers_in d.packets ++ (x ++ with_tx d.tx)))) (sym r.holds) ∙ ap (λ (x : List ℕ). total h (d.stash ++ (numbers_in d.packets ++ (with_rx rx ++ x)))) (sym t.holds);
+  holds = λ h. l.holds h ∙ ap (λ (x : List ℕ). total h (d.stash ++ (x ++ (numbers_in d.packets ++ with_transmitter d.tx)))) (sym r.holds) ∙ ap (λ (x : List ℕ). total h (d.stash ++ (with_receiver rx ++ (numbers_in d.packets ++ x)))) (sym t.holds);
   waiting = l.waiting;
 }
 
@@ -204,12 +153,8 @@ back-rx k pass d rx stash l own g = record {
   one_length = l.one_length;
   pool = l.pool;
   holds = λ h. (
-      let a = l.holds h in let e = parts h d in let f = parts h (driving rx d.tx stash d.packets) in
-      let chain = ap (λ (bs : List Buffer). total h (numbers_of bs)) g.chain.chain ∙ (ap (total h) (map-append (λ (b : Buffer). b.number) g.chain.moved rx.chain) ∙ total-append h (numbers_of g.chain.moved) (numbers_of rx.chain)) in
-      let put = ap (total h) g.chain.stash ∙ total-append h (reverse (numbers_of g.chain.moved)) d.stash in let turned = reversed h (numbers_of g.chain.moved) in
-      let out = ap (total h) g.ring.out ∙ total-append h g.ring.numbers (out_of itself rx.end) in
-      let put' = ap (total h) g.ring.stash ∙ total-append h (reverse g.ring.numbers) g.between in let turned' = reversed h g.ring.numbers in
-      omega (arith, a, e, f, chain, put, turned, out, put', turned'));
+      let a = l.holds h in let e = parts h d in let f = parts h (driving rx d.tx stash d.packets) in let g' = total-given h d.rx rx d.stash stash g in
+      let x = total-append h d.stash (with_receiver d.rx) in let y = total-append h stash (with_receiver rx) in omega (arith, a, e, f, g', x, y));
   waiting = l.waiting;
 }
 
@@ -220,18 +165,16 @@ back-tx k pass d tx stash l own g = record {
   one_length = l.one_length;
   pool = l.pool;
   holds = λ h. (
-      let a = l.holds h in let e = parts h d in let f = parts h (driving d.rx tx stash d.packets) in
-      let out = ap (total h) g.out ∙ total-append h g.numbers (with_tx tx) in
-      let put = ap (total h) g.stash ∙ total-append h (reverse g.numbers) d.stash in let turned = reversed h g.numbers in
-      omega (arith, a, e, f, out, put, turned));
+      let a = l.holds h in let e = parts h d in let f = parts h (driving d.rx tx stash d.packets) in let g' = total-returned h d.tx tx d.stash stash g in
+      let x = total-append h d.stash (with_transmitter d.tx) in let y = total-append h stash (with_transmitter tx) in omega (arith, a, e, f, g', x, y));
   waiting = l.waiting;
 }
 
 pub all-back : (k : DriverKey) (pass : Passed) (d : Driving) → IsLoaded k pass d → d.stash ≡ [] → d.packets ≡ [] → d.rx.chain ≡ [] → receive.returned d.rx.end ≡ length (receive.posted d.rx.end) → transmit.returned d.tx.end ≡ length (transmit.posted d.tx.end) → pass.hand.held ≡ []
 all-back k pass d l stash packets chain rx tx = weighs-nothing pass.hand.held [] refl (λ h. (
-    let a = l.holds h in let e = parts h d in let s = ap (total h) stash in let p = ap (λ (ps : List (List Buffer)). total h (numbers_in ps)) packets in let c = ap (λ (bs : List Buffer). total h (numbers_of bs)) chain in
+    let a = l.holds h in let e = parts h d in let x = total-receiver h d.rx in let s = ap (total h) stash in let p = ap (λ (ps : List (List Buffer)). total h (numbers_in ps)) packets in let c = ap (λ (bs : List Buffer). total h (numbers_of bs)) chain in
     let r = ap (total h) (none-out itself (receive.posted d.rx.end) (receive.returned d.rx.end) rx) in let t = ap (total h) (none-out number_of_posting (transmit.posted d.tx.end) (transmit.returned d.tx.end) tx) in
-    omega (arith, a, e, s, p, c, r, t)))
+    omega (arith, a, e, x, s, p, c, r, t)))
 
 -- buffers came from the pool
 pub refilled : (k : DriverKey) (pass pass' : Passed) (d : Driving) (stash : List ℕ) (moved : ℕ) → IsLoaded k pass d → IsOf k.pool pass' → Refilled pass.hand d.stash moved pass'.hand stash → IsLoaded k pass' (driving d.rx d.tx stash d.packets)

@@ -1,5 +1,6 @@
--- How a driver's side counts frames.
-use Rattle.std.specs.Prelude.{ℕ, ◌+◌, nat_lt, if◌then◌else◌}
+-- How both sides of a flow count frames.
+use Rattle.std.specs.Prelude.{ℕ, ◌+◌, nat_lt, List, [], ◌∷◌, if◌then◌else◌}
+use Rattle.controller.specs.declared.tally.Tally.{Tally}
 use Rattle.flows.specs.declared.counts.Counts.{Counts}
 
 -- as long as no more were taken, each count has room for one more turn
@@ -13,3 +14,10 @@ none = record { taken = 0; posted = 0; tx_dropped = 0 }
 -- more frames, where there is room for them: else all counts stay as they are
 abbrev pub counted : Counts → ℕ → ℕ → ℕ → Counts
 counted c taken posted dropped = if nat_lt most_exact c.taken then c else record { taken = c.taken + taken; posted = c.posted + posted; tx_dropped = c.tx_dropped + dropped }
+
+-- the numbers that a driver's side counts, and those of a controller's side
+abbrev pub driven : Counts → List ℕ
+driven c = c.taken ∷ c.posted ∷ c.tx_dropped ∷ []
+
+abbrev pub offered : Tally → List ℕ
+offered t = t.offered ∷ t.stored ∷ t.dropped ∷ t.oversize ∷ []

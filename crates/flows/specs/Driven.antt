@@ -1,5 +1,5 @@
 -- What the driver's side of a flow knows of it.
-use Rattle.std.specs.Prelude.{◌≡◌, ℕ, ◌+◌, ◌<◌, ◌≤◌, ◌⊎◌, Bool, true, false, All, List, [], ◌++◌, length, map, Option, Some, None}
+use Rattle.std.specs.Prelude.{◌≡◌, ◌≢◌, ℕ, ◌+◌, ◌<◌, ◌≤◌, ◌⊎◌, Bool, true, false, All, List, [], ◌++◌, length, map, Option, Some, None}
 use Rattle.buffer_pool.specs.Packed.{bytes_of}
 use Rattle.ring_model.specs.declared.states.DriverState.TheVariants.{Stopping}
 use Rattle.ring_model.specs.shared.Frames.{Bytes, frames}
@@ -19,7 +19,8 @@ use Rattle.forwarding.specs.Touching.{touch}
 use Rattle.flows.specs.Outputs.{Chosen}
 use Rattle.flows.specs.Keys.{DriverKey}
 use Rattle.flows.specs.Counting.{most_exact}
-use Rattle.flows.specs.Holding.{HoldsJust, all_of, with_rx, with_tx}
+use Rattle.lending.specs.Lent.{with_receiver, with_transmitter}
+use Rattle.flows.specs.Holding.{HoldsJust, all_of}
 use Rattle.flows.specs.declared.counts.Counts.{Counts}
 use Rattle.flows.specs.declared.load.Load.{Load}
 use Rattle.flows.specs.declared.phase.Phase.{Phase}
@@ -84,13 +85,13 @@ TxStands (Some left) d = (is_stopped (transmit.driver_state d) ≡ true) × (tra
 pub record RxAsBefore (old new : Receiver) : Type 0 where
   pub own : new.end.table ≡ old.end.table
   pub taken : receive.taken new.end ≡ receive.taken old.end
-  pub holds : with_rx new ≡ with_rx old
+  pub holds : with_receiver new ≡ with_receiver old
 
 pub record TxAsBefore (old new : Transmitter) : Type 0 where
   pub own : new.end.table ≡ old.end.table
   pub posted : transmit.posted new.end ≡ transmit.posted old.end
   pub cleaned : transmit.cleaned new.end ≡ transmit.cleaned old.end
-  pub holds : with_tx new ≡ with_tx old
+  pub holds : with_transmitter new ≡ with_transmitter old
 
 -- and so is what was learnt of all that is stored
 pub record KnowsAsBefore (old new : Receiver) : Type 0 where
@@ -147,10 +148,22 @@ pub record IsClosing (k : DriverKey) (d : Driving) (c : Counts) (ended : Ended) 
 abbrev pub IsAt : DriverKey → Driving → Counts → Phase → Type 0
 IsAt k d c EnablingTx = IsOpening k d c × (is_new (receive.driver_state d.rx.end) ≡ true)
 IsAt k d c EnablingRx = IsOpening k d c × (is_on (transmit.driver_state d.tx.end) ≡ true)
-IsAt k d c (Forwarding made) = IsForwarding k d c
+IsAt k d c (Forwarding made) = IsForwarding k d c × (k.turns ≢ 0 → made < k.turns)
 IsAt k d c (Disabling ended untaken unsent) = IsClosing k d c ended untaken unsent
 IsAt k d c (Reclaiming left) = IsClosing k d c left.ended (Some left.untaken) (Some left.unsent)
 IsAt k d c (Over left) = IsClosing k d c left.ended (Some left.untaken) (Some left.unsent)
+
+-- the phase, whatever turns were made
+abbrev pub without_turns : Phase → Phase
+without_turns (Forwarding made) = Forwarding 0
+without_turns phase = phase
+
+-- what comes after a turn of an enabled flow before which so many were made: the next one, or the end. It is cut by the last of its turns
+abbrev pub GoesTo : ℕ → ℕ → Phase → Type 0
+GoesTo turns made (Forwarding next) = ((turns ≡ 0) × (next ≡ made)) ⊎ ((made + 1 < turns) × (next ≡ made + 1))
+GoesTo turns made (Disabling Drained untaken unsent) = (untaken ≡ None) × (unsent ≡ None)
+GoesTo turns made (Disabling Cut untaken unsent) = (made + 1 ≡ turns) × (untaken ≡ None) × (unsent ≡ None)
+GoesTo turns made _ = ⊥
 
 abbrev pub is_over : Phase → Bool
 is_over (Over left) = true

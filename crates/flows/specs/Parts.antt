@@ -7,6 +7,6 @@ use Rattle.driver.specs.receive.Returns.{numbers_of}
 use Rattle.driver.specs.transmit.Frames.{numbers_in}
 use Rattle.flows.specs.declared.driver_flow.DriverParts.{DriverParts}
 
--- the numbers of all its buffers: in the stash, in the packets that wait, out in the receive ring, in the chain, and out in the transmit ring
+-- the numbers of all its buffers: in the stash, out in the receive ring, in the chain, in the packets that wait, and out in the transmit ring
 abbrev pub parts_of : DriverParts → List ℕ
-parts_of p = p.stash ++ (numbers_in p.packets.items ++ ((out_of itself p.rx ++ numbers_of p.chain) ++ out_of number_of_posting p.tx))
+parts_of p = p.stash ++ ((out_of itself p.rx ++ numbers_of p.chain) ++ (numbers_in p.packets.items ++ out_of number_of_posting p.tx))

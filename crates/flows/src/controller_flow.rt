@@ -102,6 +102,7 @@ impl<'a> ControllerFlow<'a> {
 }
 
 impl<'a> Flow for ControllerFlow<'a> {
+    ghost use Rattle.flows.specs.Counting.{offered};
     ghost use Rattle.flows.specs.Keys.{ControllerKey};
     ghost use Rattle.flows.specs.Sides.{has_served};
 
@@ -110,6 +111,8 @@ impl<'a> Flow for ControllerFlow<'a> {
     ghost key = { λ f. f.key };
 
     ghost over = { λ f. has_served f };
+
+    ghost numbers = { λ f. offered f.tally };
 
     fn turn<R: Wait, G: Gate>(&mut self, _rt: &R, gate: &G) -> Result<Progress, ForwardError> {
         let asked = self.input.shake();

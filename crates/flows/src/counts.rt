@@ -1,7 +1,8 @@
 //! How a driver's side counts frames.
 ghost use Rattle.std.specs.Prelude.{◌≡◌, ◌+◌, ◌≤◌};
 ghost use Rattle.driver.specs.declared.rx_driver.TheConstants.{MOST_BATCH};
-ghost use Rattle.flows.specs.Counting.{counted};
+ghost use Rattle.forwarding.specs.Numbers.{NoneFalls};
+ghost use Rattle.flows.specs.Counting.{counted, driven};
 
 use driver::MOST_BATCH;
 
@@ -26,7 +27,8 @@ impl Counts {
         requires taken { taken ≤ MOST_BATCH }
         requires posted { posted ≤ MOST_BATCH }
         requires dropped { dropped ≤ MOST_BATCH }
-        ensures { result ≡ counted self taken posted dropped }
+        ensures value { result ≡ counted self taken posted dropped }
+        ensures none_falls { NoneFalls (driven self) (driven result) }
     {
         if self.taken > MOST_EXACT {
             return self;

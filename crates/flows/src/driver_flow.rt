@@ -177,6 +177,7 @@ impl<'a> DriverFlow<'a> {
 }
 
 impl<'a> Flow for DriverFlow<'a> {
+    ghost use Rattle.flows.specs.Counting.{driven};
     ghost use Rattle.flows.specs.Driven.{is_over};
     ghost use Rattle.flows.specs.Keys.{DriverKey};
 
@@ -185,6 +186,8 @@ impl<'a> Flow for DriverFlow<'a> {
     ghost key = { λ f. f.key };
 
     ghost over = { λ f. is_over f.phase };
+
+    ghost numbers = { λ f. driven f.counts };
 
     fn turn<R: Wait, G: Gate>(&mut self, rt: &R, gate: &G) -> Result<Progress, ForwardError> {
         let (was, counts) = (self.phase, self.counts);

@@ -9,6 +9,8 @@ ghost use Rattle.tx_ring.specs.Ends as transmit;
 ghost use Rattle.forwarding.specs.declared.error.ForwardError.TheVariants.{Gate as GateRefused};
 ghost use Rattle.forwarding.specs.declared.gate.Who.TheVariants as who;
 ghost use Rattle.forwarding.specs.Gates.{MayRefuse};
+ghost use Rattle.forwarding.specs.Numbers.{NoneFalls};
+ghost use Rattle.flows.specs.Counting.{driven};
 ghost use Rattle.flows.specs.Driven.{IsLoaded, KnowsAsBefore, Relayed, RxAsBefore, TxAsBefore, driving_of};
 
 use crate::counts::Counts;
@@ -72,6 +74,7 @@ impl Load {
         ensures rx { is_on (receive.driver_state self.new.rx.end) ≡ true }
         ensures tx { is_on (transmit.driver_state self.new.tx.end) ≡ true }
         ensures relayed { Relayed task.now.retries self.new.rx.end self.new.tx.end counts.new (map bytes_of self.new.packets.items) }
+        ensures none_falls { NoneFalls (driven counts.old) (driven counts.new) }
         ensures quiet { receive.saw_quiet self.new.rx.end ≡ receive.saw_quiet self.old.rx.end }
         ensures drained { IfOk result (λ t. receive.saw_quiet self.old.rx.end ≡ true → t.taken ≡ 0 → length self.old.packets.items < MOST_BATCH → receive.is_drained self.new.rx.end ≡ true) }
         ensures refusal { IfErr result (λ e. (e ≡ GateRefused) × MayRefuse G.answers gate.now (who.Driver task.now.number)) }

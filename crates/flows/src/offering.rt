@@ -5,6 +5,8 @@ ghost use Rattle.controller.specs.FillSize.{IsFillSize};
 ghost use Rattle.controller.specs.Tallying.{AddsUp, nothing};
 ghost use Rattle.rx_ring.specs.Calls.{IsFreshController};
 ghost use Rattle.forwarding.specs.Gates.{Met};
+ghost use Rattle.forwarding.specs.Numbers.{NoneFalls};
+ghost use Rattle.flows.specs.Counting.{offered};
 ghost use Rattle.flows.specs.Keys.{frames_at};
 ghost use Rattle.flows.specs.Served.{HasOffered};
 
@@ -69,6 +71,7 @@ impl<'a> Offering<'a> {
     /// Answers what is asked, if anything is, and tells whether that was so. Once a disabling is answered nothing is done.
     pub(crate) fn shake(&mut self) -> bool
         ensures input { self.new.input ≡ self.old.input }
+        ensures tally { self.new.controller.tally ≡ self.old.controller.tally }
     {
         if self.service == Service::Ended {
             return false;
@@ -84,6 +87,7 @@ impl<'a> Offering<'a> {
     /// says that no more comes.
     pub(crate) fn offer<G: Gate>(&mut self, number: usize, gate: &G) -> Result<bool, ForwardError>
         ensures input { self.new.input ≡ self.old.input }
+        ensures none_falls { NoneFalls (offered self.old.controller.tally) (offered self.new.controller.tally) }
         ensures refused { IfErr result (λ e. Met G.answers gate.now e) }
     {
         if self.service != Service::Serving {

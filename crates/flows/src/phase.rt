@@ -1,6 +1,6 @@
 //! How far a driver's side is.
-ghost use Rattle.std.specs.Prelude.{◌≡◌};
-ghost use Rattle.flows.specs.Driven.{is_over};
+ghost use Rattle.std.specs.Prelude.{◌≡◌, ◌↔◌, IsTrue};
+ghost use Rattle.flows.specs.Driven.{is_over, without_turns};
 
 use crate::report::Ended;
 
@@ -42,10 +42,20 @@ impl Phase {
 
     /// Whether both are the same phase, whatever turns were made.
     #[inline]
-    pub(crate) fn is_as(self, other: Phase) -> bool {
-        match (self, other) {
-            (Phase::Forwarding(_), Phase::Forwarding(_)) => true,
-            (one, two) => one == two,
+    pub(crate) fn is_as(self, other: Phase) -> bool
+        ensures { IsTrue result ↔ (without_turns self ≡ without_turns other) }
+    {
+        self.without_turns() == other.without_turns()
+    }
+
+    /// The phase as it is before the first turn of its own.
+    #[inline]
+    fn without_turns(self) -> Phase
+        ensures { result ≡ without_turns self }
+    {
+        match self {
+            Phase::Forwarding(_) => Phase::Forwarding(0),
+            phase => phase,
         }
     }
 }

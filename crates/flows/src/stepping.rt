@@ -1,8 +1,10 @@
 //! A turn of a driver's side, phase by phase.
 ghost use Rattle.std.specs.Prelude.{◌≡◌, [], IfOk, IfErr, OnErr};
 ghost use Rattle.forwarding.specs.Gates.{Met};
+ghost use Rattle.forwarding.specs.Numbers.{NoneFalls};
+ghost use Rattle.flows.specs.Counting.{driven};
 ghost use Rattle.flows.specs.declared.phase.Phase.TheVariants as phase;
-ghost use Rattle.flows.specs.Driven.{IsLoaded, IsRelaying, driving_of, relaying};
+ghost use Rattle.flows.specs.Driven.{GoesTo, IsLoaded, IsRelaying, driving_of, relaying};
 
 use crate::counts::Counts;
 use crate::disabling::{finish_rx, finish_tx};
@@ -27,6 +29,7 @@ impl Load {
         requires { IsRelaying (relaying task.now self.old counts.old at) }
         ensures went { IfOk result (λ next. IsRelaying (relaying task.now self.new counts.new next)) }
         ensures stayed { OnErr result (IsRelaying (relaying task.now self.new counts.new at)) }
+        ensures none_falls { NoneFalls (driven counts.old) (driven counts.new) }
         ensures refused { IfErr result (λ e. Met G.answers gate.now e) }
     {
         match at {
@@ -78,7 +81,9 @@ impl Load {
     ) -> Result<Phase, ForwardError>
         requires { IsRelaying (relaying task.now self.old counts.old (phase.Forwarding made)) }
         ensures went { IfOk result (λ next. IsRelaying (relaying task.now self.new counts.new next)) }
+        ensures next { IfOk result (λ next. GoesTo task.now.turns made next) }
         ensures stayed { OnErr result (IsRelaying (relaying task.now self.new counts.new (phase.Forwarding made))) }
+        ensures none_falls { NoneFalls (driven counts.old) (driven counts.new) }
         ensures refused { IfErr result (λ e. Met G.answers gate.now e) }
     {
         let quiet = self.rx.is_quiet(task.from);

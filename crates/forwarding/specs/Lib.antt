@@ -1,4 +1,5 @@
 pub mod Refusal
 pub mod Gates
+pub mod Numbers
 pub mod Touching
 pub mod Driving

@@ -16,9 +16,10 @@ pub enum Progress {
 
 /// One side of a flow: a driver's or a controller's. A worker gives it one turn after another until it is over.
 pub trait Flow: Drop + Send {
-    ghost use Rattle.std.specs.Prelude.{◌≡◌, Bool, true, IfOk, IfErr};
+    ghost use Rattle.std.specs.Prelude.{◌≡◌, ℕ, Bool, true, List, IfOk, IfErr};
     ghost use Rattle.forwarding.specs.declared.flow.Progress.TheVariants as progress;
     ghost use Rattle.forwarding.specs.Gates.{Met};
+    ghost use Rattle.forwarding.specs.Numbers.{NoneFalls};
 
     /// What a flow is of.
     ghost Key: { Type 0 };
@@ -29,9 +30,13 @@ pub trait Flow: Drop + Send {
     /// Whether nothing is left to do.
     ghost over: { Self → Bool };
 
+    /// The numbers that it counts, in an order of its own.
+    ghost numbers: { Self → List ℕ };
+
     /// One turn. Where it is refused, the flow is as the calls before left it, and can be asked again.
     fn turn<R: Wait, G: Gate>(&mut self, rt: &R, gate: &G) -> Result<Progress, ForwardError>
         ensures key { key self.new ≡ key self.old }
+        ensures none_falls { NoneFalls (numbers self.old) (numbers self.new) }
         ensures ended { IfOk result (λ p. p ≡ progress.Over → over self.new ≡ true) }
         ensures refused { IfErr result (λ e. Met G.answers gate.now e) };
 

@@ -1,10 +1,9 @@
 -- A batch of either driver leaves the buffers that a worker has the same ones.
-use Rattle.std.proofs.Common.{◌≡◌, ◌∙◌, ℕ, ◌+◌, List, [], ◌∷◌, ◌++◌, map, take, drop, reverse, IsPermutation, refl, sym, ap, arith}
+use Rattle.std.proofs.Common.{◌≡◌, ◌∙◌, ℕ, ◌+◌, List, [], ◌∷◌, ◌++◌, map, take, reverse, refl, sym, ap, arith}
 use Rattle.std.proofs.lemmas.List.{map-append}
 use Rattle.buffer_pool.specs.Buffer.{Buffer}
 use Rattle.ring_model.specs.shared.Segments.{Segment}
 use Rattle.ring_model.specs.shared.Frames.{Bytes}
-use Rattle.ring_model.specs.transmit.Ring.{number_of_posting}
 use Rattle.driver.specs.Reclaiming.{out_of}
 use Rattle.driver.specs.receive.Batches.{GrewBy}
 use Rattle.driver.specs.receive.Chains.{going_on, segments_of, segments_in}
@@ -17,7 +16,7 @@ use Rattle.pool.specs.Hands.{total}
 use Rattle.pool.proofs.Totals.{total-append}
 use Rattle.pool.proofs.Accounts.{same-members}
 use Rattle.lending.specs.Lent.{lent, with_transmitter}
-use Rattle.lending.specs.Laws.{Moved, BatchesMove}
+use Rattle.lending.specs.Laws.{BatchesMove}
 use Rattle.lending.proofs.Weights.{total-reverse, total-receiver, total-lent, total-packets, total-cut}
 
 abbrev of_segments : List (Segment Bytes) → List ℕ

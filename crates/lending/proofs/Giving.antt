@@ -1,12 +1,11 @@
 -- Buffers of a disabled queue on their way to the pool.
-use Rattle.std.proofs.Common.{◌≡◌, ◌∙◌, ℕ, ◌+◌, ◌<◌, List, [], ◌∷◌, ◌++◌, length, map, drop, reverse, IsPermutation, refl, sym, ap, subst, arith, append_assoc, append-nil, length-append}
+use Rattle.std.proofs.Common.{◌≡◌, ◌∙◌, ℕ, ◌<◌, List, [], ◌∷◌, ◌++◌, length, map, drop, reverse, IsPermutation, sym, ap, subst, arith, append_assoc, length-append}
 use Rattle.std.proofs.lemmas.List.{drop_all}
 use Rattle.std.proofs.lemmas.List.Sorted.{IsPermutation-append_left, IsPermutation-trans, length_permutation}
 use Rattle.buffer_pool.specs.Buffer.{Buffer}
 use Rattle.ring_model.specs.transmit.Ring.{number_of_posting}
 use Rattle.rx_ring.specs.Ends as receive
 use Rattle.tx_ring.specs.Ends as transmit
-use Rattle.driver.specs.Reclaiming.{CameBack}
 use Rattle.driver.specs.receive.Receiver.{Receiver}
 use Rattle.driver.specs.receive.Returns as received
 use Rattle.driver.specs.receive.Returns.{numbers_of}
@@ -21,7 +20,6 @@ use Rattle.pool.specs.Bulk.{Refilled}
 use Rattle.lending.proofs.Weights.{total-packets, total-lent}
 use Rattle.pool.proofs.Moving.{total-shuffled}
 use Rattle.lending.specs.Lent.{with_receiver, with_transmitter, lent, Exchanged, GivenBack, SameNumbers}
-use Rattle.lending.proofs.Returns.{reclaiming-moves}
 
 -- the same numbers are a permutation, and the other way round
 pub weighed : (xs ys : List ℕ) → IsPermutation xs ys → SameNumbers xs ys

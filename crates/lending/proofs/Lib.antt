@@ -1,4 +1,4 @@
-mod Weights
+pub mod Weights
 pub mod Batches
 pub mod Returns
 pub mod Giving

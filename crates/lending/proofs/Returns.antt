@@ -1,23 +1,20 @@
 -- Reclaiming, refills and gifts.
-use Rattle.std.proofs.Common.{◌≡◌, ◌∙◌, ℕ, ◌+◌, List, [], ◌∷◌, ◌++◌, reverse, IsPermutation, refl, sym, ap, arith}
-use Rattle.buffer_pool.specs.Buffer.{Buffer}
+use Rattle.std.proofs.Common.{◌≡◌, ℕ, List, ◌++◌, reverse, ap, arith}
 use Rattle.ring_model.specs.transmit.Ring.{number_of_posting}
 use Rattle.driver.specs.Reclaiming.{out_of, CameBack}
 use Rattle.driver.specs.receive.Receiver.{Receiver}
 use Rattle.driver.specs.receive.Returns.{itself, numbers_of, GaveBack}
 use Rattle.driver.specs.transmit.Transmitter.{Transmitter}
-use Rattle.pool.specs.declared.hand.Hand.{Hand}
-use Rattle.pool.specs.Bulk.{Refilled}
 use Rattle.pool.specs.Hands.{total}
 use Rattle.pool.proofs.Totals.{total-append}
 use Rattle.pool.proofs.Accounts.{same-members}
 use Rattle.pool.proofs.Moving.{total-shuffled}
-use Rattle.lending.specs.Lent.{with_receiver, with_transmitter, Exchanged}
+use Rattle.lending.specs.Lent.{with_receiver, with_transmitter}
 use Rattle.lending.specs.Laws.{ReclaimingMoves, RefillsAreHeld}
 use Rattle.lending.proofs.Weights.{total-reverse, total-receiver, total-buffers}
 
 module _ (h : ℕ → ℕ) where
-  total-given : (old new : Receiver) (had has : List ℕ) → GaveBack old had new has → total h (had ++ with_receiver old) ≡ total h (has ++ with_receiver new)
+  pub total-given : (old new : Receiver) (had has : List ℕ) → GaveBack old had new has → total h (had ++ with_receiver old) ≡ total h (has ++ with_receiver new)
   total-given old new had has g = omega (
     arith,
     total-append h had (with_receiver old),
@@ -35,7 +32,7 @@ module _ (h : ℕ → ℕ) where
     total-reverse h g.ring.numbers,
   )
 
-  total-returned : (old new : Transmitter) (had has : List ℕ) → CameBack number_of_posting old.end had new.end has → total h (had ++ with_transmitter old) ≡ total h (has ++ with_transmitter new)
+  pub total-returned : (old new : Transmitter) (had has : List ℕ) → CameBack number_of_posting old.end had new.end has → total h (had ++ with_transmitter old) ≡ total h (has ++ with_transmitter new)
   total-returned old new had has c = omega (
     arith,
     total-append h had (with_transmitter old),

@@ -1,13 +1,12 @@
 -- The laws of lent buffers.
-use Rattle.std.specs.Prelude.{◌≡◌, ℕ, List, ◌++◌, take, drop, IsPermutation}
+use Rattle.std.specs.Prelude.{ℕ, List, ◌++◌, IsPermutation}
 use Rattle.buffer_pool.specs.Buffer.{Buffer}
 use Rattle.ring_model.specs.transmit.Ring.{number_of_posting}
-use Rattle.driver.specs.Reclaiming.{out_of, CameBack}
-use Rattle.driver.specs.receive.Batches.{GrewBy, Hands}
+use Rattle.driver.specs.Reclaiming.{CameBack}
+use Rattle.driver.specs.receive.Batches.{GrewBy}
 use Rattle.driver.specs.receive.Receiver.{Receiver, hands}
 use Rattle.driver.specs.receive.Returns.{GaveBack}
 use Rattle.driver.specs.transmit.Batches as transmit
-use Rattle.driver.specs.transmit.Frames.{numbers_in}
 use Rattle.driver.specs.transmit.Transmitter.{Transmitter, sending}
 use Rattle.pool.specs.declared.hand.Hand.{Hand}
 use Rattle.pool.specs.Bulk.{Refilled}

@@ -1,5 +1,5 @@
 -- Which buffers a worker has: at hand, in its rings, in a frame that has not ended, and in the packets that wait.
-use Rattle.std.specs.Prelude.{◌≡◌, ℕ, List, [], ◌++◌, IsPermutation}
+use Rattle.std.specs.Prelude.{◌≡◌, ℕ, List, ◌++◌, IsPermutation}
 use Rattle.pool.specs.Hands.{total}
 use Rattle.buffer_pool.specs.Buffer.{Buffer}
 use Rattle.ring_model.specs.transmit.Ring.{number_of_posting}

@@ -1,5 +1,5 @@
 -- The buffer that comes next is held.
-use Rattle.std.proofs.Common.{ℕ, List, [], ap, subst}
+use Rattle.std.proofs.Common.{List, subst}
 use Rattle.buffer_pool.specs.Buffer.{Buffer}
 use Rattle.driver.specs.receive.Returns.{numbers_of}
 use Rattle.pool.specs.Hands.{HoldsAll}

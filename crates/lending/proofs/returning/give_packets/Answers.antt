@@ -1,7 +1,5 @@
 -- The last packet of the list is given, and what is held of the others stays.
-use Rattle.std.proofs.Common.{◌≡◌, ◌∙◌, ◌++◌, ◌∷◌, [], ℕ, List, ap}
-use Rattle.std.specs.Prelude.{option_to_list}
-use Rattle.buffer_pool.specs.Buffer.{Buffer}
+use Rattle.std.proofs.Common.{◌++◌}
 use Rattle.driver.specs.receive.Returns.{numbers_of}
 use Rattle.driver.specs.transmit.Frames.{numbers_in}
 use Rattle.lending.proofs.Giving.{holds-on, holds-first, exchanged-more, exchanged-given, last-packet}

@@ -1,11 +1,10 @@
 -- Each turn moves what the stash has room for, and gives it.
-use Rattle.std.proofs.Common.{rules, ◌≡◌, ◌∙◌, ℕ, List, [], ◌++◌, length, sym, ap, subst, arith}
+use Rattle.std.proofs.Common.{rules, ◌∙◌, ◌++◌, ap}
 use Rattle.ring_model.specs.shared.Handshakes.{is_stopped}
 use Rattle.rx_ring.specs.Records.{RxDriven}
 use Rattle.driver.specs.receive.Returns.{IsEmptied}
-use Rattle.pool.specs.Hands.{HoldsAll}
-use Rattle.lending.specs.Lent.{Exchanged, with_receiver}
-use Rattle.lending.proofs.Giving.{fewer, moved-out, holds-reclaimed, given-on, holds-begun, all-given, none-received}
+use Rattle.lending.specs.Lent.{with_receiver}
+use Rattle.lending.proofs.Giving.{holds-reclaimed, given-on, holds-begun, all-given, none-received}
 use Rattle.lending.proofs.Returns.{reclaiming-moves}
 use Rattle.lending.proofs.returning.give_received.Goals as goal
 

@@ -1,11 +1,10 @@
 -- Each turn moves what the stash has room for, and gives it.
-use Rattle.std.proofs.Common.{rules, ◌≡◌, ◌∙◌, ℕ, List, [], ◌++◌, length, sym, ap, subst, arith}
+use Rattle.std.proofs.Common.{rules, ◌∙◌, ◌++◌, ap}
 use Rattle.ring_model.specs.shared.Handshakes.{is_stopped}
 use Rattle.tx_ring.specs.Records.{TxDriven}
 use Rattle.driver.specs.transmit.Returns.{IsEmptied}
-use Rattle.pool.specs.Hands.{HoldsAll}
-use Rattle.lending.specs.Lent.{Exchanged, with_transmitter}
-use Rattle.lending.proofs.Giving.{fewer, moved-out, holds-reclaimed, given-on, holds-begun, all-given, none-sent}
+use Rattle.lending.specs.Lent.{with_transmitter}
+use Rattle.lending.proofs.Giving.{holds-reclaimed, given-on, holds-begun, all-given, none-sent}
 use Rattle.lending.proofs.Returns.{reclaiming-moves}
 use Rattle.lending.proofs.returning.give_sent.Goals as goal
 

@@ -1,4 +1,4 @@
-use Rattle.std.proofs.Common.{◌≡◌, ◌∙◌, ◌++◌, ℕ, List, length, take, drop, min, sym, ap, subst, arith, IsPermutation}
+use Rattle.std.proofs.Common.{◌∙◌, ◌++◌, ℕ, List, sym, subst, arith, IsPermutation}
 use Rattle.std.proofs.lemmas.List.{take_all, drop_all}
 use Rattle.pool.specs.Hands.{HoldsAll}
 use Rattle.lending.proofs.returning.give_stash.Goals as goal

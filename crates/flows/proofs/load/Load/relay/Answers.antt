@@ -34,7 +34,7 @@ returns-then-task-clause-loaded g c =
 pub returns-then-task-clause-relayed : goal.returns-then-task-clause-relayed
 returns-then-task-clause-relayed g c =
     let k = c.args.task.now in let old = driving_of c.args.self.now in let d = c.drive.new in let new = driving d.rx d.tx d.stash d.packets.items in let t = c.in-Ok.turned in
-    subst (λ (x : Counts). Relayed k.retries new.rx.end new.tx.end x (map bytes_of new.packets)) (sym c.counted-then-task.ensures)
+    subst (λ (x : Counts). Relayed k.retries new.rx.end new.tx.end x (map bytes_of new.packets)) (sym c.counted-then-task.ensures.value)
     (relays-on k.retries old new c.args.counts.now t.taken t.posted c.requires.relayed c.drive.ensures.moved c.in-Ok.ensures.counted)
 
 pub returns-then-task-clause-drained : goal.returns-then-task-clause-drained

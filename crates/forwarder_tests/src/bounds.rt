@@ -1,0 +1,236 @@
+//! Configurations that are refused, and those at the edge of what is not.
+
+use crate::bursts::{Burst, script_of};
+use crate::configs::DEFAULT;
+use crate::counted::{Counts, NONE, comes_to};
+use crate::gates::Shuts;
+use forwarder::{Config, forward};
+use forwarding::{ForwardError, Open};
+use std::alloc::Global;
+use std::sync::Wait;
+use std::test::Fail;
+use std::thread::Threads;
+use wire_script::Script;
+
+/// The least lawful numbers.
+const LEAST: Config = Config {
+    ring: 8,
+    batch: 1,
+    buffers: 32,
+    bsize: 1_024,
+    rs_every: 1,
+    ..DEFAULT
+};
+
+/// The greatest lawful numbers.
+const GREATEST: Config = Config {
+    pairs: 8,
+    ring: 4_096,
+    buffers: 65_536,
+    rs_every: 4_096,
+    workers: 16,
+    turns: 4_294_967_295,
+    ..DEFAULT
+};
+
+/// Those of which one number is beyond its limits.
+const BROKEN: &[Config] = &[
+    Config { pairs: 0, ..LEAST },
+    Config {
+        pairs: 9,
+        ..GREATEST
+    },
+    Config { ring: 0, ..LEAST },
+    Config { ring: 4, ..LEAST },
+    Config { ring: 7, ..LEAST },
+    Config { ring: 9, ..LEAST },
+    Config {
+        ring: 4_095,
+        ..GREATEST
+    },
+    Config {
+        ring: 4_097,
+        ..GREATEST
+    },
+    Config {
+        ring: 8_192,
+        ..GREATEST
+    },
+    Config { batch: 0, ..LEAST },
+    Config {
+        batch: 33,
+        ..GREATEST
+    },
+    Config {
+        buffers: 31,
+        ..LEAST
+    },
+    Config {
+        buffers: 255,
+        ..GREATEST
+    },
+    Config {
+        buffers: 65_537,
+        ..GREATEST
+    },
+    Config { bsize: 0, ..LEAST },
+    Config {
+        bsize: 1_023,
+        ..LEAST
+    },
+    Config {
+        bsize: 1_025,
+        ..LEAST
+    },
+    Config {
+        bsize: 2_047,
+        ..GREATEST
+    },
+    Config {
+        bsize: 2_049,
+        ..GREATEST
+    },
+    Config {
+        rs_every: 0,
+        ..LEAST
+    },
+    Config {
+        rs_every: 4_097,
+        ..GREATEST
+    },
+    Config {
+        workers: 0,
+        ..LEAST
+    },
+    Config {
+        workers: 3,
+        ..LEAST
+    },
+    Config {
+        workers: 17,
+        ..GREATEST
+    },
+];
+
+/// How many of these are refused before anything is done, up to the first that is not.
+fn refused<R: Threads + Wait + Sync>(
+    rt: &R,
+    alloc: Global,
+    script: &Script,
+    configs: &[Config],
+) -> usize {
+    let mut count = 0usize;
+    for config in configs {
+        let gate = Shuts::after(1);
+        let refusal = forward(rt, alloc, script, config, &gate).err();
+        if refusal != Some(ForwardError::Config) || gate.left() != 1 {
+            return count;
+        }
+        count = count.saturating_add(1);
+    }
+    count
+}
+
+#[test]
+fn a_broken_limit_is_refused_before_anything_is_done(rt: HostRuntime) -> Result<(), Fail> {
+    let script = script_of(rt.alloc(), &[])?;
+    assert_eq!(rt; refused(&rt, rt.alloc(), &script, BROKEN), BROKEN.len());
+    Ok(())
+}
+
+/// How many of these fit the script, up to the first that doesn't.
+fn fitting(script: &Script, configs: &[Config]) -> usize {
+    let mut count = 0usize;
+    for config in configs {
+        if config.check(script).is_err() {
+            return count;
+        }
+        count = count.saturating_add(1);
+    }
+    count
+}
+
+const EDGES: &[Config] = &[LEAST, DEFAULT, GREATEST];
+
+#[test]
+fn the_edges_are_lawful(rt: HostRuntime) -> Result<(), Fail> {
+    let script = script_of(rt.alloc(), &[])?;
+    assert!(rt; Config::default() == DEFAULT);
+    assert_eq!(rt; fitting(&script, EDGES), 3);
+    Ok(())
+}
+
+/// Ten frames for port 1, queue 0.
+const TEN: &[Burst] = &[Burst {
+    port: 1,
+    queue: 0,
+    len: 1_500,
+    first: 0,
+    count: 10,
+}];
+
+const ALL_TEN: Counts = [10, 10, 0, 0, 10, 10, 0, 10, 0];
+
+/// What they come to with 8 pairs.
+const OF_SIXTEEN: &[Counts] = &[
+    NONE, NONE, NONE, NONE, NONE, NONE, NONE, NONE, ALL_TEN, NONE, NONE, NONE, NONE, NONE, NONE,
+    NONE,
+];
+
+#[test]
+fn the_edges_are_run(rt: HostRuntime) -> Result<(), Fail> {
+    let script = script_of(rt.alloc(), TEN)?;
+    let least = [NONE, ALL_TEN];
+    assert!(rt; comes_to(&rt, rt.alloc(), &script, &LEAST, &Open, &least)?);
+    assert!(rt; comes_to(&rt, rt.alloc(), &script, &GREATEST, &Open, OF_SIXTEEN)?);
+    Ok(())
+}
+
+/// Whether a frame of this port and queue is refused with so many pairs, and taken with one more.
+fn has_just<R: Threads + Wait + Sync>(
+    rt: &R,
+    alloc: Global,
+    port: u8,
+    queue: u8,
+    pairs: u32,
+) -> Result<bool, Fail> {
+    let burst = Burst {
+        port,
+        queue,
+        len: 60,
+        first: 0,
+        count: 1,
+    };
+    let script = script_of(alloc, &[burst])?;
+    let fewer = Config { pairs, ..DEFAULT };
+    let enough = Config {
+        pairs: pairs.saturating_add(1),
+        ..DEFAULT
+    };
+    Ok(refused(rt, alloc, &script, &[fewer]) == 1 && enough.check(&script).is_ok())
+}
+
+#[test]
+fn a_queue_that_is_not_there_is_refused(rt: HostRuntime) -> Result<(), Fail> {
+    for (port, queue, pairs) in [(0, 1, 1), (1, 1, 1), (1, 7, 7)] {
+        assert!(rt;
+            has_just(&rt, rt.alloc(), port, queue, pairs)?,
+            "{pairs} pairs"
+        );
+    }
+    Ok(())
+}
+
+#[test]
+fn refusals_have_a_number_and_a_text(rt: HostRuntime) -> Result<(), Fail> {
+    for (refusal, want) in [
+        (ForwardError::Memory, "61 memory"),
+        (ForwardError::Gate, "62 gate"),
+        (ForwardError::Thread, "63 thread"),
+        (ForwardError::Config, "64 config"),
+    ] {
+        let text = format!(in rt.alloc(); "{} {refusal}", refusal.number())?;
+        assert_eq!(rt; text.as_str(), want);
+    }
+    Ok(())
+}

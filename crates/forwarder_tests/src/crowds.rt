@@ -1,0 +1,127 @@
+//! All flows of 8 pairs, by each number of workers.
+
+use crate::configs::DEFAULT;
+use crate::counted::counts_of;
+use controller::Wire;
+use flows::Ended;
+use forwarder::{Config, forward};
+use forwarding::{ForwardError, Open};
+use std::alloc::Global;
+use std::sync::Wait;
+use std::test::Fail;
+use std::thread::Threads;
+use wire_script::{Script, WireFrame};
+
+/// So many frames of 14 to 43 bytes, over all 16 flows in turn.
+fn crowd(alloc: Global, count: u32) -> Result<Script, Fail> {
+    let mut frames = Vec::new(alloc);
+    for k in 0..count {
+        let round = k / 16;
+        let len = 14 + (round % 30) as usize;
+        let bytes = Vec::from_elem(alloc, (k % 251) as u8, len)?;
+        frames.push(WireFrame::new((k % 2) as u8, (k / 2 % 8) as u8, bytes))?;
+    }
+    if frames.len() > 1_000_000 {
+        return Err("too many frames".into());
+    }
+    Ok(Script::new(frames))
+}
+
+/// How many frames there are, and a sum of their bytes in which the order counts.
+#[derive(Clone, Copy, PartialEq, Eq, Debug)]
+struct Sum {
+    frames: u64,
+    sum: u64,
+}
+
+impl Sum {
+    const NONE: Sum = Sum { frames: 0, sum: 0 };
+
+    /// With these bytes of a frame.
+    fn add(&mut self, bytes: &[u8]) {
+        for byte in bytes {
+            self.sum = self.sum.wrapping_mul(31).wrapping_add(u64::from(*byte));
+        }
+    }
+
+    /// With one more frame, touched.
+    fn add_touched(&mut self, bytes: &[u8]) {
+        let first = bytes.first().copied().unwrap_or(0);
+        let second = bytes.get(1).copied().unwrap_or(0);
+        self.frames = self.frames.saturating_add(1);
+        self.add(&[first, second.wrapping_add(1)]);
+        self.add(bytes.get(2..).unwrap_or(&[]));
+    }
+
+    fn of(wire: &Wire) -> Sum {
+        let mut sum = Sum::NONE;
+        for frame in wire.iter() {
+            sum.frames = sum.frames.saturating_add(1);
+            sum.add(frame);
+        }
+        sum
+    }
+}
+
+/// What has to go out of each flow.
+fn wanted(script: &Script) -> [Sum; 16] {
+    let mut sums = [Sum::NONE; 16];
+    for frame in script.frames() {
+        let flow = usize::from(frame.port()) * 8 + usize::from(frame.queue());
+        sums[flow].add_touched(frame.bytes());
+    }
+    sums
+}
+
+/// Whether so many frames of each flow go out by so many workers.
+fn all_go<R: Threads + Wait + Sync>(
+    rt: &R,
+    alloc: Global,
+    script: &Script,
+    wanted: &[Sum; 16],
+    workers: u32,
+) -> Result<bool, ForwardError> {
+    let config = Config {
+        pairs: 8,
+        ring: 64,
+        workers,
+        ..DEFAULT
+    };
+    let report = forward(rt, alloc, script, &config, &Open)?;
+    for (flow, sum) in report.flows.iter().zip(wanted) {
+        let all = sum.frames;
+        if counts_of(flow) != [all, all, 0, 0, all, all, 0, all, 0] {
+            return Ok(false);
+        }
+        if flow.ended != Ended::Drained || Sum::of(&flow.wire) != *sum {
+            return Ok(false);
+        }
+    }
+    Ok(report.flows.len() == 16)
+}
+
+#[test]
+fn sixteen_flows_by_each_number_of_workers(rt: HostRuntime) -> Result<(), Fail> {
+    let script = crowd(rt.alloc(), 1_600)?;
+    let wanted = wanted(&script);
+    for workers in 1..=16 {
+        assert!(rt;
+            all_go(&rt, rt.alloc(), &script, &wanted, workers)?,
+            "{workers} workers"
+        );
+    }
+    Ok(())
+}
+
+#[test]
+fn fifty_thousand_frames_over_sixteen_flows(rt: HostRuntime) -> Result<(), Fail> {
+    let script = crowd(rt.alloc(), 50_000)?;
+    let wanted = wanted(&script);
+    for workers in [1, 3, 8, 16] {
+        assert!(rt;
+            all_go(&rt, rt.alloc(), &script, &wanted, workers)?,
+            "{workers} workers"
+        );
+    }
+    Ok(())
+}

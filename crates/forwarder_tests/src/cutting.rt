@@ -1,0 +1,75 @@
+//! Flows that are cut after their turns.
+
+use crate::bursts::{FORTY, FORTY_COUNTS, script_of};
+use crate::configs::SHORT;
+use crate::counted::{carries, comes_to};
+use flows::{Ended, FlowReport};
+use forwarder::{Config, forward};
+use forwarding::Open;
+use std::alloc::Global;
+use std::sync::Wait;
+use std::test::Fail;
+use std::thread::Threads;
+use wire_script::Script;
+
+/// Whether the counts of a flow of single segments add up, where nothing is dropped at the receive ring: all that was
+/// stored was taken or is left, and so it is with what was posted and what went out.
+fn adds_up(flow: &FlowReport) -> bool {
+    let came = flow.stored.saturating_add(flow.posted);
+    let went = flow.taken.saturating_add(flow.wire.len() as u64);
+    flow.offered == flow.stored && came == went.saturating_add(flow.left)
+}
+
+/// Whether flow 1 is cut, with up to 7 frames taken a turn, and all flows add up.
+fn is_cut<R: Threads + Wait + Sync>(
+    rt: &R,
+    alloc: Global,
+    script: &Script,
+    turns: u32,
+    retry: bool,
+) -> Result<bool, Fail> {
+    let config = Config {
+        turns,
+        retry,
+        ..SHORT
+    };
+    let report = forward(rt, alloc, script, &config, &Open)?;
+    let mut good = report.flows.len() == 4;
+    for flow in &report.flows {
+        good &= adds_up(flow);
+    }
+    let flow = report.flows.get(1).ok_or("no flow 1")?;
+    let gone = flow.posted.saturating_add(flow.tx_dropped);
+    let relayed = if retry {
+        flow.tx_dropped == 0 && gone <= flow.taken && carries(&flow.wire, script, 0, 1)
+    } else {
+        gone == flow.taken
+    };
+    let few = flow.taken <= u64::from(turns).saturating_mul(7);
+    Ok(good && relayed && few && flow.ended == Ended::Cut)
+}
+
+// A turn takes what a ring of 8 has at most, 7 frames, so 5 turns are too few for 40.
+#[test]
+fn a_flow_is_cut_after_its_turns(rt: HostRuntime) -> Result<(), Fail> {
+    let script = script_of(rt.alloc(), FORTY)?;
+    for turns in [1, 2, 5] {
+        for retry in [true, false] {
+            assert!(rt;
+                is_cut(&rt, rt.alloc(), &script, turns, retry)?,
+                "{turns} turns"
+            );
+        }
+    }
+    Ok(())
+}
+
+#[test]
+fn with_turns_enough_no_flow_is_cut(rt: HostRuntime) -> Result<(), Fail> {
+    let script = script_of(rt.alloc(), FORTY)?;
+    for turns in [0, 1_000_000_000] {
+        let config = Config { turns, ..SHORT };
+        assert!(rt; comes_to(&rt, rt.alloc(), &script, &config, &Open, FORTY_COUNTS)?);
+    }
+    Ok(())
+}

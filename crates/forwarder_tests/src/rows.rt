@@ -1,0 +1,170 @@
+//! Worked rows.
+
+use crate::bursts::{Burst, FORTY, FORTY_COUNTS, script_of};
+use crate::configs::{DEFAULT, SHORT};
+use crate::counted::{Counts, NONE, comes_to};
+use controller::Wire;
+use forwarder::{Config, forward};
+use forwarding::{ForwardError, Open};
+use std::alloc::Global;
+use std::sync::Wait;
+use std::test::Fail;
+use std::thread::Threads;
+use tx_ring::Completion;
+use wire_script::Script;
+
+/// Four flows over rings of 512.
+const EMPTY: Config = Config {
+    pairs: 2,
+    ..DEFAULT
+};
+
+const BOTH_WAYS: [Completion; 2] = [Completion::Status, Completion::Head];
+
+/// Whether the 40 frames go over rings of 8 by batches of 1, 7 and 32.
+fn forty_go<R: Threads + Wait + Sync>(
+    rt: &R,
+    alloc: Global,
+    script: &Script,
+    workers: u32,
+    completion: Completion,
+) -> Result<bool, ForwardError> {
+    let mut good = true;
+    for batch in [1, 7, 32] {
+        let config = Config {
+            workers,
+            batch,
+            completion,
+            ..SHORT
+        };
+        good &= comes_to(rt, alloc, script, &config, &Open, FORTY_COUNTS)?;
+    }
+    Ok(good)
+}
+
+#[test]
+fn forty_frames_over_a_short_ring(rt: HostRuntime) -> Result<(), Fail> {
+    let script = script_of(rt.alloc(), FORTY)?;
+    for completion in BOTH_WAYS {
+        for workers in 1..=4 {
+            assert!(rt;
+                forty_go(&rt, rt.alloc(), &script, workers, completion)?,
+                "{workers} workers"
+            );
+        }
+    }
+    Ok(())
+}
+
+/// The first three bytes of a frame, and its last.
+fn edge(frame: &[u8]) -> Option<[u8; 4]> {
+    Some([
+        *frame.first()?,
+        *frame.get(1)?,
+        *frame.get(2)?,
+        *frame.last()?,
+    ])
+}
+
+/// What frame `i` of a wire begins and ends with.
+fn edge_of(wire: &Wire, i: usize) -> Option<[u8; 4]> {
+    if i < wire.len() {
+        edge(wire.frame(i))
+    } else {
+        None
+    }
+}
+
+#[test]
+fn a_touch_grows_one_byte(rt: HostRuntime) -> Result<(), Fail> {
+    let script = script_of(rt.alloc(), FORTY)?;
+    let report = forward(&rt, rt.alloc(), &script, &SHORT, &Open)?;
+    let flow = report.flows.get(1).ok_or("no flow 1")?;
+    assert!(rt; edge_of(&flow.wire, 0) == Some([0, 1, 0, 0]));
+    assert!(rt; edge_of(&flow.wire, 39) == Some([255, 0, 255, 255]));
+    assert!(rt; edge_of(&flow.wire, 40) == None);
+    Ok(())
+}
+
+#[test]
+fn an_empty_script(rt: HostRuntime) -> Result<(), Fail> {
+    let script = script_of(rt.alloc(), &[])?;
+    assert!(rt; comes_to(&rt, rt.alloc(), &script, &EMPTY, &Open, &[NONE; 4])?);
+    Ok(())
+}
+
+/// Frames of one length for port 0, queue 0, over rings of one length, and what flow 0 comes to.
+#[derive(Clone, Copy)]
+struct Long {
+    len: usize,
+    count: u8,
+    ring: u32,
+    bsize: u32,
+    wanted: &'static [Counts],
+}
+
+const ONE_OVERSIZE: &[Counts] = &[[1, 0, 0, 1, 0, 0, 0, 0, 0], NONE];
+
+const TEN: &[Counts] = &[[10, 10, 0, 0, 10, 10, 0, 10, 0], NONE];
+
+const LONG: &[Long] = &[
+    Long {
+        len: 9_000,
+        count: 1,
+        ring: 8,
+        bsize: 1_024,
+        wanted: ONE_OVERSIZE,
+    },
+    Long {
+        len: 15_000,
+        count: 1,
+        ring: 8,
+        bsize: 2_048,
+        wanted: ONE_OVERSIZE,
+    },
+    Long {
+        len: 14_336,
+        count: 10,
+        ring: 8,
+        bsize: 2_048,
+        wanted: TEN,
+    },
+    Long {
+        len: 15_000,
+        count: 10,
+        ring: 16,
+        bsize: 1_024,
+        wanted: TEN,
+    },
+];
+
+/// Whether the frames of a row come to what it says.
+fn goes<R: Threads + Wait + Sync>(rt: &R, alloc: Global, row: &Long) -> Result<bool, Fail> {
+    let burst = Burst {
+        port: 0,
+        queue: 0,
+        len: row.len,
+        first: 0,
+        count: row.count,
+    };
+    let script = script_of(alloc, &[burst])?;
+    let config = Config {
+        ring: row.ring,
+        bsize: row.bsize,
+        ..DEFAULT
+    };
+    Ok(comes_to(rt, alloc, &script, &config, &Open, row.wanted)?)
+}
+
+#[test]
+fn long_frames_go_out_or_are_oversize(rt: HostRuntime) -> Result<(), Fail> {
+    for row in LONG {
+        assert!(rt;
+            goes(&rt, rt.alloc(), row)?,
+            "{} bytes, a ring of {}",
+            row.len,
+            row.ring
+        );
+    }
+    Ok(())
+}

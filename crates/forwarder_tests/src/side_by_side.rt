@@ -1,0 +1,80 @@
+//! Drivers and controllers run in threads of their own, over rings that have so much room and no more.
+
+use crate::bursts::{Burst, script_of};
+use crate::configs::DEFAULT;
+use crate::counted::{Counts, NONE, comes_to};
+use crate::gates::{After, Meeting};
+use forwarder::Config;
+use std::alloc::Global;
+use std::sync::Wait;
+use std::test::Fail;
+use std::thread::Threads;
+use wire_script::Script;
+
+const ONE: &[Burst] = &[Burst {
+    port: 0,
+    queue: 0,
+    len: 60,
+    first: 1,
+    count: 1,
+}];
+
+const ONE_COUNTS: &[Counts] = &[[1, 1, 0, 0, 1, 1, 0, 1, 0], NONE];
+
+#[test]
+fn a_driver_and_its_controller_wait_for_each_other(rt: HostRuntime) -> Result<(), Fail> {
+    let script = script_of(rt.alloc(), ONE)?;
+    let gate = Meeting::new();
+    assert!(rt; comes_to(&rt, rt.alloc(), &script, &DEFAULT, &gate, ONE_COUNTS)?);
+    assert!(rt; gate.took_place());
+    Ok(())
+}
+
+const FORTY: &[Burst] = &[Burst {
+    port: 0,
+    queue: 0,
+    len: 60,
+    first: 0,
+    count: 40,
+}];
+
+const SEVEN: &[Counts] = &[[40, 7, 33, 0, 7, 7, 0, 7, 0], NONE];
+
+const FIFTEEN: &[Counts] = &[[40, 15, 25, 0, 15, 15, 0, 15, 0], NONE];
+
+const SIXTEEN: &[Counts] = &[[40, 16, 24, 0, 16, 16, 0, 16, 0], NONE];
+
+/// Whether 40 frames that are offered before the first is taken come to these counts.
+fn is_full<R: Threads + Wait + Sync>(
+    rt: &R,
+    alloc: Global,
+    script: &Script,
+    ring: u32,
+    buffers: u32,
+    wanted: &[Counts],
+) -> Result<bool, Fail> {
+    let config = Config {
+        ring,
+        buffers,
+        drop_en: true,
+        ..DEFAULT
+    };
+    let gate = After::new(40);
+    Ok(comes_to(rt, alloc, script, &config, &gate, wanted)? && gate.was_in_time())
+}
+
+#[test]
+fn a_full_ring_drops_what_comes(rt: HostRuntime) -> Result<(), Fail> {
+    let script = script_of(rt.alloc(), FORTY)?;
+    assert!(rt; is_full(&rt, rt.alloc(), &script, 8, 4_096, SEVEN)?);
+    assert!(rt; is_full(&rt, rt.alloc(), &script, 16, 4_096, FIFTEEN)?);
+    Ok(())
+}
+
+// Two flows share 32 buffers.
+#[test]
+fn a_flow_has_its_share_of_the_buffers(rt: HostRuntime) -> Result<(), Fail> {
+    let script = script_of(rt.alloc(), FORTY)?;
+    assert!(rt; is_full(&rt, rt.alloc(), &script, 64, 32, SIXTEEN)?);
+    Ok(())
+}

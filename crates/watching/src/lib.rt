@@ -1,0 +1,14 @@
+//! Flows that others watch while they run.
+//!
+//! A [`Watched`] flow is one side of a flow with the cell that shows its numbers. Its turn is the flow's turn, after which
+//! the worker writes the numbers into the cell where one of them changed: so what the pen wrote last, or the cell's opening,
+//! are the flow's numbers before and after every turn. Whoever holds a pass of the cell reads them from a thread of its own.
+//!
+//! A write waits for readers that found one in their way; no call takes memory that the flow's own turn doesn't take.
+#![tactic(auto)]
+
+mod numbered;
+mod watched;
+
+pub use numbered::Numbered;
+pub use watched::Watched;
