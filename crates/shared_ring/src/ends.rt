@@ -59,11 +59,11 @@ impl DriverPlaces {
 /// A step of the driver's half of the handshake.
 #[derive(Clone, Copy)]
 pub enum HandshakeStep {
-    /// C1.
+    /// C1: 1 is stored as the control word (RXDCTL, TXDCTL).
     AskEnable,
-    /// C4.
+    /// C4: the control word is loaded.
     LoadControl,
-    /// C5.
+    /// C5: 3 is stored as the control word.
     AskDisable,
 }
 
@@ -224,7 +224,7 @@ impl ControllerPlaces {
 /// A word that a controller loads.
 #[derive(Clone, Copy)]
 pub enum ControllerLoad {
-    /// A3, B3.
+    /// A3, B3: the tail (RDT, TDT).
     Tail,
     /// C2: the control word.
     Request,
