@@ -23,7 +23,8 @@ impl<D, C, R: Direction<D, C>> DriverPlay<D, C, R> for PostStore<R> {
     ghost counts = { λ st m r m' t. driver_counts t };
 }
 
-/// A2, B2: stores the tail (RDT, TDT).
+/// A2, B2.
+/// Stores the tail (RDT, TDT).
 pub struct PublishStore<R>(PhantomData<R>);
 
 impl<D, C, R: Direction<D, C>> Play<Buf, View<DriverEvent<D>, ControllerEvent<C>>>
