@@ -89,7 +89,8 @@ pub trait DriverEnd<D, C, R: Direction<D, C>>: Sized {
         ensures record { driver_record (driver_of R.form (side self.new)) ≡ record (driver_record (driver_of R.form (side self.old))) { state = shaken step (driver_state (driver_of R.form (side self.old))) (control_word result) } }
         ensures known { known_of (driver_of R.form (side self.new)) ≡ known_of (driver_of R.form (side self.old)) };
 
-    /// The ring's length.
+    /// The ring's length. A function that uses no field of an end or a seat learns nothing of what they keep: where it
+    /// needs that the length is lawful, it says `let _size = end.size();`.
     #[inline]
     final fn size(&self) -> u32
         ensures lawful { IsRingLength result }
