@@ -32,7 +32,7 @@ pub enum RxStep<P> {
     Take,
     /// A7: the controller stores the head (RDH).
     Head,
-    /// C1 to C5.
+    /// C1 to C5: a step of the handshake over the control word (RXDCTL).
     Control(ControlStep),
     /// C6: the driver takes a buffer out of a disabled queue.
     Reclaim,
@@ -67,7 +67,7 @@ pub enum TxStep<P> {
     LoadReport,
     /// B8: the driver takes the buffer of the oldest descriptor that is reported.
     Clean,
-    /// C1 to C5.
+    /// C1 to C5: a step of the handshake over the control word (TXDCTL).
     Control(ControlStep),
     /// C6: the driver takes a buffer out of a disabled queue.
     Reclaim,

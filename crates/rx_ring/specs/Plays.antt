@@ -34,18 +34,18 @@ loads_quiet n es place r b = driver.Own (LoadedQuiet r)
 abbrev pub IsBit : ℕ → List DriverStep → ℕ → ℕ → Buffer → Type 0
 IsBit n es place r b = r ≤ 1
 
--- C11
+-- C11: the quiet word is 0 again
 abbrev pub clears_quiet : ℕ → List DriverStep → ℕ → ℕ → Buffer → DriverStep
 clears_quiet n es place r b = driver.Own ClearedQuiet
 
--- A5
+-- A5: the next descriptor is written back, with DD
 abbrev pub writes_back : ℕ → List ControllerStep → ℕ → ℕ → Buffer → ControllerStep
 writes_back n es place r b = controller.Own (WroteBack place r b)
 
--- A7
+-- A7: the head (RDH)
 abbrev pub stores_head : ℕ → List ControllerStep → ℕ → ℕ → Buffer → ControllerStep
 stores_head n es place r b = controller.StoredHead r
 
--- C7
+-- C7: the quiet word is 1
 abbrev pub says_quiet : ℕ → List ControllerStep → ℕ → ℕ → Buffer → ControllerStep
 says_quiet n es place r b = controller.Own SaidQuiet

@@ -32,7 +32,9 @@ use std::marker::Model;
 pub struct RxControllerEnd {
     pub(crate) seat: RxControllerSeat,
     pub(crate) at: ControllerPlaces,
+    // the head that was stored last: a place
     head: u16,
+    // whether the end said in this epoch that it stores no more
     finished: bool,
 }
 

@@ -15,13 +15,13 @@ module _ {Ring Posted Served Given D C : Type 0} {form : Form Ring Posted Served
     pub there : slice_get (posted old) (returned old) ≡ Some item
     pub is_of : form.IsOf item buf
 
-  -- A3, B3
+  -- A3, B3: the tail (RDT, TDT) was loaded
   pub record FoundTail (old : ControllerSide form) (tail : ℕ) (new : ControllerSide form) : Type 0 where
     pub step : new ≡ answered old (controller.Looked tail)
     pub below : tail < controller_size old
     pub grows : (controller_record old).known ≤ count_at (controller_size old) (length (served old)) tail
 
-  -- A4, B4
+  -- A4, B4: the next descriptor was loaded, and its buffer came out
   pub record CameOut (old : ControllerSide form) (place : ℕ) (buf : Buffer) (word : ℕ) (new : ControllerSide form) : Type 0 where
     pub step : new ≡ answered old (controller.Fetched place word buf)
     pub fetched : form.IsFetched (controller_size old) (controller_record old) word buf

@@ -59,11 +59,11 @@ impl DriverPlaces {
 /// A step of the driver's half of the handshake.
 #[derive(Clone, Copy)]
 pub enum HandshakeStep {
-    /// C1.
+    /// C1: 1 is stored as the control word (RXDCTL, TXDCTL).
     AskEnable,
-    /// C4.
+    /// C4: the control word is loaded.
     LoadControl,
-    /// C5.
+    /// C5: 3 is stored as the control word.
     AskDisable,
 }
 
@@ -89,7 +89,8 @@ pub trait DriverEnd<D, C, R: Direction<D, C>>: Sized {
         ensures record { driver_record (driver_of R.form (side self.new)) ≡ record (driver_record (driver_of R.form (side self.old))) { state = shaken step (driver_state (driver_of R.form (side self.old))) (control_word result) } }
         ensures known { known_of (driver_of R.form (side self.new)) ≡ known_of (driver_of R.form (side self.old)) };
 
-    /// The ring's length.
+    /// The ring's length. A function that uses no field of an end or a seat learns nothing of what they keep: where it
+    /// needs that the length is lawful, it says `let _size = end.size();`.
     #[inline]
     final fn size(&self) -> u32
         ensures lawful { IsRingLength result }
@@ -224,7 +225,7 @@ impl ControllerPlaces {
 /// A word that a controller loads.
 #[derive(Clone, Copy)]
 pub enum ControllerLoad {
-    /// A3, B3.
+    /// A3, B3: the tail (RDT, TDT).
     Tail,
     /// C2: the control word.
     Request,

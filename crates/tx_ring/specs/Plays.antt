@@ -49,7 +49,7 @@ pub record IsCleaned (n : ℕ) (es : List DriverStep) (place r : ℕ) (b : Buffe
 abbrev pub ends_epoch : ℕ → List DriverStep → ℕ → ℕ → Buffer → DriverStep
 ends_epoch n es place r b = driver.Own EndedEpoch
 
--- C12
+-- C12: the head word of reports is 0 again
 abbrev pub clears_report : ℕ → List DriverStep → ℕ → ℕ → Buffer → DriverStep
 clears_report n es place r b = driver.Own ClearedReport
 
@@ -57,6 +57,6 @@ clears_report n es place r b = driver.Own ClearedReport
 abbrev pub sends : ℕ → List ControllerStep → ℕ → ℕ → Buffer → ControllerStep
 sends n es place r b = controller.Own (Sent r (fetched_word es) b)
 
--- B6
+-- B6: a report, by its descriptor or by the head word
 abbrev pub reports : ℕ → List ControllerStep → ℕ → ℕ → Buffer → ControllerStep
 reports n es place r b = controller.Own (Reported place r)

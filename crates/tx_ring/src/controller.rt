@@ -33,9 +33,13 @@ use std::marker::Model;
 pub struct TxControllerEnd {
     pub(crate) seat: TxControllerSeat,
     pub(crate) at: ControllerPlaces,
+    // the place of the last that was sent, for its report
     last: u16,
+    // whether the descriptor that was fetched last ends its frame (EOP)
     ends: bool,
+    // whether it asks for a report (RS)
     asks: bool,
+    // whether a report is owed, of the last that was sent
     owed: bool,
 }
 

@@ -36,9 +36,13 @@ use std::marker::Model;
 pub struct TxDriverEnd {
     pub(crate) seat: TxDriverSeat,
     pub(crate) at: DriverPlaces,
+    // the place after the newest item that is seen reported
     seen: u16,
+    // how many items are seen reported and not cleaned
     done: u16,
+    // how many items are posted and not seen reported
     unseen: u16,
+    // whether the last that was posted ends a frame, or nothing is posted
     whole: bool,
     // at each place, whether a report was asked for
     asks: BoxedSlice<bool, Global>,

@@ -61,11 +61,11 @@ abbrev pub first_handshake : Bool → Handshake
 first_handshake true = record { control = 2; seen = 2; driver = On; controller = Serving }
 first_handshake false = record { control = 0; seen = 0; driver = New; controller = Off }
 
--- C1
+-- C1: the driver asks for enabling (1)
 abbrev pub ask_enable : Handshake → Handshake
 ask_enable h = record h { control = 1; driver = Asked }
 
--- C2
+-- C2: the controller loads what is asked
 abbrev pub look_asked : Handshake → Handshake
 look_asked h = record h { seen = h.control }
 
@@ -92,7 +92,7 @@ learned state control = state
 abbrev pub look_answered : Handshake → Handshake
 look_answered h = record h { driver = learned h.driver h.control }
 
--- C5
+-- C5: the driver asks for disabling (3)
 abbrev pub ask_disable : Handshake → Handshake
 ask_disable h = record h { control = 3; driver = Stopping }
 

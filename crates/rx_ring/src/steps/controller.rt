@@ -21,7 +21,7 @@ use buffer_pool::Buf;
 use descriptor::RxBack;
 use shared_ring::OwnStep;
 
-/// A5.
+/// A5: stores a descriptor's write-back (DD, EOP, length), and gives its buffer back.
 struct WriteBackStore;
 
 impl OwnStep<RxControllerEvent> for WriteBackStore {
@@ -52,7 +52,7 @@ pub(crate) fn write_back(
     seat.give_own::<WriteBackStore>(ring, place, buf, place as usize, word);
 }
 
-/// A7.
+/// A7: stores the head (RDH).
 struct HeadStore;
 
 impl OwnStep<RxControllerEvent> for HeadStore {
@@ -74,7 +74,7 @@ pub(crate) fn set_head(seat: &mut RxControllerSeat, ring: &RxShared, head: u16)
     seat.store_own::<HeadStore>(ring, word, head as u64);
 }
 
-/// C7.
+/// C7: stores 1 as the quiet word.
 struct QuietStore;
 
 impl OwnStep<RxControllerEvent> for QuietStore {
@@ -83,7 +83,7 @@ impl OwnStep<RxControllerEvent> for QuietStore {
     ghost event = { says_quiet };
 }
 
-/// C7.
+/// C7: stores 1 as the quiet word, after which nothing is fetched in this epoch.
 #[inline]
 pub(crate) fn say_quiet(seat: &mut RxControllerSeat, ring: &RxShared)
     requires own { seat.old.table ≡ ring.now }

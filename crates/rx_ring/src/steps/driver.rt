@@ -21,7 +21,7 @@ use buffer_pool::Buf;
 use descriptor::RxBack;
 use shared_ring::{OwnStep, OwnTake};
 
-/// A6.
+/// A6: loads a descriptor's status word, and takes its buffer where DD is set.
 struct StatusLoad;
 
 impl OwnStep<RxDriverEvent> for StatusLoad {
@@ -61,7 +61,7 @@ pub(crate) fn take(seat: &mut RxDriverSeat, ring: &RxShared, place: u16) -> Opti
     }
 }
 
-/// C8.
+/// C8: loads the quiet word.
 struct QuietLoad;
 
 impl OwnStep<RxDriverEvent> for QuietLoad {
@@ -72,7 +72,7 @@ impl OwnStep<RxDriverEvent> for QuietLoad {
     ghost tells = { IsBit };
 }
 
-/// C8.
+/// C8: loads the quiet word, and answers whether it is 1.
 #[inline]
 pub(crate) fn load_quiet(seat: &mut RxDriverSeat, ring: &RxShared) -> bool
     requires own { seat.old.table ≡ ring.now }
@@ -82,7 +82,7 @@ pub(crate) fn load_quiet(seat: &mut RxDriverSeat, ring: &RxShared) -> bool
     seat.load_own::<QuietLoad>(ring, word) == 1
 }
 
-/// C11.
+/// C11: stores 0 as the quiet word, as the last step of an epoch.
 struct ClearQuietStore;
 
 impl OwnStep<RxDriverEvent> for ClearQuietStore {

@@ -7,7 +7,7 @@ use atomic_table::Play;
 use buffer_pool::Buf;
 use std::marker::PhantomData;
 
-/// A3, B3.
+/// A3, B3: loads the tail (RDT, TDT).
 pub struct TailLoad<R>(PhantomData<R>);
 
 impl<D, C, R: Direction<D, C>> Play<Buf, View<DriverEvent<D>, ControllerEvent<C>>> for TailLoad<R> {
@@ -22,7 +22,7 @@ impl<D, C, R: Direction<D, C>> ControllerPlay<D, C, R> for TailLoad<R> {
     ghost counts = { λ st m r m' t. controller_counts t.adds };
 }
 
-/// A4, B4.
+/// A4, B4: loads the next descriptor, and takes its buffer.
 pub struct NextLoad<R>(PhantomData<R>);
 
 impl<D, C, R: Direction<D, C>> Play<Buf, View<DriverEvent<D>, ControllerEvent<C>>> for NextLoad<R> {
@@ -37,7 +37,7 @@ impl<D, C, R: Direction<D, C>> ControllerPlay<D, C, R> for NextLoad<R> {
     ghost counts = { λ st m r m' t. controller_counts t.adds };
 }
 
-/// C2.
+/// C2: loads the control word (RXDCTL, TXDCTL), for what the driver asks.
 pub struct RequestLoad<R>(PhantomData<R>);
 
 impl<D, C, R: Direction<D, C>> Play<Buf, View<DriverEvent<D>, ControllerEvent<C>>>

@@ -24,6 +24,7 @@ impl<D, C, R: Direction<D, C>> DriverPlay<D, C, R> for PostStore<R> {
 }
 
 /// A2, B2.
+/// Stores the tail (RDT, TDT).
 pub struct PublishStore<R>(PhantomData<R>);
 
 impl<D, C, R: Direction<D, C>> Play<Buf, View<DriverEvent<D>, ControllerEvent<C>>>
@@ -39,7 +40,7 @@ impl<D, C, R: Direction<D, C>> DriverPlay<D, C, R> for PublishStore<R> {
     ghost counts = { λ st m r m' t. driver_counts t };
 }
 
-/// C1.
+/// C1: stores 1, enabling asked, as the control word (RXDCTL, TXDCTL).
 pub struct AskEnableStore<R>(PhantomData<R>);
 
 impl<D, C, R: Direction<D, C>> Play<Buf, View<DriverEvent<D>, ControllerEvent<C>>>
@@ -55,7 +56,7 @@ impl<D, C, R: Direction<D, C>> DriverPlay<D, C, R> for AskEnableStore<R> {
     ghost counts = { λ st m r m' t. driver_counts t };
 }
 
-/// C4.
+/// C4: loads the control word (RXDCTL, TXDCTL), for what the controller answered.
 pub struct ControlLoad<R>(PhantomData<R>);
 
 impl<D, C, R: Direction<D, C>> Play<Buf, View<DriverEvent<D>, ControllerEvent<C>>>
@@ -71,7 +72,7 @@ impl<D, C, R: Direction<D, C>> DriverPlay<D, C, R> for ControlLoad<R> {
     ghost counts = { λ st m r m' t. driver_counts t.adds };
 }
 
-/// C5.
+/// C5: stores 3, disabling asked, as the control word (RXDCTL, TXDCTL).
 pub struct AskDisableStore<R>(PhantomData<R>);
 
 impl<D, C, R: Direction<D, C>> Play<Buf, View<DriverEvent<D>, ControllerEvent<C>>>
@@ -102,7 +103,7 @@ impl<D, C, R: Direction<D, C>> DriverPlay<D, C, R> for HeadLoad<R> {
     ghost counts = { λ st m r m' t. driver_counts t.adds };
 }
 
-/// C9.
+/// C9: stores 0 as the head (RDH, TDH) of a disabled queue.
 pub struct ClearHeadStore<R>(PhantomData<R>);
 
 impl<D, C, R: Direction<D, C>> Play<Buf, View<DriverEvent<D>, ControllerEvent<C>>>
@@ -118,7 +119,7 @@ impl<D, C, R: Direction<D, C>> DriverPlay<D, C, R> for ClearHeadStore<R> {
     ghost counts = { λ st m r m' t. driver_counts t };
 }
 
-/// C10.
+/// C10: stores 0 as the tail (RDT, TDT) of a disabled queue.
 pub struct ClearTailStore<R>(PhantomData<R>);
 
 impl<D, C, R: Direction<D, C>> Play<Buf, View<DriverEvent<D>, ControllerEvent<C>>>

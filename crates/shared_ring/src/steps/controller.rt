@@ -64,7 +64,7 @@ impl<D, C, R: Direction<D, C>> ControllerSeat<D, C, R> {
         (buf, word)
     }
 
-    /// C2.
+    /// C2: loads the control word (RXDCTL, TXDCTL), for what the driver asks.
     #[inline]
     pub fn load_request(&mut self, ring: &Ring<D, C, R>) -> Control
         requires own { self.old.table ≡ ring.now }

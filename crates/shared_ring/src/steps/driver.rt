@@ -70,7 +70,7 @@ impl<D, C, R: Direction<D, C>> DriverSeat<D, C, R> {
         driver_store::<PublishStore<R>, D, C, R>(&ring.table, &mut self.seat, word, tail as u64);
     }
 
-    /// C1.
+    /// C1: asks for enabling; 1 is stored as the control word (RXDCTL, TXDCTL).
     #[inline]
     pub fn ask_enable(&mut self, ring: &Ring<D, C, R>)
         requires own { self.old.table ≡ ring.now }
@@ -81,7 +81,7 @@ impl<D, C, R: Direction<D, C>> DriverSeat<D, C, R> {
         driver_store::<AskEnableStore<R>, D, C, R>(&ring.table, &mut self.seat, word, 1);
     }
 
-    /// C4.
+    /// C4: loads the control word (RXDCTL, TXDCTL), for what the controller answered.
     #[inline]
     pub fn load_control(&mut self, ring: &Ring<D, C, R>) -> Control
         requires own { self.old.table ≡ ring.now }
@@ -91,7 +91,7 @@ impl<D, C, R: Direction<D, C>> DriverSeat<D, C, R> {
         Control::of_word(driver_load::<ControlLoad<R>, D, C, R>(&ring.table, &mut self.seat, word))
     }
 
-    /// C5.
+    /// C5: asks for disabling; 3 is stored as the control word (RXDCTL, TXDCTL).
     #[inline]
     pub fn ask_disable(&mut self, ring: &Ring<D, C, R>)
         requires own { self.old.table ≡ ring.now }
@@ -145,7 +145,7 @@ impl<D, C, R: Direction<D, C>> DriverSeat<D, C, R> {
         Some(buf)
     }
 
-    /// C9.
+    /// C9: stores 0 as the head (RDH, TDH).
     #[inline]
     pub fn clear_head(&mut self, ring: &Ring<D, C, R>)
         requires own { self.old.table ≡ ring.now }

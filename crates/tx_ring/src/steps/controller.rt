@@ -15,7 +15,7 @@ use buffer_pool::Buf;
 use descriptor::TxBack;
 use shared_ring::OwnStep;
 
-/// B5.
+/// B5: stores the head (TDH), and gives the sent buffer back.
 struct SendStore;
 
 impl OwnStep<TxControllerEvent> for SendStore {
@@ -38,7 +38,7 @@ pub(crate) fn send(seat: &mut TxControllerSeat, ring: &TxShared, place: u16, hea
     seat.give_own::<SendStore>(ring, place, buf, word, head as u64);
 }
 
-/// B6.
+/// B6: stores a report: DD in the descriptor that asked for it, or the head as the head word of reports.
 struct ReportStore;
 
 impl OwnStep<TxControllerEvent> for ReportStore {

@@ -46,7 +46,7 @@ pub(crate) fn post(
     seat.post(ring, place, word, buf);
 }
 
-/// B8.
+/// B8: stores 0 as the oldest reported descriptor, and takes its buffer.
 struct CleanStore;
 
 impl OwnStep<TxDriverEvent> for CleanStore {
@@ -70,7 +70,7 @@ pub(crate) fn clean(seat: &mut TxDriverSeat, ring: &TxShared, place: u16) -> Buf
     seat.clear_own::<CleanStore>(ring, place)
 }
 
-/// B7.
+/// B7: loads the word that tells of the oldest outstanding report: its descriptor, or the head word of reports.
 struct ReportLoad;
 
 impl OwnStep<TxDriverEvent> for ReportLoad {
@@ -152,7 +152,7 @@ fn end_epoch(seat: &mut TxDriverSeat, ring: &TxShared, fill: u16)
     seat.end_own::<EndEpochStore>(ring, word, fill);
 }
 
-/// C12.
+/// C12: stores 0 as the head word of reports, as the last step of an epoch.
 struct ClearReportStore;
 
 impl OwnStep<TxDriverEvent> for ClearReportStore {
