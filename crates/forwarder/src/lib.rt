@@ -7,9 +7,14 @@
 
 mod concluding;
 mod config;
+mod forward;
 mod index;
 mod lines;
+mod report;
+mod running;
 mod sides;
 
 pub use config::{Config, LEAST_SHARE};
+pub use forward::{forward, forward_in};
 pub use index::Index;
+pub use report::Report;

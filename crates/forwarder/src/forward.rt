@@ -1,0 +1,88 @@
+//! The whole of a forwarding.
+ghost use Rattle.std.specs.Prelude.{◌≡◌, ◌↔◌, ℕ, ◌*◌, ◌<◌, ◌≤◌, IfOk, IfErr, IsErrOf, vec_len, slice_index_or};
+ghost use Rattle.limits.specs.declared.profile.TheConstants.{FEWEST_BUFFERS, MOST_BUFFERS, MOST_PAIRS, PORTS};
+ghost use Rattle.forwarding.specs.declared.error.ForwardError.TheVariants.{Memory, Config as ConfigRefused};
+ghost use Rattle.pool.specs.declared.hand.TheConstants.{WHOLE_SHARE};
+ghost use Rattle.pool.specs.Owned.{IsOf};
+ghost use Rattle.flows.specs.Reports.{IsReport};
+ghost use Rattle.forwarder.specs.Configs.{FitsIn};
+ghost use Rattle.forwarder.specs.Plans.{plan};
+ghost use Rattle.teams.specs.Refusals.{Halted};
+
+use crate::config::Config;
+use crate::index::Index;
+use crate::lines::make_lines;
+use crate::report::Report;
+use crate::running::run_flows;
+use forwarding::{ForwardError, Gate};
+use pool::{Pool, PoolPass};
+use std::alloc::Global;
+use std::sync::Wait;
+use std::thread::Threads;
+use wire_script::Script;
+
+/// Forwards the frames of a script: what comes in at a port's queue goes out at the other port's queue of
+/// that number, touched. Two rings for each flow are made, and a team of workers for either side.
+///
+/// Refusals: `Config` exactly where `check` of the configuration refuses it, before anything is made;
+/// `Gate` only by a gate that can answer false; `Memory` and `Thread`. Every worker that was started was
+/// joined before any of them is answered.
+pub fn forward<R: Threads + Wait + Sync, G: Gate + Sync>(
+    rt: &R,
+    alloc: Global,
+    script: &Script,
+    config: &Config,
+    gate: &G,
+) -> Result<Report, ForwardError>
+    ensures config { IsErrOf result ConfigRefused ↔ ¬ FitsIn script.now config.now }
+    ensures halted { FitsIn script.now config.now → IfErr result (λ e. Halted G.answers gate.now e) }
+    ensures flows { IfOk result (λ r. vec_len r.flows ≡ PORTS * config.now.pairs) }
+    ensures reports { IfOk result (λ r. (flow : ℕ) (d : _) → flow < PORTS * config.now.pairs → IsReport (plan config.now script.now flow) (slice_index_or r.flows.items flow d)) }
+{
+    config.check(script)?;
+    let (pool, mut pass) = make_pool(rt, alloc, config.buffers)?;
+    forward_in(rt, alloc, script, config, gate, &pool, &mut pass)
+}
+
+/// A pool of so many buffers, and its pass.
+fn make_pool<R: Wait>(
+    rt: &R,
+    alloc: Global,
+    buffers: u32,
+) -> Result<(Pool, PoolPass), ForwardError>
+    requires { (FEWEST_BUFFERS ≤ buffers) × (buffers ≤ MOST_BUFFERS) }
+    ensures refused { IfErr result (λ e. e ≡ Memory) }
+    ensures pool { IfOk result (λ r. IsOf r.0 r.1) }
+    ensures share { IfOk result (λ r. r.1.hand.share ≡ WHOLE_SHARE) }
+{
+    match Pool::new(rt, alloc, buffers) {
+        Ok(made) => Ok(made),
+        Err(_) => Err(ForwardError::Memory),
+    }
+}
+
+/// The same over a pool of the caller's, for a configuration that `check` takes: `config.buffers` bounds
+/// what the flows take from it together.
+pub fn forward_in<R: Threads + Wait + Sync, G: Gate + Sync>(
+    rt: &R,
+    alloc: Global,
+    script: &Script,
+    config: &Config,
+    gate: &G,
+    pool: &Pool,
+    pass: &mut PoolPass,
+) -> Result<Report, ForwardError>
+    requires fits { FitsIn script.now config.now }
+    requires pool { IsOf pool.now pass.old }
+    requires share { PORTS * MOST_PAIRS < pass.old.hand.share }
+    ensures halted { IfErr result (λ e. Halted G.answers gate.now e) }
+    ensures flows { IfOk result (λ r. vec_len r.flows ≡ PORTS * config.now.pairs) }
+    ensures reports { IfOk result (λ r. (flow : ℕ) (d : _) → flow < PORTS * config.now.pairs → IsReport (plan config.now script.now flow) (slice_index_or r.flows.items flow d)) }
+{
+    let index = Index::of(alloc, script, config.pairs)?;
+    let (lines, ends) = make_lines(alloc, config)?;
+    let flows = run_flows(
+        rt, alloc, script, config, gate, &index, &lines, ends, pool, pass,
+    )?;
+    Ok(Report { flows })
+}
