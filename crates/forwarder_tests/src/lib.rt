@@ -1,0 +1,7 @@
+//! Tests of the forwarder.
+#![tactic(auto)]
+
+#[cfg(test)]
+mod gates;
+#[cfg(test)]
+mod rows;
