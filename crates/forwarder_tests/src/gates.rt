@@ -9,7 +9,7 @@ use std::thread;
 const LIMIT: u32 = 1_000_000;
 
 /// Waits until the flag is set, within the limit. Whether it is.
-fn wait_for(flag: &AtomicBool) -> bool {
+pub(crate) fn wait_for(flag: &AtomicBool) -> bool {
     for _ in 0..LIMIT {
         if flag.load(Ordering::SeqCst) {
             return true;
@@ -19,11 +19,36 @@ fn wait_for(flag: &AtomicBool) -> bool {
     false
 }
 
-/// Flow 0's first receive batch and its first offer wait for each other.
+/// Waits until the number is reached, within the limit. Whether it is.
+fn wait_until(number: &AtomicU64, least: u64) -> bool {
+    for _ in 0..LIMIT {
+        if number.load(Ordering::SeqCst) >= least {
+            return true;
+        }
+        thread::yield_now();
+    }
+    false
+}
+
+/// Flow 0's receive batches and its offers wait for one another, before the first of either.
 #[derive(Drop)]
 pub(crate) struct Meeting {
-    pub batch: AtomicBool,
-    pub offer: AtomicBool,
+    batch: AtomicBool,
+    offer: AtomicBool,
+}
+
+impl Meeting {
+    pub(crate) fn new() -> Meeting {
+        Meeting {
+            batch: AtomicBool::new(false),
+            offer: AtomicBool::new(false),
+        }
+    }
+
+    /// Whether both were there.
+    pub(crate) fn took_place(&self) -> bool {
+        self.batch.load(Ordering::SeqCst) && self.offer.load(Ordering::SeqCst)
+    }
 }
 
 impl Gate for Meeting {
@@ -49,16 +74,32 @@ impl Gate for Meeting {
 /// Flow 0's first receive batch waits for flow 0's first transmit turn after so many offers.
 #[derive(Drop)]
 pub(crate) struct After {
-    pub offers: AtomicU64,
-    pub most: u64,
-    pub over: AtomicBool,
-    pub late: AtomicBool,
+    most: u64,
+    offers: AtomicU64,
+    over: AtomicBool,
+    late: AtomicBool,
+}
+
+impl After {
+    pub(crate) fn new(most: u64) -> After {
+        After {
+            most,
+            offers: AtomicU64::new(0),
+            over: AtomicBool::new(false),
+            late: AtomicBool::new(false),
+        }
+    }
+
+    /// Whether that turn came within the limit.
+    pub(crate) fn was_in_time(&self) -> bool {
+        self.over.load(Ordering::SeqCst) && !self.late.load(Ordering::SeqCst)
+    }
 }
 
 impl Gate for After {
-    ghost use Rattle.std.specs.Prelude.{◌≡◌, Bool};
+    ghost use Rattle.std.specs.Prelude.{◌≡◌, true};
 
-    ghost answers = { λ _ _ _ b. b ≡ b };
+    ghost answers = { λ _ _ _ b. b ≡ true };
 
     fn pass(&self, who: Who, event: Event) -> bool {
         match (who, event) {
@@ -84,7 +125,20 @@ impl Gate for After {
 /// A gate that lets so many pass, and then refuses.
 #[derive(Drop)]
 pub(crate) struct Shuts {
-    pub left: AtomicU64,
+    left: AtomicU64,
+}
+
+impl Shuts {
+    pub(crate) fn after(left: u64) -> Shuts {
+        Shuts {
+            left: AtomicU64::new(left),
+        }
+    }
+
+    /// How many more it would let pass.
+    pub(crate) fn left(&self) -> u64 {
+        self.left.load(Ordering::SeqCst)
+    }
 }
 
 impl Gate for Shuts {
@@ -96,5 +150,94 @@ impl Gate for Shuts {
         self.left
             .fetch_update(Ordering::SeqCst, Ordering::SeqCst, |n| n.checked_sub(1))
             .is_ok()
+    }
+}
+
+/// How long a driver stays at its gate once the refusal came.
+const STAY: u32 = 10_000;
+
+/// A gate that refuses flow 0's first offer once so many drivers are at their first receive batches. They stay there for
+/// some time after that.
+#[derive(Drop)]
+pub(crate) struct Leaving {
+    drivers: u64,
+    came: AtomicU64,
+    left: AtomicU64,
+    refused: AtomicBool,
+}
+
+impl Leaving {
+    pub(crate) fn new(drivers: u64) -> Leaving {
+        Leaving {
+            drivers,
+            came: AtomicU64::new(0),
+            left: AtomicU64::new(0),
+            refused: AtomicBool::new(false),
+        }
+    }
+
+    /// How many drivers came to the gate, and how many left it.
+    pub(crate) fn came_and_left(&self) -> (u64, u64) {
+        (
+            self.came.load(Ordering::SeqCst),
+            self.left.load(Ordering::SeqCst),
+        )
+    }
+}
+
+impl Gate for Leaving {
+    ghost use Rattle.std.specs.Prelude.{◌≡◌, Bool};
+
+    ghost answers = { λ _ _ _ b. b ≡ b };
+
+    fn pass(&self, who: Who, event: Event) -> bool {
+        match (who, event) {
+            (Who::Driver(_), Event::RxBatch) => {
+                self.came.fetch_add(1, Ordering::SeqCst);
+                wait_for(&self.refused);
+                for _ in 0..STAY {
+                    thread::yield_now();
+                }
+                self.left.fetch_add(1, Ordering::SeqCst);
+                true
+            }
+            (Who::Controller(0), Event::Offer) => {
+                wait_until(&self.came, self.drivers);
+                self.refused.store(true, Ordering::SeqCst);
+                false
+            }
+            _ => true,
+        }
+    }
+}
+
+/// A gate that lets all pass, and tells whether a transmit queue took a turn.
+#[derive(Drop)]
+pub(crate) struct Watching {
+    turned: AtomicBool,
+}
+
+impl Watching {
+    pub(crate) fn new() -> Watching {
+        Watching {
+            turned: AtomicBool::new(false),
+        }
+    }
+
+    pub(crate) fn has_turned(&self) -> bool {
+        self.turned.load(Ordering::SeqCst)
+    }
+}
+
+impl Gate for Watching {
+    ghost use Rattle.std.specs.Prelude.{◌≡◌, true};
+
+    ghost answers = { λ _ _ _ b. b ≡ true };
+
+    fn pass(&self, _who: Who, event: Event) -> bool {
+        if event == Event::TxTurn {
+            self.turned.store(true, Ordering::SeqCst);
+        }
+        true
     }
 }

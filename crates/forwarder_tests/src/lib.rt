@@ -2,6 +2,24 @@
 #![tactic(auto)]
 
 #[cfg(test)]
+mod bursts;
+#[cfg(test)]
+mod counted;
+#[cfg(test)]
+mod crowds;
+#[cfg(test)]
+mod cutting;
+#[cfg(test)]
 mod gates;
 #[cfg(test)]
+mod gathered;
+#[cfg(test)]
+mod limits;
+#[cfg(test)]
+mod refusing;
+#[cfg(test)]
 mod rows;
+#[cfg(test)]
+mod side_by_side;
+#[cfg(test)]
+mod wanting;

@@ -1,0 +1,85 @@
+//! What a report has to say, flow by flow.
+
+use controller::Wire;
+use flows::{Ended, FlowReport};
+use forwarder::Report;
+use wire_script::Script;
+
+/// A flow's counts in the order of its line: offered, stored, dropped, oversize, taken, posted, dropped at the transmit
+/// ring, on the wire, left.
+pub(crate) type Counts = [u64; 9];
+
+/// Nothing came in.
+pub(crate) const NONE: Counts = [0; 9];
+
+/// So many frames came in and went out.
+pub(crate) const fn all(count: u64) -> Counts {
+    [count, count, 0, 0, count, count, 0, count, 0]
+}
+
+pub(crate) fn counts_of(flow: &FlowReport) -> Counts {
+    [
+        flow.offered,
+        flow.stored,
+        flow.dropped,
+        flow.oversize,
+        flow.taken,
+        flow.posted,
+        flow.tx_dropped,
+        flow.wire.len() as u64,
+        flow.left,
+    ]
+}
+
+/// Whether one is the other with the byte at offset 1 grown by 1.
+pub(crate) fn is_touched(before: &[u8], after: &[u8]) -> bool {
+    let grown = before.get(1).map(|byte| byte.wrapping_add(1));
+    before.first() == after.first()
+        && grown == after.get(1).copied()
+        && before.get(2..) == after.get(2..)
+}
+
+/// Whether the wire has the first frames that the script has for this port and queue, touched, as many as it has frames.
+pub(crate) fn carries(wire: &Wire, script: &Script, port: usize, queue: usize) -> bool {
+    let mut sent = wire.iter();
+    let mut next = sent.next();
+    for frame in script.frames() {
+        if usize::from(frame.port()) != port || usize::from(frame.queue()) != queue {
+            continue;
+        }
+        let Some(bytes) = next else {
+            return true;
+        };
+        if !is_touched(frame.bytes(), bytes) {
+            return false;
+        }
+        next = sent.next();
+    }
+    next.is_none()
+}
+
+/// Whether each flow of so many pairs is drained with these counts, and has its frames on its wire.
+pub(crate) fn is_drained(
+    report: &Report,
+    script: &Script,
+    pairs: usize,
+    wanted: &[Counts],
+) -> bool {
+    if report.flows.len() != wanted.len() {
+        return false;
+    }
+    let (mut port, mut queue) = (0, 0);
+    for (flow, counts) in report.flows.iter().zip(wanted) {
+        if queue == pairs {
+            (port, queue) = (1, 0);
+        }
+        if counts_of(flow) != *counts || flow.ended != Ended::Drained {
+            return false;
+        }
+        if !carries(&flow.wire, script, port, queue) {
+            return false;
+        }
+        queue = queue.saturating_add(1);
+    }
+    true
+}

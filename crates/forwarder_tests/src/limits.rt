@@ -1,0 +1,185 @@
+//! Configurations that are refused, and those at the edge of what is not.
+
+use crate::bursts::{Burst, script_of};
+use crate::gates::Shuts;
+use forwarder::{Config, forward};
+use forwarding::ForwardError;
+use std::test::Fail;
+use tx_ring::Completion;
+
+/// What the command runs with where nothing is said.
+const DEFAULT: Config = Config {
+    pairs: 1,
+    ring: 512,
+    batch: 32,
+    buffers: 4_096,
+    bsize: 2_048,
+    rs_every: 32,
+    drop_en: false,
+    retry: true,
+    workers: 1,
+    turns: 0,
+    completion: Completion::Status,
+};
+
+/// The least lawful numbers.
+const LEAST: Config = Config {
+    ring: 8,
+    batch: 1,
+    buffers: 32,
+    bsize: 1_024,
+    rs_every: 1,
+    ..DEFAULT
+};
+
+/// The greatest lawful numbers.
+const GREATEST: Config = Config {
+    pairs: 8,
+    ring: 4_096,
+    buffers: 65_536,
+    rs_every: 4_096,
+    workers: 16,
+    turns: 4_294_967_295,
+    ..DEFAULT
+};
+
+/// Those of which one number is beyond its limits.
+const BROKEN: [Config; 24] = [
+    Config { pairs: 0, ..LEAST },
+    Config {
+        pairs: 9,
+        ..GREATEST
+    },
+    Config { ring: 0, ..LEAST },
+    Config { ring: 4, ..LEAST },
+    Config { ring: 7, ..LEAST },
+    Config { ring: 9, ..LEAST },
+    Config {
+        ring: 4_095,
+        ..GREATEST
+    },
+    Config {
+        ring: 4_097,
+        ..GREATEST
+    },
+    Config {
+        ring: 8_192,
+        ..GREATEST
+    },
+    Config { batch: 0, ..LEAST },
+    Config {
+        batch: 33,
+        ..GREATEST
+    },
+    Config {
+        buffers: 31,
+        ..LEAST
+    },
+    Config {
+        buffers: 255,
+        ..GREATEST
+    },
+    Config {
+        buffers: 65_537,
+        ..GREATEST
+    },
+    Config { bsize: 0, ..LEAST },
+    Config {
+        bsize: 1_023,
+        ..LEAST
+    },
+    Config {
+        bsize: 1_025,
+        ..LEAST
+    },
+    Config {
+        bsize: 2_047,
+        ..GREATEST
+    },
+    Config {
+        bsize: 2_049,
+        ..GREATEST
+    },
+    Config {
+        rs_every: 0,
+        ..LEAST
+    },
+    Config {
+        rs_every: 4_097,
+        ..GREATEST
+    },
+    Config {
+        workers: 0,
+        ..LEAST
+    },
+    Config {
+        workers: 3,
+        ..LEAST
+    },
+    Config {
+        workers: 17,
+        ..GREATEST
+    },
+];
+
+#[test]
+fn a_broken_limit_is_refused_before_anything_is_done(rt: HostRuntime) -> Result<(), Fail> {
+    let script = script_of(rt.alloc(), &[])?;
+    for config in BROKEN {
+        let gate = Shuts::after(1);
+        let refusal = forward(&rt, rt.alloc(), &script, &config, &gate).err();
+        assert_eq!(rt; refusal, Some(ForwardError::Config), "{config:?}");
+        assert_eq!(rt; gate.left(), 1);
+    }
+    Ok(())
+}
+
+#[test]
+fn the_edges_are_lawful(rt: HostRuntime) -> Result<(), Fail> {
+    assert!(rt; Config::default() == DEFAULT);
+    let script = script_of(rt.alloc(), &[])?;
+    for config in [LEAST, DEFAULT, GREATEST] {
+        assert!(rt; config.is_lawful());
+        assert_eq!(rt; config.check(&script), Ok(()));
+    }
+    Ok(())
+}
+
+#[test]
+fn a_queue_that_is_not_there_is_refused(rt: HostRuntime) -> Result<(), Fail> {
+    for (port, queue, pairs) in [(0, 1, 1), (1, 1, 1), (1, 7, 7)] {
+        let burst = Burst {
+            port,
+            queue,
+            len: 60,
+            first: 0,
+            count: 1,
+        };
+        let script = script_of(rt.alloc(), &[burst])?;
+        let config = Config { pairs, ..DEFAULT };
+        let gate = Shuts::after(1);
+        let refusal = forward(&rt, rt.alloc(), &script, &config, &gate).err();
+        assert_eq!(rt; refusal, Some(ForwardError::Config));
+        assert_eq!(rt; gate.left(), 1);
+        let config = Config {
+            pairs: pairs + 1,
+            ..DEFAULT
+        };
+        assert_eq!(rt; config.check(&script), Ok(()));
+    }
+    Ok(())
+}
+
+#[test]
+fn refusals_have_a_number_and_a_text(rt: HostRuntime) -> Result<(), Fail> {
+    for (refusal, want) in [
+        (ForwardError::Memory, "61 memory"),
+        (ForwardError::Gate, "62 gate"),
+        (ForwardError::Thread, "63 thread"),
+        (ForwardError::Config, "64 config"),
+    ] {
+        let text = format!(in rt.alloc(); "{} {refusal}", refusal.number())?;
+        assert_eq!(rt; text.as_str(), want);
+    }
+    Ok(())
+}

@@ -1,0 +1,67 @@
+//! Want of memory and of threads. With any one allocation refused, as `rt try --test --fail-alloc 1..` does, these pass too,
+//! and so they do where a thread can't be started.
+
+use crate::counted::{NONE, all, is_drained};
+use crate::gates::Watching;
+use crate::gathered::{BUFFERS, taken_out};
+use forwarder::{Config, forward, forward_in};
+use forwarding::{ForwardError, Open};
+use pool::Pool;
+use std::test::Fail;
+use wire_script::parse;
+
+const TWO: &[u8] = b"0 1 fill 60 00\n0 1 fill 60 01\n";
+
+/// A configuration with two workers a side.
+fn two_workers() -> Config {
+    Config {
+        pairs: 2,
+        ring: 8,
+        buffers: BUFFERS,
+        workers: 2,
+        ..Config::default()
+    }
+}
+
+#[test]
+fn without_memory_or_threads_that_is_answered(rt: HostRuntime) {
+    let Ok(script) = parse(rt.alloc(), TWO) else {
+        return;
+    };
+    match forward(&rt, rt.alloc(), &script, &two_workers(), &Open) {
+        Ok(report) => {
+            assert!(rt; is_drained(&report, &script, 2, &[NONE, all(2), NONE, NONE]));
+        }
+        Err(refusal) => {
+            assert!(rt; matches!(refusal, ForwardError::Memory | ForwardError::Thread));
+        }
+    }
+}
+
+// What no worker was started for may be lost, and nothing else: memory that is refused once a transmit queue took a turn
+// is refused to a worker, when all are started.
+#[test]
+fn without_memory_or_threads_no_buffer_is_lost(rt: HostRuntime) -> Result<(), Fail> {
+    let Ok(script) = parse(rt.alloc(), TWO) else {
+        return Ok(());
+    };
+    let config = two_workers();
+    config.check(&script)?;
+    let Ok((pool, mut pass)) = Pool::new(&rt, rt.alloc(), BUFFERS) else {
+        return Ok(());
+    };
+    let mut spare = pass.split(&pool, 1);
+    let gate = Watching::new();
+    let ended = forward_in(&rt, rt.alloc(), &script, &config, &gate, &pool, &mut pass).err();
+    let numbers = taken_out(&rt, &pool, &mut spare);
+    assert!(rt; numbers.came_once_at_most());
+    let all_started = match ended {
+        None => true,
+        Some(refusal) => {
+            assert!(rt; matches!(refusal, ForwardError::Memory | ForwardError::Thread));
+            refusal == ForwardError::Memory && gate.has_turned()
+        }
+    };
+    assert!(rt; !all_started || numbers.came_once());
+    Ok(())
+}
