@@ -9,15 +9,12 @@ use std::alloc::Global;
 use std::test::Fail;
 use wire_script::{Script, WireFrame};
 
-/// The frames, 3,125 of each flow.
-const FRAMES: u32 = 50_000;
-
-/// Frames of 14 to 313 bytes, over all 16 flows in turn.
-fn crowd(alloc: Global) -> Result<Script, Fail> {
-    let mut frames = Vec::with_capacity(alloc, FRAMES as usize)?;
-    for k in 0..FRAMES {
+/// So many frames of 14 to 43 bytes, over all 16 flows in turn.
+fn crowd(alloc: Global, count: u32) -> Result<Script, Fail> {
+    let mut frames = Vec::with_capacity(alloc, count.min(50_000) as usize)?;
+    for k in 0..count.min(50_000) {
         let round = k / 16;
-        let len = 14 + (round % 300) as usize;
+        let len = 14 + (round % 30) as usize;
         let bytes = Vec::from_elem(alloc, (round % 251) as u8, len)?;
         frames.push(WireFrame::new((k % 2) as u8, (k / 2 % 8) as u8, bytes))?;
     }
@@ -72,8 +69,8 @@ fn wanted(script: &Script) -> [Sum; 16] {
 
 #[test]
 fn sixteen_flows_by_each_number_of_workers(rt: HostRuntime) -> Result<(), Fail> {
-    let script = crowd(rt.alloc())?;
-    let wanted = wanted(&script);
+    let (few, many) = (crowd(rt.alloc(), 1_600)?, crowd(rt.alloc(), 50_000)?);
+    let (few_wanted, many_wanted) = (wanted(&few), wanted(&many));
     for workers in 1..=16 {
         let config = Config {
             pairs: 8,
@@ -81,10 +78,15 @@ fn sixteen_flows_by_each_number_of_workers(rt: HostRuntime) -> Result<(), Fail> 
             workers,
             ..Config::default()
         };
-        let report = forward(&rt, rt.alloc(), &script, &config, &Open)?;
+        let (script, each, wanted) = if matches!(workers, 1 | 3 | 8 | 16) {
+            (&many, 3_125, &many_wanted)
+        } else {
+            (&few, 100, &few_wanted)
+        };
+        let report = forward(&rt, rt.alloc(), script, &config, &Open)?;
         assert_eq!(rt; report.flows.len(), 16);
-        for (flow, sum) in report.flows.iter().zip(&wanted) {
-            assert_eq!(rt; counts_of(flow), all(3_125), "{workers} workers");
+        for (flow, sum) in report.flows.iter().zip(wanted) {
+            assert_eq!(rt; counts_of(flow), all(each), "{workers} workers");
             assert_eq!(rt; (flow.ended, Sum::of(&flow.wire)), (Ended::Drained, *sum));
         }
     }
