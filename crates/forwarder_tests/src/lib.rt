@@ -2,6 +2,8 @@
 #![tactic(auto)]
 
 #[cfg(test)]
+mod bounds;
+#[cfg(test)]
 mod bursts;
 #[cfg(test)]
 mod counted;
@@ -13,8 +15,6 @@ mod cutting;
 mod gates;
 #[cfg(test)]
 mod gathered;
-#[cfg(test)]
-mod limits;
 #[cfg(test)]
 mod refusing;
 #[cfg(test)]
