@@ -4,8 +4,12 @@ use crate::bursts::{Burst, script_of};
 use crate::gates::Shuts;
 use forwarder::{Config, forward};
 use forwarding::ForwardError;
+use std::alloc::Global;
+use std::sync::Wait;
 use std::test::Fail;
+use std::thread::Threads;
 use tx_ring::Completion;
+use wire_script::Script;
 
 /// What the command runs with where nothing is said.
 const DEFAULT: Config = Config {
@@ -44,7 +48,7 @@ const GREATEST: Config = Config {
 };
 
 /// Those of which one number is beyond its limits.
-const BROKEN: [Config; 24] = [
+const BROKEN: &[Config] = &[
     Config { pairs: 0, ..LEAST },
     Config {
         pairs: 9,
@@ -122,15 +126,29 @@ const BROKEN: [Config; 24] = [
     },
 ];
 
+/// How many of these are refused before anything is done, up to the first that is not.
+fn refused<R: Threads + Wait + Sync>(
+    rt: &R,
+    alloc: Global,
+    script: &Script,
+    configs: &[Config],
+) -> usize {
+    let mut count = 0usize;
+    for config in configs {
+        let gate = Shuts::after(1);
+        let refusal = forward(rt, alloc, script, config, &gate).err();
+        if refusal != Some(ForwardError::Config) || gate.left() != 1 {
+            return count;
+        }
+        count = count.saturating_add(1);
+    }
+    count
+}
+
 #[test]
 fn a_broken_limit_is_refused_before_anything_is_done(rt: HostRuntime) -> Result<(), Fail> {
     let script = script_of(rt.alloc(), &[])?;
-    for config in BROKEN {
-        let gate = Shuts::after(1);
-        let refusal = forward(&rt, rt.alloc(), &script, &config, &gate).err();
-        assert_eq!(rt; refusal, Some(ForwardError::Config), "{config:?}");
-        assert_eq!(rt; gate.left(), 1);
-    }
+    assert_eq!(rt; refused(&rt, rt.alloc(), &script, BROKEN), BROKEN.len());
     Ok(())
 }
 
@@ -139,33 +157,42 @@ fn the_edges_are_lawful(rt: HostRuntime) -> Result<(), Fail> {
     assert!(rt; Config::default() == DEFAULT);
     let script = script_of(rt.alloc(), &[])?;
     for config in [LEAST, DEFAULT, GREATEST] {
-        assert!(rt; config.is_lawful());
         assert_eq!(rt; config.check(&script), Ok(()));
     }
     Ok(())
 }
 
+/// Whether a frame of this port and queue is refused with so many pairs, and taken with one more.
+fn has_just<R: Threads + Wait + Sync>(
+    rt: &R,
+    alloc: Global,
+    port: u8,
+    queue: u8,
+    pairs: u32,
+) -> Result<bool, Fail> {
+    let burst = Burst {
+        port,
+        queue,
+        len: 60,
+        first: 0,
+        count: 1,
+    };
+    let script = script_of(alloc, &[burst])?;
+    let fewer = Config { pairs, ..DEFAULT };
+    let enough = Config {
+        pairs: pairs.saturating_add(1),
+        ..DEFAULT
+    };
+    Ok(refused(rt, alloc, &script, &[fewer]) == 1 && enough.check(&script).is_ok())
+}
+
 #[test]
 fn a_queue_that_is_not_there_is_refused(rt: HostRuntime) -> Result<(), Fail> {
     for (port, queue, pairs) in [(0, 1, 1), (1, 1, 1), (1, 7, 7)] {
-        let burst = Burst {
-            port,
-            queue,
-            len: 60,
-            first: 0,
-            count: 1,
-        };
-        let script = script_of(rt.alloc(), &[burst])?;
-        let config = Config { pairs, ..DEFAULT };
-        let gate = Shuts::after(1);
-        let refusal = forward(&rt, rt.alloc(), &script, &config, &gate).err();
-        assert_eq!(rt; refusal, Some(ForwardError::Config));
-        assert_eq!(rt; gate.left(), 1);
-        let config = Config {
-            pairs: pairs + 1,
-            ..DEFAULT
-        };
-        assert_eq!(rt; config.check(&script), Ok(()));
+        assert!(rt;
+            has_just(&rt, rt.alloc(), port, queue, pairs)?,
+            "{pairs} pairs"
+        );
     }
     Ok(())
 }

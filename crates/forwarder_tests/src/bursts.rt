@@ -1,5 +1,6 @@
 //! Scripts of frames that are told apart by their bytes.
 
+use crate::counted::{Counts, NONE};
 use std::alloc::Global;
 use std::test::Fail;
 use wire_script::{Script, parse};
@@ -31,6 +32,9 @@ pub(crate) const FORTY: &[Burst] = &[
         count: 1,
     },
 ];
+
+/// What these come to with two pairs.
+pub(crate) const FORTY_COUNTS: &[Counts] = &[NONE, [40, 40, 0, 0, 40, 40, 0, 40, 0], NONE, NONE];
 
 /// The script of these bursts.
 pub(crate) fn script_of(alloc: Global, bursts: &[Burst]) -> Result<Script, Fail> {

@@ -2,7 +2,11 @@
 
 use controller::Wire;
 use flows::{Ended, FlowReport};
-use forwarder::Report;
+use forwarder::{Config, Report, forward};
+use forwarding::{ForwardError, Gate};
+use std::alloc::Global;
+use std::sync::Wait;
+use std::thread::Threads;
 use wire_script::Script;
 
 /// A flow's counts in the order of its line: offered, stored, dropped, oversize, taken, posted, dropped at the transmit
@@ -11,11 +15,6 @@ pub(crate) type Counts = [u64; 9];
 
 /// Nothing came in.
 pub(crate) const NONE: Counts = [0; 9];
-
-/// So many frames came in and went out.
-pub(crate) const fn all(count: u64) -> Counts {
-    [count, count, 0, 0, count, count, 0, count, 0]
-}
 
 pub(crate) fn counts_of(flow: &FlowReport) -> Counts {
     [
@@ -59,18 +58,13 @@ pub(crate) fn carries(wire: &Wire, script: &Script, port: usize, queue: usize) -
 }
 
 /// Whether each flow of so many pairs is drained with these counts, and has its frames on its wire.
-pub(crate) fn is_drained(
-    report: &Report,
-    script: &Script,
-    pairs: usize,
-    wanted: &[Counts],
-) -> bool {
+pub(crate) fn is_drained(report: &Report, script: &Script, pairs: u32, wanted: &[Counts]) -> bool {
     if report.flows.len() != wanted.len() {
         return false;
     }
     let (mut port, mut queue) = (0, 0);
     for (flow, counts) in report.flows.iter().zip(wanted) {
-        if queue == pairs {
+        if queue == pairs as usize {
             (port, queue) = (1, 0);
         }
         if counts_of(flow) != *counts || flow.ended != Ended::Drained {
@@ -82,4 +76,18 @@ pub(crate) fn is_drained(
         queue = queue.saturating_add(1);
     }
     true
+}
+
+/// Whether a script that is forwarded so comes to flows that are drained with these counts, and have their frames on their
+/// wires.
+pub(crate) fn comes_to<R: Threads + Wait + Sync, G: Gate + Sync>(
+    rt: &R,
+    alloc: Global,
+    script: &Script,
+    config: &Config,
+    gate: &G,
+    wanted: &[Counts],
+) -> Result<bool, ForwardError> {
+    let report = forward(rt, alloc, script, config, gate)?;
+    Ok(is_drained(&report, script, config.pairs, wanted))
 }

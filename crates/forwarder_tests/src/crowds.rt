@@ -1,22 +1,27 @@
 //! All flows of 8 pairs, by each number of workers.
 
-use crate::counted::{all, counts_of};
+use crate::counted::counts_of;
 use controller::Wire;
 use flows::Ended;
 use forwarder::{Config, forward};
-use forwarding::Open;
+use forwarding::{ForwardError, Open};
 use std::alloc::Global;
+use std::sync::Wait;
 use std::test::Fail;
+use std::thread::Threads;
 use wire_script::{Script, WireFrame};
 
 /// So many frames of 14 to 43 bytes, over all 16 flows in turn.
 fn crowd(alloc: Global, count: u32) -> Result<Script, Fail> {
-    let mut frames = Vec::with_capacity(alloc, count.min(50_000) as usize)?;
-    for k in 0..count.min(50_000) {
+    let mut frames = Vec::new(alloc);
+    for k in 0..count {
         let round = k / 16;
         let len = 14 + (round % 30) as usize;
         let bytes = Vec::from_elem(alloc, (round % 251) as u8, len)?;
         frames.push(WireFrame::new((k % 2) as u8, (k / 2 % 8) as u8, bytes))?;
+    }
+    if frames.len() > 1_000_000 {
+        return Err("too many frames".into());
     }
     Ok(Script::new(frames))
 }
@@ -67,28 +72,55 @@ fn wanted(script: &Script) -> [Sum; 16] {
     sums
 }
 
+/// Whether so many frames of each flow go out by so many workers.
+fn all_go<R: Threads + Wait + Sync>(
+    rt: &R,
+    alloc: Global,
+    script: &Script,
+    wanted: &[Sum; 16],
+    workers: u32,
+) -> Result<bool, ForwardError> {
+    let config = Config {
+        pairs: 8,
+        ring: 64,
+        workers,
+        ..Config::default()
+    };
+    let report = forward(rt, alloc, script, &config, &Open)?;
+    for (flow, sum) in report.flows.iter().zip(wanted) {
+        let all = sum.frames;
+        if counts_of(flow) != [all, all, 0, 0, all, all, 0, all, 0] {
+            return Ok(false);
+        }
+        if flow.ended != Ended::Drained || Sum::of(&flow.wire) != *sum {
+            return Ok(false);
+        }
+    }
+    Ok(report.flows.len() == 16)
+}
+
 #[test]
 fn sixteen_flows_by_each_number_of_workers(rt: HostRuntime) -> Result<(), Fail> {
-    let (few, many) = (crowd(rt.alloc(), 1_600)?, crowd(rt.alloc(), 50_000)?);
-    let (few_wanted, many_wanted) = (wanted(&few), wanted(&many));
+    let script = crowd(rt.alloc(), 1_600)?;
+    let wanted = wanted(&script);
     for workers in 1..=16 {
-        let config = Config {
-            pairs: 8,
-            ring: 64,
-            workers,
-            ..Config::default()
-        };
-        let (script, each, wanted) = if matches!(workers, 1 | 3 | 8 | 16) {
-            (&many, 3_125, &many_wanted)
-        } else {
-            (&few, 100, &few_wanted)
-        };
-        let report = forward(&rt, rt.alloc(), script, &config, &Open)?;
-        assert_eq!(rt; report.flows.len(), 16);
-        for (flow, sum) in report.flows.iter().zip(wanted) {
-            assert_eq!(rt; counts_of(flow), all(each), "{workers} workers");
-            assert_eq!(rt; (flow.ended, Sum::of(&flow.wire)), (Ended::Drained, *sum));
-        }
+        assert!(rt;
+            all_go(&rt, rt.alloc(), &script, &wanted, workers)?,
+            "{workers} workers"
+        );
+    }
+    Ok(())
+}
+
+#[test]
+fn fifty_thousand_frames_over_sixteen_flows(rt: HostRuntime) -> Result<(), Fail> {
+    let script = crowd(rt.alloc(), 50_000)?;
+    let wanted = wanted(&script);
+    for workers in [1, 3, 8, 16] {
+        assert!(rt;
+            all_go(&rt, rt.alloc(), &script, &wanted, workers)?,
+            "{workers} workers"
+        );
     }
     Ok(())
 }

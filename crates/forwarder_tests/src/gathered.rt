@@ -3,6 +3,7 @@ ghost use Rattle.pool.specs.Owned.{IsOf};
 
 use crate::bursts::{Burst, FORTY, script_of};
 use crate::gates::Shuts;
+use buffer_pool::Stash;
 use forwarder::{Config, forward_in};
 use forwarding::{ForwardError, Gate, Open};
 use pool::{Pool, PoolPass};
@@ -49,10 +50,11 @@ pub(crate) fn taken_out<R: Wait>(rt: &R, pool: &Pool, pass: &mut PoolPass) -> Nu
         times: [0; 64],
         strange: false,
     };
-    for _ in 0..2 * BUFFERS {
-        match pool.take(rt, pass) {
-            Ok(buf) => numbers.count(buf.number()),
-            Err(_) => break,
+    let mut stash = Stash::new();
+    pool.refill(rt, pass, &mut stash, 256);
+    for _ in 0..stash.len() {
+        if let Some(buf) = stash.take() {
+            numbers.count(buf.number());
         }
     }
     numbers

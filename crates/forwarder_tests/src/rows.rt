@@ -1,38 +1,56 @@
 //! Worked rows.
 
-use crate::bursts::{Burst, FORTY, script_of};
-use crate::counted::{Counts, NONE, all, is_drained};
+use crate::bursts::{Burst, FORTY, FORTY_COUNTS, script_of};
+use crate::counted::{Counts, NONE, comes_to};
 use forwarder::{Config, forward};
-use forwarding::Open;
+use forwarding::{ForwardError, Open};
+use std::alloc::Global;
+use std::sync::Wait;
 use std::test::Fail;
+use std::thread::Threads;
 use tx_ring::Completion;
+use wire_script::Script;
 
 const BOTH_WAYS: [Completion; 2] = [Completion::Status, Completion::Head];
+
+/// Whether the 40 frames go over rings of 8 by batches of 1, 7 and 32.
+fn forty_go<R: Threads + Wait + Sync>(
+    rt: &R,
+    alloc: Global,
+    script: &Script,
+    workers: u32,
+    completion: Completion,
+) -> Result<bool, ForwardError> {
+    let mut good = true;
+    for batch in [1, 7, 32] {
+        let config = Config {
+            pairs: 2,
+            ring: 8,
+            workers,
+            batch,
+            completion,
+            ..Config::default()
+        };
+        good &= comes_to(rt, alloc, script, &config, &Open, FORTY_COUNTS)?;
+    }
+    Ok(good)
+}
 
 #[test]
 fn forty_frames_over_a_short_ring(rt: HostRuntime) -> Result<(), Fail> {
     let script = script_of(rt.alloc(), FORTY)?;
-    let wanted = [NONE, all(40), NONE, NONE];
     for completion in BOTH_WAYS {
         for workers in 1..=4 {
-            for batch in [32, 1, 7] {
-                let config = Config {
-                    pairs: 2,
-                    ring: 8,
-                    workers,
-                    batch,
-                    completion,
-                    ..Config::default()
-                };
-                let report = forward(&rt, rt.alloc(), &script, &config, &Open)?;
-                assert!(rt; is_drained(&report, &script, 2, &wanted), "{config:?}");
-            }
+            assert!(rt;
+                forty_go(&rt, rt.alloc(), &script, workers, completion)?,
+                "{workers} workers"
+            );
         }
     }
     Ok(())
 }
 
-// The first frame's first three bytes and last byte as they go out, and the last frame's.
+// The first three bytes and the last byte of the first frame as it goes out, and of the last.
 #[test]
 fn a_touch_grows_one_byte(rt: HostRuntime) -> Result<(), Fail> {
     let script = script_of(rt.alloc(), FORTY)?;
@@ -59,24 +77,25 @@ fn an_empty_script(rt: HostRuntime) -> Result<(), Fail> {
         pairs: 2,
         ..Config::default()
     };
-    let report = forward(&rt, rt.alloc(), &script, &config, &Open)?;
-    assert!(rt; is_drained(&report, &script, 2, &[NONE; 4]));
+    assert!(rt; comes_to(&rt, rt.alloc(), &script, &config, &Open, &[NONE; 4])?);
     Ok(())
 }
 
-/// One flow's frames of one length, and its counts.
+/// Frames of one length for port 0, queue 0, over rings of one length, and what flow 0 comes to.
 #[derive(Clone, Copy)]
 struct Long {
     len: usize,
     count: u8,
     ring: u32,
     bsize: u32,
-    wanted: Counts,
+    wanted: &'static [Counts],
 }
 
-const ONE_OVERSIZE: Counts = [1, 0, 0, 1, 0, 0, 0, 0, 0];
+const ONE_OVERSIZE: &[Counts] = &[[1, 0, 0, 1, 0, 0, 0, 0, 0], NONE];
 
-const LONG: [Long; 4] = [
+const TEN: &[Counts] = &[[10, 10, 0, 0, 10, 10, 0, 10, 0], NONE];
+
+const LONG: &[Long] = &[
     Long {
         len: 9_000,
         count: 1,
@@ -92,41 +111,47 @@ const LONG: [Long; 4] = [
         wanted: ONE_OVERSIZE,
     },
     Long {
-        len: 15_000,
-        count: 10,
-        ring: 16,
-        bsize: 1_024,
-        wanted: [10, 10, 0, 0, 10, 10, 0, 10, 0],
-    },
-    Long {
         len: 14_336,
         count: 10,
         ring: 8,
         bsize: 2_048,
-        wanted: [10, 10, 0, 0, 10, 10, 0, 10, 0],
+        wanted: TEN,
+    },
+    Long {
+        len: 15_000,
+        count: 10,
+        ring: 16,
+        bsize: 1_024,
+        wanted: TEN,
     },
 ];
+
+/// Whether the frames of a row come to what it says.
+fn goes<R: Threads + Wait + Sync>(rt: &R, alloc: Global, row: &Long) -> Result<bool, Fail> {
+    let burst = Burst {
+        port: 0,
+        queue: 0,
+        len: row.len,
+        first: 0,
+        count: row.count,
+    };
+    let script = script_of(alloc, &[burst])?;
+    let config = Config {
+        ring: row.ring,
+        bsize: row.bsize,
+        ..Config::default()
+    };
+    Ok(comes_to(rt, alloc, &script, &config, &Open, row.wanted)?)
+}
 
 #[test]
 fn long_frames_go_out_or_are_oversize(rt: HostRuntime) -> Result<(), Fail> {
     for row in LONG {
-        let burst = Burst {
-            port: 0,
-            queue: 0,
-            len: row.len,
-            first: 0,
-            count: row.count,
-        };
-        let script = script_of(rt.alloc(), &[burst])?;
-        let config = Config {
-            ring: row.ring,
-            bsize: row.bsize,
-            ..Config::default()
-        };
-        let report = forward(&rt, rt.alloc(), &script, &config, &Open)?;
         assert!(rt;
-            is_drained(&report, &script, 1, &[row.wanted, NONE]),
-            "{config:?}"
+            goes(&rt, rt.alloc(), row)?,
+            "{} bytes, a ring of {}",
+            row.len,
+            row.ring
         );
     }
     Ok(())

@@ -1,52 +1,68 @@
 //! Drivers and controllers run in threads of their own, over rings that have so much room and no more.
 
 use crate::bursts::{Burst, script_of};
-use crate::counted::{NONE, all, is_drained};
+use crate::counted::{Counts, NONE, comes_to};
 use crate::gates::{After, Meeting};
-use forwarder::{Config, forward};
+use forwarder::Config;
+use std::alloc::Global;
+use std::sync::Wait;
 use std::test::Fail;
+use std::thread::Threads;
+use wire_script::Script;
+
+const ONE: &[Burst] = &[Burst {
+    port: 0,
+    queue: 0,
+    len: 60,
+    first: 1,
+    count: 1,
+}];
+
+const ONE_COUNTS: &[Counts] = &[[1, 1, 0, 0, 1, 1, 0, 1, 0], NONE];
 
 #[test]
 fn a_driver_and_its_controller_wait_for_each_other(rt: HostRuntime) -> Result<(), Fail> {
-    let burst = Burst {
-        port: 0,
-        queue: 0,
-        len: 60,
-        first: 1,
-        count: 1,
-    };
-    let script = script_of(rt.alloc(), &[burst])?;
+    let script = script_of(rt.alloc(), ONE)?;
+    let config = Config::default();
     let gate = Meeting::new();
-    let report = forward(&rt, rt.alloc(), &script, &Config::default(), &gate)?;
+    assert!(rt; comes_to(&rt, rt.alloc(), &script, &config, &gate, ONE_COUNTS)?);
     assert!(rt; gate.took_place());
-    assert!(rt; is_drained(&report, &script, 1, &[all(1), NONE]));
     Ok(())
+}
+
+const FORTY: &[Burst] = &[Burst {
+    port: 0,
+    queue: 0,
+    len: 60,
+    first: 0,
+    count: 40,
+}];
+
+const SEVEN: &[Counts] = &[[40, 7, 33, 0, 7, 7, 0, 7, 0], NONE];
+
+const FIFTEEN: &[Counts] = &[[40, 15, 25, 0, 15, 15, 0, 15, 0], NONE];
+
+/// Whether 40 frames that are offered before the first is taken come to these counts.
+fn is_full<R: Threads + Wait + Sync>(
+    rt: &R,
+    alloc: Global,
+    script: &Script,
+    ring: u32,
+    wanted: &[Counts],
+) -> Result<bool, Fail> {
+    let config = Config {
+        ring,
+        drop_en: true,
+        ..Config::default()
+    };
+    let gate = After::new(40);
+    Ok(comes_to(rt, alloc, script, &config, &gate, wanted)? && gate.was_in_time())
 }
 
 #[test]
 fn a_full_ring_drops_what_comes(rt: HostRuntime) -> Result<(), Fail> {
-    let burst = Burst {
-        port: 0,
-        queue: 0,
-        len: 60,
-        first: 0,
-        count: 40,
-    };
-    let script = script_of(rt.alloc(), &[burst])?;
-    for (ring, stored, dropped) in [(8, 7, 33), (16, 15, 25)] {
-        let config = Config {
-            ring,
-            drop_en: true,
-            ..Config::default()
-        };
-        let gate = After::new(40);
-        let report = forward(&rt, rt.alloc(), &script, &config, &gate)?;
-        assert!(rt; gate.was_in_time());
-        let wanted = [40, stored, dropped, 0, stored, stored, 0, stored, 0];
-        assert!(rt;
-            is_drained(&report, &script, 1, &[wanted, NONE]),
-            "a ring of {ring}"
-        );
-    }
+    let script = script_of(rt.alloc(), FORTY)?;
+    assert!(rt; is_full(&rt, rt.alloc(), &script, 8, SEVEN)?);
+    assert!(rt; is_full(&rt, rt.alloc(), &script, 16, FIFTEEN)?);
     Ok(())
 }

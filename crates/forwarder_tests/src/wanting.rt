@@ -1,16 +1,18 @@
 //! Want of memory and of threads. With any one allocation refused, as `rt try --test --fail-alloc 1..` does, these pass too,
 //! and so they do where a thread can't be started.
 
-use crate::counted::{NONE, all, is_drained};
+use crate::counted::{Counts, NONE, comes_to};
 use crate::gates::Watching;
 use crate::gathered::{BUFFERS, taken_out};
-use forwarder::{Config, forward, forward_in};
+use forwarder::{Config, forward_in};
 use forwarding::{ForwardError, Open};
 use pool::Pool;
 use std::test::Fail;
 use wire_script::parse;
 
 const TWO: &[u8] = b"0 1 fill 60 00\n0 1 fill 60 01\n";
+
+const TWO_COUNTS: &[Counts] = &[NONE, [2, 2, 0, 0, 2, 2, 0, 2, 0], NONE, NONE];
 
 /// A configuration with two workers a side.
 fn two_workers() -> Config {
@@ -28,10 +30,8 @@ fn without_memory_or_threads_that_is_answered(rt: HostRuntime) {
     let Ok(script) = parse(rt.alloc(), TWO) else {
         return;
     };
-    match forward(&rt, rt.alloc(), &script, &two_workers(), &Open) {
-        Ok(report) => {
-            assert!(rt; is_drained(&report, &script, 2, &[NONE, all(2), NONE, NONE]));
-        }
+    match comes_to(&rt, rt.alloc(), &script, &two_workers(), &Open, TWO_COUNTS) {
+        Ok(good) => assert!(rt; good),
         Err(refusal) => {
             assert!(rt; matches!(refusal, ForwardError::Memory | ForwardError::Thread));
         }
