@@ -17,7 +17,7 @@ fn crowd(alloc: Global, count: u32) -> Result<Script, Fail> {
     for k in 0..count {
         let round = k / 16;
         let len = 14 + (round % 30) as usize;
-        let bytes = Vec::from_elem(alloc, (round % 251) as u8, len)?;
+        let bytes = Vec::from_elem(alloc, (k % 251) as u8, len)?;
         frames.push(WireFrame::new((k % 2) as u8, (k / 2 % 8) as u8, bytes))?;
     }
     if frames.len() > 1_000_000 {

@@ -122,6 +122,7 @@ fn all_back_after_a_report(rt: HostRuntime) -> Result<(), Fail> {
             for turns in [0, 1, 5] {
                 let config = Config {
                     turns,
+                    retry: workers % 2 == 0,
                     ..config_of(workers)
                 };
                 let (refusal, numbers) = ended(&rt, rt.alloc(), &script, &config, &Open)?;

@@ -12,6 +12,8 @@ mod crowds;
 #[cfg(test)]
 mod cutting;
 #[cfg(test)]
+mod dropping;
+#[cfg(test)]
 mod gates;
 #[cfg(test)]
 mod gathered;

@@ -42,16 +42,20 @@ const SEVEN: &[Counts] = &[[40, 7, 33, 0, 7, 7, 0, 7, 0], NONE];
 
 const FIFTEEN: &[Counts] = &[[40, 15, 25, 0, 15, 15, 0, 15, 0], NONE];
 
+const SIXTEEN: &[Counts] = &[[40, 16, 24, 0, 16, 16, 0, 16, 0], NONE];
+
 /// Whether 40 frames that are offered before the first is taken come to these counts.
 fn is_full<R: Threads + Wait + Sync>(
     rt: &R,
     alloc: Global,
     script: &Script,
     ring: u32,
+    buffers: u32,
     wanted: &[Counts],
 ) -> Result<bool, Fail> {
     let config = Config {
         ring,
+        buffers,
         drop_en: true,
         ..Config::default()
     };
@@ -62,7 +66,15 @@ fn is_full<R: Threads + Wait + Sync>(
 #[test]
 fn a_full_ring_drops_what_comes(rt: HostRuntime) -> Result<(), Fail> {
     let script = script_of(rt.alloc(), FORTY)?;
-    assert!(rt; is_full(&rt, rt.alloc(), &script, 8, SEVEN)?);
-    assert!(rt; is_full(&rt, rt.alloc(), &script, 16, FIFTEEN)?);
+    assert!(rt; is_full(&rt, rt.alloc(), &script, 8, 4_096, SEVEN)?);
+    assert!(rt; is_full(&rt, rt.alloc(), &script, 16, 4_096, FIFTEEN)?);
+    Ok(())
+}
+
+// Two flows share 32 buffers.
+#[test]
+fn a_flow_has_its_share_of_the_buffers(rt: HostRuntime) -> Result<(), Fail> {
+    let script = script_of(rt.alloc(), FORTY)?;
+    assert!(rt; is_full(&rt, rt.alloc(), &script, 64, 32, SIXTEEN)?);
     Ok(())
 }

@@ -1,14 +1,15 @@
 //! The frames that come in, and sums of those that go out.
 
+use anyhow::{Result, ensure};
 use controller::Wire;
-use std::alloc::{AllocError, Global};
+use limits::MOST_SCRIPT_FRAMES;
+use std::alloc::Global;
 use wire_script::{Script, WireFrame};
 
 /// A script of so many frames over the 4 flows of 2 pairs in turn. Each has its number at offset 2; one in 64 has 3,000
 /// bytes, and the others 60 to 123.
-pub fn script_of(alloc: Global, count: u32) -> Result<Script, AllocError> {
-    let count = count.min(1_000_000);
-    let mut frames = Vec::with_capacity(alloc, count as usize)?;
+pub fn script_of(alloc: Global, count: u32) -> Result<Script> {
+    let mut frames = Vec::new(alloc);
     for k in 0..count {
         let rest = (k / 4 % 64) as usize;
         let len = if rest == 0 { 3_000 } else { 60 + rest };
@@ -16,6 +17,10 @@ pub fn script_of(alloc: Global, count: u32) -> Result<Script, AllocError> {
         bytes[2..6].copy_from_slice(&k.to_le_bytes());
         frames.push(WireFrame::new((k % 2) as u8, (k / 2 % 2) as u8, bytes))?;
     }
+    ensure!(
+        frames.len() <= MOST_SCRIPT_FRAMES,
+        "too many frames for a script"
+    );
     Ok(Script::new(frames))
 }
 

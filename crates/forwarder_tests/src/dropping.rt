@@ -1,0 +1,86 @@
+//! What is dropped is counted, and all else goes out in order.
+
+use crate::bursts::{Burst, script_of};
+use crate::counted::is_touched;
+use controller::Wire;
+use flows::{Ended, FlowReport};
+use forwarder::{Config, forward};
+use forwarding::Open;
+use std::alloc::Global;
+use std::sync::Wait;
+use std::test::Fail;
+use std::thread::Threads;
+use tx_ring::Completion;
+use wire_script::Script;
+
+/// 250 frames, no two of them the same.
+const MANY: &[Burst] = &[Burst {
+    port: 0,
+    queue: 0,
+    len: 60,
+    first: 0,
+    count: 250,
+}];
+
+/// Whether the wire has frames of the script, touched, in order. No two of the script are the same.
+fn follows(wire: &Wire, script: &Script) -> bool {
+    let mut sent = wire.iter();
+    let mut next = sent.next();
+    for frame in script.frames() {
+        let Some(bytes) = next else {
+            return true;
+        };
+        if is_touched(frame.bytes(), bytes) {
+            next = sent.next();
+        }
+    }
+    next.is_none()
+}
+
+/// Whether a flow is drained, and lost what it counts as dropped, and nothing else.
+fn adds_up(flow: &FlowReport) -> bool {
+    flow.ended == Ended::Drained
+        && flow.offered == 250
+        && flow.offered == flow.stored.saturating_add(flow.dropped)
+        && flow.stored == flow.taken
+        && flow.taken == flow.posted.saturating_add(flow.tx_dropped)
+        && flow.posted == flow.wire.len() as u64
+        && flow.oversize == 0
+        && flow.left == 0
+}
+
+/// Whether it is so over rings of 8, where frames are held or dropped, and packets wait or are dropped.
+fn is_counted<R: Threads + Wait + Sync>(
+    rt: &R,
+    alloc: Global,
+    script: &Script,
+    drop_en: bool,
+    retry: bool,
+    completion: Completion,
+) -> Result<bool, Fail> {
+    let config = Config {
+        ring: 8,
+        drop_en,
+        retry,
+        completion,
+        ..Config::default()
+    };
+    let report = forward(rt, alloc, script, &config, &Open)?;
+    let flow = report.flows.first().ok_or("no flow 0")?;
+    let allowed = (drop_en || flow.dropped == 0) && (!retry || flow.tx_dropped == 0);
+    Ok(allowed && adds_up(flow) && follows(&flow.wire, script))
+}
+
+#[test]
+fn what_is_dropped_is_counted(rt: HostRuntime) -> Result<(), Fail> {
+    let script = script_of(rt.alloc(), MANY)?;
+    for drop_en in [false, true] {
+        for retry in [true, false] {
+            for completion in [Completion::Status, Completion::Head] {
+                let good = is_counted(&rt, rt.alloc(), &script, drop_en, retry, completion)?;
+                assert!(rt; good, "drop_en {drop_en}, retry {retry}");
+            }
+        }
+    }
+    Ok(())
+}
