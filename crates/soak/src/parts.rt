@@ -48,11 +48,16 @@ pub fn run_part<R: Threads + Wait + Sync + Print>(
     for (flow, (port, queue)) in report.flows.iter().zip(flows) {
         seen = seen.and(Seen::of(flow, script, &config, port, queue));
     }
-    let drop = if config.drop_en { "dropped" } else { "held" };
-    let retry = if config.retry { "kept" } else { "dropped" };
+    let frames = if config.drop_en { "dropped" } else { "held" };
+    let packets = if config.retry { "kept" } else { "dropped" };
+    let reports = if config.completion.is_by_head() {
+        "head"
+    } else {
+        "status"
+    };
     let right = if seen.is_right { "right" } else { "WRONG" };
     println!(rt;
-        "part {part} ring {} frames {drop} packets {retry} {seen} {right}",
+        "part {part} ring {} frames {frames} packets {packets} reports {reports} {seen} {right}",
         config.ring
     )?;
     Ok(seen)
