@@ -1,9 +1,10 @@
 //! Configurations that are refused, and those at the edge of what is not.
 
 use crate::bursts::{Burst, script_of};
+use crate::counted::{Counts, NONE, comes_to};
 use crate::gates::Shuts;
 use forwarder::{Config, forward};
-use forwarding::ForwardError;
+use forwarding::{ForwardError, Open};
 use std::alloc::Global;
 use std::sync::Wait;
 use std::test::Fail;
@@ -159,6 +160,32 @@ fn the_edges_are_lawful(rt: HostRuntime) -> Result<(), Fail> {
     for config in [LEAST, DEFAULT, GREATEST] {
         assert_eq!(rt; config.check(&script), Ok(()));
     }
+    Ok(())
+}
+
+/// Ten frames for port 1, queue 0.
+const TEN: &[Burst] = &[Burst {
+    port: 1,
+    queue: 0,
+    len: 1_500,
+    first: 0,
+    count: 10,
+}];
+
+const ALL_TEN: Counts = [10, 10, 0, 0, 10, 10, 0, 10, 0];
+
+/// What they come to with 8 pairs.
+const OF_SIXTEEN: &[Counts] = &[
+    NONE, NONE, NONE, NONE, NONE, NONE, NONE, NONE, ALL_TEN, NONE, NONE, NONE, NONE, NONE, NONE,
+    NONE,
+];
+
+#[test]
+fn the_edges_are_run(rt: HostRuntime) -> Result<(), Fail> {
+    let script = script_of(rt.alloc(), TEN)?;
+    let least = [NONE, ALL_TEN];
+    assert!(rt; comes_to(&rt, rt.alloc(), &script, &LEAST, &Open, &least)?);
+    assert!(rt; comes_to(&rt, rt.alloc(), &script, &GREATEST, &Open, OF_SIXTEEN)?);
     Ok(())
 }
 
