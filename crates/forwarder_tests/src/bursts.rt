@@ -3,7 +3,7 @@
 use crate::counted::{Counts, NONE};
 use std::alloc::Global;
 use std::test::Fail;
-use wire_script::{Script, parse};
+use wire_script::{Script, WireFrame};
 
 /// Frames that come in at one queue, one after another: frame `k` has `len` bytes, each of them `first + k`, modulo 256.
 #[derive(Clone, Copy)]
@@ -38,16 +38,19 @@ pub(crate) const FORTY_COUNTS: &[Counts] = &[NONE, [40, 40, 0, 0, 40, 40, 0, 40,
 
 /// The script of these bursts.
 pub(crate) fn script_of(alloc: Global, bursts: &[Burst]) -> Result<Script, Fail> {
-    let mut text = String::new(alloc);
+    let mut frames = Vec::new(alloc);
     for burst in bursts {
+        let (port, queue, len) = (burst.port, burst.queue, burst.len);
+        if port > 1 || queue > 7 || len < 14 || len > 15_000 {
+            return Err("there are no such frames".into());
+        }
         for k in 0..burst.count {
-            let byte = burst.first.wrapping_add(k);
-            let line = format!(in alloc;
-                "{} {} fill {} {byte:02x}\n",
-                burst.port, burst.queue, burst.len
-            )?;
-            text.push_str(line.as_str())?;
+            let bytes = Vec::from_elem(alloc, burst.first.wrapping_add(k), len)?;
+            frames.push(WireFrame::new(port, queue, bytes))?;
         }
     }
-    Ok(parse(alloc, text.as_bytes())?)
+    if frames.len() > 1_000_000 {
+        return Err("too many frames".into());
+    }
+    Ok(Script::new(frames))
 }

@@ -32,10 +32,11 @@ pub(crate) fn counts_of(flow: &FlowReport) -> Counts {
 
 /// Whether one is the other with the byte at offset 1 grown by 1.
 pub(crate) fn is_touched(before: &[u8], after: &[u8]) -> bool {
-    let grown = before.get(1).map(|byte| byte.wrapping_add(1));
-    before.first() == after.first()
-        && grown == after.get(1).copied()
-        && before.get(2..) == after.get(2..)
+    let grows = match (before.get(1), after.get(1)) {
+        (Some(old), Some(new)) => *new == old.wrapping_add(1),
+        _ => false,
+    };
+    grows && before.first() == after.first() && before.get(2..) == after.get(2..)
 }
 
 /// Whether the wire has the first frames that the script has for this port and queue, touched, as many as it has frames.

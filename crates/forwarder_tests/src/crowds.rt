@@ -1,5 +1,6 @@
 //! All flows of 8 pairs, by each number of workers.
 
+use crate::configs::DEFAULT;
 use crate::counted::counts_of;
 use controller::Wire;
 use flows::Ended;
@@ -84,7 +85,7 @@ fn all_go<R: Threads + Wait + Sync>(
         pairs: 8,
         ring: 64,
         workers,
-        ..Config::default()
+        ..DEFAULT
     };
     let report = forward(rt, alloc, script, &config, &Open)?;
     for (flow, sum) in report.flows.iter().zip(wanted) {

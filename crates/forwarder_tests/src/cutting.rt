@@ -1,6 +1,7 @@
 //! Flows that are cut after their turns.
 
 use crate::bursts::{FORTY, FORTY_COUNTS, script_of};
+use crate::configs::SHORT;
 use crate::counted::{carries, comes_to};
 use flows::{Ended, FlowReport};
 use forwarder::{Config, forward};
@@ -19,16 +20,6 @@ fn adds_up(flow: &FlowReport) -> bool {
     flow.offered == flow.stored && came == went.saturating_add(flow.left)
 }
 
-fn config_of(turns: u32, retry: bool) -> Config {
-    Config {
-        pairs: 2,
-        ring: 8,
-        turns,
-        retry,
-        ..Config::default()
-    }
-}
-
 /// Whether flow 1 is cut, with up to 7 frames taken a turn, and all flows add up.
 fn is_cut<R: Threads + Wait + Sync>(
     rt: &R,
@@ -37,7 +28,12 @@ fn is_cut<R: Threads + Wait + Sync>(
     turns: u32,
     retry: bool,
 ) -> Result<bool, Fail> {
-    let report = forward(rt, alloc, script, &config_of(turns, retry), &Open)?;
+    let config = Config {
+        turns,
+        retry,
+        ..SHORT
+    };
+    let report = forward(rt, alloc, script, &config, &Open)?;
     let mut good = report.flows.len() == 4;
     for flow in &report.flows {
         good &= adds_up(flow);
@@ -72,7 +68,7 @@ fn a_flow_is_cut_after_its_turns(rt: HostRuntime) -> Result<(), Fail> {
 fn with_turns_enough_no_flow_is_cut(rt: HostRuntime) -> Result<(), Fail> {
     let script = script_of(rt.alloc(), FORTY)?;
     for turns in [0, 1_000_000_000] {
-        let config = config_of(turns, true);
+        let config = Config { turns, ..SHORT };
         assert!(rt; comes_to(&rt, rt.alloc(), &script, &config, &Open, FORTY_COUNTS)?);
     }
     Ok(())

@@ -1,6 +1,7 @@
 //! What is dropped is counted, and all else goes out in order.
 
 use crate::bursts::{Burst, script_of};
+use crate::configs::SHORT;
 use crate::counted::is_touched;
 use controller::Wire;
 use flows::{Ended, FlowReport};
@@ -59,11 +60,10 @@ fn is_counted<R: Threads + Wait + Sync>(
     completion: Completion,
 ) -> Result<bool, Fail> {
     let config = Config {
-        ring: 8,
         drop_en,
         retry,
         completion,
-        ..Config::default()
+        ..SHORT
     };
     let report = forward(rt, alloc, script, &config, &Open)?;
     let flow = report.flows.first().ok_or("no flow 0")?;

@@ -2,6 +2,7 @@
 ghost use Rattle.pool.specs.Owned.{IsOf};
 
 use crate::bursts::{Burst, FORTY, script_of};
+use crate::configs::DEFAULT;
 use crate::gates::Shuts;
 use buffer_pool::Stash;
 use forwarder::{Config, forward_in};
@@ -84,17 +85,28 @@ const LONG: &[Burst] = &[Burst {
     count: 40,
 }];
 
-/// A configuration of so many workers with all of the pool's buffers.
-fn config_of(workers: u32) -> Config {
-    Config {
-        pairs: 2,
-        ring: 16,
-        batch: 2,
-        buffers: BUFFERS,
-        bsize: 1_024,
-        workers,
-        ..Config::default()
-    }
+/// Four flows with all of the pool's buffers.
+const ALL: Config = Config {
+    pairs: 2,
+    ring: 16,
+    batch: 2,
+    buffers: BUFFERS,
+    bsize: 1_024,
+    ..DEFAULT
+};
+
+/// Whether all buffers are back after a refusal, by so many workers, once so many passed the gate.
+fn are_back<R: Threads + Wait + Sync>(
+    rt: &R,
+    alloc: Global,
+    script: &Script,
+    workers: u32,
+    passes: u64,
+) -> Result<bool, Fail> {
+    let config = Config { workers, ..ALL };
+    let gate = Shuts::after(passes);
+    let (refusal, numbers) = ended(rt, alloc, script, &config, &gate)?;
+    Ok(refusal == Some(ForwardError::Gate) && numbers.came_once())
 }
 
 #[test]
@@ -103,15 +115,30 @@ fn all_back_after_a_refusal(rt: HostRuntime) -> Result<(), Fail> {
         let script = script_of(rt.alloc(), bursts)?;
         for workers in 1..=4 {
             for passes in [0, 1, 3, 10, 40, 79] {
-                let config = config_of(workers);
-                let gate = Shuts::after(passes);
-                let (refusal, numbers) = ended(&rt, rt.alloc(), &script, &config, &gate)?;
-                assert_eq!(rt; refusal, Some(ForwardError::Gate));
-                assert!(rt; numbers.came_once(), "{workers} workers, {passes} passes");
+                let good = are_back(&rt, rt.alloc(), &script, workers, passes)?;
+                assert!(rt; good, "{workers} workers, {passes} passes");
             }
         }
     }
     Ok(())
+}
+
+/// Whether all buffers are back after so many turns, by so many workers.
+fn are_back_at_the_end<R: Threads + Wait + Sync>(
+    rt: &R,
+    alloc: Global,
+    script: &Script,
+    workers: u32,
+    turns: u32,
+) -> Result<bool, Fail> {
+    let config = Config {
+        workers,
+        turns,
+        retry: workers % 2 == 0,
+        ..ALL
+    };
+    let (refusal, numbers) = ended(rt, alloc, script, &config, &Open)?;
+    Ok(refusal.is_none() && numbers.came_once())
 }
 
 #[test]
@@ -120,14 +147,8 @@ fn all_back_after_a_report(rt: HostRuntime) -> Result<(), Fail> {
         let script = script_of(rt.alloc(), bursts)?;
         for workers in 1..=4 {
             for turns in [0, 1, 5] {
-                let config = Config {
-                    turns,
-                    retry: workers % 2 == 0,
-                    ..config_of(workers)
-                };
-                let (refusal, numbers) = ended(&rt, rt.alloc(), &script, &config, &Open)?;
-                assert_eq!(rt; refusal, None);
-                assert!(rt; numbers.came_once(), "{workers} workers, {turns} turns");
+                let good = are_back_at_the_end(&rt, rt.alloc(), &script, workers, turns)?;
+                assert!(rt; good, "{workers} workers, {turns} turns");
             }
         }
     }

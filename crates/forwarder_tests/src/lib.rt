@@ -6,6 +6,8 @@ mod bounds;
 #[cfg(test)]
 mod bursts;
 #[cfg(test)]
+mod configs;
+#[cfg(test)]
 mod counted;
 #[cfg(test)]
 mod crowds;

@@ -1,18 +1,28 @@
 //! Gates that refuse.
 
 use crate::bursts::{Burst, FORTY, script_of};
+use crate::configs::SHORT;
 use crate::gates::{Leaving, Shuts};
 use forwarder::{Config, forward};
 use forwarding::ForwardError;
+use std::alloc::Global;
+use std::sync::Wait;
 use std::test::Fail;
+use std::thread::Threads;
+use wire_script::Script;
 
-fn config_of(workers: u32) -> Config {
-    Config {
-        pairs: 2,
-        ring: 8,
-        workers,
-        ..Config::default()
-    }
+/// Whether the gate refuses, by so many workers, once so many passed it.
+fn is_refused<R: Threads + Wait + Sync>(
+    rt: &R,
+    alloc: Global,
+    script: &Script,
+    workers: u32,
+    passes: u64,
+) -> bool {
+    let config = Config { workers, ..SHORT };
+    let gate = Shuts::after(passes);
+    let refusal = forward(rt, alloc, script, &config, &gate).err();
+    refusal == Some(ForwardError::Gate) && gate.left() == 0
 }
 
 // 40 offers and as many transmit turns at least are made, so each of these gates refuses.
@@ -20,16 +30,9 @@ fn config_of(workers: u32) -> Config {
 fn wherever_a_gate_refuses_that_is_answered(rt: HostRuntime) -> Result<(), Fail> {
     let script = script_of(rt.alloc(), FORTY)?;
     for workers in 1..=4 {
-        let config = config_of(workers);
         for passes in [0, 1, 2, 3, 10, 40, 79] {
-            let gate = Shuts::after(passes);
-            let refusal = forward(&rt, rt.alloc(), &script, &config, &gate).err();
-            assert_eq!(rt;
-                refusal,
-                Some(ForwardError::Gate),
-                "{workers} workers, {passes} passes"
-            );
-            assert_eq!(rt; gate.left(), 0);
+            let good = is_refused(&rt, rt.alloc(), &script, workers, passes);
+            assert!(rt; good, "{workers} workers, {passes} passes");
         }
     }
     Ok(())
@@ -43,19 +46,22 @@ const ONE: &[Burst] = &[Burst {
     count: 1,
 }];
 
-// Each worker's driver is at its gate while a controller's offer is refused, and leaves it later.
+/// Whether each worker's driver was at its gate while an offer was refused, and left it before that was answered.
+fn is_left<R: Threads + Wait + Sync>(rt: &R, alloc: Global, script: &Script, workers: u32) -> bool {
+    let config = Config { workers, ..SHORT };
+    let gate = Leaving::new(u64::from(workers));
+    let refusal = forward(rt, alloc, script, &config, &gate).err();
+    let (came, left) = gate.came_and_left();
+    refusal == Some(ForwardError::Gate) && came >= u64::from(workers) && left == came
+}
+
 #[test]
 fn all_workers_are_joined_before_a_refusal_is_answered(rt: HostRuntime) -> Result<(), Fail> {
     let script = script_of(rt.alloc(), ONE)?;
     for workers in 1..=4 {
-        let config = config_of(workers);
-        let gate = Leaving::new(u64::from(workers));
-        let refusal = forward(&rt, rt.alloc(), &script, &config, &gate).err();
-        let (came, left) = gate.came_and_left();
-        assert_eq!(rt; refusal, Some(ForwardError::Gate));
         assert!(rt;
-            came >= u64::from(workers) && left == came,
-            "{came} came, {left} left"
+            is_left(&rt, rt.alloc(), &script, workers),
+            "{workers} workers"
         );
     }
     Ok(())

@@ -1,7 +1,9 @@
 //! Worked rows.
 
 use crate::bursts::{Burst, FORTY, FORTY_COUNTS, script_of};
+use crate::configs::{DEFAULT, SHORT};
 use crate::counted::{Counts, NONE, comes_to};
+use controller::Wire;
 use forwarder::{Config, forward};
 use forwarding::{ForwardError, Open};
 use std::alloc::Global;
@@ -10,6 +12,12 @@ use std::test::Fail;
 use std::thread::Threads;
 use tx_ring::Completion;
 use wire_script::Script;
+
+/// Four flows over rings of 512.
+const EMPTY: Config = Config {
+    pairs: 2,
+    ..DEFAULT
+};
 
 const BOTH_WAYS: [Completion; 2] = [Completion::Status, Completion::Head];
 
@@ -24,12 +32,10 @@ fn forty_go<R: Threads + Wait + Sync>(
     let mut good = true;
     for batch in [1, 7, 32] {
         let config = Config {
-            pairs: 2,
-            ring: 8,
             workers,
             batch,
             completion,
-            ..Config::default()
+            ..SHORT
         };
         good &= comes_to(rt, alloc, script, &config, &Open, FORTY_COUNTS)?;
     }
@@ -50,34 +56,40 @@ fn forty_frames_over_a_short_ring(rt: HostRuntime) -> Result<(), Fail> {
     Ok(())
 }
 
-// The first three bytes and the last byte of the first frame as it goes out, and of the last.
+/// The first three bytes of a frame, and its last.
+fn edge(frame: &[u8]) -> Option<[u8; 4]> {
+    Some([
+        *frame.first()?,
+        *frame.get(1)?,
+        *frame.get(2)?,
+        *frame.last()?,
+    ])
+}
+
+/// What frame `i` of a wire begins and ends with.
+fn edge_of(wire: &Wire, i: usize) -> Option<[u8; 4]> {
+    if i < wire.len() {
+        edge(wire.frame(i))
+    } else {
+        None
+    }
+}
+
 #[test]
 fn a_touch_grows_one_byte(rt: HostRuntime) -> Result<(), Fail> {
     let script = script_of(rt.alloc(), FORTY)?;
-    let config = Config {
-        pairs: 2,
-        ring: 8,
-        ..Config::default()
-    };
-    let report = forward(&rt, rt.alloc(), &script, &config, &Open)?;
-    let wire = report.flows.get(1).ok_or("no flow 1")?.wire.iter();
-    let mut edges = [[9; 4]; 40];
-    for (frame, edge) in wire.zip(edges.iter_mut()) {
-        assert_eq!(rt; frame.len(), 60);
-        *edge = [frame[0], frame[1], frame[2], frame[59]];
-    }
-    assert_eq!(rt; (edges[0], edges[39]), ([0, 1, 0, 0], [255, 0, 255, 255]));
+    let report = forward(&rt, rt.alloc(), &script, &SHORT, &Open)?;
+    let flow = report.flows.get(1).ok_or("no flow 1")?;
+    assert!(rt; edge_of(&flow.wire, 0) == Some([0, 1, 0, 0]));
+    assert!(rt; edge_of(&flow.wire, 39) == Some([255, 0, 255, 255]));
+    assert!(rt; edge_of(&flow.wire, 40) == None);
     Ok(())
 }
 
 #[test]
 fn an_empty_script(rt: HostRuntime) -> Result<(), Fail> {
     let script = script_of(rt.alloc(), &[])?;
-    let config = Config {
-        pairs: 2,
-        ..Config::default()
-    };
-    assert!(rt; comes_to(&rt, rt.alloc(), &script, &config, &Open, &[NONE; 4])?);
+    assert!(rt; comes_to(&rt, rt.alloc(), &script, &EMPTY, &Open, &[NONE; 4])?);
     Ok(())
 }
 
@@ -139,7 +151,7 @@ fn goes<R: Threads + Wait + Sync>(rt: &R, alloc: Global, row: &Long) -> Result<b
     let config = Config {
         ring: row.ring,
         bsize: row.bsize,
-        ..Config::default()
+        ..DEFAULT
     };
     Ok(comes_to(rt, alloc, &script, &config, &Open, row.wanted)?)
 }

@@ -1,6 +1,7 @@
 //! Drivers and controllers run in threads of their own, over rings that have so much room and no more.
 
 use crate::bursts::{Burst, script_of};
+use crate::configs::DEFAULT;
 use crate::counted::{Counts, NONE, comes_to};
 use crate::gates::{After, Meeting};
 use forwarder::Config;
@@ -23,9 +24,8 @@ const ONE_COUNTS: &[Counts] = &[[1, 1, 0, 0, 1, 1, 0, 1, 0], NONE];
 #[test]
 fn a_driver_and_its_controller_wait_for_each_other(rt: HostRuntime) -> Result<(), Fail> {
     let script = script_of(rt.alloc(), ONE)?;
-    let config = Config::default();
     let gate = Meeting::new();
-    assert!(rt; comes_to(&rt, rt.alloc(), &script, &config, &gate, ONE_COUNTS)?);
+    assert!(rt; comes_to(&rt, rt.alloc(), &script, &DEFAULT, &gate, ONE_COUNTS)?);
     assert!(rt; gate.took_place());
     Ok(())
 }
@@ -57,7 +57,7 @@ fn is_full<R: Threads + Wait + Sync>(
         ring,
         buffers,
         drop_en: true,
-        ..Config::default()
+        ..DEFAULT
     };
     let gate = After::new(40);
     Ok(comes_to(rt, alloc, script, &config, &gate, wanted)? && gate.was_in_time())

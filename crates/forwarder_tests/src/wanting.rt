@@ -1,6 +1,7 @@
 //! Want of memory and of threads. With any one allocation refused, as `rt try --test --fail-alloc 1..` does, these pass too,
 //! and so they do where a thread can't be started.
 
+use crate::configs::SHORT;
 use crate::counted::{Counts, NONE, comes_to};
 use crate::gates::Watching;
 use crate::gathered::{BUFFERS, taken_out};
@@ -14,23 +15,19 @@ const TWO: &[u8] = b"0 1 fill 60 00\n0 1 fill 60 01\n";
 
 const TWO_COUNTS: &[Counts] = &[NONE, [2, 2, 0, 0, 2, 2, 0, 2, 0], NONE, NONE];
 
-/// A configuration with two workers a side.
-fn two_workers() -> Config {
-    Config {
-        pairs: 2,
-        ring: 8,
-        buffers: BUFFERS,
-        workers: 2,
-        ..Config::default()
-    }
-}
+/// Two workers a side.
+const TWO_WORKERS: Config = Config {
+    buffers: BUFFERS,
+    workers: 2,
+    ..SHORT
+};
 
 #[test]
 fn without_memory_or_threads_that_is_answered(rt: HostRuntime) {
     let Ok(script) = parse(rt.alloc(), TWO) else {
         return;
     };
-    match comes_to(&rt, rt.alloc(), &script, &two_workers(), &Open, TWO_COUNTS) {
+    match comes_to(&rt, rt.alloc(), &script, &TWO_WORKERS, &Open, TWO_COUNTS) {
         Ok(good) => assert!(rt; good),
         Err(refusal) => {
             assert!(rt; matches!(refusal, ForwardError::Memory | ForwardError::Thread));
@@ -45,14 +42,22 @@ fn without_memory_or_threads_no_buffer_is_lost(rt: HostRuntime) -> Result<(), Fa
     let Ok(script) = parse(rt.alloc(), TWO) else {
         return Ok(());
     };
-    let config = two_workers();
-    config.check(&script)?;
+    TWO_WORKERS.check(&script)?;
     let Ok((pool, mut pass)) = Pool::new(&rt, rt.alloc(), BUFFERS) else {
         return Ok(());
     };
     let mut spare = pass.split(&pool, 1);
     let gate = Watching::new();
-    let ended = forward_in(&rt, rt.alloc(), &script, &config, &gate, &pool, &mut pass).err();
+    let ended = forward_in(
+        &rt,
+        rt.alloc(),
+        &script,
+        &TWO_WORKERS,
+        &gate,
+        &pool,
+        &mut pass,
+    )
+    .err();
     let numbers = taken_out(&rt, &pool, &mut spare);
     assert!(rt; numbers.came_once_at_most());
     let all_started = match ended {
