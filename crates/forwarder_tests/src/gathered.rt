@@ -3,7 +3,7 @@ ghost use Rattle.pool.specs.Owned.{IsOf};
 
 use crate::bursts::{Burst, FORTY, script_of};
 use crate::configs::DEFAULT;
-use crate::gates::Shuts;
+use crate::gates::{Midway, Shuts, Stops};
 use buffer_pool::Stash;
 use forwarder::{Config, forward_in};
 use forwarding::{ForwardError, Gate, Open};
@@ -151,6 +151,59 @@ fn all_back_after_a_report(rt: HostRuntime) -> Result<(), Fail> {
                 assert!(rt; good, "{workers} workers, {turns} turns");
             }
         }
+    }
+    Ok(())
+}
+
+/// 40 frames for flow 0.
+const ZERO: &[Burst] = &[Burst {
+    port: 0,
+    queue: 0,
+    len: 60,
+    first: 0,
+    count: 40,
+}];
+
+/// 40 frames of 15 segments each.
+const LONGEST: &[Burst] = &[Burst {
+    port: 0,
+    queue: 0,
+    len: 15_000,
+    first: 0,
+    count: 40,
+}];
+
+/// Whether all buffers are back once this gate refused, or nobody was refused.
+fn are_back_after<R: Threads + Wait + Sync, G: Gate + Sync>(
+    rt: &R,
+    alloc: Global,
+    script: &Script,
+    gate: &G,
+) -> Result<bool, Fail> {
+    let (refusal, numbers) = ended(rt, alloc, script, &ALL, gate)?;
+    Ok(matches!(refusal, None | Some(ForwardError::Gate)) && numbers.came_once())
+}
+
+// After one pass of the driver two packets wait, and after two they are in the transmit ring.
+#[test]
+fn packets_that_wait_come_back(rt: HostRuntime) -> Result<(), Fail> {
+    let script = script_of(rt.alloc(), ZERO)?;
+    for passes in 0..8 {
+        let gate = Stops::after(passes);
+        assert!(rt;
+            are_back_after(&rt, rt.alloc(), &script, &gate)?,
+            "{passes} passes"
+        );
+    }
+    Ok(())
+}
+
+#[test]
+fn a_frame_that_is_taken_in_part_comes_back(rt: HostRuntime) -> Result<(), Fail> {
+    let script = script_of(rt.alloc(), LONGEST)?;
+    for _ in 0..20 {
+        let gate = Midway::new();
+        assert!(rt; are_back_after(&rt, rt.alloc(), &script, &gate)?);
     }
     Ok(())
 }
