@@ -81,8 +81,45 @@ pub fn forward_in<R: Threads + Wait + Sync, G: Gate + Sync>(
 {
     let index = Index::of(alloc, script, config.pairs)?;
     let (lines, ends) = make_lines(alloc, config)?;
-    let flows = run_flows(
+    let (flows, halt) = run_flows(
         rt, alloc, script, config, gate, &index, &lines, ends, pool, pass,
     )?;
+    if let Some(halt) = halt {
+        let mut dones = halt.dones.into_iter();
+        let mut parts = halt.parts.into_iter();
+        for line in lines {
+            let (Some(done), Some(part)) = (dones.next(), parts.next()) else {
+                unreachable!()
+            };
+            give_all_back(rt, line, part, done, pool, pass);
+        }
+        return Err(halt.refusal);
+    }
     Ok(Report { flows })
+}
+
+fn give_all_back<R: Wait>(rt: &R, line: crate::lines::Line, part: flows::DriverParts, done: flows::ControllerDone, pool: &Pool, pass: &mut PoolPass) {
+    let flows::DriverParts { rx, mut chain, tx, mut stash, mut packets, pass: mut own } = part;
+    while let Some(buf) = chain.pop_front() {
+        pool.give(rt, &mut own, buf);
+    }
+    while let Some(buf) = stash.take() {
+        pool.give(rt, &mut own, buf);
+    }
+    while let Some(mut packet) = packets.pop() {
+        while let Some(buf) = packet.pop_front() {
+            pool.give(rt, &mut own, buf);
+        }
+    }
+    for slot in rx_ring::close(line.from, rx, done.rx) {
+        if let Some(buf) = slot {
+            pool.give(rt, &mut own, buf);
+        }
+    }
+    for slot in tx_ring::close(line.to, tx, done.tx) {
+        if let Some(buf) = slot {
+            pool.give(rt, &mut own, buf);
+        }
+    }
+    pass.join(pool, own);
 }

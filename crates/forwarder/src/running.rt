@@ -68,6 +68,14 @@ fn deal_flows<F: Flow>(
     }
 }
 
+/// What came back.
+#[derive(Drop)]
+pub(crate) struct Halt {
+    pub refusal: ForwardError,
+    pub parts: Vec<flows::DriverParts>,
+    pub dones: Vec<flows::ControllerDone>,
+}
+
 /// Serves all flows over these rings until they are over, or a refusal is met.
 #[tactic(auto, using(crate::proofs::Dealing::memory_halted))]
 pub(crate) fn run_flows<R: Threads + Wait + Sync, G: Gate + Sync>(
@@ -81,7 +89,7 @@ pub(crate) fn run_flows<R: Threads + Wait + Sync, G: Gate + Sync>(
     ends: Vec<LineEnds>,
     pool: &Pool,
     pass: &mut PoolPass,
-) -> Result<Vec<FlowReport>, ForwardError>
+) -> Result<(Vec<FlowReport>, Option<Halt>), ForwardError>
     requires lawful { IsLawful config.now }
     requires flows { (length lines.now ≡ PORTS * config.now.pairs) × (vec_len ends ≡ PORTS * config.now.pairs) × (length index.now ≡ PORTS * config.now.pairs) }
     requires ends { (k : ℕ) (d : _) (e : _) → k < PORTS * config.now.pairs → AreEnds config.now.ring config.now.completion (slice_index_or lines.now k d) (slice_index_or ends.items k e) }
@@ -101,9 +109,22 @@ pub(crate) fn run_flows<R: Threads + Wait + Sync, G: Gate + Sync>(
     let controllers = deal_flows(alloc, sides.controllers, workers)?;
     let ran = run_teams(rt, alloc, gate, drivers, controllers);
     if let Some(refusal) = ran.refusal {
-        return Err(refusal);
+        if ran.drivers.len() < workers || ran.controllers.len() < workers {
+            return Err(refusal);
+        }
+        let drivers = gather(ran.drivers, lines.len(), rooms.drivers);
+        let controllers = gather(ran.controllers, lines.len(), rooms.controllers);
+        let mut parts = Vec::with_capacity(alloc, lines.len())?;
+        let mut dones = Vec::with_capacity(alloc, lines.len())?;
+        for driver in drivers {
+            parts.push_reserved(driver.into_parts());
+        }
+        for controller in controllers {
+            dones.push_reserved(controller.into_done());
+        }
+        return Ok((rooms.reports, Some(Halt { refusal, parts, dones })));
     }
     let drivers = gather(ran.drivers, lines.len(), rooms.drivers);
     let controllers = gather(ran.controllers, lines.len(), rooms.controllers);
-    Ok(conclude_all(lines, drivers, controllers, pool, pass, rooms.reports))
+    Ok((conclude_all(lines, drivers, controllers, pool, pass, rooms.reports), None))
 }
