@@ -74,6 +74,8 @@ pub fn forward_in<R: Threads + Wait + Sync, G: Gate + Sync>(
     ensures halted { IfErr result (λ e. Halted G.answers gate.now e) }
     ensures flows { IfOk result (λ r. vec_len r.flows ≡ PORTS * config.now.pairs) }
     ensures reports { IfOk result (λ r. (flow : ℕ) (d : _) → flow < PORTS * config.now.pairs → IsReport (plan config.now script.now flow) (slice_index_or r.flows.items flow d)) }
+    ensures pool { IsOf pool.now pass.new }
+    ensures held { pass.new.hand.held ≡ pass.old.hand.held }
 {
     let index = Index::of(alloc, script, config.pairs)?;
     let (lines, ends) = make_lines(alloc, config)?;

@@ -25,6 +25,7 @@ fn conclude_flow(
     requires pool { IsOf pool.now pass.old }
     ensures report { IsReport (plan_of keys.0 keys.1) result }
     ensures pool { IsOf pool.now pass.new }
+    ensures held { pass.new.hand.held ≡ pass.old.hand.held }
 {
     let Some((done, own)) = driver.into_done() else {
         unreachable!()
@@ -50,6 +51,8 @@ pub(crate) fn conclude_all(
     requires room { length lines.now ≤ vec_capacity reports }
     ensures flows { vec_len result ≡ length lines.now }
     ensures reports { AreReports (length lines.now) (map (λ f. f.key) drivers.entry.items) (map (λ f. f.key) controllers.entry.items) result.items }
+    ensures pool { IsOf pool.now pass.new }
+    ensures held { pass.new.hand.held ≡ pass.old.hand.held }
 {
     let mut controllers = controllers.into_iter();
     let mut number = 0;

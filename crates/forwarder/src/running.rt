@@ -45,6 +45,8 @@ pub(crate) fn run_flows<R: Threads + Wait + Sync, G: Gate + Sync>(
     ensures halted { IfErr result (λ e. Halted G.answers gate.now e) }
     ensures flows { IfOk result (λ r. vec_len r ≡ PORTS * config.now.pairs) }
     ensures reports { IfOk result (λ r. (flow : ℕ) (d : _) → flow < PORTS * config.now.pairs → IsReport (plan config.now script.now flow) (slice_index_or r.items flow d)) }
+    ensures pool { IsOf pool.now pass.new }
+    ensures held { pass.new.hand.held ≡ pass.old.hand.held }
 {
     let reports = Vec::with_capacity(alloc, lines.len())?;
     let sides = make_sides(rt, alloc, config, script, index, lines, ends, pool, pass)?;

@@ -108,6 +108,7 @@ pub(crate) fn make_sides<'a, R: Wait>(
     ensures flows { IfOk result (λ s. (vec_len s.drivers ≡ PORTS * config.now.pairs) × (vec_len s.controllers ≡ PORTS * config.now.pairs)) }
     ensures sides { IfOk result (λ s. AreAllSides (plan config.now script.entry.now) pool.entry.now (PORTS * config.now.pairs) lines.entry.now (map (λ f. f.key) s.drivers.items) (map (λ f. f.key) s.controllers.items)) }
     ensures pool { IsOf pool.entry.now pass.new }
+    ensures held { pass.new.hand.held ≡ pass.old.hand.held }
 {
     let mut drivers = Vec::with_capacity(alloc, lines.len())?;
     let mut controllers = Vec::with_capacity(alloc, lines.len())?;

@@ -61,6 +61,7 @@ loop-driver-preserved c =
       room = search rules;
       len = search rules;
       pool = c.conclude_flow-report.ensures.pool;
+      held = c.conclude_flow-report.ensures.held ∙ was.held;
       reports = (λ flow d k r low. list-more (λ i report. (a : DriverKey) (b : ControllerKey) → IsReport (plan_of (get_or (map (λ f. f.key) drivers) i a) (get_or (map (λ f. f.key) controllers) i b)) report)
           c.loop-driver.reports.items c.push_reserved.new.self.items c.conclude_flow-report.result n (search rules) c.push_reserved.ensures.items
           (λ a b. subst (λ p. IsReport (plan_of p (get_or (map (λ f. f.key) controllers) n b)) c.conclude_flow-report.result) (sym (key a))

@@ -17,5 +17,6 @@ invariant-loop-driver l =
       room : length l.lines ≤ vec_capacity l.reports;
       len : vec_len l.reports ≡ l.number;
       pool : IsOf l.pool l.pass;
+      held : l.pass.hand.held ≡ l.initial.pass.hand.held;
       reports : AreReports l.number (map (λ f. f.key) l.fn.drivers.items) (map (λ f. f.key) l.fn.controllers.items) (vec_items l.reports);
     }

@@ -51,6 +51,7 @@ loop-own-preserved g c =
       drivers = search rules;
       controllers = search rules;
       room = search rules;
+      held = ap (λ p. p.hand.held) kept ∙ was.held;
       pool = subst (IsOf pool) (sym kept) (record { pool = was.pool.pool; count = was.pool.count });
       share = (let less = ap (λ p. p.hand.share) kept in omega (arith, less, was.share));
       sides = (λ k l d s low. places-more (λ i a b. (e : Line) → AreSides (plan config c.args.script.now i) pool (get_or c.args.lines.now i e) a b)

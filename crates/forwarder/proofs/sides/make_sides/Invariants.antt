@@ -15,6 +15,7 @@ invariant-loop-own g l =
       controllers : vec_len l.controllers ≡ l.number;
       room : (length l.lines ≤ vec_capacity l.drivers) × (length l.lines ≤ vec_capacity l.controllers);
       pool : IsOf l.pool l.pass;
+      held : l.pass.hand.held ≡ l.initial.pass.hand.held;
       share : PORTS * MOST_PAIRS < l.number + l.pass.hand.share;
       sides : AreAllSides (plan l.config l.script) l.pool l.number l.lines (map (λ f. f.key) (vec_items l.drivers)) (map (λ f. f.key) (vec_items l.controllers));
     }
