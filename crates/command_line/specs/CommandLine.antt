@@ -56,8 +56,30 @@ replay_app =
     let with_pairs = with_rule with_ring (number_rule (codes "pairs") (codes "1")) in
     with_rule (with_rule with_pairs (flag_rule (codes "off"))) (flag_rule (codes "head"))
 
+-- a number of the command `forward`, added to its others
+abbrev pub with_number : App → Text → Text → App
+with_number app id default = with_rule app (number_rule id default)
+
+-- the command `forward`
+abbrev pub forward_app : App
+forward_app =
+    let with_pairs = with_number (new_app (codes "forward")) (codes "pairs") (codes "1") in
+    let with_ring = with_number with_pairs (codes "ring") (codes "512") in
+    let with_buffers = with_number with_ring (codes "buffers") (codes "4096") in
+    let with_bsize = with_number with_buffers (codes "bsize") (codes "2048") in
+    let with_batch = with_number with_bsize (codes "batch") (codes "32") in
+    let with_rs_every = with_number with_batch (codes "rs-every") (codes "32") in
+    let with_workers = with_number with_rs_every (codes "workers") (codes "1") in
+    let with_turns = with_number with_workers (codes "turns") (codes "0") in
+    let with_drop = with_rule with_turns (flag_rule (codes "drop")) in
+    let with_no_retry = with_rule with_drop (flag_rule (codes "no-retry")) in
+    with_rule with_no_retry (flag_rule (codes "head"))
+
 abbrev pub program_app : Choices → Choices → App
-program_app rings formats = with_subcommand (with_subcommand (with_subcommand bare_app once_app.top) (decode_app rings formats).top) replay_app.top
+program_app rings formats =
+    let with_once = with_subcommand bare_app once_app.top in
+    let with_decode = with_subcommand with_once (decode_app rings formats).top in
+    with_subcommand (with_subcommand with_decode replay_app.top) forward_app.top
 
 -- the command line is this one. clap keeps a list of choices by its address too, which is any
 pub record HasChoices (with_choices : Choices → Choices → App) (app : App) : Type 0 where
