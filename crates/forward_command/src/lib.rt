@@ -6,8 +6,8 @@
 #![tactic(auto)]
 
 mod answering;
-mod forwarding_text;
-mod lines;
+mod page;
+mod text;
 
 pub use answering::{answer, perform};
-pub use forwarding_text::forward;
+pub use page::forward;

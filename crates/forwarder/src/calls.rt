@@ -1,5 +1,5 @@
 //! The whole of a forwarding.
-ghost use Rattle.std.specs.Prelude.{◌≡◌, ◌↔◌, ℕ, ◌*◌, ◌<◌, ◌≤◌, IfOk, IfErr, IsErrOf, vec_len, slice_index_or};
+ghost use Rattle.std.specs.Prelude.{◌≡◌, ◌↔◌, ◌⊎◌, ℕ, ◌*◌, ◌<◌, ◌≤◌, IfOk, IfErr, IsErrOf, vec_len, slice_index_or};
 ghost use Rattle.limits.specs.declared.profile.TheConstants.{FEWEST_BUFFERS, MOST_BUFFERS, MOST_PAIRS, PORTS};
 ghost use Rattle.forwarding.specs.declared.error.ForwardError.TheVariants.{Memory, Config as ConfigRefused};
 ghost use Rattle.pool.specs.declared.hand.TheConstants.{WHOLE_SHARE};
@@ -35,6 +35,7 @@ pub fn forward<R: Threads + Wait + Sync, G: Gate + Sync>(
     gate: &G,
 ) -> Result<Report, ForwardError>
     ensures config { IsErrOf result ConfigRefused ↔ ¬ FitsIn script.now config.now }
+    ensures fits { IsErrOf result ConfigRefused ⊎ FitsIn script.now config.now }
     ensures halted { FitsIn script.now config.now → IfErr result (λ e. Halted G.answers gate.now e) }
     ensures flows { IfOk result (λ r. vec_len r.flows ≡ PORTS * config.now.pairs) }
     ensures reports { IfOk result (λ r. (flow : ℕ) (d : _) → flow < PORTS * config.now.pairs → IsReport (plan config.now script.now flow) (slice_index_or r.flows.items flow d)) }
