@@ -1,16 +1,19 @@
 //! The words of the command line, as `clap` reads them, to a request.
-ghost use Rattle.std.specs.Prelude.{◌≡◌, ◌⊎◌, ℕ, List, Some, false, codes, map};
+ghost use Rattle.std.specs.Prelude.{◌≡◌, ◌⊎◌, ℕ, Bool, List, Some, false, codes, map};
 ghost use Rattle.std.specs.Prelude.{IfOk, IsErrAnd, IsSomeAnd, MatchResult};
 ghost use Rattle.std.specs.String.{string_bytes};
-ghost use Rattle.clap.specs.Words.{Row, Text, app_of, kind_of, found_of, rows_of, rule_of, subcommand_rows_of};
+ghost use Rattle.clap.specs.Words.{Row, Text, app_of, kind_of, found_of, one_of, rows_of, rule_of, subcommand_rows_of};
+ghost use Rattle.clap.specs.Values.{bool_text};
 ghost use Rattle.clap.specs.declared.builder.command.Command.TheViews.{out-Command};
 ghost use Rattle.clap.specs.declared.error.kind.ErrorKind.TheVariants.{OutOfMemory};
 ghost use Rattle.commands.specs.declared.decode.Form.{Form};
 ghost use Rattle.command_line.specs.CommandLine.{IsDecodeApp, IsProgram, choice_rule, hex_rule, once_app};
-ghost use Rattle.command_line.specs.CommandLine.{flag_rule, forward_app, number_rule, replay_app};
+ghost use Rattle.command_line.specs.CommandLine.{flag_rule, forward_app, number_rule, replay_app, with_queue_rules, with_work_rules};
 ghost use Rattle.commands.specs.declared.replay.QueuePlan.{QueuePlan};
 ghost use Rattle.command_line.specs.CommandLine.{HasDecode, IsDecode, SaysDecode};
 ghost use Rattle.command_line.specs.CommandLine.{HasReplay, IsReplayOf, SaysReplay};
+ghost use Rattle.command_line.specs.CommandLine.{HasForward, IsForward, IsRequest, SaysForward, completion_of};
+ghost use Rattle.forwarder.specs.declared.config.Config.{Config as ForwardConfig};
 ghost use Rattle.command_line.specs.CommandLine.{HasOnce, IsMistake, IsMisuse, IsOnce, SaysOnce};
 
 use clap::error::ErrorKind;
@@ -46,8 +49,8 @@ static FORMATS: [&str; 2] = ["read", "back"];
 /// What the words ask for.
 #[derive(Clone, Copy)]
 pub enum Asked<'a> {
-    /// What `commands` does.
-    Command(Request<'a>),
+    /// A request of `commands`.
+    Request(Request<'a>),
     /// To forward the script of standard input.
     Forward(Config),
 }
@@ -56,11 +59,13 @@ pub enum Asked<'a> {
 /// also how help is asked for.
 pub fn asked_of<'a>(alloc: Global, words: &'a [String]) -> Result<Asked<'a>, Error>
     ensures once { (digits : List ℕ) → SaysOnce (map string_bytes words.entry.now) digits
-        → MatchResult result (λ r. IsOnce r digits) (λ e. kind_of e ≡ OutOfMemory) }
+        → MatchResult result (IsRequest (λ r. IsOnce r digits)) (λ e. kind_of e ≡ OutOfMemory) }
     ensures decode { (form : Form) (digits : List ℕ) → SaysDecode (map string_bytes words.entry.now) form digits
-        → MatchResult result (λ r. IsDecode r form digits) (λ e. kind_of e ≡ OutOfMemory) }
+        → MatchResult result (IsRequest (λ r. IsDecode r form digits)) (λ e. kind_of e ≡ OutOfMemory) }
     ensures replay { (plan : QueuePlan) → SaysReplay (map string_bytes words.entry.now) plan
-        → MatchResult result (λ r. IsReplayOf r plan) (λ e. kind_of e ≡ OutOfMemory) }
+        → MatchResult result (IsRequest (λ r. IsReplayOf r plan)) (λ e. kind_of e ≡ OutOfMemory) }
+    ensures forward { (config : ForwardConfig) → SaysForward (map string_bytes words.entry.now) config
+        → MatchResult result (λ a. IsForward a config) (λ e. kind_of e ≡ OutOfMemory) }
     ensures misuse { IsMisuse (map string_bytes words.entry.now)
         → IsErrAnd result (λ e. (kind_of e ≡ OutOfMemory) ⊎ IsMistake (kind_of e)) }
 {
@@ -75,17 +80,20 @@ pub fn asked_of<'a>(alloc: Global, words: &'a [String]) -> Result<Asked<'a>, Err
 /// What is asked for in matches of the program's command line.
 fn asked_in<'a>(matches: &ArgMatches<'a>) -> Option<Asked<'a>>
     ensures once { (rows : List Row) (digits : Text) → subcommand_rows_of matches.now ≡ Some (codes "once", rows)
-        → HasOnce rows digits → IsSomeAnd result (λ r. IsOnce r digits) }
+        → HasOnce rows digits → IsSomeAnd result (IsRequest (λ r. IsOnce r digits)) }
     ensures decode { (rows : List Row) (form : Form) (digits : Text)
         → subcommand_rows_of matches.now ≡ Some (codes "decode", rows)
-        → HasDecode rows form digits → IsSomeAnd result (λ r. IsDecode r form digits) }
+        → HasDecode rows form digits → IsSomeAnd result (IsRequest (λ r. IsDecode r form digits)) }
     ensures replay { (rows : List Row) (plan : QueuePlan) → subcommand_rows_of matches.now ≡ Some (codes "replay", rows)
-        → HasReplay rows plan → IsSomeAnd result (λ r. IsReplayOf r plan) }
+        → HasReplay rows plan → IsSomeAnd result (IsRequest (λ r. IsReplayOf r plan)) }
+    ensures forward { (rows : List Row) (config : ForwardConfig)
+        → subcommand_rows_of matches.now ≡ Some (codes "forward", rows)
+        → HasForward rows config → IsSomeAnd result (λ a. IsForward a config) }
 {
     match matches.subcommand()? {
-        ("once", once) => Some(Asked::Command(once_in(once)?)),
-        ("decode", decode) => Some(Asked::Command(decode_in(decode)?)),
-        ("replay", replay) => Some(Asked::Command(replay_in(replay)?)),
+        ("once", once) => Some(Asked::Request(once_in(once)?)),
+        ("decode", decode) => Some(Asked::Request(decode_in(decode)?)),
+        ("replay", replay) => Some(Asked::Request(replay_in(replay)?)),
         ("forward", forward) => Some(Asked::Forward(config_in(forward)?)),
         _ => None,
     }
@@ -130,24 +138,29 @@ fn replay_in<'a>(replay: &ArgMatches<'a>) -> Option<Request<'a>>
 }
 
 /// The configuration in matches of `forward`.
-fn config_in<'a>(forward: &ArgMatches<'a>) -> Option<Config> {
+fn config_in<'a>(forward: &ArgMatches<'a>) -> Option<Config>
+    ensures { (config : ForwardConfig) → HasForward (rows_of (found_of forward.now)) config → result ≡ Some config }
+{
     Some(Config {
         pairs: forward.get_one("pairs")?,
         ring: forward.get_one("ring")?,
-        batch: forward.get_one("batch")?,
         buffers: forward.get_one("buffers")?,
         bsize: forward.get_one("bsize")?,
+        batch: forward.get_one("batch")?,
         rs_every: forward.get_one("rs-every")?,
-        drop_en: forward.get_flag("drop"),
-        retry: !forward.get_flag("no-retry"),
         workers: forward.get_one("workers")?,
         turns: forward.get_one("turns")?,
+        drop_en: forward.get_flag("drop"),
+        retry: !forward.get_flag("no-retry"),
         completion: completion_in(forward),
     })
 }
 
 /// How transmit queues report, in matches of a command with the flag `head`.
-fn completion_in<'a>(matches: &ArgMatches<'a>) -> Completion {
+fn completion_in<'a>(matches: &ArgMatches<'a>) -> Completion
+    ensures { (by_head : Bool) → one_of (codes "head") (rows_of (found_of matches.now)) ≡ Some (bool_text by_head)
+        → result ≡ completion_of by_head }
+{
     if matches.get_flag("head") {
         Completion::Head
     } else {
@@ -255,7 +268,10 @@ fn forward<'a>(alloc: Global) -> Result<Command<'a>, AllocError>
 }
 
 /// A command with the options of `forward` for queues and buffers.
-fn with_queues<'a>(alloc: Global, command: Command<'a>) -> Result<Command<'a>, AllocError> {
+fn with_queues<'a>(alloc: Global, command: Command<'a>) -> Result<Command<'a>, AllocError>
+    ensures app { IfOk result (λ c. app_of c ≡ with_queue_rules (app_of command.entry)) }
+    ensures local { IfOk result (λ c. (out-Command c).has_globals ≡ (out-Command command.entry).has_globals) }
+{
     let pairs = number(alloc, "pairs", "1", "How many queue pairs each port has, 1 to 8");
     let ring = number(alloc, "ring", "512", "How many descriptors each ring has, a power of two from 8 to 4,096");
     let buffers = number(alloc, "buffers", "4096", "How many buffers there are, 16 to 65,536, and at least 32 for each queue pair");
@@ -264,7 +280,10 @@ fn with_queues<'a>(alloc: Global, command: Command<'a>) -> Result<Command<'a>, A
 }
 
 /// A command with the options of `forward` for its workers.
-fn with_work<'a>(alloc: Global, command: Command<'a>) -> Result<Command<'a>, AllocError> {
+fn with_work<'a>(alloc: Global, command: Command<'a>) -> Result<Command<'a>, AllocError>
+    ensures app { IfOk result (λ c. app_of c ≡ with_work_rules (app_of command.entry)) }
+    ensures local { IfOk result (λ c. (out-Command c).has_globals ≡ (out-Command command.entry).has_globals) }
+{
     let batch = number(alloc, "batch", "32", "The most packets that a driver takes at once, 1 to 32");
     let rs_every = number(alloc, "rs-every", "32", "After how many frames a driver asks for a report, 1 to 4,096");
     let workers = number(alloc, "workers", "1", "How many threads of drivers and of controllers there are each, 1 to two a queue pair");
