@@ -141,18 +141,29 @@ fn replay_in<'a>(replay: &ArgMatches<'a>) -> Option<Request<'a>>
 fn config_in<'a>(forward: &ArgMatches<'a>) -> Option<Config>
     ensures { (config : ForwardConfig) → HasForward (rows_of (found_of forward.now)) config → result ≡ Some config }
 {
+    let pairs = forward.get_one("pairs")?;
+    let ring = forward.get_one("ring")?;
+    let buffers = forward.get_one("buffers")?;
+    let bsize = forward.get_one("bsize")?;
+    let batch = forward.get_one("batch")?;
+    let rs_every = forward.get_one("rs-every")?;
+    let workers = forward.get_one("workers")?;
+    let turns = forward.get_one("turns")?;
+    let drop_en = forward.get_flag("drop");
+    let retry = !forward.get_flag("no-retry");
+    let completion = completion_in(forward);
     Some(Config {
-        pairs: forward.get_one("pairs")?,
-        ring: forward.get_one("ring")?,
-        buffers: forward.get_one("buffers")?,
-        bsize: forward.get_one("bsize")?,
-        batch: forward.get_one("batch")?,
-        rs_every: forward.get_one("rs-every")?,
-        workers: forward.get_one("workers")?,
-        turns: forward.get_one("turns")?,
-        drop_en: forward.get_flag("drop"),
-        retry: !forward.get_flag("no-retry"),
-        completion: completion_in(forward),
+        pairs,
+        ring,
+        batch,
+        buffers,
+        bsize,
+        rs_every,
+        drop_en,
+        retry,
+        workers,
+        turns,
+        completion,
     })
 }
 

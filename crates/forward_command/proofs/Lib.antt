@@ -1,3 +1,3 @@
 mod Lines
 mod Refusing
-mod Endings
+pub mod Endings
