@@ -1,6 +1,6 @@
 -- Why a script is not forwarded.
 use Rattle.std.proofs.Common.{◌≡◌, ℕ, List, true, false, inl, inr, refl, subst, sym}
-use Rattle.std.specs.Prelude.{◌⊎◌, Ok}
+use Rattle.std.specs.Prelude.{◌⊎◌, Result, Ok, Err}
 use Rattle.flows.specs.declared.report.FlowReport.{FlowReport}
 use Rattle.forwarding.specs.declared.error.ForwardError.{ForwardError}
 use Rattle.forwarding.specs.declared.error.ForwardError.TheVariants as forward
@@ -35,3 +35,8 @@ by-forward config text script forward.Gate says unfit (inr fits) gate halted = l
 -- and want of memory for its text
 pub by-text : (config : Config) (text : List ℕ) (flows : List FlowReport) (e : Refusal) → e ≡ refusal.Memory → HasReport config text flows → ForwardRefused config text e
 by-text config text flows e is report = subst (ForwardRefused config text) (sym is) (report.script, report.forwardable)
+
+-- a forwarding that was not refused for its configuration began with one that fits
+pub fits-then : {A : Type 0} (x : A) (P : Type 0) → ◌≡◌ {A = Result A ForwardError} (Ok x) (Err forward.Config) ⊎ P → P
+fits-then x P (inl bad) = cc bad
+fits-then x P (inr fits) = fits
