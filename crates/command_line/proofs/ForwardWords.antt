@@ -301,7 +301,7 @@ number_stands which (Some word) h us number stands new = record {
       ∙ rows-used us (number_id which) (reading_by (number_at which)) (word ∷ []));
   settles = number_settles which word h
       ∙ ap₂ (λ a b. (not a || false) && (b && true))
-        (ap (has_row (number_id which)) stands.rows ∙ absent-in (number_id which) us new) (number_accepted which word number);
+      (ap (has_row (number_id which)) stands.rows ∙ absent-in (number_id which) us new) (number_accepted which word number);
 }
 
 flag_rows : (which : Flag) (h : Held) → (settled rules (after_flag which true h)).rows
@@ -588,7 +588,7 @@ value_pairs s None is =
     let uses : uses_head s ≡ [] ++ number_use pairs None ∷ (number_use ring s.ring ∷ number_use buffers s.buffers ∷ number_use bsize s.bsize ∷ number_use batch s.batch ∷ number_use rs_every s.rs_every ∷ number_use workers s.workers ∷ number_use turns s.turns ∷ flag_use drop_en s.drop_en ∷ flag_use no_retry s.no_retry ∷ flag_use head s.head ∷ []) = ap (λ (o : Option Text). [] ++ number_use pairs o ∷ (number_use ring s.ring ∷ number_use buffers s.buffers ∷ number_use bsize s.bsize ∷ number_use batch s.batch ∷ number_use rs_every s.rs_every ∷ number_use workers s.workers ∷ number_use turns s.turns ∷ flag_use drop_en s.drop_en ∷ flag_use no_retry s.no_retry ∷ flag_use head s.head ∷ [])) is in
     ap (λ (us : List OptionUse). one_of (number_id pairs) (fold with_default (rows_in us) rules)) uses
     ∙ ap (option_and_then row_text) (default-found (take 0 rules) (number_at pairs) (drop 1 rules) _ (default_word pairs) []
-      (absent-use [] (number_use ring s.ring ∷ number_use buffers s.buffers ∷ number_use bsize s.bsize ∷ number_use batch s.batch ∷ number_use rs_every s.rs_every ∷ number_use workers s.workers ∷ number_use turns s.turns ∷ flag_use drop_en s.drop_en ∷ flag_use no_retry s.no_retry ∷ flag_use head s.head ∷ []) (number_id pairs) (reading_by (number_at pairs)) refl refl) refl refl refl)
+    (absent-use [] (number_use ring s.ring ∷ number_use buffers s.buffers ∷ number_use bsize s.bsize ∷ number_use batch s.batch ∷ number_use rs_every s.rs_every ∷ number_use workers s.workers ∷ number_use turns s.turns ∷ flag_use drop_en s.drop_en ∷ flag_use no_retry s.no_retry ∷ flag_use head s.head ∷ []) (number_id pairs) (reading_by (number_at pairs)) refl refl) refl refl refl)
 
 value_ring : (s : Said) (o : Option Text) → s.ring ≡ o → one_of (number_id ring) (at_last s) ≡ Some (number_said (default_word ring) o)
 value_ring s (Some word) is =
@@ -599,7 +599,7 @@ value_ring s None is =
     let uses : uses_head s ≡ (uses_pairs s) ++ number_use ring None ∷ (number_use buffers s.buffers ∷ number_use bsize s.bsize ∷ number_use batch s.batch ∷ number_use rs_every s.rs_every ∷ number_use workers s.workers ∷ number_use turns s.turns ∷ flag_use drop_en s.drop_en ∷ flag_use no_retry s.no_retry ∷ flag_use head s.head ∷ []) = ap (λ (o : Option Text). (uses_pairs s) ++ number_use ring o ∷ (number_use buffers s.buffers ∷ number_use bsize s.bsize ∷ number_use batch s.batch ∷ number_use rs_every s.rs_every ∷ number_use workers s.workers ∷ number_use turns s.turns ∷ flag_use drop_en s.drop_en ∷ flag_use no_retry s.no_retry ∷ flag_use head s.head ∷ [])) is in
     ap (λ (us : List OptionUse). one_of (number_id ring) (fold with_default (rows_in us) rules)) uses
     ∙ ap (option_and_then row_text) (default-found (take 1 rules) (number_at ring) (drop 2 rules) _ (default_word ring) []
-      (absent-use (uses_pairs s) (number_use buffers s.buffers ∷ number_use bsize s.bsize ∷ number_use batch s.batch ∷ number_use rs_every s.rs_every ∷ number_use workers s.workers ∷ number_use turns s.turns ∷ flag_use drop_en s.drop_en ∷ flag_use no_retry s.no_retry ∷ flag_use head s.head ∷ []) (number_id ring) (reading_by (number_at ring)) refl refl) refl refl refl)
+    (absent-use (uses_pairs s) (number_use buffers s.buffers ∷ number_use bsize s.bsize ∷ number_use batch s.batch ∷ number_use rs_every s.rs_every ∷ number_use workers s.workers ∷ number_use turns s.turns ∷ flag_use drop_en s.drop_en ∷ flag_use no_retry s.no_retry ∷ flag_use head s.head ∷ []) (number_id ring) (reading_by (number_at ring)) refl refl) refl refl refl)
 
 value_buffers : (s : Said) (o : Option Text) → s.buffers ≡ o → one_of (number_id buffers) (at_last s) ≡ Some (number_said (default_word buffers) o)
 value_buffers s (Some word) is =
@@ -610,7 +610,7 @@ value_buffers s None is =
     let uses : uses_head s ≡ (uses_ring s) ++ number_use buffers None ∷ (number_use bsize s.bsize ∷ number_use batch s.batch ∷ number_use rs_every s.rs_every ∷ number_use workers s.workers ∷ number_use turns s.turns ∷ flag_use drop_en s.drop_en ∷ flag_use no_retry s.no_retry ∷ flag_use head s.head ∷ []) = ap (λ (o : Option Text). (uses_ring s) ++ number_use buffers o ∷ (number_use bsize s.bsize ∷ number_use batch s.batch ∷ number_use rs_every s.rs_every ∷ number_use workers s.workers ∷ number_use turns s.turns ∷ flag_use drop_en s.drop_en ∷ flag_use no_retry s.no_retry ∷ flag_use head s.head ∷ [])) is in
     ap (λ (us : List OptionUse). one_of (number_id buffers) (fold with_default (rows_in us) rules)) uses
     ∙ ap (option_and_then row_text) (default-found (take 2 rules) (number_at buffers) (drop 3 rules) _ (default_word buffers) []
-      (absent-use (uses_ring s) (number_use bsize s.bsize ∷ number_use batch s.batch ∷ number_use rs_every s.rs_every ∷ number_use workers s.workers ∷ number_use turns s.turns ∷ flag_use drop_en s.drop_en ∷ flag_use no_retry s.no_retry ∷ flag_use head s.head ∷ []) (number_id buffers) (reading_by (number_at buffers)) refl refl) refl refl refl)
+    (absent-use (uses_ring s) (number_use bsize s.bsize ∷ number_use batch s.batch ∷ number_use rs_every s.rs_every ∷ number_use workers s.workers ∷ number_use turns s.turns ∷ flag_use drop_en s.drop_en ∷ flag_use no_retry s.no_retry ∷ flag_use head s.head ∷ []) (number_id buffers) (reading_by (number_at buffers)) refl refl) refl refl refl)
 
 value_bsize : (s : Said) (o : Option Text) → s.bsize ≡ o → one_of (number_id bsize) (at_last s) ≡ Some (number_said (default_word bsize) o)
 value_bsize s (Some word) is =
@@ -621,7 +621,7 @@ value_bsize s None is =
     let uses : uses_head s ≡ (uses_buffers s) ++ number_use bsize None ∷ (number_use batch s.batch ∷ number_use rs_every s.rs_every ∷ number_use workers s.workers ∷ number_use turns s.turns ∷ flag_use drop_en s.drop_en ∷ flag_use no_retry s.no_retry ∷ flag_use head s.head ∷ []) = ap (λ (o : Option Text). (uses_buffers s) ++ number_use bsize o ∷ (number_use batch s.batch ∷ number_use rs_every s.rs_every ∷ number_use workers s.workers ∷ number_use turns s.turns ∷ flag_use drop_en s.drop_en ∷ flag_use no_retry s.no_retry ∷ flag_use head s.head ∷ [])) is in
     ap (λ (us : List OptionUse). one_of (number_id bsize) (fold with_default (rows_in us) rules)) uses
     ∙ ap (option_and_then row_text) (default-found (take 3 rules) (number_at bsize) (drop 4 rules) _ (default_word bsize) []
-      (absent-use (uses_buffers s) (number_use batch s.batch ∷ number_use rs_every s.rs_every ∷ number_use workers s.workers ∷ number_use turns s.turns ∷ flag_use drop_en s.drop_en ∷ flag_use no_retry s.no_retry ∷ flag_use head s.head ∷ []) (number_id bsize) (reading_by (number_at bsize)) refl refl) refl refl refl)
+    (absent-use (uses_buffers s) (number_use batch s.batch ∷ number_use rs_every s.rs_every ∷ number_use workers s.workers ∷ number_use turns s.turns ∷ flag_use drop_en s.drop_en ∷ flag_use no_retry s.no_retry ∷ flag_use head s.head ∷ []) (number_id bsize) (reading_by (number_at bsize)) refl refl) refl refl refl)
 
 value_batch : (s : Said) (o : Option Text) → s.batch ≡ o → one_of (number_id batch) (at_last s) ≡ Some (number_said (default_word batch) o)
 value_batch s (Some word) is =
@@ -632,7 +632,7 @@ value_batch s None is =
     let uses : uses_head s ≡ (uses_bsize s) ++ number_use batch None ∷ (number_use rs_every s.rs_every ∷ number_use workers s.workers ∷ number_use turns s.turns ∷ flag_use drop_en s.drop_en ∷ flag_use no_retry s.no_retry ∷ flag_use head s.head ∷ []) = ap (λ (o : Option Text). (uses_bsize s) ++ number_use batch o ∷ (number_use rs_every s.rs_every ∷ number_use workers s.workers ∷ number_use turns s.turns ∷ flag_use drop_en s.drop_en ∷ flag_use no_retry s.no_retry ∷ flag_use head s.head ∷ [])) is in
     ap (λ (us : List OptionUse). one_of (number_id batch) (fold with_default (rows_in us) rules)) uses
     ∙ ap (option_and_then row_text) (default-found (take 4 rules) (number_at batch) (drop 5 rules) _ (default_word batch) []
-      (absent-use (uses_bsize s) (number_use rs_every s.rs_every ∷ number_use workers s.workers ∷ number_use turns s.turns ∷ flag_use drop_en s.drop_en ∷ flag_use no_retry s.no_retry ∷ flag_use head s.head ∷ []) (number_id batch) (reading_by (number_at batch)) refl refl) refl refl refl)
+    (absent-use (uses_bsize s) (number_use rs_every s.rs_every ∷ number_use workers s.workers ∷ number_use turns s.turns ∷ flag_use drop_en s.drop_en ∷ flag_use no_retry s.no_retry ∷ flag_use head s.head ∷ []) (number_id batch) (reading_by (number_at batch)) refl refl) refl refl refl)
 
 value_rs_every : (s : Said) (o : Option Text) → s.rs_every ≡ o → one_of (number_id rs_every) (at_last s) ≡ Some (number_said (default_word rs_every) o)
 value_rs_every s (Some word) is =
@@ -643,7 +643,7 @@ value_rs_every s None is =
     let uses : uses_head s ≡ (uses_batch s) ++ number_use rs_every None ∷ (number_use workers s.workers ∷ number_use turns s.turns ∷ flag_use drop_en s.drop_en ∷ flag_use no_retry s.no_retry ∷ flag_use head s.head ∷ []) = ap (λ (o : Option Text). (uses_batch s) ++ number_use rs_every o ∷ (number_use workers s.workers ∷ number_use turns s.turns ∷ flag_use drop_en s.drop_en ∷ flag_use no_retry s.no_retry ∷ flag_use head s.head ∷ [])) is in
     ap (λ (us : List OptionUse). one_of (number_id rs_every) (fold with_default (rows_in us) rules)) uses
     ∙ ap (option_and_then row_text) (default-found (take 5 rules) (number_at rs_every) (drop 6 rules) _ (default_word rs_every) []
-      (absent-use (uses_batch s) (number_use workers s.workers ∷ number_use turns s.turns ∷ flag_use drop_en s.drop_en ∷ flag_use no_retry s.no_retry ∷ flag_use head s.head ∷ []) (number_id rs_every) (reading_by (number_at rs_every)) refl refl) refl refl refl)
+    (absent-use (uses_batch s) (number_use workers s.workers ∷ number_use turns s.turns ∷ flag_use drop_en s.drop_en ∷ flag_use no_retry s.no_retry ∷ flag_use head s.head ∷ []) (number_id rs_every) (reading_by (number_at rs_every)) refl refl) refl refl refl)
 
 value_workers : (s : Said) (o : Option Text) → s.workers ≡ o → one_of (number_id workers) (at_last s) ≡ Some (number_said (default_word workers) o)
 value_workers s (Some word) is =
@@ -654,7 +654,7 @@ value_workers s None is =
     let uses : uses_head s ≡ (uses_rs_every s) ++ number_use workers None ∷ (number_use turns s.turns ∷ flag_use drop_en s.drop_en ∷ flag_use no_retry s.no_retry ∷ flag_use head s.head ∷ []) = ap (λ (o : Option Text). (uses_rs_every s) ++ number_use workers o ∷ (number_use turns s.turns ∷ flag_use drop_en s.drop_en ∷ flag_use no_retry s.no_retry ∷ flag_use head s.head ∷ [])) is in
     ap (λ (us : List OptionUse). one_of (number_id workers) (fold with_default (rows_in us) rules)) uses
     ∙ ap (option_and_then row_text) (default-found (take 6 rules) (number_at workers) (drop 7 rules) _ (default_word workers) []
-      (absent-use (uses_rs_every s) (number_use turns s.turns ∷ flag_use drop_en s.drop_en ∷ flag_use no_retry s.no_retry ∷ flag_use head s.head ∷ []) (number_id workers) (reading_by (number_at workers)) refl refl) refl refl refl)
+    (absent-use (uses_rs_every s) (number_use turns s.turns ∷ flag_use drop_en s.drop_en ∷ flag_use no_retry s.no_retry ∷ flag_use head s.head ∷ []) (number_id workers) (reading_by (number_at workers)) refl refl) refl refl refl)
 
 value_turns : (s : Said) (o : Option Text) → s.turns ≡ o → one_of (number_id turns) (at_last s) ≡ Some (number_said (default_word turns) o)
 value_turns s (Some word) is =
@@ -665,7 +665,7 @@ value_turns s None is =
     let uses : uses_head s ≡ (uses_workers s) ++ number_use turns None ∷ (flag_use drop_en s.drop_en ∷ flag_use no_retry s.no_retry ∷ flag_use head s.head ∷ []) = ap (λ (o : Option Text). (uses_workers s) ++ number_use turns o ∷ (flag_use drop_en s.drop_en ∷ flag_use no_retry s.no_retry ∷ flag_use head s.head ∷ [])) is in
     ap (λ (us : List OptionUse). one_of (number_id turns) (fold with_default (rows_in us) rules)) uses
     ∙ ap (option_and_then row_text) (default-found (take 7 rules) (number_at turns) (drop 8 rules) _ (default_word turns) []
-      (absent-use (uses_workers s) (flag_use drop_en s.drop_en ∷ flag_use no_retry s.no_retry ∷ flag_use head s.head ∷ []) (number_id turns) (reading_by (number_at turns)) refl refl) refl refl refl)
+    (absent-use (uses_workers s) (flag_use drop_en s.drop_en ∷ flag_use no_retry s.no_retry ∷ flag_use head s.head ∷ []) (number_id turns) (reading_by (number_at turns)) refl refl) refl refl refl)
 
 value_drop_en : (s : Said) (b : Bool) → s.drop_en ≡ b → one_of (flag_id drop_en) (at_last s) ≡ Some (bool_text b)
 value_drop_en s true is =
@@ -676,7 +676,7 @@ value_drop_en s false is =
     let uses : uses_head s ≡ (uses_turns s) ++ flag_use drop_en false ∷ (flag_use no_retry s.no_retry ∷ flag_use head s.head ∷ []) = ap (λ (b : Bool). (uses_turns s) ++ flag_use drop_en b ∷ (flag_use no_retry s.no_retry ∷ flag_use head s.head ∷ [])) is in
     ap (λ (us : List OptionUse). one_of (flag_id drop_en) (fold with_default (rows_in us) rules)) uses
     ∙ ap (option_and_then row_text) (default-found (take 8 rules) (flag_at drop_en) (drop 9 rules) _ (codes "false") []
-      (absent-use (uses_turns s) (flag_use no_retry s.no_retry ∷ flag_use head s.head ∷ []) (flag_id drop_en) (reading_by (flag_at drop_en)) refl refl) refl refl refl)
+    (absent-use (uses_turns s) (flag_use no_retry s.no_retry ∷ flag_use head s.head ∷ []) (flag_id drop_en) (reading_by (flag_at drop_en)) refl refl) refl refl refl)
 
 value_no_retry : (s : Said) (b : Bool) → s.no_retry ≡ b → one_of (flag_id no_retry) (at_last s) ≡ Some (bool_text b)
 value_no_retry s true is =
@@ -687,7 +687,7 @@ value_no_retry s false is =
     let uses : uses_head s ≡ (uses_drop_en s) ++ flag_use no_retry false ∷ (flag_use head s.head ∷ []) = ap (λ (b : Bool). (uses_drop_en s) ++ flag_use no_retry b ∷ (flag_use head s.head ∷ [])) is in
     ap (λ (us : List OptionUse). one_of (flag_id no_retry) (fold with_default (rows_in us) rules)) uses
     ∙ ap (option_and_then row_text) (default-found (take 9 rules) (flag_at no_retry) (drop 10 rules) _ (codes "false") []
-      (absent-use (uses_drop_en s) (flag_use head s.head ∷ []) (flag_id no_retry) (reading_by (flag_at no_retry)) refl refl) refl refl refl)
+    (absent-use (uses_drop_en s) (flag_use head s.head ∷ []) (flag_id no_retry) (reading_by (flag_at no_retry)) refl refl) refl refl refl)
 
 value_head : (s : Said) (b : Bool) → s.head ≡ b → one_of (flag_id head) (at_last s) ≡ Some (bool_text b)
 value_head s true is =
@@ -698,7 +698,7 @@ value_head s false is =
     let uses : uses_head s ≡ (uses_no_retry s) ++ flag_use head false ∷ ([]) = ap (λ (b : Bool). (uses_no_retry s) ++ flag_use head b ∷ ([])) is in
     ap (λ (us : List OptionUse). one_of (flag_id head) (fold with_default (rows_in us) rules)) uses
     ∙ ap (option_and_then row_text) (default-found (take 10 rules) (flag_at head) (drop 11 rules) _ (codes "false") []
-      (absent-use (uses_no_retry s) ([]) (flag_id head) (reading_by (flag_at head)) refl refl) refl refl refl)
+    (absent-use (uses_no_retry s) ([]) (flag_id head) (reading_by (flag_at head)) refl refl) refl refl refl)
 
 -- ---- the command
 
@@ -860,14 +860,14 @@ words_of : (words : List Text) (config : Config) (says : SaysForward words confi
 words_of words config says are =
     let flags : List Text = words_drop_en (said_by words config says are) in
     let work : says.batch ++ (says.rs_every ++ (says.workers ++ (says.turns ++ flags))) ≡ words_batch (said_by words config says are) =
-        ap₂ (λ (a b : List Text). a ++ b) are.batch.words_are
-        (ap₂ (λ (a b : List Text). a ++ b) are.rs_every.words_are
-        (ap₂ (λ (a b : List Text). a ++ b) are.workers.words_are (ap (λ (a : List Text). a ++ flags) are.turns.words_are))) in
+    ap₂ (λ (a b : List Text). a ++ b) are.batch.words_are
+    (ap₂ (λ (a b : List Text). a ++ b) are.rs_every.words_are
+    (ap₂ (λ (a b : List Text). a ++ b) are.workers.words_are (ap (λ (a : List Text). a ++ flags) are.turns.words_are))) in
     says.words_are
     ∙ ap (λ (a : List Text). codes "forward" ∷ a)
-      (ap₂ (λ (a b : List Text). a ++ b) are.pairs.words_are
-      (ap₂ (λ (a b : List Text). a ++ b) are.ring.words_are
-      (ap₂ (λ (a b : List Text). a ++ b) are.buffers.words_are (ap₂ (λ (a b : List Text). a ++ b) are.bsize.words_are work))))
+    (ap₂ (λ (a b : List Text). a ++ b) are.pairs.words_are
+    (ap₂ (λ (a b : List Text). a ++ b) are.ring.words_are
+    (ap₂ (λ (a b : List Text). a ++ b) are.buffers.words_are (ap₂ (λ (a b : List Text). a ++ b) are.bsize.words_are work))))
 
 pub forward_taken : (app : App) (words : List Text) (config : Config) → IsProgram app → SaysForward words config → takes app words ≡ true
 forward_taken app words config program says =

@@ -147,6 +147,7 @@ keeps-found id a rows r is = by-has (has_row a.id rows) refl
     by-defaults (v ∷ vs) no =
         ap (found id) (used-absent a.id (reading_by a) DefaultValue (v ∷ vs) rows no)
         ∙ found-earlier id rows (row a.id (reading_by a) DefaultValue (v ∷ vs) ∷ []) r is
+
     by-has : (b : Bool) → has_row a.id rows ≡ b → found id (if b then rows else default_rows a.id (reading_by a) a.defaults rows) ≡ Some r
     by-has true yes = is
     by-has false no = by-defaults a.defaults no
@@ -164,6 +165,7 @@ skips id a rows absent other = by-has (has_row a.id rows) refl
     by-defaults (v ∷ vs) no =
         ap (has_row id) (used-absent a.id (reading_by a) DefaultValue (v ∷ vs) rows no)
         ∙ has_row-append id rows (row a.id (reading_by a) DefaultValue (v ∷ vs) ∷ []) absent (both-false (bytes_eq a.id id) false other refl)
+
     by-has : (b : Bool) → has_row a.id rows ≡ b → has_row id (if b then rows else default_rows a.id (reading_by a) a.defaults rows) ≡ false
     by-has true yes = absent
     by-has false no = by-defaults a.defaults no

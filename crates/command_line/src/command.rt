@@ -267,11 +267,25 @@ fn forward<'a>(alloc: Global) -> Result<Command<'a>, AllocError>
     ensures app { IfOk result (λ c. app_of c ≡ forward_app) }
     ensures local { IfOk result (λ c. (out-Command c).has_globals ≡ false) }
 {
-    let drop = flag(alloc, "drop", "Drops a frame for which a receive ring has too few free descriptors (default: holds it)");
-    let no_retry = flag(alloc, "no-retry", "Drops packets for which a transmit ring has no room (default: keeps them)");
-    let head = flag(alloc, "head", "Reports what was sent by a head word (default: in the descriptors)");
+    let drop = flag(
+        alloc,
+        "drop",
+        "Drops a frame for which a receive ring has too few free descriptors (default: holds it)",
+    );
+    let no_retry = flag(
+        alloc,
+        "no-retry",
+        "Drops packets for which a transmit ring has no room (default: keeps them)",
+    );
+    let head = flag(
+        alloc,
+        "head",
+        "Reports what was sent by a head word (default: in the descriptors)",
+    );
     with_work(alloc, with_queues(alloc, Command::new(alloc, "forward"))?)?
-        .about("Forwards the frames of standard input, one a line, between two ports, and prints the wires and the flows")
+        .about(
+            "Forwards the frames of standard input, one a line, between two ports, and prints the wires and the flows",
+        )
         .after_help(FORWARD_EXAMPLES)
         .arg(drop)?
         .arg(no_retry)?
@@ -283,10 +297,30 @@ fn with_queues<'a>(alloc: Global, command: Command<'a>) -> Result<Command<'a>, A
     ensures app { IfOk result (λ c. app_of c ≡ with_queue_rules (app_of command.entry)) }
     ensures local { IfOk result (λ c. (out-Command c).has_globals ≡ (out-Command command.entry).has_globals) }
 {
-    let pairs = number(alloc, "pairs", "1", "How many queue pairs each port has, 1 to 8");
-    let ring = number(alloc, "ring", "512", "How many descriptors each ring has, a power of two from 8 to 4,096");
-    let buffers = number(alloc, "buffers", "4096", "How many buffers there are, 16 to 65,536, and at least 32 for each queue pair");
-    let bsize = number(alloc, "bsize", "2048", "To how many bytes a receive buffer is filled, 1,024 or 2,048");
+    let pairs = number(
+        alloc,
+        "pairs",
+        "1",
+        "How many queue pairs each port has, 1 to 8",
+    );
+    let ring = number(
+        alloc,
+        "ring",
+        "512",
+        "How many descriptors each ring has, a power of two from 8 to 4,096",
+    );
+    let buffers = number(
+        alloc,
+        "buffers",
+        "4096",
+        "How many buffers there are, 16 to 65,536, and at least 32 for each queue pair",
+    );
+    let bsize = number(
+        alloc,
+        "bsize",
+        "2048",
+        "To how many bytes a receive buffer is filled, 1,024 or 2,048",
+    );
     command.arg(pairs)?.arg(ring)?.arg(buffers)?.arg(bsize)
 }
 
@@ -295,10 +329,30 @@ fn with_work<'a>(alloc: Global, command: Command<'a>) -> Result<Command<'a>, All
     ensures app { IfOk result (λ c. app_of c ≡ with_work_rules (app_of command.entry)) }
     ensures local { IfOk result (λ c. (out-Command c).has_globals ≡ (out-Command command.entry).has_globals) }
 {
-    let batch = number(alloc, "batch", "32", "The most packets that a driver takes at once, 1 to 32");
-    let rs_every = number(alloc, "rs-every", "32", "After how many frames a driver asks for a report, 1 to 4,096");
-    let workers = number(alloc, "workers", "1", "How many threads of drivers and of controllers there are each, 1 to two a queue pair");
-    let turns = number(alloc, "turns", "0", "After how many turns of its driver a flow is cut, 0 to 4,294,967,295; 0 is never");
+    let batch = number(
+        alloc,
+        "batch",
+        "32",
+        "The most packets that a driver takes at once, 1 to 32",
+    );
+    let rs_every = number(
+        alloc,
+        "rs-every",
+        "32",
+        "After how many frames a driver asks for a report, 1 to 4,096",
+    );
+    let workers = number(
+        alloc,
+        "workers",
+        "1",
+        "How many threads of drivers and of controllers there are each, 1 to two a queue pair",
+    );
+    let turns = number(
+        alloc,
+        "turns",
+        "0",
+        "After how many turns of its driver a flow is cut, 0 to 4,294,967,295; 0 is never",
+    );
     command.arg(batch)?.arg(rs_every)?.arg(workers)?.arg(turns)
 }
 

@@ -26,8 +26,8 @@ wires-more port k flows r before after whole low here is grown =
     let mine : List Frame = map (frame_of port k) r.wire in
     let rest : List Frame = wires_from port (k + 1) (drop (k + 1) flows) in
     let first : text_for (wires_from port k (drop k flows)) ≡ text_for (mine ++ rest) =
-        at_drop_more (λ (rs : List FlowReport). text_for (wires_from port k rs)) flows k r low
-        ∙ ap (λ (q : FlowReport). text_for (wires_from port k (q ∷ drop (k + 1) flows))) (sym here) in
+    at_drop_more (λ (rs : List FlowReport). text_for (wires_from port k rs)) flows k r low
+    ∙ ap (λ (q : FlowReport). text_for (wires_from port k (q ∷ drop (k + 1) flows))) (sym here) in
     part-more (text_for mine) (text_for rest) before after whole
     (ap (λ (t : List ℕ). before ++ t) (sym (first ∙ flat_map-append line_for mine rest)) ∙ is) grown
 
@@ -45,7 +45,7 @@ pub flows-more : (port k : ℕ) (flows : List FlowReport) (r : FlowReport) (befo
 flows-more port k flows r before after whole low here is grown =
     let rest : List ℕ = flow_lines port (k + 1) (drop (k + 1) flows) in
     let first : flow_lines port k (drop k flows) ≡ flow_line port k r ++ rest =
-        at_drop_more (flow_lines port k) flows k r low ∙ ap (λ (q : FlowReport). flow_lines port k (q ∷ drop (k + 1) flows)) (sym here) in
+    at_drop_more (flow_lines port k) flows k r low ∙ ap (λ (q : FlowReport). flow_lines port k (q ∷ drop (k + 1) flows)) (sym here) in
     part-more (flow_line port k r) rest before after whole (ap (λ (t : List ℕ). before ++ t) (sym first) ∙ is) grown
 
 pub flows-all : (port k : ℕ) (flows : List FlowReport) (before whole : List ℕ) → length flows ≤ k
@@ -67,7 +67,7 @@ report-written pairs flows front back t t1 t2 t3 t4 front_is back_is none one tw
     let wire : t1 ≡ text_for a = one ∙ ap (λ (s : List ℕ). s ++ text_for a) none in
     let wires : t2 ≡ text_for (a ++ b) = two ∙ (ap (λ (s : List ℕ). s ++ text_for b) wire ∙ sym (flat_map-append line_for a b)) in
     let written : t4 ≡ text_for (a ++ b) ++ (c ++ d) =
-        four ∙ (ap (λ (s : List ℕ). s ++ d) (three ∙ ap (λ (s : List ℕ). s ++ c) wires) ∙ append_assoc (text_for (a ++ b)) c d) in
+    four ∙ (ap (λ (s : List ℕ). s ++ d) (three ∙ ap (λ (s : List ℕ). s ++ c) wires) ∙ append_assoc (text_for (a ++ b)) c d) in
     written
     ∙ (ap (λ (f : List FlowReport). text_for (wires_from 0 0 back ++ wires_from 1 0 f) ++ (flow_lines 0 0 f ++ flow_lines 1 0 back)) front_is
     ∙ ap (λ (g : List FlowReport). text_for (wires_from 0 0 g ++ wires_from 1 0 (take pairs flows)) ++ (flow_lines 0 0 (take pairs flows) ++ flow_lines 1 0 g)) back_is)

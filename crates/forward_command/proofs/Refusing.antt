@@ -30,7 +30,7 @@ by-forward config text script forward.Memory says unfit (inr fits) gate halted =
 by-forward config text script forward.Thread says unfit (inl bad) gate halted = cc bad
 by-forward config text script forward.Thread says unfit (inr fits) gate halted = (script, record { says = says; fits = fits })
 by-forward config text script forward.Gate says unfit (inl bad) gate halted = cc bad
-by-forward config text script forward.Gate says unfit (inr fits) gate halted = let open : false ≡ true = (halted fits).1.1 in cc open
+by-forward config text script forward.Gate says unfit (inr fits) gate halted = let never : false ≡ true = (halted fits).1.1 in cc never
 
 -- and want of memory for its text
 pub by-text : (config : Config) (text : List ℕ) (flows : List FlowReport) (e : Refusal) → e ≡ refusal.Memory → HasReport config text flows → ForwardRefused config text e

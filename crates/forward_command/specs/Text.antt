@@ -26,12 +26,12 @@ counted words n rest = words ++ (decimal n ++ rest)
 -- the line of the flow that came in at this port and queue
 unfoldable pub flow_line : ℕ → ℕ → FlowReport → List ℕ
 flow_line port queue r =
-    counted (codes "flow ") port (counted (codes " ") queue (
-    counted (codes " offered ") r.offered (counted (codes " stored ") r.stored (
-    counted (codes " dropped ") r.dropped (counted (codes " oversize ") r.oversize (
-    counted (codes " taken ") r.taken (counted (codes " posted ") r.posted (
-    counted (codes " tx-dropped ") r.tx_dropped (counted (codes " wire ") (length r.wire) (
-    counted (codes " left ") r.left (codes " ended " ++ (ended_word r.ended ++ 10 ∷ [])))))))))))
+    let ending : List ℕ = codes " ended " ++ (ended_word r.ended ++ 10 ∷ []) in
+    let sent : List ℕ = counted (codes " tx-dropped ") r.tx_dropped (counted (codes " wire ") (length r.wire) (counted (codes " left ") r.left ending)) in
+    let driven : List ℕ = counted (codes " taken ") r.taken (counted (codes " posted ") r.posted sent) in
+    let refused : List ℕ = counted (codes " dropped ") r.dropped (counted (codes " oversize ") r.oversize driven) in
+    let offered : List ℕ = counted (codes " offered ") r.offered (counted (codes " stored ") r.stored refused) in
+    counted (codes "flow ") port (counted (codes " ") queue offered)
 
 -- the lines of the flows that came in at a port, at its queues from this one on
 abbrev pub flow_lines : ℕ → ℕ → List FlowReport → List ℕ

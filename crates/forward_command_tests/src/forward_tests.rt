@@ -12,7 +12,8 @@ use std::thread::Threads;
 const LAST: u8 = 0x26;
 
 /// The line of the flow that has the 40 frames, and those of the others.
-const FLOWS: &str = "flow 0 0 offered 0 stored 0 dropped 0 oversize 0 taken 0 posted 0 tx-dropped 0 wire 0 left 0 ended drained\nflow 0 1 offered 40 stored 40 dropped 0 oversize 0 taken 40 posted 40 tx-dropped 0 wire 40 left 0 ended drained\nflow 1 0 offered 0 stored 0 dropped 0 oversize 0 taken 0 posted 0 tx-dropped 0 wire 0 left 0 ended drained\nflow 1 1 offered 0 stored 0 dropped 0 oversize 0 taken 0 posted 0 tx-dropped 0 wire 0 left 0 ended drained\n";
+const FLOWS: &str =
+    "flow 0 0 offered 0 stored 0 dropped 0 oversize 0 taken 0 posted 0 tx-dropped 0 wire 0 left 0 ended drained\nflow 0 1 offered 40 stored 40 dropped 0 oversize 0 taken 40 posted 40 tx-dropped 0 wire 40 left 0 ended drained\nflow 1 0 offered 0 stored 0 dropped 0 oversize 0 taken 0 posted 0 tx-dropped 0 wire 0 left 0 ended drained\nflow 1 1 offered 0 stored 0 dropped 0 oversize 0 taken 0 posted 0 tx-dropped 0 wire 0 left 0 ended drained\n";
 
 /// Options beside two pairs and rings of 8 that change nothing of what is printed.
 const SAME: &[&[&str]] = &[
@@ -95,9 +96,15 @@ fn forty_frames_are_printed_alike_whatever_the_workers(rt: HostRuntime) -> Resul
 #[test]
 fn a_flow_that_is_cut_says_so(rt: HostRuntime) -> Result<(), Fail> {
     let script = forty(rt.alloc())?;
-    let words = ["forward", "--pairs", "2", "--ring", "8", "--batch", "1", "--turns", "3"];
+    let words = [
+        "forward", "--pairs", "2", "--ring", "8", "--batch", "1", "--turns", "3",
+    ];
     let told = outcome_of(&rt, rt.alloc(), words.as_slice(), script.as_str())?;
     assert_eq!(rt; told.status, 0);
-    assert!(rt; told.output.contains(" ended cut\nflow 1 0 "), "{}", told.output);
+    assert!(rt;
+        told.output.contains(" ended cut\nflow 1 0 "),
+        "{}",
+        told.output
+    );
     Ok(())
 }

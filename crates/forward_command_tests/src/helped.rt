@@ -43,10 +43,19 @@ const WRONG: [(&[&str], &str); 6] = [
 
 /// Each refusal of a script and of a forwarding, and its line.
 const REFUSALS: [(Refusal, &str); 11] = [
-    (Refusal::Forward(ForwardError::Memory), "refused 61 memory\n"),
+    (
+        Refusal::Forward(ForwardError::Memory),
+        "refused 61 memory\n",
+    ),
     (Refusal::Forward(ForwardError::Gate), "refused 62 gate\n"),
-    (Refusal::Forward(ForwardError::Thread), "refused 63 thread\n"),
-    (Refusal::Forward(ForwardError::Config), "refused 64 config\n"),
+    (
+        Refusal::Forward(ForwardError::Thread),
+        "refused 63 thread\n",
+    ),
+    (
+        Refusal::Forward(ForwardError::Config),
+        "refused 64 config\n",
+    ),
     (
         Refusal::Script(ScriptError::Fields { line: 1 }),
         "line 1: refused 71 fields\n",
@@ -87,7 +96,10 @@ fn refusals_have_their_words(rt: HostRuntime) -> Result<(), Fail> {
 #[test]
 fn the_program_s_help_has_an_example(rt: HostRuntime) -> Result<(), Fail> {
     let told = outcome_of(&rt, rt.alloc(), ["--help"].as_slice(), "")?;
-    assert!(rt; told.output.contains("echo '0 0 fill 60 01' | poll82599 forward\n"));
+    assert!(rt;
+        told.output
+            .contains("echo '0 0 fill 60 01' | poll82599 forward\n")
+    );
     Ok(())
 }
 

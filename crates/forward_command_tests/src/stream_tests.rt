@@ -14,7 +14,8 @@ use std::thread::Threads;
 const SCRIPT: &str = "0 0 fill 14 05\n";
 
 /// What it prints.
-const PRINTED: &str = "1 0 0506050505050505050505050505\nflow 0 0 offered 1 stored 1 dropped 0 oversize 0 taken 1 posted 1 tx-dropped 0 wire 1 left 0 ended drained\nflow 1 0 offered 0 stored 0 dropped 0 oversize 0 taken 0 posted 0 tx-dropped 0 wire 0 left 0 ended drained\n";
+const PRINTED: &str =
+    "1 0 0506050505050505050505050505\nflow 0 0 offered 1 stored 1 dropped 0 oversize 0 taken 1 posted 1 tx-dropped 0 wire 1 left 0 ended drained\nflow 1 0 offered 0 stored 0 dropped 0 oversize 0 taken 0 posted 0 tx-dropped 0 wire 0 left 0 ended drained\n";
 
 /// A forwarding with these streams is refused so.
 fn is_refused<R: Abort + Threads + Wait + Sync, I: Read, W: Write>(
@@ -38,11 +39,23 @@ fn an_output_that_fails_has_a_beginning(rt: HostRuntime) -> Result<(), Fail> {
     for room in [0, 1, 32, 33, 34, 200, PRINTED.len() - 1] {
         let mut output = Narrow::new(rt.alloc(), room);
         let mut input = SCRIPT.as_bytes();
-        is_refused(&rt, rt.alloc(), &mut input, &mut output, "refused 84 output\n")?;
+        is_refused(
+            &rt,
+            rt.alloc(),
+            &mut input,
+            &mut output,
+            "refused 84 output\n",
+        )?;
         assert_eq!(rt; output.taken.as_slice(), &PRINTED.as_bytes()[..room]);
     }
     let mut input = SCRIPT.as_bytes();
-    is_refused(&rt, rt.alloc(), &mut input, &mut Unflushed, "refused 84 output\n")
+    is_refused(
+        &rt,
+        rt.alloc(),
+        &mut input,
+        &mut Unflushed,
+        "refused 84 output\n",
+    )
 }
 
 #[test]
@@ -52,7 +65,13 @@ fn an_input_that_fails_in_mid_stream_is_refused(rt: HostRuntime) -> Result<(), F
         let mut input = Broken {
             left: left.as_bytes(),
         };
-        is_refused(&rt, rt.alloc(), &mut input, &mut output, "refused 82 input\n")?;
+        is_refused(
+            &rt,
+            rt.alloc(),
+            &mut input,
+            &mut output,
+            "refused 82 input\n",
+        )?;
         assert!(rt; output.is_empty());
     }
     Ok(())

@@ -26,7 +26,7 @@ returns c plan has =
     let off = reads_flag (not plan.enabled) c.get_flag-enabled.result _ c.get_flag-enabled.ensures.value c.get_flag-enabled.ensures.other
     (text_is found (codes "off") _ has.off) in
     let completion : c.completion_in-completion.result ≡ plan.completion =
-        c.completion_in-completion.ensures (is_head plan.completion) has.head ∙ completion_is plan.completion in
+    c.completion_in-completion.ensures (is_head plan.completion) has.head ∙ completion_is plan.completion in
     plan_is plan c.in_ok-ring.ring c.in_ok-pairs.pairs (not c.get_flag-enabled.result) c.completion_in-completion.result
     (ap (λ (o : Option ℕ). unwrap_or o c.in_ok-pairs.pairs) pairs)
     (ap (λ (o : Option ℕ). unwrap_or o c.in_ok-ring.ring) ring)
