@@ -66,7 +66,9 @@ fn write_wire(
     ensures refused { IfErr result (λ e. e ≡ Memory) }
 {
     for frame in wire.iter() {
-        print_line(alloc, text, port, queue, frame).map_err(|_| Refusal::Memory)?;
+        let Ok(()) = print_line(alloc, text, port, queue, frame) else {
+            return Err(Refusal::Memory);
+        };
     }
     Ok(())
 }

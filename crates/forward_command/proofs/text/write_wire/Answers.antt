@@ -16,4 +16,4 @@ loop-frame-preserved c =
     frame-more c.args.port c.args.queue c.in-Some.frame.now rest
     (string_bytes c.loop-frame.text) (string_bytes c.print_line.new.text) _
     (ap (λ (it : _). string_bytes c.loop-frame.text ++ text_for (map (frame_of c.args.port c.args.queue) it)) (sym first) ∙ c.loop-frame.invariant)
-    c.in_ok-map_err.ensures
+    c.in-Ok.ensures.line
