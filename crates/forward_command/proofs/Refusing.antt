@@ -21,8 +21,9 @@ pub by-script : (config : Config) (text : List ℕ) (e : Refusal) (fault : Scrip
 by-script config text e fault is fails = subst (ForwardRefused config text) (sym is) fails
 
 -- the configuration, or what a forwarding wants that may begin
-pub by-forward : (config : Config) (text : List ℕ) (script : List Frame) (e : ForwardError) → script_of text ≡ Ok script
-    → (e ≡ forward.Config → ¬ (FitsIn script config)) → (e ≡ forward.Config) ⊎ FitsIn script config
+pub by-forward : {A : Type 0} (config : Config) (text : List ℕ) (script : List Frame) (e : ForwardError) → script_of text ≡ Ok script
+    → (◌≡◌ {A = Result A ForwardError} (Err e) (Err forward.Config) → ¬ (FitsIn script config))
+    → ◌≡◌ {A = Result A ForwardError} (Err e) (Err forward.Config) ⊎ FitsIn script config
     → {G : Type 0} (gate : G) → (FitsIn script config → Halted {G = G} (λ _ _ _ b. b ≡ true) gate e) → ForwardRefused config text (refusal.Forward e)
 by-forward config text script forward.Config says unfit either gate halted = (script, says, unfit refl)
 by-forward config text script forward.Memory says unfit (inl bad) gate halted = cc bad
