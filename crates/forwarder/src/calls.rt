@@ -59,7 +59,8 @@ fn make_pool<R: Wait>(rt: &R, alloc: Global, buffers: u32) -> Result<(Pool, Pool
 }
 
 /// The same over a pool of the caller's, for a configuration that `check` takes: `config.buffers` bounds
-/// what the flows take from it together.
+/// what the flows take from it together. Where it refuses once workers run, the rings are dropped as they
+/// stand, and the buffers that the flows had taken don't come back to the pool.
 pub fn forward_in<R: Threads + Wait + Sync, G: Gate + Sync>(
     rt: &R,
     alloc: Global,
