@@ -21,8 +21,6 @@ mod error;
 mod flows;
 mod kinds;
 mod moment;
-#[cfg(test)]
-mod tests;
 
 pub use cell::{MomentCell, MomentPass, MomentPen};
 pub use error::CounterError;

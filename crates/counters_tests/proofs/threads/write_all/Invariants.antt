@@ -1,5 +1,5 @@
 use Rattle.std.proofs.Common.{◌≡◌, ◌*◌}
-use Rattle.counters.proofs.tests.write_all.Given as goal
+use Rattle.counters_tests.proofs.threads.write_all.Given as goal
 
 -- the numbers after so many writes were written last
 abbrev pub invariant-loop-writes : goal.invariant-loop-writes

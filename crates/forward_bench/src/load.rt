@@ -1,0 +1,92 @@
+//! What is forwarded.
+
+use anyhow::{Result, ensure};
+use forwarder::Config;
+use limits::{LEAST_FRAME, MOST_FRAME, MOST_SCRIPT_FRAMES};
+use std::alloc::Global;
+use wire_script::{Script, WireFrame};
+
+/// How many buffers all flows have together.
+const BUFFERS: u32 = 16_384;
+
+/// So many frames of so many bytes, shared out to so many flows in turn, and how they are forwarded.
+#[derive(Clone, Copy)]
+pub struct Load {
+    pub frames: u32,
+    pub flows: u32,
+    size: u32,
+    ring: u32,
+    batch: u32,
+    workers: u32,
+}
+
+impl Load {
+    /// Reads the words after the program's name. The forwarder itself refuses a configuration that is not lawful.
+    pub fn of(words: &[String]) -> Option<Load> {
+        let load = Load {
+            frames: number_of(words, "--frames")?,
+            flows: number_of(words, "--flows")?,
+            size: number_of(words, "--size")?,
+            ring: number_of(words, "--ring")?,
+            batch: number_of(words, "--batch")?,
+            workers: number_of(words, "--workers")?,
+        };
+        (words.len() == 12 && load.is_lawful()).then_some(load)
+    }
+
+    fn is_lawful(&self) -> bool {
+        (1..=MOST_SCRIPT_FRAMES).contains(&(self.frames as usize))
+            && (LEAST_FRAME..=MOST_FRAME).contains(&(self.size as usize))
+            && matches!(self.flows, 1 | 2 | 4 | 8 | 16)
+    }
+
+    /// How the frames are forwarded: on pairs enough for these flows, of which there are two at least, one a port.
+    pub fn config(&self) -> Config {
+        Config {
+            pairs: (self.flows / 2).max(1),
+            ring: self.ring,
+            batch: self.batch,
+            workers: self.workers,
+            buffers: BUFFERS,
+            ..Config::default()
+        }
+    }
+
+    /// How many frames the flow of this number has.
+    pub fn frames_of(&self, flow: u32) -> u64 {
+        let more = flow < self.frames % self.flows.max(1);
+        u64::from(self.frames / self.flows.max(1)) + u64::from(more)
+    }
+
+    /// The frames, those of the flows in turn: port 0's flows first.
+    pub fn script(&self, alloc: Global) -> Result<Script> {
+        let mut frames = Vec::new(alloc);
+        for k in 0..self.frames {
+            frames.push(self.frame(alloc, k % self.flows.max(1))?)?;
+        }
+        ensure!(
+            frames.len() <= MOST_SCRIPT_FRAMES,
+            "too many frames for a script"
+        );
+        Ok(Script::new(frames))
+    }
+
+    /// A frame of the flow of this number.
+    fn frame(&self, alloc: Global, flow: u32) -> Result<WireFrame> {
+        let pairs = (self.flows / 2).max(1);
+        let (port, queue, size) = (flow / pairs, flow % pairs, self.size as usize);
+        ensure!(port < 2 && queue < 8, "there is no such flow");
+        ensure!(
+            LEAST_FRAME <= size && size <= MOST_FRAME,
+            "there is no such frame"
+        );
+        let bytes = Vec::from_elem(alloc, 0xab, size)?;
+        Ok(WireFrame::new(port as u8, queue as u8, bytes))
+    }
+}
+
+/// The number after an option.
+fn number_of(words: &[String], name: &str) -> Option<u32> {
+    let at = words.iter().position(|word| word.as_str() == name)?;
+    words.get(at + 1)?.as_str().parse().ok()
+}

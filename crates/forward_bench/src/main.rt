@@ -1,0 +1,82 @@
+//! The program `forward_bench`: what a frame costs that is forwarded.
+//!
+//! A script of frames of one size, shared out to the flows in turn, is forwarded, and the wires are kept. The time is
+//! that of the whole call: pool and rings are made in it, and the workers started and joined.
+#![tactic(auto)]
+
+mod load;
+
+use anyhow::{Result, ensure};
+use flows::{Ended, FlowReport};
+use forwarder::{Config, Report, forward};
+use forwarding::Open;
+use load::Load;
+use std::alloc::Global;
+use std::env;
+use std::process::ExitCode;
+use std::rt::Clock;
+use std::sync::Wait;
+use std::thread::Threads;
+use std::time::{Duration, Instant};
+use wire_script::Script;
+
+const USAGE: &str =
+    "Usage: forward_bench --ring N --frames N --size N --batch N --flows N --workers N
+
+Forwards so many frames, and prints how long that took.
+
+  --ring     descriptors of each ring, a power of two from 8 to 4096
+  --frames   how many frames all flows have together, 1 to 1000000
+  --size     bytes of a frame, 14 to 15000
+  --batch    the most packets that a driver takes at once, 1 to 32
+  --flows    how many flows have frames: 1, 2, 4, 8 or 16
+  --workers  threads of each side, 1 to the number of flows; with one flow, to 2
+
+Example:
+  forward_bench --ring 512 --frames 200000 --size 60 --batch 32 --flows 2 --workers 1";
+
+/// Whether all frames of a flow went out.
+fn is_whole(flow: &FlowReport, count: u64) -> bool {
+    let counts = [flow.offered, flow.stored, flow.taken, flow.posted];
+    counts.iter().all(|number| *number == count)
+        && flow.wire.len() as u64 == count
+        && flow.ended == Ended::Drained
+}
+
+/// Whether all frames of the load went out, each on its flow.
+fn all_went(report: &Report, load: &Load) -> bool {
+    let mut rest = u64::from(load.frames);
+    for (flow, k) in report.flows.iter().zip(0..load.flows) {
+        let count = load.frames_of(k);
+        if !is_whole(flow, count) {
+            return false;
+        }
+        rest = rest.saturating_sub(count);
+    }
+    rest == 0
+}
+
+/// Forwards the load, and answers how long that took.
+fn run<R: Threads + Wait + Clock + Sync>(rt: &R, alloc: Global, load: &Load) -> Result<Duration> {
+    let script: Script = load.script(alloc)?;
+    let config: Config = load.config();
+    let start = Instant::now(rt)?;
+    let report = forward(rt, alloc, &script, &config, &Open)?;
+    let spent = start.elapsed(rt)?;
+    ensure!(all_went(&report, load), "not all frames went out");
+    Ok(spent)
+}
+
+fn main(rt: HostRuntime) -> Result<ExitCode> {
+    let words: Vec<String> = env::args(&rt)?.skip(1).collect(rt.alloc())?;
+    let Some(load) = Load::of(words.as_slice()) else {
+        eprintln!(rt; "{USAGE}")?;
+        return Ok(ExitCode::from(2));
+    };
+    let spent = run(&rt, rt.alloc(), &load)?.as_secs_f64();
+    let frames = f64::from(load.frames);
+    println!(rt; "frames {}", load.frames)?;
+    println!(rt; "ns/frame {:.1}", spent * 1e9 / frames)?;
+    println!(rt; "Mframes/s {:.3}", frames / spent / 1e6)?;
+    Ok(ExitCode::SUCCESS)
+}
