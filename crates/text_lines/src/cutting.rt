@@ -2,6 +2,8 @@
 ghost use Rattle.std.specs.Prelude.{◌≡◌, ◌∷◌, ◌<◌, ◌==◌, length, IfSome, position};
 ghost use Rattle.text_lines.specs.Parts.{later_parts, parts, says_something};
 
+use memchr::memchr;
+
 /// The bytes before the first `separator`, and those after it if there is one.
 pub fn cut(bytes: &[u8], separator: u8) -> (&[u8], Option<&[u8]>)
     ensures parts { parts separator bytes.now ≡ result.0.now ∷ later_parts separator result.1 }
@@ -27,5 +29,5 @@ pub fn says_something(line: &[u8]) -> bool
 fn place_of(bytes: &[u8], wanted: u8) -> Option<usize>
     ensures { result ≡ position (λ b. b == wanted) bytes.now }
 {
-    bytes.iter().position(|b| *b == wanted)
+    memchr(wanted, bytes)
 }
