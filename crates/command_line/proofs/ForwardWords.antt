@@ -1,23 +1,24 @@
 -- What clap makes of `forward` and its options. What each of them does to what is held is one lemma, for any that came before.
 use Rattle.std.proofs.Common.{◌≡◌, ◌∙◌, ap, ap₂, sym, subst, refl, arith, inl, inr, ℕ, Bool, true, false, ◌&&◌, List, [], ◌∷◌, ◌++◌, codes, drop, slice_index_or, take, Option, Some, None, IfSome}
 use Rattle.std.specs.Prelude.{◌<◌, ◌^◌, ◌||◌, if◌then◌else◌, not, decimal, fold, is_some, option_and_then, option_map}
-use Rattle.std.specs.List.{list_all, list_any}
+use Rattle.std.specs.List.{list_all}
 use Rattle.std.specs.Option.{option_map_or}
 use Rattle.std.specs.Str.{bytes_eq}
+use Rattle.std.specs.Fmt.{digits}
 use Rattle.std.proofs.lemmas.List.{append_assoc, append-nil}
 use Rattle.clap.specs.Lexer.{long_of}
 use Rattle.clap.specs.Simple.{entered, names_of, new_shape}
-use Rattle.clap.specs.Takes.{bundle_passes, default_passes, entered_passes, flag_word_passes, is_valid, level_passes, react_passes, settle_passes, step_passes, turn_passes, use_passes, value_passes, walk_passes, word_passes}
+use Rattle.clap.specs.Takes.{bundle_passes, default_passes, entered_passes, flag_word_passes, is_valid, level_passes, react_passes, settle_passes, step_passes, turn_passes, value_passes, walk_passes, word_passes}
 use Rattle.clap.specs.Values.{bool_text}
-use Rattle.clap.specs.ValueTests.{accepts}
-use Rattle.clap.specs.Walk.{Held, Names, Step, Walk, after_step, finished, has_row, long_or_other, nothing_held, option, plain_word, reacted, reading_by, row_text, settled, short_or_plain, trailing, used, walk, walk_from, walked, with_default, with_values, without, word_met}
+use Rattle.clap.specs.Walk.{Held, Names, Step, Walk, after_step, finished, has_row, long_or_other, nothing_held, option, plain_word, reacted, reading_by, row_text, settled, short_or_plain, trailing, walk, walk_from, walked, with_default, with_values, without, word_met}
 use Rattle.clap.specs.Words.{App, Row, Rule, Shape, Text, built, new_rule, one_of, subcommand_of, takes, without_minus}
 use Rattle.clap.specs.declared.parser.matches.ValueSource.TheVariants.{CommandLine}
 use Rattle.clap.proofs.OnLiterals.{clap_on_literals}
 use Rattle.forwarder.specs.declared.config.Config.{Config}
+use Rattle.ring_model.specs.declared.states.Completion.{Completion}
 use Rattle.command_line.specs.CommandLine.{Choices, HasForward, IsProgram, SaysForward, SaysNumber, flag_words, is_head, program_app}
 use Rattle.command_line.proofs.CommandLine.{IsNumber, IsPlain, is_number, numeral_of, strips_none}
-use Rattle.command_line.proofs.OptionRows.{OptionUse, absent-in, absent-use, all-keep, default-found, found, found-use, mentions, row, rows-unused, rows-used, rows_in, used-absent, without-absent}
+use Rattle.command_line.proofs.OptionRows.{OptionUse, absent-in, absent-use, all-keep, default-found, found-use, mentions, row, rows-unused, rows-used, rows_in, used-absent, without-absent}
 
 -- ---- the options
 
@@ -579,126 +580,108 @@ at_last s = fold with_default (rows_in (uses_head s)) rules
 rows_at_last : (s : Said) → AreNumbers s → finished rules (held_head s) ≡ at_last s
 rows_at_last s are = ap (λ (l : List Row). fold with_default l rules) (stands_head s are).rows
 
-value_pairs : (s : Said) (o : Option Text) → s.pairs ≡ o → one_of (number_id pairs) (at_last s) ≡ Some (number_said (default_word pairs) o)
-value_pairs s (Some word) is =
-    let uses : uses_head s ≡ [] ++ number_use pairs (Some word) ∷ (number_use ring s.ring ∷ number_use buffers s.buffers ∷ number_use bsize s.bsize ∷ number_use batch s.batch ∷ number_use rs_every s.rs_every ∷ number_use workers s.workers ∷ number_use turns s.turns ∷ flag_use drop_en s.drop_en ∷ flag_use no_retry s.no_retry ∷ flag_use head s.head ∷ []) = ap (λ (o : Option Text). [] ++ number_use pairs o ∷ (number_use ring s.ring ∷ number_use buffers s.buffers ∷ number_use bsize s.bsize ∷ number_use batch s.batch ∷ number_use rs_every s.rs_every ∷ number_use workers s.workers ∷ number_use turns s.turns ∷ flag_use drop_en s.drop_en ∷ flag_use no_retry s.no_retry ∷ flag_use head s.head ∷ [])) is in
-    ap (λ (us : List OptionUse). one_of (number_id pairs) (fold with_default (rows_in us) rules)) uses
-    ∙ ap (option_and_then row_text) (all-keep (number_id pairs) rules _ _ (found-use [] (number_use ring s.ring ∷ number_use buffers s.buffers ∷ number_use bsize s.bsize ∷ number_use batch s.batch ∷ number_use rs_every s.rs_every ∷ number_use workers s.workers ∷ number_use turns s.turns ∷ flag_use drop_en s.drop_en ∷ flag_use no_retry s.no_retry ∷ flag_use head s.head ∷ []) (number_id pairs) (reading_by (number_at pairs)) (word ∷ []) refl refl))
-value_pairs s None is =
-    let uses : uses_head s ≡ [] ++ number_use pairs None ∷ (number_use ring s.ring ∷ number_use buffers s.buffers ∷ number_use bsize s.bsize ∷ number_use batch s.batch ∷ number_use rs_every s.rs_every ∷ number_use workers s.workers ∷ number_use turns s.turns ∷ flag_use drop_en s.drop_en ∷ flag_use no_retry s.no_retry ∷ flag_use head s.head ∷ []) = ap (λ (o : Option Text). [] ++ number_use pairs o ∷ (number_use ring s.ring ∷ number_use buffers s.buffers ∷ number_use bsize s.bsize ∷ number_use batch s.batch ∷ number_use rs_every s.rs_every ∷ number_use workers s.workers ∷ number_use turns s.turns ∷ flag_use drop_en s.drop_en ∷ flag_use no_retry s.no_retry ∷ flag_use head s.head ∷ [])) is in
-    ap (λ (us : List OptionUse). one_of (number_id pairs) (fold with_default (rows_in us) rules)) uses
-    ∙ ap (option_and_then row_text) (default-found (take 0 rules) (number_at pairs) (drop 1 rules) _ (default_word pairs) []
-    (absent-use [] (number_use ring s.ring ∷ number_use buffers s.buffers ∷ number_use bsize s.bsize ∷ number_use batch s.batch ∷ number_use rs_every s.rs_every ∷ number_use workers s.workers ∷ number_use turns s.turns ∷ flag_use drop_en s.drop_en ∷ flag_use no_retry s.no_retry ∷ flag_use head s.head ∷ []) (number_id pairs) (reading_by (number_at pairs)) refl refl) refl refl refl)
+-- what an option that stands is at last, and one that is left out
+number_row : (which : Number) (word : Text) → row_text (row (number_id which) (reading_by (number_at which)) CommandLine (word ∷ [])) ≡ Some (without_minus word)
+number_row pairs word = refl
+number_row ring word = refl
+number_row buffers word = refl
+number_row bsize word = refl
+number_row batch word = refl
+number_row rs_every word = refl
+number_row workers word = refl
+number_row turns word = refl
 
-value_ring : (s : Said) (o : Option Text) → s.ring ≡ o → one_of (number_id ring) (at_last s) ≡ Some (number_said (default_word ring) o)
-value_ring s (Some word) is =
-    let uses : uses_head s ≡ (uses_pairs s) ++ number_use ring (Some word) ∷ (number_use buffers s.buffers ∷ number_use bsize s.bsize ∷ number_use batch s.batch ∷ number_use rs_every s.rs_every ∷ number_use workers s.workers ∷ number_use turns s.turns ∷ flag_use drop_en s.drop_en ∷ flag_use no_retry s.no_retry ∷ flag_use head s.head ∷ []) = ap (λ (o : Option Text). (uses_pairs s) ++ number_use ring o ∷ (number_use buffers s.buffers ∷ number_use bsize s.bsize ∷ number_use batch s.batch ∷ number_use rs_every s.rs_every ∷ number_use workers s.workers ∷ number_use turns s.turns ∷ flag_use drop_en s.drop_en ∷ flag_use no_retry s.no_retry ∷ flag_use head s.head ∷ [])) is in
-    ap (λ (us : List OptionUse). one_of (number_id ring) (fold with_default (rows_in us) rules)) uses
-    ∙ ap (option_and_then row_text) (all-keep (number_id ring) rules _ _ (found-use (uses_pairs s) (number_use buffers s.buffers ∷ number_use bsize s.bsize ∷ number_use batch s.batch ∷ number_use rs_every s.rs_every ∷ number_use workers s.workers ∷ number_use turns s.turns ∷ flag_use drop_en s.drop_en ∷ flag_use no_retry s.no_retry ∷ flag_use head s.head ∷ []) (number_id ring) (reading_by (number_at ring)) (word ∷ []) refl refl))
-value_ring s None is =
-    let uses : uses_head s ≡ (uses_pairs s) ++ number_use ring None ∷ (number_use buffers s.buffers ∷ number_use bsize s.bsize ∷ number_use batch s.batch ∷ number_use rs_every s.rs_every ∷ number_use workers s.workers ∷ number_use turns s.turns ∷ flag_use drop_en s.drop_en ∷ flag_use no_retry s.no_retry ∷ flag_use head s.head ∷ []) = ap (λ (o : Option Text). (uses_pairs s) ++ number_use ring o ∷ (number_use buffers s.buffers ∷ number_use bsize s.bsize ∷ number_use batch s.batch ∷ number_use rs_every s.rs_every ∷ number_use workers s.workers ∷ number_use turns s.turns ∷ flag_use drop_en s.drop_en ∷ flag_use no_retry s.no_retry ∷ flag_use head s.head ∷ [])) is in
-    ap (λ (us : List OptionUse). one_of (number_id ring) (fold with_default (rows_in us) rules)) uses
-    ∙ ap (option_and_then row_text) (default-found (take 1 rules) (number_at ring) (drop 2 rules) _ (default_word ring) []
-    (absent-use (uses_pairs s) (number_use buffers s.buffers ∷ number_use bsize s.bsize ∷ number_use batch s.batch ∷ number_use rs_every s.rs_every ∷ number_use workers s.workers ∷ number_use turns s.turns ∷ flag_use drop_en s.drop_en ∷ flag_use no_retry s.no_retry ∷ flag_use head s.head ∷ []) (number_id ring) (reading_by (number_at ring)) refl refl) refl refl refl)
+number_default : (which : Number) (rows : List Row) → has_row (number_id which) rows ≡ false
+    → one_of (number_id which) (fold with_default rows rules) ≡ Some (default_word which)
+number_default pairs rows absent = ap (option_and_then row_text) (default-found (take 0 rules) (number_at pairs) (drop 1 rules) rows (default_word pairs) [] absent refl refl refl)
+number_default ring rows absent = ap (option_and_then row_text) (default-found (take 1 rules) (number_at ring) (drop 2 rules) rows (default_word ring) [] absent refl refl refl)
+number_default buffers rows absent = ap (option_and_then row_text) (default-found (take 2 rules) (number_at buffers) (drop 3 rules) rows (default_word buffers) [] absent refl refl refl)
+number_default bsize rows absent = ap (option_and_then row_text) (default-found (take 3 rules) (number_at bsize) (drop 4 rules) rows (default_word bsize) [] absent refl refl refl)
+number_default batch rows absent = ap (option_and_then row_text) (default-found (take 4 rules) (number_at batch) (drop 5 rules) rows (default_word batch) [] absent refl refl refl)
+number_default rs_every rows absent = ap (option_and_then row_text) (default-found (take 5 rules) (number_at rs_every) (drop 6 rules) rows (default_word rs_every) [] absent refl refl refl)
+number_default workers rows absent = ap (option_and_then row_text) (default-found (take 6 rules) (number_at workers) (drop 7 rules) rows (default_word workers) [] absent refl refl refl)
+number_default turns rows absent = ap (option_and_then row_text) (default-found (take 7 rules) (number_at turns) (drop 8 rules) rows (default_word turns) [] absent refl refl refl)
 
-value_buffers : (s : Said) (o : Option Text) → s.buffers ≡ o → one_of (number_id buffers) (at_last s) ≡ Some (number_said (default_word buffers) o)
-value_buffers s (Some word) is =
-    let uses : uses_head s ≡ (uses_ring s) ++ number_use buffers (Some word) ∷ (number_use bsize s.bsize ∷ number_use batch s.batch ∷ number_use rs_every s.rs_every ∷ number_use workers s.workers ∷ number_use turns s.turns ∷ flag_use drop_en s.drop_en ∷ flag_use no_retry s.no_retry ∷ flag_use head s.head ∷ []) = ap (λ (o : Option Text). (uses_ring s) ++ number_use buffers o ∷ (number_use bsize s.bsize ∷ number_use batch s.batch ∷ number_use rs_every s.rs_every ∷ number_use workers s.workers ∷ number_use turns s.turns ∷ flag_use drop_en s.drop_en ∷ flag_use no_retry s.no_retry ∷ flag_use head s.head ∷ [])) is in
-    ap (λ (us : List OptionUse). one_of (number_id buffers) (fold with_default (rows_in us) rules)) uses
-    ∙ ap (option_and_then row_text) (all-keep (number_id buffers) rules _ _ (found-use (uses_ring s) (number_use bsize s.bsize ∷ number_use batch s.batch ∷ number_use rs_every s.rs_every ∷ number_use workers s.workers ∷ number_use turns s.turns ∷ flag_use drop_en s.drop_en ∷ flag_use no_retry s.no_retry ∷ flag_use head s.head ∷ []) (number_id buffers) (reading_by (number_at buffers)) (word ∷ []) refl refl))
-value_buffers s None is =
-    let uses : uses_head s ≡ (uses_ring s) ++ number_use buffers None ∷ (number_use bsize s.bsize ∷ number_use batch s.batch ∷ number_use rs_every s.rs_every ∷ number_use workers s.workers ∷ number_use turns s.turns ∷ flag_use drop_en s.drop_en ∷ flag_use no_retry s.no_retry ∷ flag_use head s.head ∷ []) = ap (λ (o : Option Text). (uses_ring s) ++ number_use buffers o ∷ (number_use bsize s.bsize ∷ number_use batch s.batch ∷ number_use rs_every s.rs_every ∷ number_use workers s.workers ∷ number_use turns s.turns ∷ flag_use drop_en s.drop_en ∷ flag_use no_retry s.no_retry ∷ flag_use head s.head ∷ [])) is in
-    ap (λ (us : List OptionUse). one_of (number_id buffers) (fold with_default (rows_in us) rules)) uses
-    ∙ ap (option_and_then row_text) (default-found (take 2 rules) (number_at buffers) (drop 3 rules) _ (default_word buffers) []
-    (absent-use (uses_ring s) (number_use bsize s.bsize ∷ number_use batch s.batch ∷ number_use rs_every s.rs_every ∷ number_use workers s.workers ∷ number_use turns s.turns ∷ flag_use drop_en s.drop_en ∷ flag_use no_retry s.no_retry ∷ flag_use head s.head ∷ []) (number_id buffers) (reading_by (number_at buffers)) refl refl) refl refl refl)
+flag_default : (which : Flag) (rows : List Row) → has_row (flag_id which) rows ≡ false → one_of (flag_id which) (fold with_default rows rules) ≡ Some (codes "false")
+flag_default drop_en rows absent = ap (option_and_then row_text) (default-found (take 8 rules) (flag_at drop_en) (drop 9 rules) rows (codes "false") [] absent refl refl refl)
+flag_default no_retry rows absent = ap (option_and_then row_text) (default-found (take 9 rules) (flag_at no_retry) (drop 10 rules) rows (codes "false") [] absent refl refl refl)
+flag_default head rows absent = ap (option_and_then row_text) (default-found (take 10 rules) (flag_at head) (drop 11 rules) rows (codes "false") [] absent refl refl refl)
 
-value_bsize : (s : Said) (o : Option Text) → s.bsize ≡ o → one_of (number_id bsize) (at_last s) ≡ Some (number_said (default_word bsize) o)
-value_bsize s (Some word) is =
-    let uses : uses_head s ≡ (uses_buffers s) ++ number_use bsize (Some word) ∷ (number_use batch s.batch ∷ number_use rs_every s.rs_every ∷ number_use workers s.workers ∷ number_use turns s.turns ∷ flag_use drop_en s.drop_en ∷ flag_use no_retry s.no_retry ∷ flag_use head s.head ∷ []) = ap (λ (o : Option Text). (uses_buffers s) ++ number_use bsize o ∷ (number_use batch s.batch ∷ number_use rs_every s.rs_every ∷ number_use workers s.workers ∷ number_use turns s.turns ∷ flag_use drop_en s.drop_en ∷ flag_use no_retry s.no_retry ∷ flag_use head s.head ∷ [])) is in
-    ap (λ (us : List OptionUse). one_of (number_id bsize) (fold with_default (rows_in us) rules)) uses
-    ∙ ap (option_and_then row_text) (all-keep (number_id bsize) rules _ _ (found-use (uses_buffers s) (number_use batch s.batch ∷ number_use rs_every s.rs_every ∷ number_use workers s.workers ∷ number_use turns s.turns ∷ flag_use drop_en s.drop_en ∷ flag_use no_retry s.no_retry ∷ flag_use head s.head ∷ []) (number_id bsize) (reading_by (number_at bsize)) (word ∷ []) refl refl))
-value_bsize s None is =
-    let uses : uses_head s ≡ (uses_buffers s) ++ number_use bsize None ∷ (number_use batch s.batch ∷ number_use rs_every s.rs_every ∷ number_use workers s.workers ∷ number_use turns s.turns ∷ flag_use drop_en s.drop_en ∷ flag_use no_retry s.no_retry ∷ flag_use head s.head ∷ []) = ap (λ (o : Option Text). (uses_buffers s) ++ number_use bsize o ∷ (number_use batch s.batch ∷ number_use rs_every s.rs_every ∷ number_use workers s.workers ∷ number_use turns s.turns ∷ flag_use drop_en s.drop_en ∷ flag_use no_retry s.no_retry ∷ flag_use head s.head ∷ [])) is in
-    ap (λ (us : List OptionUse). one_of (number_id bsize) (fold with_default (rows_in us) rules)) uses
-    ∙ ap (option_and_then row_text) (default-found (take 3 rules) (number_at bsize) (drop 4 rules) _ (default_word bsize) []
-    (absent-use (uses_buffers s) (number_use batch s.batch ∷ number_use rs_every s.rs_every ∷ number_use workers s.workers ∷ number_use turns s.turns ∷ flag_use drop_en s.drop_en ∷ flag_use no_retry s.no_retry ∷ flag_use head s.head ∷ []) (number_id bsize) (reading_by (number_at bsize)) refl refl) refl refl refl)
+flag_row : (which : Flag) → row_text (row (flag_id which) (reading_by (flag_at which)) CommandLine (codes "true" ∷ [])) ≡ Some (codes "true")
+flag_row drop_en = refl
+flag_row no_retry = refl
+flag_row head = refl
 
-value_batch : (s : Said) (o : Option Text) → s.batch ≡ o → one_of (number_id batch) (at_last s) ≡ Some (number_said (default_word batch) o)
-value_batch s (Some word) is =
-    let uses : uses_head s ≡ (uses_bsize s) ++ number_use batch (Some word) ∷ (number_use rs_every s.rs_every ∷ number_use workers s.workers ∷ number_use turns s.turns ∷ flag_use drop_en s.drop_en ∷ flag_use no_retry s.no_retry ∷ flag_use head s.head ∷ []) = ap (λ (o : Option Text). (uses_bsize s) ++ number_use batch o ∷ (number_use rs_every s.rs_every ∷ number_use workers s.workers ∷ number_use turns s.turns ∷ flag_use drop_en s.drop_en ∷ flag_use no_retry s.no_retry ∷ flag_use head s.head ∷ [])) is in
-    ap (λ (us : List OptionUse). one_of (number_id batch) (fold with_default (rows_in us) rules)) uses
-    ∙ ap (option_and_then row_text) (all-keep (number_id batch) rules _ _ (found-use (uses_bsize s) (number_use rs_every s.rs_every ∷ number_use workers s.workers ∷ number_use turns s.turns ∷ flag_use drop_en s.drop_en ∷ flag_use no_retry s.no_retry ∷ flag_use head s.head ∷ []) (number_id batch) (reading_by (number_at batch)) (word ∷ []) refl refl))
-value_batch s None is =
-    let uses : uses_head s ≡ (uses_bsize s) ++ number_use batch None ∷ (number_use rs_every s.rs_every ∷ number_use workers s.workers ∷ number_use turns s.turns ∷ flag_use drop_en s.drop_en ∷ flag_use no_retry s.no_retry ∷ flag_use head s.head ∷ []) = ap (λ (o : Option Text). (uses_bsize s) ++ number_use batch o ∷ (number_use rs_every s.rs_every ∷ number_use workers s.workers ∷ number_use turns s.turns ∷ flag_use drop_en s.drop_en ∷ flag_use no_retry s.no_retry ∷ flag_use head s.head ∷ [])) is in
-    ap (λ (us : List OptionUse). one_of (number_id batch) (fold with_default (rows_in us) rules)) uses
-    ∙ ap (option_and_then row_text) (default-found (take 4 rules) (number_at batch) (drop 5 rules) _ (default_word batch) []
-    (absent-use (uses_bsize s) (number_use rs_every s.rs_every ∷ number_use workers s.workers ∷ number_use turns s.turns ∷ flag_use drop_en s.drop_en ∷ flag_use no_retry s.no_retry ∷ flag_use head s.head ∷ []) (number_id batch) (reading_by (number_at batch)) refl refl) refl refl refl)
+-- an id is itself
+number_same : (which : Number) → bytes_eq (number_id which) (number_id which) ≡ true
+number_same pairs = refl
+number_same ring = refl
+number_same buffers = refl
+number_same bsize = refl
+number_same batch = refl
+number_same rs_every = refl
+number_same workers = refl
+number_same turns = refl
 
-value_rs_every : (s : Said) (o : Option Text) → s.rs_every ≡ o → one_of (number_id rs_every) (at_last s) ≡ Some (number_said (default_word rs_every) o)
-value_rs_every s (Some word) is =
-    let uses : uses_head s ≡ (uses_batch s) ++ number_use rs_every (Some word) ∷ (number_use workers s.workers ∷ number_use turns s.turns ∷ flag_use drop_en s.drop_en ∷ flag_use no_retry s.no_retry ∷ flag_use head s.head ∷ []) = ap (λ (o : Option Text). (uses_batch s) ++ number_use rs_every o ∷ (number_use workers s.workers ∷ number_use turns s.turns ∷ flag_use drop_en s.drop_en ∷ flag_use no_retry s.no_retry ∷ flag_use head s.head ∷ [])) is in
-    ap (λ (us : List OptionUse). one_of (number_id rs_every) (fold with_default (rows_in us) rules)) uses
-    ∙ ap (option_and_then row_text) (all-keep (number_id rs_every) rules _ _ (found-use (uses_batch s) (number_use workers s.workers ∷ number_use turns s.turns ∷ flag_use drop_en s.drop_en ∷ flag_use no_retry s.no_retry ∷ flag_use head s.head ∷ []) (number_id rs_every) (reading_by (number_at rs_every)) (word ∷ []) refl refl))
-value_rs_every s None is =
-    let uses : uses_head s ≡ (uses_batch s) ++ number_use rs_every None ∷ (number_use workers s.workers ∷ number_use turns s.turns ∷ flag_use drop_en s.drop_en ∷ flag_use no_retry s.no_retry ∷ flag_use head s.head ∷ []) = ap (λ (o : Option Text). (uses_batch s) ++ number_use rs_every o ∷ (number_use workers s.workers ∷ number_use turns s.turns ∷ flag_use drop_en s.drop_en ∷ flag_use no_retry s.no_retry ∷ flag_use head s.head ∷ [])) is in
-    ap (λ (us : List OptionUse). one_of (number_id rs_every) (fold with_default (rows_in us) rules)) uses
-    ∙ ap (option_and_then row_text) (default-found (take 5 rules) (number_at rs_every) (drop 6 rules) _ (default_word rs_every) []
-    (absent-use (uses_batch s) (number_use workers s.workers ∷ number_use turns s.turns ∷ flag_use drop_en s.drop_en ∷ flag_use no_retry s.no_retry ∷ flag_use head s.head ∷ []) (number_id rs_every) (reading_by (number_at rs_every)) refl refl) refl refl refl)
+flag_same : (which : Flag) → bytes_eq (flag_id which) (flag_id which) ≡ true
+flag_same drop_en = refl
+flag_same no_retry = refl
+flag_same head = refl
 
-value_workers : (s : Said) (o : Option Text) → s.workers ≡ o → one_of (number_id workers) (at_last s) ≡ Some (number_said (default_word workers) o)
-value_workers s (Some word) is =
-    let uses : uses_head s ≡ (uses_rs_every s) ++ number_use workers (Some word) ∷ (number_use turns s.turns ∷ flag_use drop_en s.drop_en ∷ flag_use no_retry s.no_retry ∷ flag_use head s.head ∷ []) = ap (λ (o : Option Text). (uses_rs_every s) ++ number_use workers o ∷ (number_use turns s.turns ∷ flag_use drop_en s.drop_en ∷ flag_use no_retry s.no_retry ∷ flag_use head s.head ∷ [])) is in
-    ap (λ (us : List OptionUse). one_of (number_id workers) (fold with_default (rows_in us) rules)) uses
-    ∙ ap (option_and_then row_text) (all-keep (number_id workers) rules _ _ (found-use (uses_rs_every s) (number_use turns s.turns ∷ flag_use drop_en s.drop_en ∷ flag_use no_retry s.no_retry ∷ flag_use head s.head ∷ []) (number_id workers) (reading_by (number_at workers)) (word ∷ []) refl refl))
-value_workers s None is =
-    let uses : uses_head s ≡ (uses_rs_every s) ++ number_use workers None ∷ (number_use turns s.turns ∷ flag_use drop_en s.drop_en ∷ flag_use no_retry s.no_retry ∷ flag_use head s.head ∷ []) = ap (λ (o : Option Text). (uses_rs_every s) ++ number_use workers o ∷ (number_use turns s.turns ∷ flag_use drop_en s.drop_en ∷ flag_use no_retry s.no_retry ∷ flag_use head s.head ∷ [])) is in
-    ap (λ (us : List OptionUse). one_of (number_id workers) (fold with_default (rows_in us) rules)) uses
-    ∙ ap (option_and_then row_text) (default-found (take 6 rules) (number_at workers) (drop 7 rules) _ (default_word workers) []
-    (absent-use (uses_rs_every s) (number_use turns s.turns ∷ flag_use drop_en s.drop_en ∷ flag_use no_retry s.no_retry ∷ flag_use head s.head ∷ []) (number_id workers) (reading_by (number_at workers)) refl refl) refl refl refl)
+-- the value of an option, whatever options stand before it and behind it
+number_value : (which : Number) (before after : List OptionUse) (said : Option Text) → mentions (number_id which) before ≡ false
+    → mentions (number_id which) after ≡ false
+    → one_of (number_id which) (fold with_default (rows_in (before ++ number_use which said ∷ after)) rules) ≡ Some (number_said (default_word which) said)
+number_value which before after (Some word) first behind =
+    let how = reading_by (number_at which) in
+    let stands = found-use before after (number_id which) how (word ∷ []) first (number_same which) in
+    ap (option_and_then row_text)
+    (all-keep (number_id which) rules (rows_in (before ++ number_use which (Some word) ∷ after)) (row (number_id which) how CommandLine (word ∷ [])) stands)
+    ∙ number_row which word
+number_value which before after None first behind =
+    number_default which (rows_in (before ++ number_use which None ∷ after)) (absent-use before after (number_id which) (reading_by (number_at which)) first behind)
 
-value_turns : (s : Said) (o : Option Text) → s.turns ≡ o → one_of (number_id turns) (at_last s) ≡ Some (number_said (default_word turns) o)
-value_turns s (Some word) is =
-    let uses : uses_head s ≡ (uses_workers s) ++ number_use turns (Some word) ∷ (flag_use drop_en s.drop_en ∷ flag_use no_retry s.no_retry ∷ flag_use head s.head ∷ []) = ap (λ (o : Option Text). (uses_workers s) ++ number_use turns o ∷ (flag_use drop_en s.drop_en ∷ flag_use no_retry s.no_retry ∷ flag_use head s.head ∷ [])) is in
-    ap (λ (us : List OptionUse). one_of (number_id turns) (fold with_default (rows_in us) rules)) uses
-    ∙ ap (option_and_then row_text) (all-keep (number_id turns) rules _ _ (found-use (uses_workers s) (flag_use drop_en s.drop_en ∷ flag_use no_retry s.no_retry ∷ flag_use head s.head ∷ []) (number_id turns) (reading_by (number_at turns)) (word ∷ []) refl refl))
-value_turns s None is =
-    let uses : uses_head s ≡ (uses_workers s) ++ number_use turns None ∷ (flag_use drop_en s.drop_en ∷ flag_use no_retry s.no_retry ∷ flag_use head s.head ∷ []) = ap (λ (o : Option Text). (uses_workers s) ++ number_use turns o ∷ (flag_use drop_en s.drop_en ∷ flag_use no_retry s.no_retry ∷ flag_use head s.head ∷ [])) is in
-    ap (λ (us : List OptionUse). one_of (number_id turns) (fold with_default (rows_in us) rules)) uses
-    ∙ ap (option_and_then row_text) (default-found (take 7 rules) (number_at turns) (drop 8 rules) _ (default_word turns) []
-    (absent-use (uses_workers s) (flag_use drop_en s.drop_en ∷ flag_use no_retry s.no_retry ∷ flag_use head s.head ∷ []) (number_id turns) (reading_by (number_at turns)) refl refl) refl refl refl)
+flag_value : (which : Flag) (before after : List OptionUse) (said : Bool) → mentions (flag_id which) before ≡ false → mentions (flag_id which) after ≡ false
+    → one_of (flag_id which) (fold with_default (rows_in (before ++ flag_use which said ∷ after)) rules) ≡ Some (bool_text said)
+flag_value which before after true first behind =
+    let how = reading_by (flag_at which) in
+    let stands = found-use before after (flag_id which) how (codes "true" ∷ []) first (flag_same which) in
+    ap (option_and_then row_text)
+    (all-keep (flag_id which) rules (rows_in (before ++ flag_use which true ∷ after)) (row (flag_id which) how CommandLine (codes "true" ∷ [])) stands)
+    ∙ flag_row which
+flag_value which before after false first behind =
+    flag_default which (rows_in (before ++ flag_use which false ∷ after)) (absent-use before after (flag_id which) (reading_by (flag_at which)) first behind)
 
-value_drop_en : (s : Said) (b : Bool) → s.drop_en ≡ b → one_of (flag_id drop_en) (at_last s) ≡ Some (bool_text b)
-value_drop_en s true is =
-    let uses : uses_head s ≡ (uses_turns s) ++ flag_use drop_en true ∷ (flag_use no_retry s.no_retry ∷ flag_use head s.head ∷ []) = ap (λ (b : Bool). (uses_turns s) ++ flag_use drop_en b ∷ (flag_use no_retry s.no_retry ∷ flag_use head s.head ∷ [])) is in
-    ap (λ (us : List OptionUse). one_of (flag_id drop_en) (fold with_default (rows_in us) rules)) uses
-    ∙ ap (option_and_then row_text) (all-keep (flag_id drop_en) rules _ _ (found-use (uses_turns s) (flag_use no_retry s.no_retry ∷ flag_use head s.head ∷ []) (flag_id drop_en) (reading_by (flag_at drop_en)) (codes "true" ∷ []) refl refl))
-value_drop_en s false is =
-    let uses : uses_head s ≡ (uses_turns s) ++ flag_use drop_en false ∷ (flag_use no_retry s.no_retry ∷ flag_use head s.head ∷ []) = ap (λ (b : Bool). (uses_turns s) ++ flag_use drop_en b ∷ (flag_use no_retry s.no_retry ∷ flag_use head s.head ∷ [])) is in
-    ap (λ (us : List OptionUse). one_of (flag_id drop_en) (fold with_default (rows_in us) rules)) uses
-    ∙ ap (option_and_then row_text) (default-found (take 8 rules) (flag_at drop_en) (drop 9 rules) _ (codes "false") []
-    (absent-use (uses_turns s) (flag_use no_retry s.no_retry ∷ flag_use head s.head ∷ []) (flag_id drop_en) (reading_by (flag_at drop_en)) refl refl) refl refl refl)
+-- the uses behind each of them
+abbrev behind_no_retry : Said → List OptionUse
+behind_no_retry s = flag_use head s.head ∷ []
 
-value_no_retry : (s : Said) (b : Bool) → s.no_retry ≡ b → one_of (flag_id no_retry) (at_last s) ≡ Some (bool_text b)
-value_no_retry s true is =
-    let uses : uses_head s ≡ (uses_drop_en s) ++ flag_use no_retry true ∷ (flag_use head s.head ∷ []) = ap (λ (b : Bool). (uses_drop_en s) ++ flag_use no_retry b ∷ (flag_use head s.head ∷ [])) is in
-    ap (λ (us : List OptionUse). one_of (flag_id no_retry) (fold with_default (rows_in us) rules)) uses
-    ∙ ap (option_and_then row_text) (all-keep (flag_id no_retry) rules _ _ (found-use (uses_drop_en s) (flag_use head s.head ∷ []) (flag_id no_retry) (reading_by (flag_at no_retry)) (codes "true" ∷ []) refl refl))
-value_no_retry s false is =
-    let uses : uses_head s ≡ (uses_drop_en s) ++ flag_use no_retry false ∷ (flag_use head s.head ∷ []) = ap (λ (b : Bool). (uses_drop_en s) ++ flag_use no_retry b ∷ (flag_use head s.head ∷ [])) is in
-    ap (λ (us : List OptionUse). one_of (flag_id no_retry) (fold with_default (rows_in us) rules)) uses
-    ∙ ap (option_and_then row_text) (default-found (take 9 rules) (flag_at no_retry) (drop 10 rules) _ (codes "false") []
-    (absent-use (uses_drop_en s) (flag_use head s.head ∷ []) (flag_id no_retry) (reading_by (flag_at no_retry)) refl refl) refl refl refl)
+abbrev behind_drop_en : Said → List OptionUse
+behind_drop_en s = flag_use no_retry s.no_retry ∷ behind_no_retry s
 
-value_head : (s : Said) (b : Bool) → s.head ≡ b → one_of (flag_id head) (at_last s) ≡ Some (bool_text b)
-value_head s true is =
-    let uses : uses_head s ≡ (uses_no_retry s) ++ flag_use head true ∷ ([]) = ap (λ (b : Bool). (uses_no_retry s) ++ flag_use head b ∷ ([])) is in
-    ap (λ (us : List OptionUse). one_of (flag_id head) (fold with_default (rows_in us) rules)) uses
-    ∙ ap (option_and_then row_text) (all-keep (flag_id head) rules _ _ (found-use (uses_no_retry s) ([]) (flag_id head) (reading_by (flag_at head)) (codes "true" ∷ []) refl refl))
-value_head s false is =
-    let uses : uses_head s ≡ (uses_no_retry s) ++ flag_use head false ∷ ([]) = ap (λ (b : Bool). (uses_no_retry s) ++ flag_use head b ∷ ([])) is in
-    ap (λ (us : List OptionUse). one_of (flag_id head) (fold with_default (rows_in us) rules)) uses
-    ∙ ap (option_and_then row_text) (default-found (take 10 rules) (flag_at head) (drop 11 rules) _ (codes "false") []
-    (absent-use (uses_no_retry s) ([]) (flag_id head) (reading_by (flag_at head)) refl refl) refl refl refl)
+abbrev behind_turns : Said → List OptionUse
+behind_turns s = flag_use drop_en s.drop_en ∷ behind_drop_en s
+
+abbrev behind_workers : Said → List OptionUse
+behind_workers s = number_use turns s.turns ∷ behind_turns s
+
+abbrev behind_rs_every : Said → List OptionUse
+behind_rs_every s = number_use workers s.workers ∷ behind_workers s
+
+abbrev behind_batch : Said → List OptionUse
+behind_batch s = number_use rs_every s.rs_every ∷ behind_rs_every s
+
+abbrev behind_bsize : Said → List OptionUse
+behind_bsize s = number_use batch s.batch ∷ behind_batch s
+
+abbrev behind_buffers : Said → List OptionUse
+behind_buffers s = number_use bsize s.bsize ∷ behind_bsize s
+
+abbrev behind_ring : Said → List OptionUse
+behind_ring s = number_use buffers s.buffers ∷ behind_buffers s
+
+abbrev behind_pairs : Said → List OptionUse
+behind_pairs s = number_use ring s.ring ∷ behind_ring s
 
 -- ---- the command
 
@@ -777,6 +760,7 @@ default_fits workers = omega arith
 default_fits turns = omega arith
 
 default_text : (which : Number) → default_word which ≡ decimal (default_of which)
+unfolding digits
 default_text pairs = refl
 default_text ring = refl
 default_text buffers = refl
@@ -827,7 +811,7 @@ saying words config says = record {
   turns = is_said turns says.turns config.turns says.says_turns;
 }
 
-said_by : (words : List Text) (config : Config) (says : SaysForward words config) → Saying words config says → Said
+abbrev said_by : (words : List Text) (config : Config) (says : SaysForward words config) → Saying words config says → Said
 said_by words config says are = record {
   pairs = are.pairs.said;
   ring = are.ring.said;
@@ -890,34 +874,25 @@ forward_found app words config program says =
           ∙ (found_forward program.rings program.formats (words_pairs s)
           ∙ ap (λ (w : Walk). Some (codes "forward", finished rules w.held)) (options_walked s numbers))),
       record {
-        pairs = ap (one_of (number_id pairs)) last ∙ (value_pairs s are.pairs.said refl ∙ ap (λ (t : Text). Some t) are.pairs.value);
-        ring = ap (one_of (number_id ring)) last ∙ (value_ring s are.ring.said refl ∙ ap (λ (t : Text). Some t) are.ring.value);
-        buffers = ap (one_of (number_id buffers)) last ∙ (value_buffers s are.buffers.said refl ∙ ap (λ (t : Text). Some t) are.buffers.value);
-        bsize = ap (one_of (number_id bsize)) last ∙ (value_bsize s are.bsize.said refl ∙ ap (λ (t : Text). Some t) are.bsize.value);
-        batch = ap (one_of (number_id batch)) last ∙ (value_batch s are.batch.said refl ∙ ap (λ (t : Text). Some t) are.batch.value);
-        rs_every = ap (one_of (number_id rs_every)) last ∙ (value_rs_every s are.rs_every.said refl ∙ ap (λ (t : Text). Some t) are.rs_every.value);
-        workers = ap (one_of (number_id workers)) last ∙ (value_workers s are.workers.said refl ∙ ap (λ (t : Text). Some t) are.workers.value);
-        turns = ap (one_of (number_id turns)) last ∙ (value_turns s are.turns.said refl ∙ ap (λ (t : Text). Some t) are.turns.value);
-        drop = ap (one_of (flag_id drop_en)) last ∙ value_drop_en s config.drop_en refl;
-        no_retry = ap (one_of (flag_id no_retry)) last ∙ value_no_retry s (not config.retry) refl;
-        head = ap (one_of (flag_id head)) last ∙ value_head s (is_head config.completion) refl;
+        pairs = ap (one_of (number_id pairs)) last ∙ (number_value pairs [] (behind_pairs s) are.pairs.said refl refl ∙ ap (λ (t : Text). Some t) are.pairs.value);
+        ring = ap (one_of (number_id ring)) last ∙ (number_value ring (uses_pairs s) (behind_ring s) are.ring.said refl refl ∙ ap (λ (t : Text). Some t) are.ring.value);
+        buffers = ap (one_of (number_id buffers)) last ∙ (number_value buffers (uses_ring s) (behind_buffers s) are.buffers.said refl refl ∙ ap (λ (t : Text). Some t) are.buffers.value);
+        bsize = ap (one_of (number_id bsize)) last ∙ (number_value bsize (uses_buffers s) (behind_bsize s) are.bsize.said refl refl ∙ ap (λ (t : Text). Some t) are.bsize.value);
+        batch = ap (one_of (number_id batch)) last ∙ (number_value batch (uses_bsize s) (behind_batch s) are.batch.said refl refl ∙ ap (λ (t : Text). Some t) are.batch.value);
+        rs_every = ap (one_of (number_id rs_every)) last ∙ (number_value rs_every (uses_batch s) (behind_rs_every s) are.rs_every.said refl refl ∙ ap (λ (t : Text). Some t) are.rs_every.value);
+        workers = ap (one_of (number_id workers)) last ∙ (number_value workers (uses_rs_every s) (behind_workers s) are.workers.said refl refl ∙ ap (λ (t : Text). Some t) are.workers.value);
+        turns = ap (one_of (number_id turns)) last ∙ (number_value turns (uses_workers s) (behind_turns s) are.turns.said refl refl ∙ ap (λ (t : Text). Some t) are.turns.value);
+        drop = ap (one_of (flag_id drop_en)) last ∙ flag_value drop_en (uses_turns s) (behind_drop_en s) config.drop_en refl refl;
+        no_retry = ap (one_of (flag_id no_retry)) last ∙ flag_value no_retry (uses_drop_en s) (behind_no_retry s) (not config.retry) refl refl;
+        head = ap (one_of (flag_id head)) last ∙ flag_value head (uses_no_retry s) [] (is_head config.completion) refl refl;
         queues_fit = (are.pairs.fits, are.ring.fits, are.buffers.fits, are.bsize.fits);
         work_fits = (are.batch.fits, are.rs_every.fits, are.workers.fits, are.turns.fits);
       },
     )
 
 -- a configuration, from its parts
-pub config_is : (config : Config) (given : Config)
-    → given.pairs ≡ config.pairs
-    → given.ring ≡ config.ring
-    → given.buffers ≡ config.buffers
-    → given.bsize ≡ config.bsize
-    → given.batch ≡ config.batch
-    → given.rs_every ≡ config.rs_every
-    → given.workers ≡ config.workers
-    → given.turns ≡ config.turns
-    → given.drop_en ≡ config.drop_en
-    → given.retry ≡ config.retry
-    → given.completion ≡ config.completion
-    → given ≡ config
-config_is config given p r b z a e w t d y c = cc
+pub config_is : (config : Config) (p r b z a e w t : ℕ) (d y : Bool) (c : Completion) → p ≡ config.pairs → r ≡ config.ring → b ≡ config.buffers → z ≡ config.bsize
+    → a ≡ config.batch → e ≡ config.rs_every → w ≡ config.workers → t ≡ config.turns → d ≡ config.drop_en → y ≡ config.retry → c ≡ config.completion
+    → ◌≡◌ {A = Config} (record { pairs = p; ring = r; batch = a; buffers = b; bsize = z; rs_every = e; drop_en = d; retry = y; workers = w; turns = t; completion = c }) config
+config_is config p r b z a e w t d y c pairs_are ring_is buffers_are bsize_is batch_is rs_every_is workers_are turns_are drop_is retry_is completion_is =
+    rw (pairs_are, ring_is, buffers_are, bsize_is, batch_is, rs_every_is, workers_are, turns_are, drop_is, retry_is, completion_is) refl

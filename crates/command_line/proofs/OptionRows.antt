@@ -1,11 +1,11 @@
 -- What options that each may stand once leave in the rows of a parse: one row for each that stands, in their order, and at
 -- last a default for each that does not. It knows no command.
-use Rattle.std.proofs.Common.{◌≡◌, ◌∙◌, ap, ap₂, sym, subst, refl, ℕ, Bool, true, false, ◌&&◌, List, [], ◌∷◌, ◌++◌, Option, Some, None}
+use Rattle.std.proofs.Common.{◌≡◌, ◌∙◌, ap, sym, refl, Bool, true, false, List, [], ◌∷◌, ◌++◌, Option, Some, None}
 use Rattle.std.specs.Prelude.{◌||◌, if◌then◌else◌, find, fold}
 use Rattle.std.specs.List.{list_any}
 use Rattle.std.specs.Str.{bytes_eq}
 use Rattle.std.proofs.lemmas.List.{append_assoc, append-nil}
-use Rattle.clap.specs.Walk.{default_rows, has_row, reading_by, with_default, with_values, without, at_row}
+use Rattle.clap.specs.Walk.{default_rows, has_row, more_values, reading_by, with_default, with_values, without, at_row}
 use Rattle.clap.specs.Words.{Row, Rule, Text}
 use Rattle.clap.specs.declared.builder.value_parser.Reading.{Reading}
 use Rattle.clap.specs.declared.parser.matches.ValueSource.{ValueSource}
@@ -47,7 +47,7 @@ at_row-absent id change missing (r ∷ rs) absent =
 -- a use of an argument that was not used
 pub used-absent : (id : Text) (how : Reading) (source : ValueSource) (values : List Text) (rows : List Row) → has_row id rows ≡ false
     → with_values id how source values rows ≡ rows ++ row id how source values ∷ []
-used-absent id how source values rows absent = at_row-absent id _ (row id how source values ∷ []) rows absent
+used-absent id how source values rows absent = at_row-absent id (more_values source values) (row id how source values ∷ []) rows absent
 
 pub without-absent : (id : Text) (rows : List Row) → has_row id rows ≡ false → without id rows ≡ rows
 without-absent id rows absent = at_row-absent id (λ _. []) [] rows absent ∙ append-nil rows
@@ -101,10 +101,10 @@ use-absent id other how None is = refl
 use-absent id other how (Some values) is = both-false (bytes_eq other id) false is refl
 
 pub absent-in : (id : Text) (us : List OptionUse) → mentions id us ≡ false → has_row id (rows_in us) ≡ false
-absent-in id [] no = refl
-absent-in id (u ∷ us) no =
-    has_row-append id (use_rows u.id u.how u.values) (rows_in us) (use-absent id u.id u.how u.values (or-left (bytes_eq u.id id) (mentions id us) no))
-    (absent-in id us (or-right (bytes_eq u.id id) (mentions id us) no))
+absent-in id [] unseen = refl
+absent-in id (u ∷ us) unseen =
+    has_row-append id (use_rows u.id u.how u.values) (rows_in us) (use-absent id u.id u.how u.values (or-left (bytes_eq u.id id) (mentions id us) unseen))
+    (absent-in id us (or-right (bytes_eq u.id id) (mentions id us) unseen))
 
 rows_in-append : (us vs : List OptionUse) → rows_in (us ++ vs) ≡ rows_in us ++ rows_in vs
 rows_in-append [] vs = refl
@@ -123,10 +123,10 @@ rows-unused us id how = sym (append-nil (rows_in us)) ∙ sym (rows_in-append us
 -- the row of an option that stands
 pub found-use : (before after : List OptionUse) (id : Text) (how : Reading) (values : List Text) → mentions id before ≡ false → bytes_eq id id ≡ true
     → found id (rows_in (before ++ record { id = id; how = how; values = Some values } ∷ after)) ≡ Some (row id how CommandLine values)
-found-use before after id how values no same =
+found-use before after id how values unseen same =
     let u : OptionUse = record { id = id; how = how; values = Some values } in
     ap (found id) (rows_in-append before (u ∷ after))
-    ∙ (found-later id (rows_in before) (rows_in (u ∷ after)) (absent-in id before no)
+    ∙ (found-later id (rows_in before) (rows_in (u ∷ after)) (absent-in id before unseen)
     ∙ ap (λ b. if b then Some (row id how CommandLine values) else found id (rows_in after)) same)
 
 -- and of one that does not there is none
@@ -143,14 +143,14 @@ keeps-found : (id : Text) (a : Rule) (rows : List Row) (r : Row) → found id ro
 keeps-found id a rows r is = by-has (has_row a.id rows) refl
   where
     by-defaults : (ds : List Text) → has_row a.id rows ≡ false → found id (default_rows a.id (reading_by a) ds rows) ≡ Some r
-    by-defaults [] no = is
-    by-defaults (v ∷ vs) no =
-        ap (found id) (used-absent a.id (reading_by a) DefaultValue (v ∷ vs) rows no)
+    by-defaults [] unseen = is
+    by-defaults (v ∷ vs) unseen =
+        ap (found id) (used-absent a.id (reading_by a) DefaultValue (v ∷ vs) rows unseen)
         ∙ found-earlier id rows (row a.id (reading_by a) DefaultValue (v ∷ vs) ∷ []) r is
 
     by-has : (b : Bool) → has_row a.id rows ≡ b → found id (if b then rows else default_rows a.id (reading_by a) a.defaults rows) ≡ Some r
-    by-has true yes = is
-    by-has false no = by-defaults a.defaults no
+    by-has true seen = is
+    by-has false unseen = by-defaults a.defaults unseen
 
 -- what was found stays, whatever defaults come after it
 pub all-keep : (id : Text) (rules : List Rule) (rows : List Row) (r : Row) → found id rows ≡ Some r → found id (fold with_default rows rules) ≡ Some r
@@ -161,14 +161,14 @@ skips : (id : Text) (a : Rule) (rows : List Row) → has_row id rows ≡ false �
 skips id a rows absent other = by-has (has_row a.id rows) refl
   where
     by-defaults : (ds : List Text) → has_row a.id rows ≡ false → has_row id (default_rows a.id (reading_by a) ds rows) ≡ false
-    by-defaults [] no = absent
-    by-defaults (v ∷ vs) no =
-        ap (has_row id) (used-absent a.id (reading_by a) DefaultValue (v ∷ vs) rows no)
+    by-defaults [] unseen = absent
+    by-defaults (v ∷ vs) unseen =
+        ap (has_row id) (used-absent a.id (reading_by a) DefaultValue (v ∷ vs) rows unseen)
         ∙ has_row-append id rows (row a.id (reading_by a) DefaultValue (v ∷ vs) ∷ []) absent (both-false (bytes_eq a.id id) false other refl)
 
     by-has : (b : Bool) → has_row a.id rows ≡ b → has_row id (if b then rows else default_rows a.id (reading_by a) a.defaults rows) ≡ false
-    by-has true yes = absent
-    by-has false no = by-defaults a.defaults no
+    by-has true seen = absent
+    by-has false unseen = by-defaults a.defaults unseen
 
 all-skip : (id : Text) (rules : List Rule) (rows : List Row) → has_row id rows ≡ false → list_any (λ a. bytes_eq a.id id) rules ≡ false
     → has_row id (fold with_default rows rules) ≡ false

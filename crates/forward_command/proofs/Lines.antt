@@ -5,11 +5,21 @@ use Rattle.std.proofs.lemmas.List.{append_assoc, append-nil, at_drop_all, at_dro
 use Rattle.flows.specs.declared.report.FlowReport.{FlowReport}
 use Rattle.wire_script.specs.Frame.{Frame, frame_of}
 use Rattle.wire_script.specs.Script.{line_for, text_for}
-use Rattle.forward_command.specs.Text.{flow_line, flow_lines, report_text, wires_from}
+use Rattle.forward_command.specs.Text.{driven_words, ending_words, flow_line, flow_lines, offered_words, report_text, wires_from}
 
 -- a part more, where the rest begins with it
 part-more : (part rest before after whole : List ℕ) → before ++ (part ++ rest) ≡ whole → after ≡ before ++ part → after ++ rest ≡ whole
 part-more part rest before after whole is grown = ap (λ (t : List ℕ). t ++ rest) grown ∙ (append_assoc before part rest ∙ is)
+
+-- the three parts of a flow's line
+pub line-written : (port queue : ℕ) (r : FlowReport) (before t1 t2 t3 : List ℕ) → t1 ≡ before ++ offered_words port queue r → t2 ≡ t1 ++ driven_words r
+    → t3 ≡ t2 ++ ending_words r → t3 ≡ before ++ flow_line port queue r
+unfolding flow_line
+line-written port queue r before t1 t2 t3 one two three = parts (offered_words port queue r) (driven_words r) (ending_words r) one two three
+  where
+    parts : (a b c : List ℕ) → t1 ≡ before ++ a → t2 ≡ t1 ++ b → t3 ≡ t2 ++ c → t3 ≡ before ++ (a ++ (b ++ c))
+    parts a b c one two three =
+        three ∙ (ap (λ (t : List ℕ). t ++ c) (two ∙ ap (λ (t : List ℕ). t ++ b) one) ∙ (append_assoc (before ++ a) b c ∙ append_assoc before a (b ++ c)))
 
 -- a frame more of a wire
 pub frame-more : (port queue : ℕ) (bytes : List ℕ) (rest : List (List ℕ)) (before after whole : List ℕ)

@@ -19,19 +19,24 @@ abbrev pub ended_word : Ended → List ℕ
 ended_word Drained = codes "drained"
 ended_word Cut = codes "cut"
 
--- words, a number, and what comes after it
-abbrev pub counted : List ℕ → ℕ → List ℕ → List ℕ
-counted words n rest = words ++ (decimal n ++ rest)
+-- what a flow was offered, which came in at this port and queue, and what became of it at its receive ring
+abbrev pub offered_words : ℕ → ℕ → FlowReport → List ℕ
+offered_words port queue r =
+    codes "flow " ++ (decimal port ++ (codes " " ++ (decimal queue ++ (codes " offered " ++ (decimal r.offered
+    ++ (codes " stored " ++ (decimal r.stored ++ (codes " dropped " ++ (decimal r.dropped ++ (codes " oversize " ++ decimal r.oversize))))))))))
 
--- the line of the flow that came in at this port and queue
+-- what its driver did
+abbrev pub driven_words : FlowReport → List ℕ
+driven_words r = codes " taken " ++ (decimal r.taken ++ (codes " posted " ++ (decimal r.posted ++ (codes " tx-dropped " ++ decimal r.tx_dropped))))
+
+-- what went out of it, what was left, and how it ended
+abbrev pub ending_words : FlowReport → List ℕ
+ending_words r =
+    codes " wire " ++ (decimal (length r.wire) ++ (codes " left " ++ (decimal r.left ++ (codes " ended " ++ (ended_word r.ended ++ 10 ∷ [])))))
+
+-- the line of a flow
 unfoldable pub flow_line : ℕ → ℕ → FlowReport → List ℕ
-flow_line port queue r =
-    let ending : List ℕ = codes " ended " ++ (ended_word r.ended ++ 10 ∷ []) in
-    let sent : List ℕ = counted (codes " tx-dropped ") r.tx_dropped (counted (codes " wire ") (length r.wire) (counted (codes " left ") r.left ending)) in
-    let driven : List ℕ = counted (codes " taken ") r.taken (counted (codes " posted ") r.posted sent) in
-    let refused : List ℕ = counted (codes " dropped ") r.dropped (counted (codes " oversize ") r.oversize driven) in
-    let offered : List ℕ = counted (codes " offered ") r.offered (counted (codes " stored ") r.stored refused) in
-    counted (codes "flow ") port (counted (codes " ") queue offered)
+flow_line port queue r = offered_words port queue r ++ (driven_words r ++ ending_words r)
 
 -- the lines of the flows that came in at a port, at its queues from this one on
 abbrev pub flow_lines : ℕ → ℕ → List FlowReport → List ℕ

@@ -5,7 +5,7 @@ ghost use Rattle.limits.specs.declared.profile.TheConstants.{MOST_PAIRS, PORTS};
 ghost use Rattle.commands.specs.declared.refusal.Refusal.TheVariants.{Memory};
 ghost use Rattle.wire_script.specs.Frame.{frame_of};
 ghost use Rattle.wire_script.specs.Script.{text_for};
-ghost use Rattle.forward_command.specs.Text.{ended_word, flow_line, flow_lines, report_text, wires_from};
+ghost use Rattle.forward_command.specs.Text.{driven_words, ended_word, ending_words, flow_line, flow_lines, offered_words, report_text, wires_from};
 
 use commands::Refusal;
 use controller::Wire;
@@ -94,24 +94,58 @@ fn write_wires(
 }
 
 /// Writes the line of a flow, which came in at this port and queue.
-#[tactic(auto, unfolding(crate::specs::Text::flow_line))]
 fn write_flow(text: &mut String, port: u8, queue: u8, flow: &FlowReport) -> Result<(), Refusal>
     ensures line { OnOk result (string_bytes text.new ≡ string_bytes text.old ++ flow_line port queue flow.now) }
     ensures refused { IfErr result (λ e. e ≡ Memory) }
 {
-    let (wire, word) = (flow.wire.len(), word_of(flow.ended));
-    writeln!(
+    write_offered(text, port, queue, flow)?;
+    write_driven(text, flow)?;
+    write_ending(text, flow)
+}
+
+/// Writes what a flow was offered, and what became of it at its receive ring.
+fn write_offered(
+    text: &mut String,
+    port: u8,
+    queue: u8,
+    flow: &FlowReport,
+) -> Result<(), Refusal>
+    ensures words { OnOk result (string_bytes text.new ≡ string_bytes text.old ++ offered_words port queue flow.now) }
+    ensures refused { IfErr result (λ e. e ≡ Memory) }
+{
+    write!(
         text,
-        "flow {port} {queue} offered {} stored {} dropped {} oversize {} taken {} posted {} tx-dropped {} wire {wire} left {} ended {word}",
+        "flow {port} {queue} offered {} stored {} dropped {} oversize {}",
         flow.offered,
         flow.stored,
         flow.dropped,
         flow.oversize,
+    )?;
+    Ok(())
+}
+
+/// Writes what the driver of a flow did.
+fn write_driven(text: &mut String, flow: &FlowReport) -> Result<(), Refusal>
+    ensures words { OnOk result (string_bytes text.new ≡ string_bytes text.old ++ driven_words flow.now) }
+    ensures refused { IfErr result (λ e. e ≡ Memory) }
+{
+    write!(
+        text,
+        " taken {} posted {} tx-dropped {}",
         flow.taken,
         flow.posted,
         flow.tx_dropped,
-        flow.left,
     )?;
+    Ok(())
+}
+
+/// Writes what went out of a flow, what was left, and how it ended.
+fn write_ending(text: &mut String, flow: &FlowReport) -> Result<(), Refusal>
+    ensures words { OnOk result (string_bytes text.new ≡ string_bytes text.old ++ ending_words flow.now) }
+    ensures refused { IfErr result (λ e. e ≡ Memory) }
+{
+    let (wire, word) = (flow.wire.len(), word_of(flow.ended));
+    writeln!(text, " wire {wire} left {} ended {word}", flow.left)?;
     Ok(())
 }
 

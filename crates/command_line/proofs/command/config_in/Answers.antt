@@ -63,7 +63,9 @@ returns c config has =
     let drop = reads_flag config.drop_en c.get_flag-drop_en.result _ c.get_flag-drop_en.ensures.value c.get_flag-drop_en.ensures.other (text_is found (codes "drop") _ has.drop) in
     let no_retry = reads_flag (not config.retry) c.get_flag-retry.result _ c.get_flag-retry.ensures.value c.get_flag-retry.ensures.other (text_is found (codes "no-retry") _ has.no_retry) in
     let completion = c.completion_in-completion.ensures (is_head config.completion) has.head ∙ completion_is config.completion in
-    ap (λ (given : Config). Some given) (config_is config _
+    ap (λ (given : Config). Some given)
+    (config_is config c.in_ok-pairs.pairs c.in_ok-ring.ring c.in_ok-buffers.buffers c.in_ok-bsize.bsize c.in_ok-batch.batch c.in_ok-rs_every.rs_every
+    c.in_ok-workers.workers c.in_ok-turns.turns c.get_flag-drop_en.result (not c.get_flag-retry.result) c.completion_in-completion.result
     (ap (λ (o : Option ℕ). unwrap_or o config.pairs) pairs)
     (ap (λ (o : Option ℕ). unwrap_or o config.ring) ring)
     (ap (λ (o : Option ℕ). unwrap_or o config.buffers) buffers)
