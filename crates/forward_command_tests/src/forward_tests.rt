@@ -1,19 +1,14 @@
 //! Scripts from text to text.
 
+use crate::crowd::{FLOWS, crowd, crowd_forwarded};
+use crate::forty::{FORTY_WORDS, forty, forty_forwarded};
 use crate::forward_rows::ROWS;
 use crate::told::{comes_to, outcome_of};
-use std::alloc::{AllocError, Global};
+use std::alloc::Global;
 use std::process::Abort;
 use std::sync::Wait;
 use std::test::Fail;
 use std::thread::Threads;
-
-/// The bytes of the 40 frames, each of which has 60 of its byte.
-const LAST: u8 = 0x26;
-
-/// The line of the flow that has the 40 frames, and those of the others.
-const FLOWS: &str =
-    "flow 0 0 offered 0 stored 0 dropped 0 oversize 0 taken 0 posted 0 tx-dropped 0 wire 0 left 0 ended drained\nflow 0 1 offered 40 stored 40 dropped 0 oversize 0 taken 40 posted 40 tx-dropped 0 wire 40 left 0 ended drained\nflow 1 0 offered 0 stored 0 dropped 0 oversize 0 taken 0 posted 0 tx-dropped 0 wire 0 left 0 ended drained\nflow 1 1 offered 0 stored 0 dropped 0 oversize 0 taken 0 posted 0 tx-dropped 0 wire 0 left 0 ended drained\n";
 
 /// Options beside two pairs and rings of 8 that change nothing of what is printed.
 const SAME: &[&[&str]] = &[
@@ -29,37 +24,6 @@ const SAME: &[&[&str]] = &[
     &["--rs-every", "4096", "--turns", "4294967295"],
 ];
 
-/// A script of 40 frames that come in at port 0, queue 1.
-fn forty(alloc: Global) -> Result<String, AllocError> {
-    let mut script = String::new(alloc);
-    for byte in 0..=LAST {
-        writeln!(script, "0 1 fill 60 {byte:02x}")?;
-    }
-    writeln!(script, "0 1 fill 60 ff")?;
-    Ok(script)
-}
-
-/// A frame's line as it goes out: 60 times a byte, whose second is one greater.
-fn write_touched(text: &mut String, byte: u8) -> Result<(), AllocError> {
-    let touched = byte.wrapping_add(1);
-    write!(text, "1 1 {byte:02x}{touched:02x}")?;
-    for _ in 0..58 {
-        write!(text, "{byte:02x}")?;
-    }
-    text.push('\n')
-}
-
-/// What they print.
-fn forty_forwarded(alloc: Global) -> Result<String, AllocError> {
-    let mut text = String::new(alloc);
-    for byte in 0..=LAST {
-        write_touched(&mut text, byte)?;
-    }
-    write_touched(&mut text, 0xff)?;
-    text.push_str(FLOWS)?;
-    Ok(text)
-}
-
 /// With these options the 40 frames are printed so.
 fn forwards_forty<R: Abort + Threads + Wait + Sync>(
     rt: &R,
@@ -69,7 +33,7 @@ fn forwards_forty<R: Abort + Threads + Wait + Sync>(
     printed: &str,
 ) -> Result<(), Fail> {
     let mut words = Vec::new(alloc);
-    words.extend_from_slice(["forward", "--pairs", "2", "--ring", "8"].as_slice())?;
+    words.extend_from_slice(FORTY_WORDS)?;
     words.extend_from_slice(options)?;
     comes_to(rt, alloc, words.as_slice(), script, (0, printed, ""))
 }
@@ -106,5 +70,35 @@ fn a_flow_that_is_cut_says_so(rt: HostRuntime) -> Result<(), Fail> {
         "{}",
         told.output
     );
+    Ok(())
+}
+
+#[test]
+fn ten_frames_of_15_000_bytes_go_out(rt: HostRuntime) -> Result<(), Fail> {
+    let mut script = String::new(rt.alloc());
+    for _ in 0..10 {
+        script.push_str("0 0 fill 15000 00\n")?;
+    }
+    let words = ["forward", "--ring", "16", "--bsize", "1024"];
+    let told = outcome_of(&rt, rt.alloc(), words.as_slice(), script.as_str())?;
+    assert_eq!(rt; told.status, 0);
+    assert!(rt;
+        told.output
+            .contains("\nflow 0 0 offered 10 stored 10 dropped 0 oversize 0 taken 10 posted 10 tx-dropped 0 wire 10 left 0 ended drained\n")
+    );
+    Ok(())
+}
+
+#[test]
+fn sixteen_flows_are_printed_alike_by_each_number_of_workers(rt: HostRuntime) -> Result<(), Fail> {
+    let script = crowd(rt.alloc())?;
+    let printed = crowd_forwarded(rt.alloc())?;
+    for workers in 1..=FLOWS {
+        let count = format!(in rt.alloc(); "{workers}")?;
+        let words = ["forward", "--pairs", "8", "--workers", count.as_str()];
+        let told = outcome_of(&rt, rt.alloc(), words.as_slice(), script.as_str())?;
+        assert!(rt; told.output == printed, "with {workers} workers");
+        assert_eq!(rt; told.status, 0);
+    }
     Ok(())
 }

@@ -6,6 +6,10 @@
 #![tactic(auto)]
 
 #[cfg(test)]
+mod crowd;
+#[cfg(test)]
+mod forty;
+#[cfg(test)]
 mod forward_rows;
 #[cfg(test)]
 mod forward_tests;

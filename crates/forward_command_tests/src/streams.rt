@@ -54,6 +54,61 @@ impl Write for Narrow {
     }
 }
 
+/// How many bytes a stream in pieces gives or takes at once.
+pub const PIECE: usize = 100;
+
+/// A stream that gives its bytes in pieces, of which only so many can be read.
+#[derive(Drop)]
+pub struct Halting<'a> {
+    pub left: &'a [u8],
+    pub pieces: usize,
+}
+
+impl<'a> Read for Halting<'a> {
+    fn read(&mut self, buf: &mut [u8]) -> io::Result<usize> {
+        if self.pieces == 0 {
+            return Err(io::Error::from(ErrorKind::BrokenPipe));
+        }
+        self.pieces -= 1;
+        let count = buf.len().min(self.left.len()).min(PIECE);
+        buf[..count].copy_from_slice(&self.left[..count]);
+        self.left = &self.left[count..];
+        Ok(count)
+    }
+}
+
+/// A stream that takes so many pieces, and then fails.
+#[derive(Drop)]
+pub struct Piecemeal {
+    pieces: usize,
+    pub taken: Vec<u8>,
+}
+
+impl Piecemeal {
+    pub fn new(alloc: Global, pieces: usize) -> Piecemeal {
+        Piecemeal {
+            pieces,
+            taken: Vec::new(alloc),
+        }
+    }
+}
+
+impl Write for Piecemeal {
+    fn write(&mut self, buf: &[u8]) -> io::Result<usize> {
+        if self.pieces == 0 {
+            return Err(io::Error::from(ErrorKind::BrokenPipe));
+        }
+        self.pieces -= 1;
+        let count = buf.len().min(PIECE);
+        self.taken.extend_from_slice(&buf[..count])?;
+        Ok(count)
+    }
+
+    fn flush(&mut self) -> io::Result<()> {
+        Ok(())
+    }
+}
+
 /// A stream that takes all bytes, and fails where it is flushed.
 #[derive(Drop)]
 pub struct Unflushed;
