@@ -12,7 +12,22 @@ use Rattle.commands.specs.Replay.{EndsReplay, HasReplayed}
 use Rattle.forward_command.proofs.Endings.{kept}
 use Rattle.forward_command.specs.Forwards.{EndsForward}
 use Rattle.forwarder.specs.declared.config.Config.{Config}
-use Rattle.command_line.specs.CommandLine.{IsDecode, IsOnce, IsReplayOf}
+use Rattle.command_line.specs.CommandLine.{IsDecode, IsForward, IsOnce, IsReplayOf, IsRequest}
+use Rattle.command_line.specs.declared.command.Asked.{Asked}
+use Rattle.command_line.specs.declared.command.Asked.TheVariants as asked
+
+-- what was asked for is a request, or to forward, and not both
+pub as-request : (P : Request → Type 0) (a : Asked) (request : Request) → a ≡ asked.Request request → IsRequest P a → P request
+as-request P a request is has = subst (IsRequest P) is has
+
+pub no-request : (P : Request → Type 0) (a : Asked) (given : Config) → a ≡ asked.Forward given → IsRequest P a → ⊥
+no-request P a given is has = subst (IsRequest P) is has
+
+pub as-forward : (a : Asked) (given config : Config) → a ≡ asked.Forward given → IsForward a config → given ≡ config
+as-forward a given config is has = subst (λ (b : Asked). IsForward b config) is has
+
+pub no-forward : (a : Asked) (request : Request) (config : Config) → a ≡ asked.Request request → IsForward a config → ⊥
+no-forward a request config is has = subst (λ (b : Asked). IsForward b config) is has
 
 pub once-ends : (request : Request) (digits : List ℕ) (input : Option (List ℕ)) (status : ℕ) (old new : Option (List ℕ)) → IsOnce request digits
     → EndsAs request input status old new → Ends (frame_in digits) status old new
