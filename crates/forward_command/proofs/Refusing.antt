@@ -13,7 +13,7 @@ use Rattle.wire_script.specs.ScriptError.{Fails}
 use Rattle.wire_script.specs.declared.error.ScriptError.{ScriptError}
 use Rattle.commands.specs.declared.refusal.Refusal.{Refusal}
 use Rattle.commands.specs.declared.refusal.Refusal.TheVariants as refusal
-use Rattle.forward_command.specs.Forwards.{ForwardRefused, HasReport, IsForwardable}
+use Rattle.forward_command.specs.Forwards.{ForwardRefused, HasReport}
 
 -- a fault of the script
 pub by-script : (config : Config) (text : List ℕ) (e : Refusal) (fault : ScriptError) → e ≡ refusal.Script fault → Fails fault (script_of text)

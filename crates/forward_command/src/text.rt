@@ -104,22 +104,14 @@ fn write_flow(text: &mut String, port: u8, queue: u8, flow: &FlowReport) -> Resu
 }
 
 /// Writes what a flow was offered, and what became of it at its receive ring.
-fn write_offered(
-    text: &mut String,
-    port: u8,
-    queue: u8,
-    flow: &FlowReport,
-) -> Result<(), Refusal>
+fn write_offered(text: &mut String, port: u8, queue: u8, flow: &FlowReport) -> Result<(), Refusal>
     ensures words { OnOk result (string_bytes text.new ≡ string_bytes text.old ++ offered_words port queue flow.now) }
     ensures refused { IfErr result (λ e. e ≡ Memory) }
 {
     write!(
         text,
         "flow {port} {queue} offered {} stored {} dropped {} oversize {}",
-        flow.offered,
-        flow.stored,
-        flow.dropped,
-        flow.oversize,
+        flow.offered, flow.stored, flow.dropped, flow.oversize,
     )?;
     Ok(())
 }
@@ -132,9 +124,7 @@ fn write_driven(text: &mut String, flow: &FlowReport) -> Result<(), Refusal>
     write!(
         text,
         " taken {} posted {} tx-dropped {}",
-        flow.taken,
-        flow.posted,
-        flow.tx_dropped,
+        flow.taken, flow.posted, flow.tx_dropped,
     )?;
     Ok(())
 }

@@ -1,4 +1,4 @@
-use Rattle.std.proofs.Common.{◌≡◌, ◌∙◌, ap, sym, codes}
+use Rattle.std.proofs.Common.{◌∙◌, ap, sym, codes}
 use Rattle.clap.specs.Words.{found_of}
 use Rattle.command_line.specs.CommandLine.{completion_of}
 use Rattle.command_line.proofs.CommandLine.{reads_flag, text_is}

@@ -1,5 +1,5 @@
 -- Each number and each flag is that of the configuration.
-use Rattle.std.proofs.Common.{◌≡◌, ◌∙◌, ap, sym, ℕ, codes, Option, Some, None, unwrap_or}
+use Rattle.std.proofs.Common.{◌≡◌, ◌∙◌, ap, ℕ, codes, Option, Some, None, unwrap_or}
 use Rattle.std.specs.Prelude.{decimal, not}
 use Rattle.clap.specs.Words.{found_of}
 use Rattle.forwarder.specs.declared.config.Config.{Config}

@@ -1,4 +1,4 @@
-use Rattle.std.proofs.Common.{◌≡◌, ◌∙◌, ap, sym, ℕ, codes, Option, Some, None, unwrap_or}
+use Rattle.std.proofs.Common.{◌≡◌, ◌∙◌, ap, ℕ, codes, Option, Some, None, unwrap_or}
 use Rattle.std.specs.Prelude.{decimal, not}
 use Rattle.clap.specs.Words.{found_of}
 use Rattle.command_line.specs.CommandLine.{is_head}

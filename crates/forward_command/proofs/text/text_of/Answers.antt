@@ -1,4 +1,3 @@
-use Rattle.std.proofs.Common.{rules}
 use Rattle.std.specs.String.{string_bytes}
 use Rattle.forward_command.proofs.Lines.{report-written}
 use Rattle.forward_command.proofs.text.text_of.Goals as goal

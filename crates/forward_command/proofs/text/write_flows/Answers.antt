@@ -1,4 +1,4 @@
-use Rattle.std.proofs.Common.{◌≡◌, ◌++◌, ◌∙◌, ap, arith, rules}
+use Rattle.std.proofs.Common.{◌++◌, ◌∙◌, ap, arith, rules}
 use Rattle.std.specs.String.{string_bytes}
 use Rattle.forward_command.specs.Text.{flow_line}
 use Rattle.forward_command.proofs.Lines.{flows-all, flows-more}

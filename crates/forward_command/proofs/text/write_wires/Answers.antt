@@ -1,4 +1,4 @@
-use Rattle.std.proofs.Common.{◌≡◌, ◌++◌, ◌∙◌, ap, map, arith, rules}
+use Rattle.std.proofs.Common.{◌++◌, ◌∙◌, ap, map, arith, rules}
 use Rattle.std.specs.String.{string_bytes}
 use Rattle.wire_script.specs.Frame.{frame_of}
 use Rattle.wire_script.specs.Script.{text_for}
