@@ -83,8 +83,9 @@ fn ten_frames_of_15_000_bytes_go_out(rt: HostRuntime) -> Result<(), Fail> {
     let told = outcome_of(&rt, rt.alloc(), words.as_slice(), script.as_str())?;
     assert_eq!(rt; told.status, 0);
     assert!(rt;
-        told.output
-            .contains("\nflow 0 0 offered 10 stored 10 dropped 0 oversize 0 taken 10 posted 10 tx-dropped 0 wire 10 left 0 ended drained\n")
+        told.output.contains(
+            "\nflow 0 0 offered 10 stored 10 dropped 0 oversize 0 taken 10 posted 10 tx-dropped 0 wire 10 left 0 ended drained\n"
+        )
     );
     Ok(())
 }

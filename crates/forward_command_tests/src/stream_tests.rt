@@ -91,15 +91,11 @@ fn each_write_that_fails_leaves_a_beginning(rt: HostRuntime) -> Result<(), Fail>
         let mut input = script.as_bytes();
         let mut output = Piecemeal::new(rt.alloc(), pieces);
         let line = "refused 84 output\n";
-        is_refused(
-            &rt,
-            rt.alloc(),
-            FORTY_WORDS,
-            &mut input,
-            &mut output,
-            line,
-        )?;
-        assert_eq!(rt; output.taken.as_slice(), &printed.as_bytes()[..pieces * PIECE]);
+        is_refused(&rt, rt.alloc(), FORTY_WORDS, &mut input, &mut output, line)?;
+        assert_eq!(rt;
+            output.taken.as_slice(),
+            &printed.as_bytes()[..pieces * PIECE]
+        );
     }
     Ok(())
 }
@@ -114,14 +110,7 @@ fn each_read_that_fails_is_refused(rt: HostRuntime) -> Result<(), Fail> {
         };
         let mut output = Vec::new(rt.alloc());
         let line = "refused 82 input\n";
-        is_refused(
-            &rt,
-            rt.alloc(),
-            FORTY_WORDS,
-            &mut input,
-            &mut output,
-            line,
-        )?;
+        is_refused(&rt, rt.alloc(), FORTY_WORDS, &mut input, &mut output, line)?;
         assert!(rt; output.is_empty());
     }
     Ok(())
