@@ -9,7 +9,25 @@ use Rattle.commands.specs.declared.request.Request.TheVariants.{Once, Decode, Re
 use Rattle.commands.specs.Answers.{Ends, EndsAs, EndsDecode}
 use Rattle.commands.specs.Frame.{frame_in}
 use Rattle.commands.specs.Replay.{EndsReplay, HasReplayed}
-use Rattle.command_line.specs.CommandLine.{IsDecode, IsOnce, IsReplayOf}
+use Rattle.forward_command.proofs.Endings.{kept}
+use Rattle.forward_command.specs.Forwards.{EndsForward}
+use Rattle.forwarder.specs.declared.config.Config.{Config}
+use Rattle.command_line.specs.CommandLine.{IsDecode, IsForward, IsOnce, IsReplayOf, IsRequest}
+use Rattle.command_line.specs.declared.command.Asked.{Asked}
+use Rattle.command_line.specs.declared.command.Asked.TheVariants as asked
+
+-- what was asked for is a request, or to forward, and not both
+pub as-request : (P : Request → Type 0) (a : Asked) (request : Request) → a ≡ asked.Request request → IsRequest P a → P request
+as-request P a request is has = subst (IsRequest P) is has
+
+pub no-request : (P : Request → Type 0) (a : Asked) (given : Config) → a ≡ asked.Forward given → IsRequest P a → ⊥
+no-request P a given is has = subst (IsRequest P) is has
+
+pub as-forward : (a : Asked) (given config : Config) → a ≡ asked.Forward given → IsForward a config → given ≡ config
+as-forward a given config is has = subst (λ (b : Asked). IsForward b config) is has
+
+pub no-forward : (a : Asked) (request : Request) (config : Config) → a ≡ asked.Request request → IsForward a config → ⊥
+no-forward a request config is has = subst (λ (b : Asked). IsForward b config) is has
 
 pub once-ends : (request : Request) (digits : List ℕ) (input : Option (List ℕ)) (status : ℕ) (old new : Option (List ℕ)) → IsOnce request digits
     → EndsAs request input status old new → Ends (frame_in digits) status old new
@@ -36,3 +54,10 @@ undone plan text old new e = let bad : ⊥ = cc e in absurd bad
 -- whatever the text is, a refusal that prints nothing ends it
 pub replay-kept : (plan : QueuePlan) (text : List ℕ) (old new : Option (List ℕ)) → Keeps old new → EndsReplay plan text REFUSED old new
 replay-kept plan text old new kept = record { done = undone plan text old new; either = inr refl; faulty = λ k f. (refl, kept); no_queues = λ no. (refl, kept) }
+
+pub forward-ends : (given config : Config) (text : List ℕ) (input : Option (List ℕ)) (status : ℕ) (old new : Option (List ℕ)) → given ≡ config
+    → input ≡ Some text → ((t : List ℕ) → input ≡ Some t → EndsForward given t status old new) → EndsForward config text status old new
+forward-ends given config text input status old new is known ends = subst (λ (c : Config). EndsForward c text status old new) is (ends text known)
+
+pub forward-kept : (config : Config) (text : List ℕ) (old new : Option (List ℕ)) → Keeps old new → EndsForward config text REFUSED old new
+forward-kept config text old new keeps = kept config text old new keeps

@@ -2,4 +2,6 @@ pub mod CommandLine
 pub mod DecodeWords
 pub mod OnceWords
 pub mod ReplayWords
+mod OptionRows
+pub mod ForwardWords
 pub mod Endings

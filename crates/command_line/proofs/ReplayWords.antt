@@ -15,7 +15,7 @@ use Rattle.clap.proofs.OnLiterals.{clap_on_literals}
 use Rattle.ring_model.specs.declared.states.Completion.{Completion}
 use Rattle.ring_model.specs.declared.states.Completion.TheVariants.{Head, Status}
 use Rattle.commands.specs.declared.replay.QueuePlan.{QueuePlan}
-use Rattle.command_line.specs.CommandLine.{Choices, HasReplay, IsProgram, SaysNumber, SaysReplay, flag_words, is_head, program_app}
+use Rattle.command_line.specs.CommandLine.{Choices, HasReplay, IsProgram, SaysNumber, SaysReplay, completion_of, flag_words, is_head, program_app}
 use Rattle.command_line.proofs.CommandLine.{IsNumber, IsPlain, is_number, numeral_of, strips_none}
 
 -- ---- the options
@@ -436,13 +436,9 @@ pub begins_as : (b read : Bool) → read ≡ not b → not read ≡ b
 begins_as true read is = ap not is
 begins_as false read is = ap not is
 
-pub by_head : (c : Completion) → is_head c ≡ true → Head ≡ c
-by_head Head is = refl
-by_head Status is = cc
-
-pub by_status : (c : Completion) → is_head c ≡ false → Status ≡ c
-by_status Head is = cc
-by_status Status is = refl
+pub completion_is : (c : Completion) → completion_of (is_head c) ≡ c
+completion_is Head = refl
+completion_is Status = refl
 
 pub plan_is : (plan : QueuePlan) (n k : ℕ) (b : Bool) (c : Completion) → k ≡ plan.pairs → n ≡ plan.ring → b ≡ plan.enabled → c ≡ plan.completion
     → ◌≡◌ {A = QueuePlan} (record { pairs = k; ring = n; enabled = b; completion = c }) plan

@@ -14,6 +14,9 @@ use Rattle.commands.specs.declared.replay.QueuePlan.{QueuePlan}
 use Rattle.ring_model.specs.declared.states.Completion.{Completion}
 use Rattle.ring_model.specs.declared.states.Completion.TheVariants.{Head, Status}
 use Rattle.commands.specs.Decoding.{ring_word, format_word}
+use Rattle.forwarder.specs.declared.config.Config.{Config}
+use Rattle.command_line.specs.declared.command.Asked.{Asked}
+use Rattle.command_line.specs.declared.command.Asked.TheVariants as asked
 
 -- the argument of `once`
 abbrev pub hex_rule : Rule
@@ -56,8 +59,33 @@ replay_app =
     let with_pairs = with_rule with_ring (number_rule (codes "pairs") (codes "1")) in
     with_rule (with_rule with_pairs (flag_rule (codes "off"))) (flag_rule (codes "head"))
 
+-- the options of `forward` for queues and buffers
+abbrev pub with_queue_rules : App → App
+with_queue_rules app =
+    let with_pairs = with_rule app (number_rule (codes "pairs") (codes "1")) in
+    let with_ring = with_rule with_pairs (number_rule (codes "ring") (codes "512")) in
+    let with_buffers = with_rule with_ring (number_rule (codes "buffers") (codes "4096")) in
+    with_rule with_buffers (number_rule (codes "bsize") (codes "2048"))
+
+-- and for its workers
+abbrev pub with_work_rules : App → App
+with_work_rules app =
+    let with_batch = with_rule app (number_rule (codes "batch") (codes "32")) in
+    let with_rs_every = with_rule with_batch (number_rule (codes "rs-every") (codes "32")) in
+    let with_workers = with_rule with_rs_every (number_rule (codes "workers") (codes "1")) in
+    with_rule with_workers (number_rule (codes "turns") (codes "0"))
+
+-- the command `forward`
+abbrev pub forward_app : App
+forward_app =
+    let with_drop = with_rule (with_work_rules (with_queue_rules (new_app (codes "forward")))) (flag_rule (codes "drop")) in
+    with_rule (with_rule with_drop (flag_rule (codes "no-retry"))) (flag_rule (codes "head"))
+
 abbrev pub program_app : Choices → Choices → App
-program_app rings formats = with_subcommand (with_subcommand (with_subcommand bare_app once_app.top) (decode_app rings formats).top) replay_app.top
+program_app rings formats =
+    let with_once = with_subcommand bare_app once_app.top in
+    let with_decode = with_subcommand with_once (decode_app rings formats).top in
+    with_subcommand (with_subcommand with_decode replay_app.top) forward_app.top
 
 -- the command line is this one. clap keeps a list of choices by its address too, which is any
 pub record HasChoices (with_choices : Choices → Choices → App) (app : App) : Type 0 where
@@ -95,6 +123,10 @@ abbrev pub is_head : Completion → Bool
 is_head Head = true
 is_head Status = false
 
+abbrev pub completion_of : Bool → Completion
+completion_of true = Head
+completion_of false = Status
+
 -- the words are `replay` and its options in this order: `--off` stands where the queues begin disabled, and `--head`
 -- where they report by a head word
 pub record SaysReplay (words : List Text) (plan : QueuePlan) : Type 0 where
@@ -104,6 +136,29 @@ pub record SaysReplay (words : List Text) (plan : QueuePlan) : Type 0 where
   pub says_pairs : SaysNumber (codes "--pairs") 1 pairs plan.pairs
   pub words_are : words ≡ codes "replay" ∷ (ring ++ (pairs
       ++ (flag_words (codes "--off") (not plan.enabled) ++ flag_words (codes "--head") (is_head plan.completion))))
+
+-- the words are `forward` and its options in this order: `--drop` stands where frames are dropped, `--no-retry` where
+-- packets are, and `--head` where the transmit queues report by a head word
+pub record SaysForward (words : List Text) (config : Config) : Type 0 where
+  pub pairs : List Text
+  pub ring : List Text
+  pub buffers : List Text
+  pub bsize : List Text
+  pub batch : List Text
+  pub rs_every : List Text
+  pub workers : List Text
+  pub turns : List Text
+  pub says_pairs : SaysNumber (codes "--pairs") 1 pairs config.pairs
+  pub says_ring : SaysNumber (codes "--ring") 512 ring config.ring
+  pub says_buffers : SaysNumber (codes "--buffers") 4096 buffers config.buffers
+  pub says_bsize : SaysNumber (codes "--bsize") 2048 bsize config.bsize
+  pub says_batch : SaysNumber (codes "--batch") 32 batch config.batch
+  pub says_rs_every : SaysNumber (codes "--rs-every") 32 rs_every config.rs_every
+  pub says_workers : SaysNumber (codes "--workers") 1 workers config.workers
+  pub says_turns : SaysNumber (codes "--turns") 0 turns config.turns
+  pub words_are : words ≡ codes "forward" ∷ (pairs ++ (ring ++ (buffers ++ (bsize ++ (batch ++ (rs_every ++ (workers ++ (turns
+      ++ (flag_words (codes "--drop") config.drop_en ++ (flag_words (codes "--no-retry") (not config.retry)
+      ++ flag_words (codes "--head") (is_head config.completion)))))))))))
 
 -- the values of the arguments
 abbrev pub HasOnce : List Row → Text → Type 0
@@ -122,6 +177,21 @@ pub record HasReplay (rows : List Row) (plan : QueuePlan) : Type 0 where
   pub ring_fits : plan.ring < 2 ^ 32
   pub pairs_fits : plan.pairs < 2 ^ 32
 
+pub record HasForward (rows : List Row) (config : Config) : Type 0 where
+  pub pairs : one_of (codes "pairs") rows ≡ Some (decimal config.pairs)
+  pub ring : one_of (codes "ring") rows ≡ Some (decimal config.ring)
+  pub buffers : one_of (codes "buffers") rows ≡ Some (decimal config.buffers)
+  pub bsize : one_of (codes "bsize") rows ≡ Some (decimal config.bsize)
+  pub batch : one_of (codes "batch") rows ≡ Some (decimal config.batch)
+  pub rs_every : one_of (codes "rs-every") rows ≡ Some (decimal config.rs_every)
+  pub workers : one_of (codes "workers") rows ≡ Some (decimal config.workers)
+  pub turns : one_of (codes "turns") rows ≡ Some (decimal config.turns)
+  pub drop : one_of (codes "drop") rows ≡ Some (bool_text config.drop_en)
+  pub no_retry : one_of (codes "no-retry") rows ≡ Some (bool_text (not config.retry))
+  pub head : one_of (codes "head") rows ≡ Some (bool_text (is_head config.completion))
+  pub queues_fit : (config.pairs < 2 ^ 32) × (config.ring < 2 ^ 32) × (config.buffers < 2 ^ 32) × (config.bsize < 2 ^ 32)
+  pub work_fits : (config.batch < 2 ^ 32) × (config.rs_every < 2 ^ 32) × (config.workers < 2 ^ 32) × (config.turns < 2 ^ 32)
+
 -- what is asked for is `once` of these digits
 abbrev pub IsOnce : Request → Text → Type 0
 IsOnce (Once given) digits = given.now ≡ digits
@@ -136,6 +206,16 @@ IsDecode request form digits = ⊥
 abbrev pub IsReplayOf : Request → QueuePlan → Type 0
 IsReplayOf (Replay given) plan = given ≡ plan
 IsReplayOf request plan = ⊥
+
+-- what the words ask for is a request, of which this holds
+abbrev pub IsRequest : (Request → Type 0) → Asked → Type 0
+IsRequest P (asked.Request request) = P request
+IsRequest P (asked.Forward config) = ⊥
+
+-- it is to forward under this configuration
+abbrev pub IsForward : Asked → Config → Type 0
+IsForward (asked.Forward given) config = given ≡ config
+IsForward (asked.Request request) config = ⊥
 
 -- a mistake in the words, which is neither a call for help nor want of memory
 pub record IsMistake (kind : ErrorKind) : Type 0 where

@@ -1,21 +1,25 @@
 //! The words of the command line, as `clap` reads them, to a request.
-ghost use Rattle.std.specs.Prelude.{◌≡◌, ◌⊎◌, ℕ, List, Some, false, codes, map};
+ghost use Rattle.std.specs.Prelude.{◌≡◌, ◌⊎◌, ℕ, Bool, List, Some, false, codes, map};
 ghost use Rattle.std.specs.Prelude.{IfOk, IsErrAnd, IsSomeAnd, MatchResult};
 ghost use Rattle.std.specs.String.{string_bytes};
-ghost use Rattle.clap.specs.Words.{Row, Text, app_of, kind_of, found_of, rows_of, rule_of, subcommand_rows_of};
+ghost use Rattle.clap.specs.Words.{Row, Text, app_of, kind_of, found_of, one_of, rows_of, rule_of, subcommand_rows_of};
+ghost use Rattle.clap.specs.Values.{bool_text};
 ghost use Rattle.clap.specs.declared.builder.command.Command.TheViews.{out-Command};
 ghost use Rattle.clap.specs.declared.error.kind.ErrorKind.TheVariants.{OutOfMemory};
 ghost use Rattle.commands.specs.declared.decode.Form.{Form};
 ghost use Rattle.command_line.specs.CommandLine.{IsDecodeApp, IsProgram, choice_rule, hex_rule, once_app};
-ghost use Rattle.command_line.specs.CommandLine.{flag_rule, number_rule, replay_app};
+ghost use Rattle.command_line.specs.CommandLine.{flag_rule, forward_app, number_rule, replay_app, with_queue_rules, with_work_rules};
 ghost use Rattle.commands.specs.declared.replay.QueuePlan.{QueuePlan};
 ghost use Rattle.command_line.specs.CommandLine.{HasDecode, IsDecode, SaysDecode};
 ghost use Rattle.command_line.specs.CommandLine.{HasReplay, IsReplayOf, SaysReplay};
+ghost use Rattle.command_line.specs.CommandLine.{HasForward, IsForward, IsRequest, SaysForward, completion_of};
+ghost use Rattle.forwarder.specs.declared.config.Config.{Config as ForwardConfig};
 ghost use Rattle.command_line.specs.CommandLine.{HasOnce, IsMistake, IsMisuse, IsOnce, SaysOnce};
 
 use clap::error::ErrorKind;
 use clap::{Arg, ArgAction, ArgMatches, Command, Error, value_parser};
 use commands::{Form, QueuePlan, Request};
+use forwarder::Config;
 use ring_machine::Completion;
 use std::alloc::{AllocError, Global};
 
@@ -31,48 +35,66 @@ const DECODE_EXAMPLE: &str =
 const REPLAY_EXAMPLE: &str =
     "Example:\n  echo 'r0 A1 5' | poll82599 replay --ring 16\n  prints r0 A1 place 0\n  and moves 1 of 1";
 
+const FORWARD_EXAMPLES: &str =
+    "Examples:\n  echo '0 0 fill 14 05' | poll82599 forward\n  prints 1 0 0506050505050505050505050505\n  and flow 0 0 offered 1 stored 1 dropped 0 oversize 0 taken 1 posted 1 tx-dropped 0 wire 1 left 0 ended drained\n  and flow 1 0 offered 0 stored 0 dropped 0 oversize 0 taken 0 posted 0 tx-dropped 0 wire 0 left 0 ended drained\n\n  echo '1 0 fill 9000 00' | poll82599 forward --ring 8 --bsize 1024\n  prints flow 0 0 offered 0 stored 0 dropped 0 oversize 0 taken 0 posted 0 tx-dropped 0 wire 0 left 0 ended drained\n  and flow 1 0 offered 1 stored 0 dropped 0 oversize 1 taken 0 posted 0 tx-dropped 0 wire 0 left 0 ended drained";
+
 /// One example of each command.
 const EXAMPLES: &str =
-    "Examples:\n  poll82599 once 000102030405060708090a0b0c0d\n  poll82599 decode rx back 0000000000000000030000003c000000\n  echo 'r0 A1 5' | poll82599 replay --ring 16";
+    "Examples:\n  poll82599 once 000102030405060708090a0b0c0d\n  poll82599 decode rx back 0000000000000000030000003c000000\n  echo 'r0 A1 5' | poll82599 replay --ring 16\n  echo '0 0 fill 60 01' | poll82599 forward";
 
 static RINGS: [&str; 2] = ["rx", "tx"];
 
 static FORMATS: [&str; 2] = ["read", "back"];
 
+/// What the words ask for.
+#[derive(Clone, Copy)]
+pub enum Asked<'a> {
+    /// A request of `commands`.
+    Request(Request<'a>),
+    /// To forward the script of standard input.
+    Forward(Config),
+}
+
 /// Reads the words after the program's name. What it answers in place of a request is an error of `clap`, which is
 /// also how help is asked for.
-pub fn request_of<'a>(alloc: Global, words: &'a [String]) -> Result<Request<'a>, Error>
+pub fn asked_of<'a>(alloc: Global, words: &'a [String]) -> Result<Asked<'a>, Error>
     ensures once { (digits : List ℕ) → SaysOnce (map string_bytes words.entry.now) digits
-        → MatchResult result (λ r. IsOnce r digits) (λ e. kind_of e ≡ OutOfMemory) }
+        → MatchResult result (IsRequest (λ r. IsOnce r digits)) (λ e. kind_of e ≡ OutOfMemory) }
     ensures decode { (form : Form) (digits : List ℕ) → SaysDecode (map string_bytes words.entry.now) form digits
-        → MatchResult result (λ r. IsDecode r form digits) (λ e. kind_of e ≡ OutOfMemory) }
+        → MatchResult result (IsRequest (λ r. IsDecode r form digits)) (λ e. kind_of e ≡ OutOfMemory) }
     ensures replay { (plan : QueuePlan) → SaysReplay (map string_bytes words.entry.now) plan
-        → MatchResult result (λ r. IsReplayOf r plan) (λ e. kind_of e ≡ OutOfMemory) }
+        → MatchResult result (IsRequest (λ r. IsReplayOf r plan)) (λ e. kind_of e ≡ OutOfMemory) }
+    ensures forward { (config : ForwardConfig) → SaysForward (map string_bytes words.entry.now) config
+        → MatchResult result (λ a. IsForward a config) (λ e. kind_of e ≡ OutOfMemory) }
     ensures misuse { IsMisuse (map string_bytes words.entry.now)
         → IsErrAnd result (λ e. (kind_of e ≡ OutOfMemory) ⊎ IsMistake (kind_of e)) }
 {
     let mut program = program(alloc)?;
     let matches = program.try_get_matches_from_mut(words)?;
-    match request_in(&matches) {
-        Some(request) => Ok(request),
+    match asked_in(&matches) {
+        Some(asked) => Ok(asked),
         None => Err(program.error(ErrorKind::MissingSubcommand, "no command was given")?),
     }
 }
 
-/// The request in matches of the program's command line.
-fn request_in<'a>(matches: &ArgMatches<'a>) -> Option<Request<'a>>
+/// What is asked for in matches of the program's command line.
+fn asked_in<'a>(matches: &ArgMatches<'a>) -> Option<Asked<'a>>
     ensures once { (rows : List Row) (digits : Text) → subcommand_rows_of matches.now ≡ Some (codes "once", rows)
-        → HasOnce rows digits → IsSomeAnd result (λ r. IsOnce r digits) }
+        → HasOnce rows digits → IsSomeAnd result (IsRequest (λ r. IsOnce r digits)) }
     ensures decode { (rows : List Row) (form : Form) (digits : Text)
         → subcommand_rows_of matches.now ≡ Some (codes "decode", rows)
-        → HasDecode rows form digits → IsSomeAnd result (λ r. IsDecode r form digits) }
+        → HasDecode rows form digits → IsSomeAnd result (IsRequest (λ r. IsDecode r form digits)) }
     ensures replay { (rows : List Row) (plan : QueuePlan) → subcommand_rows_of matches.now ≡ Some (codes "replay", rows)
-        → HasReplay rows plan → IsSomeAnd result (λ r. IsReplayOf r plan) }
+        → HasReplay rows plan → IsSomeAnd result (IsRequest (λ r. IsReplayOf r plan)) }
+    ensures forward { (rows : List Row) (config : ForwardConfig)
+        → subcommand_rows_of matches.now ≡ Some (codes "forward", rows)
+        → HasForward rows config → IsSomeAnd result (λ a. IsForward a config) }
 {
     match matches.subcommand()? {
-        ("once", once) => once_in(once),
-        ("decode", decode) => decode_in(decode),
-        ("replay", replay) => replay_in(replay),
+        ("once", once) => Some(Asked::Request(once_in(once)?)),
+        ("decode", decode) => Some(Asked::Request(decode_in(decode)?)),
+        ("replay", replay) => Some(Asked::Request(replay_in(replay)?)),
+        ("forward", forward) => Some(Asked::Forward(config_in(forward)?)),
         _ => None,
     }
 }
@@ -104,11 +126,7 @@ fn replay_in<'a>(replay: &ArgMatches<'a>) -> Option<Request<'a>>
     let ring = replay.get_one("ring")?;
     let pairs = replay.get_one("pairs")?;
     let enabled = !replay.get_flag("off");
-    let completion = if replay.get_flag("head") {
-        Completion::Head
-    } else {
-        Completion::Status
-    };
+    let completion = completion_in(replay);
     Some(Request::Replay {
         plan: QueuePlan {
             pairs,
@@ -117,6 +135,48 @@ fn replay_in<'a>(replay: &ArgMatches<'a>) -> Option<Request<'a>>
             completion,
         },
     })
+}
+
+/// The configuration in matches of `forward`.
+fn config_in<'a>(forward: &ArgMatches<'a>) -> Option<Config>
+    ensures { (config : ForwardConfig) → HasForward (rows_of (found_of forward.now)) config → result ≡ Some config }
+{
+    let pairs = forward.get_one("pairs")?;
+    let ring = forward.get_one("ring")?;
+    let buffers = forward.get_one("buffers")?;
+    let bsize = forward.get_one("bsize")?;
+    let batch = forward.get_one("batch")?;
+    let rs_every = forward.get_one("rs-every")?;
+    let workers = forward.get_one("workers")?;
+    let turns = forward.get_one("turns")?;
+    let drop_en = forward.get_flag("drop");
+    let retry = !forward.get_flag("no-retry");
+    let completion = completion_in(forward);
+    Some(Config {
+        pairs,
+        ring,
+        batch,
+        buffers,
+        bsize,
+        rs_every,
+        drop_en,
+        retry,
+        workers,
+        turns,
+        completion,
+    })
+}
+
+/// How transmit queues report, in matches of a command with the flag `head`.
+fn completion_in<'a>(matches: &ArgMatches<'a>) -> Completion
+    ensures { (by_head : Bool) → one_of (codes "head") (rows_of (found_of matches.now)) ≡ Some (bool_text by_head)
+        → result ≡ completion_of by_head }
+{
+    if matches.get_flag("head") {
+        Completion::Head
+    } else {
+        Completion::Status
+    }
 }
 
 /// The program's commands and their arguments.
@@ -132,7 +192,8 @@ fn program<'a>(alloc: Global) -> Result<Command<'a>, AllocError>
         .subcommand_required(true)
         .subcommand(once(alloc)?)?
         .subcommand(decode(alloc)?)?
-        .subcommand(replay(alloc)?)
+        .subcommand(replay(alloc)?)?
+        .subcommand(forward(alloc)?)
 }
 
 /// The command `once`.
@@ -199,6 +260,100 @@ fn replay<'a>(alloc: Global) -> Result<Command<'a>, AllocError>
         .arg(pairs)?
         .arg(off)?
         .arg(head)
+}
+
+/// The command `forward`.
+fn forward<'a>(alloc: Global) -> Result<Command<'a>, AllocError>
+    ensures app { IfOk result (λ c. app_of c ≡ forward_app) }
+    ensures local { IfOk result (λ c. (out-Command c).has_globals ≡ false) }
+{
+    let drop = flag(
+        alloc,
+        "drop",
+        "Drops a frame for which a receive ring has too few free descriptors (default: holds it)",
+    );
+    let no_retry = flag(
+        alloc,
+        "no-retry",
+        "Drops packets for which a transmit ring has no room (default: keeps them)",
+    );
+    let head = flag(
+        alloc,
+        "head",
+        "Reports what was sent by a head word (default: in the descriptors)",
+    );
+    with_work(alloc, with_queues(alloc, Command::new(alloc, "forward"))?)?
+        .about(
+            "Forwards the frames of standard input, one a line, between two ports, and prints the wires and the flows",
+        )
+        .after_help(FORWARD_EXAMPLES)
+        .arg(drop)?
+        .arg(no_retry)?
+        .arg(head)
+}
+
+/// A command with the options of `forward` for queues and buffers.
+fn with_queues<'a>(alloc: Global, command: Command<'a>) -> Result<Command<'a>, AllocError>
+    ensures app { IfOk result (λ c. app_of c ≡ with_queue_rules (app_of command.entry)) }
+    ensures local { IfOk result (λ c. (out-Command c).has_globals ≡ (out-Command command.entry).has_globals) }
+{
+    let pairs = number(
+        alloc,
+        "pairs",
+        "1",
+        "How many queue pairs each port has, 1 to 8",
+    );
+    let ring = number(
+        alloc,
+        "ring",
+        "512",
+        "How many descriptors each ring has, a power of two from 8 to 4,096",
+    );
+    let buffers = number(
+        alloc,
+        "buffers",
+        "4096",
+        "How many buffers there are, 16 to 65,536, and at least 32 for each queue pair",
+    );
+    let bsize = number(
+        alloc,
+        "bsize",
+        "2048",
+        "To how many bytes a receive buffer is filled, 1,024 or 2,048",
+    );
+    command.arg(pairs)?.arg(ring)?.arg(buffers)?.arg(bsize)
+}
+
+/// A command with the options of `forward` for its workers.
+fn with_work<'a>(alloc: Global, command: Command<'a>) -> Result<Command<'a>, AllocError>
+    ensures app { IfOk result (λ c. app_of c ≡ with_work_rules (app_of command.entry)) }
+    ensures local { IfOk result (λ c. (out-Command c).has_globals ≡ (out-Command command.entry).has_globals) }
+{
+    let batch = number(
+        alloc,
+        "batch",
+        "32",
+        "The most packets that a driver takes at once, 1 to 32",
+    );
+    let rs_every = number(
+        alloc,
+        "rs-every",
+        "32",
+        "After how many frames a driver asks for a report, 1 to 4,096",
+    );
+    let workers = number(
+        alloc,
+        "workers",
+        "1",
+        "How many threads of drivers and of controllers there are each, 1 to two a queue pair",
+    );
+    let turns = number(
+        alloc,
+        "turns",
+        "0",
+        "After how many turns of its driver a flow is cut, 0 to 4,294,967,295; 0 is never",
+    );
+    command.arg(batch)?.arg(rs_every)?.arg(workers)?.arg(turns)
 }
 
 /// An option with a number, which has this one where it is left out.

@@ -9,9 +9,11 @@ ghost use Rattle.commands.specs.declared.replay.QueuePlan.{QueuePlan};
 ghost use Rattle.commands.specs.Answers.{Ends, EndsDecode};
 ghost use Rattle.commands.specs.Frame.{frame_in};
 ghost use Rattle.commands.specs.Replay.{EndsReplay};
-ghost use Rattle.command_line.specs.CommandLine.{IsMistake, IsMisuse, SaysDecode, SaysOnce, SaysReplay};
+ghost use Rattle.command_line.specs.CommandLine.{IsMistake, IsMisuse, SaysDecode, SaysForward, SaysOnce, SaysReplay};
+ghost use Rattle.forward_command.specs.Forwards.{EndsForward};
+ghost use Rattle.forwarder.specs.declared.config.Config.{Config};
 
-use crate::command::request_of;
+use crate::command::{Asked, asked_of};
 use clap::error::ErrorKind;
 use commands::{DONE, REFUSED, Refusal, answer, refuse};
 use std::alloc::Global;
@@ -46,9 +48,14 @@ pub fn run<R: Threads + Wait + Sync, I: Read, W: Write, E: Write>(
         → EndsDecode form digits result (W.contents output.old) (W.contents output.new) }
     ensures replay { (plan : QueuePlan) (text : List ℕ) → SaysReplay (map string_bytes words.now) plan
         → I.remaining input.old ≡ Some text → EndsReplay plan text result (W.contents output.old) (W.contents output.new) }
+    ensures forward { (config : Config) (text : List ℕ) → SaysForward (map string_bytes words.now) config
+        → I.remaining input.old ≡ Some text → EndsForward config text result (W.contents output.old) (W.contents output.new) }
 {
-    match request_of(alloc, words) {
-        Ok(request) => answer(rt, alloc, request, input, output, faults),
+    match asked_of(alloc, words) {
+        Ok(Asked::Request(request)) => answer(rt, alloc, request, input, output, faults),
+        Ok(Asked::Forward(config)) => {
+            forward_command::answer(rt, alloc, &config, input, output, faults)
+        }
         Err(error) => tell(&error, output, faults),
     }
 }

@@ -1,15 +1,17 @@
 -- The numbers of refusals, and what they are for.
 use Rattle.std.specs.Prelude.{◌≡◌, ◌⊎◌, ℕ, Option, Some, None}
 use Rattle.commands.specs.declared.refusal.Refusal.{Refusal}
-use Rattle.commands.specs.declared.refusal.Refusal.TheVariants.{Descriptor, Machine, Ring, Stock, FrameLength, Thread, Hex, Move, Input, Memory, Output}
+use Rattle.commands.specs.declared.refusal.Refusal.TheVariants.{Descriptor, Forward, Machine, Ring, Script, Stock, FrameLength, Thread, Hex, Move, Input, Memory, Output}
 use Rattle.descriptor.specs.Refusal.{refusal_number as descriptor_number}
 use Rattle.ring_machine.specs.MachineErrors.{number_of_error}
+use Rattle.forwarding.specs.Refusal.{refusal_number as forward_number}
 use Rattle.shared_ring.specs.declared.error.RingError.TheVariants.{Memory as RingMemory}
 use Rattle.shared_ring.specs.Refusal.{refusal_number as ring_number}
 use Rattle.buffer_pool.specs.declared.error.PoolError.TheVariants.{Memory as StockMemory}
 use Rattle.buffer_pool.specs.Refusal.{refusal_number as stock_number}
+use Rattle.wire_script.specs.ScriptError.{number_of as script_number, line_of as script_line}
 
--- a descriptor, a ring and a stock have numbers of their own
+-- those of the libraries have numbers of their own
 abbrev pub refusal_number : Refusal → ℕ
 refusal_number (Descriptor error) = descriptor_number error
 refusal_number (Ring error) = ring_number error
@@ -19,13 +21,16 @@ refusal_number Thread = 63
 refusal_number Hex = 81
 refusal_number (Move line) = 14
 refusal_number (Machine error) = number_of_error error
+refusal_number (Script error) = script_number error
+refusal_number (Forward error) = forward_number error
 refusal_number Input = 82
 refusal_number Memory = 83
 refusal_number Output = 84
 
--- a move that can't be read is on a line
+-- a move that can't be read is on a line, and a fault of a script
 abbrev pub refused_line : Refusal → Option ℕ
 refused_line (Move line) = Some line
+refused_line (Script error) = script_line error
 refused_line refusal = None
 
 -- no memory for the ring or its buffers, or no thread for one of its ends

@@ -13,6 +13,7 @@ mod answering;
 mod decode;
 mod digits;
 mod frame;
+mod input;
 mod once;
 mod passing;
 mod refusal;
@@ -21,6 +22,7 @@ mod request;
 
 pub use answering::{DONE, REFUSED, answer, perform, print, refuse};
 pub use decode::Form;
+pub use input::read_text;
 pub use refusal::Refusal;
 pub use replay::QueuePlan;
 pub use request::Request;

@@ -1,14 +1,16 @@
 //! Why a command was refused.
 ghost use Rattle.std.specs.Prelude.{◌≡◌};
 ghost use Rattle.commands.specs.Refusals.{refusal_number, refused_line};
-ghost use Rattle.commands.specs.declared.refusal.Refusal.TheVariants.{Descriptor, Machine, Ring, Stock, Memory};
+ghost use Rattle.commands.specs.declared.refusal.Refusal.TheVariants.{Descriptor, Forward, Machine, Ring, Script, Stock, Memory};
 
 use buffer_pool::PoolError;
 use descriptor::DescError;
+use forwarding::ForwardError;
 use ring_machine::MachineError;
 use rx_ring::RingError;
 use std::alloc::AllocError;
 use thiserror::Error;
+use wire_script::ScriptError;
 
 /// Why a command was refused. It is printed as `refused`, its number and its words.
 #[derive(Clone, Copy, Debug, Error)]
@@ -37,6 +39,12 @@ pub enum Refusal {
     /// The machine refused.
     #[error(transparent)]
     Machine(MachineError),
+    /// The script refused.
+    #[error(transparent)]
+    Script(ScriptError),
+    /// The forwarder refused.
+    #[error(transparent)]
+    Forward(ForwardError),
     /// Standard input could not be read.
     #[error("input")]
     Input,
@@ -49,7 +57,7 @@ pub enum Refusal {
 }
 
 impl Refusal {
-    /// The number of the refusal. Those of a descriptor, a ring and a stock are their own.
+    /// The number of the refusal. Those of the libraries are their own.
     pub fn number(&self) -> u8
         ensures { result ≡ refusal_number self.now }
     {
@@ -62,6 +70,8 @@ impl Refusal {
             Refusal::Hex => 81,
             Refusal::Move { .. } => 14,
             Refusal::Machine(error) => error.number(),
+            Refusal::Script(error) => error.number(),
+            Refusal::Forward(error) => error.number(),
             Refusal::Input => 82,
             Refusal::Memory => 83,
             Refusal::Output => 84,
@@ -74,6 +84,7 @@ impl Refusal {
     {
         match self {
             Refusal::Move { line } => Some(*line),
+            Refusal::Script(error) => error.line(),
             _ => None,
         }
     }
@@ -108,6 +119,22 @@ impl From<MachineError> for Refusal {
 
     fn from(error: MachineError) -> Refusal {
         Refusal::Machine(error)
+    }
+}
+
+impl From<ScriptError> for Refusal {
+    ghost from_gives = { λ error refusal. refusal ≡ Script error };
+
+    fn from(error: ScriptError) -> Refusal {
+        Refusal::Script(error)
+    }
+}
+
+impl From<ForwardError> for Refusal {
+    ghost from_gives = { λ error refusal. refusal ≡ Forward error };
+
+    fn from(error: ForwardError) -> Refusal {
+        Refusal::Forward(error)
     }
 }
 

@@ -1,17 +1,17 @@
 //! A list of moves, read whole and then answered whole.
 
-ghost use Rattle.std.specs.Prelude.{◌≡◌, ◌⊎◌, ℕ, false, IfErr, IfNone, IfOk, IfSome, IsTrue};
+ghost use Rattle.std.specs.Prelude.{◌≡◌, ℕ, false, IfErr, IfNone, IfOk, IfSome, IsTrue};
 ghost use Rattle.std.specs.String.{string_bytes};
 ghost use Rattle.ring_model.specs.Worlds.{World, IsReachableWorld};
 ghost use Rattle.ring_machine.specs.Queues.{QueuesAgree};
 ghost use Rattle.text_lines.specs.Parts.{lines_of, says_something};
 ghost use Rattle.commands.specs.Replay.{HasPage, IsFaulty, IsMoveList, IsNoMove, IsPageOf, IsReplayed, Reads, RefusesReplay, ReplayRefused, WroteMove};
-ghost use Rattle.commands.specs.declared.refusal.Refusal.TheVariants as refusal;
 
+use crate::input::read_text;
 use crate::refusal::Refusal;
 use ring_machine::{Completion, Move, Queues};
 use std::alloc::{AllocError, Global};
-use std::io::{ErrorKind, Read};
+use std::io::Read;
 use text_lines::{cut, says_something};
 
 /// Which queues the moves are made on: how many pairs, of how many descriptors each, whether they begin enabled, and
@@ -35,19 +35,6 @@ pub fn replay<I: Read>(alloc: Global, plan: QueuePlan, input: &mut I) -> Result<
 {
     let text = read_text(alloc, input)?;
     page_for(alloc, plan, text.as_slice())
-}
-
-/// All bytes of the input.
-fn read_text<I: Read>(alloc: Global, input: &mut I) -> Result<Vec<u8>, Refusal>
-    ensures read { IfOk result (λ text. IfSome (I.remaining input.old) (λ bytes. text.items ≡ bytes)) }
-    ensures refused { IfErr result (λ e. (e ≡ refusal.Input) ⊎ (e ≡ refusal.Memory)) }
-{
-    let mut text = Vec::new(alloc);
-    match input.read_to_end(&mut text) {
-        Ok(_) => Ok(text),
-        Err(error) if error.kind() == ErrorKind::OutOfMemory => Err(Refusal::Memory),
-        Err(_) => Err(Refusal::Input),
-    }
 }
 
 /// What a list of moves prints. The whole text is looked at first, so that nothing of a faulty one is made.

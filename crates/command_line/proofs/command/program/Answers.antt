@@ -10,10 +10,11 @@ returns c =
     let with_once = c.in_ok-subcommand.ensures.shape c.in_ok-once.ensures.local ∙ ap₂ with_subcommand bare_is (ap (λ (a : App). a.top) c.in_ok-once.ensures.app) in
     let decode = c.in_ok-decode.ensures.app in
     let with_decode = c.in_ok-subcommand-2.ensures.shape c.in_ok-decode.ensures.local ∙ ap₂ with_subcommand with_once (ap (λ (a : App). a.top) decode.app_is) in
-    IfOk-weaker c.subcommand-3.result _ _ (λ r adds. record {
+    let with_replay = c.in_ok-subcommand-3.ensures.shape c.in_ok-replay.ensures.local ∙ ap₂ with_subcommand with_decode (ap (λ (a : App). a.top) c.in_ok-replay.ensures.app) in
+    IfOk-weaker c.subcommand-4.result _ _ (λ r adds. record {
       rings = decode.rings;
       formats = decode.formats;
       rings_are = decode.rings_are;
       formats_are = decode.formats_are;
-      app_is = adds.shape c.in_ok-replay.ensures.local ∙ ap₂ with_subcommand with_decode (ap (λ (a : App). a.top) c.in_ok-replay.ensures.app);
-    }) c.subcommand-3.ensures
+      app_is = adds.shape c.in_ok-forward.ensures.local ∙ ap₂ with_subcommand with_replay (ap (λ (a : App). a.top) c.in_ok-forward.ensures.app);
+    }) c.subcommand-4.ensures

@@ -1,11 +1,10 @@
-use Rattle.std.proofs.Common.{◌≡◌, ◌∙◌, ap, sym, ℕ, codes, Option, Some, None, unwrap_or}
+use Rattle.std.proofs.Common.{◌≡◌, ◌∙◌, ap, ℕ, codes, Option, Some, None, unwrap_or}
 use Rattle.std.specs.Prelude.{decimal, not}
 use Rattle.clap.specs.Words.{found_of}
 use Rattle.command_line.specs.CommandLine.{is_head}
 use Rattle.command_line.proofs.CommandLine.{reads_flag, reads_number, text_is}
-use Rattle.command_line.proofs.ReplayWords.{begins_as, by_head, by_status, plan_is}
+use Rattle.command_line.proofs.ReplayWords.{begins_as, completion_is, plan_is}
 use Rattle.command_line.proofs.command.replay_in.Goals as goal
-use Rattle.command_line.proofs.command.replay_in.Goals.{then-get_flag, else-get_flag}
 
 pub returns-in_err-ring : goal.returns-in_err-ring
 returns-in_err-ring c plan has =
@@ -26,13 +25,9 @@ returns c plan has =
     let pairs = reads_number plan.pairs (Some c.in_ok-pairs.pairs) has.pairs_fits (c.in_ok-pairs.ensures.value (decimal plan.pairs) pairs_text) in
     let off = reads_flag (not plan.enabled) c.get_flag-enabled.result _ c.get_flag-enabled.ensures.value c.get_flag-enabled.ensures.other
     (text_is found (codes "off") _ has.off) in
-    let head = reads_flag (is_head plan.completion) c.get_flag.result _ c.get_flag.ensures.value c.get_flag.ensures.other
-    (text_is found (codes "head") _ has.head) in
-    let completion : c.if-get_flag.completion ≡ plan.completion = elim c.if-get_flag.branch [
-      | then-get_flag w ↦ w.completion-is ∙ by_head plan.completion (sym head ∙ w.if-get_flag.true)
-      | else-get_flag w ↦ w.completion-is ∙ by_status plan.completion (sym head ∙ w.if-get_flag.false)
-    ] in
-    plan_is plan c.in_ok-ring.ring c.in_ok-pairs.pairs (not c.get_flag-enabled.result) c.if-get_flag.completion
+    let completion : c.completion_in-completion.result ≡ plan.completion =
+    c.completion_in-completion.ensures (is_head plan.completion) has.head ∙ completion_is plan.completion in
+    plan_is plan c.in_ok-ring.ring c.in_ok-pairs.pairs (not c.get_flag-enabled.result) c.completion_in-completion.result
     (ap (λ (o : Option ℕ). unwrap_or o c.in_ok-pairs.pairs) pairs)
     (ap (λ (o : Option ℕ). unwrap_or o c.in_ok-ring.ring) ring)
     (begins_as plan.enabled c.get_flag-enabled.result off) completion

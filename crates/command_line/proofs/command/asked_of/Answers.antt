@@ -2,9 +2,10 @@ use Rattle.std.proofs.Common.{◌∙◌}
 use Rattle.std.proofs.lemmas.Result.{err_from_is_err_and}
 use Rattle.command_line.proofs.CommandLine.{free, misuse_fails, misuse_not_taken, simple}
 use Rattle.command_line.proofs.DecodeWords.{decode_found, decode_taken}
+use Rattle.command_line.proofs.ForwardWords.{forward_found, forward_taken}
 use Rattle.command_line.proofs.OnceWords.{once_found, once_taken}
 use Rattle.command_line.proofs.ReplayWords.{replay_found, replay_taken}
-use Rattle.command_line.proofs.command.request_of.Goals as goal
+use Rattle.command_line.proofs.command.asked_of.Goals as goal
 
 pub returns-in_err-matches-clause-once : goal.returns-in_err-matches-clause-once
 returns-in_err-matches-clause-once c digits says =
@@ -20,6 +21,11 @@ pub returns-in_err-matches-clause-replay : goal.returns-in_err-matches-clause-re
 returns-in_err-matches-clause-replay c plan says =
     let p = err_from_is_err_and c.from_residual-in_err-matches.result c.from_residual-in_err-matches.ensures.1 in
     rw (p.1, p.2) (c.in_err-matches.ensures.passes (replay_taken _ _ plan c.in_ok-program.ensures says))
+
+pub returns-in_err-matches-clause-forward : goal.returns-in_err-matches-clause-forward
+returns-in_err-matches-clause-forward c config says =
+    let p = err_from_is_err_and c.from_residual-in_err-matches.result c.from_residual-in_err-matches.ensures.1 in
+    rw (p.1, p.2) (c.in_err-matches.ensures.passes (forward_taken _ _ config c.in_ok-program.ensures says))
 
 pub returns-in_err-matches-clause-misuse : goal.returns-in_err-matches-clause-misuse
 returns-in_err-matches-clause-misuse c misuse =
@@ -45,6 +51,12 @@ returns-in-Some-clause-replay c plan says =
     let found = (c.in_ok-matches.ensures.ok.2 (simple _ c.in_ok-program.ensures)).1 ∙ replay.1 in
     c.in-Some.ensures.replay replay.0 plan found replay.2
 
+pub returns-in-Some-clause-forward : goal.returns-in-Some-clause-forward
+returns-in-Some-clause-forward c config says =
+    let forward = forward_found _ _ config c.in_ok-program.ensures says in
+    let found = (c.in_ok-matches.ensures.ok.2 (simple _ c.in_ok-program.ensures)).1 ∙ forward.1 in
+    c.in-Some.ensures.forward forward.0 config found forward.2
+
 pub returns-in-Some-clause-misuse : goal.returns-in-Some-clause-misuse
 returns-in-Some-clause-misuse c misuse =
     let kinds = c.in_ok-matches.ensures.kinds (free _ c.in_ok-program.ensures) in
@@ -67,6 +79,12 @@ returns-clause-replay c plan says =
     let replay = replay_found _ _ plan c.in_ok-program.ensures says in
     let found = (c.in_ok-matches.ensures.ok.2 (simple _ c.in_ok-program.ensures)).1 ∙ replay.1 in
     absurd (c.in-None.ensures.replay replay.0 plan found replay.2)
+
+pub returns-clause-forward : goal.returns-clause-forward
+returns-clause-forward c config says =
+    let forward = forward_found _ _ config c.in_ok-program.ensures says in
+    let found = (c.in_ok-matches.ensures.ok.2 (simple _ c.in_ok-program.ensures)).1 ∙ forward.1 in
+    absurd (c.in-None.ensures.forward forward.0 config found forward.2)
 
 pub returns-clause-misuse : goal.returns-clause-misuse
 returns-clause-misuse c misuse =

@@ -1,0 +1,898 @@
+-- What clap makes of `forward` and its options. What each of them does to what is held is one lemma, for any that came before.
+use Rattle.std.proofs.Common.{◌≡◌, ◌∙◌, ap, ap₂, sym, subst, refl, arith, inl, inr, ℕ, Bool, true, false, ◌&&◌, List, [], ◌∷◌, ◌++◌, codes, drop, slice_index_or, take, Option, Some, None, IfSome}
+use Rattle.std.specs.Prelude.{◌<◌, ◌^◌, ◌||◌, if◌then◌else◌, not, decimal, fold, is_some, option_and_then, option_map}
+use Rattle.std.specs.List.{list_all}
+use Rattle.std.specs.Option.{option_map_or}
+use Rattle.std.specs.Str.{bytes_eq}
+use Rattle.std.specs.Fmt.{digits}
+use Rattle.std.proofs.lemmas.List.{append_assoc, append-nil}
+use Rattle.clap.specs.Lexer.{long_of}
+use Rattle.clap.specs.Simple.{entered, names_of, new_shape}
+use Rattle.clap.specs.Takes.{bundle_passes, default_passes, entered_passes, flag_word_passes, is_valid, level_passes, react_passes, settle_passes, step_passes, turn_passes, value_passes, walk_passes, word_passes}
+use Rattle.clap.specs.Values.{bool_text}
+use Rattle.clap.specs.Walk.{Held, Names, Step, Walk, after_step, finished, has_row, long_or_other, nothing_held, option, plain_word, reacted, reading_by, row_text, settled, short_or_plain, trailing, walk, walk_from, walked, with_default, with_values, without, word_met}
+use Rattle.clap.specs.Words.{App, Row, Rule, Shape, Text, built, new_rule, one_of, subcommand_of, takes, without_minus}
+use Rattle.clap.specs.declared.parser.matches.ValueSource.TheVariants.{CommandLine}
+use Rattle.clap.proofs.OnLiterals.{clap_on_literals}
+use Rattle.forwarder.specs.declared.config.Config.{Config}
+use Rattle.ring_model.specs.declared.states.Completion.{Completion}
+use Rattle.command_line.specs.CommandLine.{Choices, HasForward, IsProgram, SaysForward, SaysNumber, flag_words, is_head, program_app}
+use Rattle.command_line.proofs.CommandLine.{IsNumber, IsPlain, is_number, numeral_of, strips_none}
+use Rattle.command_line.proofs.OptionRows.{OptionUse, absent-in, absent-use, all-keep, default-found, found-use, mentions, row, rows-unused, rows-used, rows_in, used-absent, without-absent}
+
+-- ---- the options
+
+-- `forward` as clap builds it, which says nothing of the choices of `decode`
+abbrev shape : Shape
+shape = let none : Choices = record { ref_ptr = (0, 0); now = [] } in slice_index_or (built (program_app none none)).subs 3 (new_shape [])
+
+abbrev rules : List Rule
+rules = shape.rules
+
+-- the options with a number, and those without a value
+data Number : Type 0 where
+  pairs : Number
+  ring : Number
+  buffers : Number
+  bsize : Number
+  batch : Number
+  rs_every : Number
+  workers : Number
+  turns : Number
+
+data Flag : Type 0 where
+  drop_en : Flag
+  no_retry : Flag
+  head : Flag
+
+abbrev number_id : Number → Text
+number_id pairs = codes "pairs"
+number_id ring = codes "ring"
+number_id buffers = codes "buffers"
+number_id bsize = codes "bsize"
+number_id batch = codes "batch"
+number_id rs_every = codes "rs-every"
+number_id workers = codes "workers"
+number_id turns = codes "turns"
+
+abbrev number_option : Number → Text
+number_option pairs = codes "--pairs"
+number_option ring = codes "--ring"
+number_option buffers = codes "--buffers"
+number_option bsize = codes "--bsize"
+number_option batch = codes "--batch"
+number_option rs_every = codes "--rs-every"
+number_option workers = codes "--workers"
+number_option turns = codes "--turns"
+
+abbrev number_at : Number → Rule
+number_at pairs = slice_index_or rules 0 (new_rule [])
+number_at ring = slice_index_or rules 1 (new_rule [])
+number_at buffers = slice_index_or rules 2 (new_rule [])
+number_at bsize = slice_index_or rules 3 (new_rule [])
+number_at batch = slice_index_or rules 4 (new_rule [])
+number_at rs_every = slice_index_or rules 5 (new_rule [])
+number_at workers = slice_index_or rules 6 (new_rule [])
+number_at turns = slice_index_or rules 7 (new_rule [])
+
+abbrev flag_id : Flag → Text
+flag_id drop_en = codes "drop"
+flag_id no_retry = codes "no-retry"
+flag_id head = codes "head"
+
+abbrev flag_option : Flag → Text
+flag_option drop_en = codes "--drop"
+flag_option no_retry = codes "--no-retry"
+flag_option head = codes "--head"
+
+abbrev flag_at : Flag → Rule
+flag_at drop_en = slice_index_or rules 8 (new_rule [])
+flag_at no_retry = slice_index_or rules 9 (new_rule [])
+flag_at head = slice_index_or rules 10 (new_rule [])
+
+-- ---- the words of one option
+
+abbrev number_words : Number → Option Text → List Text
+number_words which None = []
+number_words which (Some word) = number_option which ∷ word ∷ []
+
+abbrev flag_in : Flag → Bool → List Text
+flag_in which said = flag_words (flag_option which) said
+
+-- what is held after them
+abbrev after_number : Number → Option Text → Held → Held
+after_number which None h = h
+after_number which (Some word) h = record (settled rules h) { pending = Some (number_id which, word ∷ []) }
+
+abbrev after_flag : Flag → Bool → Held → Held
+after_flag which false h = h
+after_flag which true h = reacted rules (flag_at which) [] h
+
+abbrev settles : Held → Bool
+settles h = settle_passes rules false h
+
+-- the option waits for its number
+abbrev waits : Number → Held → Walk
+waits which h = record (walk_from (record (settled rules h) { pending = Some (number_id which, []) })) { waiting = option (number_id which) }
+
+option_walked : (which : Number) (h : Held) → walked rules [] (walk_from h) (number_option which) ≡ waits which h
+unfolding clap_on_literals
+option_walked pairs h = refl
+option_walked ring h = refl
+option_walked buffers h = refl
+option_walked bsize h = refl
+option_walked batch h = refl
+option_walked rs_every h = refl
+option_walked workers h = refl
+option_walked turns h = refl
+
+option_passes : (which : Number) (h : Held) → turn_passes shape [] (walk_from h) (number_option which) ≡ (settles h && true)
+unfolding clap_on_literals
+option_passes pairs h = refl
+option_passes ring h = refl
+option_passes buffers h = refl
+option_passes bsize h = refl
+option_passes batch h = refl
+option_passes rs_every h = refl
+option_passes workers h = refl
+option_passes turns h = refl
+
+plain_read : (waiting : Text) (word : Text) (h : Held) → IsPlain word → word_met rules [] false (option waiting) 1 word h ≡ plain_word rules (option waiting) word h
+plain_read waiting word h plain =
+    ap (λ b. if b then (h, trailing 1) else long_or_other rules (option waiting) word (long_of word) h) plain.no_dashes
+    ∙ (ap (λ o. long_or_other rules (option waiting) word o h) plain.no_long ∙ ap (λ o. short_or_plain rules (option waiting) word o h) plain.no_short)
+
+plain_read_passes : (waiting : Text) (word : Text) (h : Held) → IsPlain word → word_passes shape [] false (option waiting) word h ≡ true
+plain_read_passes waiting word h plain =
+    ap (λ b. b || flag_word_passes rules false (long_of word) word h) plain.no_dashes
+    ∙ (ap (λ o. flag_word_passes rules false o word h) plain.no_long
+    ∙ ap (λ o. option_map_or (λ flags. bundle_passes rules false flags h) o true) plain.no_short)
+
+after_word : (which : Number) (word : Text) (h : Held) → let met = plain_word rules (option (number_id which)) word (waits which h).held in
+    after_step rules word (waits which h) met.0 met.1 ≡ walk_from (after_number which (Some word) h)
+unfolding clap_on_literals
+after_word pairs word h = refl
+after_word ring word h = refl
+after_word buffers word h = refl
+after_word bsize word h = refl
+after_word batch word h = refl
+after_word rs_every word h = refl
+after_word workers word h = refl
+after_word turns word h = refl
+
+word_walked : (which : Number) (word : Text) (h : Held) → IsPlain word → walked rules [] (waits which h) word ≡ walk_from (after_number which (Some word) h)
+unfolding clap_on_literals
+word_walked which word h plain =
+    ap (λ (met : Held × Step). after_step rules word (waits which h) met.0 met.1) (plain_read (number_id which) word (waits which h).held plain)
+    ∙ after_word which word h
+
+step_after_word : (which : Number) (word : Text) (h : Held) → let met = plain_word rules (option (number_id which)) word (waits which h).held in
+    step_passes shape 1 met.0 met.1 ≡ true
+unfolding clap_on_literals
+step_after_word pairs word h = refl
+step_after_word ring word h = refl
+step_after_word buffers word h = refl
+step_after_word bsize word h = refl
+step_after_word batch word h = refl
+step_after_word rs_every word h = refl
+step_after_word workers word h = refl
+step_after_word turns word h = refl
+
+turn_word : (which : Number) (word : Text) (h : Held) → IsPlain word → turn_passes shape [] (waits which h) word ≡ true
+turn_word which word h plain =
+    ap₂ (λ b (met : Held × Step). b && step_passes shape 1 met.0 met.1)
+    (plain_read_passes (number_id which) word (waits which h).held plain) (plain_read (number_id which) word (waits which h).held plain)
+    ∙ step_after_word which word h
+
+number_walked : (which : Number) (said : Option Text) (h : Held) (rest : List Text) → IfSome said IsNumber
+    → fold (walked rules []) (walk_from h) (number_words which said ++ rest) ≡ fold (walked rules []) (walk_from (after_number which said h)) rest
+number_walked which None h rest numbers = refl
+number_walked which (Some word) h rest number =
+    ap (λ w. fold (walked rules []) w rest)
+    (ap (λ w. walked rules [] w word) (option_walked which h) ∙ word_walked which word h number.plain)
+
+number_passes : (which : Number) (said : Option Text) (h : Held) (rest : List Text) → IfSome said IsNumber → settles h ≡ true
+    → walk_passes shape [] (walk_from h) (number_words which said ++ rest) ≡ walk_passes shape [] (walk_from (after_number which said h)) rest
+unfolding clap_on_literals
+number_passes which None h rest numbers settled = refl
+number_passes which (Some word) h rest number settled =
+    ap₂ (λ b w. b && (turn_passes shape [] w word && walk_passes shape [] (walked rules [] w word) rest))
+    (option_passes which h ∙ ap (λ b. b && true) settled) (option_walked which h)
+    ∙ ap₂ (λ b w. b && walk_passes shape [] w rest) (turn_word which word h number.plain) (word_walked which word h number.plain)
+
+flag_walked : (which : Flag) (said : Bool) (h : Held) (rest : List Text)
+    → fold (walked rules []) (walk_from h) (flag_in which said ++ rest) ≡ fold (walked rules []) (walk_from (after_flag which said h)) rest
+unfolding clap_on_literals
+flag_walked which false h rest = refl
+flag_walked drop_en true h rest = refl
+flag_walked no_retry true h rest = refl
+flag_walked head true h rest = refl
+
+flag_turn : (which : Flag) (h : Held) → turn_passes shape [] (walk_from h) (flag_option which) ≡ (react_passes rules false (flag_at which) [] h && true)
+unfolding clap_on_literals
+flag_turn drop_en h = refl
+flag_turn no_retry h = refl
+flag_turn head h = refl
+
+flag_step : (which : Flag) (h : Held) → walked rules [] (walk_from h) (flag_option which) ≡ walk_from (after_flag which true h)
+unfolding clap_on_literals
+flag_step drop_en h = refl
+flag_step no_retry h = refl
+flag_step head h = refl
+
+-- the option may be used here
+abbrev reacts : Flag → Bool → Held → Bool
+reacts which false h = true
+reacts which true h = react_passes rules false (flag_at which) [] h
+
+flag_passes : (which : Flag) (said : Bool) (h : Held) (rest : List Text) → reacts which said h ≡ true
+    → walk_passes shape [] (walk_from h) (flag_in which said ++ rest) ≡ walk_passes shape [] (walk_from (after_flag which said h)) rest
+unfolding clap_on_literals
+flag_passes which false h rest passes = refl
+flag_passes which true h rest passes =
+    ap₂ (λ b w. b && walk_passes shape [] w rest) (flag_turn which h ∙ ap (λ b. b && true) passes) (flag_step which h)
+
+-- ---- the rows that options leave
+
+abbrev number_use : Number → Option Text → OptionUse
+number_use which said = record { id = number_id which; how = reading_by (number_at which); values = option_map (λ (word : Text). word ∷ []) said }
+
+-- what a flag that stands has for its value
+abbrev flag_values : Bool → Option (List Text)
+flag_values true = Some (codes "true" ∷ [])
+flag_values false = None
+
+abbrev flag_use : Flag → Bool → OptionUse
+flag_use which said = record { id = flag_id which; how = reading_by (flag_at which); values = flag_values said }
+
+-- after some options these rows are held, and what waits passes
+record Stands (h : Held) (us : List OptionUse) : Type 0 where
+  rows : (settled rules h).rows ≡ rows_in us
+  settles : settles h ≡ true
+
+number_rows : (which : Number) (word : Text) (h : Held) → (settled rules (after_number which (Some word) h)).rows
+    ≡ with_values (number_id which) (reading_by (number_at which)) CommandLine (word ∷ []) (without (number_id which) (settled rules h).rows)
+number_rows pairs word h = refl
+number_rows ring word h = refl
+number_rows buffers word h = refl
+number_rows bsize word h = refl
+number_rows batch word h = refl
+number_rows rs_every word h = refl
+number_rows workers word h = refl
+number_rows turns word h = refl
+
+number_settles : (which : Number) (word : Text) (h : Held) → settles (after_number which (Some word) h)
+    ≡ ((not (has_row (number_id which) (settled rules h).rows) || false) && (value_passes (number_at which) word && true))
+number_settles pairs word h = refl
+number_settles ring word h = refl
+number_settles buffers word h = refl
+number_settles bsize word h = refl
+number_settles batch word h = refl
+number_settles rs_every word h = refl
+number_settles workers word h = refl
+number_settles turns word h = refl
+
+number_accepted : (which : Number) (word : Text) → IsNumber word → value_passes (number_at which) word ≡ true
+number_accepted pairs word number = number.accepted
+number_accepted ring word number = number.accepted
+number_accepted buffers word number = number.accepted
+number_accepted bsize word number = number.accepted
+number_accepted batch word number = number.accepted
+number_accepted rs_every word number = number.accepted
+number_accepted workers word number = number.accepted
+number_accepted turns word number = number.accepted
+
+-- a use of an argument that no row has is one row more
+one-more : (id : Text) (us : List OptionUse) (u : OptionUse) (values : List Text) (rows : List Row) → rows ≡ rows_in us → mentions u.id us ≡ false
+    → with_values u.id u.how CommandLine values (without u.id rows) ≡ rows_in us ++ row u.id u.how CommandLine values ∷ []
+one-more id us u values rows is new =
+    let absent = absent-in u.id us new in
+    ap (λ (l : List Row). with_values u.id u.how CommandLine values (without u.id l)) is
+    ∙ (ap (with_values u.id u.how CommandLine values) (without-absent u.id (rows_in us) absent) ∙ used-absent u.id u.how CommandLine values (rows_in us) absent)
+
+number_stands : (which : Number) (said : Option Text) (h : Held) (us : List OptionUse) → IfSome said IsNumber → Stands h us
+    → mentions (number_id which) us ≡ false → Stands (after_number which said h) (us ++ number_use which said ∷ [])
+number_stands which None h us number stands new = record {
+  rows = stands.rows ∙ rows-unused us (number_id which) (reading_by (number_at which));
+  settles = stands.settles;
+}
+number_stands which (Some word) h us number stands new = record {
+  rows = number_rows which word h
+      ∙ (one-more (number_id which) us (number_use which (Some word)) (word ∷ []) (settled rules h).rows stands.rows new
+      ∙ rows-used us (number_id which) (reading_by (number_at which)) (word ∷ []));
+  settles = number_settles which word h
+      ∙ ap₂ (λ a b. (not a || false) && (b && true))
+      (ap (has_row (number_id which)) stands.rows ∙ absent-in (number_id which) us new) (number_accepted which word number);
+}
+
+flag_rows : (which : Flag) (h : Held) → (settled rules (after_flag which true h)).rows
+    ≡ with_values (flag_id which) (reading_by (flag_at which)) CommandLine (codes "true" ∷ []) (without (flag_id which) (settled rules h).rows)
+flag_rows drop_en h = refl
+flag_rows no_retry h = refl
+flag_rows head h = refl
+
+flag_settles : (which : Flag) (h : Held) → settles (after_flag which true h) ≡ true
+flag_settles drop_en h = refl
+flag_settles no_retry h = refl
+flag_settles head h = refl
+
+flag_reacts : (which : Flag) (h : Held) → reacts which true h ≡ (settles h && ((not (has_row (flag_id which) (settled rules h).rows) || false) && true))
+flag_reacts drop_en h = refl
+flag_reacts no_retry h = refl
+flag_reacts head h = refl
+
+flag_stands : (which : Flag) (said : Bool) (h : Held) (us : List OptionUse) → Stands h us → mentions (flag_id which) us ≡ false
+    → Stands (after_flag which said h) (us ++ flag_use which said ∷ [])
+flag_stands which false h us stands new = record {
+  rows = stands.rows ∙ rows-unused us (flag_id which) (reading_by (flag_at which));
+  settles = stands.settles;
+}
+flag_stands which true h us stands new = record {
+  rows = flag_rows which h
+      ∙ (one-more (flag_id which) us (flag_use which true) (codes "true" ∷ []) (settled rules h).rows stands.rows new
+      ∙ rows-used us (flag_id which) (reading_by (flag_at which)) (codes "true" ∷ []));
+  settles = flag_settles which h;
+}
+
+flag_used : (which : Flag) (said : Bool) (h : Held) (us : List OptionUse) → Stands h us → mentions (flag_id which) us ≡ false → reacts which said h ≡ true
+flag_used which false h us stands new = refl
+flag_used which true h us stands new =
+    flag_reacts which h
+    ∙ ap₂ (λ a b. a && ((not b || false) && true)) stands.settles (ap (has_row (flag_id which)) stands.rows ∙ absent-in (flag_id which) us new)
+
+-- ---- the words of all of them
+
+-- what each of them says
+record Said : Type 0 where
+  pairs : Option Text
+  ring : Option Text
+  buffers : Option Text
+  bsize : Option Text
+  batch : Option Text
+  rs_every : Option Text
+  workers : Option Text
+  turns : Option Text
+  drop_en : Bool
+  no_retry : Bool
+  head : Bool
+
+record AreNumbers (s : Said) : Type 0 where
+  pairs : IfSome s.pairs IsNumber
+  ring : IfSome s.ring IsNumber
+  buffers : IfSome s.buffers IsNumber
+  bsize : IfSome s.bsize IsNumber
+  batch : IfSome s.batch IsNumber
+  rs_every : IfSome s.rs_every IsNumber
+  workers : IfSome s.workers IsNumber
+  turns : IfSome s.turns IsNumber
+
+-- the words from each of them on
+abbrev words_head : Said → List Text
+words_head s = flag_in head s.head
+
+abbrev words_no_retry : Said → List Text
+words_no_retry s = flag_in no_retry s.no_retry ++ words_head s
+
+abbrev words_drop_en : Said → List Text
+words_drop_en s = flag_in drop_en s.drop_en ++ words_no_retry s
+
+abbrev words_turns : Said → List Text
+words_turns s = number_words turns s.turns ++ words_drop_en s
+
+abbrev words_workers : Said → List Text
+words_workers s = number_words workers s.workers ++ words_turns s
+
+abbrev words_rs_every : Said → List Text
+words_rs_every s = number_words rs_every s.rs_every ++ words_workers s
+
+abbrev words_batch : Said → List Text
+words_batch s = number_words batch s.batch ++ words_rs_every s
+
+abbrev words_bsize : Said → List Text
+words_bsize s = number_words bsize s.bsize ++ words_batch s
+
+abbrev words_buffers : Said → List Text
+words_buffers s = number_words buffers s.buffers ++ words_bsize s
+
+abbrev words_ring : Said → List Text
+words_ring s = number_words ring s.ring ++ words_buffers s
+
+abbrev words_pairs : Said → List Text
+words_pairs s = number_words pairs s.pairs ++ words_ring s
+
+-- what is held after each of them, and their uses so far
+abbrev held_pairs : Said → Held
+held_pairs s = after_number pairs s.pairs nothing_held
+
+abbrev uses_pairs : Said → List OptionUse
+uses_pairs s = number_use pairs s.pairs ∷ []
+
+abbrev held_ring : Said → Held
+held_ring s = after_number ring s.ring (held_pairs s)
+
+abbrev uses_ring : Said → List OptionUse
+uses_ring s = uses_pairs s ++ number_use ring s.ring ∷ []
+
+abbrev held_buffers : Said → Held
+held_buffers s = after_number buffers s.buffers (held_ring s)
+
+abbrev uses_buffers : Said → List OptionUse
+uses_buffers s = uses_ring s ++ number_use buffers s.buffers ∷ []
+
+abbrev held_bsize : Said → Held
+held_bsize s = after_number bsize s.bsize (held_buffers s)
+
+abbrev uses_bsize : Said → List OptionUse
+uses_bsize s = uses_buffers s ++ number_use bsize s.bsize ∷ []
+
+abbrev held_batch : Said → Held
+held_batch s = after_number batch s.batch (held_bsize s)
+
+abbrev uses_batch : Said → List OptionUse
+uses_batch s = uses_bsize s ++ number_use batch s.batch ∷ []
+
+abbrev held_rs_every : Said → Held
+held_rs_every s = after_number rs_every s.rs_every (held_batch s)
+
+abbrev uses_rs_every : Said → List OptionUse
+uses_rs_every s = uses_batch s ++ number_use rs_every s.rs_every ∷ []
+
+abbrev held_workers : Said → Held
+held_workers s = after_number workers s.workers (held_rs_every s)
+
+abbrev uses_workers : Said → List OptionUse
+uses_workers s = uses_rs_every s ++ number_use workers s.workers ∷ []
+
+abbrev held_turns : Said → Held
+held_turns s = after_number turns s.turns (held_workers s)
+
+abbrev uses_turns : Said → List OptionUse
+uses_turns s = uses_workers s ++ number_use turns s.turns ∷ []
+
+abbrev held_drop_en : Said → Held
+held_drop_en s = after_flag drop_en s.drop_en (held_turns s)
+
+abbrev uses_drop_en : Said → List OptionUse
+uses_drop_en s = uses_turns s ++ flag_use drop_en s.drop_en ∷ []
+
+abbrev held_no_retry : Said → Held
+held_no_retry s = after_flag no_retry s.no_retry (held_drop_en s)
+
+abbrev uses_no_retry : Said → List OptionUse
+uses_no_retry s = uses_drop_en s ++ flag_use no_retry s.no_retry ∷ []
+
+abbrev held_head : Said → Held
+held_head s = after_flag head s.head (held_no_retry s)
+
+abbrev uses_head : Said → List OptionUse
+uses_head s = uses_no_retry s ++ flag_use head s.head ∷ []
+
+stands_pairs : (s : Said) → AreNumbers s → Stands (held_pairs s) (uses_pairs s)
+stands_pairs s are = number_stands pairs s.pairs nothing_held [] are.pairs (record { rows = refl; settles = refl }) refl
+
+stands_ring : (s : Said) → AreNumbers s → Stands (held_ring s) (uses_ring s)
+stands_ring s are = number_stands ring s.ring (held_pairs s) (uses_pairs s) are.ring (stands_pairs s are) refl
+
+stands_buffers : (s : Said) → AreNumbers s → Stands (held_buffers s) (uses_buffers s)
+stands_buffers s are = number_stands buffers s.buffers (held_ring s) (uses_ring s) are.buffers (stands_ring s are) refl
+
+stands_bsize : (s : Said) → AreNumbers s → Stands (held_bsize s) (uses_bsize s)
+stands_bsize s are = number_stands bsize s.bsize (held_buffers s) (uses_buffers s) are.bsize (stands_buffers s are) refl
+
+stands_batch : (s : Said) → AreNumbers s → Stands (held_batch s) (uses_batch s)
+stands_batch s are = number_stands batch s.batch (held_bsize s) (uses_bsize s) are.batch (stands_bsize s are) refl
+
+stands_rs_every : (s : Said) → AreNumbers s → Stands (held_rs_every s) (uses_rs_every s)
+stands_rs_every s are = number_stands rs_every s.rs_every (held_batch s) (uses_batch s) are.rs_every (stands_batch s are) refl
+
+stands_workers : (s : Said) → AreNumbers s → Stands (held_workers s) (uses_workers s)
+stands_workers s are = number_stands workers s.workers (held_rs_every s) (uses_rs_every s) are.workers (stands_rs_every s are) refl
+
+stands_turns : (s : Said) → AreNumbers s → Stands (held_turns s) (uses_turns s)
+stands_turns s are = number_stands turns s.turns (held_workers s) (uses_workers s) are.turns (stands_workers s are) refl
+
+stands_drop_en : (s : Said) → AreNumbers s → Stands (held_drop_en s) (uses_drop_en s)
+stands_drop_en s are = flag_stands drop_en s.drop_en (held_turns s) (uses_turns s) (stands_turns s are) refl
+
+stands_no_retry : (s : Said) → AreNumbers s → Stands (held_no_retry s) (uses_no_retry s)
+stands_no_retry s are = flag_stands no_retry s.no_retry (held_drop_en s) (uses_drop_en s) (stands_drop_en s are) refl
+
+stands_head : (s : Said) → AreNumbers s → Stands (held_head s) (uses_head s)
+stands_head s are = flag_stands head s.head (held_no_retry s) (uses_no_retry s) (stands_no_retry s are) refl
+
+no_more : (e : Bool) → flag_in head e ≡ flag_in head e ++ []
+no_more false = refl
+no_more true = refl
+
+options_walked : (s : Said) → AreNumbers s → walk rules [] nothing_held (words_pairs s) ≡ walk_from (held_head s)
+options_walked s are =
+    number_walked pairs s.pairs nothing_held (words_ring s) are.pairs
+    ∙ (number_walked ring s.ring (held_pairs s) (words_buffers s) are.ring
+    ∙ (number_walked buffers s.buffers (held_ring s) (words_bsize s) are.buffers
+    ∙ (number_walked bsize s.bsize (held_buffers s) (words_batch s) are.bsize
+    ∙ (number_walked batch s.batch (held_bsize s) (words_rs_every s) are.batch
+    ∙ (number_walked rs_every s.rs_every (held_batch s) (words_workers s) are.rs_every
+    ∙ (number_walked workers s.workers (held_rs_every s) (words_turns s) are.workers
+    ∙ (number_walked turns s.turns (held_workers s) (words_drop_en s) are.turns
+    ∙ (flag_walked drop_en s.drop_en (held_turns s) (words_no_retry s)
+    ∙ (flag_walked no_retry s.no_retry (held_drop_en s) (words_head s)
+    ∙ (ap (fold (walked rules []) (walk_from (held_no_retry s))) (no_more s.head)
+    ∙ (flag_walked head s.head (held_no_retry s) [])))))))))))
+
+nothing_left : (h : Held) → walk_passes shape [] (walk_from h) [] ≡ true
+unfolding clap_on_literals
+nothing_left h = refl
+
+options_pass : (s : Said) → AreNumbers s → walk_passes shape [] (walk_from nothing_held) (words_pairs s) ≡ true
+options_pass s are =
+    number_passes pairs s.pairs nothing_held (words_ring s) are.pairs refl
+    ∙ (number_passes ring s.ring (held_pairs s) (words_buffers s) are.ring (stands_pairs s are).settles
+    ∙ (number_passes buffers s.buffers (held_ring s) (words_bsize s) are.buffers (stands_ring s are).settles
+    ∙ (number_passes bsize s.bsize (held_buffers s) (words_batch s) are.bsize (stands_buffers s are).settles
+    ∙ (number_passes batch s.batch (held_bsize s) (words_rs_every s) are.batch (stands_bsize s are).settles
+    ∙ (number_passes rs_every s.rs_every (held_batch s) (words_workers s) are.rs_every (stands_batch s are).settles
+    ∙ (number_passes workers s.workers (held_rs_every s) (words_turns s) are.workers (stands_rs_every s are).settles
+    ∙ (number_passes turns s.turns (held_workers s) (words_drop_en s) are.turns (stands_workers s are).settles
+    ∙ (flag_passes drop_en s.drop_en (held_turns s) (words_no_retry s) (flag_used drop_en s.drop_en (held_turns s) (uses_turns s) (stands_turns s are) refl)
+    ∙ (flag_passes no_retry s.no_retry (held_drop_en s) (words_head s) (flag_used no_retry s.no_retry (held_drop_en s) (uses_drop_en s) (stands_drop_en s are) refl)
+    ∙ (ap (walk_passes shape [] (walk_from (held_no_retry s))) (no_more s.head)
+    ∙ (flag_passes head s.head (held_no_retry s) [] (flag_used head s.head (held_no_retry s) (uses_no_retry s) (stands_no_retry s are) refl)
+    ∙ (nothing_left (held_head s)))))))))))))
+
+valid : (h : Held) → (list_all default_passes rules && is_valid shape (finished rules h) false) ≡ true
+valid h = refl
+
+level : (s : Said) → AreNumbers s → level_passes shape [] nothing_held (words_pairs s) false ≡ true
+level s are =
+    ap₂ (λ b (w : Walk). b && (settles w.held && (list_all default_passes rules && is_valid shape (finished rules w.held) false))) (options_pass s are) (options_walked s are)
+    ∙ ap₂ (λ a b. a && b) (stands_head s are).settles (valid (held_head s))
+
+-- ---- the values
+
+abbrev number_said : Text → Option Text → Text
+number_said default None = default
+number_said default (Some word) = without_minus word
+
+abbrev default_of : Number → ℕ
+default_of pairs = 1
+default_of ring = 512
+default_of buffers = 4096
+default_of bsize = 2048
+default_of batch = 32
+default_of rs_every = 32
+default_of workers = 1
+default_of turns = 0
+
+abbrev default_word : Number → Text
+default_word pairs = codes "1"
+default_word ring = codes "512"
+default_word buffers = codes "4096"
+default_word bsize = codes "2048"
+default_word batch = codes "32"
+default_word rs_every = codes "32"
+default_word workers = codes "1"
+default_word turns = codes "0"
+
+-- the rows at last
+abbrev at_last : Said → List Row
+at_last s = fold with_default (rows_in (uses_head s)) rules
+
+rows_at_last : (s : Said) → AreNumbers s → finished rules (held_head s) ≡ at_last s
+rows_at_last s are = ap (λ (l : List Row). fold with_default l rules) (stands_head s are).rows
+
+-- what an option that stands is at last, and one that is left out
+number_row : (which : Number) (word : Text) → row_text (row (number_id which) (reading_by (number_at which)) CommandLine (word ∷ [])) ≡ Some (without_minus word)
+number_row pairs word = refl
+number_row ring word = refl
+number_row buffers word = refl
+number_row bsize word = refl
+number_row batch word = refl
+number_row rs_every word = refl
+number_row workers word = refl
+number_row turns word = refl
+
+number_default : (which : Number) (rows : List Row) → has_row (number_id which) rows ≡ false
+    → one_of (number_id which) (fold with_default rows rules) ≡ Some (default_word which)
+number_default pairs rows absent = ap (option_and_then row_text) (default-found (take 0 rules) (number_at pairs) (drop 1 rules) rows (default_word pairs) [] absent refl refl refl)
+number_default ring rows absent = ap (option_and_then row_text) (default-found (take 1 rules) (number_at ring) (drop 2 rules) rows (default_word ring) [] absent refl refl refl)
+number_default buffers rows absent = ap (option_and_then row_text) (default-found (take 2 rules) (number_at buffers) (drop 3 rules) rows (default_word buffers) [] absent refl refl refl)
+number_default bsize rows absent = ap (option_and_then row_text) (default-found (take 3 rules) (number_at bsize) (drop 4 rules) rows (default_word bsize) [] absent refl refl refl)
+number_default batch rows absent = ap (option_and_then row_text) (default-found (take 4 rules) (number_at batch) (drop 5 rules) rows (default_word batch) [] absent refl refl refl)
+number_default rs_every rows absent = ap (option_and_then row_text) (default-found (take 5 rules) (number_at rs_every) (drop 6 rules) rows (default_word rs_every) [] absent refl refl refl)
+number_default workers rows absent = ap (option_and_then row_text) (default-found (take 6 rules) (number_at workers) (drop 7 rules) rows (default_word workers) [] absent refl refl refl)
+number_default turns rows absent = ap (option_and_then row_text) (default-found (take 7 rules) (number_at turns) (drop 8 rules) rows (default_word turns) [] absent refl refl refl)
+
+flag_default : (which : Flag) (rows : List Row) → has_row (flag_id which) rows ≡ false → one_of (flag_id which) (fold with_default rows rules) ≡ Some (codes "false")
+flag_default drop_en rows absent = ap (option_and_then row_text) (default-found (take 8 rules) (flag_at drop_en) (drop 9 rules) rows (codes "false") [] absent refl refl refl)
+flag_default no_retry rows absent = ap (option_and_then row_text) (default-found (take 9 rules) (flag_at no_retry) (drop 10 rules) rows (codes "false") [] absent refl refl refl)
+flag_default head rows absent = ap (option_and_then row_text) (default-found (take 10 rules) (flag_at head) (drop 11 rules) rows (codes "false") [] absent refl refl refl)
+
+flag_row : (which : Flag) → row_text (row (flag_id which) (reading_by (flag_at which)) CommandLine (codes "true" ∷ [])) ≡ Some (codes "true")
+flag_row drop_en = refl
+flag_row no_retry = refl
+flag_row head = refl
+
+-- an id is itself
+number_same : (which : Number) → bytes_eq (number_id which) (number_id which) ≡ true
+number_same pairs = refl
+number_same ring = refl
+number_same buffers = refl
+number_same bsize = refl
+number_same batch = refl
+number_same rs_every = refl
+number_same workers = refl
+number_same turns = refl
+
+flag_same : (which : Flag) → bytes_eq (flag_id which) (flag_id which) ≡ true
+flag_same drop_en = refl
+flag_same no_retry = refl
+flag_same head = refl
+
+-- the value of an option, whatever options stand before it and behind it
+number_value : (which : Number) (before after : List OptionUse) (said : Option Text) → mentions (number_id which) before ≡ false
+    → mentions (number_id which) after ≡ false
+    → one_of (number_id which) (fold with_default (rows_in (before ++ number_use which said ∷ after)) rules) ≡ Some (number_said (default_word which) said)
+number_value which before after (Some word) first behind =
+    let how = reading_by (number_at which) in
+    let stands = found-use before after (number_id which) how (word ∷ []) first (number_same which) in
+    ap (option_and_then row_text)
+    (all-keep (number_id which) rules (rows_in (before ++ number_use which (Some word) ∷ after)) (row (number_id which) how CommandLine (word ∷ [])) stands)
+    ∙ number_row which word
+number_value which before after None first behind =
+    number_default which (rows_in (before ++ number_use which None ∷ after)) (absent-use before after (number_id which) (reading_by (number_at which)) first behind)
+
+flag_value : (which : Flag) (before after : List OptionUse) (said : Bool) → mentions (flag_id which) before ≡ false → mentions (flag_id which) after ≡ false
+    → one_of (flag_id which) (fold with_default (rows_in (before ++ flag_use which said ∷ after)) rules) ≡ Some (bool_text said)
+flag_value which before after true first behind =
+    let how = reading_by (flag_at which) in
+    let stands = found-use before after (flag_id which) how (codes "true" ∷ []) first (flag_same which) in
+    ap (option_and_then row_text)
+    (all-keep (flag_id which) rules (rows_in (before ++ flag_use which true ∷ after)) (row (flag_id which) how CommandLine (codes "true" ∷ [])) stands)
+    ∙ flag_row which
+flag_value which before after false first behind =
+    flag_default which (rows_in (before ++ flag_use which false ∷ after)) (absent-use before after (flag_id which) (reading_by (flag_at which)) first behind)
+
+-- the uses behind each of them
+abbrev behind_no_retry : Said → List OptionUse
+behind_no_retry s = flag_use head s.head ∷ []
+
+abbrev behind_drop_en : Said → List OptionUse
+behind_drop_en s = flag_use no_retry s.no_retry ∷ behind_no_retry s
+
+abbrev behind_turns : Said → List OptionUse
+behind_turns s = flag_use drop_en s.drop_en ∷ behind_drop_en s
+
+abbrev behind_workers : Said → List OptionUse
+behind_workers s = number_use turns s.turns ∷ behind_turns s
+
+abbrev behind_rs_every : Said → List OptionUse
+behind_rs_every s = number_use workers s.workers ∷ behind_workers s
+
+abbrev behind_batch : Said → List OptionUse
+behind_batch s = number_use rs_every s.rs_every ∷ behind_rs_every s
+
+abbrev behind_bsize : Said → List OptionUse
+behind_bsize s = number_use batch s.batch ∷ behind_batch s
+
+abbrev behind_buffers : Said → List OptionUse
+behind_buffers s = number_use bsize s.bsize ∷ behind_bsize s
+
+abbrev behind_ring : Said → List OptionUse
+behind_ring s = number_use buffers s.buffers ∷ behind_buffers s
+
+abbrev behind_pairs : Said → List OptionUse
+behind_pairs s = number_use ring s.ring ∷ behind_ring s
+
+-- ---- the command
+
+-- once the command is met, the words are its own
+abbrev stopped_at : List Text → Walk
+stopped_at words = record (walk_from nothing_held) { stopped = Some (codes "forward", words) }
+
+stops : (top : List Rule) (names : Names) (before rest : List Text) → fold (walked top names) (stopped_at before) rest ≡ stopped_at (before ++ rest)
+unfolding clap_on_literals
+stops top names before [] = ap stopped_at (sym (append-nil before))
+stops top names before (word ∷ rest) = stops top names (before ++ word ∷ []) rest ∙ ap stopped_at (append_assoc before (word ∷ []) rest)
+
+stop_passes : (s : Shape) (names : Names) (before rest : List Text) → walk_passes s names (stopped_at before) rest ≡ true
+unfolding clap_on_literals
+stop_passes s names before [] = refl
+stop_passes s names before (word ∷ rest) = stop_passes s names (before ++ word ∷ []) rest
+
+abbrev built_program : Choices → Choices → App
+built_program rings formats = built (program_app rings formats)
+
+abbrev top_passes : Choices → Choices → Walk → Bool → Bool
+top_passes rings formats w pass =
+    let a = built_program rings formats in
+    entered_passes a w.stopped && (pass && (settle_passes a.top.rules false w.held
+    && (list_all default_passes a.top.rules && is_valid a.top (finished a.top.rules w.held) (is_some (entered a w.stopped)))))
+
+takes_by : (rings formats : Choices) (rest : List Text) → let a = built_program rings formats in
+    takes (program_app rings formats) (codes "forward" ∷ rest)
+    ≡ top_passes rings formats (fold (walked a.top.rules (names_of a)) (stopped_at []) rest) (walk_passes a.top (names_of a) (stopped_at []) rest)
+unfolding clap_on_literals
+takes_by rings formats rest = refl
+
+takes_forward : (rings formats : Choices) (rest : List Text)
+    → takes (program_app rings formats) (codes "forward" ∷ rest) ≡ (level_passes shape [] nothing_held rest false && true)
+takes_forward rings formats rest =
+    let a = built_program rings formats in
+    takes_by rings formats rest
+    ∙ (ap₂ (top_passes rings formats) (stops a.top.rules (names_of a) [] rest) (stop_passes a.top (names_of a) [] rest) ∙ by_level rings formats rest)
+  where
+    by_level : (rings formats : Choices) (rest : List Text)
+        → top_passes rings formats (stopped_at rest) true ≡ (level_passes shape [] nothing_held rest false && true)
+    by_level rings formats rest = refl
+
+found_by : (rings formats : Choices) (rest : List Text) → let a = built_program rings formats in
+    subcommand_of (program_app rings formats) (codes "forward" ∷ rest) ≡ entered a (fold (walked a.top.rules (names_of a)) (stopped_at []) rest).stopped
+unfolding clap_on_literals
+found_by rings formats rest = refl
+
+found_forward : (rings formats : Choices) (rest : List Text)
+    → subcommand_of (program_app rings formats) (codes "forward" ∷ rest) ≡ Some (codes "forward", finished rules (walk rules [] nothing_held rest).held)
+found_forward rings formats rest =
+    let a = built_program rings formats in
+    found_by rings formats rest ∙ (ap (λ (w : Walk). entered a w.stopped) (stops a.top.rules (names_of a) [] rest) ∙ is_entered rings formats rest)
+  where
+    is_entered : (rings formats : Choices) (rest : List Text)
+        → entered (built_program rings formats) (Some (codes "forward", rest)) ≡ Some (codes "forward", finished rules (walk rules [] nothing_held rest).held)
+    is_entered rings formats rest = refl
+
+-- ---- what the words say of a number
+
+record IsSaid (which : Number) (words : List Text) (n : ℕ) : Type 0 where
+  said : Option Text
+  words_are : words ≡ number_words which said
+  number : IfSome said IsNumber
+  value : number_said (default_word which) said ≡ decimal n
+  fits : n < 2 ^ 32
+
+default_fits : (which : Number) → default_of which < 2 ^ 32
+default_fits pairs = omega arith
+default_fits ring = omega arith
+default_fits buffers = omega arith
+default_fits bsize = omega arith
+default_fits batch = omega arith
+default_fits rs_every = omega arith
+default_fits workers = omega arith
+default_fits turns = omega arith
+
+default_text : (which : Number) → default_word which ≡ decimal (default_of which)
+unfolding digits
+default_text pairs = refl
+default_text ring = refl
+default_text buffers = refl
+default_text bsize = refl
+default_text batch = refl
+default_text rs_every = refl
+default_text workers = refl
+default_text turns = refl
+
+is_said : (which : Number) (words : List Text) (n : ℕ) → SaysNumber (number_option which) (default_of which) words n → IsSaid which words n
+is_said which words n (inl number) = record {
+  said = Some (decimal n);
+  words_are = number.0;
+  number = is_number n number.1;
+  value = strips_none (decimal n) (numeral_of n number.1).no_minus;
+  fits = number.1;
+}
+is_said which words n (inr out) = record {
+  said = None;
+  words_are = out.0;
+  number = tt;
+  value = default_text which ∙ ap decimal (sym out.1);
+  fits = subst (λ k. k < 2 ^ 32) (sym out.1) (default_fits which);
+}
+
+-- ---- a configuration
+
+-- what each of its words says
+record Saying (words : List Text) (config : Config) (says : SaysForward words config) : Type 0 where
+  pairs : IsSaid pairs says.pairs config.pairs
+  ring : IsSaid ring says.ring config.ring
+  buffers : IsSaid buffers says.buffers config.buffers
+  bsize : IsSaid bsize says.bsize config.bsize
+  batch : IsSaid batch says.batch config.batch
+  rs_every : IsSaid rs_every says.rs_every config.rs_every
+  workers : IsSaid workers says.workers config.workers
+  turns : IsSaid turns says.turns config.turns
+
+saying : (words : List Text) (config : Config) (says : SaysForward words config) → Saying words config says
+saying words config says = record {
+  pairs = is_said pairs says.pairs config.pairs says.says_pairs;
+  ring = is_said ring says.ring config.ring says.says_ring;
+  buffers = is_said buffers says.buffers config.buffers says.says_buffers;
+  bsize = is_said bsize says.bsize config.bsize says.says_bsize;
+  batch = is_said batch says.batch config.batch says.says_batch;
+  rs_every = is_said rs_every says.rs_every config.rs_every says.says_rs_every;
+  workers = is_said workers says.workers config.workers says.says_workers;
+  turns = is_said turns says.turns config.turns says.says_turns;
+}
+
+abbrev said_by : (words : List Text) (config : Config) (says : SaysForward words config) → Saying words config says → Said
+said_by words config says are = record {
+  pairs = are.pairs.said;
+  ring = are.ring.said;
+  buffers = are.buffers.said;
+  bsize = are.bsize.said;
+  batch = are.batch.said;
+  rs_every = are.rs_every.said;
+  workers = are.workers.said;
+  turns = are.turns.said;
+  drop_en = config.drop_en;
+  no_retry = not config.retry;
+  head = is_head config.completion;
+}
+
+numbers_by : (words : List Text) (config : Config) (says : SaysForward words config) (are : Saying words config says) → AreNumbers (said_by words config says are)
+numbers_by words config says are = record {
+  pairs = are.pairs.number;
+  ring = are.ring.number;
+  buffers = are.buffers.number;
+  bsize = are.bsize.number;
+  batch = are.batch.number;
+  rs_every = are.rs_every.number;
+  workers = are.workers.number;
+  turns = are.turns.number;
+}
+
+-- the words, as the options that are said
+words_of : (words : List Text) (config : Config) (says : SaysForward words config) (are : Saying words config says)
+    → words ≡ codes "forward" ∷ words_pairs (said_by words config says are)
+words_of words config says are =
+    let flags : List Text = words_drop_en (said_by words config says are) in
+    let work : says.batch ++ (says.rs_every ++ (says.workers ++ (says.turns ++ flags))) ≡ words_batch (said_by words config says are) =
+    ap₂ (λ (a b : List Text). a ++ b) are.batch.words_are
+    (ap₂ (λ (a b : List Text). a ++ b) are.rs_every.words_are
+    (ap₂ (λ (a b : List Text). a ++ b) are.workers.words_are (ap (λ (a : List Text). a ++ flags) are.turns.words_are))) in
+    says.words_are
+    ∙ ap (λ (a : List Text). codes "forward" ∷ a)
+    (ap₂ (λ (a b : List Text). a ++ b) are.pairs.words_are
+    (ap₂ (λ (a b : List Text). a ++ b) are.ring.words_are
+    (ap₂ (λ (a b : List Text). a ++ b) are.buffers.words_are (ap₂ (λ (a b : List Text). a ++ b) are.bsize.words_are work))))
+
+pub forward_taken : (app : App) (words : List Text) (config : Config) → IsProgram app → SaysForward words config → takes app words ≡ true
+forward_taken app words config program says =
+    let are = saying words config says in
+    let s = said_by words config says are in
+    ap (λ (a : App). takes a words) program.app_is
+    ∙ (ap (takes (program_app program.rings program.formats)) (words_of words config says are)
+    ∙ (takes_forward program.rings program.formats (words_pairs s) ∙ ap (λ b. b && true) (level s (numbers_by words config says are))))
+
+pub forward_found : (app : App) (words : List Text) (config : Config) → IsProgram app → SaysForward words config
+    → (rows : List Row) × (subcommand_of app words ≡ Some (codes "forward", rows)) × HasForward rows config
+forward_found app words config program says =
+    let are = saying words config says in
+    let s = said_by words config says are in
+    let numbers = numbers_by words config says are in
+    let last = rows_at_last s numbers in (
+      finished rules (held_head s),
+      ap (λ (a : App). subcommand_of a words) program.app_is
+          ∙ (ap (subcommand_of (program_app program.rings program.formats)) (words_of words config says are)
+          ∙ (found_forward program.rings program.formats (words_pairs s)
+          ∙ ap (λ (w : Walk). Some (codes "forward", finished rules w.held)) (options_walked s numbers))),
+      record {
+        pairs = ap (one_of (number_id pairs)) last ∙ (number_value pairs [] (behind_pairs s) are.pairs.said refl refl ∙ ap (λ (t : Text). Some t) are.pairs.value);
+        ring = ap (one_of (number_id ring)) last ∙ (number_value ring (uses_pairs s) (behind_ring s) are.ring.said refl refl ∙ ap (λ (t : Text). Some t) are.ring.value);
+        buffers = ap (one_of (number_id buffers)) last ∙ (number_value buffers (uses_ring s) (behind_buffers s) are.buffers.said refl refl ∙ ap (λ (t : Text). Some t) are.buffers.value);
+        bsize = ap (one_of (number_id bsize)) last ∙ (number_value bsize (uses_buffers s) (behind_bsize s) are.bsize.said refl refl ∙ ap (λ (t : Text). Some t) are.bsize.value);
+        batch = ap (one_of (number_id batch)) last ∙ (number_value batch (uses_bsize s) (behind_batch s) are.batch.said refl refl ∙ ap (λ (t : Text). Some t) are.batch.value);
+        rs_every = ap (one_of (number_id rs_every)) last ∙ (number_value rs_every (uses_batch s) (behind_rs_every s) are.rs_every.said refl refl ∙ ap (λ (t : Text). Some t) are.rs_every.value);
+        workers = ap (one_of (number_id workers)) last ∙ (number_value workers (uses_rs_every s) (behind_workers s) are.workers.said refl refl ∙ ap (λ (t : Text). Some t) are.workers.value);
+        turns = ap (one_of (number_id turns)) last ∙ (number_value turns (uses_workers s) (behind_turns s) are.turns.said refl refl ∙ ap (λ (t : Text). Some t) are.turns.value);
+        drop = ap (one_of (flag_id drop_en)) last ∙ flag_value drop_en (uses_turns s) (behind_drop_en s) config.drop_en refl refl;
+        no_retry = ap (one_of (flag_id no_retry)) last ∙ flag_value no_retry (uses_drop_en s) (behind_no_retry s) (not config.retry) refl refl;
+        head = ap (one_of (flag_id head)) last ∙ flag_value head (uses_no_retry s) [] (is_head config.completion) refl refl;
+        queues_fit = (are.pairs.fits, are.ring.fits, are.buffers.fits, are.bsize.fits);
+        work_fits = (are.batch.fits, are.rs_every.fits, are.workers.fits, are.turns.fits);
+      },
+    )
+
+-- a configuration, from its parts
+pub config_is : (config : Config) (p r b z a e w t : ℕ) (d y : Bool) (c : Completion) → p ≡ config.pairs → r ≡ config.ring → b ≡ config.buffers → z ≡ config.bsize
+    → a ≡ config.batch → e ≡ config.rs_every → w ≡ config.workers → t ≡ config.turns → d ≡ config.drop_en → y ≡ config.retry → c ≡ config.completion
+    → ◌≡◌ {A = Config} (record { pairs = p; ring = r; batch = a; buffers = b; bsize = z; rs_every = e; drop_en = d; retry = y; workers = w; turns = t; completion = c }) config
+config_is config p r b z a e w t d y c pairs_are ring_is buffers_are bsize_is batch_is rs_every_is workers_are turns_are drop_is retry_is completion_is =
+    rw (pairs_are, ring_is, buffers_are, bsize_is, batch_is, rs_every_is, workers_are, turns_are, drop_is, retry_is, completion_is) refl

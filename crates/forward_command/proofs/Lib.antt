@@ -1,0 +1,3 @@
+mod Lines
+mod Refusing
+pub mod Endings

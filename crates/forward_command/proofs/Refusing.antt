@@ -1,0 +1,43 @@
+-- Why a script is not forwarded.
+use Rattle.std.proofs.Common.{◌≡◌, ℕ, List, true, false, inl, inr, refl, subst, sym}
+use Rattle.std.specs.Prelude.{◌⊎◌, Result, Ok, Err}
+use Rattle.flows.specs.declared.report.FlowReport.{FlowReport}
+use Rattle.forwarding.specs.declared.error.ForwardError.{ForwardError}
+use Rattle.forwarding.specs.declared.error.ForwardError.TheVariants as forward
+use Rattle.teams.specs.Refusals.{Halted}
+use Rattle.forwarder.specs.Configs.{FitsIn}
+use Rattle.forwarder.specs.declared.config.Config.{Config}
+use Rattle.wire_script.specs.Frame.{Frame}
+use Rattle.wire_script.specs.Script.{script_of}
+use Rattle.wire_script.specs.ScriptError.{Fails}
+use Rattle.wire_script.specs.declared.error.ScriptError.{ScriptError}
+use Rattle.commands.specs.declared.refusal.Refusal.{Refusal}
+use Rattle.commands.specs.declared.refusal.Refusal.TheVariants as refusal
+use Rattle.forward_command.specs.Forwards.{ForwardRefused, HasReport}
+
+-- a fault of the script
+pub by-script : (config : Config) (text : List ℕ) (e : Refusal) (fault : ScriptError) → e ≡ refusal.Script fault → Fails fault (script_of text)
+    → ForwardRefused config text e
+by-script config text e fault is fails = subst (ForwardRefused config text) (sym is) fails
+
+-- the configuration, or what a forwarding wants that may begin
+pub by-forward : {A : Type 0} (config : Config) (text : List ℕ) (script : List Frame) (e : ForwardError) → script_of text ≡ Ok script
+    → (◌≡◌ {A = Result A ForwardError} (Err e) (Err forward.Config) → ¬ (FitsIn script config))
+    → ◌≡◌ {A = Result A ForwardError} (Err e) (Err forward.Config) ⊎ FitsIn script config
+    → {G : Type 0} (gate : G) → (FitsIn script config → Halted {G = G} (λ _ _ _ b. b ≡ true) gate e) → ForwardRefused config text (refusal.Forward e)
+by-forward config text script forward.Config says unfit either gate halted = (script, says, unfit refl)
+by-forward config text script forward.Memory says unfit (inl bad) gate halted = cc bad
+by-forward config text script forward.Memory says unfit (inr fits) gate halted = (script, record { says = says; fits = fits })
+by-forward config text script forward.Thread says unfit (inl bad) gate halted = cc bad
+by-forward config text script forward.Thread says unfit (inr fits) gate halted = (script, record { says = says; fits = fits })
+by-forward config text script forward.Gate says unfit (inl bad) gate halted = cc bad
+by-forward config text script forward.Gate says unfit (inr fits) gate halted = let never : false ≡ true = (halted fits).1.1 in cc never
+
+-- and want of memory for its text
+pub by-text : (config : Config) (text : List ℕ) (flows : List FlowReport) (e : Refusal) → e ≡ refusal.Memory → HasReport config text flows → ForwardRefused config text e
+by-text config text flows e is report = subst (ForwardRefused config text) (sym is) (report.script, report.forwardable)
+
+-- a forwarding that was not refused for its configuration began with one that fits
+pub fits-then : {A : Type 0} (x : A) (P : Type 0) → ◌≡◌ {A = Result A ForwardError} (Ok x) (Err forward.Config) ⊎ P → P
+fits-then x P (inl bad) = cc bad
+fits-then x P (inr fits) = fits

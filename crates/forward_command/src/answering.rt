@@ -1,0 +1,50 @@
+//! What `forward` does to the three streams, and the status that it ends with.
+ghost use Rattle.std.specs.Prelude.{◌≡◌, ◌⊎◌, ℕ, List, Some, IfErr, OnOk};
+ghost use Rattle.std.specs.Io.KnownBytes.{Keeps};
+ghost use Rattle.commands.specs.declared.answering.TheConstants.{DONE, REFUSED};
+ghost use Rattle.forward_command.specs.Forwards.{EndsForward, PrintsForward, WithholdsForward};
+
+use crate::page::forward;
+use commands::{DONE, Refusal, print, refuse};
+use forwarder::Config;
+use std::alloc::Global;
+use std::io::{Read, Write};
+use std::sync::Wait;
+use std::thread::Threads;
+
+/// Forwards the script of `input`, and answers an exit status. What came of it goes to `output`, with status 0. A refusal
+/// goes to `faults` as one line, with status 1, as the other commands' do.
+pub fn answer<R: Threads + Wait + Sync, I: Read, W: Write, E: Write>(
+    rt: &R,
+    alloc: Global,
+    config: &Config,
+    input: &mut I,
+    output: &mut W,
+    faults: &mut E,
+) -> u8
+    ensures status { (result ≡ DONE) ⊎ (result ≡ REFUSED) }
+    ensures done { result ≡ DONE → Keeps (E.contents faults.old) (E.contents faults.new) }
+    ensures ends { (text : List ℕ) → I.remaining input.old ≡ Some text
+        → EndsForward config.now text result (W.contents output.old) (W.contents output.new) }
+{
+    match perform(rt, alloc, config, input, output) {
+        Ok(()) => DONE,
+        Err(refusal) => refuse(faults, refusal),
+    }
+}
+
+/// Forwards the script of `input`, and prints what came of it. What it refuses before it prints leaves `output` as it was.
+pub fn perform<R: Threads + Wait + Sync, I: Read, W: Write>(
+    rt: &R,
+    alloc: Global,
+    config: &Config,
+    input: &mut I,
+    output: &mut W,
+) -> Result<(), Refusal>
+    ensures done { OnOk result (PrintsForward config.now (I.remaining input.old) (W.contents output.old) (W.contents output.new)) }
+    ensures refused { IfErr result (λ e.
+        WithholdsForward config.now (I.remaining input.old) e (W.contents output.old) (W.contents output.new)) }
+{
+    let text = forward(rt, alloc, config, input)?;
+    print(text.as_str(), output)
+}

@@ -1,0 +1,73 @@
+//! A script, read whole, forwarded, and then answered whole.
+ghost use Rattle.std.specs.Prelude.{◌≡◌, IfErr, IfOk, Ok};
+ghost use Rattle.std.specs.String.{string_bytes};
+ghost use Rattle.commands.specs.declared.refusal.Refusal.TheVariants as refusal;
+ghost use Rattle.wire_script.specs.Script.{script_of};
+ghost use Rattle.wire_script.specs.ScriptError.{Fails};
+ghost use Rattle.wire_script.specs.declared.error.ScriptError.{ScriptError};
+ghost use Rattle.forward_command.specs.Forwards.{ForwardRefused, HasPage, HasReport, IsForwarded, RefusesForward};
+
+use crate::text::text_of;
+use commands::{Refusal, read_text};
+use forwarder::{Config, Report};
+use forwarding::Open;
+use std::alloc::Global;
+use std::io::Read;
+use std::sync::Wait;
+use std::thread::Threads;
+use wire_script::{Script, parse};
+
+/// Forwards the script of an input, and answers the text of what came of it.
+///
+/// It answers the first that applies of `Input` (or `Memory`) where the input can't be read, the script's first fault or
+/// its want of memory, the forwarder's `Config`, its `Memory` or `Thread`, and `Memory` where the text could not grow. The
+/// input's text is given back before the script is forwarded, and the script before its text is made.
+pub fn forward<R: Threads + Wait + Sync, I: Read>(
+    rt: &R,
+    alloc: Global,
+    config: &Config,
+    input: &mut I,
+) -> Result<String, Refusal>
+    ensures done { IfOk result (λ page. IsForwarded config.now (I.remaining input.old) (string_bytes page)) }
+    ensures refused { IfErr result (λ e. RefusesForward config.now (I.remaining input.old) e) }
+{
+    let text = read_text(alloc, input)?;
+    page_for(rt, alloc, config, text)
+}
+
+/// What a script's text prints.
+fn page_for<R: Threads + Wait + Sync>(
+    rt: &R,
+    alloc: Global,
+    config: &Config,
+    text: Vec<u8>,
+) -> Result<String, Refusal>
+    ensures done { IfOk result (λ page. HasPage config.now text.items (string_bytes page)) }
+    ensures refused { IfErr result (λ e. ForwardRefused config.now text.items e) }
+{
+    let report = report_for(rt, alloc, config, text)?;
+    let pairs = config.pairs as usize;
+    text_of(alloc, report.flows.as_slice(), pairs)
+}
+
+/// What became of the flows of a script's text.
+fn report_for<R: Threads + Wait + Sync>(
+    rt: &R,
+    alloc: Global,
+    config: &Config,
+    text: Vec<u8>,
+) -> Result<Report, Refusal>
+    ensures report { IfOk result (λ r. HasReport config.now text.items r.flows.items) }
+    ensures refused { IfErr result (λ e. ForwardRefused config.now text.items e) }
+{
+    let script = script_in(alloc, text)?;
+    Ok(forwarder::forward(rt, alloc, &script, config, &Open)?)
+}
+
+/// The script that a text says.
+fn script_in(alloc: Global, text: Vec<u8>) -> Result<Script, Refusal>
+    ensures script { IfOk result (λ script. script_of text.items ≡ Ok script) }
+    ensures refused { IfErr result (λ e. (fault : ScriptError) × (e ≡ refusal.Script fault) × Fails fault (script_of text.items)) }
+{
+    Ok(parse(alloc, text.as_slice())?)
+}

@@ -1,0 +1,173 @@
+//! The text of a report.
+ghost use Rattle.std.specs.Prelude.{◌≡◌, ◌++◌, ◌*◌, ◌<◌, ◌≤◌, length, map, IfErr, IfOk, OnOk};
+ghost use Rattle.std.specs.String.{string_bytes};
+ghost use Rattle.limits.specs.declared.profile.TheConstants.{MOST_PAIRS, PORTS};
+ghost use Rattle.commands.specs.declared.refusal.Refusal.TheVariants.{Memory};
+ghost use Rattle.wire_script.specs.Frame.{frame_of};
+ghost use Rattle.wire_script.specs.Script.{text_for};
+ghost use Rattle.forward_command.specs.Text.{driven_words, ended_word, ending_words, flow_line, flow_lines, offered_words, report_text, wires_from};
+
+use commands::Refusal;
+use controller::Wire;
+use flows::{Ended, FlowReport};
+use std::alloc::Global;
+use wire_script::print_line;
+
+/// How many bytes a frame's line has beside its digits: port, queue, two spaces and LF.
+const AROUND_FRAME: usize = 5;
+
+/// Room for the line of a flow: its words, and numbers of up to 20 digits.
+const FLOW_LINE: usize = 288;
+
+/// How an end is printed.
+fn word_of(ended: Ended) -> &'static str
+    ensures { result.now ≡ ended_word ended }
+{
+    match ended {
+        Ended::Drained => "drained",
+        Ended::Cut => "cut",
+    }
+}
+
+/// How many bytes the lines of a wire have.
+fn wire_room(wire: &Wire) -> usize {
+    let mut room = 0usize;
+    for frame in wire.iter() {
+        room = room
+            .saturating_add(frame.len())
+            .saturating_add(frame.len())
+            .saturating_add(AROUND_FRAME);
+    }
+    room
+}
+
+/// Room for the text of these flows.
+fn room_for(flows: &[FlowReport]) -> usize {
+    let mut room = 0usize;
+    for flow in flows {
+        room = room
+            .saturating_add(wire_room(&flow.wire))
+            .saturating_add(FLOW_LINE);
+    }
+    room
+}
+
+/// Writes a line for each frame of a wire.
+fn write_wire(
+    alloc: Global,
+    text: &mut String,
+    port: u8,
+    queue: u8,
+    wire: &Wire,
+) -> Result<(), Refusal>
+    requires port { port < PORTS }
+    requires queue { queue < MOST_PAIRS }
+    ensures lines { OnOk result (string_bytes text.new ≡ string_bytes text.old ++ text_for (map (frame_of port queue) wire.now)) }
+    ensures refused { IfErr result (λ e. e ≡ Memory) }
+{
+    for frame in wire.iter() {
+        let Ok(()) = print_line(alloc, text, port, queue, frame) else {
+            return Err(Refusal::Memory);
+        };
+    }
+    Ok(())
+}
+
+/// Writes the wires of the flows that go out of a port.
+fn write_wires(
+    alloc: Global,
+    text: &mut String,
+    port: u8,
+    flows: &[FlowReport],
+) -> Result<(), Refusal>
+    requires port { port < PORTS }
+    requires queues { length flows.now ≤ MOST_PAIRS }
+    ensures lines { OnOk result (string_bytes text.new ≡ string_bytes text.old ++ text_for (wires_from port 0 flows.now)) }
+    ensures refused { IfErr result (λ e. e ≡ Memory) }
+{
+    let mut queue = 0u8;
+    for flow in flows {
+        write_wire(alloc, text, port, queue, &flow.wire)?;
+        queue += 1;
+    }
+    Ok(())
+}
+
+/// Writes the line of a flow, which came in at this port and queue.
+fn write_flow(text: &mut String, port: u8, queue: u8, flow: &FlowReport) -> Result<(), Refusal>
+    ensures line { OnOk result (string_bytes text.new ≡ string_bytes text.old ++ flow_line port queue flow.now) }
+    ensures refused { IfErr result (λ e. e ≡ Memory) }
+{
+    write_offered(text, port, queue, flow)?;
+    write_driven(text, flow)?;
+    write_ending(text, flow)
+}
+
+/// Writes what a flow was offered, and what became of it at its receive ring.
+fn write_offered(text: &mut String, port: u8, queue: u8, flow: &FlowReport) -> Result<(), Refusal>
+    ensures words { OnOk result (string_bytes text.new ≡ string_bytes text.old ++ offered_words port queue flow.now) }
+    ensures refused { IfErr result (λ e. e ≡ Memory) }
+{
+    write!(
+        text,
+        "flow {port} {queue} offered {} stored {} dropped {} oversize {}",
+        flow.offered, flow.stored, flow.dropped, flow.oversize,
+    )?;
+    Ok(())
+}
+
+/// Writes what the driver of a flow did.
+fn write_driven(text: &mut String, flow: &FlowReport) -> Result<(), Refusal>
+    ensures words { OnOk result (string_bytes text.new ≡ string_bytes text.old ++ driven_words flow.now) }
+    ensures refused { IfErr result (λ e. e ≡ Memory) }
+{
+    write!(
+        text,
+        " taken {} posted {} tx-dropped {}",
+        flow.taken, flow.posted, flow.tx_dropped,
+    )?;
+    Ok(())
+}
+
+/// Writes what went out of a flow, what was left, and how it ended.
+fn write_ending(text: &mut String, flow: &FlowReport) -> Result<(), Refusal>
+    ensures words { OnOk result (string_bytes text.new ≡ string_bytes text.old ++ ending_words flow.now) }
+    ensures refused { IfErr result (λ e. e ≡ Memory) }
+{
+    let (wire, word) = (flow.wire.len(), word_of(flow.ended));
+    writeln!(text, " wire {wire} left {} ended {word}", flow.left)?;
+    Ok(())
+}
+
+/// Writes the lines of the flows that came in at a port.
+fn write_flows(text: &mut String, port: u8, flows: &[FlowReport]) -> Result<(), Refusal>
+    requires queues { length flows.now ≤ MOST_PAIRS }
+    ensures lines { OnOk result (string_bytes text.new ≡ string_bytes text.old ++ flow_lines port 0 flows.now) }
+    ensures refused { IfErr result (λ e. e ≡ Memory) }
+{
+    let mut queue = 0u8;
+    for flow in flows {
+        write_flow(text, port, queue, flow)?;
+        queue += 1;
+    }
+    Ok(())
+}
+
+/// The text of a report of so many queue pairs a port: the wires, port 0's first and queues ascending, and then a line a
+/// flow, those that came in at port 0 first. What came in at a port goes out at the other.
+///
+/// Its room is taken once, so that it isn't copied while it grows, and the frames are printed from where they lie.
+pub(crate) fn text_of(alloc: Global, flows: &[FlowReport], pairs: usize) -> Result<String, Refusal>
+    requires pairs { pairs ≤ MOST_PAIRS }
+    requires flows { length flows.now ≡ PORTS * pairs }
+    ensures text { IfOk result (λ text. string_bytes text ≡ report_text pairs flows.now) }
+    ensures refused { IfErr result (λ e. e ≡ Memory) }
+{
+    let (from_0, from_1) = flows.split_at(pairs);
+    let mut text = String::with_capacity(alloc, room_for(flows))?;
+    write_wires(alloc, &mut text, 0, from_1)?;
+    write_wires(alloc, &mut text, 1, from_0)?;
+    write_flows(&mut text, 0, from_0)?;
+    write_flows(&mut text, 1, from_1)?;
+    Ok(text)
+}

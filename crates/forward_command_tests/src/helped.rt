@@ -1,0 +1,125 @@
+//! The help of `forward`, words that are wrong, and refusals.
+
+use crate::told::outcome_of;
+use commands::{REFUSED, Refusal, refuse};
+use forwarding::ForwardError;
+use std::test::Fail;
+use wire_script::ScriptError;
+
+/// What help has to say: an option with its range and default in each line, and the examples.
+const LINES: &[&str] = &[
+    "--pairs <N>",
+    "1 to 8 [default: 1]",
+    "--ring <N>",
+    "8 to 4,096 [default: 512]",
+    "--batch <N>",
+    "1 to 32 [default: 32]",
+    "--buffers <N>",
+    "[default: 4096]",
+    "--bsize <N>",
+    "1,024 or 2,048 [default: 2048]",
+    "--rs-every <N>",
+    "1 to 4,096 [default: 32]",
+    "--drop",
+    "--no-retry",
+    "--workers <N>",
+    "[default: 1]",
+    "--turns <N>",
+    "[default: 0]",
+    "--head",
+    "echo '0 0 fill 14 05' | poll82599 forward\n",
+    "prints 1 0 0506050505050505050505050505\n",
+];
+
+/// Words that are wrong, and what has to be told of them.
+const WRONG: [(&[&str], &str); 6] = [
+    (&["forward", "--ring", "eight"], "eight"),
+    (&["forward", "--pairs", "4294967296"], "4294967296"),
+    (&["forward", "--turns"], "--turns"),
+    (&["forward", "--drop=1"], "--drop"),
+    (&["forward", "--retry"], "--retry"),
+    (&["forward", "script"], "script"),
+];
+
+/// Each refusal of a script and of a forwarding, and its line.
+const REFUSALS: [(Refusal, &str); 11] = [
+    (
+        Refusal::Forward(ForwardError::Memory),
+        "refused 61 memory\n",
+    ),
+    (Refusal::Forward(ForwardError::Gate), "refused 62 gate\n"),
+    (
+        Refusal::Forward(ForwardError::Thread),
+        "refused 63 thread\n",
+    ),
+    (
+        Refusal::Forward(ForwardError::Config),
+        "refused 64 config\n",
+    ),
+    (
+        Refusal::Script(ScriptError::Fields { line: 1 }),
+        "line 1: refused 71 fields\n",
+    ),
+    (
+        Refusal::Script(ScriptError::Port { line: 2 }),
+        "line 2: refused 72 port\n",
+    ),
+    (
+        Refusal::Script(ScriptError::Queue { line: 3 }),
+        "line 3: refused 73 queue\n",
+    ),
+    (
+        Refusal::Script(ScriptError::Bytes { line: 4 }),
+        "line 4: refused 74 bytes\n",
+    ),
+    (
+        Refusal::Script(ScriptError::FrameLength { line: 5 }),
+        "line 5: refused 75 frame length\n",
+    ),
+    (
+        Refusal::Script(ScriptError::TooMany { line: 1_000_001 }),
+        "line 1000001: refused 76 too many\n",
+    ),
+    (Refusal::Script(ScriptError::Memory), "refused 77 memory\n"),
+];
+
+#[test]
+fn refusals_have_their_words(rt: HostRuntime) -> Result<(), Fail> {
+    for (refusal, line) in REFUSALS {
+        let mut faults = Vec::new(rt.alloc());
+        assert_eq!(rt; refuse(&mut faults, refusal), REFUSED);
+        assert_eq!(rt; faults.as_slice(), line.as_bytes());
+    }
+    Ok(())
+}
+
+#[test]
+fn the_program_s_help_has_an_example(rt: HostRuntime) -> Result<(), Fail> {
+    let told = outcome_of(&rt, rt.alloc(), ["--help"].as_slice(), "")?;
+    assert!(rt;
+        told.output
+            .contains("echo '0 0 fill 60 01' | poll82599 forward\n")
+    );
+    Ok(())
+}
+
+#[test]
+fn help_has_each_option(rt: HostRuntime) -> Result<(), Fail> {
+    let told = outcome_of(&rt, rt.alloc(), ["forward", "--help"].as_slice(), "")?;
+    assert_eq!(rt; told.status, 0);
+    for text in LINES {
+        assert!(rt; told.output.contains(text), "{text}");
+    }
+    Ok(())
+}
+
+#[test]
+fn wrong_words_are_told_with_status_2(rt: HostRuntime) -> Result<(), Fail> {
+    for (words, text) in WRONG {
+        let told = outcome_of(&rt, rt.alloc(), words, "2 0 00\n")?;
+        assert_eq!(rt; told.status, 2, "at {words:?}");
+        assert!(rt; told.output.is_empty(), "at {words:?}");
+        assert!(rt; told.faults.contains(text), "at {words:?}");
+    }
+    Ok(())
+}

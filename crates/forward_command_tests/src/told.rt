@@ -1,0 +1,75 @@
+//! Runs of the program on words and an input, and what each of them has to come to.
+
+use command_line::run;
+use std::alloc::{AllocError, Global};
+use std::io::{Read, Write};
+use std::process::Abort;
+use std::sync::Wait;
+use std::test::Fail;
+use std::thread::Threads;
+
+/// What a run came to: its status, and what it wrote to the output and to the faults.
+#[derive(Drop)]
+pub struct Told {
+    pub status: u8,
+    pub output: String,
+    pub faults: String,
+}
+
+/// A run, and what it has to come to, to the byte.
+#[derive(Clone, Copy)]
+pub struct Row {
+    pub words: &'static [&'static str],
+    pub input: &'static str,
+    pub status: u8,
+    pub output: &'static str,
+    pub faults: &'static str,
+}
+
+/// The status of a run on these words and streams.
+pub fn status_of<R: Threads + Wait + Sync, I: Read, W: Write, E: Write>(
+    rt: &R,
+    alloc: Global,
+    words: &[&str],
+    input: &mut I,
+    output: &mut W,
+    faults: &mut E,
+) -> Result<u8, AllocError> {
+    let mut given = Vec::new(alloc);
+    for word in words {
+        given.push(String::from_str(alloc, word)?)?;
+    }
+    Ok(run(rt, alloc, given.as_slice(), input, output, faults))
+}
+
+/// What a run on these words and this input comes to.
+pub fn outcome_of<R: Threads + Wait + Sync>(
+    rt: &R,
+    alloc: Global,
+    words: &[&str],
+    input: &str,
+) -> Result<Told, Fail> {
+    let (mut output, mut faults) = (Vec::new(alloc), Vec::new(alloc));
+    let mut input = input.as_bytes();
+    let status = status_of(rt, alloc, words, &mut input, &mut output, &mut faults)?;
+    Ok(Told {
+        status,
+        output: String::from_utf8(output)?,
+        faults: String::from_utf8(faults)?,
+    })
+}
+
+/// A run on these words and this input comes to this status, this output and these faults.
+pub fn comes_to<R: Abort + Threads + Wait + Sync>(
+    rt: &R,
+    alloc: Global,
+    words: &[&str],
+    input: &str,
+    (status, output, faults): (u8, &str, &str),
+) -> Result<(), Fail> {
+    let told = outcome_of(rt, alloc, words, input)?;
+    assert_eq!(rt; told.output.as_str(), output, "at {words:?} {input:?}");
+    assert_eq!(rt; told.faults.as_str(), faults, "at {words:?} {input:?}");
+    assert_eq!(rt; told.status, status, "at {words:?} {input:?}");
+    Ok(())
+}
