@@ -3,5 +3,6 @@ pub mod DecodeWords
 pub mod OnceWords
 pub mod ReplayWords
 mod OptionRows
+mod ForwardOptions
 pub mod ForwardWords
 pub mod Endings
