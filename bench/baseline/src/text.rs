@@ -11,8 +11,14 @@ struct Script {
     places: Vec<Vec<u32>>,
 }
 
+/// What a digit says, by its range, as the crate `hex` has it.
 fn nibble(digit: u8) -> Option<u8> {
-    char::from(digit).to_digit(16).map(|value| value as u8)
+    match digit {
+        b'A'..=b'F' => Some(digit - b'A' + 10),
+        b'a'..=b'f' => Some(digit - b'a' + 10),
+        b'0'..=b'9' => Some(digit - b'0'),
+        _ => None,
+    }
 }
 
 fn bytes_of(hex: &[u8]) -> Option<Vec<u8>> {
