@@ -1,5 +1,4 @@
 -- Both sides of a flow may go to another thread.
-use denote.RattleType.{RattleType}
 use denote.Param.Send.{IsSend, IsSync, sendable}
 use Rattle.std.proofs.Crossing.{crosses}
 use Rattle.buffer_pool.proofs.chain.Chain.TheLaws.TheKnot as Chain

@@ -2,6 +2,7 @@
 use Rattle.std.specs.Prelude.{ℕ, ◌+◌, nat_lt, List, [], ◌∷◌, if◌then◌else◌}
 use Rattle.controller.specs.declared.tally.Tally.{Tally}
 use Rattle.flows.specs.declared.counts.Counts.{Counts}
+use Rattle.flows.specs.declared.report.FlowReport.{FlowReport}
 
 -- as long as no more were taken, each count has room for one more turn
 abbrev pub most_exact : ℕ
@@ -21,3 +22,10 @@ driven c = c.taken ∷ c.posted ∷ c.tx_dropped ∷ []
 
 abbrev pub offered : Tally → List ℕ
 offered t = t.offered ∷ t.stored ∷ t.dropped ∷ t.oversize ∷ []
+
+-- the same numbers, in a flow's report
+abbrev pub driven_in : FlowReport → List ℕ
+driven_in r = r.taken ∷ r.posted ∷ r.tx_dropped ∷ []
+
+abbrev pub offered_in : FlowReport → List ℕ
+offered_in r = r.offered ∷ r.stored ∷ r.dropped ∷ r.oversize ∷ []

@@ -1,5 +1,6 @@
 //! Both sides of a flow meet, once both its queues are disabled.
 ghost use Rattle.std.specs.Prelude.{◌≡◌};
+ghost use Rattle.flows.specs.Counting.{driven, driven_in, offered, offered_in};
 ghost use Rattle.flows.specs.Driven.{HasDriven};
 ghost use Rattle.flows.specs.Keys.{DriverKey, ControllerKey, plan_of};
 ghost use Rattle.flows.specs.Reports.{IsReport};
@@ -45,7 +46,9 @@ pub fn conclude(
     requires to { (sides.0.to ≡ to.now) × (sides.1.to ≡ to.now) }
     requires driven { HasDriven sides.0 driver }
     requires served { HasServed sides.1 controller }
-    ensures { IsReport (plan_of sides.0 sides.1) result }
+    ensures report { IsReport (plan_of sides.0 sides.1) result }
+    ensures driven { driven_in result ≡ driven driver.counts }
+    ensures offered { offered_in result ≡ offered controller.tally }
 {
     let DriverDone {
         mut rx,

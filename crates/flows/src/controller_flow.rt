@@ -1,8 +1,10 @@
 //! The controller's side of a flow.
-ghost use Rattle.std.specs.Prelude.{◌≡◌, ◌<◌, ◌≤◌, All, length};
+ghost use Rattle.std.specs.Prelude.{◌≡◌, ◌<◌, ◌≤◌, None, All, length};
 ghost use Rattle.limits.specs.declared.profile.TheConstants.{MOST_SCRIPT_FRAMES};
 ghost use Rattle.controller.specs.FillSize.{IsFillSize};
 ghost use Rattle.controller.specs.Tallying.{AddsUp, nothing};
+ghost use Rattle.rx_ring.specs.Ends as receive;
+ghost use Rattle.tx_ring.specs.Ends as transmit;
 ghost use Rattle.shared_ring.specs.Calls.{IsFreshController};
 ghost use Rattle.flows.specs.Keys.{frames_at};
 ghost use Rattle.flows.specs.Served.{HasServed};
@@ -86,9 +88,11 @@ impl<'a> ControllerFlow<'a> {
         self.input.service() == Service::Ended && self.output.service() == Service::Ended
     }
 
-    /// Both ends, the tally and the wire, wherever the flow stands.
+    /// Both ends, which hold no buffer, the tally and the wire, wherever the flow stands.
     pub fn into_done(self) -> ControllerDone
-        ensures { HasServed self.entry.key result }
+        ensures served { HasServed self.entry.key result }
+        ensures tally { result.tally ≡ self.entry.tally }
+        ensures unheld { (receive.held result.rx ≡ None) × (transmit.held result.tx ≡ None) }
     {
         let (rx, tally) = self.input.into_end();
         let (tx, wire) = self.output.into_end();

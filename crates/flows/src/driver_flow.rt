@@ -143,6 +143,7 @@ impl<'a> DriverFlow<'a> {
     pub fn into_done(self) -> Option<(DriverDone, PoolPass)>
         ensures some { IsSome result ↔ (is_over self.entry.phase ≡ true) }
         ensures driven { IfSome result (λ d. HasDriven self.entry.key d.0) }
+        ensures counts { IfSome result (λ d. d.0.counts ≡ self.entry.counts) }
         ensures pool { IfSome result (λ d. IsOf self.entry.key.pool d.1) }
         ensures none { IfSome result (λ d. d.1.hand.held ≡ []) }
     {

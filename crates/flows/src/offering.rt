@@ -1,9 +1,10 @@
 //! The receive queue of a flow, as its controller serves it.
-ghost use Rattle.std.specs.Prelude.{◌≡◌, ◌<◌, ◌≤◌, All, length, [], IfErr};
+ghost use Rattle.std.specs.Prelude.{◌≡◌, ◌<◌, ◌≤◌, All, length, [], None, IfErr};
 ghost use Rattle.limits.specs.declared.profile.TheConstants.{MOST_SCRIPT_FRAMES};
 ghost use Rattle.controller.specs.FillSize.{IsFillSize};
 ghost use Rattle.controller.specs.Tallying.{AddsUp, nothing};
 ghost use Rattle.rx_ring.specs.Calls.{IsFreshController};
+ghost use Rattle.rx_ring.specs.Ends.{held};
 ghost use Rattle.forwarding.specs.Gates.{Met};
 ghost use Rattle.forwarding.specs.Numbers.{NoneFalls};
 ghost use Rattle.flows.specs.Counting.{offered};
@@ -123,9 +124,11 @@ impl<'a> Offering<'a> {
         self.controller.tally()
     }
 
-    /// The end, and what became of the frames.
+    /// The end, which holds no buffer, and what became of the frames.
     pub(crate) fn into_end(self) -> (RxControllerEnd, Tally)
-        ensures { HasOffered self.entry.input result.0 result.1 }
+        ensures offered { HasOffered self.entry.input result.0 result.1 }
+        ensures tally { result.1 ≡ self.entry.controller.tally }
+        ensures unheld { held result.0 ≡ None }
     {
         let tally = self.controller.tally();
         (self.controller.into_end(), tally)

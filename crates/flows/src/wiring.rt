@@ -1,6 +1,6 @@
 //! The transmit queue of a flow, as its controller serves it.
-ghost use Rattle.std.specs.Prelude.{◌≡◌, [], IfErr};
-ghost use Rattle.tx_ring.specs.Ends.{sent};
+ghost use Rattle.std.specs.Prelude.{◌≡◌, [], None, IfErr};
+ghost use Rattle.tx_ring.specs.Ends.{held, sent};
 ghost use Rattle.ring_model.specs.shared.Frames.{frames};
 ghost use Rattle.ring_model.specs.transmit.Ring.{carried};
 ghost use Rattle.shared_ring.specs.Calls.{IsFreshController};
@@ -84,10 +84,11 @@ impl<'a> Wiring<'a> {
         self.service
     }
 
-    /// The end and the wire, which has what was sent.
+    /// The end, which holds no buffer, and the wire, which has what was sent.
     pub(crate) fn into_end(self) -> (TxControllerEnd, Wire)
         ensures own { result.0.table ≡ self.entry.to }
         ensures wire { result.1 ≡ frames carried (sent result.0) }
+        ensures unheld { held result.0 ≡ None }
     {
         (self.controller.into_end(), self.wire)
     }

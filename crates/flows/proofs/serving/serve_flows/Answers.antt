@@ -1,38 +1,31 @@
-use Rattle.std.proofs.Common.{rules, ◌≡◌, None, map, sym, subst}
+use Rattle.std.proofs.Common.{rules, ◌≡◌, map, sym, subst}
 use Rattle.std.proofs.lemmas.List.{length-map}
-use denote.Param.Send.{sendable}
 use Rattle.teams.specs.Dealing.{IsDealt}
-use Rattle.flows.proofs.Sent.{controller_flow, driver_flow}
+use Rattle.teams.specs.Hands.{hand_keys}
+use Rattle.flows.proofs.Dealing.{all-back}
 use Rattle.flows.proofs.serving.serve_flows.Goals as goal
-
-pub deal_flows-requires-send-F : goal.deal_flows-requires-send-F
-deal_flows-requires-send-F g c κs = search (sendable, driver_flow)
-
-pub deal_flows-requires-2-send-F : goal.deal_flows-requires-2-send-F
-deal_flows-requires-2-send-F g c κs = search (sendable, controller_flow)
-
-pub run_teams-ran-requires-send-D : goal.run_teams-ran-requires-send-D
-run_teams-ran-requires-send-D g c κs o = search (sendable, driver_flow)
-
-pub run_teams-ran-requires-send-C : goal.run_teams-ran-requires-send-C
-run_teams-ran-requires-send-C g c κs o = search (sendable, controller_flow)
-
-pub gather-requires-send-F : goal.gather-requires-send-F
-gather-requires-send-F g c κs = search (sendable, driver_flow)
-
-pub gather-requires-2-send-F : goal.gather-requires-2-send-F
-gather-requires-2-send-F g c κs = search (sendable, controller_flow)
+use Rattle.flows.proofs.serving.serve_flows.Goals.{in-Some+else-len-workers+else-len-workers-2, in_default}
 
 pub returns-clause-drivers : goal.returns-clause-drivers
 returns-clause-drivers g c =
-    let none : c.run_teams-ran.result.refusal ≡ None = search rules in
-    let ran = c.run_teams-ran.ensures.all none in
-    let ds = map (λ f. f.key) c.args.drivers.items in
-    c.gather.ensures.keys ds (search (rules, length-map)) (subst (IsDealt ds) (sym ran.0) c.in_ok-drivers.ensures.dealt)
+    let ran = c.run_teams-ran in
+    let key = g.D.Flow.key in
+    let given = c.in_ok-drivers.drivers.items in
+    let back : hand_keys key ran.result.drivers.items ≡ hand_keys key given = elim c.match-ran.branch [
+      | in-Some+else-len-workers+else-len-workers-2 w ↦ all-back key given ran.result.drivers.items ran.ensures.drivers (search rules)
+      | in_default w ↦ (ran.ensures.all (search rules)).0
+    ] in
+    let ds = map key c.args.drivers.items in
+    c.gather.ensures.keys ds (search (rules, length-map)) (subst (IsDealt ds) (sym back) c.in_ok-drivers.ensures.dealt)
 
 pub returns-clause-controllers : goal.returns-clause-controllers
 returns-clause-controllers g c =
-    let none : c.run_teams-ran.result.refusal ≡ None = search rules in
-    let ran = c.run_teams-ran.ensures.all none in
-    let cs = map (λ f. f.key) c.args.controllers.items in
-    c.gather-2.ensures.keys cs (search (rules, length-map)) (subst (IsDealt cs) (sym ran.1) c.in_ok-controllers.ensures.dealt)
+    let ran = c.run_teams-ran in
+    let key = g.C.Flow.key in
+    let given = c.in_ok-controllers.controllers.items in
+    let back : hand_keys key ran.result.controllers.items ≡ hand_keys key given = elim c.match-ran.branch [
+      | in-Some+else-len-workers+else-len-workers-2 w ↦ all-back key given ran.result.controllers.items ran.ensures.controllers (search rules)
+      | in_default w ↦ (ran.ensures.all (search rules)).1
+    ] in
+    let cs = map key c.args.controllers.items in
+    c.gather-2.ensures.keys cs (search (rules, length-map)) (subst (IsDealt cs) (sym back) c.in_ok-controllers.ensures.dealt)
