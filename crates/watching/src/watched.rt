@@ -7,7 +7,7 @@ use forwarding::{Flow, ForwardError, Gate, Progress};
 use std::marker::Model;
 use std::sync::Wait;
 
-/// A flow, the cell that shows its numbers, and the pen of that cell.
+/// A flow, the cell that shows its numbers, and the pen of that cell. What it is of is what the flow is of, and the cell.
 #[derive(Drop)]
 pub struct Watched<'a, F: Numbered<T, N>, T: Moment<N> + Send, const N: usize> {
     flow: F,
@@ -48,9 +48,11 @@ impl<'a, F: Numbered<T, N>, T: Moment<N> + Send, const N: usize> Watched<'a, F, 
 }
 
 impl<'a, F: Numbered<T, N>, T: Moment<N> + Send, const N: usize> Flow for Watched<'a, F, T, N> {
-    ghost Key = { F.Key };
+    ghost use Rattle.atomic_table.specs.Seated.{TableId};
 
-    ghost key = { λ w. F.key w.flow };
+    ghost Key = { F.Key × TableId };
+
+    ghost key = { λ w. (F.key w.flow, w.pen.cell) };
 
     ghost over = { λ w. F.over w.flow };
 

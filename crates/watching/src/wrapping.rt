@@ -1,0 +1,117 @@
+//! Flows are given their cells, and taken from them again.
+ghost use Rattle.std.specs.Prelude.{◌≡◌, ◌≤◌, All, [], IfOk, IfErr, length, map, vec_len, vec_capacity};
+ghost use Rattle.controller.specs.Tallying.{nothing};
+ghost use Rattle.counters.specs.Paired.{ArePaired};
+ghost use Rattle.flows.specs.Counting.{driven, none, offered};
+ghost use Rattle.forwarding.specs.declared.error.ForwardError.TheVariants.{Memory};
+ghost use Rattle.watching.specs.Watching.{driven_shown, offered_shown};
+
+use crate::watched::Watched;
+use counters::{Driven, FlowCells, FlowPens, Offered};
+use flows::{ControllerFlow, DriverFlow};
+use forwarding::ForwardError;
+use std::alloc::Global;
+
+/// Both sides of all flows, each with its cell, in the order of the flows.
+#[derive(Drop)]
+pub(crate) struct Wrapped<'a> {
+    pub drivers: Vec<Watched<'a, DriverFlow<'a>, Driven, 3>>,
+    pub controllers: Vec<Watched<'a, ControllerFlow<'a>, Offered, 4>>,
+}
+
+/// Both sides of all flows, and the pens that showed their numbers, in the order of the flows.
+#[derive(Drop)]
+pub(crate) struct Unwrapped<'a> {
+    pub drivers: Vec<DriverFlow<'a>>,
+    pub controllers: Vec<ControllerFlow<'a>>,
+    pub pens: Vec<FlowPens>,
+}
+
+/// Room for so many flows.
+pub(crate) fn make_room<'a>(alloc: Global, flows: usize) -> Result<Unwrapped<'a>, ForwardError>
+    ensures refused { IfErr result (λ e. e ≡ Memory) }
+    ensures drivers { IfOk result (λ r. (r.drivers.items ≡ []) × (flows ≤ vec_capacity r.drivers)) }
+    ensures controllers { IfOk result (λ r. (r.controllers.items ≡ []) × (flows ≤ vec_capacity r.controllers)) }
+    ensures pens { IfOk result (λ r. (r.pens.items ≡ []) × (flows ≤ vec_capacity r.pens)) }
+{
+    let drivers = Vec::with_capacity(alloc, flows)?;
+    let controllers = Vec::with_capacity(alloc, flows)?;
+    let pens = Vec::with_capacity(alloc, flows)?;
+    Ok(Unwrapped {
+        drivers,
+        controllers,
+        pens,
+    })
+}
+
+/// Gives both sides of each flow their cells. No flow has counted anything yet, and no pen has written anything.
+pub(crate) fn wrap_all<'a>(
+    alloc: Global,
+    drivers: Vec<DriverFlow<'a>>,
+    controllers: Vec<ControllerFlow<'a>>,
+    cells: &'a [FlowCells],
+    pens: Vec<FlowPens>,
+) -> Result<Wrapped<'a>, ForwardError>
+    requires flows { (vec_len drivers ≡ length cells.now) × (vec_len controllers ≡ length cells.now) }
+    requires count { vec_len pens ≡ length cells.now }
+    requires pens { ArePaired cells.now pens.items }
+    requires counts { All (λ f. f.counts ≡ none) drivers.items }
+    requires tallies { All (λ f. f.tally ≡ nothing) controllers.items }
+    ensures refused { IfErr result (λ e. e ≡ Memory) }
+    ensures drivers { IfOk result (λ r. map (λ w. w.flow) r.drivers.items ≡ drivers.entry.items) }
+    ensures controllers { IfOk result (λ r. map (λ w. w.flow) r.controllers.items ≡ controllers.entry.items) }
+    ensures drive { IfOk result (λ r. map (λ w. w.pen.cell) r.drivers.items ≡ map (λ c. c.drive) cells.entry.now) }
+    ensures stat { IfOk result (λ r. map (λ w. w.pen.cell) r.controllers.items ≡ map (λ c. c.stat) cells.entry.now) }
+{
+    let mut watched = Vec::with_capacity(alloc, cells.len())?;
+    let mut shown = Vec::with_capacity(alloc, cells.len())?;
+    let mut controllers = controllers.into_iter();
+    let mut pens = pens.into_iter();
+    let mut number = 0;
+    for driver in drivers {
+        let Some(controller) = controllers.next() else {
+            unreachable!()
+        };
+        let Some(own) = pens.next() else {
+            unreachable!()
+        };
+        let cell = &cells[number];
+        watched.push_reserved(Watched::new(driver, &cell.drive, own.drive));
+        shown.push_reserved(Watched::new(controller, &cell.stat, own.stat));
+        number += 1;
+    }
+    Ok(Wrapped {
+        drivers: watched,
+        controllers: shown,
+    })
+}
+
+/// Takes both sides of each flow from their cells. The room for what comes back was there before.
+pub(crate) fn unwrap_all<'a>(
+    drivers: Vec<Watched<'a, DriverFlow<'a>, Driven, 3>>,
+    controllers: Vec<Watched<'a, ControllerFlow<'a>, Offered, 4>>,
+    mut room: Unwrapped<'a>,
+) -> Unwrapped<'a>
+    requires flows { vec_len controllers ≡ vec_len drivers }
+    requires none { (room.drivers.items ≡ []) × (room.controllers.items ≡ []) × (room.pens.items ≡ []) }
+    requires room { (vec_len drivers ≤ vec_capacity room.drivers) × (vec_len drivers ≤ vec_capacity room.controllers) × (vec_len drivers ≤ vec_capacity room.pens) }
+    ensures drivers { result.drivers.items ≡ map (λ w. w.flow) drivers.entry.items }
+    ensures controllers { result.controllers.items ≡ map (λ w. w.flow) controllers.entry.items }
+    ensures drive { map (λ p. p.drive) result.pens.items ≡ map (λ w. w.pen) drivers.entry.items }
+    ensures stat { map (λ p. p.stat) result.pens.items ≡ map (λ w. w.pen) controllers.entry.items }
+    ensures driven { map driven_shown result.pens.items ≡ map (λ f. driven f.counts) result.drivers.items }
+    ensures offered { map offered_shown result.pens.items ≡ map (λ f. offered f.tally) result.controllers.items }
+{
+    let mut controllers = controllers.into_iter();
+    for driver in drivers {
+        let Some(controller) = controllers.next() else {
+            unreachable!()
+        };
+        let (driver, drive) = driver.into_parts();
+        let (controller, stat) = controller.into_parts();
+        room.drivers.push_reserved(driver);
+        room.controllers.push_reserved(controller);
+        room.pens.push_reserved(FlowPens { stat, drive });
+    }
+    room
+}
