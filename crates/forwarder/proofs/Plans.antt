@@ -1,16 +1,21 @@
 -- Places of a script, and lists that go together place by place.
-use Rattle.std.proofs.Common.{◌≡◌, ◌∙◌, ℕ, ◌+◌, ◌<◌, ◌≤◌, ◌==◌, Bool, true, false, List, [], ◌∷◌, ◌++◌, All, refl, ap, sym, subst, cond, drop, length, get_or, zero, suc, inl, inr, arith}
+use Rattle.std.proofs.Common.{◌≡◌, ◌∙◌, ℕ, ◌+◌, ◌<◌, ◌≤◌, ◌==◌, Bool, true, false, List, [], ◌∷◌, ◌++◌, All, refl, ap, sym, subst, cond, drop, map, length, get_or, zero, suc, inl, inr, arith}
 use Rattle.std.proofs.lemmas.Bool.{cases_eq}
+use Rattle.std.proofs.lemmas.List.Elements.{All-push}
+use Rattle.std.specs.List.{AllZip}
 use Rattle.std.specs.Prelude.{slice_index_or}
 use Rattle.flows.specs.Keys.{ControllerKey, DriverKey, Plan}
 use Rattle.flows.specs.Reports.{IsReport}
 use Rattle.flows.specs.declared.report.FlowReport.{FlowReport}
 use Rattle.pool.specs.Owned.{Pooled}
 use Rattle.wire_script.specs.Frame.{Frame}
-use Rattle.forwarder.specs.Plans.{AreAllSides, AreOfLines, AreReports}
+use Rattle.forwarder.specs.Plans.{AreAllSides, AreOfLine, AreOfLines, AreReports}
 use Rattle.forwarder.specs.declared.lines.Line.{Line}
 use Rattle.forwarder.specs.Flows.{flow_of, places_from, places_of}
+use Rattle.flows.specs.Driven.{Relaying}
+use Rattle.flows.specs.Sides.{Controlling}
 use Rattle.forwarder.proofs.Pairs.{before, last}
+use Rattle.forwarder.proofs.Places.{by-map}
 
 all-more : {X : Type 0} (P : X → Type 0) (x : X) (xs : List X) → P x → All P xs → All P (x ∷ xs)
 all-more P x xs one later zero d low = one
@@ -39,6 +44,20 @@ places-low pairs flow xs = places-from-low pairs flow 0 (length xs) xs (omega ar
 -- and no more than it has
 pub places-few : (pairs flow : ℕ) (xs : List Frame) → length (places_of pairs flow xs) ≤ length xs
 places-few pairs flow xs = places-from-few pairs flow 0 xs
+
+-- all of a list, and one item more
+pub all-last : {X : Type 0} (P : X → Type 0) (xs xs' : List X) (x : X) → xs' ≡ xs ++ x ∷ [] → All P xs → P x → All P xs'
+all-last P xs xs' x pushed all one = subst (All P) (sym pushed) (All-push P xs x all one)
+
+-- two lists whose items go together, one item more in each
+pub zip-last : {A B : Type 0} (R : A → B → Type 0) (xs xs' : List A) (x : A) (ys ys' : List B) (y : B) → xs' ≡ xs ++ x ∷ [] → ys' ≡ ys ++ y ∷ [] → AllZip R xs ys → R x y → AllZip R xs' ys'
+zip-last R xs xs' x ys ys' y pushed pushed' all one = subst (λ l. AllZip R l ys') (sym pushed) (subst (λ l. AllZip R (xs ++ x ∷ []) l) (sym pushed') (further xs ys all))
+  where
+    further : (us : List _) (vs : List _) → AllZip R us vs → AllZip R (us ++ x ∷ []) (vs ++ y ∷ [])
+    further [] [] both = (one, tt)
+    further [] (v ∷ vs) both = absurd both
+    further (u ∷ us) [] both = absurd both
+    further (u ∷ us) (v ∷ vs) both = (both.0, further us vs both.1)
 
 -- two lists that go together place by place, one item more in each
 pub places-more : {A B : Type 0} (R : ℕ → A → B → Type 0) (xs xs' : List A) (x : A) (ys ys' : List B) (y : B) (n : ℕ)
@@ -92,9 +111,9 @@ sides-at pool n m plans lines ds ds' cs cs' e same same' sides =
     subst (λ k. AreAllSides plans pool k lines ds' cs') e
     (subst (λ a. AreAllSides plans pool n lines a cs') (sym same) (subst (λ b. AreAllSides plans pool n lines ds b) (sym same') sides))
 
-pub lines-of : (pool : Pooled) (n : ℕ) (plans : ℕ → Plan) (lines : List Line) (ds : List DriverKey) (cs : List ControllerKey)
-    → AreAllSides plans pool n lines ds cs → AreOfLines pool n lines ds cs
-lines-of pool n plans lines ds cs sides flow l d c low = (sides flow l d c low).of_line
+pub lines-of : (pool : Pooled) (n m : ℕ) (plans : ℕ → Plan) (lines : List Line) (ds ds' : List DriverKey) (cs cs' : List ControllerKey)
+    → n ≡ m → ds' ≡ ds → cs' ≡ cs → AreAllSides plans pool n lines ds cs → AreOfLines pool m lines ds' cs'
+lines-of pool n m plans lines ds ds' cs cs' e same same' sides flow l d c low = (sides-at pool n m plans lines ds ds' cs cs' e same same' sides flow l d c low).of_line
 
 -- an item that is there
 item : {X : Type 0} (xs : List X) (i : ℕ) → i < length xs → X
@@ -111,3 +130,13 @@ reports-of pool n plans lines ds cs reports many many' many'' sides are flow r l
     let d = item ds flow (omega (arith, low, many')) in
     let c = item cs flow (omega (arith, low, many'')) in
     subst (λ p. IsReport p (slice_index_or reports flow r)) (sides flow l d c low).plan (are flow d c r low)
+
+-- both sides of the flow that comes next are of the line at its place
+pub line-at : (pool : Pooled) (n k : ℕ) (lines : List Line) (line : Line) (drivers ds : List Relaying) (driver : Relaying) (controllers cs : List Controlling) (controller : Controlling)
+    → AreOfLines pool n lines (map (λ f. f.key) drivers) (map (λ f. f.key) controllers) → k < n → get_or lines k line ≡ line → drop k drivers ≡ driver ∷ ds → drop k controllers ≡ controller ∷ cs → AreOfLine pool line driver.key controller.key
+line-at pool n k lines line drivers ds driver controllers cs controller are low here first first' =
+    let key = by-map (λ f. f.key) drivers k driver.key driver.key (drop-within k drivers driver ds first) (λ e. ap (λ f. f.key) (drop-first k drivers driver ds first e)) in
+    let key' = by-map (λ f. f.key) controllers k controller.key controller.key (drop-within k controllers controller cs first') (λ e. ap (λ f. f.key) (drop-first k controllers controller cs first' e)) in
+    subst (λ l. AreOfLine pool l driver.key controller.key) here
+    (subst (λ a. AreOfLine pool (get_or lines k line) a controller.key) key
+    (subst (λ b. AreOfLine pool (get_or lines k line) (get_or (map (λ f. f.key) drivers) k driver.key) b) key' (are k line driver.key controller.key low)))

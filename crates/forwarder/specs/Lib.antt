@@ -2,3 +2,5 @@ pub mod Configs
 pub mod Flows
 pub mod Lines
 pub mod Plans
+pub mod Shown
+pub mod Stopped

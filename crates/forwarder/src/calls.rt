@@ -1,5 +1,7 @@
 //! The whole of a forwarding.
-ghost use Rattle.std.specs.Prelude.{◌≡◌, ◌↔◌, ◌⊎◌, ℕ, ◌*◌, ◌<◌, ◌≤◌, IfOk, IfErr, IsErrOf, vec_len, slice_index_or};
+ghost use Rattle.std.specs.Option.{ForSome};
+ghost use Rattle.std.specs.Prelude.{◌≡◌, ◌↔◌, ◌⊎◌, ℕ, ◌*◌, ◌<◌, ◌≤◌, IfSome, IfOk, IfErr, IsErrOf, length, vec_len, slice_index_or};
+ghost use Rattle.counters.specs.Paired.{ArePaired};
 ghost use Rattle.limits.specs.declared.profile.TheConstants.{FEWEST_BUFFERS, MOST_BUFFERS, MOST_PAIRS, PORTS};
 ghost use Rattle.forwarding.specs.declared.error.ForwardError.TheVariants.{Memory, Config as ConfigRefused};
 ghost use Rattle.pool.specs.declared.hand.TheConstants.{WHOLE_SHARE};
@@ -7,13 +9,16 @@ ghost use Rattle.pool.specs.Owned.{IsOf};
 ghost use Rattle.flows.specs.Reports.{IsReport};
 ghost use Rattle.forwarder.specs.Configs.{FitsIn};
 ghost use Rattle.forwarder.specs.Plans.{plan};
+ghost use Rattle.forwarder.specs.Shown.{ShowReports};
 ghost use Rattle.teams.specs.Refusals.{Halted};
 
 use crate::config::Config;
 use crate::index::Index;
 use crate::lines::make_lines;
 use crate::report::Report;
-use crate::running::run_flows;
+use crate::running::{Watch, run_flows};
+use crate::stopping::close_all;
+use counters::{FlowCells, FlowPens};
 use forwarding::{ForwardError, Gate};
 use pool::{Pool, PoolPass};
 use std::alloc::Global;
@@ -40,27 +45,35 @@ pub fn forward<R: Threads + Wait + Sync, G: Gate + Sync>(
     ensures flows { IfOk result (λ r. vec_len r.flows ≡ PORTS * config.now.pairs) }
     ensures reports { IfOk result (λ r. (flow : ℕ) (d : _) → flow < PORTS * config.now.pairs → IsReport (plan config.now script.now flow) (slice_index_or r.flows.items flow d)) }
 {
-    config.check(script)?;
-    let (pool, mut pass) = make_pool(rt, alloc, config.buffers)?;
+    let (pool, mut pass) = make_pool(rt, alloc, script, config)?;
     forward_in(rt, alloc, script, config, gate, &pool, &mut pass)
 }
 
-/// A pool of so many buffers, and its pass.
-fn make_pool<R: Wait>(rt: &R, alloc: Global, buffers: u32) -> Result<(Pool, PoolPass), ForwardError>
-    requires { (FEWEST_BUFFERS ≤ buffers) × (buffers ≤ MOST_BUFFERS) }
-    ensures refused { IfErr result (λ e. e ≡ Memory) }
+/// Tests the configuration, and makes a pool of so many buffers as it says, with its pass.
+fn make_pool<R: Wait>(
+    rt: &R,
+    alloc: Global,
+    script: &Script,
+    config: &Config,
+) -> Result<(Pool, PoolPass), ForwardError>
+    ensures config { IsErrOf result ConfigRefused ↔ ¬ FitsIn script.now config.now }
+    ensures fits { IsErrOf result ConfigRefused ⊎ FitsIn script.now config.now }
+    ensures refused { FitsIn script.now config.now → IfErr result (λ e. e ≡ Memory) }
     ensures pool { IfOk result (λ r. IsOf r.0 r.1) }
     ensures share { IfOk result (λ r. r.1.hand.share ≡ WHOLE_SHARE) }
 {
-    match Pool::new(rt, alloc, buffers) {
+    config.check(script)?;
+    match Pool::new(rt, alloc, config.buffers) {
         Ok(made) => Ok(made),
         Err(_) => Err(ForwardError::Memory),
     }
 }
 
 /// The same over a pool of the caller's, for a configuration that `check` takes: `config.buffers` bounds
-/// what the flows take from it together. Where it refuses once workers run, the rings are dropped as they
-/// stand, and the buffers that the flows had taken don't come back to the pool.
+/// what the flows take from it together. Where workers are stopped by a refusal, all rings are closed once
+/// they are joined, and the buffers that the flows had taken go back to the pool. Only where not all workers
+/// could be started, or memory was refused before, the rings are dropped as they stand, and the buffers that
+/// the flows had taken don't come back.
 pub fn forward_in<R: Threads + Wait + Sync, G: Gate + Sync>(
     rt: &R,
     alloc: Global,
@@ -79,10 +92,70 @@ pub fn forward_in<R: Threads + Wait + Sync, G: Gate + Sync>(
     ensures pool { IsOf pool.now pass.new }
     ensures held { pass.new.hand.held ≡ pass.old.hand.held }
 {
+    let (report, _) = forward_over(rt, alloc, script, config, gate, pool, pass, None)?;
+    Ok(report)
+}
+
+/// The same as [`forward`], while the cells show what each flow has counted so far: what was offered is written after
+/// each offer that changed it, and what a driver did after each of its turns that changed a number. Others read the cells
+/// from threads of their own, by passes that they took from the pens before.
+///
+/// There is one entry a flow, in the order of the flows, and no pen has written anything. The pens come back with the
+/// report, and what they wrote last are its numbers.
+pub fn forward_watched<R: Threads + Wait + Sync, G: Gate + Sync>(
+    rt: &R,
+    alloc: Global,
+    script: &Script,
+    config: &Config,
+    gate: &G,
+    cells: &[FlowCells],
+    pens: Vec<FlowPens>,
+) -> Result<(Report, Vec<FlowPens>), ForwardError>
+    requires cells { length cells.now ≡ PORTS * config.now.pairs }
+    requires pens { ArePaired cells.now pens.items }
+    ensures config { IsErrOf result ConfigRefused ↔ ¬ FitsIn script.now config.now }
+    ensures fits { IsErrOf result ConfigRefused ⊎ FitsIn script.now config.now }
+    ensures halted { FitsIn script.now config.now → IfErr result (λ e. Halted G.answers gate.now e) }
+    ensures flows { IfOk result (λ r. vec_len r.0.flows ≡ PORTS * config.now.pairs) }
+    ensures reports { IfOk result (λ r. (flow : ℕ) (d : _) → flow < PORTS * config.now.pairs → IsReport (plan config.now script.now flow) (slice_index_or r.0.flows.items flow d)) }
+    ensures shown { IfOk result (λ r. ShowReports cells.now r.1.items r.0.flows.items) }
+{
+    let (pool, mut pass) = make_pool(rt, alloc, script, config)?;
+    let watch = Some(Watch { cells, pens });
+    forward_over(rt, alloc, script, config, gate, &pool, &mut pass, watch)
+}
+
+/// Forwards over a pool, and shows what each flow counts, where that is watched.
+fn forward_over<R: Threads + Wait + Sync, G: Gate + Sync>(
+    rt: &R,
+    alloc: Global,
+    script: &Script,
+    config: &Config,
+    gate: &G,
+    pool: &Pool,
+    pass: &mut PoolPass,
+    watch: Option<Watch<'_>>,
+) -> Result<(Report, Vec<FlowPens>), ForwardError>
+    requires fits { FitsIn script.now config.now }
+    requires pool { IsOf pool.now pass.old }
+    requires share { PORTS * MOST_PAIRS < pass.old.hand.share }
+    requires cells { ForSome watch (λ w. length w.cells.now ≡ PORTS * config.now.pairs) }
+    requires pens { ForSome watch (λ w. ArePaired w.cells.now w.pens.items) }
+    ensures halted { IfErr result (λ e. Halted G.answers gate.now e) }
+    ensures flows { IfOk result (λ r. vec_len r.0.flows ≡ PORTS * config.now.pairs) }
+    ensures reports { IfOk result (λ r. (flow : ℕ) (d : _) → flow < PORTS * config.now.pairs → IsReport (plan config.now script.now flow) (slice_index_or r.0.flows.items flow d)) }
+    ensures shown { IfOk result (λ r. IfSome watch.entry (λ w. ShowReports w.cells.now r.1.items r.0.flows.items)) }
+    ensures pool { IsOf pool.now pass.new }
+    ensures held { pass.new.hand.held ≡ pass.old.hand.held }
+{
     let index = Index::of(alloc, script, config.pairs)?;
     let (lines, ends) = make_lines(alloc, config)?;
-    let flows = run_flows(
-        rt, alloc, script, config, gate, &index, &lines, ends, pool, pass,
+    let ran = run_flows(
+        rt, alloc, script, config, gate, &index, &lines, ends, pool, pass, watch,
     )?;
-    Ok(Report { flows })
+    if let Some(refusal) = ran.refusal {
+        close_all(rt, pool, pass, lines, ran.stopped);
+        return Err(refusal);
+    }
+    Ok((Report { flows: ran.flows }, ran.pens))
 }

@@ -2,7 +2,7 @@
 //!
 //! A [`Config`] says how it is to run, and is tested before anything else is done. An [`Index`] has the
 //! frames of a script flow by flow. The rings and both sides of each flow are made here, and both sides meet
-//! here once they are over.
+//! here once they are over. [`forward_watched`] shows what they count while they run.
 #![tactic(auto)]
 
 mod calls;
@@ -13,8 +13,9 @@ mod lines;
 mod report;
 mod running;
 mod sides;
+mod stopping;
 
-pub use calls::{forward, forward_in};
+pub use calls::{forward, forward_in, forward_watched};
 pub use config::{Config, LEAST_SHARE};
 pub use index::Index;
 pub use report::Report;

@@ -1,26 +1,107 @@
 //! All flows, served by workers until they are over.
-ghost use Rattle.std.specs.Prelude.{◌≡◌, ℕ, ◌*◌, ◌<◌, IfOk, IfErr, length, vec_len, slice_index_or};
+ghost use Rattle.std.specs.Option.{ForSome};
+ghost use Rattle.std.specs.Prelude.{◌≡◌, ℕ, ◌*◌, ◌<◌, ◌≤◌, true, [], None, All, IfSome, IsSome, IfOk, IfErr, length, map, vec_len, vec_capacity, slice_index_or};
+ghost use Rattle.std.specs.List.{AllZip};
+ghost use Rattle.controller.specs.Tallying.{nothing};
+ghost use Rattle.counters.specs.Paired.{ArePaired};
+ghost use Rattle.flows.specs.Counting.{driven, none, offered};
+ghost use Rattle.flows.specs.Driven.{is_over};
 ghost use Rattle.limits.specs.declared.profile.TheConstants.{MOST_PAIRS, PORTS};
 ghost use Rattle.pool.specs.Owned.{IsOf};
 ghost use Rattle.flows.specs.Reports.{IsReport};
+ghost use Rattle.forwarding.specs.declared.error.ForwardError.TheVariants.{Memory};
 ghost use Rattle.forwarder.specs.Configs.{IsLawful};
 ghost use Rattle.forwarder.specs.Flows.{places_of};
 ghost use Rattle.forwarder.specs.Lines.{AreEnds};
 ghost use Rattle.forwarder.specs.Plans.{plan};
+ghost use Rattle.forwarder.specs.Shown.{ShowReports};
+ghost use Rattle.forwarder.specs.Stopped.{IsStopped};
 ghost use Rattle.teams.specs.Refusals.{Halted};
+ghost use Rattle.watching.specs.Watching.{ArePensOf, driven_shown, offered_shown};
 
 use crate::concluding::conclude_all;
 use crate::config::Config;
 use crate::index::Index;
 use crate::lines::{Line, LineEnds};
-use crate::sides::make_sides;
+use crate::sides::{Sides, make_sides};
+use crate::stopping::{Stopped, stop_all};
+use counters::{FlowCells, FlowPens};
 use flows::{FlowReport, serve_flows};
 use forwarding::{ForwardError, Gate};
 use pool::{Pool, PoolPass};
 use std::alloc::Global;
 use std::sync::Wait;
 use std::thread::Threads;
+use watching::{Shown, serve_watched};
 use wire_script::Script;
+
+/// The cells that show what the flows count, one entry a flow in the order of the flows, and their pens.
+#[derive(Drop)]
+pub(crate) struct Watch<'w> {
+    pub cells: &'w [FlowCells],
+    pub pens: Vec<FlowPens>,
+}
+
+/// What became of all flows, and the pens of their cells, if these were watched; or how a refusal stopped them.
+#[derive(Drop)]
+pub(crate) struct Ran {
+    pub flows: Vec<FlowReport>,
+    pub pens: Vec<FlowPens>,
+    pub stopped: Vec<Stopped>,
+    pub refusal: Option<ForwardError>,
+}
+
+/// Room for what comes of so many flows.
+fn make_rooms(alloc: Global, flows: usize) -> Result<(Vec<FlowReport>, Vec<Stopped>), ForwardError>
+    ensures refused { IfErr result (λ e. e ≡ Memory) }
+    ensures reports { IfOk result (λ r. (r.0.items ≡ []) × (flows ≤ vec_capacity r.0)) }
+    ensures stopped { IfOk result (λ r. (r.1.items ≡ []) × (flows ≤ vec_capacity r.1)) }
+{
+    let reports = Vec::with_capacity(alloc, flows)?;
+    let stopped = Vec::with_capacity(alloc, flows)?;
+    Ok((reports, stopped))
+}
+
+/// Serves both sides of all flows, with their cells if these are watched.
+#[tactic(auto, using(flows::proofs::Dealing::memory_halted))]
+fn serve_sides<'a, R: Threads + Wait + Sync, G: Gate + Sync>(
+    rt: &R,
+    alloc: Global,
+    gate: &G,
+    sides: Sides<'a>,
+    workers: usize,
+    watch: Option<Watch<'a>>,
+) -> Result<Shown<'a>, ForwardError>
+    requires some { 0 < workers }
+    requires flows { ForSome watch (λ w. (vec_len sides.drivers ≡ length w.cells.now) × (vec_len sides.controllers ≡ length w.cells.now)) }
+    requires pens { ForSome watch (λ w. ArePaired w.cells.now w.pens.items) }
+    requires counts { All (λ f. f.counts ≡ none) sides.drivers.items }
+    requires tallies { All (λ f. f.tally ≡ nothing) sides.controllers.items }
+    ensures halted { IfErr result (λ e. Halted G.answers gate.now e) }
+    ensures refused { IfOk result (λ s. IfSome s.served.refusal (λ e. Halted G.answers gate.now e)) }
+    ensures drivers { IfOk result (λ s. map (λ f. f.key) s.served.drivers.items ≡ map (λ f. f.key) sides.entry.drivers.items) }
+    ensures controllers { IfOk result (λ s. map (λ f. f.key) s.served.controllers.items ≡ map (λ f. f.key) sides.entry.controllers.items) }
+    ensures over { IfOk result (λ s. s.served.refusal ≡ None → All (λ f. is_over f.phase ≡ true) s.served.drivers.items) }
+    ensures pens { IfOk result (λ s. IfSome watch.entry (λ w. ArePensOf w.cells.now s.pens.items)) }
+    ensures driven { IfOk result (λ s. IfSome watch.entry (λ w. map driven_shown s.pens.items ≡ map (λ f. driven f.counts) s.served.drivers.items)) }
+    ensures offered { IfOk result (λ s. IfSome watch.entry (λ w. map offered_shown s.pens.items ≡ map (λ f. offered f.tally) s.served.controllers.items)) }
+{
+    let Some(watch) = watch else {
+        let served = serve_flows(rt, alloc, gate, sides.drivers, sides.controllers, workers)?;
+        let pens = Vec::new(alloc);
+        return Ok(Shown { served, pens });
+    };
+    serve_watched(
+        rt,
+        alloc,
+        gate,
+        sides.drivers,
+        sides.controllers,
+        watch.cells,
+        watch.pens,
+        workers,
+    )
+}
 
 /// Serves all flows over these rings until they are over, or a refusal is met.
 #[tactic(auto, using(flows::proofs::Dealing::memory_halted))]
@@ -35,29 +116,42 @@ pub(crate) fn run_flows<R: Threads + Wait + Sync, G: Gate + Sync>(
     ends: Vec<LineEnds>,
     pool: &Pool,
     pass: &mut PoolPass,
-) -> Result<Vec<FlowReport>, ForwardError>
+    watch: Option<Watch<'_>>,
+) -> Result<Ran, ForwardError>
     requires lawful { IsLawful config.now }
     requires flows { (length lines.now ≡ PORTS * config.now.pairs) × (vec_len ends ≡ PORTS * config.now.pairs) × (length index.now ≡ PORTS * config.now.pairs) }
     requires ends { (k : ℕ) (d : _) (e : _) → k < PORTS * config.now.pairs → AreEnds config.now.ring config.now.completion (slice_index_or lines.now k d) (slice_index_or ends.items k e) }
     requires places { (flow : ℕ) (d : _) → flow < PORTS * config.now.pairs → slice_index_or index.now flow d ≡ places_of config.now.pairs flow script.now }
     requires pool { IsOf pool.now pass.old }
     requires share { PORTS * MOST_PAIRS < pass.old.hand.share }
+    requires cells { ForSome watch (λ w. length w.cells.now ≡ PORTS * config.now.pairs) }
+    requires pens { ForSome watch (λ w. ArePaired w.cells.now w.pens.items) }
     ensures halted { IfErr result (λ e. Halted G.answers gate.now e) }
-    ensures flows { IfOk result (λ r. vec_len r ≡ PORTS * config.now.pairs) }
-    ensures reports { IfOk result (λ r. (flow : ℕ) (d : _) → flow < PORTS * config.now.pairs → IsReport (plan config.now script.now flow) (slice_index_or r.items flow d)) }
+    ensures refused { IfOk result (λ r. IfSome r.refusal (λ e. Halted G.answers gate.now e)) }
+    ensures flows { IfOk result (λ r. r.refusal ≡ None → vec_len r.flows ≡ PORTS * config.now.pairs) }
+    ensures reports { IfOk result (λ r. r.refusal ≡ None → (flow : ℕ) (d : _) → flow < PORTS * config.now.pairs → IsReport (plan config.now script.now flow) (slice_index_or r.flows.items flow d)) }
+    ensures shown { IfOk result (λ r. r.refusal ≡ None → IfSome watch.entry (λ w. ShowReports w.cells.now r.pens.items r.flows.items)) }
+    ensures stopped { IfOk result (λ r. IsSome r.refusal → (vec_len r.stopped ≡ length lines.now) × AllZip (IsStopped pool.now) lines.now r.stopped.items) }
     ensures pool { IsOf pool.now pass.new }
     ensures held { pass.new.hand.held ≡ pass.old.hand.held }
 {
-    let reports = Vec::with_capacity(alloc, lines.len())?;
+    let (reports, rooms) = make_rooms(alloc, lines.len())?;
     let sides = make_sides(rt, alloc, config, script, index, lines, ends, pool, pass)?;
     let workers = config.workers as usize;
-    let served = serve_flows(rt, alloc, gate, sides.drivers, sides.controllers, workers)?;
-    Ok(conclude_all(
-        lines,
-        served.drivers,
-        served.controllers,
-        pool,
-        pass,
-        reports,
-    ))
+    let shown = serve_sides(rt, alloc, gate, sides, workers, watch)?;
+    let (served, pens) = (shown.served, shown.pens);
+    let refusal = served.refusal;
+    let (drivers, controllers) = (served.drivers, served.controllers);
+    let (flows, stopped) = if refusal.is_some() {
+        (reports, stop_all(pool, lines, drivers, controllers, rooms))
+    } else {
+        let flows = conclude_all(lines, drivers, controllers, pool, pass, reports);
+        (flows, rooms)
+    };
+    Ok(Ran {
+        flows,
+        pens,
+        stopped,
+        refusal,
+    })
 }

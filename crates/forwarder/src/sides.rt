@@ -1,5 +1,7 @@
 //! Both sides of all flows.
-ghost use Rattle.std.specs.Prelude.{◌≡◌, ℕ, ◌*◌, ◌<◌, [], IfOk, IfErr, length, map, vec_len, slice_index_or};
+ghost use Rattle.std.specs.Prelude.{◌≡◌, ℕ, ◌*◌, ◌<◌, [], All, IfOk, IfErr, length, map, vec_len, slice_index_or};
+ghost use Rattle.controller.specs.Tallying.{nothing};
+ghost use Rattle.flows.specs.Counting.{none};
 ghost use Rattle.limits.specs.declared.profile.TheConstants.{MOST_PAIRS, PORTS};
 ghost use Rattle.forwarding.specs.declared.error.ForwardError.TheVariants.{Memory};
 ghost use Rattle.pool.specs.Owned.{IsOf};
@@ -53,7 +55,9 @@ fn make_side<'a, R: Wait>(
     requires ends { AreEnds config.now.ring config.now.completion line.now ends }
     requires pool { IsOf pool.now pass }
     requires none { pass.hand.held ≡ [] }
-    ensures { AreSides (plan config.now script.entry.now number) pool.entry.now line.entry.now result.driver.key result.controller.key }
+    ensures sides { AreSides (plan config.now script.entry.now number) pool.entry.now line.entry.now result.driver.key result.controller.key }
+    ensures counts { result.driver.counts ≡ none }
+    ensures tally { result.controller.tally ≡ nothing }
 {
     let share = config.buffers / (2 * config.pairs);
     let most = share.min(config.ring + STASHED) as usize;
@@ -107,6 +111,8 @@ pub(crate) fn make_sides<'a, R: Wait>(
     ensures refused { IfErr result (λ e. e ≡ Memory) }
     ensures flows { IfOk result (λ s. (vec_len s.drivers ≡ PORTS * config.now.pairs) × (vec_len s.controllers ≡ PORTS * config.now.pairs)) }
     ensures sides { IfOk result (λ s. AreAllSides (plan config.now script.entry.now) pool.entry.now (PORTS * config.now.pairs) lines.entry.now (map (λ f. f.key) s.drivers.items) (map (λ f. f.key) s.controllers.items)) }
+    ensures counts { IfOk result (λ s. All (λ f. f.counts ≡ none) s.drivers.items) }
+    ensures tallies { IfOk result (λ s. All (λ f. f.tally ≡ nothing) s.controllers.items) }
     ensures pool { IsOf pool.entry.now pass.new }
     ensures held { pass.new.hand.held ≡ pass.old.hand.held }
 {

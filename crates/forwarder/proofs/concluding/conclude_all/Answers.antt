@@ -1,11 +1,13 @@
-use Rattle.std.proofs.Common.{rules, ◌≡◌, ◌∙◌, ◌<◌, ◌∷◌, true, length, map, get_or, ap, sym, subst, refl}
+use Rattle.std.proofs.Common.{rules, ◌≡◌, ◌∙◌, ◌<◌, [], ◌∷◌, ◌++◌, true, length, map, get_or, ap, sym, subst, refl}
 use Rattle.std.specs.Vec.Iter.{into_iter_items}
+use Rattle.std.proofs.lemmas.List.{map-append}
+use Rattle.flows.specs.Counting.{driven, driven_in, offered, offered_in}
 use Rattle.flows.specs.Driven.{is_over}
 use Rattle.flows.specs.Keys.{ControllerKey, DriverKey, plan_of}
 use Rattle.flows.specs.Reports.{IsReport}
-use Rattle.forwarder.specs.Plans.{AreOfLine}
 use Rattle.forwarder.proofs.Places.{by-map}
-use Rattle.forwarder.proofs.Plans.{drop-first, drop-later, drop-within, list-more}
+use Rattle.forwarder.proofs.Plans.{drop-first, drop-later, drop-within, line-at, list-more}
+use Rattle.watching.proofs.Moving.{moved}
 use Rattle.forwarder.proofs.concluding.conclude_all.Goals as goal
 
 pub conclude_flow-report-requires : goal.conclude_flow-report-requires
@@ -20,21 +22,12 @@ conclude_flow-report-requires c =
     let first = sym was.drivers ∙ c.in-Some.ensures.steps.0 in
     let other : into_iter_items c.loop-driver.controllers ≡ controller ∷ into_iter_items c.next-in-loop-driver.new.self = search rules in
     let first' = sym was.controllers ∙ other in
-    let within = drop-within n drivers driver _ first in
-    let within' = drop-within n controllers controller _ first' in
     let low : n < length c.args.lines.now = search rules in
-    let at : get_or c.args.lines.now n line ≡ line = search rules in
-    let key = by-map (λ f. f.key) drivers n driver.key driver.key within (λ e. ap (λ f. f.key) (drop-first n drivers driver _ first e)) in
-    let key' = by-map (λ f. f.key) controllers n controller.key controller.key within' (λ e. ap (λ f. f.key) (drop-first n controllers controller _ first' e)) in (
+    let at : get_or c.args.lines.now n line ≡ line = search rules in (
       (refl, refl),
       (
-        subst (λ f. is_over f.phase ≡ true) (drop-first n drivers driver _ first driver) (c.requires.over n driver within),
-        (
-          subst (λ l. AreOfLine c.args.pool.now l driver.key controller.key) at
-              (subst (λ k. AreOfLine c.args.pool.now (get_or c.args.lines.now n line) k controller.key) key
-              (subst (λ k. AreOfLine c.args.pool.now (get_or c.args.lines.now n line) (get_or (map (λ f. f.key) drivers) n driver.key) k) key' (c.requires.lines n line driver.key controller.key low))),
-          was.pool,
-        ),
+        subst (λ f. is_over f.phase ≡ true) (drop-first n drivers driver _ first driver) (c.requires.over n driver (drop-within n drivers driver _ first)),
+        (line-at c.args.pool.now (length c.args.lines.now) n c.args.lines.now line drivers _ driver controllers _ controller c.requires.lines low at first first', was.pool),
       ),
     )
 
@@ -51,6 +44,10 @@ loop-driver-preserved c =
     let first' = sym was.controllers ∙ other in
     let within = drop-within n drivers driver _ first in
     let within' = drop-within n controllers controller _ first' in
+    let report = c.conclude_flow-report.result in
+    let reports = c.loop-driver.reports.items in
+    let reports' = c.push_reserved.new.self.items in
+    let pushed : reports' ≡ reports ++ report ∷ [] = c.push_reserved.ensures.items in
     let key : (d : DriverKey) → get_or (map (λ f. f.key) drivers) n d ≡ driver.key = λ d. by-map (λ f. f.key) drivers n driver.key d within (λ e. ap (λ f. f.key) (drop-first n drivers driver _ first e)) in
     let key' : (k : ControllerKey) → get_or (map (λ f. f.key) controllers) n k ≡ controller.key = λ k. by-map (λ f. f.key) controllers n controller.key k within' (λ e. ap (λ f. f.key) (drop-first n controllers controller _ first' e)) in
     record {
@@ -62,6 +59,10 @@ loop-driver-preserved c =
       len = search rules;
       pool = c.conclude_flow-report.ensures.pool;
       held = c.conclude_flow-report.ensures.held ∙ was.held;
+      driven = moved (map driven_in reports) (map driven_in reports') (map (λ f. driven f.counts) (into_iter_items c.loop-driver.driver-iterator)) (map (λ f. driven f.counts) (into_iter_items c.next.new.self)) (map (λ f. driven f.counts) drivers) (driven driver.counts) was.driven
+          (ap (map (λ f. driven f.counts)) c.in-Some.ensures.steps.0) (ap (map driven_in) pushed ∙ map-append driven_in reports (report ∷ []) ∙ ap (λ n. map driven_in reports ++ n ∷ []) c.conclude_flow-report.ensures.driven);
+      offered = moved (map offered_in reports) (map offered_in reports') (map (λ f. offered f.tally) (into_iter_items c.loop-driver.controllers)) (map (λ f. offered f.tally) (into_iter_items c.next-in-loop-driver.new.self)) (map (λ f. offered f.tally) controllers) (offered controller.tally) was.offered
+          (ap (map (λ f. offered f.tally)) other) (ap (map offered_in) pushed ∙ map-append offered_in reports (report ∷ []) ∙ ap (λ n. map offered_in reports ++ n ∷ []) c.conclude_flow-report.ensures.offered);
       reports = (λ flow d k r low. list-more (λ i report. (a : DriverKey) (b : ControllerKey) → IsReport (plan_of (get_or (map (λ f. f.key) drivers) i a) (get_or (map (λ f. f.key) controllers) i b)) report)
           c.loop-driver.reports.items c.push_reserved.new.self.items c.conclude_flow-report.result n (search rules) c.push_reserved.ensures.items
           (λ a b. subst (λ p. IsReport (plan_of p (get_or (map (λ f. f.key) controllers) n b)) c.conclude_flow-report.result) (sym (key a))

@@ -1,5 +1,6 @@
-use Rattle.std.proofs.Common.{◌≡◌, ◌+◌, ◌≤◌, map, drop, length, vec_items, vec_len, vec_capacity}
+use Rattle.std.proofs.Common.{◌≡◌, ◌+◌, ◌≤◌, ◌++◌, map, drop, length, vec_items, vec_len, vec_capacity}
 use Rattle.std.specs.Vec.Iter.{into_iter_items, into_iter_len}
+use Rattle.flows.specs.Counting.{driven, driven_in, offered, offered_in}
 use Rattle.pool.specs.Owned.{IsOf}
 use Rattle.forwarder.specs.Plans.{AreReports}
 use Rattle.forwarder.proofs.concluding.conclude_all.Given as goal
@@ -18,5 +19,7 @@ invariant-loop-driver l =
       len : vec_len l.reports ≡ l.number;
       pool : IsOf l.pool l.pass;
       held : l.pass.hand.held ≡ l.initial.pass.hand.held;
+      driven : map driven_in (vec_items l.reports) ++ map (λ f. driven f.counts) (into_iter_items l.driver-iterator) ≡ map (λ f. driven f.counts) l.fn.drivers.items;
+      offered : map offered_in (vec_items l.reports) ++ map (λ f. offered f.tally) (into_iter_items l.controllers) ≡ map (λ f. offered f.tally) l.fn.controllers.items;
       reports : AreReports l.number (map (λ f. f.key) l.fn.drivers.items) (map (λ f. f.key) l.fn.controllers.items) (vec_items l.reports);
     }

@@ -1,11 +1,13 @@
 use Rattle.std.proofs.Common.{rules, ◌≡◌, ◌∙◌, ◌*◌, ◌<◌, [], ◌∷◌, length, map, get_or, ap, sym, subst, arith}
 use Rattle.std.proofs.lemmas.List.{length-map, map-append}
+use Rattle.controller.specs.Tallying.{nothing}
+use Rattle.flows.specs.Counting.{none}
 use Rattle.limits.specs.declared.profile.TheConstants.{PORTS}
 use Rattle.pool.specs.Owned.{IsOf}
 use Rattle.forwarder.specs.Lines.{AreEnds}
 use Rattle.forwarder.specs.Plans.{AreSides, plan}
 use Rattle.forwarder.specs.declared.lines.Line.{Line}
-use Rattle.forwarder.proofs.Plans.{any-default, drop-first, drop-later, drop-within, places-more}
+use Rattle.forwarder.proofs.Plans.{all-last, any-default, drop-first, drop-later, drop-within, places-more}
 use Rattle.forwarder.proofs.sides.make_sides.Goals as goal
 
 pub make_side-side-requires-clause-places : goal.make_side-side-requires-clause-places
@@ -54,12 +56,14 @@ loop-own-preserved g c =
       held = ap (λ p. p.hand.held) kept ∙ was.held;
       pool = subst (IsOf pool) (sym kept) (record { pool = was.pool.pool; count = was.pool.count });
       share = (let less = ap (λ p. p.hand.share) kept in omega (arith, less, was.share));
+      counts = all-last (λ f. f.counts ≡ none) drivers c.push_reserved.new.self.items side.driver c.push_reserved.ensures.items was.counts c.make_side-side.ensures.counts;
+      tallies = all-last (λ f. f.tally ≡ nothing) controllers c.push_reserved-in-loop-own.new.self.items side.controller c.push_reserved-in-loop-own.ensures.items was.tallies c.make_side-side.ensures.tally;
       sides = (λ k l d s low. places-more (λ i a b. (e : Line) → AreSides (plan config c.args.script.now i) pool (get_or c.args.lines.now i e) a b)
           (map (λ f. f.key) drivers) (map (λ f. f.key) c.push_reserved.new.self.items) side.driver.key
           (map (λ f. f.key) controllers) (map (λ f. f.key) c.push_reserved-in-loop-own.new.self.items) side.controller.key n
           (search (rules, length-map)) (search (rules, length-map))
           (ap (map (λ f. f.key)) c.push_reserved.ensures.items ∙ map-append (λ f. f.key) drivers (side.driver ∷ []))
           (ap (map (λ f. f.key)) c.push_reserved-in-loop-own.ensures.items ∙ map-append (λ f. f.key) controllers (side.controller ∷ []))
-          (λ e. subst (λ l. AreSides (plan config c.args.script.now n) pool l side.driver.key side.controller.key) (sym (at e)) c.make_side-side.ensures)
+          (λ e. subst (λ l. AreSides (plan config c.args.script.now n) pool l side.driver.key side.controller.key) (sym (at e)) c.make_side-side.ensures.sides)
           (λ i a b less e. was.sides i e a b less) k d s low l);
     }

@@ -1,7 +1,7 @@
 use Rattle.std.proofs.Common.{rules, ◌≡◌, subst, sym}
 use Rattle.std.specs.Prelude.{slice_index_or}
 use Rattle.forwarder.specs.Lines.{AreEnds}
-use Rattle.forwarder.proofs.calls.forward_in.Goals as goal
+use Rattle.forwarder.proofs.calls.forward_over.Goals as goal
 
 pub run_flows-requires-clause-ends : goal.run_flows-requires-clause-ends
 run_flows-requires-clause-ends g c =

@@ -1,0 +1,15 @@
+use Rattle.std.proofs.Common.{◌≡◌}
+use Rattle.std.specs.List.{AllZip}
+use Rattle.std.specs.Vec.Iter.{into_iter_items, into_iter_len}
+use Rattle.pool.specs.Owned.{IsOf}
+use Rattle.forwarder.specs.Stopped.{IsStopped}
+use Rattle.forwarder.proofs.stopping.close_all.Given as goal
+
+abbrev pub invariant-loop-line : goal.invariant-loop-line
+invariant-loop-line g l =
+    record {
+      both : into_iter_len l.stopped ≡ into_iter_len l.line-iterator;
+      pool : IsOf l.pool l.pass;
+      held : l.pass.hand.held ≡ l.initial.pass.hand.held;
+      stopped : AllZip (IsStopped l.pool) (into_iter_items l.line-iterator) (into_iter_items l.stopped);
+    }

@@ -1,0 +1,100 @@
+//! Flows that were stopped before they were over: their rings are closed, and their buffers go back to the pool.
+ghost use Rattle.std.specs.Prelude.{◌≡◌, ◌≤◌, [], length, map, vec_len, vec_capacity};
+ghost use Rattle.std.specs.List.{AllZip};
+ghost use Rattle.flows.specs.Keys.{ControllerKey, DriverKey};
+ghost use Rattle.pool.specs.Owned.{IsOf, Pooled};
+ghost use Rattle.forwarder.specs.Plans.{AreOfLine, AreOfLines};
+ghost use Rattle.forwarder.specs.Stopped.{IsStopped};
+
+use crate::lines::Line;
+use flows::{ControllerDone, ControllerFlow, DriverFlow, DriverParts};
+use halting::close_flow;
+use pool::{Pool, PoolPass};
+use std::sync::Wait;
+
+/// Both sides of a stopped flow, without the rings.
+#[derive(Drop)]
+pub(crate) struct Stopped {
+    pub driver: DriverParts,
+    pub controller: ControllerDone,
+}
+
+/// Both sides of a flow leave its rings.
+fn stop_flow(
+    pool: &Pool,
+    line: &Line,
+    driver: DriverFlow<'_>,
+    controller: ControllerFlow<'_>,
+) -> Stopped
+    requires of_line { AreOfLine pool.now line.now driver.key controller.key }
+    ensures { IsStopped pool.now line.now result }
+{
+    let (_pool, _line) = (pool, line);
+    Stopped {
+        driver: driver.into_parts(),
+        controller: controller.into_done(),
+    }
+}
+
+/// Both sides of all flows leave their rings. The room for what they have was there before.
+pub(crate) fn stop_all(
+    pool: &Pool,
+    lines: &[Line],
+    drivers: Vec<DriverFlow<'_>>,
+    controllers: Vec<ControllerFlow<'_>>,
+    mut stopped: Vec<Stopped>,
+) -> Vec<Stopped>
+    requires flows { (vec_len drivers ≡ length lines.now) × (vec_len controllers ≡ length lines.now) }
+    requires lines { AreOfLines pool.now (length lines.now) lines.now (map (λ f. f.key) drivers.items) (map (λ f. f.key) controllers.items) }
+    requires none { stopped.items ≡ [] }
+    requires room { length lines.now ≤ vec_capacity stopped }
+    ensures flows { vec_len result ≡ length lines.now }
+    ensures stopped { AllZip (IsStopped pool.now) lines.now result.items }
+{
+    let mut controllers = controllers.into_iter();
+    let mut number = 0;
+    for driver in drivers {
+        let Some(controller) = controllers.next() else {
+            unreachable!()
+        };
+        let flow = stop_flow(pool, &lines[number], driver, controller);
+        stopped.push_reserved(flow);
+        number += 1;
+    }
+    stopped
+}
+
+/// Closes both rings of a flow, and takes the buffers that lay in them and those that its driver's side had at hand back
+/// into the pool.
+fn close_line<R: Wait>(rt: &R, pool: &Pool, pass: &mut PoolPass, line: Line, flow: Stopped)
+    requires pool { IsOf pool.now pass.old }
+    requires stopped { IsStopped pool.now line flow }
+    ensures pool { IsOf pool.now pass.new }
+    ensures held { pass.new.hand.held ≡ pass.old.hand.held }
+{
+    let own = close_flow(rt, pool, line.from, line.to, flow.driver, flow.controller);
+    pass.join(pool, own);
+}
+
+/// Closes the rings of all flows, and takes all their buffers back into the pool.
+pub(crate) fn close_all<R: Wait>(
+    rt: &R,
+    pool: &Pool,
+    pass: &mut PoolPass,
+    lines: Vec<Line>,
+    stopped: Vec<Stopped>,
+)
+    requires pool { IsOf pool.now pass.old }
+    requires count { vec_len stopped ≡ vec_len lines }
+    requires stopped { AllZip (IsStopped pool.now) lines.items stopped.items }
+    ensures pool { IsOf pool.now pass.new }
+    ensures held { pass.new.hand.held ≡ pass.old.hand.held }
+{
+    let mut stopped = stopped.into_iter();
+    for line in lines {
+        let Some(flow) = stopped.next() else {
+            unreachable!()
+        };
+        close_line(rt, pool, pass, line, flow);
+    }
+}
