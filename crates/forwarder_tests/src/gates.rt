@@ -241,3 +241,97 @@ impl Gate for Watching {
         true
     }
 }
+
+/// A gate that refuses flow 0's driver after so many passes. It holds the driver back until three frames were offered.
+#[derive(Drop)]
+pub(crate) struct Stops {
+    most: u64,
+    passes: AtomicU64,
+    offers: AtomicU64,
+}
+
+impl Stops {
+    pub(crate) fn after(most: u64) -> Stops {
+        Stops {
+            most,
+            passes: AtomicU64::new(0),
+            offers: AtomicU64::new(0),
+        }
+    }
+}
+
+impl Gate for Stops {
+    ghost use Rattle.std.specs.Prelude.{◌≡◌, Bool};
+
+    ghost answers = { λ _ _ _ b. b ≡ b };
+
+    fn pass(&self, who: Who, event: Event) -> bool {
+        match (who, event) {
+            (Who::Driver(0), _) => {
+                wait_until(&self.offers, 3);
+                self.passes.fetch_add(1, Ordering::SeqCst) < self.most
+            }
+            (Who::Controller(0), Event::Offer) => {
+                self.offers.fetch_add(1, Ordering::SeqCst);
+                true
+            }
+            _ => true,
+        }
+    }
+}
+
+/// A gate that refuses flow 0's driver once three of its turns in a row lay within one offer: of a long frame it has
+/// taken a part then, most likely.
+#[derive(Drop)]
+pub(crate) struct Midway {
+    /// Odd while a frame is offered.
+    offers: AtomicU64,
+    began: AtomicU64,
+    turns: AtomicU64,
+}
+
+impl Midway {
+    pub(crate) fn new() -> Midway {
+        Midway {
+            offers: AtomicU64::new(0),
+            began: AtomicU64::new(0),
+            turns: AtomicU64::new(0),
+        }
+    }
+
+    /// Whether a turn ends now within the offer in which it began, and two before it did.
+    fn is_midway(&self) -> bool {
+        let now = self.offers.load(Ordering::SeqCst);
+        if now % 2 == 0 || now != self.began.load(Ordering::SeqCst) {
+            self.turns.store(0, Ordering::SeqCst);
+            return false;
+        }
+        2 <= self.turns.fetch_add(1, Ordering::SeqCst)
+    }
+}
+
+impl Gate for Midway {
+    ghost use Rattle.std.specs.Prelude.{◌≡◌, Bool};
+
+    ghost answers = { λ _ _ _ b. b ≡ b };
+
+    fn pass(&self, who: Who, event: Event) -> bool {
+        match (who, event) {
+            (Who::Controller(0), Event::Offer) => {
+                self.offers.fetch_add(1, Ordering::SeqCst);
+            }
+            (Who::Controller(0), Event::TxTurn) => {
+                if self.offers.load(Ordering::SeqCst) % 2 == 1 {
+                    self.offers.fetch_add(1, Ordering::SeqCst);
+                }
+            }
+            (Who::Driver(0), Event::RxBatch) => {
+                let now = self.offers.load(Ordering::SeqCst);
+                self.began.store(now, Ordering::SeqCst);
+            }
+            (Who::Driver(0), Event::TxBatch) => return !self.is_midway(),
+            _ => {}
+        }
+        true
+    }
+}

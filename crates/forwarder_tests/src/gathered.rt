@@ -3,6 +3,7 @@ ghost use Rattle.pool.specs.Owned.{IsOf};
 
 use crate::bursts::{Burst, FORTY, script_of};
 use crate::configs::DEFAULT;
+use crate::gates::{Midway, Shuts, Stops};
 use buffer_pool::Stash;
 use forwarder::{Config, forward_in};
 use forwarding::{ForwardError, Gate, Open};
@@ -94,6 +95,34 @@ const ALL: Config = Config {
     ..DEFAULT
 };
 
+/// Whether all buffers are back after a refusal, by so many workers, once so many passed the gate.
+fn are_back<R: Threads + Wait + Sync>(
+    rt: &R,
+    alloc: Global,
+    script: &Script,
+    workers: u32,
+    passes: u64,
+) -> Result<bool, Fail> {
+    let config = Config { workers, ..ALL };
+    let gate = Shuts::after(passes);
+    let (refusal, numbers) = ended(rt, alloc, script, &config, &gate)?;
+    Ok(refusal == Some(ForwardError::Gate) && numbers.came_once())
+}
+
+#[test]
+fn all_back_after_a_refusal(rt: HostRuntime) -> Result<(), Fail> {
+    for bursts in [FORTY, LONG] {
+        let script = script_of(rt.alloc(), bursts)?;
+        for workers in 1..=4 {
+            for passes in [0, 1, 3, 10, 40, 79] {
+                let good = are_back(&rt, rt.alloc(), &script, workers, passes)?;
+                assert!(rt; good, "{workers} workers, {passes} passes");
+            }
+        }
+    }
+    Ok(())
+}
+
 /// Whether all buffers are back after so many turns, by so many workers.
 fn are_back_at_the_end<R: Threads + Wait + Sync>(
     rt: &R,
@@ -122,6 +151,59 @@ fn all_back_after_a_report(rt: HostRuntime) -> Result<(), Fail> {
                 assert!(rt; good, "{workers} workers, {turns} turns");
             }
         }
+    }
+    Ok(())
+}
+
+/// 40 frames for flow 0.
+const ZERO: &[Burst] = &[Burst {
+    port: 0,
+    queue: 0,
+    len: 60,
+    first: 0,
+    count: 40,
+}];
+
+/// 40 frames of 15 segments each.
+const LONGEST: &[Burst] = &[Burst {
+    port: 0,
+    queue: 0,
+    len: 15_000,
+    first: 0,
+    count: 40,
+}];
+
+/// Whether all buffers are back once this gate refused, or nobody was refused.
+fn are_back_after<R: Threads + Wait + Sync, G: Gate + Sync>(
+    rt: &R,
+    alloc: Global,
+    script: &Script,
+    gate: &G,
+) -> Result<bool, Fail> {
+    let (refusal, numbers) = ended(rt, alloc, script, &ALL, gate)?;
+    Ok(matches!(refusal, None | Some(ForwardError::Gate)) && numbers.came_once())
+}
+
+// After one pass of the driver two packets wait, and after two they are in the transmit ring.
+#[test]
+fn packets_that_wait_come_back(rt: HostRuntime) -> Result<(), Fail> {
+    let script = script_of(rt.alloc(), ZERO)?;
+    for passes in 0..8 {
+        let gate = Stops::after(passes);
+        assert!(rt;
+            are_back_after(&rt, rt.alloc(), &script, &gate)?,
+            "{passes} passes"
+        );
+    }
+    Ok(())
+}
+
+#[test]
+fn a_frame_that_is_taken_in_part_comes_back(rt: HostRuntime) -> Result<(), Fail> {
+    let script = script_of(rt.alloc(), LONGEST)?;
+    for _ in 0..20 {
+        let gate = Midway::new();
+        assert!(rt; are_back_after(&rt, rt.alloc(), &script, &gate)?);
     }
     Ok(())
 }

@@ -27,3 +27,5 @@ mod rows;
 mod side_by_side;
 #[cfg(test)]
 mod wanting;
+#[cfg(test)]
+mod watched;
