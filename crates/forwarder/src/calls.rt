@@ -45,19 +45,25 @@ pub fn forward<R: Threads + Wait + Sync, G: Gate + Sync>(
     ensures flows { IfOk result (λ r. vec_len r.flows ≡ PORTS * config.now.pairs) }
     ensures reports { IfOk result (λ r. (flow : ℕ) (d : _) → flow < PORTS * config.now.pairs → IsReport (plan config.now script.now flow) (slice_index_or r.flows.items flow d)) }
 {
-    config.check(script)?;
-    let (pool, mut pass) = make_pool(rt, alloc, config.buffers)?;
+    let (pool, mut pass) = make_pool(rt, alloc, script, config)?;
     forward_in(rt, alloc, script, config, gate, &pool, &mut pass)
 }
 
-/// A pool of so many buffers, and its pass.
-fn make_pool<R: Wait>(rt: &R, alloc: Global, buffers: u32) -> Result<(Pool, PoolPass), ForwardError>
-    requires { (FEWEST_BUFFERS ≤ buffers) × (buffers ≤ MOST_BUFFERS) }
-    ensures refused { IfErr result (λ e. e ≡ Memory) }
+/// Tests the configuration, and makes a pool of so many buffers as it says, with its pass.
+fn make_pool<R: Wait>(
+    rt: &R,
+    alloc: Global,
+    script: &Script,
+    config: &Config,
+) -> Result<(Pool, PoolPass), ForwardError>
+    ensures config { IsErrOf result ConfigRefused ↔ ¬ FitsIn script.now config.now }
+    ensures fits { IsErrOf result ConfigRefused ⊎ FitsIn script.now config.now }
+    ensures refused { FitsIn script.now config.now → IfErr result (λ e. e ≡ Memory) }
     ensures pool { IfOk result (λ r. IsOf r.0 r.1) }
     ensures share { IfOk result (λ r. r.1.hand.share ≡ WHOLE_SHARE) }
 {
-    match Pool::new(rt, alloc, buffers) {
+    config.check(script)?;
+    match Pool::new(rt, alloc, config.buffers) {
         Ok(made) => Ok(made),
         Err(_) => Err(ForwardError::Memory),
     }
@@ -114,8 +120,7 @@ pub fn forward_watched<R: Threads + Wait + Sync, G: Gate + Sync>(
     ensures reports { IfOk result (λ r. (flow : ℕ) (d : _) → flow < PORTS * config.now.pairs → IsReport (plan config.now script.now flow) (slice_index_or r.0.flows.items flow d)) }
     ensures shown { IfOk result (λ r. ShowReports cells.now r.1.items r.0.flows.items) }
 {
-    config.check(script)?;
-    let (pool, mut pass) = make_pool(rt, alloc, config.buffers)?;
+    let (pool, mut pass) = make_pool(rt, alloc, script, config)?;
     let watch = Some(Watch { cells, pens });
     forward_over(rt, alloc, script, config, gate, &pool, &mut pass, watch)
 }
