@@ -242,6 +242,41 @@ impl Gate for Watching {
     }
 }
 
+/// A gate that lets flow 1's frames be offered only once somebody has seen all those before. It refuses where that takes
+/// too long.
+#[derive(Drop)]
+pub(crate) struct Paced {
+    seen: AtomicU64,
+    offers: AtomicU64,
+}
+
+impl Paced {
+    pub(crate) fn new() -> Paced {
+        Paced {
+            seen: AtomicU64::new(0),
+            offers: AtomicU64::new(0),
+        }
+    }
+
+    /// So many offers were seen.
+    pub(crate) fn see(&self, offers: u64) {
+        self.seen.store(offers, Ordering::SeqCst);
+    }
+}
+
+impl Gate for Paced {
+    ghost use Rattle.std.specs.Prelude.{◌≡◌, Bool};
+
+    ghost answers = { λ _ _ _ b. b ≡ b };
+
+    fn pass(&self, who: Who, event: Event) -> bool {
+        if (who, event) != (Who::Controller(1), Event::Offer) {
+            return true;
+        }
+        wait_until(&self.seen, self.offers.fetch_add(1, Ordering::SeqCst))
+    }
+}
+
 /// A gate that refuses flow 0's driver after so many passes. It holds the driver back until three frames were offered.
 #[derive(Drop)]
 pub(crate) struct Stops {

@@ -1,19 +1,22 @@
 //! Cells show what flows count while they run.
-ghost use Rattle.std.specs.Prelude.{◌≡◌, IfOk};
-ghost use Rattle.counters.specs.Paired.{IsFresh};
+ghost use Rattle.std.specs.Prelude.{◌≡◌, ◌*◌, IfOk, length};
+ghost use Rattle.counters.specs.Paired.{ArePaired, IsFresh};
 
 use crate::bursts::{FORTY, FORTY_COUNTS, script_of};
 use crate::configs::SHORT;
 use crate::counted::is_drained;
+use crate::gates::Paced;
 use counters::{
-    CounterError, DriveCell, DrivePass, Driven, FlowCells, FlowPens, Offered, StatCell, StatPass,
+    CounterError, DriveCell, DrivePass, Driven, FlowCells, FlowPens, Moment, Offered, StatCell,
+    StatPass,
 };
 use flows::FlowReport;
-use forwarder::{Config, forward_watched};
-use forwarding::Open;
+use forwarder::{Config, Report, forward_watched};
+use forwarding::{ForwardError, Open};
 use std::alloc::Global;
 use std::sync::Wait;
 use std::test::Fail;
+use std::thread;
 use std::thread::Threads;
 use wire_script::Script;
 
@@ -114,5 +117,127 @@ fn each_cell_shows_its_report(rt: HostRuntime) -> Result<(), Fail> {
         let good = are_shown(&rt, rt.alloc(), &script, workers)?;
         assert!(rt; good, "{workers} workers");
     }
+    Ok(())
+}
+
+/// How often a reader reads at most.
+const READS: u32 = 10_000_000;
+
+/// Reads until 40 frames were offered, and lets the gate know how far it is. Whether each moment in between was seen, none
+/// twice in another order, and each adds up.
+fn watch_offered<R: Wait>(rt: &R, cell: &StatCell, mut pass: StatPass, gate: &Paced) -> bool
+    requires own { pass.cell ≡ cell.now }
+{
+    let mut last = 0;
+    for _ in 0..READS {
+        let now = cell.read(rt, &mut pass);
+        let next = now.offered == last || now.offered.checked_sub(1) == Some(last);
+        if !next || now.stored != now.offered || !now.is_lawful() {
+            return false;
+        }
+        last = now.offered;
+        gate.see(last);
+        if last == 40 {
+            return true;
+        }
+        thread::yield_now();
+    }
+    false
+}
+
+/// Reads until 40 frames were posted. Whether no number fell, and each moment adds up.
+fn watch_driven<R: Wait>(rt: &R, cell: &DriveCell, mut pass: DrivePass) -> bool
+    requires own { pass.cell ≡ cell.now }
+{
+    let mut last = Driven::opening();
+    for _ in 0..READS {
+        let now = cell.read(rt, &mut pass);
+        let falls = now.taken < last.taken || now.posted < last.posted;
+        if falls || now.tx_dropped != 0 || !now.is_lawful() {
+            return false;
+        }
+        last = now;
+        if last.posted == 40 {
+            return true;
+        }
+        thread::yield_now();
+    }
+    false
+}
+
+/// Both cells of a flow are read by threads of their own.
+fn watch<R: Threads + Wait + Sync>(
+    rt: &R,
+    cells: &FlowCells,
+    stat: StatPass,
+    drive: DrivePass,
+    gate: &Paced,
+) -> bool
+    requires stat { stat.cell ≡ cells.now.stat }
+    requires drive { drive.cell ≡ cells.now.drive }
+{
+    let (offered, driven) = thread::join(
+        rt,
+        || watch_offered(rt, &cells.stat, stat, gate),
+        || watch_driven(rt, &cells.drive, drive),
+    );
+    offered && driven
+}
+
+/// Whether both cells of a flow show how the forwarder gets on, of which this gate is passed.
+fn is_watched<R: Threads + Wait + Sync>(
+    rt: &R,
+    alloc: Global,
+    script: &Script,
+    config: &Config,
+    cells: &[FlowCells],
+    pens: Vec<FlowPens>,
+    shown: &FlowCells,
+    stat: StatPass,
+    drive: DrivePass,
+) -> Result<bool, Fail>
+    requires cells { length cells.now ≡ 2 * config.now.pairs }
+    requires pens { ArePaired cells.now pens.items }
+    requires stat { stat.cell ≡ shown.now.stat }
+    requires drive { drive.cell ≡ shown.now.drive }
+{
+    let gate = Paced::new();
+    let gate = &gate;
+    let (ran, good) = thread::join(
+        rt,
+        move || -> Result<(Report, Vec<FlowPens>), ForwardError>
+            requires { (length cells.now ≡ 2 * config.now.pairs) × ArePaired cells.now pens.items }
+        { forward_watched(rt, alloc, script, config, gate, cells, pens) },
+        move || -> bool
+            requires { (stat.cell ≡ shown.now.stat) × (drive.cell ≡ shown.now.drive) }
+        { watch(rt, shown, stat, drive, gate) },
+    );
+    let (report, _) = ran?;
+    Ok(good && is_drained(&report, script, 2, FORTY_COUNTS))
+}
+
+// The gate lets each frame be offered only once the one before was seen in the cell.
+#[test]
+fn watch_while_workers_run(rt: HostRuntime) -> Result<(), Fail> {
+    let script = script_of(rt.alloc(), FORTY)?;
+    let config = Config { ring: 64, ..SHORT };
+    let first = open_cells(rt.alloc())?;
+    let second = open_cells(rt.alloc())?;
+    let third = open_cells(rt.alloc())?;
+    let fourth = open_cells(rt.alloc())?;
+    let cells = vec![in rt.alloc(); first.cells, second.cells, third.cells, fourth.cells]?;
+    let pens = vec![in rt.alloc(); first.pens, second.pens, third.pens, fourth.pens]?;
+    let good = is_watched(
+        &rt,
+        rt.alloc(),
+        &script,
+        &config,
+        &cells,
+        pens,
+        &cells[1],
+        second.stat,
+        second.drive,
+    )?;
+    assert!(rt; good);
     Ok(())
 }
