@@ -8,7 +8,6 @@ use Rattle.forwarding.specs.declared.gate.Event.{Event}
 use Rattle.forwarding.specs.declared.error.ForwardError.{ForwardError}
 use Rattle.forwarding.specs.declared.error.ForwardError.TheVariants.{Memory}
 use Rattle.teams.specs.Dealing.{every, IsDealt}
-use Rattle.teams.specs.Hands.{BeginsWith, hand_keys}
 use Rattle.teams.specs.Refusals.{Halted}
 use Rattle.teams.proofs.Lists.{mapped-at}
 
@@ -32,14 +31,3 @@ dealt-keys key items of hands dealt = subst (IsDealt (map key items)) (map-map (
 
 pub memory_halted : {G : Type 0} (answers : G → Who → Event → Bool → Type 0) (gate : G) (e : ForwardError) → e ≡ Memory → Halted answers gate e
 memory_halted answers gate e is = subst (Halted answers gate) (sym is) tt
-
--- a list that begins with one that is not shorter is that one
-begins-whole : {X : Type 0} (xs front rest : List X) → xs ≡ front ++ rest → length xs ≤ length front → front ≡ xs
-begins-whole xs front [] e low = sym (e ∙ append-nil front)
-begins-whole xs front (x ∷ rest) e low = absurd (let more = ap length e ∙ length-append front (x ∷ rest) in omega (arith, low, more))
-
--- as many hands as were given came back, so all of them did
-pub all-back : {F K : Type 0} (key : F → K) (given back : List (Vec F Global)) → BeginsWith (hand_keys key given) (hand_keys key back) → length given ≤ length back → hand_keys key back ≡ hand_keys key given
-all-back key given back begins low =
-    begins-whole (hand_keys key given) (hand_keys key back) begins.0 begins.1
-    (let a = length-map given (λ h. map key h.items) in let b = length-map back (λ h. map key h.items) in omega (arith, low, a, b))

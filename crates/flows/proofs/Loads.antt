@@ -78,6 +78,7 @@ loaded-by k pass old new from to from_is to_is l can same = record {
   sends = can.sends ∙ sym to_is;
   one_length = l.one_length;
   pool = l.pool;
+  share = l.share;
   holds = λ h. (let a = l.holds h in let b = same h in omega (arith, a, b));
   waiting = subst (λ (t : TableId). All (IsTaken t.slots) new.packets) (sym from_is) can.waiting;
 }
@@ -89,6 +90,7 @@ loaded-still k pass d rx tx l r t = record {
   sends = t.own ∙ l.sends;
   one_length = l.one_length;
   pool = l.pool;
+  share = l.share;
   holds = λ h. l.holds h ∙ ap (λ (x : List ℕ). total h (d.stash ++ (x ++ (numbers_in d.packets ++ with_transmitter d.tx)))) (sym r.holds) ∙ ap (λ (x : List ℕ). total h (d.stash ++ (with_receiver rx ++ (numbers_in d.packets ++ x)))) (sym t.holds);
   waiting = l.waiting;
 }
@@ -98,23 +100,25 @@ pub at-hand : (d : Driving) (h : ℕ → ℕ) → total h (d.stash ++ numbers_in
 at-hand d h = let a = total-append h d.stash (numbers_in d.packets) in let b = parts h d in omega (arith, a, b)
 
 -- what was at hand went to the pool, as far as it isn't in the stash
-pub given-all : (k : DriverKey) (pass pass' : Passed) (d : Driving) (stash : List ℕ) (packets : List (List Buffer)) → packets ≡ [] → IsLoaded k pass d → IsOf k.pool pass' → Keeps pass.hand.held (d.stash ++ numbers_in d.packets) pass'.hand.held stash → IsLoaded k pass' (driving d.rx d.tx stash packets)
-given-all k pass pass' d stash packets none l pool kept = subst (λ (ps : List (List Buffer)). IsLoaded k pass' (driving d.rx d.tx stash ps)) (sym none) (record {
+pub given-all : (k : DriverKey) (pass pass' : Passed) (d : Driving) (stash : List ℕ) (packets : List (List Buffer)) → packets ≡ [] → IsLoaded k pass d → IsOf k.pool pass' → pass'.hand.share ≡ pass.hand.share → Keeps pass.hand.held (d.stash ++ numbers_in d.packets) pass'.hand.held stash → IsLoaded k pass' (driving d.rx d.tx stash packets)
+given-all k pass pass' d stash packets none l pool shared kept = subst (λ (ps : List (List Buffer)). IsLoaded k pass' (driving d.rx d.tx stash ps)) (sym none) (record {
   receives = l.receives;
   sends = l.sends;
   one_length = l.one_length;
   pool = pool;
+  share = shared ∙ l.share;
   holds = λ h. (let a = l.holds h in let b = kept h in let c = total-append h d.stash (numbers_in d.packets) in let e = parts h d in let f = parts h (driving d.rx d.tx stash []) in omega (arith, a, b, c, e, f));
   waiting = All-nil (IsTaken k.from.slots);
 })
 
 -- and so the stash
-pub given-stash : (k : DriverKey) (pass pass' : Passed) (d : Driving) (stash : List ℕ) → stash ≡ [] → IsLoaded k pass d → IsOf k.pool pass' → Keeps pass.hand.held d.stash pass'.hand.held [] → IsLoaded k pass' (driving d.rx d.tx stash d.packets)
-given-stash k pass pass' d stash none l pool kept = subst (λ (xs : List ℕ). IsLoaded k pass' (driving d.rx d.tx xs d.packets)) (sym none) (record {
+pub given-stash : (k : DriverKey) (pass pass' : Passed) (d : Driving) (stash : List ℕ) → stash ≡ [] → IsLoaded k pass d → IsOf k.pool pass' → pass'.hand.share ≡ pass.hand.share → Keeps pass.hand.held d.stash pass'.hand.held [] → IsLoaded k pass' (driving d.rx d.tx stash d.packets)
+given-stash k pass pass' d stash none l pool shared kept = subst (λ (xs : List ℕ). IsLoaded k pass' (driving d.rx d.tx xs d.packets)) (sym none) (record {
   receives = l.receives;
   sends = l.sends;
   one_length = l.one_length;
   pool = pool;
+  share = shared ∙ l.share;
   holds = λ h. (let a = l.holds h in let b = kept h in let e = parts h d in let f = parts h (driving d.rx d.tx [] d.packets) in omega (arith, a, b, e, f));
   waiting = l.waiting;
 })
@@ -152,6 +156,7 @@ back-rx k pass d rx stash l own g = record {
   sends = l.sends;
   one_length = l.one_length;
   pool = l.pool;
+  share = l.share;
   holds = λ h. (
       let a = l.holds h in let e = parts h d in let f = parts h (driving rx d.tx stash d.packets) in let g' = total-given h d.rx rx d.stash stash g in
       let x = total-append h d.stash (with_receiver d.rx) in let y = total-append h stash (with_receiver rx) in omega (arith, a, e, f, g', x, y));
@@ -164,6 +169,7 @@ back-tx k pass d tx stash l own g = record {
   sends = own ∙ l.sends;
   one_length = l.one_length;
   pool = l.pool;
+  share = l.share;
   holds = λ h. (
       let a = l.holds h in let e = parts h d in let f = parts h (driving d.rx tx stash d.packets) in let g' = total-returned h d.tx tx d.stash stash g in
       let x = total-append h d.stash (with_transmitter d.tx) in let y = total-append h stash (with_transmitter tx) in omega (arith, a, e, f, g', x, y));
@@ -183,6 +189,7 @@ refilled k pass pass' d stash moved l pool r = record {
   sends = l.sends;
   one_length = l.one_length;
   pool = pool;
+  share = r.took.share ∙ l.share;
   holds = λ h. (
       let a = l.holds h in let e = parts h d in let f = parts h (driving d.rx d.tx stash d.packets) in
       let took = ap (total h) r.took.held ∙ total-append h (reverse r.numbers) pass.hand.held in let put = ap (total h) r.stashed ∙ total-append h (reverse r.numbers) d.stash in

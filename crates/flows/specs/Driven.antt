@@ -117,12 +117,13 @@ pub record HasEnded (k : DriverKey) (d : Driving) (c : Counts) (ended : Ended) :
   pub relayed : Relayed k.retries d.rx.end d.tx.end c waiting
   pub ended_as : EndedAs k.turns d.rx.end d.tx.end waiting ended
 
--- both drivers are of their rings, and the pass holds just the buffers that are with them, in the stash and in the packets that wait
+-- both drivers are of their rings, and the pass has its share and holds just the buffers that are with them, in the stash and in the packets that wait
 pub record IsLoaded (k : DriverKey) (pass : Passed) (d : Driving) : Type 0 where
   pub receives : d.rx.end.table ≡ k.from
   pub sends : d.tx.end.table ≡ k.to
   pub one_length : k.to.slots ≡ k.from.slots
   pub pool : IsOf k.pool pass
+  pub share : pass.hand.share ≡ k.share
   pub holds : HoldsJust pass.hand.held (all_of d)
   pub waiting : All (IsTaken k.from.slots) d.packets
 

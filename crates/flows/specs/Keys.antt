@@ -5,12 +5,13 @@ use Rattle.pool.specs.Owned.{Pooled}
 use Rattle.ring_model.specs.shared.Frames.{Bytes}
 use Rattle.wire_script.specs.Frame.{Frame}
 
--- the driver's side: the flow's number, its two rings and its pool, whether packets that stayed are kept, and after how many turns it is cut (0: never)
+-- the driver's side: the flow's number, its two rings and its pool, of which its pass has this share, whether packets that stayed are kept, and after how many turns it is cut (0: never)
 pub record DriverKey : Type 0 where
   pub number : ℕ
   pub from : TableId
   pub to : TableId
   pub pool : Pooled
+  pub share : ℕ
   pub retries : Bool
   pub turns : ℕ
 

@@ -61,8 +61,8 @@ impl<'a> Model for DriverFlow<'a> {
 
 impl<'a> DriverFlow<'a> {
     /// Begins a flow: it takes up to `most` buffers from the pool, posts what fits the receive ring, and publishes it. The
-    /// ends have done nothing yet, their rings are of one length, and the pass holds nothing. A batch has up to `batch`
-    /// packets, and each `rs_every`th frame asks for a report.
+    /// ends have done nothing yet, their rings are of one length, and the pass has the task's share and holds nothing. A
+    /// batch has up to `batch` packets, and each `rs_every`th frame asks for a report.
     pub fn start<R: Wait>(
         rt: &R,
         task: Task<'a>,
@@ -77,6 +77,7 @@ impl<'a> DriverFlow<'a> {
         requires one_length { task.to.slots ≡ task.from.slots }
         requires fresh { IsFreshDriver ends.0 × IsFreshDriver ends.1 }
         requires pool { IsOf task.pool pass }
+        requires share { pass.hand.share ≡ task.share }
         requires none { pass.hand.held ≡ [] }
         requires batch { (0 < batch) × (batch ≤ MOST_BATCH) }
         requires rs_every { (0 < rs_every) × (rs_every ≤ MOST_RS_EVERY) }
@@ -118,6 +119,7 @@ impl<'a> DriverFlow<'a> {
         ensures from { result.rx.table ≡ self.entry.key.from }
         ensures to { result.tx.table ≡ self.entry.key.to }
         ensures pool { IsOf self.entry.key.pool result.pass }
+        ensures share { result.pass.hand.share ≡ self.entry.key.share }
         ensures held { HoldsJust result.pass.hand.held (parts_of result) }
     {
         let Load {
@@ -145,6 +147,7 @@ impl<'a> DriverFlow<'a> {
         ensures driven { IfSome result (λ d. HasDriven self.entry.key d.0) }
         ensures counts { IfSome result (λ d. d.0.counts ≡ self.entry.counts) }
         ensures pool { IfSome result (λ d. IsOf self.entry.key.pool d.1) }
+        ensures share { IfSome result (λ d. d.1.hand.share ≡ self.entry.key.share) }
         ensures none { IfSome result (λ d. d.1.hand.held ≡ []) }
     {
         let DriverFlow {

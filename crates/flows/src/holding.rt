@@ -25,6 +25,7 @@ pub(crate) fn drop_packets<R: Wait>(
     requires pool { IsOf pool.now pass.old }
     requires held { Holds pass.old.hand.held (stash.old ++ numbers_in packets.old.items) }
     ensures pool { IsOf pool.now pass.new }
+    ensures share { pass.new.hand.share ≡ pass.old.hand.share }
     ensures count { result ≡ length packets.old.items }
     ensures few { result ≤ MOST_BATCH }
     ensures none { packets.new.items ≡ [] }
@@ -49,6 +50,7 @@ fn drop_packet<R: Wait>(
     requires pool { IsOf pool.now pass.old }
     requires held { Holds pass.old.hand.held (stash.old ++ numbers_of packet) }
     ensures pool { IsOf pool.now pass.new }
+    ensures share { pass.new.hand.share ≡ pass.old.hand.share }
     ensures kept { Keeps pass.old.hand.held (stash.old ++ numbers_of packet) pass.new.hand.held stash.new }
 {
     while let Some(buf) = packet.pop_front() {
@@ -66,6 +68,7 @@ pub(crate) fn give_stash<R: Wait>(rt: &R, pool: &Pool, pass: &mut PoolPass, stas
     requires pool { IsOf pool.now pass.old }
     requires held { Holds pass.old.hand.held stash.old }
     ensures pool { IsOf pool.now pass.new }
+    ensures share { pass.new.hand.share ≡ pass.old.hand.share }
     ensures none { stash.new ≡ [] }
     ensures kept { Keeps pass.old.hand.held stash.old pass.new.hand.held [] }
 {

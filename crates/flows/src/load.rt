@@ -25,14 +25,15 @@ use std::marker::Model;
 use std::sync::Wait;
 use tx_ring::TxRing;
 
-/// What a driver's side is of: the flow's number, its two rings and the pool, whether packets that stayed are kept (else they
-/// are dropped), and after how many turns the flow is cut (0: never).
+/// What a driver's side is of: the flow's number, its two rings and the pool, the share of this that its pass has, whether
+/// packets that stayed are kept (else they are dropped), and after how many turns the flow is cut (0: never).
 #[derive(Drop)]
 pub struct Task<'a> {
     pub number: usize,
     pub from: &'a RxRing,
     pub to: &'a TxRing,
     pub pool: &'a Pool,
+    pub share: u64,
     pub retry: bool,
     pub turns: u32,
 }
@@ -42,7 +43,7 @@ impl<'a> Model for Task<'a> {
 
     ghost Value = { DriverKey };
 
-    ghost view = { λ t. record { number = t.number; from = t.from.now; to = t.to.now; pool = t.pool.now; retries = t.retry; turns = t.turns } };
+    ghost view = { λ t. record { number = t.number; from = t.from.now; to = t.to.now; pool = t.pool.now; share = t.share; retries = t.retry; turns = t.turns } };
 }
 
 /// Both drivers, the stash, the packets that wait, and the pass by which all buffers of these are held.

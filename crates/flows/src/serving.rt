@@ -1,15 +1,14 @@
 //! Both sides of all flows, served by workers in threads of their own.
-ghost use Rattle.std.specs.Prelude.{◌≡◌, ◌<◌, ◌≤◌, true, [], None, All, IfOk, IfErr, IfSome, map, vec_len, vec_capacity};
-ghost use Rattle.forwarding.specs.declared.error.ForwardError.TheVariants.{Memory};
+ghost use Rattle.std.specs.Prelude.{◌≡◌, ◌<◌, ◌≤◌, true, [], None, All, IfOk, IfSome, map, vec_len, vec_capacity};
 ghost use Rattle.teams.specs.Dealing.{IsDealt};
 ghost use Rattle.teams.specs.Hands.{hand_keys};
 ghost use Rattle.teams.specs.Refusals.{Halted};
 
 use forwarding::{Flow, ForwardError, Gate};
-use std::alloc::Global;
+use std::alloc::{AllocError, Global};
 use std::sync::Wait;
 use std::thread::Threads;
-use teams::{deal, gather, run_teams};
+use teams::{deal, empty_hands, gather, run_teams};
 
 /// Both sides of all flows, each in the order in which they were given, and why they ended before all were over, if they
 /// did.
@@ -20,44 +19,41 @@ pub struct Served<D: Drop, C: Drop> {
     pub refusal: Option<ForwardError>,
 }
 
-/// Room for so many flows of either side.
-fn make_room<D: Drop, C: Drop>(
-    alloc: Global,
-    drivers: usize,
-    controllers: usize,
-) -> Result<(Vec<D>, Vec<C>), ForwardError>
-    ensures refused { IfErr result (λ e. e ≡ Memory) }
-    ensures drivers { IfOk result (λ r. (r.0.items ≡ []) × (drivers ≤ vec_capacity r.0)) }
-    ensures controllers { IfOk result (λ r. (r.1.items ≡ []) × (controllers ≤ vec_capacity r.1)) }
-{
-    let drivers = Vec::with_capacity(alloc, drivers)?;
-    let controllers = Vec::with_capacity(alloc, controllers)?;
-    Ok((drivers, controllers))
+/// Room for the flows of one side: as they are dealt to the workers, and as they come back.
+#[derive(Drop)]
+struct Rooms<F: Drop> {
+    hands: Vec<Vec<F>>,
+    back: Vec<F>,
 }
 
-/// Deals flows to so many workers in turn.
-fn deal_flows<F: Flow>(
-    alloc: Global,
-    flows: Vec<F>,
-    workers: usize,
-) -> Result<Vec<Vec<F>>, ForwardError>
-    requires { 0 < workers }
-    ensures refused { IfErr result (λ e. e ≡ Memory) }
-    ensures count { IfOk result (λ hands. vec_len hands ≡ workers) }
-    ensures dealt { IfOk result (λ hands. IsDealt (map F.key flows.items) (hand_keys F.key hands.items)) }
-{
-    match deal(alloc, flows, workers) {
-        Ok(hands) => Ok(hands),
-        Err(_) => Err(ForwardError::Memory),
+impl<F: Drop> Rooms<F> {
+    /// Room for so many flows and workers.
+    fn of(alloc: Global, flows: usize, workers: usize) -> Result<Rooms<F>, AllocError>
+        ensures count { IfOk result (λ r. vec_len r.hands ≡ workers) }
+        ensures empty { IfOk result (λ r. All (λ h. h.items ≡ []) r.hands.items) }
+        ensures room { IfOk result (λ r. All (λ h. flows ≤ vec_capacity h) r.hands.items) }
+        ensures back { IfOk result (λ r. (r.back.items ≡ []) × (flows ≤ vec_capacity r.back)) }
+    {
+        let hands = empty_hands(alloc, workers, flows)?;
+        let back = Vec::with_capacity(alloc, flows)?;
+        Ok(Rooms { hands, back })
     }
+}
+
+/// Deals flows to workers in turn.
+fn deal_flows<F: Flow>(flows: Vec<F>, hands: Vec<Vec<F>>) -> Vec<Vec<F>>
+    requires some { 0 < vec_len hands }
+    requires none { All (λ h. h.items ≡ []) hands.items }
+    requires room { All (λ h. vec_len flows ≤ vec_capacity h) hands.items }
+    ensures count { vec_len result ≡ vec_len hands }
+    ensures dealt { IsDealt (map F.key flows.items) (hand_keys F.key result.items) }
+{
+    deal(flows, hands)
 }
 
 /// Has both sides of all flows served by so many workers a side, flow `f` by worker `f mod workers`, until all are over or
 /// a refusal is met. Every worker that was started was joined before this answers, and the first refusal to stop the
-/// others is the one that is told.
-///
-/// All flows come back, also where their turns were refused. Only where memory was refused before, or not all workers
-/// could be started, an `Err` is answered, and the flows are dropped.
+/// others is the one that is told. All flows come back, whatever was refused.
 #[tactic(auto, using(crate::proofs::Dealing::memory_halted))]
 pub fn serve_flows<D: Flow, C: Flow, R: Threads + Wait + Sync, G: Gate + Sync>(
     rt: &R,
@@ -66,27 +62,30 @@ pub fn serve_flows<D: Flow, C: Flow, R: Threads + Wait + Sync, G: Gate + Sync>(
     drivers: Vec<D>,
     controllers: Vec<C>,
     workers: usize,
-) -> Result<Served<D, C>, ForwardError>
+) -> Served<D, C>
     requires { 0 < workers }
-    ensures halted { IfErr result (λ e. Halted G.answers gate.now e) }
-    ensures refused { IfOk result (λ s. IfSome s.refusal (λ e. Halted G.answers gate.now e)) }
-    ensures drivers { IfOk result (λ s. map D.key s.drivers.items ≡ map D.key drivers.items) }
-    ensures controllers { IfOk result (λ s. map C.key s.controllers.items ≡ map C.key controllers.items) }
-    ensures over { IfOk result (λ s. s.refusal ≡ None → All (λ f. D.over f ≡ true) s.drivers.items) }
+    ensures refused { IfSome result.refusal (λ e. Halted G.answers gate.now e) }
+    ensures drivers { map D.key result.drivers.items ≡ map D.key drivers.items }
+    ensures controllers { map C.key result.controllers.items ≡ map C.key controllers.items }
+    ensures over { result.refusal ≡ None → All (λ f. D.over f ≡ true) result.drivers.items }
 {
     let (driven, served) = (drivers.len(), controllers.len());
-    let (driver_room, controller_room) = make_room(alloc, driven, served)?;
-    let drivers = deal_flows(alloc, drivers, workers)?;
-    let controllers = deal_flows(alloc, controllers, workers)?;
+    let (Ok(driver_rooms), Ok(controller_rooms)) = (
+        Rooms::of(alloc, driven, workers),
+        Rooms::of(alloc, served, workers),
+    ) else {
+        return Served {
+            drivers,
+            controllers,
+            refusal: Some(ForwardError::Memory),
+        };
+    };
+    let drivers = deal_flows(drivers, driver_rooms.hands);
+    let controllers = deal_flows(controllers, controller_rooms.hands);
     let ran = run_teams(rt, alloc, gate, drivers, controllers);
-    if let Some(refusal) = ran.refusal {
-        if ran.drivers.len() < workers || ran.controllers.len() < workers {
-            return Err(refusal);
-        }
-    }
-    Ok(Served {
-        drivers: gather(ran.drivers, driven, driver_room),
-        controllers: gather(ran.controllers, served, controller_room),
+    Served {
+        drivers: gather(ran.drivers, driven, driver_rooms.back),
+        controllers: gather(ran.controllers, served, controller_rooms.back),
         refusal: ran.refusal,
-    })
+    }
 }

@@ -26,6 +26,7 @@ pub(crate) fn stock_up<R: Wait>(
     requires own { end.old.table ≡ ring.now }
     requires open { is_open (driver_state end.old) ≡ true }
     ensures pool { IsOf pool.now pass.new }
+    ensures share { pass.new.hand.share ≡ pass.old.hand.share }
     ensures posted { OnlyPosted end.old end.new }
     ensures published { published end.new ≡ length (posted end.new) }
     ensures kept { Keeps pass.old.hand.held (stash.old ++ posted end.old) pass.new.hand.held (stash.new ++ posted end.new) }

@@ -13,9 +13,10 @@ use Rattle.forwarder.specs.Flows.{places_of}
 abbrev pub plan : Config → List Frame → ℕ → Plan
 plan c script flow = record { frames = frames_at script (places_of c.pairs flow script); size = c.ring; fill = c.bsize; drops = c.drop_en; retries = c.retry; turns = c.turns }
 
--- both sides are of the flow's two rings, and the driver's is of the pool
+-- both sides are of the flow's two rings, and the driver's is of the pool, with a share of 1
 pub record AreOfLine (pool : Pooled) (line : Line) (d : DriverKey) (c : ControllerKey) : Type 0 where
   pub of_pool : d.pool ≡ pool
+  pub share : d.share ≡ 1
   pub from : (d.from ≡ line.from) × (c.input.from ≡ line.from)
   pub to : (d.to ≡ line.to) × (c.to ≡ line.to)
 

@@ -8,10 +8,11 @@ use Rattle.tx_ring.specs.Ends as transmit
 use Rattle.forwarder.specs.declared.lines.Line.{Line}
 use Rattle.forwarder.specs.declared.stopping.Stopped.{Stopped}
 
--- both sides have the ends of the flow's two rings; the controllers hold no buffer, and the driver's pass holds just those that its side has
+-- both sides have the ends of the flow's two rings; the controllers hold no buffer, and the driver's pass has a share of 1 and holds just those that its side has
 pub record IsStopped (pool : Pooled) (line : Line) (s : Stopped) : Type 0 where
   pub from : (s.driver.rx.table ≡ line.from) × (s.controller.rx.table ≡ line.from)
   pub to : (s.driver.tx.table ≡ line.to) × (s.controller.tx.table ≡ line.to)
   pub unheld : (receive.held s.controller.rx ≡ None) × (transmit.held s.controller.tx ≡ None)
   pub of_pool : IsOf pool s.driver.pass
+  pub share : s.driver.pass.hand.share ≡ 1
   pub held : HoldsJust s.driver.pass.hand.held (parts_of s.driver)

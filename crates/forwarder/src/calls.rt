@@ -70,10 +70,9 @@ fn make_pool<R: Wait>(
 }
 
 /// The same over a pool of the caller's, for a configuration that `check` takes: `config.buffers` bounds
-/// what the flows take from it together. Where workers are stopped by a refusal, all rings are closed once
-/// they are joined, and the buffers that the flows had taken go back to the pool. Only where not all workers
-/// could be started, or memory was refused before, the rings are dropped as they stand, and the buffers that
-/// the flows had taken don't come back.
+/// what the flows take from it together. Where a refusal stops the workers, or not all of them can be
+/// started, all rings are closed once those that were started are joined, and the buffers that the flows had
+/// taken go back to the pool.
 pub fn forward_in<R: Threads + Wait + Sync, G: Gate + Sync>(
     rt: &R,
     alloc: Global,
@@ -90,6 +89,7 @@ pub fn forward_in<R: Threads + Wait + Sync, G: Gate + Sync>(
     ensures flows { IfOk result (λ r. vec_len r.flows ≡ PORTS * config.now.pairs) }
     ensures reports { IfOk result (λ r. (flow : ℕ) (d : _) → flow < PORTS * config.now.pairs → IsReport (plan config.now script.now flow) (slice_index_or r.flows.items flow d)) }
     ensures pool { IsOf pool.now pass.new }
+    ensures share { pass.new.hand.share ≡ pass.old.hand.share }
     ensures held { pass.new.hand.held ≡ pass.old.hand.held }
 {
     let (report, _) = forward_over(rt, alloc, script, config, gate, pool, pass, None)?;
@@ -146,6 +146,7 @@ fn forward_over<R: Threads + Wait + Sync, G: Gate + Sync>(
     ensures reports { IfOk result (λ r. (flow : ℕ) (d : _) → flow < PORTS * config.now.pairs → IsReport (plan config.now script.now flow) (slice_index_or r.0.flows.items flow d)) }
     ensures shown { IfOk result (λ r. IfSome watch.entry (λ w. ShowReports w.cells.now r.1.items r.0.flows.items)) }
     ensures pool { IsOf pool.now pass.new }
+    ensures share { pass.new.hand.share ≡ pass.old.hand.share }
     ensures held { pass.new.hand.held ≡ pass.old.hand.held }
 {
     let index = Index::of(alloc, script, config.pairs)?;

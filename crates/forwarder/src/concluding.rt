@@ -1,5 +1,5 @@
 //! What became of all flows, once both sides of each are over.
-ghost use Rattle.std.specs.Prelude.{◌≡◌, ◌≤◌, true, All, [], length, map, vec_len, vec_capacity};
+ghost use Rattle.std.specs.Prelude.{◌≡◌, ◌+◌, ◌≤◌, true, All, [], length, map, vec_len, vec_capacity};
 ghost use Rattle.flows.specs.Counting.{driven, driven_in, offered, offered_in};
 ghost use Rattle.flows.specs.Driven.{is_over};
 ghost use Rattle.flows.specs.Keys.{ControllerKey, DriverKey, plan_of};
@@ -28,6 +28,7 @@ fn conclude_flow(
     ensures driven { driven_in result ≡ driven driver.entry.counts }
     ensures offered { offered_in result ≡ offered controller.entry.tally }
     ensures pool { IsOf pool.now pass.new }
+    ensures share { pass.new.hand.share ≡ pass.old.hand.share + 1 }
     ensures held { pass.new.hand.held ≡ pass.old.hand.held }
 {
     let Some((done, own)) = driver.into_done() else {
@@ -57,6 +58,7 @@ pub(crate) fn conclude_all(
     ensures driven { map driven_in result.items ≡ map (λ f. driven f.counts) drivers.entry.items }
     ensures offered { map offered_in result.items ≡ map (λ f. offered f.tally) controllers.entry.items }
     ensures pool { IsOf pool.now pass.new }
+    ensures share { pass.new.hand.share ≡ pass.old.hand.share + length lines.now }
     ensures held { pass.new.hand.held ≡ pass.old.hand.held }
 {
     let mut controllers = controllers.into_iter();

@@ -1,6 +1,6 @@
 //! All flows, served by workers until they are over.
 ghost use Rattle.std.specs.Option.{ForSome};
-ghost use Rattle.std.specs.Prelude.{◌≡◌, ℕ, ◌*◌, ◌<◌, ◌≤◌, true, [], None, All, IfSome, IsSome, IfOk, IfErr, length, map, vec_len, vec_capacity, slice_index_or};
+ghost use Rattle.std.specs.Prelude.{◌≡◌, ℕ, ◌+◌, ◌*◌, ◌<◌, ◌≤◌, true, [], None, All, IfSome, IsSome, IfOk, IfErr, length, map, vec_len, vec_capacity, slice_index_or};
 ghost use Rattle.std.specs.List.{AllZip};
 ghost use Rattle.controller.specs.Tallying.{nothing};
 ghost use Rattle.counters.specs.Paired.{ArePaired};
@@ -71,25 +71,24 @@ fn serve_sides<'a, R: Threads + Wait + Sync, G: Gate + Sync>(
     sides: Sides<'a>,
     workers: usize,
     watch: Option<Watch<'a>>,
-) -> Result<Shown<'a>, ForwardError>
+) -> Shown<'a>
     requires some { 0 < workers }
     requires flows { ForSome watch (λ w. (vec_len sides.drivers ≡ length w.cells.now) × (vec_len sides.controllers ≡ length w.cells.now)) }
     requires pens { ForSome watch (λ w. ArePaired w.cells.now w.pens.items) }
     requires counts { All (λ f. f.counts ≡ none) sides.drivers.items }
     requires tallies { All (λ f. f.tally ≡ nothing) sides.controllers.items }
-    ensures halted { IfErr result (λ e. Halted G.answers gate.now e) }
-    ensures refused { IfOk result (λ s. IfSome s.served.refusal (λ e. Halted G.answers gate.now e)) }
-    ensures drivers { IfOk result (λ s. map (λ f. f.key) s.served.drivers.items ≡ map (λ f. f.key) sides.entry.drivers.items) }
-    ensures controllers { IfOk result (λ s. map (λ f. f.key) s.served.controllers.items ≡ map (λ f. f.key) sides.entry.controllers.items) }
-    ensures over { IfOk result (λ s. s.served.refusal ≡ None → All (λ f. is_over f.phase ≡ true) s.served.drivers.items) }
-    ensures pens { IfOk result (λ s. IfSome watch.entry (λ w. ArePensOf w.cells.now s.pens.items)) }
-    ensures driven { IfOk result (λ s. IfSome watch.entry (λ w. map driven_shown s.pens.items ≡ map (λ f. driven f.counts) s.served.drivers.items)) }
-    ensures offered { IfOk result (λ s. IfSome watch.entry (λ w. map offered_shown s.pens.items ≡ map (λ f. offered f.tally) s.served.controllers.items)) }
+    ensures refused { IfSome result.served.refusal (λ e. Halted G.answers gate.now e) }
+    ensures drivers { map (λ f. f.key) result.served.drivers.items ≡ map (λ f. f.key) sides.entry.drivers.items }
+    ensures controllers { map (λ f. f.key) result.served.controllers.items ≡ map (λ f. f.key) sides.entry.controllers.items }
+    ensures over { result.served.refusal ≡ None → All (λ f. is_over f.phase ≡ true) result.served.drivers.items }
+    ensures pens { IfSome watch.entry (λ w. ArePensOf w.cells.now result.pens.items) }
+    ensures driven { IfSome watch.entry (λ w. map driven_shown result.pens.items ≡ map (λ f. driven f.counts) result.served.drivers.items) }
+    ensures offered { IfSome watch.entry (λ w. map offered_shown result.pens.items ≡ map (λ f. offered f.tally) result.served.controllers.items) }
 {
     let Some(watch) = watch else {
-        let served = serve_flows(rt, alloc, gate, sides.drivers, sides.controllers, workers)?;
+        let served = serve_flows(rt, alloc, gate, sides.drivers, sides.controllers, workers);
         let pens = Vec::new(alloc);
-        return Ok(Shown { served, pens });
+        return Shown { served, pens };
     };
     serve_watched(
         rt,
@@ -133,12 +132,15 @@ pub(crate) fn run_flows<R: Threads + Wait + Sync, G: Gate + Sync>(
     ensures shown { IfOk result (λ r. r.refusal ≡ None → IfSome watch.entry (λ w. ShowReports w.cells.now r.pens.items r.flows.items)) }
     ensures stopped { IfOk result (λ r. IsSome r.refusal → (vec_len r.stopped ≡ length lines.now) × AllZip (IsStopped pool.now) lines.now r.stopped.items) }
     ensures pool { IsOf pool.now pass.new }
+    ensures refused_share { IfErr result (λ _. pass.new.hand.share ≡ pass.old.hand.share) }
+    ensures stopped_share { IfOk result (λ r. IsSome r.refusal → pass.new.hand.share + length lines.now ≡ pass.old.hand.share) }
+    ensures share { IfOk result (λ r. r.refusal ≡ None → pass.new.hand.share ≡ pass.old.hand.share) }
     ensures held { pass.new.hand.held ≡ pass.old.hand.held }
 {
     let (reports, rooms) = make_rooms(alloc, lines.len())?;
     let sides = make_sides(rt, alloc, config, script, index, lines, ends, pool, pass)?;
     let workers = config.workers as usize;
-    let shown = serve_sides(rt, alloc, gate, sides, workers, watch)?;
+    let shown = serve_sides(rt, alloc, gate, sides, workers, watch);
     let (served, pens) = (shown.served, shown.pens);
     let refusal = served.refusal;
     let (drivers, controllers) = (served.drivers, served.controllers);

@@ -1,5 +1,5 @@
 //! Both sides of all flows.
-ghost use Rattle.std.specs.Prelude.{◌≡◌, ℕ, ◌*◌, ◌<◌, [], All, IfOk, IfErr, length, map, vec_len, slice_index_or};
+ghost use Rattle.std.specs.Prelude.{◌≡◌, ℕ, ◌+◌, ◌*◌, ◌<◌, [], All, IfOk, IfErr, MatchResult, length, map, vec_len, slice_index_or};
 ghost use Rattle.controller.specs.Tallying.{nothing};
 ghost use Rattle.flows.specs.Counting.{none};
 ghost use Rattle.limits.specs.declared.profile.TheConstants.{MOST_PAIRS, PORTS};
@@ -19,6 +19,9 @@ use pool::{Pool, PoolPass};
 use std::alloc::Global;
 use std::sync::Wait;
 use wire_script::Script;
+
+/// The share of the pool that each flow's pass has.
+const SHARE: u32 = 1;
 
 /// How many buffers a flow may hold beyond a full receive ring.
 const STASHED: u32 = 255;
@@ -54,6 +57,7 @@ fn make_side<'a, R: Wait>(
     requires places { places.now ≡ places_of config.now.pairs number script.now }
     requires ends { AreEnds config.now.ring config.now.completion line.now ends }
     requires pool { IsOf pool.now pass }
+    requires share { pass.hand.share ≡ 1 }
     requires none { pass.hand.held ≡ [] }
     ensures sides { AreSides (plan config.now script.entry.now number) pool.entry.now line.entry.now result.driver.key result.controller.key }
     ensures counts { result.driver.counts ≡ none }
@@ -66,6 +70,7 @@ fn make_side<'a, R: Wait>(
         from: &line.from,
         to: &line.to,
         pool,
+        share: SHARE as u64,
         retry: config.retry,
         turns: config.turns,
     };
@@ -114,6 +119,7 @@ pub(crate) fn make_sides<'a, R: Wait>(
     ensures counts { IfOk result (λ s. All (λ f. f.counts ≡ none) s.drivers.items) }
     ensures tallies { IfOk result (λ s. All (λ f. f.tally ≡ nothing) s.controllers.items) }
     ensures pool { IsOf pool.entry.now pass.new }
+    ensures share { MatchResult result (λ _. pass.new.hand.share + PORTS * config.now.pairs ≡ pass.old.hand.share) (λ _. pass.new.hand.share ≡ pass.old.hand.share) }
     ensures held { pass.new.hand.held ≡ pass.old.hand.held }
 {
     let mut drivers = Vec::with_capacity(alloc, lines.len())?;
@@ -121,7 +127,7 @@ pub(crate) fn make_sides<'a, R: Wait>(
     let mut number = 0;
     for own in ends {
         let places = index.places(number);
-        let share = pass.split(pool, 1);
+        let share = pass.split(pool, SHARE);
         let side = make_side(
             rt,
             alloc,

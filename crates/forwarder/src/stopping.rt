@@ -1,5 +1,5 @@
 //! Flows that were stopped before they were over: their rings are closed, and their buffers go back to the pool.
-ghost use Rattle.std.specs.Prelude.{◌≡◌, ◌≤◌, [], length, map, vec_len, vec_capacity};
+ghost use Rattle.std.specs.Prelude.{◌≡◌, ◌+◌, ◌≤◌, [], length, map, vec_len, vec_capacity};
 ghost use Rattle.std.specs.List.{AllZip};
 ghost use Rattle.flows.specs.Keys.{ControllerKey, DriverKey};
 ghost use Rattle.pool.specs.Owned.{IsOf, Pooled};
@@ -70,6 +70,7 @@ fn close_line<R: Wait>(rt: &R, pool: &Pool, pass: &mut PoolPass, line: Line, flo
     requires pool { IsOf pool.now pass.old }
     requires stopped { IsStopped pool.now line flow }
     ensures pool { IsOf pool.now pass.new }
+    ensures share { pass.new.hand.share ≡ pass.old.hand.share + 1 }
     ensures held { pass.new.hand.held ≡ pass.old.hand.held }
 {
     let own = close_flow(rt, pool, line.from, line.to, flow.driver, flow.controller);
@@ -88,6 +89,7 @@ pub(crate) fn close_all<R: Wait>(
     requires count { vec_len stopped ≡ vec_len lines }
     requires stopped { AllZip (IsStopped pool.now) lines.items stopped.items }
     ensures pool { IsOf pool.now pass.new }
+    ensures share { pass.new.hand.share ≡ pass.old.hand.share + vec_len lines }
     ensures held { pass.new.hand.held ≡ pass.old.hand.held }
 {
     let mut stopped = stopped.into_iter();

@@ -211,37 +211,6 @@ impl Gate for Leaving {
     }
 }
 
-/// A gate that lets all pass, and tells whether a transmit queue took a turn.
-#[derive(Drop)]
-pub(crate) struct Watching {
-    turned: AtomicBool,
-}
-
-impl Watching {
-    pub(crate) fn new() -> Watching {
-        Watching {
-            turned: AtomicBool::new(false),
-        }
-    }
-
-    pub(crate) fn has_turned(&self) -> bool {
-        self.turned.load(Ordering::SeqCst)
-    }
-}
-
-impl Gate for Watching {
-    ghost use Rattle.std.specs.Prelude.{◌≡◌, true};
-
-    ghost answers = { λ _ _ _ b. b ≡ true };
-
-    fn pass(&self, _who: Who, event: Event) -> bool {
-        if event == Event::TxTurn {
-            self.turned.store(true, Ordering::SeqCst);
-        }
-        true
-    }
-}
-
 /// A gate that lets flow 1's frames be offered only once somebody has seen all those before. It refuses where that takes
 /// too long.
 #[derive(Drop)]

@@ -30,11 +30,6 @@ impl Numbers {
         !self.strange && self.times == [1; 64]
     }
 
-    /// Whether none came twice.
-    pub(crate) fn came_once_at_most(&self) -> bool {
-        !self.strange && self.times.iter().all(|times| *times <= 1)
-    }
-
     fn count(&mut self, number: u16) {
         match self.times.get_mut(usize::from(number)) {
             Some(times) => *times = times.saturating_add(1),

@@ -20,6 +20,7 @@ pub(crate) fn give_places<R: Wait>(
     requires held { HoldsAll pass.old.hand.held (numbers_at places.items) }
     requires real { AllReal places.items }
     ensures pool { IsOf pool.now pass.new }
+    ensures share { pass.new.hand.share ≡ pass.old.hand.share }
     ensures given { GivenBack pass.old.hand.held (numbers_at places.items) pass.new.hand.held }
 {
     for place in places {
@@ -33,6 +34,7 @@ fn give_place<R: Wait>(rt: &R, pool: &Pool, pass: &mut PoolPass, place: Option<B
     requires held { HoldsAll pass.old.hand.held (number_at place) }
     requires real { IfSome place IsReal }
     ensures pool { IsOf pool.now pass.new }
+    ensures share { pass.new.hand.share ≡ pass.old.hand.share }
     ensures given { GivenBack pass.old.hand.held (number_at place) pass.new.hand.held }
 {
     if let Some(buf) = place {

@@ -34,6 +34,7 @@ fn give_at_hand<R: Wait>(
     requires pool { IsOf pool.now pass.old }
     requires held { HoldsAll pass.old.hand.held (stash ++ (numbers_in packets.items ++ numbers_of chain)) }
     ensures pool { IsOf pool.now pass.new }
+    ensures share { pass.new.hand.share ≡ pass.old.hand.share }
     ensures given { GivenBack pass.old.hand.held (stash ++ (numbers_in packets.items ++ numbers_of chain)) pass.new.hand.held }
 {
     let count = stash.len();
@@ -60,6 +61,7 @@ pub fn close_flow<R: Wait>(
     requires pool { IsOf pool.now driver.pass }
     requires held { HoldsJust driver.pass.hand.held (parts_of driver) }
     ensures pool { IsOf pool.now result }
+    ensures share { result.hand.share ≡ driver.pass.hand.share }
     ensures none { result.hand.held ≡ [] }
 {
     let DriverParts {

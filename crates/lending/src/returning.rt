@@ -24,6 +24,7 @@ fn give_stash<R: Wait>(rt: &R, pool: &Pool, pass: &mut PoolPass, stash: &mut Sta
     requires pool { IsOf pool.now pass.old }
     requires held { HoldsAll pass.old.hand.held stash.old }
     ensures pool { IsOf pool.now pass.new }
+    ensures share { pass.new.hand.share ≡ pass.old.hand.share }
     ensures empty { stash.new ≡ [] }
     ensures given { GivenBack pass.old.hand.held stash.old pass.new.hand.held }
 {
@@ -41,6 +42,7 @@ pub fn give_packets<R: Wait>(
     requires pool { IsOf pool.now pass.old }
     requires held { HoldsAll pass.old.hand.held (numbers_in packets.old.items) }
     ensures pool { IsOf pool.now pass.new }
+    ensures share { pass.new.hand.share ≡ pass.old.hand.share }
     ensures empty { packets.new.items ≡ [] }
     ensures given { GivenBack pass.old.hand.held (numbers_in packets.old.items) pass.new.hand.held }
 {
@@ -53,6 +55,7 @@ fn give_packet<R: Wait>(rt: &R, pool: &Pool, pass: &mut PoolPass, mut packet: Pa
     requires pool { IsOf pool.now pass.old }
     requires held { HoldsAll pass.old.hand.held (numbers_of packet) }
     ensures pool { IsOf pool.now pass.new }
+    ensures share { pass.new.hand.share ≡ pass.old.hand.share }
     ensures given { GivenBack pass.old.hand.held (numbers_of packet) pass.new.hand.held }
 {
     while let Some(buf) = packet.pop_front() {
@@ -75,6 +78,7 @@ pub fn give_received<R: Wait>(
     requires held { HoldsAll pass.old.hand.held (stash.old ++ with_receiver rx.old) }
     ensures ring { rx.new.end.table ≡ rx.old.end.table }
     ensures pool { IsOf pool.now pass.new }
+    ensures share { pass.new.hand.share ≡ pass.old.hand.share }
     ensures emptied { received.IsEmptied rx.new }
     ensures stash { stash.new ≡ [] }
     ensures given { GivenBack pass.old.hand.held (stash.old ++ with_receiver rx.old) pass.new.hand.held }
@@ -101,6 +105,7 @@ pub fn give_sent<R: Wait>(
     requires held { HoldsAll pass.old.hand.held (stash.old ++ with_transmitter tx.old) }
     ensures ring { tx.new.end.table ≡ tx.old.end.table }
     ensures pool { IsOf pool.now pass.new }
+    ensures share { pass.new.hand.share ≡ pass.old.hand.share }
     ensures emptied { sent.IsEmptied tx.new }
     ensures stash { stash.new ≡ [] }
     ensures given { GivenBack pass.old.hand.held (stash.old ++ with_transmitter tx.old) pass.new.hand.held }

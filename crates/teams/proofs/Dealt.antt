@@ -1,9 +1,13 @@
 -- Dealing one item more, and taking one back.
-use Rattle.std.proofs.Common.{◌≡◌, ◌≢◌, ◌∙◌, ℕ, ◌+◌, ◌-◌, ◌<◌, ◌⊎◌, inl, inr, List, [], ◌∷◌, ◌++◌, refl, ap, sym, subst, length, zero, suc, get_or, set, arith}
+use Rattle.std.proofs.Common.{◌≡◌, ◌≢◌, ◌∙◌, ℕ, ◌+◌, ◌-◌, ◌<◌, ◌⊎◌, inl, inr, List, [], ◌∷◌, ◌++◌, refl, ap, sym, subst, length, map, zero, suc, get_or, set, arith, All, Vec, vec_capacity, ◌≤◌}
 use Rattle.std.proofs.lemmas.Bool.{cases_eq}
 use Rattle.std.proofs.lemmas.List.{get_or-set_other, length-set}
 use Rattle.std.proofs.lemmas.Grind.{get_or-set_at}
+use Rattle.std.proofs.lemmas.List.{length-map}
+use Rattle.std.proofs.lemmas.List.Elements.{All-set}
+use Rattle.std.specs.Global.{Global}
 use Rattle.teams.specs.Dealing.{every, IsDealt, Passes}
+use Rattle.teams.proofs.Lists.{mapped-at}
 
 -- how many others stand before the next item that is taken, after these
 abbrev pub after : {X : Type 0} → ℕ → ℕ → List X → ℕ
@@ -128,3 +132,19 @@ left-less count turn turn' x tail hands less in-row many passes is left w d low 
     others : w ≢ turn → (k : ℕ) × Gap count turn w k × (get_or hands w d ≡ every count k (x ∷ tail)) → (k : ℕ) × Gap count turn' w k × (get_or (set hands turn less) w d ≡ every count k tail)
     others other (zero, gap, at) = absurd (omega (arith, off-turn count turn w 0 in-row other gap))
     others other (suc k, gap, at) = (k, gap-more count turn turn' w (suc k) low passes gap, get_or-set_other hands turn w less d other ∙ at)
+
+-- empty hands were dealt nothing
+pub none-dealt : {X : Type 0} (hands : List (Vec X Global)) → All (λ h. h.items ≡ []) hands → IsDealt [] (map (λ h. h.items) hands)
+none-dealt hands none w d low = mapped-at (λ h. h.items) hands w [] d (omega (arith, low, length-map hands (λ h. h.items))) (λ e. none w e (omega (arith, low, length-map hands (λ h. h.items))))
+
+-- a hand has room for all, of which so many are not dealt yet
+abbrev pub HasRoom : {X : Type 0} → ℕ → ℕ → Vec X Global → Type 0
+HasRoom all left hand = (all ≤ vec_capacity hand) × (length hand.items + left ≤ all)
+
+pub rooms-first : {X : Type 0} (all left : ℕ) (hands : List (Vec X Global)) → left ≡ all → All (λ h. h.items ≡ []) hands → All (λ h. all ≤ vec_capacity h) hands → All (HasRoom all left) hands
+rooms-first all left hands same none room w d low = (room w d low, omega (arith, same, ap length (none w d low)))
+
+-- one item more is dealt to the hand whose turn it is
+pub rooms-less : {X : Type 0} (all left less : ℕ) (hands : List (Vec X Global)) (turn : ℕ) (more : Vec X Global) → left ≡ less + 1 → HasRoom all less more
+    → All (HasRoom all left) hands → All (HasRoom all less) (set hands turn more)
+rooms-less all left less hands turn more one has room = All-set (HasRoom all less) hands turn more has (λ w d low. (let h = room w d low in (h.0, omega (arith, h.1, one))))

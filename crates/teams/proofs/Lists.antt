@@ -27,26 +27,6 @@ All-first P xs x tail e all = (let h : All P (x ∷ tail) = subst (All P) e all 
 pub All-later : {X : Type 0} (P : X → Type 0) (xs : List X) (x : X) (tail : List X) → xs ≡ x ∷ tail → All P xs → All P tail
 All-later P xs x tail e all = (let h : All P (x ∷ tail) = subst (All P) e all in λ k d low. h (suc k) d (omega (arith, low)))
 
--- a list of which the first were taken, and what is seen of these afterwards
-pub begun : {A B C D : Type 0} (f : A → C) (given : B → A) (back : D → C) (xs : List A) (ws : List B) (ys : List D) (rest : List A)
-    → xs ≡ map given ws ++ rest → map back ys ≡ map (λ w. f (given w)) ws → map f xs ≡ map back ys ++ map f rest
-begun f given back xs ws ys rest first same =
-    ap (map f) first ∙ map-append f (map given ws) rest ∙ ap (λ l. l ++ map f rest) (map-map f given ws ∙ sym same)
-
--- where all were taken, nothing is left
-pub no-rest : {A B : Type 0} (given : B → A) (xs : List A) (ws : List B) (rest : List A)
-    → xs ≡ map given ws ++ rest → length ws ≡ length xs → rest ≡ []
-no-rest given xs ws rest first all = length-zero rest (omega (arith, all, ap length first, length-append (map given ws) rest, length-map ws given))
-
-pub begun-all : {A B C D : Type 0} (f : A → C) (given : B → A) (back : D → C) (xs : List A) (ws : List B) (ys : List D) (rest : List A)
-    → xs ≡ map given ws ++ rest → map back ys ≡ map (λ w. f (given w)) ws → length ws ≡ length xs → map back ys ≡ map f xs
-begun-all f given back xs ws ys rest first same all =
-    sym (begun f given back xs ws ys rest first same ∙ ap (λ r. map back ys ++ map f r) (no-rest given xs ws rest first all) ∙ append-nil (map back ys))
-
--- where none were taken
-pub none-begun : {A C D : Type 0} (f : A → C) (back : D → C) (xs : List A) (ys : List D) → ys ≡ [] → map f xs ≡ map back ys ++ map f xs
-none-begun f back xs ys none = sym (ap (λ l. map back l ++ map f xs) none)
-
 -- what was the first of the rest is now the last of those before it
 pub append-one : {X : Type 0} (done : List X) (x : X) (rest tail : List X) → rest ≡ x ∷ tail → done ++ rest ≡ (done ++ x ∷ []) ++ tail
 append-one [] x rest tail first = first

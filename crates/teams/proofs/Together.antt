@@ -20,25 +20,6 @@ so-worse answers gate A B C both Stopped Done a b = tt {0}
 so-worse answers gate A B C both Stopped (Refused e) a b = b
 so-worse answers gate A B C both Stopped Stopped a b = tt {0}
 
-pub worse-done : (x y : Ending) → worse x y ≡ Done → x ≡ Done
-worse-done Done y e = refl
-worse-done (Refused f) y e = e
-worse-done Stopped Done e = e
-worse-done Stopped (Refused f) e = search rules
-worse-done Stopped Stopped e = e
-
-pub worse-both-done : (x y : Ending) → worse x y ≡ Done → (x ≡ Done) × (y ≡ Done)
-worse-both-done Done y e = (refl, e)
-worse-both-done (Refused f) y e = search rules
-worse-both-done Stopped Done e = search rules
-worse-both-done Stopped (Refused f) e = search rules
-worse-both-done Stopped Stopped e = search rules
-
-pub none-is-done : (x : Ending) → refusal_of x ≡ None → x ≡ Done
-none-is-done Done e = refl
-none-is-done (Refused f) e = search rules
-none-is-done Stopped e = search rules
-
 -- what a flow's turn may be refused with, its worker may be
 pub met_halted : {G : Type 0} (answers : G → Who → Event → Bool → Type 0) (gate : G) (e : ForwardError) → Met answers gate e → Halted answers gate e
 met_halted answers gate Memory met = met

@@ -1,5 +1,5 @@
 -- The flows of several workers.
-use Rattle.std.specs.Prelude.{◌≡◌, Bool, true, List, ◌++◌, map, All, Vec}
+use Rattle.std.specs.Prelude.{◌≡◌, Bool, true, List, map, All, Vec, Result, Ok, Err}
 use Rattle.std.specs.Global.{Global}
 
 module _ {F : Type 0} where
@@ -10,6 +10,7 @@ module _ {F : Type 0} where
   abbrev pub AllOver : (F → Bool) → List (Vec F Global) → Type 0
   AllOver over hands = All (λ h. All (λ f. over f ≡ true) h.items) hands
 
--- the list begins with this one
-abbrev pub BeginsWith : {X : Type 0} → List X → List X → Type 0
-BeginsWith {X} xs front = (rest : List X) × (xs ≡ front ++ rest)
+-- what was given for a hand: as its worker was given it, or as it came back where none was started
+abbrev pub given_by : {W S X : Type 0} → (W → X) → (S → X) → Result W S → X
+given_by of_worker of_back (Ok worker) = of_worker worker
+given_by of_worker of_back (Err back) = of_back back

@@ -6,19 +6,21 @@ ghost use Rattle.teams.specs.Hands.{hand_keys, AllOver};
 use forwarding::Flow;
 use std::alloc::{AllocError, Global};
 
-/// Deals items to so many hands in turn: item `f` goes to hand `f mod count`. Each hand keeps the order.
-pub fn deal<T: Drop>(alloc: Global, items: Vec<T>, count: usize) -> Result<Vec<Vec<T>>, AllocError>
-    requires { 0 < count }
-    ensures count { IfOk result (λ hands. vec_len hands ≡ count) }
-    ensures dealt { IfOk result (λ hands. IsDealt items.items (map (λ h. h.items) hands.items)) }
+/// Deals items to hands in turn: of `count` hands, item `f` goes to hand `f mod count`. Each hand keeps the
+/// order. The hands are empty, and each has room for all items.
+pub fn deal<T: Drop>(items: Vec<T>, mut hands: Vec<Vec<T>>) -> Vec<Vec<T>>
+    requires some { 0 < vec_len hands }
+    requires none { All (λ h. h.items ≡ []) hands.items }
+    requires room { All (λ h. vec_len items ≤ vec_capacity h) hands.items }
+    ensures count { vec_len result ≡ vec_len hands }
+    ensures dealt { IsDealt items.items (map (λ h. h.items) result.items) }
 {
-    let mut hands = empty_hands(alloc, count)?;
     let mut turn = 0;
     for item in items {
-        hands[turn].push(item)?;
-        turn = next_turn(turn, count);
+        hands[turn].push_reserved(item);
+        turn = next_turn(turn, hands.len());
     }
-    Ok(hands)
+    hands
 }
 
 /// The hand whose turn is next.
@@ -30,14 +32,19 @@ fn next_turn(turn: usize, count: usize) -> usize
     if turn + 1 == count { 0 } else { turn + 1 }
 }
 
-/// So many empty hands.
-fn empty_hands<T: Drop>(alloc: Global, count: usize) -> Result<Vec<Vec<T>>, AllocError>
+/// So many empty hands, each with room for so many items.
+pub fn empty_hands<T: Drop>(
+    alloc: Global,
+    count: usize,
+    room: usize,
+) -> Result<Vec<Vec<T>>, AllocError>
     ensures count { IfOk result (λ hands. vec_len hands ≡ count) }
-    ensures empty { IfOk result (λ hands. IsDealt [] (map (λ h. h.items) hands.items)) }
+    ensures empty { IfOk result (λ hands. All (λ h. h.items ≡ []) hands.items) }
+    ensures room { IfOk result (λ hands. All (λ h. room ≤ vec_capacity h) hands.items) }
 {
     let mut hands = Vec::with_capacity(alloc, count)?;
     for _ in 0..count {
-        hands.push(Vec::new(alloc))?;
+        hands.push_reserved(Vec::with_capacity(alloc, room)?);
     }
     Ok(hands)
 }

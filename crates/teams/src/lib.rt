@@ -14,5 +14,5 @@ mod running;
 mod serving;
 mod team;
 
-pub use dealing::{deal, gather};
+pub use dealing::{deal, empty_hands, gather};
 pub use running::{Ran, run_teams};

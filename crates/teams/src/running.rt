@@ -1,9 +1,9 @@
 //! Both sides' workers at once.
 ghost use Rattle.std.specs.Prelude.{◌≡◌, ◌≤◌, [], None, IfOk, IfSome, vec_capacity};
-ghost use Rattle.teams.specs.Hands.{hand_keys, AllOver, BeginsWith};
+ghost use Rattle.teams.specs.Hands.{hand_keys, AllOver};
 ghost use Rattle.teams.specs.Refusals.{Halted};
 
-use crate::team::{join_each, start};
+use crate::team::{Begun, join_each, start};
 use forwarding::{Flow, ForwardError, Gate};
 use std::alloc::{AllocError, Global};
 use std::sync::Wait;
@@ -11,8 +11,7 @@ use std::sync::atomic::AtomicBool;
 use std::thread;
 use std::thread::{Scope, Threads};
 
-/// The flows of both sides, hand by hand, as far as workers were started for them, and why they ended
-/// before all were over, if they did.
+/// The flows of both sides, hand by hand, and why they ended before all were over, if they did.
 #[derive(Drop)]
 pub struct Ran<D: Drop, C: Drop> {
     pub drivers: Vec<Vec<D>>,
@@ -23,7 +22,7 @@ pub struct Ran<D: Drop, C: Drop> {
 /// Serves each hand by a worker in a thread of its own, until all flows are over or a refusal was met,
 /// and joins every worker that was started. The first refusal to set the stop word is the one that is
 /// answered: `Memory` where a growth was refused, `Thread` where a thread couldn't be started, or what a
-/// flow's turn was refused with. The flows of a worker that couldn't be started are dropped.
+/// flow's turn was refused with. All flows come back, also those of a worker that couldn't be started.
 pub fn run_teams<D: Flow, C: Flow, R: Threads + Wait + Sync, G: Gate + Sync>(
     rt: &R,
     alloc: Global,
@@ -31,9 +30,8 @@ pub fn run_teams<D: Flow, C: Flow, R: Threads + Wait + Sync, G: Gate + Sync>(
     drivers: Vec<Vec<D>>,
     controllers: Vec<Vec<C>>,
 ) -> Ran<D, C>
-    ensures drivers { BeginsWith (hand_keys D.key drivers.items) (hand_keys D.key result.drivers.items) }
-    ensures controllers { BeginsWith (hand_keys C.key controllers.items) (hand_keys C.key result.controllers.items) }
-    ensures all { result.refusal ≡ None → (hand_keys D.key result.drivers.items ≡ hand_keys D.key drivers.items) × (hand_keys C.key result.controllers.items ≡ hand_keys C.key controllers.items) }
+    ensures drivers { hand_keys D.key result.drivers.items ≡ hand_keys D.key drivers.items }
+    ensures controllers { hand_keys C.key result.controllers.items ≡ hand_keys C.key controllers.items }
     ensures over { result.refusal ≡ None → AllOver D.over result.drivers.items × AllOver C.over result.controllers.items }
     ensures refused { IfSome result.refusal (λ e. Halted G.answers gate.now e) }
 {
@@ -43,9 +41,8 @@ pub fn run_teams<D: Flow, C: Flow, R: Threads + Wait + Sync, G: Gate + Sync>(
         thread::scope_env(),
         rt,
         |scope| -> Ran<D, C>
-            ensures drivers { BeginsWith (hand_keys D.key drivers.items) (hand_keys D.key result.drivers.items) }
-            ensures controllers { BeginsWith (hand_keys C.key controllers.items) (hand_keys C.key result.controllers.items) }
-            ensures all { result.refusal ≡ None → (hand_keys D.key result.drivers.items ≡ hand_keys D.key drivers.items) × (hand_keys C.key result.controllers.items ≡ hand_keys C.key controllers.items) }
+            ensures drivers { hand_keys D.key result.drivers.items ≡ hand_keys D.key drivers.items }
+            ensures controllers { hand_keys C.key result.controllers.items ≡ hand_keys C.key controllers.items }
             ensures over { result.refusal ≡ None → AllOver D.over result.drivers.items × AllOver C.over result.controllers.items }
             ensures refused { IfSome result.refusal (λ e. Halted G.answers gate.entry.now e) }
         { run_in(scope, rt, alloc, shared, gate, drivers, controllers) },
@@ -62,23 +59,25 @@ fn run_in<'s, 'e: 's, D: Flow + 's, C: Flow + 's, R: Threads + Wait + Sync, G: G
     drivers: Vec<Vec<D>>,
     controllers: Vec<Vec<C>>,
 ) -> Ran<D, C>
-    ensures drivers { BeginsWith (hand_keys D.key drivers.items) (hand_keys D.key result.drivers.items) }
-    ensures controllers { BeginsWith (hand_keys C.key controllers.items) (hand_keys C.key result.controllers.items) }
-    ensures all { result.refusal ≡ None → (hand_keys D.key result.drivers.items ≡ hand_keys D.key drivers.items) × (hand_keys C.key result.controllers.items ≡ hand_keys C.key controllers.items) }
+    ensures drivers { hand_keys D.key result.drivers.items ≡ hand_keys D.key drivers.items }
+    ensures controllers { hand_keys C.key result.controllers.items ≡ hand_keys C.key controllers.items }
     ensures over { result.refusal ≡ None → AllOver D.over result.drivers.items × AllOver C.over result.controllers.items }
     ensures refused { IfSome result.refusal (λ e. Halted G.answers gate.now e) }
 {
-    let Ok((driven, served)) = rooms(alloc, drivers.len(), controllers.len()) else {
+    let (Ok(driven), Ok(served)) = (
+        Rooms::of(alloc, drivers.len()),
+        Rooms::of(alloc, controllers.len()),
+    ) else {
         return Ran {
-            drivers: Vec::new(alloc),
-            controllers: Vec::new(alloc),
+            drivers,
+            controllers,
             refusal: Some(ForwardError::Memory),
         };
     };
-    let drivers = start(scope, rt, alloc, stop, gate, drivers);
-    let controllers = start(scope, rt, alloc, stop, gate, controllers);
-    let drivers = join_each(rt, gate, drivers, driven);
-    let controllers = join_each(rt, gate, controllers, served);
+    let drivers = start(scope, rt, stop, gate, drivers, driven.team);
+    let controllers = start(scope, rt, stop, gate, controllers, served.team);
+    let drivers = join_each(rt, gate, drivers, driven.hands);
+    let controllers = join_each(rt, gate, controllers, served.hands);
     Ran {
         drivers: drivers.hands,
         controllers: controllers.hands,
@@ -86,17 +85,21 @@ fn run_in<'s, 'e: 's, D: Flow + 's, C: Flow + 's, R: Threads + Wait + Sync, G: G
     }
 }
 
-/// Two empty lists with room for so many items each.
-fn rooms<D: Drop, C: Drop>(
-    alloc: Global,
-    drivers: usize,
-    controllers: usize,
-) -> Result<(Vec<D>, Vec<C>), AllocError>
-    ensures empty { IfOk result (λ r. (r.0.items ≡ []) × (r.1.items ≡ [])) }
-    ensures drivers { IfOk result (λ r. drivers ≤ vec_capacity r.0) }
-    ensures controllers { IfOk result (λ r. controllers ≤ vec_capacity r.1) }
-{
-    let driven = Vec::with_capacity(alloc, drivers)?;
-    let served = Vec::with_capacity(alloc, controllers)?;
-    Ok((driven, served))
+/// Room for the workers of one side, and for the hands that they give back.
+#[derive(Drop)]
+struct Rooms<'e, F: Flow, G: Gate> {
+    team: Vec<Begun<'e, F, G>>,
+    hands: Vec<Vec<F>>,
+}
+
+impl<'e, F: Flow, G: Gate> Rooms<'e, F, G> {
+    /// Empty lists with room for so many hands.
+    fn of(alloc: Global, count: usize) -> Result<Rooms<'e, F, G>, AllocError>
+        ensures empty { IfOk result (λ r. (r.team.items ≡ []) × (r.hands.items ≡ [])) }
+        ensures room { IfOk result (λ r. (count ≤ vec_capacity r.team) × (count ≤ vec_capacity r.hands)) }
+    {
+        let team = Vec::with_capacity(alloc, count)?;
+        let hands = Vec::with_capacity(alloc, count)?;
+        Ok(Rooms { team, hands })
+    }
 }

@@ -4,7 +4,7 @@ ghost use Rattle.std.specs.Prelude.{◌<◌, IfOk, vec_len};
 use forwarding::{Event, Flow, ForwardError, Gate, Progress, Who, admit};
 use std::alloc::{AllocError, Global};
 use std::sync::Wait;
-use teams::deal;
+use teams::{deal, empty_hands};
 
 /// So many turns never end.
 pub(crate) const ENDLESS: u32 = u32::MAX;
@@ -70,7 +70,8 @@ pub(crate) fn dealt(
         let left = turns[number];
         flows.push(Turns { number, left })?;
     }
-    deal(alloc, flows, workers)
+    let hands = empty_hands(alloc, workers, flows.len())?;
+    Ok(deal(flows, hands))
 }
 
 /// The numbers of the flows, hand by hand, as the digits of one number, each one more than the flow's; a 0 stands for a

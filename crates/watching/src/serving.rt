@@ -1,5 +1,5 @@
 //! Both sides of all flows, served while others watch them.
-ghost use Rattle.std.specs.Prelude.{◌≡◌, ◌<◌, true, None, All, IfOk, IfErr, IfSome, length, map, vec_len};
+ghost use Rattle.std.specs.Prelude.{◌≡◌, ◌<◌, true, None, All, IfSome, length, map, vec_len};
 ghost use Rattle.controller.specs.Tallying.{nothing};
 ghost use Rattle.counters.specs.Paired.{ArePaired};
 ghost use Rattle.flows.specs.Counting.{driven, none, offered};
@@ -7,7 +7,7 @@ ghost use Rattle.flows.specs.Driven.{is_over};
 ghost use Rattle.teams.specs.Refusals.{Halted};
 ghost use Rattle.watching.specs.Watching.{ArePensOf, driven_shown, offered_shown};
 
-use crate::wrapping::{make_room, unwrap_all, wrap_all};
+use crate::wrapping::{Unwrapped, Wrapped, unwrap_all, wrap_all};
 use counters::{FlowCells, FlowPens};
 use flows::{ControllerFlow, DriverFlow, Served, serve_flows};
 use forwarding::{ForwardError, Gate};
@@ -34,31 +34,42 @@ pub fn serve_watched<'a, R: Threads + Wait + Sync, G: Gate + Sync>(
     cells: &'a [FlowCells],
     pens: Vec<FlowPens>,
     workers: usize,
-) -> Result<Shown<'a>, ForwardError>
+) -> Shown<'a>
     requires some { 0 < workers }
     requires flows { (vec_len drivers ≡ length cells.now) × (vec_len controllers ≡ length cells.now) }
     requires pens { ArePaired cells.now pens.items }
     requires counts { All (λ f. f.counts ≡ none) drivers.items }
     requires tallies { All (λ f. f.tally ≡ nothing) controllers.items }
-    ensures halted { IfErr result (λ e. Halted G.answers gate.now e) }
-    ensures refused { IfOk result (λ s. IfSome s.served.refusal (λ e. Halted G.answers gate.now e)) }
-    ensures drivers { IfOk result (λ s. map (λ f. f.key) s.served.drivers.items ≡ map (λ f. f.key) drivers.entry.items) }
-    ensures controllers { IfOk result (λ s. map (λ f. f.key) s.served.controllers.items ≡ map (λ f. f.key) controllers.entry.items) }
-    ensures over { IfOk result (λ s. s.served.refusal ≡ None → All (λ f. is_over f.phase ≡ true) s.served.drivers.items) }
-    ensures pens { IfOk result (λ s. ArePensOf cells.entry.now s.pens.items) }
-    ensures driven { IfOk result (λ s. map driven_shown s.pens.items ≡ map (λ f. driven f.counts) s.served.drivers.items) }
-    ensures offered { IfOk result (λ s. map offered_shown s.pens.items ≡ map (λ f. offered f.tally) s.served.controllers.items) }
+    ensures refused { IfSome result.served.refusal (λ e. Halted G.answers gate.now e) }
+    ensures drivers { map (λ f. f.key) result.served.drivers.items ≡ map (λ f. f.key) drivers.entry.items }
+    ensures controllers { map (λ f. f.key) result.served.controllers.items ≡ map (λ f. f.key) controllers.entry.items }
+    ensures over { result.served.refusal ≡ None → All (λ f. is_over f.phase ≡ true) result.served.drivers.items }
+    ensures pens { ArePensOf cells.entry.now result.pens.items }
+    ensures driven { map driven_shown result.pens.items ≡ map (λ f. driven f.counts) result.served.drivers.items }
+    ensures offered { map offered_shown result.pens.items ≡ map (λ f. offered f.tally) result.served.controllers.items }
 {
-    let room = make_room(alloc, cells.len())?;
-    let flows = wrap_all(alloc, drivers, controllers, cells, pens)?;
-    let served = serve_flows(rt, alloc, gate, flows.drivers, flows.controllers, workers)?;
-    let back = unwrap_all(served.drivers, served.controllers, room);
-    Ok(Shown {
+    let count = cells.len();
+    let (Ok(rooms), Ok(back)) = (Wrapped::rooms(alloc, count), Unwrapped::rooms(alloc, count))
+    else {
+        let refusal = Some(ForwardError::Memory);
+        return Shown {
+            served: Served {
+                drivers,
+                controllers,
+                refusal,
+            },
+            pens,
+        };
+    };
+    let flows = wrap_all(drivers, controllers, cells, pens, rooms);
+    let served = serve_flows(rt, alloc, gate, flows.drivers, flows.controllers, workers);
+    let back = unwrap_all(served.drivers, served.controllers, back);
+    Shown {
         served: Served {
             drivers: back.drivers,
             controllers: back.controllers,
             refusal: served.refusal,
         },
         pens: back.pens,
-    })
+    }
 }

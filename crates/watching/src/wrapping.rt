@@ -1,16 +1,14 @@
 //! Flows are given their cells, and taken from them again.
-ghost use Rattle.std.specs.Prelude.{◌≡◌, ◌≤◌, All, [], IfOk, IfErr, length, map, vec_len, vec_capacity};
+ghost use Rattle.std.specs.Prelude.{◌≡◌, ◌≤◌, All, [], IfOk, length, map, vec_len, vec_capacity};
 ghost use Rattle.controller.specs.Tallying.{nothing};
 ghost use Rattle.counters.specs.Paired.{ArePaired};
 ghost use Rattle.flows.specs.Counting.{driven, none, offered};
-ghost use Rattle.forwarding.specs.declared.error.ForwardError.TheVariants.{Memory};
 ghost use Rattle.watching.specs.Watching.{driven_shown, offered_shown};
 
 use crate::watched::Watched;
 use counters::{Driven, FlowCells, FlowPens, Offered};
 use flows::{ControllerFlow, DriverFlow};
-use forwarding::ForwardError;
-use std::alloc::Global;
+use std::alloc::{AllocError, Global};
 
 /// Both sides of all flows, each with its cell, in the order of the flows.
 #[derive(Drop)]
@@ -27,44 +25,60 @@ pub(crate) struct Unwrapped<'a> {
     pub pens: Vec<FlowPens>,
 }
 
-/// Room for so many flows.
-pub(crate) fn make_room<'a>(alloc: Global, flows: usize) -> Result<Unwrapped<'a>, ForwardError>
-    ensures refused { IfErr result (λ e. e ≡ Memory) }
-    ensures drivers { IfOk result (λ r. (r.drivers.items ≡ []) × (flows ≤ vec_capacity r.drivers)) }
-    ensures controllers { IfOk result (λ r. (r.controllers.items ≡ []) × (flows ≤ vec_capacity r.controllers)) }
-    ensures pens { IfOk result (λ r. (r.pens.items ≡ []) × (flows ≤ vec_capacity r.pens)) }
-{
-    let drivers = Vec::with_capacity(alloc, flows)?;
-    let controllers = Vec::with_capacity(alloc, flows)?;
-    let pens = Vec::with_capacity(alloc, flows)?;
-    Ok(Unwrapped {
-        drivers,
-        controllers,
-        pens,
-    })
+impl<'a> Wrapped<'a> {
+    /// Room for so many flows.
+    pub(crate) fn rooms(alloc: Global, flows: usize) -> Result<Wrapped<'a>, AllocError>
+        ensures drivers { IfOk result (λ r. (r.drivers.items ≡ []) × (flows ≤ vec_capacity r.drivers)) }
+        ensures controllers { IfOk result (λ r. (r.controllers.items ≡ []) × (flows ≤ vec_capacity r.controllers)) }
+    {
+        let drivers = Vec::with_capacity(alloc, flows)?;
+        let controllers = Vec::with_capacity(alloc, flows)?;
+        Ok(Wrapped {
+            drivers,
+            controllers,
+        })
+    }
 }
 
-/// Gives both sides of each flow their cells. No flow has counted anything yet, and no pen has written anything.
+impl<'a> Unwrapped<'a> {
+    /// Room for so many flows.
+    pub(crate) fn rooms(alloc: Global, flows: usize) -> Result<Unwrapped<'a>, AllocError>
+        ensures drivers { IfOk result (λ r. (r.drivers.items ≡ []) × (flows ≤ vec_capacity r.drivers)) }
+        ensures controllers { IfOk result (λ r. (r.controllers.items ≡ []) × (flows ≤ vec_capacity r.controllers)) }
+        ensures pens { IfOk result (λ r. (r.pens.items ≡ []) × (flows ≤ vec_capacity r.pens)) }
+    {
+        let drivers = Vec::with_capacity(alloc, flows)?;
+        let controllers = Vec::with_capacity(alloc, flows)?;
+        let pens = Vec::with_capacity(alloc, flows)?;
+        Ok(Unwrapped {
+            drivers,
+            controllers,
+            pens,
+        })
+    }
+}
+
+/// Gives both sides of each flow their cells, in room that was there before. No flow has counted anything yet, and no pen
+/// has written anything.
 pub(crate) fn wrap_all<'a>(
-    alloc: Global,
     drivers: Vec<DriverFlow<'a>>,
     controllers: Vec<ControllerFlow<'a>>,
     cells: &'a [FlowCells],
     pens: Vec<FlowPens>,
-) -> Result<Wrapped<'a>, ForwardError>
+    mut rooms: Wrapped<'a>,
+) -> Wrapped<'a>
     requires flows { (vec_len drivers ≡ length cells.now) × (vec_len controllers ≡ length cells.now) }
     requires count { vec_len pens ≡ length cells.now }
     requires pens { ArePaired cells.now pens.items }
     requires counts { All (λ f. f.counts ≡ none) drivers.items }
     requires tallies { All (λ f. f.tally ≡ nothing) controllers.items }
-    ensures refused { IfErr result (λ e. e ≡ Memory) }
-    ensures drivers { IfOk result (λ r. map (λ w. w.flow) r.drivers.items ≡ drivers.entry.items) }
-    ensures controllers { IfOk result (λ r. map (λ w. w.flow) r.controllers.items ≡ controllers.entry.items) }
-    ensures drive { IfOk result (λ r. map (λ w. w.pen.cell) r.drivers.items ≡ map (λ c. c.drive) cells.entry.now) }
-    ensures stat { IfOk result (λ r. map (λ w. w.pen.cell) r.controllers.items ≡ map (λ c. c.stat) cells.entry.now) }
+    requires none { (rooms.drivers.items ≡ []) × (rooms.controllers.items ≡ []) }
+    requires room { (length cells.now ≤ vec_capacity rooms.drivers) × (length cells.now ≤ vec_capacity rooms.controllers) }
+    ensures drivers { map (λ w. w.flow) result.drivers.items ≡ drivers.entry.items }
+    ensures controllers { map (λ w. w.flow) result.controllers.items ≡ controllers.entry.items }
+    ensures drive { map (λ w. w.pen.cell) result.drivers.items ≡ map (λ c. c.drive) cells.entry.now }
+    ensures stat { map (λ w. w.pen.cell) result.controllers.items ≡ map (λ c. c.stat) cells.entry.now }
 {
-    let mut watched = Vec::with_capacity(alloc, cells.len())?;
-    let mut shown = Vec::with_capacity(alloc, cells.len())?;
     let mut controllers = controllers.into_iter();
     let mut pens = pens.into_iter();
     let mut number = 0;
@@ -76,14 +90,11 @@ pub(crate) fn wrap_all<'a>(
             unreachable!()
         };
         let cell = &cells[number];
-        watched.push_reserved(Watched::new(driver, &cell.drive, own.drive));
-        shown.push_reserved(Watched::new(controller, &cell.stat, own.stat));
+        rooms.drivers.push_reserved(Watched::new(driver, &cell.drive, own.drive));
+        rooms.controllers.push_reserved(Watched::new(controller, &cell.stat, own.stat));
         number += 1;
     }
-    Ok(Wrapped {
-        drivers: watched,
-        controllers: shown,
-    })
+    rooms
 }
 
 /// Takes both sides of each flow from their cells. The room for what comes back was there before.

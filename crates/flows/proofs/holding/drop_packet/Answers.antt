@@ -1,4 +1,4 @@
-use Rattle.std.proofs.Common.{◌++◌, List, ap, refl}
+use Rattle.std.proofs.Common.{◌∙◌, ◌++◌, List, ap, refl}
 use Rattle.buffer_pool.specs.Buffer.{Buffer}
 use Rattle.driver.specs.receive.Returns.{numbers_of}
 use Rattle.flows.proofs.Holds.{keeps-on, holds-on, is-held, gave-one, moved-one}
@@ -15,6 +15,7 @@ loop-buf-preserved-then-is_full g c =
     let l = c.loop-buf in let held = c.args.pass.now.hand.held in let had = c.args.stash.now ++ numbers_of c.args.packet in let now = l.stash ++ numbers_of l.packet in
     let holds = holds-on held had l.pass.hand.held now c.requires.held l.invariant.kept in record {
       pool = c.give.ensures.pool;
+      share = c.give.ensures.given.share ∙ l.invariant.share;
       kept = keeps-on held had l.pass.hand.held now c.give.new.pass.hand.held (l.stash ++ numbers_of c.pop_front.new.self) l.invariant.kept
           (gave-one l.pass.hand.held now c.give.new.pass.hand.held (l.stash ++ numbers_of c.pop_front.new.self) c.in-Some.buf.number l.stash (numbers_of c.pop_front.new.self)
           (ap (λ (p : List Buffer). l.stash ++ numbers_of p) c.in-Some.ensures.rest) refl holds c.give.ensures.given.held);
@@ -24,6 +25,7 @@ pub loop-buf-preserved : goal.loop-buf-preserved
 loop-buf-preserved g c =
     let l = c.loop-buf in let held = c.args.pass.now.hand.held in let had = c.args.stash.now ++ numbers_of c.args.packet in let now = l.stash ++ numbers_of l.packet in record {
       pool = l.invariant.pool;
+      share = l.invariant.share;
       kept = keeps-on held had l.pass.hand.held now l.pass.hand.held (c.push.new.self ++ numbers_of c.pop_front.new.self) l.invariant.kept
           (moved-one l.pass.hand.held now (c.push.new.self ++ numbers_of c.pop_front.new.self) c.in-Some.buf.number l.stash (numbers_of c.pop_front.new.self)
           (ap (λ (p : List Buffer). l.stash ++ numbers_of p) c.in-Some.ensures.rest) (ap (λ l. l ++ numbers_of c.pop_front.new.self) c.push.ensures));

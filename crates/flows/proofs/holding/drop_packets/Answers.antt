@@ -1,4 +1,4 @@
-use Rattle.std.proofs.Common.{[], ◌∷◌, ◌++◌, ◌≡◌, rules}
+use Rattle.std.proofs.Common.{[], ◌∷◌, ◌++◌, ◌≡◌, ◌∙◌, rules}
 use Rattle.driver.specs.transmit.Frames.{numbers_in}
 use Rattle.flows.proofs.Holds.{keeps-on, holds-on, holds-last, drops-one}
 use Rattle.flows.proofs.holding.drop_packets.Goals as goal
@@ -14,6 +14,7 @@ loop-packet-preserved g c =
     let l = c.loop-packet in let held = c.args.pass.now.hand.held in let had = c.args.stash.now ++ numbers_in c.args.packets.now.items in
     let split : l.packets.items ≡ c.pop.new.self.items ++ c.in-Some.packet ∷ [] = search rules in record {
       pool = c.drop_packet.ensures.pool;
+      share = c.drop_packet.ensures.share ∙ l.invariant.share;
       count = l.invariant.count;
       few = l.invariant.few;
       kept = keeps-on held had l.pass.hand.held (l.stash ++ numbers_in l.packets.items) c.drop_packet.new.pass.hand.held (c.drop_packet.new.stash ++ numbers_in c.pop.new.self.items) l.invariant.kept

@@ -8,6 +8,7 @@ use Rattle.flows.proofs.holding.drop_packets.Given as goal
 abbrev pub invariant-loop-packet : goal.invariant-loop-packet
 invariant-loop-packet g l = record {
   pool : IsOf l.pool l.pass;
+  share : l.pass.hand.share ≡ l.fn.pass.hand.share;
   count : l.count ≡ length l.fn.packets.items;
   few : l.count ≤ MOST_BATCH;
   kept : Keeps l.fn.pass.hand.held (l.fn.stash ++ numbers_in l.fn.packets.items) l.pass.hand.held (l.stash ++ numbers_in l.packets.items);

@@ -58,6 +58,7 @@ loop-driver-preserved c =
       room = search rules;
       len = search rules;
       pool = c.conclude_flow-report.ensures.pool;
+      share = (let more = c.conclude_flow-report.ensures.share in let so = was.share in search rules);
       held = c.conclude_flow-report.ensures.held ∙ was.held;
       driven = moved (map driven_in reports) (map driven_in reports') (map (λ f. driven f.counts) (into_iter_items c.loop-driver.driver-iterator)) (map (λ f. driven f.counts) (into_iter_items c.next.new.self)) (map (λ f. driven f.counts) drivers) (driven driver.counts) was.driven
           (ap (map (λ f. driven f.counts)) c.in-Some.ensures.steps.0) (ap (map driven_in) pushed ∙ map-append driven_in reports (report ∷ []) ∙ ap (λ n. map driven_in reports ++ n ∷ []) c.conclude_flow-report.ensures.driven);

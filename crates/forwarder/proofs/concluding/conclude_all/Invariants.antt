@@ -18,6 +18,7 @@ invariant-loop-driver l =
       room : length l.lines ≤ vec_capacity l.reports;
       len : vec_len l.reports ≡ l.number;
       pool : IsOf l.pool l.pass;
+      share : l.pass.hand.share ≡ l.initial.pass.hand.share + l.number;
       held : l.pass.hand.held ≡ l.initial.pass.hand.held;
       driven : map driven_in (vec_items l.reports) ++ map (λ f. driven f.counts) (into_iter_items l.driver-iterator) ≡ map (λ f. driven f.counts) l.fn.drivers.items;
       offered : map offered_in (vec_items l.reports) ++ map (λ f. offered f.tally) (into_iter_items l.controllers) ≡ map (λ f. offered f.tally) l.fn.controllers.items;

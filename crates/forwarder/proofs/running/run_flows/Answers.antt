@@ -13,53 +13,53 @@ use Rattle.forwarder.proofs.running.run_flows.Goals.{then-is_some, else-is_some}
 pub stop_all-requires-clause-flows : goal.stop_all-requires-clause-flows
 stop_all-requires-clause-flows g c =
     let sides = c.in_ok-sides.sides in
-    let served = c.in_ok-shown.shown.served in
-    let ds : length (map (λ f. f.key) served.drivers.items) ≡ length (map (λ f. f.key) sides.drivers.items) = ap length c.in_ok-shown.ensures.drivers in
-    let cs : length (map (λ f. f.key) served.controllers.items) ≡ length (map (λ f. f.key) sides.controllers.items) = ap length c.in_ok-shown.ensures.controllers in
+    let served = c.serve_sides-shown.result.served in
+    let ds : length (map (λ f. f.key) served.drivers.items) ≡ length (map (λ f. f.key) sides.drivers.items) = ap length c.serve_sides-shown.ensures.drivers in
+    let cs : length (map (λ f. f.key) served.controllers.items) ≡ length (map (λ f. f.key) sides.controllers.items) = ap length c.serve_sides-shown.ensures.controllers in
     (search (rules, length-map, ds), search (rules, length-map, cs))
 
 pub stop_all-requires-clause-lines : goal.stop_all-requires-clause-lines
 stop_all-requires-clause-lines g c =
     let sides = c.in_ok-sides.sides in
-    let served = c.in_ok-shown.shown.served in
+    let served = c.serve_sides-shown.result.served in
     lines-of c.args.pool.now (PORTS * c.args.config.now.pairs) (length c.args.lines.now) (plan c.args.config.now c.args.script.now) c.args.lines.now
     (map (λ f. f.key) sides.drivers.items) (map (λ f. f.key) served.drivers.items) (map (λ f. f.key) sides.controllers.items) (map (λ f. f.key) served.controllers.items)
-    (sym c.requires.flows.0) c.in_ok-shown.ensures.drivers c.in_ok-shown.ensures.controllers c.in_ok-sides.ensures.sides
+    (sym c.requires.flows.0) c.serve_sides-shown.ensures.drivers c.serve_sides-shown.ensures.controllers c.in_ok-sides.ensures.sides
 
 pub conclude_all-flows-requires-clause-flows : goal.conclude_all-flows-requires-clause-flows
 conclude_all-flows-requires-clause-flows g c =
     let sides = c.in_ok-sides.sides in
-    let served = c.in_ok-shown.shown.served in
-    let ds : length (map (λ f. f.key) served.drivers.items) ≡ length (map (λ f. f.key) sides.drivers.items) = ap length c.in_ok-shown.ensures.drivers in
-    let cs : length (map (λ f. f.key) served.controllers.items) ≡ length (map (λ f. f.key) sides.controllers.items) = ap length c.in_ok-shown.ensures.controllers in
+    let served = c.serve_sides-shown.result.served in
+    let ds : length (map (λ f. f.key) served.drivers.items) ≡ length (map (λ f. f.key) sides.drivers.items) = ap length c.serve_sides-shown.ensures.drivers in
+    let cs : length (map (λ f. f.key) served.controllers.items) ≡ length (map (λ f. f.key) sides.controllers.items) = ap length c.serve_sides-shown.ensures.controllers in
     (search (rules, length-map, ds), search (rules, length-map, cs))
 
 pub conclude_all-flows-requires-clause-lines : goal.conclude_all-flows-requires-clause-lines
 conclude_all-flows-requires-clause-lines g c =
     let sides = c.in_ok-sides.sides in
-    let served = c.in_ok-shown.shown.served in
+    let served = c.serve_sides-shown.result.served in
     lines-of c.args.pool.now (PORTS * c.args.config.now.pairs) (length c.args.lines.now) (plan c.args.config.now c.args.script.now) c.args.lines.now
     (map (λ f. f.key) sides.drivers.items) (map (λ f. f.key) served.drivers.items) (map (λ f. f.key) sides.controllers.items) (map (λ f. f.key) served.controllers.items)
-    (sym c.requires.flows.0) c.in_ok-shown.ensures.drivers c.in_ok-shown.ensures.controllers c.in_ok-sides.ensures.sides
+    (sym c.requires.flows.0) c.serve_sides-shown.ensures.drivers c.serve_sides-shown.ensures.controllers c.in_ok-sides.ensures.sides
 
 pub returns-clause-reports : goal.returns-clause-reports
 returns-clause-reports g c = λ none flow r low.
     let sides = c.in_ok-sides.sides in
-    let served = c.in_ok-shown.shown.served in
+    let served = c.serve_sides-shown.result.served in
     let n = length c.args.lines.now in
     let plans = plan c.args.config.now c.args.script.now in
     let ds = map (λ f. f.key) sides.drivers.items in
     let cs = map (λ f. f.key) sides.controllers.items in
     let ds' = map (λ f. f.key) served.drivers.items in
     let cs' = map (λ f. f.key) served.controllers.items in
-    let ds_long : length ds' ≡ length ds = ap length c.in_ok-shown.ensures.drivers in
-    let cs_long : length cs' ≡ length cs = ap length c.in_ok-shown.ensures.controllers in
+    let ds_long : length ds' ≡ length ds = ap length c.serve_sides-shown.ensures.drivers in
+    let cs_long : length cs' ≡ length cs = ap length c.serve_sides-shown.ensures.controllers in
     let many : length ds' ≡ n = search (rules, length-map, ds_long) in
     let many' : length cs' ≡ n = search (rules, length-map, cs_long) in
     elim c.if-is_some.branch [
       | then-is_some w ↦ absurd (false≢true (sym (w.if-is_some.ensures ∙ ap is_some none)))
       | else-is_some w ↦ subst (λ p. IsReport (plans flow) (slice_index_or p.0.items flow r)) (sym w.flows-is)
           (reports-of c.args.pool.now n plans c.args.lines.now ds' cs' w.conclude_all-flows.result.items (omega arith) many many'
-          (sides-at c.args.pool.now (PORTS * c.args.config.now.pairs) n plans c.args.lines.now ds ds' cs cs' (sym c.requires.flows.0) c.in_ok-shown.ensures.drivers c.in_ok-shown.ensures.controllers c.in_ok-sides.ensures.sides)
+          (sides-at c.args.pool.now (PORTS * c.args.config.now.pairs) n plans c.args.lines.now ds ds' cs cs' (sym c.requires.flows.0) c.serve_sides-shown.ensures.drivers c.serve_sides-shown.ensures.controllers c.in_ok-sides.ensures.sides)
           w.conclude_all-flows.ensures.reports flow r (omega (arith, low, c.requires.flows.0)))
     ]

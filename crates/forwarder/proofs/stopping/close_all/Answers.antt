@@ -18,6 +18,7 @@ loop-line-preserved g c =
     record {
       both = search rules;
       pool = c.close_line.ensures.pool;
+      share = search rules;
       held = c.close_line.ensures.held ∙ was.held;
       stopped = (zip-first (IsStopped c.args.pool.now) (into_iter_items c.loop-line.line-iterator) (into_iter_items c.next.new.self) c.in-Some.line
           (into_iter_items c.loop-line.stopped) (into_iter_items c.next-in-loop-line.new.self) c.in-Some-next.flow c.in-Some.ensures.steps.0 other was.stopped).1;

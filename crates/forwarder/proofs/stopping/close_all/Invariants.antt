@@ -1,4 +1,4 @@
-use Rattle.std.proofs.Common.{◌≡◌}
+use Rattle.std.proofs.Common.{◌≡◌, ◌+◌, vec_len}
 use Rattle.std.specs.List.{AllZip}
 use Rattle.std.specs.Vec.Iter.{into_iter_items, into_iter_len}
 use Rattle.pool.specs.Owned.{IsOf}
@@ -10,6 +10,7 @@ invariant-loop-line g l =
     record {
       both : into_iter_len l.stopped ≡ into_iter_len l.line-iterator;
       pool : IsOf l.pool l.pass;
+      share : l.pass.hand.share + into_iter_len l.line-iterator ≡ l.initial.pass.hand.share + vec_len l.fn.lines;
       held : l.pass.hand.held ≡ l.initial.pass.hand.held;
       stopped : AllZip (IsStopped l.pool) (into_iter_items l.line-iterator) (into_iter_items l.stopped);
     }

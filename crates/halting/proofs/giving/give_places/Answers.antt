@@ -1,4 +1,4 @@
-use Rattle.std.proofs.Common.{◌≡◌, ◌∷◌, List, Option, IfSome, subst}
+use Rattle.std.proofs.Common.{◌≡◌, ◌∙◌, ◌∷◌, List, Option, IfSome, subst}
 use Rattle.std.proofs.lemmas.List.Elements.{All-rest}
 use Rattle.std.specs.Vec.Iter.{into_iter_items}
 use Rattle.buffer_pool.specs.Buffer.{Buffer}
@@ -19,6 +19,7 @@ loop-place-preserved g c =
     let now = c.loop-place.pass.hand.held in
     record {
       pool = c.give_place.ensures.pool;
+      share = c.give_place.ensures.share ∙ was.share;
       real = All-rest (λ (o : Option Buffer). IfSome o IsReal) place rest' rest first was.real;
       given = exchanged-given held all now (number_at place) (numbers_at rest') c.give_place.new.pass.hand.held
           (subst (λ (l : List (Option Buffer)). Exchanged held all now (numbers_at l)) first was.given) c.give_place.ensures.given;

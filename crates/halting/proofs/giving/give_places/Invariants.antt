@@ -1,3 +1,4 @@
+use Rattle.std.proofs.Common.{◌≡◌}
 use Rattle.std.specs.Vec.Iter.{into_iter_items}
 use Rattle.lending.specs.Lent.{Exchanged}
 use Rattle.pool.specs.Owned.{IsOf}
@@ -8,6 +9,7 @@ use Rattle.halting.proofs.giving.give_places.Given as goal
 abbrev pub invariant-loop-place : goal.invariant-loop-place
 invariant-loop-place g l = record {
   pool : IsOf l.pool l.pass;
+  share : l.pass.hand.share ≡ l.initial.pass.hand.share;
   real : AllReal (into_iter_items l.place-iterator);
   given : Exchanged l.initial.pass.hand.held (numbers_at l.fn.places.items) l.pass.hand.held (numbers_at (into_iter_items l.place-iterator));
 }

@@ -1,5 +1,5 @@
 -- What is still held of the packets is that of those that are left.
-use Rattle.std.proofs.Common.{length}
+use Rattle.std.proofs.Common.{◌≡◌, length}
 use Rattle.driver.specs.transmit.Frames.{numbers_in}
 use Rattle.pool.specs.Owned.{IsOf}
 use Rattle.lending.specs.Lent.{Exchanged}
@@ -8,6 +8,7 @@ use Rattle.lending.proofs.returning.give_packets.Given as goal
 abbrev pub invariant-loop-packet : goal.invariant-loop-packet
 invariant-loop-packet g l = record {
   pool : IsOf l.pool l.pass;
+  share : l.pass.hand.share ≡ l.initial.pass.hand.share;
   given : Exchanged l.initial.pass.hand.held (numbers_in l.initial.packets.items) l.pass.hand.held (numbers_in l.packets.items);
 }
 

@@ -23,6 +23,7 @@ loop-pass-preserved g c =
     record {
       ring = c.reclaim_into.ensures.ring ∙ i.ring;
       pool = c.give_stash-in-loop-pass.ensures.pool;
+      share = c.give_stash-in-loop-pass.ensures.share ∙ i.share;
       stopped = ap (λ (x : RxDriven). is_stopped x.state) back.ring.did ∙ i.stopped;
       stash = c.give_stash-in-loop-pass.ensures.empty;
       given = given-on c.give_stash.new.pass.hand.held (c.give_stash.new.stash ++ with_receiver c.args.rx.now) c.loop-pass.pass.hand.held c.loop-pass.stash (with_receiver c.loop-pass.rx)

@@ -10,6 +10,7 @@ abbrev pub invariant-loop-pass : goal.invariant-loop-pass
 invariant-loop-pass g l = record {
   ring : l.rx.end.table ≡ l.initial.rx.end.table;
   pool : IsOf l.pool l.pass;
+  share : l.pass.hand.share ≡ l.initial.pass.hand.share;
   stopped : is_stopped (driver_state l.rx.end) ≡ true;
   stash : l.stash ≡ [];
   given : Exchanged l.initial.pass.hand.held (l.initial.stash ++ with_receiver l.initial.rx) l.pass.hand.held (with_receiver l.rx);

@@ -10,6 +10,7 @@ abbrev pub invariant-loop-pass : goal.invariant-loop-pass
 invariant-loop-pass g l = record {
   ring : l.tx.end.table ≡ l.initial.tx.end.table;
   pool : IsOf l.pool l.pass;
+  share : l.pass.hand.share ≡ l.initial.pass.hand.share;
   stopped : is_stopped (driver_state l.tx.end) ≡ true;
   stash : l.stash ≡ [];
   given : Exchanged l.initial.pass.hand.held (l.initial.stash ++ with_transmitter l.initial.tx) l.pass.hand.held (with_transmitter l.tx);

@@ -1,6 +1,11 @@
-use Rattle.std.proofs.Common.{◌≡◌, [], map, vec_items, vec_len}
-use Rattle.teams.specs.Dealing.{IsDealt}
+use Rattle.std.proofs.Common.{◌≡◌, ◌≤◌, [], All, vec_items, vec_len, vec_capacity}
 use Rattle.teams.proofs.dealing.empty_hands.Given as goal
 
 abbrev pub invariant-loop : goal.invariant-loop
-invariant-loop g l = record { len : vec_len l.hands ≡ l.counter; empty : IsDealt [] (map (λ h. h.items) (vec_items l.hands)) }
+invariant-loop g l =
+    record {
+      len : vec_len l.hands ≡ l.counter;
+      all : l.count ≤ vec_capacity l.hands;
+      empty : All (λ h. h.items ≡ []) (vec_items l.hands);
+      room : All (λ h. l.room ≤ vec_capacity h) (vec_items l.hands);
+    }

@@ -1,5 +1,7 @@
-use Rattle.std.proofs.Common.{rules, ◌≡◌, ap, ◌∙◌, sym, vec_items}
+use Rattle.std.proofs.Common.{rules, ◌≡◌, true, All, MatchResult, ap, ◌∙◌, map, vec_items}
 use Rattle.std.specs.Vec.Iter.{into_iter_items}
+use Rattle.teams.specs.Endings.{IsSo}
+use Rattle.teams.specs.Hands.{given_by, hand_keys}
 use Rattle.teams.proofs.Lists.{shifted, All-pushed}
 use Rattle.teams.proofs.team.start.Goals as goal
 
@@ -8,10 +10,12 @@ loop-hand-preserved g c =
     let was = c.loop-hand.invariant in
     let step = c.in-Some.ensures.steps in
     let pushed = c.push_reserved.ensures.items in
-    let promise = c.in-Ok.ensures.ok in
+    let key = g.F.Flow.key in
     record {
-      given = was.given ∙ sym (shifted (λ w. w.promise.given.value) (vec_items c.loop-hand.workers) _ c.in-Ok.worker _ (into_iter_items c.next.new.self) c.in-Some.hand step.0 pushed (ap (λ p. p.given.value) promise ∙ c.of.ensures));
+      given = shifted (given_by (λ w. map key w.promise.given.value.items) (λ s. map key s.flows.items)) (vec_items c.loop-hand.team) _ c.begin.result
+          (hand_keys key (into_iter_items c.loop-hand.hand-iterator)) (hand_keys key (into_iter_items c.next.new.self)) (map key c.in-Some.hand.items)
+          (ap (hand_keys key) step.0) pushed c.begin.ensures.given ∙ was.given;
+      so = All-pushed (λ b. MatchResult b (λ w. w.promise.gate.now ≡ c.args.gate.now) (λ s. IsSo (All (λ f. g.F.Flow.over f ≡ true) s.flows.items) g.G.Gate.answers c.args.gate.now s.ending)) (vec_items c.loop-hand.team) _ c.begin.result pushed was.so c.begin.ensures.so;
       count = search rules;
       room = search rules;
-      gate = All-pushed (λ w. w.promise.gate.now ≡ c.args.gate.now) (vec_items c.loop-hand.workers) _ c.in-Ok.worker pushed was.gate (ap (λ p. p.gate.now) promise);
     }

@@ -24,51 +24,51 @@ wrap_all-requires-clause-count g c = let long = AllZip-long IsFresh c.args.cells
 
 pub unwrap_all-back-requires-clause-flows : goal.unwrap_all-back-requires-clause-flows
 unwrap_all-back-requires-clause-flows g c =
-    let served = c.in_ok-served in
-    let given = c.in_ok-flows.flows in
-    let back = as-many (λ f. f.key) (λ w. w.flow) (λ w. w.pen.cell) served.served.drivers.items given.drivers.items served.ensures.drivers in
-    let back' = as-many (λ f. f.key) (λ w. w.flow) (λ w. w.pen.cell) served.served.controllers.items given.controllers.items served.ensures.controllers in
-    let all = sym (length-map given.drivers.items (λ w. w.flow)) ∙ ap length c.in_ok-flows.ensures.drivers in
-    let all' = sym (length-map given.controllers.items (λ w. w.flow)) ∙ ap length c.in_ok-flows.ensures.controllers in
+    let served = c.serve_flows-served in
+    let given = c.wrap_all-flows.result in
+    let back = as-many (λ f. f.key) (λ w. w.flow) (λ w. w.pen.cell) served.result.drivers.items given.drivers.items served.ensures.drivers in
+    let back' = as-many (λ f. f.key) (λ w. w.flow) (λ w. w.pen.cell) served.result.controllers.items given.controllers.items served.ensures.controllers in
+    let all = sym (length-map given.drivers.items (λ w. w.flow)) ∙ ap length c.wrap_all-flows.ensures.drivers in
+    let all' = sym (length-map given.controllers.items (λ w. w.flow)) ∙ ap length c.wrap_all-flows.ensures.controllers in
     omega (arith, back, back', all, all', c.requires.flows.0, c.requires.flows.1)
 
 pub unwrap_all-back-requires-clause-room : goal.unwrap_all-back-requires-clause-room
 unwrap_all-back-requires-clause-room g c =
-    let served = c.in_ok-served in
-    let given = c.in_ok-flows.flows in
-    let back = as-many (λ f. f.key) (λ w. w.flow) (λ w. w.pen.cell) served.served.drivers.items given.drivers.items served.ensures.drivers in
-    let back' = as-many (λ f. f.key) (λ w. w.flow) (λ w. w.pen.cell) served.served.controllers.items given.controllers.items served.ensures.controllers in
-    let all = sym (length-map given.drivers.items (λ w. w.flow)) ∙ ap length c.in_ok-flows.ensures.drivers in
-    let all' = sym (length-map given.controllers.items (λ w. w.flow)) ∙ ap length c.in_ok-flows.ensures.controllers in
+    let served = c.serve_flows-served in
+    let given = c.wrap_all-flows.result in
+    let back = as-many (λ f. f.key) (λ w. w.flow) (λ w. w.pen.cell) served.result.drivers.items given.drivers.items served.ensures.drivers in
+    let back' = as-many (λ f. f.key) (λ w. w.flow) (λ w. w.pen.cell) served.result.controllers.items given.controllers.items served.ensures.controllers in
+    let all = sym (length-map given.drivers.items (λ w. w.flow)) ∙ ap length c.wrap_all-flows.ensures.drivers in
+    let all' = sym (length-map given.controllers.items (λ w. w.flow)) ∙ ap length c.wrap_all-flows.ensures.controllers in
     let few = c.in_ok-room.ensures in
     (omega (arith, back, all, c.requires.flows.0, few.drivers.1), omega (arith, back, all, c.requires.flows.0, few.controllers.1), omega (arith, back, all, c.requires.flows.0, few.pens.1))
 
 pub returns-clause-drivers : goal.returns-clause-drivers
 returns-clause-drivers g c =
-    let served = c.in_ok-served in
-    let given = c.in_ok-flows.flows in
-    keys-of (λ f. f.key) (λ w. w.flow) (λ w. w.pen.cell) served.served.drivers.items given.drivers.items served.ensures.drivers c.args.drivers.items c.unwrap_all-back.result.drivers.items c.in_ok-flows.ensures.drivers c.unwrap_all-back.ensures.drivers
+    let served = c.serve_flows-served in
+    let given = c.wrap_all-flows.result in
+    keys-of (λ f. f.key) (λ w. w.flow) (λ w. w.pen.cell) served.result.drivers.items given.drivers.items served.ensures.drivers c.args.drivers.items c.unwrap_all-back.result.drivers.items c.wrap_all-flows.ensures.drivers c.unwrap_all-back.ensures.drivers
 
 pub returns-clause-controllers : goal.returns-clause-controllers
 returns-clause-controllers g c =
-    let served = c.in_ok-served in
-    let given = c.in_ok-flows.flows in
-    keys-of (λ f. f.key) (λ w. w.flow) (λ w. w.pen.cell) served.served.controllers.items given.controllers.items served.ensures.controllers c.args.controllers.items c.unwrap_all-back.result.controllers.items c.in_ok-flows.ensures.controllers c.unwrap_all-back.ensures.controllers
+    let served = c.serve_flows-served in
+    let given = c.wrap_all-flows.result in
+    keys-of (λ f. f.key) (λ w. w.flow) (λ w. w.pen.cell) served.result.controllers.items given.controllers.items served.ensures.controllers c.args.controllers.items c.unwrap_all-back.result.controllers.items c.wrap_all-flows.ensures.controllers c.unwrap_all-back.ensures.controllers
 
 pub returns-clause-over : goal.returns-clause-over
 returns-clause-over g c = λ none.
     subst (All (λ f. is_over f.phase ≡ true)) (sym c.unwrap_all-back.ensures.drivers)
-    (all-map (λ f. is_over f.phase ≡ true) (λ w. w.flow) c.in_ok-served.served.drivers.items (c.in_ok-served.ensures.over none))
+    (all-map (λ f. is_over f.phase ≡ true) (λ w. w.flow) c.in_ok-served.result.drivers.items (c.serve_flows-served.ensures.over none))
 
 pub returns-clause-pens : goal.returns-clause-pens
 returns-clause-pens g c =
-    let served = c.in_ok-served in
-    let given = c.in_ok-flows.flows in
+    let served = c.serve_flows-served in
+    let given = c.wrap_all-flows.result in
     let cells = c.args.cells.now in
     let pens = c.unwrap_all-back.result.pens.items in
     record {
-      stat = marks-by (λ p. p.stat) (λ k. k.cell) (λ w. w.pen) pens served.served.controllers.items (map (λ x. x.stat) cells) c.unwrap_all-back.ensures.stat
-          (marks-of (λ f. f.key) (λ w. w.flow) (λ w. w.pen.cell) served.served.controllers.items given.controllers.items served.ensures.controllers (map (λ x. x.stat) cells) c.in_ok-flows.ensures.stat);
-      drive = marks-by (λ p. p.drive) (λ k. k.cell) (λ w. w.pen) pens served.served.drivers.items (map (λ x. x.drive) cells) c.unwrap_all-back.ensures.drive
-          (marks-of (λ f. f.key) (λ w. w.flow) (λ w. w.pen.cell) served.served.drivers.items given.drivers.items served.ensures.drivers (map (λ x. x.drive) cells) c.in_ok-flows.ensures.drive);
+      stat = marks-by (λ p. p.stat) (λ k. k.cell) (λ w. w.pen) pens served.result.controllers.items (map (λ x. x.stat) cells) c.unwrap_all-back.ensures.stat
+          (marks-of (λ f. f.key) (λ w. w.flow) (λ w. w.pen.cell) served.result.controllers.items given.controllers.items served.ensures.controllers (map (λ x. x.stat) cells) c.wrap_all-flows.ensures.stat);
+      drive = marks-by (λ p. p.drive) (λ k. k.cell) (λ w. w.pen) pens served.result.drivers.items (map (λ x. x.drive) cells) c.unwrap_all-back.ensures.drive
+          (marks-of (λ f. f.key) (λ w. w.flow) (λ w. w.pen.cell) served.result.drivers.items given.drivers.items served.ensures.drivers (map (λ x. x.drive) cells) c.wrap_all-flows.ensures.drive);
     }

@@ -11,14 +11,14 @@ invariant-loop-driver l =
       count : l.number + into_iter_len l.driver-iterator ≡ length l.cells;
       both : l.number + into_iter_len l.controllers ≡ length l.cells;
       all : l.number + into_iter_len l.pens ≡ length l.cells;
-      watched : vec_len l.watched ≡ l.number;
-      shown : vec_len l.shown ≡ l.number;
-      room : (length l.cells ≤ vec_capacity l.watched) × (length l.cells ≤ vec_capacity l.shown);
+      watched : vec_len l.rooms.drivers ≡ l.number;
+      shown : vec_len l.rooms.controllers ≡ l.number;
+      room : (length l.cells ≤ vec_capacity l.rooms.drivers) × (length l.cells ≤ vec_capacity l.rooms.controllers);
       pens : ArePaired (drop l.number l.cells) (into_iter_items l.pens);
       counts : All (λ f. f.counts ≡ none) (into_iter_items l.driver-iterator);
       tallies : All (λ f. f.tally ≡ nothing) (into_iter_items l.controllers);
-      drivers : map (λ w. w.flow) (vec_items l.watched) ++ into_iter_items l.driver-iterator ≡ l.fn.drivers.items;
-      controllers : map (λ w. w.flow) (vec_items l.shown) ++ into_iter_items l.controllers ≡ l.fn.controllers.items;
-      drive : map (λ w. w.pen.cell) (vec_items l.watched) ++ map (λ c. c.drive) (drop l.number l.cells) ≡ map (λ c. c.drive) l.cells;
-      stat : map (λ w. w.pen.cell) (vec_items l.shown) ++ map (λ c. c.stat) (drop l.number l.cells) ≡ map (λ c. c.stat) l.cells;
+      drivers : map (λ w. w.flow) (vec_items l.rooms.drivers) ++ into_iter_items l.driver-iterator ≡ l.fn.drivers.items;
+      controllers : map (λ w. w.flow) (vec_items l.rooms.controllers) ++ into_iter_items l.controllers ≡ l.fn.controllers.items;
+      drive : map (λ w. w.pen.cell) (vec_items l.rooms.drivers) ++ map (λ c. c.drive) (drop l.number l.cells) ≡ map (λ c. c.drive) l.cells;
+      stat : map (λ w. w.pen.cell) (vec_items l.rooms.controllers) ++ map (λ c. c.stat) (drop l.number l.cells) ≡ map (λ c. c.stat) l.cells;
     }

@@ -22,4 +22,4 @@ returns-clause-loaded g c =
     let l = c.args.self.now in let d = c.drop_packets in let k = c.args.task.now in
     let pool : IsOf k.pool d.new.pass = search rules in let pool' : IsOf k.pool c.give_stash.new.pass = search rules in
     given-stash k d.new.pass c.give_stash.new.pass (driving l.rx l.tx d.new.stash d.new.packets.items) c.give_stash.new.stash c.give_stash.ensures.none
-    (given-all k l.pass d.new.pass (driving_of l) d.new.stash d.new.packets.items d.ensures.none c.requires pool d.ensures.kept) pool' c.give_stash.ensures.kept
+    (given-all k l.pass d.new.pass (driving_of l) d.new.stash d.new.packets.items d.ensures.none c.requires pool d.ensures.share d.ensures.kept) pool' c.give_stash.ensures.share c.give_stash.ensures.kept

@@ -53,7 +53,7 @@ returns-clause-loaded g c =
     let k = c.args.task.now in let old = driving_of c.args.self.now in let d = c.drive.new in let new = driving d.rx d.tx d.stash d.packets.items in let t = c.in-Ok.turned in let p = c.drop_packets-dropped in
     let l : IsLoaded k c.args.self.now.pass new = loaded-by k c.args.self.now.pass old new c.task.inside.from.now c.task.inside.to.now (search rules) (search rules) c.requires.loaded c.drive.ensures.can (drove-all t.taken t.posted old new c.in-Ok.ensures.steps) in
     let pool : IsOf k.pool p.new.pass = search rules in
-    given-all k c.args.self.now.pass p.new.pass new p.new.stash p.new.packets.items p.ensures.none l pool p.ensures.kept
+    given-all k c.args.self.now.pass p.new.pass new p.new.stash p.new.packets.items p.ensures.none l pool p.ensures.share p.ensures.kept
 
 pub returns-clause-relayed : goal.returns-clause-relayed
 returns-clause-relayed g c =
