@@ -34,12 +34,13 @@ use Rattle.flows.specs.contracts.load.Task as Task
 use Rattle.flows.specs.contracts.driver_flow.DriverFlow as DriverFlow
 use Rattle.flows.specs.contracts.controller_flow.ControllerFlow as ControllerFlow
 
-ruleset tables = (sendable, crosses, Chain.crosses, Global.the_send, Global.the_sync, Global.the_field_send, Global.the_field_sync, Box.the_send, Box.the_sync, LinkedList.the_send, LinkedList.the_sync, PhantomData.the_send, PhantomData.the_sync, PhantomData.the_field_send, PhantomData.the_field_sync, Option.the_send, Option.the_sync, Option.the_field_send, Option.the_field_sync, Memory.the_send, Memory.the_sync, Memory.the_field_send, Memory.the_field_sync, Vec.the_send, Vec.the_sync, Table.the_send, Table.the_sync, Table.the_field_send, Table.the_field_sync, SendLease.the_send, SendLease.the_sync, Shared.the_send, Shared.the_sync, Room.the_send, Room.the_sync, Room.the_field_send, Room.the_field_sync)
+-- what a search needs for anything with a ring in it
+pub ruleset tables = (sendable, crosses, Chain.crosses, Global.the_send, Global.the_sync, Global.the_field_send, Global.the_field_sync, Box.the_send, Box.the_sync, LinkedList.the_send, LinkedList.the_sync, PhantomData.the_send, PhantomData.the_sync, PhantomData.the_field_send, PhantomData.the_field_sync, Option.the_send, Option.the_sync, Option.the_field_send, Option.the_field_sync, Memory.the_send, Memory.the_sync, Memory.the_field_send, Memory.the_field_sync, Vec.the_send, Vec.the_sync, Table.the_send, Table.the_sync, Table.the_field_send, Table.the_field_sync, SendLease.the_send, SendLease.the_sync, Shared.the_send, Shared.the_sync, Room.the_send, Room.the_sync, Room.the_field_send, Room.the_field_sync)
 
-rx_ring : IsSync RxRing.the_row
+pub rx_ring : IsSync RxRing.the_row
 rx_ring = search tables depth 60 fits 20000
 
-tx_ring : IsSync TxRing.the_row
+pub tx_ring : IsSync TxRing.the_row
 tx_ring = search tables depth 60 fits 20000
 
 the_pool : IsSync Pool.the_row

@@ -18,7 +18,7 @@ pub enum Service {
 impl Service {
     /// How far it is, where it serves the queue now, or does not.
     #[inline]
-    pub(crate) fn after(self, serves: bool) -> Service
+    pub fn after(self, serves: bool) -> Service
         ensures { result ≡ after self serves }
     {
         match (self, serves) {

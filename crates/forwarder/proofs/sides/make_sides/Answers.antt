@@ -55,7 +55,8 @@ loop-own-preserved g c =
       room = search rules;
       held = ap (λ p. p.hand.held) kept ∙ was.held;
       pool = subst (IsOf pool) (sym kept) (record { pool = was.pool.pool; count = was.pool.count });
-      share = (let less = ap (λ p. p.hand.share) kept in omega (arith, less, was.share));
+      share = (let less = ap (λ p. p.hand.share) kept in let some : 1 < c.loop-own.pass.hand.share = search rules in omega (arith, less, some, was.share));
+      enough = (let less = ap (λ p. p.hand.share) kept in omega (arith, less, was.enough));
       counts = all-last (λ f. f.counts ≡ none) drivers c.push_reserved.new.self.items side.driver c.push_reserved.ensures.items was.counts c.make_side-side.ensures.counts;
       tallies = all-last (λ f. f.tally ≡ nothing) controllers c.push_reserved-in-loop-own.new.self.items side.controller c.push_reserved-in-loop-own.ensures.items was.tallies c.make_side-side.ensures.tally;
       sides = (λ k l d s low. places-more (λ i a b. (e : Line) → AreSides (plan config c.args.script.now i) pool (get_or c.args.lines.now i e) a b)

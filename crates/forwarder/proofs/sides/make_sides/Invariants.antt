@@ -1,7 +1,8 @@
-use Rattle.std.proofs.Common.{◌≡◌, ◌+◌, ◌≤◌, All, map, drop, length, vec_items, vec_len, vec_capacity}
+use Rattle.std.proofs.Common.{◌≡◌, ◌+◌, ◌*◌, ◌<◌, ◌≤◌, All, map, drop, length, vec_items, vec_len, vec_capacity}
 use Rattle.std.specs.Vec.Iter.{into_iter_items, into_iter_len}
 use Rattle.controller.specs.Tallying.{nothing}
 use Rattle.flows.specs.Counting.{none}
+use Rattle.limits.specs.declared.profile.TheConstants.{MOST_PAIRS, PORTS}
 use Rattle.pool.specs.Owned.{IsOf}
 use Rattle.forwarder.specs.Plans.{AreAllSides, plan}
 use Rattle.forwarder.proofs.sides.make_sides.Given as goal
@@ -18,6 +19,7 @@ invariant-loop-own g l =
       pool : IsOf l.pool l.pass;
       held : l.pass.hand.held ≡ l.initial.pass.hand.held;
       share : l.number + l.pass.hand.share ≡ l.initial.pass.hand.share;
+      enough : PORTS * MOST_PAIRS < l.number + l.pass.hand.share;
       counts : All (λ f. f.counts ≡ none) (vec_items l.drivers);
       tallies : All (λ f. f.tally ≡ nothing) (vec_items l.controllers);
       sides : AreAllSides (plan l.config l.script) l.pool l.number l.lines (map (λ f. f.key) (vec_items l.drivers)) (map (λ f. f.key) (vec_items l.controllers));

@@ -1,4 +1,4 @@
-use Rattle.std.proofs.Common.{arith, ◌≡◌, ◌∙◌, true, All, length, map, sym, subst, ap}
+use Rattle.std.proofs.Common.{rules, arith, ◌≡◌, ◌∙◌, ◌≤◌, true, All, length, map, sym, subst, ap, vec_capacity}
 use Rattle.std.proofs.lemmas.List.{length-map}
 use Rattle.std.proofs.lemmas.Slice.Zip.{AllZip-long}
 use denote.Param.Send.{sendable}
@@ -7,20 +7,24 @@ use Rattle.counters.proofs.cell.MomentCell.TheSendSync as Cell
 use Rattle.counters.proofs.cell.MomentPen.TheSendSync as Pen
 use Rattle.flows.proofs.Sent.{controller_flow, driver_flow}
 use Rattle.counters.specs.Paired.{IsFresh}
+use Rattle.controller.specs.Tallying.{nothing}
+use Rattle.flows.specs.Counting.{driven, none, offered}
 use Rattle.flows.specs.Driven.{is_over}
+use Rattle.watching.specs.Watching.{driven_shown, offered_shown}
+use Rattle.watching.proofs.Fresh.{alike, none-shown, pens-of}
 use Rattle.watching.proofs.Moving.{all-map, as-many, keys-of, marks-by, marks-of}
 use Rattle.watching.proofs.serving.serve_watched.Goals as goal
 
 ruleset watched = (sendable, crosses, driver_flow, controller_flow, Cell.the_send, Cell.the_sync, Pen.the_send)
 
-pub serve_flows-requires-send-D : goal.serve_flows-requires-send-D
-serve_flows-requires-send-D g c κs = search watched depth 60 fits 20000
+pub serve_flows-served-requires-send-D : goal.serve_flows-served-requires-send-D
+serve_flows-served-requires-send-D g c κs = search watched depth 60 fits 20000
 
-pub serve_flows-requires-send-C : goal.serve_flows-requires-send-C
-serve_flows-requires-send-C g c κs = search watched depth 60 fits 20000
+pub serve_flows-served-requires-send-C : goal.serve_flows-served-requires-send-C
+serve_flows-served-requires-send-C g c κs = search watched depth 60 fits 20000
 
-pub wrap_all-requires-clause-count : goal.wrap_all-requires-clause-count
-wrap_all-requires-clause-count g c = let long = AllZip-long IsFresh c.args.cells.now c.args.pens.items c.requires.pens in omega (arith, long)
+pub wrap_all-flows-requires-clause-count : goal.wrap_all-flows-requires-clause-count
+wrap_all-flows-requires-clause-count g c = let long = AllZip-long IsFresh c.args.cells.now c.args.pens.items c.requires.pens in omega (arith, long)
 
 pub unwrap_all-back-requires-clause-flows : goal.unwrap_all-back-requires-clause-flows
 unwrap_all-back-requires-clause-flows g c =
@@ -40,8 +44,11 @@ unwrap_all-back-requires-clause-room g c =
     let back' = as-many (λ f. f.key) (λ w. w.flow) (λ w. w.pen.cell) served.result.controllers.items given.controllers.items served.ensures.controllers in
     let all = sym (length-map given.drivers.items (λ w. w.flow)) ∙ ap length c.wrap_all-flows.ensures.drivers in
     let all' = sym (length-map given.controllers.items (λ w. w.flow)) ∙ ap length c.wrap_all-flows.ensures.controllers in
-    let few = c.in_ok-room.ensures in
-    (omega (arith, back, all, c.requires.flows.0, few.drivers.1), omega (arith, back, all, c.requires.flows.0, few.controllers.1), omega (arith, back, all, c.requires.flows.0, few.pens.1))
+    let room = c.in-Ok-Ok.back in
+    let ds : length c.args.cells.now ≤ vec_capacity room.drivers = search rules in
+    let cs : length c.args.cells.now ≤ vec_capacity room.controllers = search rules in
+    let ps : length c.args.cells.now ≤ vec_capacity room.pens = search rules in
+    (omega (arith, back, all, c.requires.flows.0, ds), omega (arith, back, all, c.requires.flows.0, cs), omega (arith, back, all, c.requires.flows.0, ps))
 
 pub returns-clause-drivers : goal.returns-clause-drivers
 returns-clause-drivers g c =
@@ -58,7 +65,7 @@ returns-clause-controllers g c =
 pub returns-clause-over : goal.returns-clause-over
 returns-clause-over g c = λ none.
     subst (All (λ f. is_over f.phase ≡ true)) (sym c.unwrap_all-back.ensures.drivers)
-    (all-map (λ f. is_over f.phase ≡ true) (λ w. w.flow) c.in_ok-served.result.drivers.items (c.serve_flows-served.ensures.over none))
+    (all-map (λ f. is_over f.phase ≡ true) (λ w. w.flow) c.serve_flows-served.result.drivers.items (c.serve_flows-served.ensures.over none))
 
 pub returns-clause-pens : goal.returns-clause-pens
 returns-clause-pens g c =
@@ -72,3 +79,18 @@ returns-clause-pens g c =
       drive = marks-by (λ p. p.drive) (λ k. k.cell) (λ w. w.pen) pens served.result.drivers.items (map (λ x. x.drive) cells) c.unwrap_all-back.ensures.drive
           (marks-of (λ f. f.key) (λ w. w.flow) (λ w. w.pen.cell) served.result.drivers.items given.drivers.items served.ensures.drivers (map (λ x. x.drive) cells) c.wrap_all-flows.ensures.drive);
     }
+
+pub returns-in_default-clause-pens : goal.returns-in_default-clause-pens
+returns-in_default-clause-pens g c = pens-of c.args.cells.now c.args.pens.items c.requires.pens
+
+pub returns-in_default-clause-driven : goal.returns-in_default-clause-driven
+returns-in_default-clause-driven g c =
+    let long = AllZip-long IsFresh c.args.cells.now c.args.pens.items c.requires.pens in
+    alike driven_shown (λ f. driven f.counts) (driven none) c.args.pens.items c.args.drivers.items (omega (arith, long, c.requires.flows.0))
+    (none-shown c.args.cells.now c.args.pens.items c.requires.pens).1 (λ k d low. ap driven (c.requires.counts k d low))
+
+pub returns-in_default-clause-offered : goal.returns-in_default-clause-offered
+returns-in_default-clause-offered g c =
+    let long = AllZip-long IsFresh c.args.cells.now c.args.pens.items c.requires.pens in
+    alike offered_shown (λ f. offered f.tally) (offered nothing) c.args.pens.items c.args.controllers.items (omega (arith, long, c.requires.flows.1))
+    (none-shown c.args.cells.now c.args.pens.items c.requires.pens).0 (λ k d low. ap offered (c.requires.tallies k d low))
