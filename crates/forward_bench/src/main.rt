@@ -4,6 +4,8 @@
 //! that of the whole call: pool and rings are made in it, and the workers started and joined.
 #![tactic(auto)]
 
+mod heat;
+mod hot;
 mod load;
 
 use anyhow::{Result, ensure};

@@ -1,3 +1,4 @@
 mod Places
 mod Pairs
 mod Plans
+mod FlowFrames
