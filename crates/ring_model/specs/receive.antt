@@ -4,3 +4,4 @@ pub mod Lawful
 pub mod Laws
 pub mod Agreement
 pub mod Rows
+pub mod StateRows

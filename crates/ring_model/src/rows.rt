@@ -2,7 +2,9 @@
 
 ghost use Rattle.ring_model.specs.shared.Rows.{CutRows, FollowRows};
 ghost use Rattle.ring_model.specs.receive.Rows.{RxRows};
+ghost use Rattle.ring_model.specs.receive.StateRows.{RxStateRows};
 ghost use Rattle.ring_model.specs.transmit.Rows.{TxRows};
+ghost use Rattle.ring_model.specs.transmit.StateRows.{TxStateRows};
 
 /// The notes of each schedule, the pieces of each frame, and what may follow an unfinished frame are those that were
 /// worked out by hand.
@@ -10,5 +12,7 @@ pub fn worked_rows()
     ensures cut { CutRows }
     ensures follow { FollowRows }
     ensures receive { RxRows }
+    ensures receive_states { RxStateRows }
     ensures transmit { TxRows }
+    ensures transmit_states { TxStateRows }
 {}

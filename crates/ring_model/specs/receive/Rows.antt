@@ -10,25 +10,25 @@ use Rattle.ring_model.specs.receive.Ring.{RxRing, rx_opening}
 use Rattle.ring_model.specs.shared.Segments.{Segment}
 use Rattle.ring_model.specs.receive.Steps.{rx_after_all, rx_happened, rx_notes}
 
-abbrev on_8 : RxRing ℕ
+abbrev pub on_8 : RxRing ℕ
 on_8 = rx_opening 8 true
 
-abbrev off_8 : RxRing ℕ
+abbrev pub off_8 : RxRing ℕ
 off_8 = rx_opening 8 false
 
-abbrev free : ℕ → Option Note
+abbrev pub free : ℕ → Option Note
 free k = Some (note.Free k)
 
-abbrev fetched : ℕ → ℕ → Option Note
+abbrev pub fetched : ℕ → ℕ → Option Note
 fetched k b = Some (note.Fetched k b)
 
-abbrev taken : ℕ → ℕ → Bool → Option Note
+abbrev pub taken : ℕ → ℕ → Bool → Option Note
 taken b len eop = Some (note.Taken (Some (record { buffer = b; len = len; eop = eop })))
 
-abbrev nothing : Option Note
+abbrev pub nothing : Option Note
 nothing = Some (note.Taken None)
 
-abbrev quiet : ℕ → Option Note
+abbrev pub quiet : ℕ → Option Note
 quiet v = Some (note.Quiet v)
 
 -- so many buffers, numbered from b
@@ -41,7 +41,7 @@ abbrev pub rx_turns : ℕ → ℕ → List (RxStep ℕ)
 rx_turns k zero = []
 rx_turns k (suc count) = Look ∷ Fetch ∷ Store (60 + k) true ∷ Head ∷ Take ∷ Post k ∷ Publish ∷ rx_turns (k + 1) count
 
-abbrev seven_posted : List (RxStep ℕ)
+abbrev pub seven_posted : List (RxStep ℕ)
 seven_posted = rx_posts 0 7 ++ Publish ∷ []
 
 -- disabling asked in the middle of a frame is answered after the frame's last segment and head
@@ -51,14 +51,14 @@ before_asking = Post 1 ∷ Post 2 ∷ Publish ∷ Look ∷ Fetch ∷ Store 1024 
 abbrev after_asking : List (RxStep ℕ)
 after_asking = Control LookAsked ∷ Control Answer ∷ Fetch ∷ Store 10 true ∷ Control Answer ∷ Head ∷ Control Answer ∷ Control LookAnswered ∷ Take ∷ Reclaim ∷ Reclaim ∷ Reclaim ∷ []
 
-abbrev disabling : List (RxStep ℕ)
+abbrev pub disabling : List (RxStep ℕ)
 disabling = before_asking ++ Control AskDisable ∷ after_asking
 
 -- the queue is cleared, enabled again, and one frame goes through
-abbrev renewal : List (RxStep ℕ)
+abbrev pub renewal : List (RxStep ℕ)
 renewal = ClearHead ∷ ClearTail ∷ ClearQuiet ∷ Post 9 ∷ Publish ∷ Control AskEnable ∷ Control LookAsked ∷ Control Answer ∷ Control LookAnswered ∷ Look ∷ Fetch ∷ Store 60 true ∷ Take ∷ []
 
-abbrev second_disabling : List (RxStep ℕ)
+abbrev pub second_disabling : List (RxStep ℕ)
 second_disabling = ClearHead ∷ Control AskDisable ∷ Post 3 ∷ Control LookAsked ∷ Control Answer ∷ Head ∷ Control Answer ∷ Look ∷ Control LookAnswered ∷ Reclaim ∷ ClearHead ∷ ClearTail ∷ ClearQuiet ∷ []
 
 -- a disabling asked before the step i of that list, or at its end: how many of the 20 steps happen

@@ -10,36 +10,42 @@ use Rattle.ring_model.specs.shared.Told.{place, tail, head, buffer, control}
 use Rattle.ring_model.specs.transmit.Ring.{Posting, new_posting, TxRing, tx_opening}
 use Rattle.ring_model.specs.transmit.Steps.{tx_after_all, tx_happened, tx_notes}
 
-abbrev by_status : TxRing ℕ
+abbrev pub by_status : TxRing ℕ
 by_status = tx_opening 8 (record { enabled = true; completion = by.Status })
 
-abbrev by_head_word : TxRing ℕ
+abbrev pub by_head_word : TxRing ℕ
 by_head_word = tx_opening 8 (record { enabled = true; completion = by.Head })
 
-abbrev off : TxRing ℕ
+abbrev pub off : TxRing ℕ
 off = tx_opening 8 (record { enabled = false; completion = by.Status })
 
+abbrev pub off_by_head : TxRing ℕ
+off_by_head = tx_opening 8 (record { enabled = false; completion = by.Head })
+
 -- a frame of 60 bytes in one segment
-abbrev frame : ℕ → Bool → Posting ℕ
+abbrev pub frame : ℕ → Bool → Posting ℕ
 frame b rs = new_posting b 60 true rs 60
 
 -- the first 60 bytes of a frame of 120
 abbrev half : Posting ℕ
 half = new_posting 3 60 false false 120
 
-abbrev ready : ℕ → Option Note
+abbrev pub ready : ℕ → Option Note
 ready k = Some (note.Ready k)
 
-abbrev sending : ℕ → ℕ → Bool → Option Note
-sending k b rs = Some (note.Sending k (record { buffer = b; len = 60; eop = true; rs = rs }))
+abbrev pub sends : ℕ → ℕ → ℕ → Bool → Bool → Option Note
+sends k b len eop rs = Some (note.Sending k (record { buffer = b; len = len; eop = eop; rs = rs }))
+
+abbrev pub sending : ℕ → ℕ → Bool → Option Note
+sending k b rs = sends k b 60 true rs
 
 abbrev sending_half : ℕ → Option Note
-sending_half k = Some (note.Sending k (record { buffer = 3; len = 60; eop = false; rs = false }))
+sending_half k = sends k 3 60 false false
 
-abbrev unreported : Option Note
+abbrev pub unreported : Option Note
 unreported = Some (note.Reported None)
 
-abbrev reported : ℕ → Option Note
+abbrev pub reported : ℕ → Option Note
 reported k = Some (note.Reported (Some k))
 
 -- posted, published, seen, fetched, sent, reported, cleaned; loads of the report before it is made show nothing
@@ -64,15 +70,15 @@ tx_turns k zero = []
 tx_turns k (suc count) = Post (frame k true) ∷ Publish ∷ Look ∷ Fetch ∷ Send ∷ Report ∷ LoadReport ∷ Clean ∷ tx_turns (k + 1) count
 
 -- three frames, of which one is sent; a disabling waits for the report that is owed, and the buffers come back
-abbrev disabling : List (TxStep (Posting ℕ))
+abbrev pub disabling : List (TxStep (Posting ℕ))
 disabling = Post (frame 1 true) ∷ Post (frame 2 false) ∷ Post (frame 3 false) ∷ Publish ∷ Look ∷ Fetch ∷ Send ∷ Control AskDisable ∷ Post (frame 4 false) ∷ Control LookAsked ∷ Control Answer ∷ Report
     ∷ Control Answer ∷ Fetch ∷ Control LookAnswered ∷ LoadReport ∷ Reclaim ∷ ClearHead ∷ Reclaim ∷ Reclaim ∷ Reclaim ∷ []
 
 -- a ring that reports by its descriptors is New once the tail is cleared, and one that reports by a head word once that is cleared too
-abbrev renewal : List (TxStep (Posting ℕ))
+abbrev pub renewal : List (TxStep (Posting ℕ))
 renewal = ClearReport ∷ ClearHead ∷ ClearReport ∷ ClearTail ∷ ClearReport ∷ Post (frame 9 true) ∷ Publish ∷ Control AskEnable ∷ Control LookAsked ∷ Control Answer ∷ Control LookAnswered ∷ Look ∷ Fetch ∷ Send ∷ Report ∷ LoadReport ∷ Clean ∷ []
 
-abbrev second_disabling : List (TxStep (Posting ℕ))
+abbrev pub second_disabling : List (TxStep (Posting ℕ))
 second_disabling = Post (frame 5 false) ∷ Publish ∷ ClearHead ∷ Control AskDisable ∷ Publish ∷ Control LookAsked ∷ Look ∷ Fetch ∷ Control Answer ∷ Send ∷ Control Answer ∷ Look ∷ Control LookAnswered ∷ ClearHead ∷ Reclaim ∷ ClearHead ∷ ClearHead
     ∷ ClearTail ∷ ClearReport ∷ Control AskEnable ∷ []
 

@@ -84,3 +84,33 @@ returns-clause-transmit c = record {
   second_disabled_by_head = refl;
   two_epochs = refl;
 }
+
+pub returns-clause-receive_states : goal.returns-clause-receive_states
+returns-clause-receive_states c = record {
+  asked = refl;
+  full_before_asking = refl;
+  served_while_asked = refl;
+  within_a_frame = refl;
+  stopping = refl;
+  answered = refl;
+  quiet_first = refl;
+  nothing_posted = refl;
+  not_published = refl;
+  full_ring = refl;
+  third_epoch = refl;
+}
+
+pub returns-clause-transmit_states : goal.returns-clause-transmit_states
+returns-clause-transmit_states c = record {
+  asked = refl;
+  full_before_asking = refl;
+  within_a_frame = refl;
+  half_sent = refl;
+  stopping = refl;
+  answered = refl;
+  nothing_posted = refl;
+  nothing_posted_by_head = refl;
+  not_published = refl;
+  full_ring = refl;
+  third_epoch = refl;
+}
