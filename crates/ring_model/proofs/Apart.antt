@@ -3,14 +3,15 @@ use Rattle.std.proofs.Common.{◌≡◌, ◌≢◌, ℕ, zero, suc, ◌<◌, Boo
 use Rattle.std.specs.Prelude.{slice_get, slice_set}
 use Rattle.std.proofs.lemmas.Bool.{cases_eq}
 use Rattle.std.proofs.lemmas.Option.{same_Some, none-some, slice_get_within}
+use Rattle.ring_model.specs.declared.notes.Note.{Note}
 use Rattle.ring_model.specs.shared.Schedules.{next, after_all}
 use Rattle.ring_model.specs.receive.Ring.{RxRing, rx_opening}
-use Rattle.ring_model.specs.receive.Steps.{IsRxReachable, rx_can, rx_changed}
+use Rattle.ring_model.specs.receive.Steps.{IsRxReachable, rx_can, rx_changed, rx_note_of}
 use Rattle.ring_model.specs.receive.Laws.{RxLater}
 use Rattle.ring_model.specs.transmit.Ring.{TxBeginning, TxRing, tx_opening}
-use Rattle.ring_model.specs.transmit.Steps.{IsTxReachable, tx_can, tx_changed}
+use Rattle.ring_model.specs.transmit.Steps.{IsTxReachable, tx_can, tx_changed, tx_note_of}
 use Rattle.ring_model.specs.transmit.Laws.{TxLater}
-use Rattle.ring_model.specs.Worlds.{QueueMove, Receive, Transmit, World, WorldLater, opening_world, put_next, can_move, after_move, after_moves, IsReachableWorld, IsLeftAlone, IsLawfulWorld}
+use Rattle.ring_model.specs.Worlds.{QueueMove, Receive, Transmit, World, WorldLater, opening_world, can_at, note_at, note_in, put_next, can_move, after_move, after_moves, IsReachableWorld, IsLeftAlone, IsLawfulWorld, IsStepOfQueue, MakesStep}
 use Rattle.ring_model.proofs.shared.Places.{slice_get-set_other, slice_set-writes}
 use Rattle.ring_model.proofs.shared.Reaching.{after-append, reached-opening, reached-more, reached-next}
 use Rattle.ring_model.proofs.receive.Reached.{rx_kept, rx_lawful, rx_later-all}
@@ -80,6 +81,31 @@ module _ {Ring Step : Type 0} (can : Ring → Step → Bool) (changed : Ring →
       subst Stays it (on x s (all q x e)))
       (λ ne. all k r (sym (slice_get-set_other rs q k (next can changed x s) ne) ∙ h))
       (cases_eq k q)
+
+-- the queue that is found at q makes the step, and tells what it tells
+module _ {Ring Step : Type 0} (can : Ring → Step → Bool) (changed : Ring → Step → Ring) (tells : Ring → Step → Note) where
+  makes-found : (rs : List Ring) (q : ℕ) (s : Step) (found : Option Ring) → slice_get rs q ≡ found
+      → MakesStep can changed tells rs q s (can_at can found s) (put_next (next can changed) rs q s found) (note_at can tells found s)
+  makes-found rs q s None f = record {
+    possible = λ r e. absurd (none-some r (sym f ∙ e));
+    stepped = λ r e. absurd (none-some r (sym f ∙ e));
+    tells_it = λ r e. absurd (none-some r (sym f ∙ e));
+    impossible = λ e. refl;
+    unchanged = λ e. refl;
+    tells_nothing = λ e. refl;
+  }
+  makes-found rs q s (Some x) f = record {
+    possible = λ r e. ap (λ (y : Ring). can y s) (same_Some x r (sym f ∙ e));
+    stepped = λ r e. get_set_same rs q (next can changed x s) x f ∙ ap (λ (y : Ring). Some (next can changed y s)) (same_Some x r (sym f ∙ e));
+    tells_it = λ r e. ap (λ (y : Ring). if can y s then Some (tells y s) else None) (same_Some x r (sym f ∙ e));
+    impossible = λ e. absurd (none-some x (sym e ∙ f));
+    unchanged = λ e. absurd (none-some x (sym e ∙ f));
+    tells_nothing = λ e. absurd (none-some x (sym e ∙ f));
+  }
+
+pub makes_step : (w : World) (m : QueueMove) → IsStepOfQueue w m (can_move w m) (after_move w m) (note_in w m)
+makes_step w (Receive q s) = makes-found rx_can rx_changed rx_note_of w.receive q s (slice_get w.receive q) refl
+makes_step w (Transmit q s) = makes-found tx_can tx_changed tx_note_of w.transmit q s (slice_get w.transmit q) refl
 
 pub left_alone : (w : World) (m : QueueMove) → IsLeftAlone w m (after_move w m)
 left_alone w (Receive q s) = (refl, λ k ne. others rx_can rx_changed w.receive q s (slice_get w.receive q) k ne)

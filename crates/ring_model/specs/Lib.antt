@@ -3,3 +3,4 @@ pub mod receive
 pub mod transmit
 pub mod NoteTexts
 pub mod Worlds
+pub mod WorldRows

@@ -3,13 +3,13 @@ use Rattle.std.specs.Prelude.{◌≡◌, ◌≢◌, ℕ, Bool, false, List, leng
 use Rattle.ring_model.specs.declared.steps.RxStep.{RxStep}
 use Rattle.ring_model.specs.declared.steps.TxStep.{TxStep}
 use Rattle.ring_model.specs.declared.notes.Note.{Note}
-use Rattle.ring_model.specs.shared.Schedules.{after_all, happened, IsReached}
+use Rattle.ring_model.specs.shared.Schedules.{after_all, happened, next, IsReached}
 use Rattle.ring_model.specs.receive.Ring.{RxRing, rx_opening}
-use Rattle.ring_model.specs.receive.Steps.{rx_can, rx_next, rx_note_of, IsRxReachable}
+use Rattle.ring_model.specs.receive.Steps.{rx_can, rx_changed, rx_next, rx_note_of, IsRxReachable}
 use Rattle.ring_model.specs.receive.Lawful.{IsLawfulRx}
 use Rattle.ring_model.specs.receive.Laws.{RxLater}
 use Rattle.ring_model.specs.transmit.Ring.{Posting, TxBeginning, TxRing, tx_opening}
-use Rattle.ring_model.specs.transmit.Steps.{tx_can, tx_next, tx_note_of, IsTxReachable}
+use Rattle.ring_model.specs.transmit.Steps.{tx_can, tx_changed, tx_next, tx_note_of, IsTxReachable}
 use Rattle.ring_model.specs.transmit.Lawful.{IsLawfulTx}
 use Rattle.ring_model.specs.transmit.Laws.{TxLater}
 
@@ -63,6 +63,20 @@ moves_happened = happened can_move after_move
 -- some schedule of moves makes the world out of queues of n places as they were made
 abbrev pub IsReachableWorld : ℕ → ℕ → World → Type 0
 IsReachableWorld pairs n w = IsReached can_move after_move (opening_world pairs n) w
+
+-- What a move of queue q is, from what the world makes of it: whether it may happen, the queues after it, and what it tells. The queue that stands at q makes the step, once; where none stands there, nothing happens and nothing is told
+module _ {Ring Step : Type 0} (can : Ring → Step → Bool) (changed : Ring → Step → Ring) (tells : Ring → Step → Note) where
+  pub record MakesStep (before : List Ring) (q : ℕ) (s : Step) (may : Bool) (later : List Ring) (told : Option Note) : Type 0 where
+    pub possible : (r : Ring) → slice_get before q ≡ Some r → may ≡ can r s
+    pub stepped : (r : Ring) → slice_get before q ≡ Some r → slice_get later q ≡ Some (next can changed r s)
+    pub tells_it : (r : Ring) → slice_get before q ≡ Some r → told ≡ (if can r s then Some (tells r s) else None)
+    pub impossible : slice_get before q ≡ None → may ≡ false
+    pub unchanged : slice_get before q ≡ None → later ≡ before
+    pub tells_nothing : slice_get before q ≡ None → told ≡ None
+
+abbrev pub IsStepOfQueue : World → QueueMove → Bool → World → Option Note → Type 0
+IsStepOfQueue w (Receive q s) may later told = MakesStep rx_can rx_changed rx_note_of w.receive q s may later.receive told
+IsStepOfQueue w (Transmit q s) may later told = MakesStep tx_can tx_changed tx_note_of w.transmit q s may later.transmit told
 
 -- all other queues are as they were
 abbrev pub IsLeftAlone : World → QueueMove → World → Type 0

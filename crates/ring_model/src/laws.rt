@@ -11,7 +11,7 @@ ghost use Rattle.ring_model.specs.transmit.Ring.{Posting, TxRing};
 ghost use Rattle.ring_model.specs.transmit.Steps.{IsTxReachable, tx_after_all};
 ghost use Rattle.ring_model.specs.transmit.Lawful.{IsLawfulTx};
 ghost use Rattle.ring_model.specs.transmit.Laws.{IsTxConcluded, TxLater};
-ghost use Rattle.ring_model.specs.Worlds.{QueueMove, World, after_move, after_moves, IsLawfulWorld, IsLeftAlone, IsReachableWorld, WorldLater};
+ghost use Rattle.ring_model.specs.Worlds.{QueueMove, World, after_move, after_moves, can_move, note_in, IsLawfulWorld, IsLeftAlone, IsReachableWorld, IsStepOfQueue, WorldLater};
 
 /// Every receive ring of two places or more that a schedule gives is lawful and concluded, whether its segments carry
 /// bytes or the number of their bytes: its ledgers, of this epoch and of those that ended, and its owner map are lawful;
@@ -59,10 +59,12 @@ pub fn tx_epochs_are_fixed()
     ensures size { (n : ℕ) (r : TxRing ℕ) → 1 < n → IsTxReachable ℕ n r → r.size ≡ n }
 {}
 
-/// Among queues side by side, a move leaves all but its own as they were. Whatever moves follow, there are as many
+/// Among queues side by side, a move makes one step of its own queue and tells what that step tells there, and leaves all
+/// others as they were; a move of a queue that is not there makes and tells nothing. Whatever moves follow, there are as many
 /// queues, and each goes on from what it was. Each queue of a world that a schedule of moves gives is one that a
 /// schedule of its own steps gives, and so it is lawful.
 pub fn queues_stand_apart()
+    ensures step { (w : World) (m : QueueMove) → IsStepOfQueue w m (can_move w m) (after_move w m) (note_in w m) }
     ensures alone { (w : World) (m : QueueMove) → IsLeftAlone w m (after_move w m) }
     ensures lawful { (pairs : ℕ) (n : ℕ) (w : World) → 1 < n → IsReachableWorld pairs n w → IsLawfulWorld n w }
     ensures later { (pairs : ℕ) (n : ℕ) (w : World) (more : List QueueMove) → 1 < n → IsReachableWorld pairs n w → WorldLater w (after_moves w more) }

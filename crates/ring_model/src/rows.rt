@@ -5,6 +5,7 @@ ghost use Rattle.ring_model.specs.receive.Rows.{RxRows};
 ghost use Rattle.ring_model.specs.receive.StateRows.{RxStateRows};
 ghost use Rattle.ring_model.specs.transmit.Rows.{TxRows};
 ghost use Rattle.ring_model.specs.transmit.StateRows.{TxStateRows};
+ghost use Rattle.ring_model.specs.WorldRows.{WorldRows};
 
 /// The notes of each schedule, the pieces of each frame, and what may follow an unfinished frame are those that were
 /// worked out by hand.
@@ -15,4 +16,5 @@ pub fn worked_rows()
     ensures receive_states { RxStateRows }
     ensures transmit { TxRows }
     ensures transmit_states { TxStateRows }
+    ensures worlds { WorldRows }
 {}

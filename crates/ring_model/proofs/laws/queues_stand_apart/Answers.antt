@@ -1,6 +1,9 @@
 -- Each clause is a law of worlds.
-use Rattle.ring_model.proofs.Apart.{left_alone, lawful_world, later_world, reached_world}
+use Rattle.ring_model.proofs.Apart.{makes_step, left_alone, lawful_world, later_world, reached_world}
 use Rattle.ring_model.proofs.laws.queues_stand_apart.Goals as goal
+
+pub returns-clause-step : goal.returns-clause-step
+returns-clause-step c = makes_step
 
 pub returns-clause-alone : goal.returns-clause-alone
 returns-clause-alone c = left_alone

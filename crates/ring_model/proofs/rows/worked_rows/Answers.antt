@@ -114,3 +114,13 @@ returns-clause-transmit_states c = record {
   full_ring = refl;
   third_epoch = refl;
 }
+
+pub returns-clause-worlds : goal.returns-clause-worlds
+returns-clause-worlds c = record {
+  mixed_notes = refl;
+  mixed_count = refl;
+  posted = refl;
+  taken_lengths = refl;
+  sent = refl;
+  enabling_notes = refl;
+}
