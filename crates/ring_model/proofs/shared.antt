@@ -12,3 +12,4 @@ pub mod FrameLaws
 pub mod Cuts
 pub mod Following
 pub mod Shapes
+pub mod Chains

@@ -1,7 +1,7 @@
 //! What holds of frames, as contracts of functions that do nothing.
 ghost use Rattle.std.specs.Prelude.{◌≡◌, ℕ, ◌<◌, List, [], ◌∷◌, map, length, Some, slice_get};
 ghost use Rattle.ring_model.specs.shared.Lists.{IsBeginning};
-ghost use Rattle.ring_model.specs.shared.Frames.{Bytes, cut, itself, join, chains, frames, AllFollow, HasFrameLength, IsCutBy};
+ghost use Rattle.ring_model.specs.shared.Frames.{Bytes, cut, itself, join, chains, frames, AllFollow, HasFrameLength, IsChain, IsCutBy};
 ghost use Rattle.ring_model.specs.shared.Segments.{Segment, piece_of};
 ghost use Rattle.ring_model.specs.transmit.Ring.{Posting, carried};
 ghost use Rattle.ring_model.specs.transmit.Frames.{AllMayFollow};
@@ -18,11 +18,14 @@ pub fn frames_are_rejoined()
     ensures posted_beginnings { (xs : List (Posting Bytes)) (ys : List (Posting Bytes)) → IsBeginning xs ys → IsBeginning (frames carried xs) (frames carried ys) }
 {}
 
-/// Where each segment follows the unfinished frame before it, every frame has a lawful length. So it is for postings,
-/// and the PAYLEN of each descriptor is the length of its whole frame.
+/// Where each segment follows the unfinished frame before it, every frame has a lawful length, and is a chain of 1 to 15
+/// segments, at most as many as may be out, of 1 to 2,048 bytes each. So it is for postings, and the PAYLEN of each
+/// descriptor is the length of its whole frame.
 pub fn chains_are_lawful()
     ensures stored { (n : ℕ) (ss : List (Segment Bytes)) → AllFollow piece_of n ss → (k : ℕ) (f : Bytes) → slice_get (frames piece_of ss) k ≡ Some f → HasFrameLength f }
     ensures posted { (n : ℕ) (ps : List (Posting Bytes)) → AllMayFollow n ps → (k : ℕ) (f : Bytes) → slice_get (frames carried ps) k ≡ Some f → HasFrameLength f }
+    ensures stored_chains { (n : ℕ) (ss : List (Segment Bytes)) → AllFollow piece_of n ss → (k : ℕ) (chain : List (Segment Bytes)) → slice_get (chains piece_of ss) k ≡ Some chain → IsChain piece_of n chain }
+    ensures posted_chains { (n : ℕ) (ps : List (Posting Bytes)) → AllMayFollow n ps → (k : ℕ) (chain : List (Posting Bytes)) → slice_get (chains carried ps) k ≡ Some chain → IsChain carried n chain }
     ensures paylen { (n : ℕ) (ps : List (Posting Bytes)) → AllMayFollow n ps → (k : ℕ) (chain : List (Posting Bytes)) → slice_get (chains carried ps) k ≡ Some chain
         → (i : ℕ) (p : Posting Bytes) → slice_get chain i ≡ Some p → p.paylen ≡ length (join carried chain) }
 {}

@@ -59,6 +59,16 @@ module _ {X : Type 0} (carries : X → Piece) where
   abbrev pub frames : List X → List Bytes
   frames xs = map join (chains xs)
 
+  -- A chain of a ring of n places: 1 to 15 segments, no more than may be out at once, of 1 to 2,048 bytes each; the last of them ends the frame, and no other
+  pub record IsChain (n : ℕ) (chain : List X) : Type 0 where
+    pub some_segments : 0 < length chain
+    pub few_segments : length chain ≤ MOST_SEGMENTS
+    pub descriptors : length chain ≤ n - 1
+    pub some_bytes : (i : ℕ) (x : X) → slice_get chain i ≡ Some x → 0 < length (carries x).bytes
+    pub few_bytes : (i : ℕ) (x : X) → slice_get chain i ≡ Some x → length (carries x).bytes ≤ BUFFER_BYTES
+    pub goes_on : (i : ℕ) (x : X) → slice_get chain i ≡ Some x → i + 1 < length chain → (carries x).eop ≡ false
+    pub ends : (i : ℕ) (x : X) → slice_get chain i ≡ Some x → i + 1 ≡ length chain → (carries x).eop ≡ true
+
   -- In a ring of n places these bytes may follow the unfinished frame `before`, and end it where eop holds
   pub record Follows (n : ℕ) (before : List X) (bytes : Bytes) (eop : Bool) : Type 0 where
     pub some_bytes : 0 < length bytes
