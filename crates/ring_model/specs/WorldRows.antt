@@ -1,6 +1,6 @@
 -- Worked rows of two pairs side by side: whose queue makes each step, and what it tells.
 use Rattle.std.specs.Prelude.{◌≡◌, ℕ, true, false, List, [], ◌∷◌, map, length, Option, None}
-use Rattle.ring_model.specs.declared.steps.ControlStep.TheVariants.{AskEnable, LookAsked, Answer, AskDisable}
+use Rattle.ring_model.specs.declared.steps.ControlStep.TheVariants.{AskEnable, LookAsked, Answer}
 use Rattle.ring_model.specs.declared.steps.RxStep.TheVariants as rx
 use Rattle.ring_model.specs.declared.steps.TxStep.TheVariants as tx
 use Rattle.ring_model.specs.declared.states.Completion.TheVariants as by

@@ -1,9 +1,9 @@
 -- What holds of every chain: from what holds of an unfinished frame as it grows, to the chain that the last segment makes of it.
-use Rattle.std.proofs.Common.{◌≡◌, ℕ, zero, suc, ◌+◌, ◌-◌, ◌<◌, ◌≤◌, Bool, true, false, List, [], ◌∷◌, ◌++◌, length, take, Some, sym, refl, ap, ◌∙◌, ⊎_elim, subst, arith, if◌then◌else◌, length-append}
+use Rattle.std.proofs.Common.{◌≡◌, ℕ, zero, suc, ◌<◌, ◌≤◌, Bool, true, false, List, [], ◌∷◌, ◌++◌, length, take, Some, refl, ⊎_elim, subst, arith, if◌then◌else◌, length-append}
 use Rattle.std.specs.Prelude.{slice_get}
-use Rattle.std.proofs.lemmas.Option.{none-some, same_Some, slice_get_within}
-use Rattle.limits.specs.declared.profile.TheConstants.{BUFFER_BYTES, MOST_SEGMENTS}
-use Rattle.ring_model.specs.shared.Frames.{Bytes, Piece, unfinished_from, chains_from, chains, Follows, AllFollow, IsChain}
+use Rattle.std.proofs.lemmas.Option.{none-some, same_Some}
+use Rattle.limits.specs.declared.profile.TheConstants.{BUFFER_BYTES}
+use Rattle.ring_model.specs.shared.Frames.{Piece, unfinished_from, chains_from, chains, Follows, AllFollow, IsChain}
 use Rattle.ring_model.proofs.shared.Beginnings.{slice_get-snoc}
 
 module _ {X : Type 0} (carries : X → Piece) where

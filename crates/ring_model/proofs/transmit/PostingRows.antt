@@ -1,7 +1,6 @@
 -- What may be posted first, and behind a first half, from numbers alone.
 use Rattle.std.proofs.Common.{◌≡◌, ℕ, zero, suc, ◌+◌, ◌<◌, ◌≤◌, Bool, true, false, [], ◌∷◌, length, Some, sym, refl, ap, ◌∙◌, arith, append-nil}
 use Rattle.std.specs.Prelude.{slice_get}
-use Rattle.std.proofs.lemmas.Bool.{false≢true}
 use Rattle.std.proofs.lemmas.Option.{none-some, same_Some}
 use Rattle.ring_model.specs.shared.Frames.{Bytes, join}
 use Rattle.ring_model.specs.transmit.Ring.{Posting, new_posting, carried}
