@@ -3,7 +3,7 @@
 use crate::told::Row;
 
 /// Each list that a table of the machine's moves gives.
-pub const ROWS: [Row; 15] = [
+pub const ROWS: [Row; 17] = [
     // one frame is received
     Row {
         words: &["replay"],
@@ -333,6 +333,104 @@ pub const ROWS: [Row; 15] = [
          r0 A5 place 0\n\
          r0 A6 buffer 9 length 60 eop 1\n\
          moves 29 of 33\n",
+    },
+    // a transmit queue is disabled within a frame; the report that is owed comes first
+    Row {
+        words: &["replay"],
+        input: "t0 B1 1 2048 0 0 2100\n\
+         t0 B2\n\
+         t0 B1 2 52 1 1 2100\n\
+         t0 B2\n\
+         t0 B3\n\
+         t0 B4\n\
+         t0 C5\n\
+         t0 B5\n\
+         t0 C2\n\
+         t0 C3\n\
+         t0 B4\n\
+         t0 B5\n\
+         t0 C3\n\
+         t0 B6\n\
+         t0 C3\n\
+         t0 B7\n\
+         t0 B8\n\
+         t0 C4\n\
+         t0 B8\n\
+         t0 C6\n\
+         t0 C6\n\
+         t0 C9\n\
+         t0 C10\n\
+         t0 C1\n",
+        output: "t0 B1 place 0\n\
+         t0 B2 not enabled\n\
+         t0 B1 place 1\n\
+         t0 B2 tail 2\n\
+         t0 B3 ready 2\n\
+         t0 B4 place 0 buffer 1 length 2048 eop 0 rs 0\n\
+         t0 C5 control 3\n\
+         t0 B5 head 1\n\
+         t0 C2 control 3\n\
+         t0 C3 not enabled\n\
+         t0 B4 place 1 buffer 2 length 52 eop 1 rs 1\n\
+         t0 B5 head 2\n\
+         t0 C3 not enabled\n\
+         t0 B6 place 1\n\
+         t0 C3 control 0\n\
+         t0 B7 reported 1\n\
+         t0 B8 buffer 1\n\
+         t0 C4 control 0\n\
+         t0 B8 not enabled\n\
+         t0 C6 buffer 2\n\
+         t0 C6 not enabled\n\
+         t0 C9 head 0\n\
+         t0 C10 tail 0\n\
+         t0 C1 control 1\n\
+         moves 19 of 24\n",
+    },
+    // segments without and with EOP are taken, the second after the controller has ended
+    Row {
+        words: &["replay"],
+        input: "r0 A1 1\n\
+         r0 A1 2\n\
+         r0 A1 3\n\
+         r0 A2\n\
+         r0 A3\n\
+         r0 A4\n\
+         r0 A5 2048 0\n\
+         r0 A6\n\
+         r0 C5\n\
+         r0 A4\n\
+         r0 A5 1 1\n\
+         r0 C8\n\
+         r0 A7\n\
+         r0 C2\n\
+         r0 C3\n\
+         r0 A6\n\
+         r0 A6\n\
+         r0 C4\n\
+         r0 A6\n\
+         r0 C6\n",
+        output: "r0 A1 place 0\n\
+         r0 A1 place 1\n\
+         r0 A1 place 2\n\
+         r0 A2 tail 3\n\
+         r0 A3 free 3\n\
+         r0 A4 place 0 buffer 1\n\
+         r0 A5 place 0\n\
+         r0 A6 buffer 1 length 2048 eop 0\n\
+         r0 C5 control 3\n\
+         r0 A4 place 1 buffer 2\n\
+         r0 A5 place 1\n\
+         r0 C8 quiet 0\n\
+         r0 A7 head 2\n\
+         r0 C2 control 3\n\
+         r0 C3 control 0\n\
+         r0 A6 buffer 2 length 1 eop 1\n\
+         r0 A6 none\n\
+         r0 C4 control 0\n\
+         r0 A6 not enabled\n\
+         r0 C6 buffer 3\n\
+         moves 19 of 20\n",
     },
     // the last queue of eight pairs, of the greatest ring
     Row {
