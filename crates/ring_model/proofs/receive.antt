@@ -1,4 +1,3 @@
-pub mod Kept
 pub mod Over
 pub mod Stepping
 pub mod Reached

@@ -1,4 +1,3 @@
-pub mod Kept
 pub mod Reports
 pub mod Stepping
 pub mod Reached

@@ -5,3 +5,4 @@ pub mod Laws
 pub mod Agreement
 pub mod Rows
 pub mod StateRows
+pub mod Kept

@@ -11,3 +11,4 @@ pub mod Schedules
 pub mod Lawful
 pub mod Laws
 pub mod Agreement
+pub mod Kept

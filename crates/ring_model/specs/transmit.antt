@@ -7,3 +7,4 @@ pub mod Agreement
 pub mod Rows
 pub mod StateRows
 pub mod PostingRows
+pub mod Kept

@@ -5,10 +5,12 @@ ghost use Rattle.ring_model.specs.declared.steps.TxStep.{TxStep};
 ghost use Rattle.ring_model.specs.shared.Frames.{Bytes};
 ghost use Rattle.ring_model.specs.receive.Ring.{RxRing};
 ghost use Rattle.ring_model.specs.receive.Steps.{IsRxReachable, rx_after_all};
+ghost use Rattle.ring_model.specs.receive.Kept.{IsRxKept};
 ghost use Rattle.ring_model.specs.receive.Lawful.{IsLawfulRx};
 ghost use Rattle.ring_model.specs.receive.Laws.{IsRxConcluded, RxLater};
 ghost use Rattle.ring_model.specs.transmit.Ring.{Posting, TxRing};
 ghost use Rattle.ring_model.specs.transmit.Steps.{IsTxReachable, tx_after_all};
+ghost use Rattle.ring_model.specs.transmit.Kept.{IsTxKept};
 ghost use Rattle.ring_model.specs.transmit.Lawful.{IsLawfulTx};
 ghost use Rattle.ring_model.specs.transmit.Laws.{IsTxConcluded, TxLater};
 ghost use Rattle.ring_model.specs.Worlds.{QueueMove, World, after_move, after_moves, can_move, note_in, IsLawfulWorld, IsLeftAlone, IsReachableWorld, IsStepOfQueue, WorldLater};
@@ -17,12 +19,16 @@ ghost use Rattle.ring_model.specs.Worlds.{QueueMove, World, after_move, after_mo
 /// bytes or the number of their bytes: its ledgers, of this epoch and of those that ended, and its owner map are lawful;
 /// its counts stand in their order; where the driver saw the disabling answered, the controller has ended; where its
 /// controller stores no more, the last frame is whole, and the head tells how many segments were stored until it is
-/// cleared; where the quiet word is 1, the controller said so, and stores no more in this epoch.
+/// cleared; where the quiet word is 1, the controller said so, and stores no more in this epoch. What every step keeps
+/// says more (`IsRxKept`): which control words and values seen go with the two states, that nothing is served before the
+/// enabling is answered, and that all is back once the head is cleared.
 pub fn rx_rings_are_lawful()
     ensures bytes { (n : ℕ) (r : RxRing Bytes) → 1 < n → IsRxReachable Bytes n r → IsLawfulRx Bytes r }
     ensures lengths { (n : ℕ) (r : RxRing ℕ) → 1 < n → IsRxReachable ℕ n r → IsLawfulRx ℕ r }
     ensures concluded_bytes { (n : ℕ) (r : RxRing Bytes) → 1 < n → IsRxReachable Bytes n r → IsRxConcluded r }
     ensures concluded_lengths { (n : ℕ) (r : RxRing ℕ) → 1 < n → IsRxReachable ℕ n r → IsRxConcluded r }
+    ensures kept_bytes { (n : ℕ) (r : RxRing Bytes) → 1 < n → IsRxReachable Bytes n r → IsRxKept Bytes n r }
+    ensures kept_lengths { (n : ℕ) (r : RxRing ℕ) → 1 < n → IsRxReachable ℕ n r → IsRxKept ℕ n r }
 {}
 
 /// Whatever schedule goes on from a receive ring that a schedule gave: a schedule gave the ring after it too, of as many
@@ -32,6 +38,8 @@ pub fn rx_rings_are_lawful()
 pub fn rx_epochs_are_fixed()
     ensures bytes { (n : ℕ) (r : RxRing Bytes) (more : List (RxStep Bytes)) → 1 < n → IsRxReachable Bytes n r → RxLater r (rx_after_all r more) }
     ensures lengths { (n : ℕ) (r : RxRing ℕ) (more : List (RxStep ℕ)) → 1 < n → IsRxReachable ℕ n r → RxLater r (rx_after_all r more) }
+    ensures reached_bytes { (n : ℕ) (r : RxRing Bytes) (more : List (RxStep Bytes)) → IsRxReachable Bytes n r → IsRxReachable Bytes n (rx_after_all r more) }
+    ensures size_bytes { (n : ℕ) (r : RxRing Bytes) → 1 < n → IsRxReachable Bytes n r → r.size ≡ n }
     ensures reached { (n : ℕ) (r : RxRing ℕ) (more : List (RxStep ℕ)) → IsRxReachable ℕ n r → IsRxReachable ℕ n (rx_after_all r more) }
     ensures size { (n : ℕ) (r : RxRing ℕ) → 1 < n → IsRxReachable ℕ n r → r.size ≡ n }
 {}
@@ -40,12 +48,15 @@ pub fn rx_epochs_are_fixed()
 /// ledgers, of this epoch and of those that ended, and its owner map are lawful; its counts stand in their order; what
 /// is published ends with a whole frame; where the driver saw the disabling answered, the controller has ended; where
 /// the controller answered it, the last frame is whole, no report is owed, and the head tells how many segments were
-/// sent until it is cleared. Where all that was posted is cleaned, all was sent, in order.
+/// sent until it is cleared. Where all that was posted is cleaned, all was sent, in order. What every step keeps says more
+/// (`IsTxKept`), as for receive rings, and of reports: of what was sent and not reported only the last may have asked.
 pub fn tx_rings_are_lawful()
     ensures bytes { (n : ℕ) (r : TxRing Bytes) → 1 < n → IsTxReachable Bytes n r → IsLawfulTx Bytes r }
     ensures lengths { (n : ℕ) (r : TxRing ℕ) → 1 < n → IsTxReachable ℕ n r → IsLawfulTx ℕ r }
     ensures concluded_bytes { (n : ℕ) (r : TxRing Bytes) → 1 < n → IsTxReachable Bytes n r → IsTxConcluded r }
     ensures concluded_lengths { (n : ℕ) (r : TxRing ℕ) → 1 < n → IsTxReachable ℕ n r → IsTxConcluded r }
+    ensures kept_bytes { (n : ℕ) (r : TxRing Bytes) → 1 < n → IsTxReachable Bytes n r → IsTxKept Bytes n r }
+    ensures kept_lengths { (n : ℕ) (r : TxRing ℕ) → 1 < n → IsTxReachable ℕ n r → IsTxKept ℕ n r }
 {}
 
 /// Whatever schedule goes on from a transmit ring that a schedule gave: a schedule gave the ring after it too, of as
@@ -55,6 +66,8 @@ pub fn tx_rings_are_lawful()
 pub fn tx_epochs_are_fixed()
     ensures bytes { (n : ℕ) (r : TxRing Bytes) (more : List (TxStep (Posting Bytes))) → 1 < n → IsTxReachable Bytes n r → TxLater r (tx_after_all r more) }
     ensures lengths { (n : ℕ) (r : TxRing ℕ) (more : List (TxStep (Posting ℕ))) → 1 < n → IsTxReachable ℕ n r → TxLater r (tx_after_all r more) }
+    ensures reached_bytes { (n : ℕ) (r : TxRing Bytes) (more : List (TxStep (Posting Bytes))) → IsTxReachable Bytes n r → IsTxReachable Bytes n (tx_after_all r more) }
+    ensures size_bytes { (n : ℕ) (r : TxRing Bytes) → 1 < n → IsTxReachable Bytes n r → r.size ≡ n }
     ensures reached { (n : ℕ) (r : TxRing ℕ) (more : List (TxStep (Posting ℕ))) → IsTxReachable ℕ n r → IsTxReachable ℕ n (tx_after_all r more) }
     ensures size { (n : ℕ) (r : TxRing ℕ) → 1 < n → IsTxReachable ℕ n r → r.size ≡ n }
 {}

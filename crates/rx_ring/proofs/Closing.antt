@@ -8,7 +8,7 @@ use Rattle.ring_model.specs.receive.Ring.{RxRing}
 use Rattle.ring_model.specs.shared.Segments.{Segment, ends_segment, piece_of}
 use Rattle.ring_model.specs.shared.Frames.{Bytes}
 use Rattle.ring_model.specs.shared.Queue.{posted_count, served_count, returned_count}
-use Rattle.ring_model.proofs.receive.Kept.{IsRxKept}
+use Rattle.ring_model.specs.receive.Kept.{IsRxKept}
 use Rattle.ring_model.proofs.receive.Reached.{rx_kept}
 use Rattle.ring_model.proofs.shared.Beginnings.{next_number}
 use Rattle.ring_model.proofs.shared.Beginnings as beginnings

@@ -12,7 +12,7 @@ use Rattle.ring_model.specs.receive.Laws.{RxLater, rx_over}
 use Rattle.ring_model.specs.receive.Ring.{RxRing, due}
 use Rattle.ring_model.specs.shared.Segments.{Segment, ends_segment}
 use Rattle.ring_model.specs.receive.Steps.{rx_can, rx_changed, took}
-use Rattle.ring_model.proofs.receive.Kept.{IsRxKept}
+use Rattle.ring_model.specs.receive.Kept.{IsRxKept}
 use Rattle.ring_model.proofs.receive.Reached.{rx_later-all}
 use Rattle.ring_model.proofs.receive.Over.{over-ended, said-stays}
 use Rattle.ring_model.proofs.shared.Reaching.{next-happens}

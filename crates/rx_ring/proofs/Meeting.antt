@@ -7,7 +7,7 @@ use Rattle.ring_model.specs.shared.Segments.{Segment, ends_segment}
 use Rattle.ring_model.specs.receive.Lawful.{IsLawfulRxLedger}
 use Rattle.ring_model.specs.shared.Frames.{Bytes}
 use Rattle.ring_model.specs.shared.Queue.{served_count, given_count}
-use Rattle.ring_model.proofs.receive.Kept.{IsRxKept}
+use Rattle.ring_model.specs.receive.Kept.{IsRxKept}
 use Rattle.ring_model.proofs.receive.Reached.{rx_kept}
 use Rattle.ring_model.proofs.shared.Places.{ahead}
 use Rattle.shared_ring.proofs.Laying.{none-empty}

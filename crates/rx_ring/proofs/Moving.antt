@@ -19,7 +19,7 @@ use Rattle.ring_model.specs.receive.Agreement.{rx_word}
 use Rattle.ring_model.specs.receive.Ring.{RxRing, rx_opening, due, is_whole, next_segment}
 use Rattle.ring_model.specs.shared.Segments.{Segment, ends_segment, piece_of}
 use Rattle.ring_model.specs.receive.Steps.{IsRxReachable, rx_can, rx_changed, rx_settled, took}
-use Rattle.ring_model.proofs.receive.Kept.{IsRxKept}
+use Rattle.ring_model.specs.receive.Kept.{IsRxKept}
 use Rattle.ring_model.proofs.receive.Reached.{rx_kept}
 use Rattle.ring_model.proofs.shared.FrameLaws.{AllFollow-nil, AllFollow-snoc}
 use Rattle.ring_model.proofs.shared.Reaching.{reached-changed, reached-opening}

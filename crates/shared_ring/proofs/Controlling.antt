@@ -13,7 +13,7 @@ use Rattle.ring_model.specs.shared.QueueSteps.{Post, Publish, Look, Fetch, Serve
 use Rattle.ring_model.specs.shared.Queue.{Queue, posted_count, served_count, by}
 use Rattle.ring_model.proofs.shared.Beginnings.{slice_get-front}
 use Rattle.ring_model.proofs.shared.Places.{ahead}
-use Rattle.ring_model.proofs.shared.Kept.{IsKept}
+use Rattle.ring_model.specs.shared.Kept.{IsKept}
 use Rattle.ring_model.proofs.shared.Shakes.{new_open, on_serving, serving_unended, learned_open, stopped_answered, cleared_emptied, tailed_emptied, emptied_answered, answered_closed}
 use Rattle.ring_model.proofs.shared.Stepping.{shook, held_below, answered_idle, answered_unheld}
 use Rattle.shared_ring.specs.Records.{Controlled, count_at}

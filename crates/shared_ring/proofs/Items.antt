@@ -9,7 +9,7 @@ use Rattle.ring_model.specs.shared.Queue.{Queue, posted_count, served_count, giv
 use Rattle.ring_model.specs.shared.Agreement.{HasItems, wanted_slot, wanted_word}
 use Rattle.ring_model.proofs.shared.Beginnings.{slice_get-front}
 use Rattle.ring_model.proofs.shared.Places.{Writes, each_item-set, each_item-push, each_item-drop}
-use Rattle.ring_model.proofs.shared.Kept.{IsKept}
+use Rattle.ring_model.specs.shared.Kept.{IsKept}
 use Rattle.ring_model.proofs.shared.Stepping.{held_below, returned_served}
 use Rattle.shared_ring.proofs.Laying.{slice_get-past, slice_get-last, slice_get-snoc_other}
 

@@ -14,7 +14,7 @@ use Rattle.ring_model.specs.shared.QueueSteps.{Post, Publish, Look, Fetch, Serve
 use Rattle.ring_model.specs.shared.Queue.{Queue, posted_count, served_count, returned_count, may, by}
 use Rattle.ring_model.specs.shared.Agreement.{HasItems, HasRegisters, registers_of}
 use Rattle.ring_model.proofs.shared.Places.{Writes, slice_index-writes}
-use Rattle.ring_model.proofs.shared.Kept.{IsKept}
+use Rattle.ring_model.specs.shared.Kept.{IsKept}
 use Rattle.ring_model.proofs.shared.Shakes.{shakes-disable, serving_unanswered}
 use Rattle.ring_model.proofs.shared.Stepping.{shook}
 use Rattle.shared_ring.specs.Slots.{home_at}

@@ -19,7 +19,7 @@ use Rattle.ring_model.specs.shared.Handshakes.{is_open, is_new, is_on, is_stoppe
 use Rattle.ring_model.specs.shared.Queue.{posted_count, served_count, returned_count, next_head}
 use Rattle.ring_model.proofs.shared.Shakes.{open_unanswered, stopped_answered, answered_closed, stopped_full}
 use Rattle.ring_model.proofs.shared.Stepping.{shook, held_below, returned_served, answered_over, answered_unheld}
-use Rattle.ring_model.proofs.transmit.Kept.{IsTxKept}
+use Rattle.ring_model.specs.transmit.Kept.{IsTxKept}
 use Rattle.ring_model.proofs.transmit.Postings.{may_follow_next}
 use Rattle.ring_model.proofs.transmit.Reached.{tx_lawful}
 use Rattle.shared_ring.specs.declared.events.DriverEvent.TheVariants as driver

@@ -10,7 +10,7 @@ use Rattle.ring_model.specs.shared.Queue.{served_count}
 use Rattle.ring_model.specs.transmit.Laws.{TxLater, tx_over}
 use Rattle.ring_model.specs.transmit.Ring.{TxRing, ends_posting}
 use Rattle.ring_model.specs.transmit.Steps.{tx_can, tx_changed}
-use Rattle.ring_model.proofs.transmit.Kept.{IsTxKept}
+use Rattle.ring_model.specs.transmit.Kept.{IsTxKept}
 use Rattle.ring_model.proofs.transmit.Reached.{tx_later-all}
 use Rattle.ring_model.proofs.shared.Reaching.{next-happens}
 use Rattle.ring_model.proofs.shared.Shakes.{answered_closed, stopped_answered, stopped_full}

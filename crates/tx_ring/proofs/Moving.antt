@@ -20,7 +20,7 @@ use Rattle.ring_model.specs.transmit.Frames.{MayFollow}
 use Rattle.ring_model.specs.transmit.Ring.{TxRing, are_whole, carried, ends_posting, next_sent}
 use Rattle.ring_model.specs.transmit.Steps.{IsTxReachable, by_head, is_there, cleaned_one, loaded_report, oldest_report, tx_can, tx_changed, tx_cleared, tx_renewed, tx_settled}
 use Rattle.ring_model.specs.transmit.Agreement.{posting_word}
-use Rattle.ring_model.proofs.transmit.Kept.{IsTxKept}
+use Rattle.ring_model.specs.transmit.Kept.{IsTxKept}
 use Rattle.ring_model.proofs.transmit.Stepping.{seen_sent}
 use Rattle.ring_model.proofs.transmit.Postings.{AllMayFollow-nil, AllMayFollow-snoc}
 use Rattle.ring_model.proofs.shared.Beginnings.{slice_get-front}

@@ -16,7 +16,7 @@ use Rattle.ring_model.specs.transmit.Ring.{TxRing}
 use Rattle.ring_model.specs.transmit.Steps.{by_head, asks_report, first_report, oldest_report}
 use Rattle.ring_model.proofs.shared.Places.{ahead}
 use Rattle.ring_model.proofs.shared.Shakes.{live_unanswered}
-use Rattle.ring_model.proofs.transmit.Kept.{IsTxKept}
+use Rattle.ring_model.specs.transmit.Kept.{IsTxKept}
 use Rattle.ring_model.proofs.transmit.Stepping.{first_report-above}
 use Rattle.tx_ring.specs.Records.{Posting, DriverStep, ControllerStep}
 use Rattle.tx_ring.specs.Rule.{LiesAs, filled, says, word_of}

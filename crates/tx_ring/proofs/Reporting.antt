@@ -14,7 +14,7 @@ use Rattle.ring_model.specs.shared.Agreement.{registers_of, wanted_word}
 use Rattle.ring_model.specs.transmit.Agreement.{done_word, is_told, posting_word}
 use Rattle.ring_model.specs.transmit.Ring.{TxRing, TxBeginning, tx_opening, ends_posting}
 use Rattle.ring_model.specs.transmit.Steps.{by_head, asks_report, tx_can, tx_changed}
-use Rattle.ring_model.proofs.transmit.Kept.{IsTxKept}
+use Rattle.ring_model.specs.transmit.Kept.{IsTxKept}
 use Rattle.ring_model.proofs.transmit.Postings.{AllMayFollow-nil}
 use Rattle.ring_model.proofs.shared.Beginnings.{slice_get-front}
 use Rattle.ring_model.proofs.shared.Places.{Writes, each_item-set, each_item-same, slice_index-writes}

@@ -15,7 +15,7 @@ use Rattle.ring_model.specs.receive.Ring.{RxRing, RxQueue, due, next_segment}
 use Rattle.ring_model.specs.shared.Segments.{Segment, ends_segment}
 use Rattle.ring_model.specs.receive.Steps.{rx_can, rx_changed, rx_settled, took}
 use Rattle.ring_model.specs.receive.Agreement.{rx_word}
-use Rattle.ring_model.proofs.receive.Kept.{IsRxKept}
+use Rattle.ring_model.specs.receive.Kept.{IsRxKept}
 use Rattle.ring_machine.specs.shared.Machine.{IsSound}
 use Rattle.ring_machine.specs.shared.Moves.{after_out}
 use Rattle.ring_machine.specs.receive.Machine.{RxAgrees, RxParts, lies_rx, says_rx}

@@ -8,7 +8,7 @@ use Rattle.ring_model.specs.receive.Ring.{RxRing, due, rx_opening}
 use Rattle.ring_model.specs.shared.Segments.{Segment, ends_segment}
 use Rattle.ring_model.specs.receive.Steps.{IsRxReachable, rx_can, rx_changed, rx_note_of, took}
 use Rattle.ring_model.proofs.shared.Reaching.{kept-reached, reached-more}
-use Rattle.ring_model.proofs.receive.Kept.{IsRxKept}
+use Rattle.ring_model.specs.receive.Kept.{IsRxKept}
 use Rattle.ring_model.proofs.receive.Reached.{rx_kept}
 use Rattle.ring_machine.specs.declared.error.MachineError.{MachineError}
 use Rattle.ring_machine.specs.declared.error.MachineError.TheVariants as refusal

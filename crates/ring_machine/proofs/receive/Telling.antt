@@ -16,7 +16,7 @@ use Rattle.ring_model.specs.shared.Segments.{Segment, ends_segment}
 use Rattle.ring_model.specs.receive.Steps.{rx_can, rx_note_of, rx_settled, taken_segment}
 use Rattle.ring_model.specs.receive.Agreement.{rx_word}
 use Rattle.ring_model.proofs.shared.Beginnings.{number_at}
-use Rattle.ring_model.proofs.receive.Kept.{IsRxKept}
+use Rattle.ring_model.specs.receive.Kept.{IsRxKept}
 use Rattle.ring_machine.specs.shared.Moves.{are_all_back, can_fetch, is_idle, looks_settled, refused_empty}
 use Rattle.ring_machine.specs.receive.Machine.{RxAgrees, RxParts, lies_rx, says_rx}
 use Rattle.ring_machine.specs.receive.Moves.{has_dd, has_eop, next_slot, next_word, rx_may, rx_told, take_told}

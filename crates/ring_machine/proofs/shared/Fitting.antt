@@ -11,7 +11,7 @@ use Rattle.ring_model.specs.shared.Queue.{Queue, posted_count, served_count, giv
 use Rattle.ring_model.specs.shared.Agreement.{Agrees, HasItems, Wrapped, wanted_slot, wanted_word}
 use Rattle.ring_model.proofs.shared.Beginnings.{slice_get-front}
 use Rattle.ring_model.proofs.shared.Places.{Writes, next_place, each_item-set, each_item-push, each_item-drop}
-use Rattle.ring_model.proofs.shared.Kept.{IsKept}
+use Rattle.ring_model.specs.shared.Kept.{IsKept}
 use Rattle.ring_model.proofs.shared.Shakes.{live_unanswered, serving_unended}
 use Rattle.ring_model.proofs.shared.Stepping.{held_below, returned_served}
 use Rattle.ring_machine.specs.shared.Machine.{IsSound}

@@ -9,7 +9,7 @@ use Rattle.ring_model.specs.shared.Lawful.{IsLawfulMap}
 use Rattle.ring_model.specs.shared.Queue.{Queue, posted_count, served_count, returned_count, next_head}
 use Rattle.ring_model.specs.shared.Agreement.{Agrees, Wrapped}
 use Rattle.ring_model.proofs.shared.Places.{ahead}
-use Rattle.ring_model.proofs.shared.Kept.{IsKept}
+use Rattle.ring_model.specs.shared.Kept.{IsKept}
 use Rattle.ring_model.proofs.shared.Stepping.{held_below, returned_served}
 use Rattle.ring_machine.specs.shared.Moves.{told_owner}
 use Rattle.ring_machine.proofs.shared.PlaceTests.{and_same}

@@ -13,7 +13,7 @@ use Rattle.ring_model.specs.shared.QueueSteps as queue
 use Rattle.ring_model.specs.shared.Queue.{Queue, posted_count, served_count, given_count, returned_count, next_head, is_settled, may}
 use Rattle.ring_model.specs.shared.Agreement.{Agrees, Wrapped}
 use Rattle.ring_model.proofs.shared.Places.{ahead, next_place}
-use Rattle.ring_model.proofs.shared.Kept.{IsKept}
+use Rattle.ring_model.specs.shared.Kept.{IsKept}
 use Rattle.ring_model.proofs.shared.Shakes.{open_unanswered, live_unanswered, stopped_answered, serving_unended}
 use Rattle.ring_model.proofs.shared.Stepping.{answered_unheld, held_below, returned_served}
 use Rattle.ring_model.specs.shared.Places.{place_next, between_places}

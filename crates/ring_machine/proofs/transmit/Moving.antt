@@ -17,10 +17,10 @@ use Rattle.ring_model.specs.transmit.Steps.{asks_report, by_head, cleaned_one, i
 use Rattle.ring_model.specs.transmit.Agreement.{done_word, is_told, tx_word}
 use Rattle.ring_model.proofs.shared.Beginnings.{beginning_at, slice_get-front}
 use Rattle.ring_model.proofs.shared.Places.{each_item-set}
-use Rattle.ring_model.proofs.shared.Kept.{IsKept}
+use Rattle.ring_model.specs.shared.Kept.{IsKept}
 use Rattle.ring_model.proofs.shared.Shakes.{serving_unanswered}
 use Rattle.ring_model.proofs.shared.Stepping.{kept-clear_tail, kept-serve, shook}
-use Rattle.ring_model.proofs.transmit.Kept.{IsTxKept}
+use Rattle.ring_model.specs.transmit.Kept.{IsTxKept}
 use Rattle.ring_model.specs.shared.Places.{place_next}
 use Rattle.ring_machine.specs.shared.Moves.{after_clear_tail, after_serve}
 use Rattle.ring_machine.specs.transmit.Machine.{IsTxSound, StepFits, TxAgrees, TxParts, lies_tx, says_tx}

@@ -9,7 +9,7 @@ use Rattle.ring_model.specs.transmit.Ring.{Posting, TxBeginning, TxRing, ends_po
 use Rattle.ring_model.specs.transmit.Steps.{IsTxReachable, by_head, cleaned_one, loaded_report, oldest_report, sent_one, tx_can, tx_changed, tx_cleared, tx_note_of}
 use Rattle.ring_model.specs.transmit.Agreement.{is_told}
 use Rattle.ring_model.proofs.shared.Reaching.{kept-reached, reached-more}
-use Rattle.ring_model.proofs.transmit.Kept.{IsTxKept}
+use Rattle.ring_model.specs.transmit.Kept.{IsTxKept}
 use Rattle.ring_model.proofs.transmit.Reached.{tx_kept}
 use Rattle.ring_machine.specs.shared.Following.{count_of}
 use Rattle.ring_machine.specs.declared.error.MachineError.{MachineError}

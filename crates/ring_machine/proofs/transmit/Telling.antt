@@ -17,7 +17,7 @@ use Rattle.ring_model.specs.transmit.Agreement.{done_word, is_told, posting_word
 use Rattle.ring_model.proofs.shared.Beginnings.{beginning_at}
 use Rattle.ring_model.proofs.shared.Places.{ahead, next_place}
 use Rattle.ring_model.proofs.shared.Stepping.{returned_served}
-use Rattle.ring_model.proofs.transmit.Kept.{IsTxKept}
+use Rattle.ring_model.specs.transmit.Kept.{IsTxKept}
 use Rattle.ring_model.proofs.transmit.Stepping.{first_report-above}
 use Rattle.ring_model.specs.shared.Places.{between_places, place_next}
 use Rattle.ring_machine.specs.shared.Moves.{can_fetch, looks_settled, refused_empty}

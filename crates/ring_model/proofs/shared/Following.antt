@@ -4,19 +4,10 @@ use Rattle.std.specs.Prelude.{slice_get}
 use Rattle.std.proofs.lemmas.Bool.{false≢true}
 use Rattle.std.proofs.lemmas.Option.{none-some, same_Some}
 use Rattle.limits.specs.declared.profile.TheConstants.{BUFFER_BYTES, LEAST_FRAME, MOST_FRAME, MOST_SEGMENTS}
-use Rattle.ring_model.specs.shared.Frames.{Bytes, Piece, pieces, piece_count, cut, join, ends_frame, unfinished_from, unfinished, Follows}
+use Rattle.ring_model.specs.shared.Frames.{Bytes, Piece, pieces, piece_count, cut, join, ends_frame, unfinished_from, unfinished, CanCut, Follows}
 use Rattle.ring_model.proofs.shared.Beginnings.{same_head, same_tail}
 use Rattle.ring_model.proofs.shared.FrameLaws.{length-join-snoc}
 use Rattle.ring_model.proofs.shared.Cuts.{Needs, needs, one_less, shortest}
-
--- a frame of so many bytes can be cut to pieces of b bytes, and stored or posted in a ring of n places
-pub record CanCut (n b len : ℕ) : Type 0 where
-  pub some_room : 0 < b
-  pub room : b ≤ BUFFER_BYTES
-  pub least : LEAST_FRAME ≤ len
-  pub most : len ≤ MOST_FRAME
-  pub segments : piece_count b len ≤ MOST_SEGMENTS
-  pub descriptors : piece_count b len < n
 
 -- len bytes are left for k + 1 pieces, behind so many segments with so many bytes
 record Left (n b k segments bytes len : ℕ) : Type 0 where

@@ -4,7 +4,7 @@ use Rattle.std.specs.Prelude.{slice_get, slice_index, slice_set, ◌==◌}
 use Rattle.std.proofs.lemmas.Bool.{cases_eq, cases_lt, eqb-true, eqb-false}
 use Rattle.std.proofs.Math.Nat.{mod-add-mod, add-mod_right, mod_self}
 use native.Mathlib.Decide.{dec_le}
-use Rattle.ring_model.specs.shared.Lists.{EachItem}
+use Rattle.ring_model.specs.shared.Lists.{EachItem, Writes}
 
 further : (x y n : ℕ) → x < y → x * n + n ≤ y * n
 further x y n h = let a : suc x * n ≤ y * n = mul-le-mul_right n h in omega (arith, suc-mul x n)
@@ -55,11 +55,6 @@ ahead_by n a b d an dn e = ⊎_elim
 pub ahead : (n s k : ℕ) → 0 < n → s ≤ k → k < s + n → (k % n + n - s % n) % n ≡ k - s
 ahead n s k pos le lt = let e : s + (k - s) ≡ k = omega arith in
     ahead_by n (s % n) (k % n) (k - s) (mod-lt s pos) (omega arith) (ap (λ (j : ℕ). j % n) (sym e) ∙ sym (mod-add-mod s n (k - s)))
-
--- after one write: x at the place p, and all else as it was
-pub record Writes {X : Type 0} (n : ℕ) (before later : ℕ → X) (p : ℕ) (x : X) : Type 0 where
-  pub here : later p ≡ x
-  pub rest : (j : ℕ) → j < n → j ≢ p → later j ≡ before j
 
 -- one write at the place of item i, which alone wants something else than before
 pub each_item-set : {X : Type 0} (n first past i : ℕ) (before later : ℕ → X) (wanted wanting : ℕ → X) → 0 < n → past ≤ first + n → first ≤ i → i < past

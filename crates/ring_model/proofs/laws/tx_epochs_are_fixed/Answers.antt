@@ -16,3 +16,9 @@ returns-clause-reached c = λ n r more e. reached-more tx_can tx_changed (tx_ope
 
 pub returns-clause-size : goal.returns-clause-size
 returns-clause-size c = λ n r h e. let k = tx_kept n r h e in let q = k.queue in q.size_is
+
+pub returns-clause-reached_bytes : goal.returns-clause-reached_bytes
+returns-clause-reached_bytes c = λ n r more e. reached-more tx_can tx_changed (tx_opening n) r more e
+
+pub returns-clause-size_bytes : goal.returns-clause-size_bytes
+returns-clause-size_bytes c = λ n r h e. let k = tx_kept n r h e in let q = k.queue in q.size_is

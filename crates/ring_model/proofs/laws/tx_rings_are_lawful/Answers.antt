@@ -13,3 +13,9 @@ returns-clause-concluded_bytes c = λ n r h e. tx_concluded n r (tx_kept n r h e
 
 pub returns-clause-concluded_lengths : goal.returns-clause-concluded_lengths
 returns-clause-concluded_lengths c = λ n r h e. tx_concluded n r (tx_kept n r h e)
+
+pub returns-clause-kept_bytes : goal.returns-clause-kept_bytes
+returns-clause-kept_bytes c = λ n r h e. tx_kept n r h e
+
+pub returns-clause-kept_lengths : goal.returns-clause-kept_lengths
+returns-clause-kept_lengths c = λ n r h e. tx_kept n r h e

@@ -1,13 +1,12 @@
 -- What every step of a receive ring keeps.
-use Rattle.std.proofs.Common.{◌≡◌, ℕ, ◌≤◌, true, false, map, Some}
-use Rattle.std.specs.Prelude.{slice_get}
+use Rattle.std.specs.Prelude.{◌≡◌, ℕ, ◌≤◌, true, false, map, Some, slice_get}
 use Rattle.ring_model.specs.shared.Lists.{IsBeginning}
 use Rattle.ring_model.specs.shared.Handshakes.{is_serving}
 use Rattle.ring_model.specs.receive.Ring.{RxLedger, RxRing, is_whole}
 use Rattle.ring_model.specs.shared.Segments.{ends_segment, number_of_segment}
 use Rattle.ring_model.specs.receive.Lawful.{IsLawfulRxLedger}
 use Rattle.ring_model.specs.receive.Laws.{rx_over}
-use Rattle.ring_model.proofs.shared.Kept.{IsKept}
+use Rattle.ring_model.specs.shared.Kept.{IsKept}
 
 pub record IsRxKept (Payload : Type 0) (n : ℕ) (r : RxRing Payload) : Type 0 where
   pub queue : IsKept n ends_segment r.queue

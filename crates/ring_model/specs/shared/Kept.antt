@@ -1,5 +1,5 @@
 -- What every step of a queue keeps, whichever its direction. The laws follow from it, and so does what running rings ask of a ring that a schedule gave.
-use Rattle.std.proofs.Common.{◌≡◌, ℕ, ◌+◌, ◌<◌, ◌≤◌, Bool, true, false}
+use Rattle.std.specs.Prelude.{◌≡◌, ℕ, ◌+◌, ◌<◌, ◌≤◌, Bool, true, false}
 use Rattle.ring_model.specs.declared.states.DriverState.{DriverState}
 use Rattle.ring_model.specs.declared.states.DriverState.TheVariants.{New, Asked, On, Stopping, Stopped, Cleared, Tailed}
 use Rattle.ring_model.specs.declared.states.ControllerState.{ControllerState}
