@@ -15,8 +15,8 @@ use Rattle.ring_model.specs.shared.Handshakes.{is_open, is_serving}
 use Rattle.ring_model.specs.shared.Lists.{IsBeginning}
 use Rattle.ring_model.specs.shared.Segments.{piece_of}
 use Rattle.ring_model.specs.transmit.Ring.{carried}
-use Rattle.ring_model.proofs.shared.Beginnings.{beginning-trans}
-use Rattle.ring_model.proofs.shared.FrameLaws.{frames-beginning}
+use Rattle.ring_laws.specs.Lists.{beginning-trans}
+use Rattle.ring_laws.specs.Frames.{frames-beginning}
 use Rattle.rx_ring.specs.Ends as receive
 use Rattle.rx_ring.specs.Meeting as received
 use Rattle.tx_ring.specs.Ends as transmit

@@ -17,8 +17,7 @@ use Rattle.ring_model.specs.shared.Handshakes.{is_ended, is_live, is_open, is_se
 use Rattle.ring_model.specs.transmit.Frames.{MayFollow}
 use Rattle.ring_model.specs.transmit.Lawful.{IsLawfulTxLedger}
 use Rattle.ring_model.specs.transmit.Ring.{are_whole, carried, ends_posting, number_of_posting}
-use Rattle.ring_model.proofs.shared.Beginnings.{slice_get-snoc}
-use Rattle.ring_model.proofs.transmit.Reached.{beginning_whole}
+use Rattle.ring_laws.specs.Lists.{slice_get-snoc, beginning_whole}
 use Rattle.tx_ring.specs.Calls.{Polled}
 use Rattle.tx_ring.specs.Ends.{DriverSide, ControllerSide, driver_size, driver_record, driver_state, posted, cleaned, returned, sent, controller_state}
 use Rattle.tx_ring.specs.Meeting.{ledger_of, sent_now}

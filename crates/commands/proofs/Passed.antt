@@ -9,8 +9,7 @@ use Rattle.ring_model.specs.shared.Lists.{IsBeginning}
 use Rattle.ring_model.specs.shared.Frames.{Bytes, chains_from, frames, join, unfinished, unfinished_from}
 use Rattle.ring_model.specs.shared.Segments.{Segment, piece_of}
 use Rattle.ring_model.specs.receive.Lawful.{IsLawfulRxLedger}
-use Rattle.ring_model.proofs.shared.FrameLaws.{frames-append, unfinished-append}
-use Rattle.ring_model.proofs.shared.Following.{whole-unfinished}
+use Rattle.ring_laws.specs.Frames.{frames-append, unfinished-append, whole-unfinished}
 use Rattle.rx_ring.specs.Calls.{segment}
 use Rattle.rx_ring.specs.Ends.{DriverSide, ControllerSide, driver_size, stored, taken}
 use Rattle.rx_ring.specs.Meeting.{is_unanswered, ledger_of}

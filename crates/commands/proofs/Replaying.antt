@@ -15,8 +15,8 @@ use Rattle.limits.specs.declared.profile.TheConstants.{LEAST_RING, MOST_PAIRS, M
 use Rattle.ring_model.specs.NoteTexts.{note_text}
 use Rattle.ring_model.specs.transmit.Ring.{TxBeginning}
 use Rattle.ring_model.specs.Worlds.{QueueMove, World, opening_world, after_move, after_moves, can_move, moves_happened, note_in, IsReachableWorld}
-use Rattle.ring_model.proofs.shared.Reaching.{reached-opening}
-use Rattle.ring_model.proofs.Apart.{reached_world}
+use Rattle.ring_laws.specs.Schedules.{reached-opening}
+use Rattle.ring_laws.specs.Worlds.{reached_world}
 use Rattle.ring_machine.specs.shared.Following.{Did}
 use Rattle.ring_machine.specs.Queues.{AreQueues, QueueParts, QueuesAgree, queue_move}
 use Rattle.ring_machine.specs.text.Moves.{IsInRange, name_of, text_of}

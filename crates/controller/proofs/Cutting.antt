@@ -7,7 +7,7 @@ use Rattle.std.proofs.Math.Nat.{lt-div-mul-add, div-lt_iff_lt-mul}
 use Rattle.std.proofs.Math.Seq.{take-append_seam}
 use Rattle.limits.specs.declared.profile.TheConstants.{BUFFER_BYTES, MOST_FRAME, MOST_SEGMENTS}
 use Rattle.ring_model.specs.shared.Frames.{Bytes, Piece, pieces, piece_count, cut, HasFrameLength}
-use Rattle.ring_model.proofs.shared.Following.{CanCut}
+use Rattle.ring_model.specs.kept.CanCut.{CanCut}
 
 -- one more piece than of what is left behind a full one
 pub more_pieces : (b len : ℕ) → 0 < b → b < len → piece_count b len ≡ suc (piece_count b (len - b))

@@ -4,10 +4,10 @@ use Rattle.std.proofs.lemmas.List.{map-append}
 use Rattle.atomic_table.specs.Seated.{TableId}
 use Rattle.buffer_pool.specs.Buffer.{Buffer}
 use Rattle.ring_model.specs.shared.Frames.{Bytes, Piece, piece_count, cut, frames, unfinished_from, unfinished, chains_from, join, Follows}
+use Rattle.ring_model.specs.kept.CanCut.{CanCut}
 use Rattle.ring_model.specs.shared.Segments.{Segment, piece_of}
 use Rattle.ring_model.proofs.shared.Cuts.{ends-cut}
-use Rattle.ring_model.proofs.shared.Following.{CanCut, follows-cut, unfinished-whole}
-use Rattle.ring_model.proofs.shared.FrameLaws.{frames-append, unfinished-append, unfinished-snoc}
+use Rattle.ring_laws.specs.Frames.{follows-cut, unfinished-whole, frames-append, unfinished-append, unfinished-snoc}
 use Rattle.shared_ring.specs.declared.events.ControllerEvent.TheVariants.{StoredHead}
 use Rattle.rx_ring.specs.Records.{RxControlled}
 use Rattle.rx_ring.specs.Ends.{ControllerSide, controller_size, controller_record, stored, known_free, held, serve_place, answered}

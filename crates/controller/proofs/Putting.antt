@@ -7,8 +7,7 @@ use Rattle.limits.specs.declared.profile.TheConstants.{MOST_FRAME}
 use Rattle.ring_model.specs.shared.Frames.{Bytes, ends_frame, frames, unfinished, join}
 use Rattle.ring_model.specs.shared.Handshakes.{is_serving}
 use Rattle.ring_model.specs.transmit.Ring.{carried}
-use Rattle.ring_model.proofs.shared.Following.{unfinished-whole}
-use Rattle.ring_model.proofs.shared.FrameLaws.{frames-snoc, unfinished-snoc, join-append}
+use Rattle.ring_laws.specs.Frames.{unfinished-whole, frames-snoc, unfinished-snoc, join-append}
 use Rattle.tx_ring.specs.Records.{Posting, TxControlled}
 use Rattle.tx_ring.specs.Ends.{ControllerSide, controller_size, controller_record, controller_state, sent, known_ready, held, is_owed, is_between, head_stored, serve_place}
 use Rattle.controller.specs.Chained.{Chained}

@@ -10,7 +10,7 @@ use Rattle.ring_model.specs.shared.Segments.{Segment, piece_of}
 use Rattle.ring_model.specs.receive.Lawful.{IsLawfulRxLedger}
 use Rattle.ring_model.specs.transmit.Lawful.{IsLawfulTxLedger}
 use Rattle.ring_model.specs.transmit.Ring.{carried}
-use Rattle.ring_model.proofs.shared.FrameLaws.{frames-beginning}
+use Rattle.ring_laws.specs.Frames.{frames-beginning}
 use Rattle.shared_ring.specs.Meeting.{served_now, IsTold}
 use Rattle.rx_ring.specs.Ends as receive
 use Rattle.rx_ring.specs.Calls as received

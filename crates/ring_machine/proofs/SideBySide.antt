@@ -12,7 +12,7 @@ use Rattle.ring_model.specs.receive.Steps.{rx_can, rx_changed, rx_note_of}
 use Rattle.ring_model.specs.transmit.Ring.{Posting}
 use Rattle.ring_model.specs.transmit.Steps.{tx_can, tx_changed, tx_note_of}
 use Rattle.ring_model.specs.Worlds.{World, can_at, note_at, put_next}
-use Rattle.ring_model.proofs.shared.Places.{slice_get-set_other}
+use Rattle.ring_laws.specs.Places.{slice_get-set_other}
 use Rattle.ring_model.proofs.Apart.{reaches}
 use Rattle.ring_machine.specs.declared.error.MachineError.{MachineError}
 use Rattle.ring_machine.specs.declared.error.MachineError.TheVariants as refusal

@@ -4,3 +4,4 @@ pub mod receive
 pub mod transmit
 pub mod Queues
 pub mod text
+pub mod code

@@ -3,4 +3,5 @@ pub mod receive
 pub mod transmit
 pub mod NoteTexts
 pub mod Worlds
-pub mod WorldRows
+pub mod kept
+pub mod rows

@@ -2,8 +2,6 @@ pub mod Lists
 pub mod Frames
 pub mod Segments
 pub mod Places
-pub mod Rows
-pub mod Told
 pub mod Handshakes
 pub mod QueueSteps
 pub mod Queue
@@ -11,4 +9,3 @@ pub mod Schedules
 pub mod Lawful
 pub mod Laws
 pub mod Agreement
-pub mod Kept

@@ -4,7 +4,3 @@ pub mod Frames
 pub mod Lawful
 pub mod Laws
 pub mod Agreement
-pub mod Rows
-pub mod StateRows
-pub mod PostingRows
-pub mod Kept

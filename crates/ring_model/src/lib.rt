@@ -2,8 +2,9 @@
 //! every schedule of steps keeps. The pure machines and the running rings cite the same definitions.
 //!
 //! The definitions stand in `specs/`: what both directions share in `shared`, what is a direction's own in `receive` and
-//! `transmit`, and queues side by side in `Worlds`. The laws are contracts of functions that do nothing. Nothing here
-//! wraps but the place of an item, and nothing knows of threads.
+//! `transmit`, queues side by side in `Worlds`, and the texts of notes. Apart from these, `kept` has what every step keeps,
+//! and `rows` the worked rows. The laws are contracts of functions that do nothing; those that proofs of crates above go
+//! by, step for step, are in `ring_laws`. Nothing here wraps but the place of an item, and nothing knows of threads.
 #![tactic(auto)]
 
 mod frame_laws;

@@ -1,12 +1,12 @@
 //! Worked rows: what schedules tell and how frames are cut, computed from the definitions alone.
 
-ghost use Rattle.ring_model.specs.shared.Rows.{CutRows, FollowRows};
-ghost use Rattle.ring_model.specs.receive.Rows.{RxRows};
-ghost use Rattle.ring_model.specs.receive.StateRows.{RxStateRows};
-ghost use Rattle.ring_model.specs.transmit.Rows.{TxRows};
-ghost use Rattle.ring_model.specs.transmit.StateRows.{TxStateRows};
-ghost use Rattle.ring_model.specs.transmit.PostingRows.{PostingRows};
-ghost use Rattle.ring_model.specs.WorldRows.{WorldRows};
+ghost use Rattle.ring_model.specs.rows.Frames.{CutRows, FollowRows};
+ghost use Rattle.ring_model.specs.rows.Receive.{RxRows};
+ghost use Rattle.ring_model.specs.rows.ReceiveStates.{RxStateRows};
+ghost use Rattle.ring_model.specs.rows.Transmit.{TxRows};
+ghost use Rattle.ring_model.specs.rows.TransmitStates.{TxStateRows};
+ghost use Rattle.ring_model.specs.rows.Postings.{PostingRows};
+ghost use Rattle.ring_model.specs.rows.Worlds.{WorldRows};
 
 /// The notes of each schedule, the pieces of each frame, and what may follow an unfinished frame are those that were
 /// worked out by hand.

@@ -8,10 +8,10 @@ use Rattle.ring_model.specs.receive.Ring.{RxRing}
 use Rattle.ring_model.specs.shared.Segments.{Segment, ends_segment, piece_of}
 use Rattle.ring_model.specs.shared.Frames.{Bytes}
 use Rattle.ring_model.specs.shared.Queue.{posted_count, served_count, returned_count}
-use Rattle.ring_model.specs.receive.Kept.{IsRxKept}
-use Rattle.ring_model.proofs.receive.Reached.{rx_kept}
-use Rattle.ring_model.proofs.shared.Beginnings.{next_number}
-use Rattle.ring_model.proofs.shared.Beginnings as beginnings
+use Rattle.ring_model.specs.kept.Receive.{IsRxKept}
+use Rattle.ring_laws.specs.Rings.{rx_kept}
+use Rattle.ring_laws.specs.Lists.{next_number}
+use Rattle.ring_laws.specs.Lists as beginnings
 use Rattle.shared_ring.specs.declared.ends.DriverPlaces.{DriverPlaces}
 use Rattle.shared_ring.specs.declared.ends.ControllerPlaces.{ControllerPlaces}
 use Rattle.shared_ring.specs.Meeting.{TakenApart, kept_at, kept_upto, number_at, numbers_at}

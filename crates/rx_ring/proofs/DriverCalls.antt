@@ -8,7 +8,7 @@ use Rattle.ring_model.specs.shared.Segments.{Segment}
 use Rattle.ring_model.specs.shared.Frames.{Bytes}
 use Rattle.ring_model.specs.shared.Handshakes.{is_live, is_cleared, is_tailed}
 use Rattle.ring_model.specs.shared.Places.{between_places}
-use Rattle.ring_model.proofs.shared.Shakes.{live_unanswered}
+use Rattle.ring_laws.specs.States.{live_unanswered}
 use Rattle.shared_ring.specs.declared.events.DriverEvent.TheVariants as driver
 use Rattle.rx_ring.specs.declared.events.RxDriverOwn.TheVariants.{NotDone, Taken, ClearedQuiet}
 use Rattle.rx_ring.specs.Records.{RxDriven, DriverStep, drive, segment_of, Knowing, unknown}

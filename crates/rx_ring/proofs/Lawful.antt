@@ -18,11 +18,11 @@ use Rattle.ring_model.specs.receive.Steps.{rx_changed, rx_settled, took}
 use Rattle.ring_model.specs.shared.Frames.{Bytes, Follows, unfinished, ends_frame}
 use Rattle.ring_model.specs.shared.Handshakes.{is_open, is_live, is_new, is_on, is_stopped, is_cleared, is_serving}
 use Rattle.ring_model.specs.shared.Queue.{posted_count, served_count, given_count, returned_count, next_head}
-use Rattle.ring_model.proofs.receive.Reached.{rx_lawful}
-use Rattle.ring_model.proofs.shared.Beginnings.{next_number, number_at}
-use Rattle.ring_model.proofs.shared.FrameLaws.{follows_next}
-use Rattle.ring_model.proofs.shared.Shakes.{live_unanswered, stopped_answered, answered_closed, stopped_full}
-use Rattle.ring_model.proofs.shared.Stepping.{shook, held_below, answered_over, answered_unheld}
+use Rattle.ring_laws.specs.Rings.{rx_lawful}
+use Rattle.ring_laws.specs.Lists.{next_number, number_at}
+use Rattle.ring_laws.specs.Frames.{follows_next}
+use Rattle.ring_laws.specs.States.{live_unanswered, stopped_answered, answered_closed, stopped_full}
+use Rattle.ring_laws.specs.Queues.{shook, held_below, answered_over, answered_unheld}
 use Rattle.shared_ring.specs.declared.events.DriverEvent.TheVariants as driver
 use Rattle.shared_ring.specs.declared.events.ControllerEvent.TheVariants as controller
 use Rattle.shared_ring.specs.Directions.{IsDirection, DriverMay, ControllerMay, Agrees, TakesOut, Fetches}

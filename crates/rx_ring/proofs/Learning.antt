@@ -12,12 +12,11 @@ use Rattle.ring_model.specs.receive.Laws.{RxLater, rx_over}
 use Rattle.ring_model.specs.receive.Ring.{RxRing, due}
 use Rattle.ring_model.specs.shared.Segments.{Segment, ends_segment}
 use Rattle.ring_model.specs.receive.Steps.{rx_can, rx_changed, took}
-use Rattle.ring_model.specs.receive.Kept.{IsRxKept}
-use Rattle.ring_model.proofs.receive.Reached.{rx_later-all}
-use Rattle.ring_model.proofs.receive.Over.{over-ended, said-stays}
-use Rattle.ring_model.proofs.shared.Reaching.{next-happens}
-use Rattle.ring_model.proofs.shared.Shakes.{answered_closed, stopped_answered, stopped_full}
-use Rattle.ring_model.proofs.shared.Stepping.{answered_over}
+use Rattle.ring_model.specs.kept.Receive.{IsRxKept}
+use Rattle.ring_laws.specs.Rings.{rx_later-all, over-ended, said-stays}
+use Rattle.ring_laws.specs.Schedules.{next-happens}
+use Rattle.ring_laws.specs.States.{answered_closed, stopped_answered, stopped_full}
+use Rattle.ring_laws.specs.Queues.{answered_over}
 use Rattle.rx_ring.specs.declared.events.RxDriverOwn.TheVariants.{NotDone, Taken, LoadedQuiet}
 use Rattle.rx_ring.specs.Records.{DriverStep, driving, Knowing, unknown, know, know_own, saw_head, knowing, posting, drive_own}
 use Rattle.rx_ring.specs.Rule.{Learnt}

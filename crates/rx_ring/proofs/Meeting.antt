@@ -7,9 +7,9 @@ use Rattle.ring_model.specs.shared.Segments.{Segment, ends_segment}
 use Rattle.ring_model.specs.receive.Lawful.{IsLawfulRxLedger}
 use Rattle.ring_model.specs.shared.Frames.{Bytes}
 use Rattle.ring_model.specs.shared.Queue.{served_count, given_count}
-use Rattle.ring_model.specs.receive.Kept.{IsRxKept}
-use Rattle.ring_model.proofs.receive.Reached.{rx_kept}
-use Rattle.ring_model.proofs.shared.Places.{ahead}
+use Rattle.ring_model.specs.kept.Receive.{IsRxKept}
+use Rattle.ring_laws.specs.Rings.{rx_kept}
+use Rattle.ring_laws.specs.Places.{ahead}
 use Rattle.shared_ring.proofs.Laying.{none-empty}
 use Rattle.rx_ring.specs.Records.{RxDriven, controlling}
 use Rattle.shared_ring.proofs.Meeting.{served-is}

@@ -19,13 +19,12 @@ use Rattle.ring_model.specs.receive.Agreement.{rx_word}
 use Rattle.ring_model.specs.receive.Ring.{RxRing, rx_opening, due, is_whole, next_segment}
 use Rattle.ring_model.specs.shared.Segments.{Segment, ends_segment, piece_of}
 use Rattle.ring_model.specs.receive.Steps.{IsRxReachable, rx_can, rx_changed, rx_settled, took}
-use Rattle.ring_model.specs.receive.Kept.{IsRxKept}
-use Rattle.ring_model.proofs.receive.Reached.{rx_kept}
-use Rattle.ring_model.proofs.shared.FrameLaws.{AllFollow-nil, AllFollow-snoc}
-use Rattle.ring_model.proofs.shared.Reaching.{reached-changed, reached-opening}
-use Rattle.ring_model.proofs.receive.Stepping.{rx_kept-opening}
-use Rattle.ring_model.proofs.shared.Shakes.{live_unanswered, open_unanswered, shakes-enable, tailed_emptied, emptied_answered}
-use Rattle.ring_model.proofs.shared.Stepping.{shook, answered_over}
+use Rattle.ring_model.specs.kept.Receive.{IsRxKept}
+use Rattle.ring_laws.specs.Rings.{rx_kept, rx_kept-opening}
+use Rattle.ring_laws.specs.Frames.{AllFollow-nil, AllFollow-snoc}
+use Rattle.ring_laws.specs.Schedules.{reached-changed, reached-opening}
+use Rattle.ring_laws.specs.States.{live_unanswered, open_unanswered, shakes-enable, tailed_emptied, emptied_answered}
+use Rattle.ring_laws.specs.Queues.{shook, answered_over}
 use Rattle.shared_ring.specs.declared.events.DriverEvent.TheVariants as driver
 use Rattle.shared_ring.specs.declared.events.ControllerEvent.TheVariants as controller
 use Rattle.shared_ring.specs.Records.{uncontrolled, undriven}

@@ -11,7 +11,7 @@ use Rattle.ring_model.specs.receive.Agreement.{rx_word}
 use Rattle.ring_model.specs.receive.Steps.{rx_changed}
 use Rattle.ring_model.specs.shared.Frames.{Bytes, Follows, unfinished, ends_frame}
 use Rattle.ring_model.specs.shared.Handshakes.{is_live, is_tailed, is_serving}
-use Rattle.ring_model.proofs.shared.Stepping.{held_below}
+use Rattle.ring_laws.specs.Queues.{held_below}
 use Rattle.shared_ring.specs.Own.{MayLoad, MayTake, MayEnd, MayStore, MayGive}
 use Rattle.shared_ring.proofs.Standing.{low}
 use Rattle.rx_ring.specs.Form.{rx}

@@ -14,9 +14,9 @@ use Rattle.ring_model.specs.shared.Handshakes.{is_serving}
 use Rattle.ring_model.specs.shared.Lawful.{IsLawfulMap, window, holder}
 use Rattle.ring_model.specs.shared.Places.{between_places}
 use Rattle.ring_model.specs.shared.Queue.{Queue, posted_count, served_count, returned_count}
-use Rattle.ring_model.specs.shared.Kept.{IsKept}
-use Rattle.ring_model.proofs.shared.Places.{ahead, same_item}
-use Rattle.ring_model.proofs.shared.Stepping.{returned_served, held_below}
+use Rattle.ring_model.specs.kept.Queues.{IsKept}
+use Rattle.ring_laws.specs.Places.{ahead, same_item}
+use Rattle.ring_laws.specs.Queues.{returned_served, held_below}
 use Rattle.atomic_table.specs.Seated.{TableId}
 use Rattle.shared_ring.specs.declared.ends.DriverPlaces.{DriverPlaces}
 use Rattle.shared_ring.specs.declared.ends.ControllerPlaces.{ControllerPlaces}

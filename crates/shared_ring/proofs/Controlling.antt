@@ -11,11 +11,11 @@ use Rattle.ring_model.specs.declared.steps.ControlStep.TheVariants.{AskEnable, L
 use Rattle.ring_model.specs.shared.Handshakes.{is_open, is_serving, is_ended, is_new, is_on, is_stopped, is_cleared, is_tailed, is_between, enable, disable, learned}
 use Rattle.ring_model.specs.shared.QueueSteps.{Post, Publish, Look, Fetch, Serve, Head, Give, Shake, Reclaim, ClearHead, ClearTail, Renew}
 use Rattle.ring_model.specs.shared.Queue.{Queue, posted_count, served_count, by}
-use Rattle.ring_model.proofs.shared.Beginnings.{slice_get-front}
-use Rattle.ring_model.proofs.shared.Places.{ahead}
-use Rattle.ring_model.specs.shared.Kept.{IsKept}
-use Rattle.ring_model.proofs.shared.Shakes.{new_open, on_serving, serving_unended, learned_open, stopped_answered, cleared_emptied, tailed_emptied, emptied_answered, answered_closed}
-use Rattle.ring_model.proofs.shared.Stepping.{shook, held_below, answered_idle, answered_unheld}
+use Rattle.ring_laws.specs.Lists.{slice_get-front}
+use Rattle.ring_laws.specs.Places.{ahead}
+use Rattle.ring_model.specs.kept.Queues.{IsKept}
+use Rattle.ring_laws.specs.States.{new_open, on_serving, serving_unended, learned_open, stopped_answered, cleared_emptied, tailed_emptied, emptied_answered, answered_closed}
+use Rattle.ring_laws.specs.Queues.{shook, held_below, answered_idle, answered_unheld}
 use Rattle.shared_ring.specs.Records.{Controlled, count_at}
 use Rattle.shared_ring.specs.Lies.{IsControlled}
 use Rattle.shared_ring.proofs.Laying.{none-empty}

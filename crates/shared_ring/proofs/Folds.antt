@@ -3,7 +3,7 @@ use Rattle.std.proofs.Common.{◌≡◌, ℕ, zero, suc, ◌+◌, ◌-◌, ◌%�
 use Rattle.std.proofs.Math.Nat.{mod-add-mod}
 use Rattle.atomic_table.specs.Table.{turned}
 use Rattle.buffer_pool.specs.Buffer.{Buffer, blank}
-use Rattle.ring_model.proofs.shared.Places.{lap}
+use Rattle.ring_laws.specs.Places.{lap}
 use Rattle.shared_ring.specs.declared.events.DriverEvent.{DriverEvent}
 use Rattle.shared_ring.specs.declared.events.ControllerEvent.{ControllerEvent}
 use Rattle.shared_ring.specs.Slots.{empty_slots}

@@ -5,7 +5,7 @@ use Rattle.std.proofs.lemmas.Bool.{cases_Bool, cases_eq, cases_lt, and_parts, an
 use Rattle.std.proofs.lemmas.List.{length-drop}
 use Rattle.std.proofs.lemmas.List.Sorted.{IsPermutation-refl, IsPermutation-sym, IsPermutation-trans, IsPermutation-append_left, IsPermutation-append_right, IsPermutation-append_comm}
 use Rattle.buffer_pool.specs.Buffer.{Buffer}
-use Rattle.ring_model.proofs.shared.Places.{apart}
+use Rattle.ring_laws.specs.Places.{apart}
 use Rattle.shared_ring.specs.Meeting.{number_at, numbers_at, kept_upto}
 
 -- what f has at the first n places

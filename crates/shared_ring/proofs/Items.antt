@@ -3,14 +3,15 @@ use Rattle.std.proofs.Common.{◌≡◌, ◌≢◌, ℕ, ◌+◌, ◌-◌, ◌%�
 use Rattle.std.specs.Prelude.{slice_get, ◌==◌, nat_lt}
 use Rattle.std.proofs.lemmas.Bool.{and_parts, and_left, and_right, not-true, ltb-true, eq-eqb, ne_eqb}
 use Rattle.ring_model.specs.shared.Lists.{EachItem}
+use Rattle.ring_model.specs.kept.Writes.{Writes}
 use Rattle.ring_model.specs.shared.Handshakes.{is_open, is_serving}
 use Rattle.ring_model.specs.shared.QueueSteps.{Post, Fetch, Serve, Give, Reclaim, Renew}
 use Rattle.ring_model.specs.shared.Queue.{Queue, posted_count, served_count, given_count, returned_count, may, by}
 use Rattle.ring_model.specs.shared.Agreement.{HasItems, wanted_slot, wanted_word}
-use Rattle.ring_model.proofs.shared.Beginnings.{slice_get-front}
-use Rattle.ring_model.proofs.shared.Places.{Writes, each_item-set, each_item-push, each_item-drop}
-use Rattle.ring_model.specs.shared.Kept.{IsKept}
-use Rattle.ring_model.proofs.shared.Stepping.{held_below, returned_served}
+use Rattle.ring_laws.specs.Lists.{slice_get-front}
+use Rattle.ring_laws.specs.Places.{each_item-set, each_item-push, each_item-drop}
+use Rattle.ring_model.specs.kept.Queues.{IsKept}
+use Rattle.ring_laws.specs.Queues.{held_below, returned_served}
 use Rattle.shared_ring.proofs.Laying.{slice_get-past, slice_get-last, slice_get-snoc_other}
 
 module _ {Posted Served Given Buffer : Type 0} (says : ℕ → Option Posted → Option Served → ℕ) (lies : Option Posted → Option Served → Option Buffer) (n : ℕ) (ends : Served → Bool)

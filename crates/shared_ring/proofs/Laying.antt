@@ -7,8 +7,8 @@ use mathlib.Core.Option as maybe
 use mathlib.Core.Option.{some, none}
 use lib.ListN.{get_elem?}
 use Rattle.atomic_table.proofs.Lists.{set_here, set_else}
-use Rattle.ring_model.specs.shared.Agreement.{Registers, HasRegisters}
-use Rattle.ring_model.proofs.shared.Places.{Writes}
+use Rattle.shared_ring.specs.Registers.{Registers, HasRegisters}
+use Rattle.ring_model.specs.kept.Writes.{Writes}
 use Rattle.buffer_pool.specs.Buffer.{Buffer}
 use Rattle.shared_ring.specs.Slots.{at_home, home_at}
 

@@ -12,11 +12,13 @@ use Rattle.ring_model.specs.declared.steps.ControlStep.TheVariants.{AskEnable, L
 use Rattle.ring_model.specs.shared.Handshakes.{is_open, is_answered, is_serving, is_new, is_cleared, is_tailed, enable, disable, learned}
 use Rattle.ring_model.specs.shared.QueueSteps.{Post, Publish, Look, Fetch, Serve, Head, Give, Shake, Reclaim, ClearHead, ClearTail, Renew}
 use Rattle.ring_model.specs.shared.Queue.{Queue, posted_count, served_count, returned_count, may, by}
-use Rattle.ring_model.specs.shared.Agreement.{HasItems, HasRegisters, registers_of}
-use Rattle.ring_model.proofs.shared.Places.{Writes, slice_index-writes}
-use Rattle.ring_model.specs.shared.Kept.{IsKept}
-use Rattle.ring_model.proofs.shared.Shakes.{shakes-disable, serving_unanswered}
-use Rattle.ring_model.proofs.shared.Stepping.{shook}
+use Rattle.ring_model.specs.shared.Agreement.{HasItems}
+use Rattle.shared_ring.specs.Registers.{HasRegisters, registers_of}
+use Rattle.ring_model.specs.kept.Writes.{Writes}
+use Rattle.ring_laws.specs.Places.{slice_index-writes}
+use Rattle.ring_model.specs.kept.Queues.{IsKept}
+use Rattle.ring_laws.specs.States.{shakes-disable, serving_unanswered}
+use Rattle.ring_laws.specs.Queues.{shook}
 use Rattle.shared_ring.specs.Slots.{home_at}
 use Rattle.shared_ring.specs.Lies.{is_early, LiesIn}
 use Rattle.shared_ring.proofs.Laying.{registers-stay, registers-head, registers-tail, registers-control, registers-quiet, descriptors-stay, home-given, home-taken, home-left}

@@ -11,7 +11,7 @@ use Rattle.ring_model.specs.declared.states.ControllerState.{ControllerState}
 use Rattle.ring_model.specs.declared.states.ControllerState.TheVariants.{Ended}
 use Rattle.ring_model.specs.shared.Handshakes.{is_open, is_ended, is_serving, is_between}
 use Rattle.ring_model.specs.shared.Queue.{Queue}
-use Rattle.ring_model.specs.shared.Kept.{IsKept}
+use Rattle.ring_model.specs.kept.Queues.{IsKept}
 use Rattle.shared_ring.specs.declared.events.DriverEvent.{DriverEvent}
 use Rattle.shared_ring.specs.declared.events.ControllerEvent.{ControllerEvent}
 use Rattle.shared_ring.specs.declared.events.View.{View}

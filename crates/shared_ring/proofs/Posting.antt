@@ -9,8 +9,8 @@ use Rattle.ring_model.specs.declared.states.DriverState.{DriverState}
 use Rattle.ring_model.specs.declared.states.DriverState.TheVariants.{New}
 use Rattle.ring_model.specs.shared.Handshakes.{is_answered, is_stopped, learned}
 use Rattle.ring_model.specs.shared.Places.{place_next}
-use Rattle.ring_model.proofs.shared.Places.{next_place}
-use Rattle.ring_model.proofs.shared.Shakes.{learned_unanswered, new_open, on_open, open_unanswered, stopped_answered}
+use Rattle.ring_laws.specs.Places.{next_place}
+use Rattle.ring_laws.specs.States.{learned_unanswered, new_open, on_open, open_unanswered, stopped_answered}
 use Rattle.shared_ring.specs.declared.ends.DriverPlaces.{DriverPlaces}
 use Rattle.shared_ring.specs.declared.ends.HandshakeStep.{HandshakeStep}
 use Rattle.shared_ring.specs.declared.ends.HandshakeStep.TheVariants.{AskEnable, LoadControl, AskDisable}

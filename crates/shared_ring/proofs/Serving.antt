@@ -9,7 +9,7 @@ use Rattle.ring_model.specs.declared.states.ControllerState.TheVariants.{Off, Se
 use Rattle.ring_model.specs.shared.Frames.{Piece, ends_frame, unfinished, unfinished_from}
 use Rattle.ring_model.specs.shared.Handshakes.{is_serving}
 use Rattle.ring_model.specs.shared.Places.{between_places}
-use Rattle.ring_model.proofs.shared.Places.{next_place}
+use Rattle.ring_laws.specs.Places.{next_place}
 use Rattle.shared_ring.specs.declared.control.Control.{Control}
 use Rattle.shared_ring.specs.declared.control.Control.TheVariants.{Disabled, EnableAsked, Enabled, DisableAsked}
 use Rattle.shared_ring.specs.declared.ends.ControllerPlaces.{ControllerPlaces}

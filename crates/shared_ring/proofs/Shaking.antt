@@ -6,7 +6,7 @@ use Rattle.ring_model.specs.declared.states.DriverState.TheVariants.{New, Asked,
 use Rattle.ring_model.specs.declared.states.ControllerState.{ControllerState}
 use Rattle.ring_model.specs.declared.states.ControllerState.TheVariants.{Off, Serving, Ended}
 use Rattle.ring_model.specs.shared.Handshakes.{is_open, is_on}
-use Rattle.ring_model.specs.shared.Kept.{ShakesAs}
+use Rattle.ring_model.specs.kept.Queues.{ShakesAs}
 use Rattle.shared_ring.specs.Lies.{is_early}
 
 -- the control word is one of four

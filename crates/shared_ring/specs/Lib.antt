@@ -8,6 +8,7 @@ pub mod Forms
 pub mod Ends
 pub mod Directions
 pub mod Own
+pub mod Registers
 pub mod Lies
 pub mod Tables
 pub mod Plays

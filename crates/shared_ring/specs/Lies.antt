@@ -6,7 +6,8 @@ use Rattle.ring_model.specs.declared.states.DriverState.{DriverState}
 use Rattle.ring_model.specs.declared.states.DriverState.TheVariants.{New, Asked, Cleared, Tailed}
 use Rattle.ring_model.specs.shared.Handshakes.{is_serving, is_between}
 use Rattle.ring_model.specs.shared.Queue.{Queue}
-use Rattle.ring_model.specs.shared.Agreement.{HasRegisters, HasItems, registers_of, held_buffer}
+use Rattle.ring_model.specs.shared.Agreement.{HasItems, held_buffer}
+use Rattle.shared_ring.specs.Registers.{HasRegisters, registers_of}
 use Rattle.shared_ring.specs.Slots.{home_at}
 use Rattle.shared_ring.specs.Records.{Driven, Controlled}
 

@@ -1,7 +1,7 @@
 -- The frame that is begun, as one more segment or posting follows: how many it has, and how many bytes they carry.
 use Rattle.std.proofs.Common.{◌≡◌, ◌∙◌, ℕ, ◌+◌, Bool, true, false, List, [], ◌∷◌, ◌++◌, length, length-append, ap, if◌then◌else◌}
 use Rattle.ring_model.specs.shared.Frames.{Piece, join, unfinished}
-use Rattle.ring_model.proofs.shared.FrameLaws.{unfinished-snoc, length-join-snoc}
+use Rattle.ring_laws.specs.Frames.{unfinished-snoc, length-join-snoc}
 
 module _ {X : Type 0} (carries : X → Piece) where
   -- where it ends the frame, none is begun

@@ -7,8 +7,8 @@ use Rattle.buffer_pool.specs.Buffer.{Buffer}
 use Rattle.ring_model.specs.transmit.Ring.{carried, TxRing, ends_posting, number_of_posting}
 use Rattle.ring_model.specs.shared.Frames.{Bytes}
 use Rattle.ring_model.specs.shared.Queue.{posted_count, served_count, returned_count}
-use Rattle.ring_model.specs.transmit.Kept.{IsTxKept}
-use Rattle.ring_model.proofs.transmit.Reached.{tx_kept}
+use Rattle.ring_model.specs.kept.Transmit.{IsTxKept}
+use Rattle.ring_laws.specs.Rings.{tx_kept}
 use Rattle.shared_ring.specs.declared.ends.DriverPlaces.{DriverPlaces}
 use Rattle.shared_ring.specs.declared.ends.ControllerPlaces.{ControllerPlaces}
 use Rattle.shared_ring.specs.Meeting.{TakenApart, kept_at, kept_upto, number_at, numbers_at}

@@ -13,7 +13,7 @@ use Rattle.ring_model.specs.transmit.Agreement.{tx_word}
 use Rattle.ring_model.specs.transmit.Frames.{MayFollow}
 use Rattle.ring_model.specs.transmit.Ring.{carried}
 use Rattle.ring_model.specs.transmit.Steps.{asks_report, first_report}
-use Rattle.ring_model.proofs.shared.Places.{next_place as next_place-of}
+use Rattle.ring_laws.specs.Places.{next_place as next_place-of}
 use Rattle.shared_ring.specs.declared.events.DriverEvent.TheVariants as driver
 use Rattle.shared_ring.specs.Records.{undriven}
 use Rattle.tx_ring.specs.declared.events.TxDriverOwn.TheVariants.{NoReport, SawReport, Cleaned, EndedEpoch, ClearedReport}

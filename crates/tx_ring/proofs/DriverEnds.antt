@@ -8,9 +8,9 @@ use Rattle.ring_model.specs.declared.states.DriverState.TheVariants.{New}
 use Rattle.ring_model.specs.shared.Handshakes.{is_open, is_live}
 use Rattle.ring_model.specs.transmit.Ring.{carried}
 use Rattle.ring_model.specs.transmit.Steps.{asks_report}
-use Rattle.ring_model.proofs.shared.Places.{apart, slice_set-writes}
-use Rattle.ring_model.proofs.shared.Beginnings.{slice_get-front}
-use Rattle.ring_model.proofs.shared.Shakes.{open_unanswered, live_unanswered}
+use Rattle.ring_laws.specs.Places.{apart, slice_set-writes}
+use Rattle.ring_laws.specs.Lists.{slice_get-front}
+use Rattle.ring_laws.specs.States.{open_unanswered, live_unanswered}
 use Rattle.shared_ring.specs.declared.ends.DriverPlaces.{DriverPlaces}
 use Rattle.shared_ring.specs.declared.ends.HandshakeStep.{HandshakeStep}
 use Rattle.shared_ring.specs.Calls.{IsPoster, MayShake, shake_event, shaken}

@@ -17,11 +17,11 @@ use Rattle.ring_model.specs.transmit.Steps.{tx_changed, tx_cleared, tx_settled}
 use Rattle.ring_model.specs.shared.Frames.{Bytes, unfinished, ends_frame}
 use Rattle.ring_model.specs.shared.Handshakes.{is_open, is_new, is_on, is_stopped, is_cleared, is_serving}
 use Rattle.ring_model.specs.shared.Queue.{posted_count, served_count, returned_count, next_head}
-use Rattle.ring_model.proofs.shared.Shakes.{open_unanswered, stopped_answered, answered_closed, stopped_full}
-use Rattle.ring_model.proofs.shared.Stepping.{shook, held_below, returned_served, answered_over, answered_unheld}
-use Rattle.ring_model.specs.transmit.Kept.{IsTxKept}
-use Rattle.ring_model.proofs.transmit.Postings.{may_follow_next}
-use Rattle.ring_model.proofs.transmit.Reached.{tx_lawful}
+use Rattle.ring_laws.specs.States.{open_unanswered, stopped_answered, answered_closed, stopped_full}
+use Rattle.ring_laws.specs.Queues.{shook, held_below, returned_served, answered_over, answered_unheld}
+use Rattle.ring_model.specs.kept.Transmit.{IsTxKept}
+use Rattle.ring_laws.specs.Frames.{may_follow_next}
+use Rattle.ring_laws.specs.Rings.{tx_lawful}
 use Rattle.shared_ring.specs.declared.events.DriverEvent.TheVariants as driver
 use Rattle.shared_ring.specs.declared.events.ControllerEvent.TheVariants as controller
 use Rattle.shared_ring.specs.Directions.{IsDirection, DriverMay, ControllerMay, TakesOut, Fetches}

@@ -10,11 +10,11 @@ use Rattle.ring_model.specs.shared.Queue.{served_count}
 use Rattle.ring_model.specs.transmit.Laws.{TxLater, tx_over}
 use Rattle.ring_model.specs.transmit.Ring.{TxRing, ends_posting}
 use Rattle.ring_model.specs.transmit.Steps.{tx_can, tx_changed}
-use Rattle.ring_model.specs.transmit.Kept.{IsTxKept}
-use Rattle.ring_model.proofs.transmit.Reached.{tx_later-all}
-use Rattle.ring_model.proofs.shared.Reaching.{next-happens}
-use Rattle.ring_model.proofs.shared.Shakes.{answered_closed, stopped_answered, stopped_full}
-use Rattle.ring_model.proofs.shared.Stepping.{answered_over}
+use Rattle.ring_model.specs.kept.Transmit.{IsTxKept}
+use Rattle.ring_laws.specs.Rings.{tx_later-all}
+use Rattle.ring_laws.specs.Schedules.{next-happens}
+use Rattle.ring_laws.specs.States.{answered_closed, stopped_answered, stopped_full}
+use Rattle.ring_laws.specs.Queues.{answered_over}
 use Rattle.tx_ring.specs.Records.{Posting, DriverStep, driving, Knowing, unknown, know, know_own, saw_head, knowing, posting_of, drive_own}
 use Rattle.tx_ring.specs.Rule.{Learnt}
 use Rattle.shared_ring.proofs.Folds as shared

@@ -6,7 +6,7 @@ use Rattle.ring_model.specs.declared.states.Completion.{Completion}
 use Rattle.ring_model.specs.declared.states.Completion.TheVariants.{Status, Head}
 use Rattle.ring_model.specs.shared.Places.{between_places, place_next}
 use Rattle.ring_model.specs.transmit.Steps.{by_head}
-use Rattle.ring_model.proofs.shared.Places.{next_place as next_place-of}
+use Rattle.ring_laws.specs.Places.{next_place as next_place-of}
 use Rattle.shared_ring.specs.declared.events.DriverEvent.TheVariants as driver
 use Rattle.tx_ring.specs.declared.events.TxDriverOwn.TheVariants.{NoReport, SawReport}
 use Rattle.tx_ring.specs.Ends.{DriverSide, driver_size, seen_reported, appended}

@@ -13,9 +13,9 @@ use Rattle.ring_model.specs.shared.Queue.{Queue, given_count, returned_count}
 use Rattle.ring_model.specs.transmit.Agreement.{is_told}
 use Rattle.ring_model.specs.transmit.Ring.{TxRing, tx_opening, ends_posting}
 use Rattle.ring_model.specs.transmit.Steps.{IsTxReachable, by_head, tx_can, tx_changed}
-use Rattle.ring_model.specs.transmit.Kept.{IsTxKept}
-use Rattle.ring_model.proofs.transmit.Reached.{tx_kept}
-use Rattle.ring_model.proofs.shared.Reaching.{reached-changed}
+use Rattle.ring_model.specs.kept.Transmit.{IsTxKept}
+use Rattle.ring_laws.specs.Rings.{tx_kept}
+use Rattle.ring_laws.specs.Schedules.{reached-changed}
 use Rattle.shared_ring.specs.Records.{uncontrolled, undriven}
 use Rattle.shared_ring.specs.Slots.{home_at}
 use Rattle.shared_ring.specs.Lies.{driven, IsControlled, LiesIn}

@@ -4,9 +4,9 @@ use Rattle.ring_model.specs.transmit.Ring.{TxLedger, ends_posting}
 use Rattle.ring_model.specs.transmit.Lawful.{IsLawfulTxLedger}
 use Rattle.ring_model.specs.shared.Frames.{Bytes}
 use Rattle.ring_model.specs.shared.Queue.{posted_count, served_count}
-use Rattle.ring_model.specs.transmit.Kept.{IsTxKept}
-use Rattle.ring_model.proofs.transmit.Reached.{tx_kept, tx_concluded}
-use Rattle.ring_model.proofs.shared.Places.{ahead}
+use Rattle.ring_model.specs.kept.Transmit.{IsTxKept}
+use Rattle.ring_laws.specs.Rings.{tx_kept, tx_concluded}
+use Rattle.ring_laws.specs.Places.{ahead}
 use Rattle.tx_ring.specs.Records.{Posting, TxDriven}
 use Rattle.shared_ring.proofs.Meeting.{served-is}
 use Rattle.tx_ring.specs.Rule.{says, lies_there}

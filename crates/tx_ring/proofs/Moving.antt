@@ -20,12 +20,13 @@ use Rattle.ring_model.specs.transmit.Frames.{MayFollow}
 use Rattle.ring_model.specs.transmit.Ring.{TxRing, are_whole, carried, ends_posting, next_sent}
 use Rattle.ring_model.specs.transmit.Steps.{IsTxReachable, by_head, is_there, cleaned_one, loaded_report, oldest_report, tx_can, tx_changed, tx_cleared, tx_renewed, tx_settled}
 use Rattle.ring_model.specs.transmit.Agreement.{posting_word}
-use Rattle.ring_model.specs.transmit.Kept.{IsTxKept}
-use Rattle.ring_model.proofs.transmit.Stepping.{seen_sent}
-use Rattle.ring_model.proofs.transmit.Postings.{AllMayFollow-nil, AllMayFollow-snoc}
-use Rattle.ring_model.proofs.shared.Beginnings.{slice_get-front}
-use Rattle.ring_model.proofs.shared.Shakes.{live_unanswered, tailed_emptied, emptied_answered}
-use Rattle.ring_model.proofs.shared.Stepping.{kept-by, held_below, answered_over, answered_idle}
+use Rattle.ring_model.specs.kept.Transmit.{IsTxKept}
+use Rattle.ring_laws.specs.Rings.{seen_sent}
+use Rattle.ring_laws.specs.Frames.{AllMayFollow-nil, AllMayFollow-snoc}
+use Rattle.ring_laws.specs.Lists.{slice_get-front}
+use Rattle.ring_laws.specs.States.{live_unanswered, tailed_emptied, emptied_answered}
+use Rattle.ring_laws.specs.Queues.{held_below, answered_over, answered_idle}
+use Rattle.ring_model.proofs.shared.Stepping.{kept-by}
 use Rattle.shared_ring.specs.declared.events.DriverEvent.TheVariants as driver
 use Rattle.shared_ring.specs.Lies.{driven, is_early, IsControlled, LiesIn}
 use Rattle.shared_ring.proofs.Lying.{lies-post, lies-publish, lies-give, lies-reclaim, lies-ask_enable, lies-ask_disable, lies-look_answered, lies-clear_head, lies-clear_tail}

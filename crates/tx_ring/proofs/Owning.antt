@@ -14,10 +14,10 @@ use Rattle.ring_model.specs.transmit.Steps.{by_head, cleaned_one, oldest_report,
 use Rattle.ring_model.specs.shared.Frames.{Bytes}
 use Rattle.ring_model.specs.shared.Handshakes.{is_live, is_cleared, is_tailed, is_serving}
 use Rattle.ring_model.specs.shared.Queue.{given_count, returned_count}
-use Rattle.ring_model.proofs.shared.Beginnings.{beginning_at}
-use Rattle.ring_model.proofs.shared.Shakes.{live_unanswered}
-use Rattle.ring_model.proofs.transmit.Postings.{may_follow_next}
-use Rattle.ring_model.proofs.transmit.Stepping.{seen_sent}
+use Rattle.ring_laws.specs.Lists.{beginning_at}
+use Rattle.ring_laws.specs.States.{live_unanswered}
+use Rattle.ring_laws.specs.Frames.{may_follow_next}
+use Rattle.ring_laws.specs.Rings.{seen_sent}
 use Rattle.shared_ring.specs.declared.events.DriverEvent.TheVariants as driver
 use Rattle.shared_ring.specs.Directions.{Agrees}
 use Rattle.shared_ring.specs.Lies.{driven}

@@ -3,7 +3,7 @@ use Rattle.std.proofs.Common.{◌≡◌, ◌∙◌, refl, ℕ, zero, suc, ◌+�
 use Rattle.std.specs.Prelude.{slice_get}
 use Rattle.std.proofs.lemmas.Bool.{cases_eq}
 use Rattle.ring_model.specs.transmit.Steps.{asks_report, first_report}
-use Rattle.ring_model.proofs.shared.Beginnings.{slice_get-front}
+use Rattle.ring_laws.specs.Lists.{slice_get-front}
 use Rattle.tx_ring.specs.Records.{Posting}
 use Rattle.tx_ring.specs.Calls.{HasPassed}
 use Rattle.tx_ring.proofs.Reported.{first_report-asks}

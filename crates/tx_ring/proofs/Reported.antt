@@ -14,10 +14,10 @@ use Rattle.ring_model.specs.shared.Queue.{posted_count}
 use Rattle.ring_model.specs.transmit.Agreement.{done_word, is_told, posting_word}
 use Rattle.ring_model.specs.transmit.Ring.{TxRing}
 use Rattle.ring_model.specs.transmit.Steps.{by_head, asks_report, first_report, oldest_report}
-use Rattle.ring_model.proofs.shared.Places.{ahead}
-use Rattle.ring_model.proofs.shared.Shakes.{live_unanswered}
-use Rattle.ring_model.specs.transmit.Kept.{IsTxKept}
-use Rattle.ring_model.proofs.transmit.Stepping.{first_report-above}
+use Rattle.ring_laws.specs.Places.{ahead}
+use Rattle.ring_laws.specs.States.{live_unanswered}
+use Rattle.ring_model.specs.kept.Transmit.{IsTxKept}
+use Rattle.ring_laws.specs.Rings.{first_report-above}
 use Rattle.tx_ring.specs.Records.{Posting, DriverStep, ControllerStep}
 use Rattle.tx_ring.specs.Rule.{LiesAs, filled, says, word_of}
 use Rattle.tx_ring.specs.Plays.{is_done, report_word, reports_item}

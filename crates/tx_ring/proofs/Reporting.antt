@@ -10,17 +10,19 @@ use Rattle.ring_model.specs.declared.steps.TxStep.TheVariants as tx
 use Rattle.ring_model.specs.shared.Frames.{Bytes}
 use Rattle.ring_model.specs.shared.Handshakes.{is_serving}
 use Rattle.ring_model.specs.shared.Queue.{posted_count, served_count, returned_count}
-use Rattle.ring_model.specs.shared.Agreement.{registers_of, wanted_word}
+use Rattle.ring_model.specs.shared.Agreement.{wanted_word}
+use Rattle.shared_ring.specs.Registers.{registers_of}
 use Rattle.ring_model.specs.transmit.Agreement.{done_word, is_told, posting_word}
 use Rattle.ring_model.specs.transmit.Ring.{TxRing, TxBeginning, tx_opening, ends_posting}
 use Rattle.ring_model.specs.transmit.Steps.{by_head, asks_report, tx_can, tx_changed}
-use Rattle.ring_model.specs.transmit.Kept.{IsTxKept}
-use Rattle.ring_model.proofs.transmit.Postings.{AllMayFollow-nil}
-use Rattle.ring_model.proofs.shared.Beginnings.{slice_get-front}
-use Rattle.ring_model.proofs.shared.Places.{Writes, each_item-set, each_item-same, slice_index-writes}
-use Rattle.ring_model.proofs.shared.Reaching.{reached-opening}
-use Rattle.ring_model.proofs.shared.Shakes.{serving_unanswered}
-use Rattle.ring_model.proofs.shared.Stepping.{shook}
+use Rattle.ring_model.specs.kept.Transmit.{IsTxKept}
+use Rattle.ring_laws.specs.Frames.{AllMayFollow-nil}
+use Rattle.ring_laws.specs.Lists.{slice_get-front}
+use Rattle.ring_model.specs.kept.Writes.{Writes}
+use Rattle.ring_laws.specs.Places.{each_item-set, each_item-same, slice_index-writes}
+use Rattle.ring_laws.specs.Schedules.{reached-opening}
+use Rattle.ring_laws.specs.States.{serving_unanswered}
+use Rattle.ring_laws.specs.Queues.{shook}
 use Rattle.shared_ring.specs.declared.events.ControllerEvent.TheVariants as controller
 use Rattle.shared_ring.specs.Lies.{LiesIn}
 use Rattle.shared_ring.proofs.Laying.{registers-stay, at_zero}

@@ -15,9 +15,10 @@ use Rattle.ring_model.specs.shared.Queue.{served_count, by}
 use Rattle.ring_model.specs.shared.QueueSteps as queue
 use Rattle.ring_model.specs.transmit.Ring.{TxRing, ends_posting, next_posting}
 use Rattle.ring_model.specs.transmit.Steps.{IsTxReachable, sent_one, tx_can, tx_changed, tx_settled}
-use Rattle.ring_model.specs.transmit.Kept.{IsTxKept}
-use Rattle.ring_model.proofs.shared.Shakes.{shakes-enable}
-use Rattle.ring_model.proofs.shared.Stepping.{shook, kept-by, held_below, returned_served}
+use Rattle.ring_model.specs.kept.Transmit.{IsTxKept}
+use Rattle.ring_laws.specs.States.{shakes-enable}
+use Rattle.ring_laws.specs.Queues.{shook, held_below, returned_served}
+use Rattle.ring_model.proofs.shared.Stepping.{kept-by}
 use Rattle.shared_ring.specs.declared.events.ControllerEvent.TheVariants as controller
 use Rattle.shared_ring.specs.Lies.{IsControlled, LiesIn}
 use Rattle.shared_ring.proofs.Laying.{set-same}

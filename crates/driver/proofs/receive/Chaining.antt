@@ -8,7 +8,7 @@ use Rattle.buffer_pool.specs.Buffer.{Buffer}
 use Rattle.buffer_pool.specs.Packed.{bytes_of}
 use Rattle.ring_model.specs.shared.Segments.{Segment, piece_of}
 use Rattle.ring_model.specs.shared.Frames.{Bytes, join, frames, unfinished, Follows}
-use Rattle.ring_model.proofs.shared.FrameLaws.{unfinished-snoc, frames-snoc}
+use Rattle.ring_laws.specs.Frames.{unfinished-snoc, frames-snoc}
 use Rattle.rx_ring.specs.Calls.{segment}
 use Rattle.driver.specs.receive.Chains.{going_on, segments_of, segments_in, IsTaken, HasSegment}
 

@@ -6,7 +6,7 @@ use Rattle.std.proofs.lemmas.List.{reverse-append}
 use Rattle.buffer_pool.specs.Buffer.{Buffer}
 use Rattle.buffer_pool.specs.declared.stash.TheConstants.{STASH_BUFFERS}
 use Rattle.ring_model.specs.transmit.Ring.{number_of_posting}
-use Rattle.ring_model.proofs.transmit.Stepping.{first_report-above}
+use Rattle.ring_laws.specs.Rings.{first_report-above}
 use Rattle.shared_ring.specs.declared.events.DriverEvent.TheVariants.{Own}
 use Rattle.tx_ring.specs.declared.events.TxDriverOwn.TheVariants.{NoReport, SawReport, Cleaned}
 use Rattle.tx_ring.specs.Calls.{CleanedOne, SawReported, SawUnreported, Polled}

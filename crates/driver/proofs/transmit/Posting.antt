@@ -10,8 +10,8 @@ use Rattle.limits.specs.declared.profile.TheConstants.{BUFFER_BYTES}
 use Rattle.ring_model.specs.shared.Frames.{ends_frame, join, unfinished}
 use Rattle.ring_model.specs.transmit.Frames.{MayFollow}
 use Rattle.ring_model.specs.transmit.Ring.{are_whole, carried, ends_posting}
-use Rattle.ring_model.proofs.shared.Beginnings.{slice_get-snoc}
-use Rattle.ring_model.proofs.shared.FrameLaws.{unfinished-snoc, length-join-snoc}
+use Rattle.ring_laws.specs.Lists.{slice_get-snoc}
+use Rattle.ring_laws.specs.Frames.{unfinished-snoc, length-join-snoc}
 use Rattle.shared_ring.specs.declared.events.DriverEvent.TheVariants.{Posted}
 use Rattle.tx_ring.specs.Calls.{item_of}
 use Rattle.tx_ring.specs.Ends.{DriverSide, driver_size, driver_record, posted, cleaned, returned, known_of, appended}

@@ -6,7 +6,7 @@ use Rattle.buffer_pool.specs.Buffer.{Buffer}
 use Rattle.buffer_pool.specs.Packed.{IsPacket, bytes_of}
 use Rattle.ring_model.specs.shared.Frames.{Bytes, join, chains_from, frames}
 use Rattle.ring_model.specs.transmit.Ring.{are_whole, carried}
-use Rattle.ring_model.proofs.shared.FrameLaws.{frames-append}
+use Rattle.ring_laws.specs.Frames.{frames-append}
 use Rattle.tx_ring.proofs.Whole.{whole-rest}
 use Rattle.tx_ring.specs.Calls.{item_of}
 use Rattle.tx_ring.specs.Records.{Posting}

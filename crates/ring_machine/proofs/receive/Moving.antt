@@ -15,17 +15,17 @@ use Rattle.ring_model.specs.receive.Ring.{RxRing, RxQueue, due, next_segment}
 use Rattle.ring_model.specs.shared.Segments.{Segment, ends_segment}
 use Rattle.ring_model.specs.receive.Steps.{rx_can, rx_changed, rx_settled, took}
 use Rattle.ring_model.specs.receive.Agreement.{rx_word}
-use Rattle.ring_model.specs.receive.Kept.{IsRxKept}
-use Rattle.ring_machine.specs.shared.Machine.{IsSound}
-use Rattle.ring_machine.specs.shared.Moves.{after_out}
+use Rattle.ring_model.specs.kept.Receive.{IsRxKept}
+use Rattle.ring_machine.specs.code.Sound.{IsSound}
+use Rattle.ring_machine.specs.code.Shared.{after_out}
 use Rattle.ring_machine.specs.receive.Machine.{RxAgrees, RxParts, lies_rx, says_rx}
-use Rattle.ring_machine.specs.receive.Moves.{next_slot, rx_moved}
+use Rattle.ring_machine.specs.code.Receive.{next_slot, rx_moved}
 use Rattle.ring_machine.proofs.shared.Snoc.{found}
 use Rattle.ring_machine.proofs.shared.Slots.{put-here}
 use Rattle.ring_machine.proofs.shared.Fitting as fit
 use Rattle.ring_machine.proofs.shared.Shaking as shake
 use Rattle.ring_machine.proofs.receive.Telling.{dd_set, due_word, fetched_slot, held_is, reclaimed_slot, taken_slot}
-use Rattle.ring_model.proofs.shared.Stepping.{held_below}
+use Rattle.ring_laws.specs.Queues.{held_below}
 
 module _ (p : RxParts) (r : RxRing ℕ) (k : IsRxKept ℕ r.size r) (a : RxAgrees p r) (sound : IsSound p.queue) where
   -- a step of the queue alone

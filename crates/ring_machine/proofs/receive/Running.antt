@@ -7,16 +7,17 @@ use Rattle.ring_model.specs.declared.notes.Note.{Note}
 use Rattle.ring_model.specs.receive.Ring.{RxRing, due, rx_opening}
 use Rattle.ring_model.specs.shared.Segments.{Segment, ends_segment}
 use Rattle.ring_model.specs.receive.Steps.{IsRxReachable, rx_can, rx_changed, rx_note_of, took}
-use Rattle.ring_model.proofs.shared.Reaching.{kept-reached, reached-more}
-use Rattle.ring_model.specs.receive.Kept.{IsRxKept}
-use Rattle.ring_model.proofs.receive.Reached.{rx_kept}
+use Rattle.ring_laws.specs.Schedules.{reached-more}
+use Rattle.ring_model.proofs.shared.Reaching.{kept-reached}
+use Rattle.ring_model.specs.kept.Receive.{IsRxKept}
+use Rattle.ring_laws.specs.Rings.{rx_kept}
 use Rattle.ring_machine.specs.declared.error.MachineError.{MachineError}
 use Rattle.ring_machine.specs.declared.error.MachineError.TheVariants as refusal
 use Rattle.ring_machine.specs.shared.Following.{count_of}
-use Rattle.ring_machine.specs.shared.Machine.{IsSound}
-use Rattle.ring_machine.specs.shared.Moves.{told_owner}
+use Rattle.ring_machine.specs.code.Sound.{IsSound}
+use Rattle.ring_machine.specs.code.Shared.{told_owner}
 use Rattle.ring_machine.specs.receive.Machine.{RxAgrees, RxFollows, RxOwns, RxParts, RxRuns, lies_rx, says_rx}
-use Rattle.ring_machine.specs.receive.Moves.{rx_begun, rx_may, rx_moved, rx_told}
+use Rattle.ring_machine.specs.code.Receive.{rx_begun, rx_may, rx_moved, rx_told}
 use Rattle.ring_machine.proofs.shared.Running.{did-made, did-refused, runs-append, runs-nil, runs-none, runs-one}
 use Rattle.ring_machine.proofs.shared.Shaking.{fits-begun}
 use Rattle.ring_machine.proofs.shared.Owning.{owns}

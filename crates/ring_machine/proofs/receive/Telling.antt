@@ -15,11 +15,11 @@ use Rattle.ring_model.specs.receive.Ring.{RxRing, due, is_whole, next_segment}
 use Rattle.ring_model.specs.shared.Segments.{Segment, ends_segment}
 use Rattle.ring_model.specs.receive.Steps.{rx_can, rx_note_of, rx_settled, taken_segment}
 use Rattle.ring_model.specs.receive.Agreement.{rx_word}
-use Rattle.ring_model.proofs.shared.Beginnings.{number_at}
-use Rattle.ring_model.specs.receive.Kept.{IsRxKept}
-use Rattle.ring_machine.specs.shared.Moves.{are_all_back, can_fetch, is_idle, looks_settled, refused_empty}
+use Rattle.ring_laws.specs.Lists.{number_at}
+use Rattle.ring_model.specs.kept.Receive.{IsRxKept}
+use Rattle.ring_machine.specs.code.Shared.{are_all_back, can_fetch, is_idle, looks_settled, refused_empty}
 use Rattle.ring_machine.specs.receive.Machine.{RxAgrees, RxParts, lies_rx, says_rx}
-use Rattle.ring_machine.specs.receive.Moves.{has_dd, has_eop, next_slot, next_word, rx_may, rx_told, take_told}
+use Rattle.ring_machine.specs.code.Receive.{has_dd, has_eop, next_slot, next_word, rx_may, rx_told, take_told}
 use Rattle.ring_machine.proofs.shared.PlaceTests.{and_same}
 use Rattle.ring_machine.proofs.shared.Telling as tell
 

@@ -5,18 +5,19 @@ use Rattle.std.proofs.lemmas.Bool.{and_parts, and_left, and_right, not-true, ltb
 use Rattle.ring_model.specs.declared.states.Owner.{Owner}
 use Rattle.ring_model.specs.declared.states.Owner.TheVariants.{Driver, Ring, Controller}
 use Rattle.ring_model.specs.shared.Lists.{EachItem, slot_at}
+use Rattle.ring_model.specs.kept.Writes.{Writes}
 use Rattle.ring_model.specs.shared.Handshakes.{is_open, is_live, is_serving, is_ended, is_stopped}
 use Rattle.ring_model.specs.shared.QueueSteps.{Post, Fetch, Serve, Give, Reclaim}
 use Rattle.ring_model.specs.shared.Queue.{Queue, posted_count, served_count, given_count, returned_count, passed_to, may, by}
 use Rattle.ring_model.specs.shared.Agreement.{Agrees, HasItems, Wrapped, wanted_slot, wanted_word}
-use Rattle.ring_model.proofs.shared.Beginnings.{slice_get-front}
-use Rattle.ring_model.proofs.shared.Places.{Writes, next_place, each_item-set, each_item-push, each_item-drop}
-use Rattle.ring_model.specs.shared.Kept.{IsKept}
-use Rattle.ring_model.proofs.shared.Shakes.{live_unanswered, serving_unended}
-use Rattle.ring_model.proofs.shared.Stepping.{held_below, returned_served}
-use Rattle.ring_machine.specs.shared.Machine.{IsSound}
+use Rattle.ring_laws.specs.Lists.{slice_get-front}
+use Rattle.ring_laws.specs.Places.{next_place, each_item-set, each_item-push, each_item-drop}
+use Rattle.ring_model.specs.kept.Queues.{IsKept}
+use Rattle.ring_laws.specs.States.{live_unanswered, serving_unended}
+use Rattle.ring_laws.specs.Queues.{held_below, returned_served}
+use Rattle.ring_machine.specs.code.Sound.{IsSound}
 use Rattle.ring_model.specs.shared.Places.{place_next}
-use Rattle.ring_machine.specs.shared.Moves.{word_put, after_post, after_fetch, after_serve, after_out}
+use Rattle.ring_machine.specs.code.Shared.{word_put, after_post, after_fetch, after_serve, after_out}
 use Rattle.ring_machine.proofs.shared.Snoc.{snoc_end, snoc_rest, past_end, ends_frame-snoc}
 use Rattle.ring_machine.proofs.shared.Slots.{slot-writes, put-writes, put-here, empty-write, none_to-ring}
 

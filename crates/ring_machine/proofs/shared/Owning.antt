@@ -8,10 +8,10 @@ use Rattle.ring_model.specs.declared.states.Owner.TheVariants.{Driver, Ring, Con
 use Rattle.ring_model.specs.shared.Lawful.{IsLawfulMap}
 use Rattle.ring_model.specs.shared.Queue.{Queue, posted_count, served_count, returned_count, next_head}
 use Rattle.ring_model.specs.shared.Agreement.{Agrees, Wrapped}
-use Rattle.ring_model.proofs.shared.Places.{ahead}
-use Rattle.ring_model.specs.shared.Kept.{IsKept}
-use Rattle.ring_model.proofs.shared.Stepping.{held_below, returned_served}
-use Rattle.ring_machine.specs.shared.Moves.{told_owner}
+use Rattle.ring_laws.specs.Places.{ahead}
+use Rattle.ring_model.specs.kept.Queues.{IsKept}
+use Rattle.ring_laws.specs.Queues.{held_below, returned_served}
+use Rattle.ring_machine.specs.code.Shared.{told_owner}
 use Rattle.ring_machine.proofs.shared.PlaceTests.{and_same}
 use Rattle.ring_machine.proofs.shared.Telling.{AreNamed, held_serve_is, held_told, not_not}
 

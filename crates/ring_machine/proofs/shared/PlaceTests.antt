@@ -3,7 +3,7 @@ use Rattle.std.proofs.Common.{◌≡◌, ◌≢◌, ℕ, ◌+◌, ◌-◌, ◌%�
 use Rattle.std.specs.Prelude.{◌==◌, nat_lt}
 use Rattle.std.proofs.lemmas.Bool.{cases_lt, eqb-true, eqb-false, eq-eqb, ne_eqb, ltb-true, lt-ltb, not-true, not_from_false}
 use Rattle.ring_model.specs.shared.Places.{place_next}
-use Rattle.ring_model.proofs.shared.Places.{same_item, next_place, lap}
+use Rattle.ring_laws.specs.Places.{same_item, next_place, lap}
 
 -- two tests that hold together are one
 pub same_truth : (a b : Bool) → (a ≡ true → b ≡ true) → (b ≡ true → a ≡ true) → a ≡ b

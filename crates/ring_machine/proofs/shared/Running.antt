@@ -7,7 +7,7 @@ use Rattle.ring_model.specs.declared.notes.Note.{Note}
 use Rattle.ring_model.specs.shared.QueueSteps.{QueueStep, Post, Publish, Look, Fetch, Serve, Head, Give, Shake, Reclaim, ClearHead, ClearTail, Renew}
 use Rattle.ring_model.specs.shared.Queue.{Queue, by}
 use Rattle.ring_model.specs.shared.Schedules.{after_all, happened, next}
-use Rattle.ring_model.proofs.shared.Reaching.{after-append}
+use Rattle.ring_laws.specs.Schedules.{after-append}
 use Rattle.ring_machine.specs.declared.error.MachineError.{MachineError}
 use Rattle.ring_machine.specs.declared.error.MachineError.TheVariants as refusal
 use Rattle.ring_machine.specs.shared.Following.{Did, Follows, Runs}

@@ -10,10 +10,10 @@ use Rattle.ring_model.specs.shared.Handshakes.{is_open, is_serving, is_ended, is
 use Rattle.ring_model.specs.shared.QueueSteps.{Publish, Look, Head, Shake, ClearHead, ClearTail, Renew}
 use Rattle.ring_model.specs.shared.Queue.{Queue, opening, posted_count, served_count, returned_count, may, by}
 use Rattle.ring_model.specs.shared.Agreement.{Agrees, Wrapped}
-use Rattle.ring_model.specs.shared.Kept.{IsKept}
-use Rattle.ring_model.proofs.shared.Shakes.{new_open, on_serving, stopped_answered, answered_closed, emptied_answered, cleared_emptied, tailed_emptied, shakes-enable, learned_open, serving_unended}
-use Rattle.ring_model.proofs.shared.Stepping.{shook, answered_unheld, answered_over}
-use Rattle.ring_machine.specs.shared.Moves.{after_shake, after_clear_head, after_clear_tail, after_head, after_look, after_publish, after_renew, begun}
+use Rattle.ring_model.specs.kept.Queues.{IsKept}
+use Rattle.ring_laws.specs.States.{new_open, on_serving, stopped_answered, answered_closed, emptied_answered, cleared_emptied, tailed_emptied, shakes-enable, learned_open, serving_unended}
+use Rattle.ring_laws.specs.Queues.{shook, answered_unheld, answered_over}
+use Rattle.ring_machine.specs.code.Shared.{after_shake, after_clear_head, after_clear_tail, after_head, after_look, after_publish, after_renew, begun}
 use Rattle.ring_machine.proofs.shared.Slots.{empty-begun}
 
 module _ {Posted Served Given : Type 0} (ends : Served → Bool) (says : ℕ → Option Posted → Option Served → ℕ) (lies : Option Posted → Option Served → Option ℕ) where

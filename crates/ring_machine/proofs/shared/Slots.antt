@@ -6,8 +6,9 @@ use Rattle.std.proofs.lemmas.Option.{same_Some, slice_get_within}
 use Rattle.ring_model.specs.declared.states.Owner.{Owner}
 use Rattle.ring_model.specs.declared.states.Owner.TheVariants.{Driver, Ring, Controller}
 use Rattle.ring_model.specs.shared.Lists.{slot_at}
-use Rattle.ring_model.proofs.shared.Places.{Writes, slice_set-writes, slice_index-writes}
-use Rattle.ring_machine.specs.shared.Moves.{word_put}
+use Rattle.ring_model.specs.kept.Writes.{Writes}
+use Rattle.ring_laws.specs.Places.{slice_set-writes, slice_index-writes}
+use Rattle.ring_machine.specs.code.Shared.{word_put}
 
 -- what is in a place of optional things
 abbrev flat : Option (Option ℕ) → Option ℕ

@@ -12,12 +12,12 @@ use Rattle.ring_model.specs.shared.Handshakes.{is_open, is_live, is_serving, is_
 use Rattle.ring_model.specs.shared.QueueSteps as queue
 use Rattle.ring_model.specs.shared.Queue.{Queue, posted_count, served_count, given_count, returned_count, next_head, is_settled, may}
 use Rattle.ring_model.specs.shared.Agreement.{Agrees, Wrapped}
-use Rattle.ring_model.proofs.shared.Places.{ahead, next_place}
-use Rattle.ring_model.specs.shared.Kept.{IsKept}
-use Rattle.ring_model.proofs.shared.Shakes.{open_unanswered, live_unanswered, stopped_answered, serving_unended}
-use Rattle.ring_model.proofs.shared.Stepping.{answered_unheld, held_below, returned_served}
+use Rattle.ring_laws.specs.Places.{ahead, next_place}
+use Rattle.ring_model.specs.kept.Queues.{IsKept}
+use Rattle.ring_laws.specs.States.{open_unanswered, live_unanswered, stopped_answered, serving_unended}
+use Rattle.ring_laws.specs.Queues.{answered_unheld, held_below, returned_served}
 use Rattle.ring_model.specs.shared.Places.{place_next, between_places}
-use Rattle.ring_machine.specs.shared.Moves.{can_post, is_idle, can_fetch, are_all_back, looks_settled}
+use Rattle.ring_machine.specs.code.Shared.{can_post, is_idle, can_fetch, are_all_back, looks_settled}
 use Rattle.ring_machine.proofs.shared.PlaceTests.{and_same, room_told, same_told, left_told}
 use Rattle.ring_machine.proofs.shared.Snoc.{found, past_end}
 

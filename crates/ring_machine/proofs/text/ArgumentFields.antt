@@ -2,7 +2,7 @@
 use Rattle.std.proofs.Common.{◌≡◌, ℕ, ◌+◌, ◌^◌, ◌<◌, ◌≤◌, List, [], ◌∷◌, ◌++◌, length, map, Bor, Option, Some, None, sym, ap, ◌∙◌, append_assoc, arith, length-append}
 use Rattle.std.specs.Prelude.{IfSome, decimal}
 use Rattle.std.proofs.lemmas.List.{length-map, map-append}
-use Rattle.ring_machine.specs.text.Fields.{AreSmall, fields_in, later_fields}
+use Rattle.ring_machine.specs.code.Fields.{AreSmall, fields_in, later_fields}
 
 -- how much is left, with one for the field that begins there
 abbrev pub left_len : Option (Bor (List ℕ)) → ℕ

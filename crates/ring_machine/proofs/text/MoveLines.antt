@@ -18,7 +18,7 @@ use Rattle.ring_model.specs.declared.steps.RxStep.{RxStep}
 use Rattle.ring_model.specs.declared.steps.RxStep.TheVariants as rx
 use Rattle.ring_model.specs.declared.steps.TxStep.{TxStep}
 use Rattle.ring_model.specs.declared.steps.TxStep.TheVariants as tx
-use Rattle.ring_machine.specs.text.Fields.{AreSmall, Spells, fields_in, later_fields}
+use Rattle.ring_machine.specs.code.Fields.{AreSmall, Spells, fields_in, later_fields}
 use Rattle.ring_machine.specs.text.Moves.{IsInRange, IsRxInRange, IsTxInRange, arguments_of, control_kind, kind_of, queue_of, rx_arguments, rx_kind, text_of, tx_arguments, tx_kind}
 use Rattle.ring_model.specs.shared.Agreement.{bit}
 use Rattle.ring_model.specs.transmit.Ring.{Posting}

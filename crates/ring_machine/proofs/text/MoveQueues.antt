@@ -7,7 +7,7 @@ use Rattle.ring_machine.specs.declared.moves.Move.{Move}
 use Rattle.ring_machine.specs.declared.moves.Move.TheVariants.{Receive, Transmit}
 use Rattle.ring_model.specs.declared.steps.RxStep.{RxStep}
 use Rattle.ring_model.specs.declared.steps.TxStep.{TxStep}
-use Rattle.ring_machine.specs.text.Fields.{Spells, SpellsRx, SpellsTx}
+use Rattle.ring_machine.specs.code.Fields.{Spells, SpellsRx, SpellsTx}
 use Rattle.ring_machine.specs.text.Moves.{IsInRange, arguments_of, kind_of, queue_of}
 use Rattle.ring_model.specs.transmit.Ring.{Posting}
 

@@ -6,8 +6,8 @@ use Rattle.std.proofs.lemmas.Option.{same_Some, none-some}
 use Rattle.ring_model.specs.transmit.Ring.{Posting}
 use Rattle.ring_model.specs.transmit.Steps.{asks_report, first_report, is_there}
 use Rattle.ring_model.specs.transmit.Agreement.{done_word, posting_word, tx_word}
-use Rattle.ring_model.proofs.shared.Places.{next_place}
-use Rattle.ring_machine.specs.transmit.Words.{place_before, word_asks, word_eop, word_len, word_rs}
+use Rattle.ring_laws.specs.Places.{next_place}
+use Rattle.ring_machine.specs.code.Words.{place_before, word_asks, word_eop, word_len, word_rs}
 
 -- a descriptor's bits
 pub len_told : (len : ℕ) (eop rs : Bool) (paylen : ℕ) → len < 2 ^ 16 → word_len (tx_word len eop rs paylen) ≡ len

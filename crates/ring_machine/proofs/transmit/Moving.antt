@@ -15,17 +15,19 @@ use Rattle.ring_model.specs.shared.Agreement.{Agrees, Wrapped, wanted_word}
 use Rattle.ring_model.specs.transmit.Ring.{Posting, TxQueue, TxRing, ends_posting, next_posting, next_sent}
 use Rattle.ring_model.specs.transmit.Steps.{asks_report, by_head, cleaned_one, is_there, loaded_report, oldest_report, sent_one, tx_can, tx_changed, tx_cleared, tx_renewed, tx_settled}
 use Rattle.ring_model.specs.transmit.Agreement.{done_word, is_told, tx_word}
-use Rattle.ring_model.proofs.shared.Beginnings.{beginning_at, slice_get-front}
-use Rattle.ring_model.proofs.shared.Places.{each_item-set}
-use Rattle.ring_model.specs.shared.Kept.{IsKept}
-use Rattle.ring_model.proofs.shared.Shakes.{serving_unanswered}
-use Rattle.ring_model.proofs.shared.Stepping.{kept-clear_tail, kept-serve, shook}
-use Rattle.ring_model.specs.transmit.Kept.{IsTxKept}
+use Rattle.ring_laws.specs.Lists.{beginning_at, slice_get-front}
+use Rattle.ring_laws.specs.Places.{each_item-set}
+use Rattle.ring_model.specs.kept.Queues.{IsKept}
+use Rattle.ring_laws.specs.States.{serving_unanswered}
+use Rattle.ring_laws.specs.Queues.{shook}
+use Rattle.ring_model.proofs.shared.Stepping.{kept-clear_tail, kept-serve}
+use Rattle.ring_model.specs.kept.Transmit.{IsTxKept}
 use Rattle.ring_model.specs.shared.Places.{place_next}
-use Rattle.ring_machine.specs.shared.Moves.{after_clear_tail, after_serve}
-use Rattle.ring_machine.specs.transmit.Machine.{IsTxSound, StepFits, TxAgrees, TxParts, lies_tx, says_tx}
-use Rattle.ring_machine.specs.transmit.Words.{place_before, word_eop, word_rs}
-use Rattle.ring_machine.specs.transmit.Moves.{after_load, after_report, after_send, serve_word, tx_after_clear, tx_after_renew, tx_moved}
+use Rattle.ring_machine.specs.code.Shared.{after_clear_tail, after_serve}
+use Rattle.ring_machine.specs.transmit.Machine.{TxAgrees, TxParts, lies_tx, says_tx}
+use Rattle.ring_machine.specs.code.TxSound.{IsTxSound, StepFits}
+use Rattle.ring_machine.specs.code.Words.{place_before, word_eop, word_rs}
+use Rattle.ring_machine.specs.code.Transmit.{after_load, after_report, after_send, serve_word, tx_after_clear, tx_after_renew, tx_moved}
 use Rattle.ring_machine.proofs.shared.Snoc.{ends_frame-snoc, found, snoc_end}
 use Rattle.ring_machine.proofs.shared.Slots.{put-here}
 use Rattle.ring_machine.proofs.shared.Fitting as fit

@@ -8,15 +8,17 @@ use Rattle.ring_model.specs.declared.notes.Note.{Note}
 use Rattle.ring_model.specs.transmit.Ring.{Posting, TxBeginning, TxRing, ends_posting, next_posting, next_sent, number_of_posting, tx_opening}
 use Rattle.ring_model.specs.transmit.Steps.{IsTxReachable, by_head, cleaned_one, loaded_report, oldest_report, sent_one, tx_can, tx_changed, tx_cleared, tx_note_of}
 use Rattle.ring_model.specs.transmit.Agreement.{is_told}
-use Rattle.ring_model.proofs.shared.Reaching.{kept-reached, reached-more}
-use Rattle.ring_model.specs.transmit.Kept.{IsTxKept}
-use Rattle.ring_model.proofs.transmit.Reached.{tx_kept}
+use Rattle.ring_laws.specs.Schedules.{reached-more}
+use Rattle.ring_model.proofs.shared.Reaching.{kept-reached}
+use Rattle.ring_model.specs.kept.Transmit.{IsTxKept}
+use Rattle.ring_laws.specs.Rings.{tx_kept}
 use Rattle.ring_machine.specs.shared.Following.{count_of}
 use Rattle.ring_machine.specs.declared.error.MachineError.{MachineError}
 use Rattle.ring_machine.specs.declared.error.MachineError.TheVariants as refusal
-use Rattle.ring_machine.specs.shared.Moves.{told_owner}
-use Rattle.ring_machine.specs.transmit.Machine.{IsTxSound, StepFits, TxAgrees, TxFollows, TxOwns, TxParts, TxRuns, lies_tx, says_tx}
-use Rattle.ring_machine.specs.transmit.Moves.{tx_begun, tx_may, tx_moved, tx_told}
+use Rattle.ring_machine.specs.code.Shared.{told_owner}
+use Rattle.ring_machine.specs.transmit.Machine.{TxAgrees, TxFollows, TxOwns, TxParts, TxRuns, lies_tx, says_tx}
+use Rattle.ring_machine.specs.code.TxSound.{IsTxSound, StepFits}
+use Rattle.ring_machine.specs.code.Transmit.{tx_begun, tx_may, tx_moved, tx_told}
 use Rattle.ring_machine.proofs.shared.Running.{did-made, did-refused, runs-append, runs-nil, runs-none, runs-one}
 use Rattle.ring_machine.proofs.shared.Shaking.{fits-begun}
 use Rattle.ring_machine.proofs.shared.Owning.{owns}

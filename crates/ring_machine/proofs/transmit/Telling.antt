@@ -14,16 +14,16 @@ use Rattle.ring_model.specs.shared.Queue.{posted_count, served_count, given_coun
 use Rattle.ring_model.specs.transmit.Ring.{Posting, TxRing, are_whole, ends_posting, next_posting, next_sent, number_of_posting}
 use Rattle.ring_model.specs.transmit.Steps.{asks_report, by_head, fetched_segment, first_report, is_there, number_of, oldest_report, report_note, seen_place, tx_can, tx_note_of, tx_settled}
 use Rattle.ring_model.specs.transmit.Agreement.{done_word, is_told, posting_word, tx_word}
-use Rattle.ring_model.proofs.shared.Beginnings.{beginning_at}
-use Rattle.ring_model.proofs.shared.Places.{ahead, next_place}
-use Rattle.ring_model.proofs.shared.Stepping.{returned_served}
-use Rattle.ring_model.specs.transmit.Kept.{IsTxKept}
-use Rattle.ring_model.proofs.transmit.Stepping.{first_report-above}
+use Rattle.ring_laws.specs.Lists.{beginning_at}
+use Rattle.ring_laws.specs.Places.{ahead, next_place}
+use Rattle.ring_laws.specs.Queues.{returned_served}
+use Rattle.ring_model.specs.kept.Transmit.{IsTxKept}
+use Rattle.ring_laws.specs.Rings.{first_report-above}
 use Rattle.ring_model.specs.shared.Places.{between_places, place_next}
-use Rattle.ring_machine.specs.shared.Moves.{can_fetch, looks_settled, refused_empty}
+use Rattle.ring_machine.specs.code.Shared.{can_fetch, looks_settled, refused_empty}
 use Rattle.ring_machine.specs.transmit.Machine.{TxAgrees, TxParts, lies_tx, says_tx}
-use Rattle.ring_machine.specs.transmit.Words.{first_asking, place_before, word_asks}
-use Rattle.ring_machine.specs.transmit.Moves.{is_made, next_slot, oldest_place, report_told, reported_told, sending_told, serve_word, tx_may, tx_told}
+use Rattle.ring_machine.specs.code.Words.{first_asking, place_before, word_asks}
+use Rattle.ring_machine.specs.code.Transmit.{is_made, next_slot, oldest_place, report_told, reported_told, sending_told, serve_word, tx_may, tx_told}
 use Rattle.ring_machine.proofs.shared.PlaceTests.{and_same, left_told, same_truth}
 use Rattle.ring_machine.proofs.shared.Snoc.{found}
 use Rattle.ring_machine.proofs.shared.Telling as tell

@@ -1,6 +1,5 @@
 -- What every machine's places, words and slots are.
-use Rattle.std.specs.Prelude.{◌≡◌, ℕ, ◌<◌, ◌≤◌, length}
-use Rattle.limits.specs.declared.profile.TheConstants.{MOST_RING}
+use Rattle.std.specs.Prelude.{ℕ}
 use Rattle.ring_model.specs.shared.Agreement.{Wrapped}
 use Rattle.ring_machine.specs.declared.machine.queue.QueueMachine.TheInside.{Inside}
 
@@ -20,14 +19,3 @@ wrapped_of m = record {
   whole = m.whole;
   handshake = m.handshake;
 }
-
--- every place is one of the ring's, and there is a word and a slot for each
-pub record IsSound (w : Wrapped ℕ) : Type 0 where
-  pub some_places : 1 < w.size
-  pub few_places : w.size ≤ MOST_RING
-  pub words : length w.words ≡ w.size
-  pub slots : length w.slots ≡ w.size
-  pub fill : w.fill < w.size
-  pub next : w.next < w.size
-  pub serve : w.serve < w.size
-  pub tail : w.tail < w.size

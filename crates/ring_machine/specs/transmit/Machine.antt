@@ -12,7 +12,6 @@ use Rattle.ring_model.specs.transmit.Steps.{by_head, tx_can, tx_changed, tx_note
 use Rattle.ring_model.specs.transmit.Agreement.{is_told, tx_lies, tx_says}
 use Rattle.ring_machine.specs.declared.error.MachineError.{MachineError}
 use Rattle.ring_machine.specs.declared.machine.transmit.TxMachine.TheInside.{Inside}
-use Rattle.ring_machine.specs.shared.Machine.{IsSound}
 use Rattle.ring_machine.specs.shared.Following.{Follows, Runs}
 
 -- what both directions have, and how the queue reports
@@ -26,12 +25,6 @@ pub record TxParts : Type 0 where
 
 abbrev pub tx_parts_of : Inside → TxParts
 tx_parts_of m = record { queue = m.queue; completion = m.completion; report = m.report; rep = m.rep; ends = m.ends; owed = m.owed }
-
--- the places of reports are of the ring's too
-pub record IsTxSound (p : TxParts) : Type 0 where
-  pub queue : IsSound p.queue
-  pub rep : p.rep < p.queue.size
-  pub report : p.report < p.queue.size
 
 -- a payload is the number of its bytes, and a buffer its number; `told` says whether the report of an item stands in its descriptor
 abbrev pub says_tx : (ℕ → Bool) → ℕ → Option (Posting ℕ) → Option (Posting ℕ) → ℕ
@@ -49,11 +42,6 @@ pub record TxAgrees (p : TxParts) (r : TxRing ℕ) : Type 0 where
   pub owed : p.owed ≡ r.owed
   -- the length of each item that is out fits the descriptor's bits
   pub lengths : (k : ℕ) (q : Posting ℕ) → returned_count r.queue ≤ k → slice_get r.ledger.posted k ≡ Some q → q.payload < 2 ^ 16
-
--- the length of what is posted fits the descriptor's bits
-abbrev pub StepFits : TxStep (Posting ℕ) → Type 0
-StepFits (Post p) = p.payload < 2 ^ 16
-StepFits _ = Unit {0}
 
 unfoldable pub TxFollows : TxParts → TxStep (Posting ℕ) → Result Note MachineError → TxParts → Type 0
 TxFollows = Follows TxAgrees (IsTxReachable ℕ) tx_can tx_changed tx_note_of

@@ -7,9 +7,9 @@ ghost use Rattle.limits.specs.declared.profile.TheConstants.{MOST_RING};
 ghost use Rattle.ring_model.specs.shared.Handshakes.{control_value, enables};
 ghost use Rattle.ring_model.specs.shared.Lists.{slot_at};
 ghost use Rattle.ring_machine.specs.declared.error.MachineError.TheVariants.{Memory, RingLength};
-ghost use Rattle.ring_machine.specs.shared.Machine.{IsSound};
+ghost use Rattle.ring_machine.specs.code.Sound.{IsSound};
 ghost use Rattle.ring_model.specs.shared.Places.{between_places};
-ghost use Rattle.ring_machine.specs.shared.Moves.{after_clear_head, after_clear_tail, after_fetch, after_head, after_look, after_out, after_post, after_publish, after_renew, after_serve, after_shake, are_all_back, begun, can_fetch, can_post, is_idle, looks_settled, told_owner, word_put};
+ghost use Rattle.ring_machine.specs.code.Shared.{after_clear_head, after_clear_tail, after_fetch, after_head, after_look, after_out, after_post, after_publish, after_renew, after_serve, after_shake, are_all_back, begun, can_fetch, can_post, is_idle, looks_settled, told_owner, word_put};
 
 use crate::error::MachineError;
 use limits::is_ring_length;
@@ -38,7 +38,8 @@ pub(crate) struct QueueMachine {
 impl Model for QueueMachine {
     ghost use Rattle.std.specs.Prelude.{ℕ};
     ghost use Rattle.ring_model.specs.shared.Agreement.{Wrapped};
-    ghost use Rattle.ring_machine.specs.shared.Machine.{wrapped_of, IsSound};
+    ghost use Rattle.ring_machine.specs.shared.Machine.{wrapped_of};
+    ghost use Rattle.ring_machine.specs.code.Sound.{IsSound};
 
     ghost Value = { Wrapped ℕ };
 

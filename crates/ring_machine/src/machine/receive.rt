@@ -6,10 +6,10 @@ ghost use Rattle.ring_model.specs.declared.steps.RxStep.TheVariants as step;
 ghost use Rattle.ring_model.specs.receive.Agreement.{rx_word};
 ghost use Rattle.ring_model.specs.receive.Ring.{rx_opening};
 ghost use Rattle.ring_machine.specs.declared.error.MachineError.TheVariants.{Memory, NotEnabled, RingLength};
-ghost use Rattle.ring_machine.specs.shared.Machine.{IsSound};
-ghost use Rattle.ring_machine.specs.shared.Moves.{told_owner};
+ghost use Rattle.ring_machine.specs.code.Sound.{IsSound};
+ghost use Rattle.ring_machine.specs.code.Shared.{told_owner};
 ghost use Rattle.ring_machine.specs.receive.Machine.{RxAgrees, RxFollows, RxOwns, RxRuns};
-ghost use Rattle.ring_machine.specs.receive.Moves.{has_dd, has_eop, rx_begun, rx_may, rx_moved, rx_told};
+ghost use Rattle.ring_machine.specs.code.Receive.{has_dd, has_eop, rx_begun, rx_may, rx_moved, rx_told};
 
 use crate::counting::count_of;
 use crate::error::MachineError;

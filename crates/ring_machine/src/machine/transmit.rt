@@ -6,9 +6,10 @@ ghost use Rattle.ring_model.specs.declared.states.Completion.TheVariants as by;
 ghost use Rattle.ring_model.specs.declared.steps.TxStep.TheVariants as step;
 ghost use Rattle.ring_model.specs.transmit.Ring.{tx_opening};
 ghost use Rattle.ring_machine.specs.declared.error.MachineError.TheVariants.{Memory, NotEnabled, RingLength};
-ghost use Rattle.ring_machine.specs.shared.Moves.{told_owner};
-ghost use Rattle.ring_machine.specs.transmit.Machine.{IsTxSound, StepFits, TxAgrees, TxFollows, TxOwns, TxRuns};
-ghost use Rattle.ring_machine.specs.transmit.Moves.{is_made, oldest_place, tx_after_renew, tx_may, tx_moved, tx_told};
+ghost use Rattle.ring_machine.specs.code.Shared.{told_owner};
+ghost use Rattle.ring_machine.specs.transmit.Machine.{TxAgrees, TxFollows, TxOwns, TxRuns};
+ghost use Rattle.ring_machine.specs.code.TxSound.{IsTxSound, StepFits};
+ghost use Rattle.ring_machine.specs.code.Transmit.{is_made, oldest_place, tx_after_renew, tx_may, tx_moved, tx_told};
 
 use crate::counting::count_of;
 use crate::error::MachineError;
@@ -33,7 +34,8 @@ pub struct TxMachine {
 }
 
 impl Model for TxMachine {
-    ghost use Rattle.ring_machine.specs.transmit.Machine.{tx_parts_of, IsTxSound, TxParts};
+    ghost use Rattle.ring_machine.specs.transmit.Machine.{tx_parts_of, TxParts};
+    ghost use Rattle.ring_machine.specs.code.TxSound.{IsTxSound};
 
     ghost Value = { TxParts };
 

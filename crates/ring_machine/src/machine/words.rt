@@ -1,7 +1,7 @@
 //! What the words of transmit descriptors say (82599 datasheet, 7.2.3.2.4), and where a report is asked for.
 
 ghost use Rattle.std.specs.Prelude.{◌≡◌, ◌<◌, IfSome, length};
-ghost use Rattle.ring_machine.specs.transmit.Words.{first_asking, place_before, word_asks, word_eop, word_len, word_rs};
+ghost use Rattle.ring_machine.specs.code.Words.{first_asking, place_before, word_asks, word_eop, word_len, word_rs};
 
 use ring_model::place_after;
 

@@ -1,7 +1,7 @@
 //! The arguments of a move's line.
 
 ghost use Rattle.std.specs.Prelude.{◌≡◌, ◌↔◌, ◌<◌, ◌≤◌, ◌^◌, ℕ, List, Some, IfNone, IfSome, decimal, length, map};
-ghost use Rattle.ring_machine.specs.text.Fields.{AreSmall, later_fields};
+ghost use Rattle.ring_machine.specs.code.Fields.{AreSmall, later_fields};
 ghost use Rattle.ring_machine.specs.declared.moves.fields.TheConstants.{MOST_ARGUMENTS};
 
 use arrayvec::ArrayVec;

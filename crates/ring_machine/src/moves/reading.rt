@@ -1,7 +1,7 @@
 //! How moves are read.
 
 ghost use Rattle.std.specs.Prelude.{◌≡◌, ◌↔◌, ◌<◌, ◌+◌, ℕ, Bool, [], ◌∷◌, codes, Ok, Some, IfErr};
-ghost use Rattle.ring_machine.specs.text.Fields.{Spells, SpellsRx, SpellsTx};
+ghost use Rattle.ring_machine.specs.code.Fields.{Spells, SpellsRx, SpellsTx};
 ghost use Rattle.ring_machine.specs.text.Moves.{IsInRange, text_of};
 ghost use Rattle.ring_model.specs.shared.Agreement.{bit};
 ghost use Rattle.ring_model.specs.transmit.Ring.{Posting};

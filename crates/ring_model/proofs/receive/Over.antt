@@ -12,7 +12,7 @@ use Rattle.ring_model.specs.receive.Steps.{rx_can, rx_changed, rx_settled, took}
 use Rattle.ring_model.specs.receive.Laws.{rx_over}
 use Rattle.ring_model.proofs.shared.Stepping.{unended}
 use Rattle.ring_model.proofs.shared.Fixed.{ended-shake, ended-enables, serving-shake, serving-enables}
-use Rattle.ring_model.specs.receive.Kept.{IsRxKept}
+use Rattle.ring_model.specs.kept.Receive.{IsRxKept}
 
 abbrev pub over : Handshake → Bool → Bool
 over h still = has_ended h || (is_serving h.controller && still)

@@ -17,7 +17,7 @@ use Rattle.ring_model.specs.receive.Laws.{IsRxConcluded, RxLater, rx_over}
 use Rattle.ring_model.proofs.shared.Fixed.{later-refl, later-trans, later-by, same-lists}
 use Rattle.ring_model.proofs.shared.Reached.{ordered, concluded, lawful}
 use Rattle.ring_model.proofs.shared.Reaching.{kept-reached, later-all}
-use Rattle.ring_model.specs.receive.Kept.{IsRxKept}
+use Rattle.ring_model.specs.kept.Receive.{IsRxKept}
 use Rattle.ring_model.proofs.receive.Over.{over-parts, over-quiet, over-close, over-shake, held-unover}
 use Rattle.ring_model.proofs.receive.Stepping.{rx_kept-opening, rx_kept-changed, rx_ledger}
 

@@ -17,10 +17,10 @@ use Rattle.ring_model.specs.shared.Segments.{Segment, ends_segment, number_of_se
 use Rattle.ring_model.specs.receive.Steps.{rx_can, rx_changed, rx_settled, took}
 use Rattle.ring_model.specs.receive.Lawful.{IsLawfulRxLedger}
 use Rattle.ring_model.specs.receive.Laws.{rx_over}
-use Rattle.ring_model.specs.shared.Kept.{IsKept}
+use Rattle.ring_model.specs.kept.Queues.{IsKept}
 use Rattle.ring_model.proofs.shared.Beginnings.{beginning-append, beginning-snoc, numbers-snoc, slice_get-snoc}
 use Rattle.ring_model.proofs.shared.Stepping.{kept-opening, kept-by, held_below}
-use Rattle.ring_model.specs.receive.Kept.{IsRxKept}
+use Rattle.ring_model.specs.kept.Receive.{IsRxKept}
 use Rattle.ring_model.proofs.receive.Over.{over-quiet, over-close, over-shake, over-still}
 
 pub rx_kept-opening : {Payload : Type 0} (n : ℕ) (enabled : Bool) → 1 < n → IsRxKept Payload n (rx_opening n enabled)

@@ -8,7 +8,7 @@ use Rattle.ring_model.specs.shared.Handshakes.{is_open, is_live, is_answered, is
 use Rattle.ring_model.specs.shared.QueueSteps.{QueueStep, Post, Publish, Look, Fetch, Serve, Head, Give, Shake, Reclaim, ClearHead, ClearTail, Renew}
 use Rattle.ring_model.specs.shared.Queue.{Ledger, Queue, posted_count, served_count, given_count, may, by}
 use Rattle.ring_model.specs.shared.Laws.{IsGrown, SameEpoch, Later}
-use Rattle.ring_model.specs.shared.Kept.{IsKept}
+use Rattle.ring_model.specs.kept.Queues.{IsKept}
 use Rattle.ring_model.proofs.shared.Shakes.{new_open, on_open, live_unanswered, open_unanswered, shakes-enable, shakes-disable, learned_open, learned_answered}
 use Rattle.ring_model.proofs.shared.Beginnings.{beginning-refl, beginning-trans, beginning-append}
 use Rattle.ring_model.proofs.shared.Stepping.{shook, unended, open_unended}

@@ -4,7 +4,8 @@ use Rattle.std.specs.Prelude.{slice_get}
 use Rattle.std.proofs.lemmas.Bool.{false≢true}
 use Rattle.std.proofs.lemmas.Option.{none-some, same_Some}
 use Rattle.limits.specs.declared.profile.TheConstants.{BUFFER_BYTES, LEAST_FRAME, MOST_FRAME, MOST_SEGMENTS}
-use Rattle.ring_model.specs.shared.Frames.{Bytes, Piece, pieces, piece_count, cut, join, ends_frame, unfinished_from, unfinished, CanCut, Follows}
+use Rattle.ring_model.specs.shared.Frames.{Bytes, Piece, pieces, piece_count, cut, join, ends_frame, unfinished_from, unfinished, Follows}
+use Rattle.ring_model.specs.kept.CanCut.{CanCut}
 use Rattle.ring_model.proofs.shared.Beginnings.{same_head, same_tail}
 use Rattle.ring_model.proofs.shared.FrameLaws.{length-join-snoc}
 use Rattle.ring_model.proofs.shared.Cuts.{Needs, needs, one_less, shortest}

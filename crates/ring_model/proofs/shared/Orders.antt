@@ -3,7 +3,7 @@ use Rattle.std.proofs.Common.{◌≡◌, ℕ, ◌+◌, ◌-◌, ◌<◌, Bool, t
 use Rattle.std.proofs.lemmas.Bool.{false≢true, both_ways}
 use Rattle.ring_model.specs.declared.handshake.Handshake.{Handshake}
 use Rattle.ring_model.specs.shared.Handshakes.{is_open, is_live, is_answered, is_serving, is_stopped, is_tailed}
-use Rattle.ring_model.specs.shared.Kept.{InOrder, InState, is_emptied}
+use Rattle.ring_model.specs.kept.Queues.{InOrder, InState, is_emptied}
 use Rattle.ring_model.proofs.shared.Shakes.{open_unanswered, live_unanswered, unanswered_full, stopped_full, stopped_answered, tailed_emptied}
 
 -- a state of another kind claims nothing

@@ -6,7 +6,7 @@ use Rattle.std.proofs.lemmas.List.{length-replicate}
 use Rattle.ring_model.specs.declared.states.Owner.{Owner}
 use Rattle.ring_model.specs.declared.states.Owner.TheVariants.{Driver, Ring, Controller}
 use Rattle.ring_model.specs.shared.Lawful.{Window, IsLawfulMap}
-use Rattle.ring_model.specs.shared.Lists.{Writes}
+use Rattle.ring_model.specs.kept.Writes.{Writes}
 use Rattle.ring_model.proofs.shared.Places.{each_item-set, each_item-push, each_item-drop, slice_set-writes}
 
 abbrev pub window_of : ℕ → ℕ → ℕ → ℕ → Bool → Window

@@ -4,7 +4,8 @@ use Rattle.std.specs.Prelude.{slice_get, slice_index, slice_set, ◌==◌}
 use Rattle.std.proofs.lemmas.Bool.{cases_eq, cases_lt, eqb-true, eqb-false}
 use Rattle.std.proofs.Math.Nat.{mod-add-mod, add-mod_right, mod_self}
 use native.Mathlib.Decide.{dec_le}
-use Rattle.ring_model.specs.shared.Lists.{EachItem, Writes}
+use Rattle.ring_model.specs.shared.Lists.{EachItem}
+use Rattle.ring_model.specs.kept.Writes.{Writes}
 
 further : (x y n : ℕ) → x < y → x * n + n ≤ y * n
 further x y n h = let a : suc x * n ≤ y * n = mul-le-mul_right n h in omega (arith, suc-mul x n)

@@ -4,7 +4,7 @@ use Rattle.std.specs.Prelude.{slice_get}
 use Rattle.ring_model.specs.shared.Queue.{Ledger, Queue}
 use Rattle.ring_model.specs.shared.Lawful.{IsLawfulQueue}
 use Rattle.ring_model.specs.shared.Laws.{IsConcluded, IsOrdered}
-use Rattle.ring_model.specs.shared.Kept.{IsKept}
+use Rattle.ring_model.specs.kept.Queues.{IsKept}
 use Rattle.ring_model.proofs.shared.Shakes.{ended_full}
 use Rattle.ring_model.proofs.shared.Stepping.{answered_over}
 

@@ -7,7 +7,7 @@ use Rattle.ring_model.specs.declared.states.DriverState.TheVariants.{New, Asked,
 use Rattle.ring_model.specs.declared.states.ControllerState.{ControllerState}
 use Rattle.ring_model.specs.declared.states.ControllerState.TheVariants.{Off, Serving, Ended}
 use Rattle.ring_model.specs.shared.Handshakes.{is_open, is_live, is_answered, is_serving, is_ended, is_new, is_on, is_stopped, is_cleared, is_tailed, learned}
-use Rattle.ring_model.specs.shared.Kept.{ShakesAs, is_emptied}
+use Rattle.ring_model.specs.kept.Queues.{ShakesAs, is_emptied}
 
 -- What one test on a driver's state tells of another
 pub new_open : (d : DriverState) → is_new d ≡ true → is_open d ≡ true

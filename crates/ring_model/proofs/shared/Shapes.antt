@@ -1,7 +1,7 @@
 -- How long the pieces of a frame are, computed from its length alone.
 use Rattle.std.proofs.Common.{◌≡◌, ℕ, zero, suc, ◌-◌, Bool, true, false, List, [], ◌∷◌, map, length, drop, min, refl, ap, ◌∙◌, length-take, length-drop}
 use Rattle.ring_model.specs.shared.Frames.{Bytes, pieces, piece_count, cut}
-use Rattle.ring_model.specs.shared.Rows.{shape_of}
+use Rattle.ring_model.specs.rows.Frames.{shape_of}
 
 abbrev pub shapes_of : ℕ → ℕ → ℕ → List (ℕ × Bool)
 shapes_of b zero len = []

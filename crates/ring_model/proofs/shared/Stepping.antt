@@ -11,7 +11,7 @@ use Rattle.ring_model.specs.shared.Frames.{ends_frame}
 use Rattle.ring_model.specs.shared.Handshakes.{is_open, is_live, is_answered, is_serving, is_ended, is_new, is_on, is_stopped, is_tailed, first_handshake, ask_enable, look_asked, can_enable, enable, can_disable, disable, look_answered, ask_disable, may_shake, has_ended}
 use Rattle.ring_model.specs.shared.QueueSteps.{QueueStep, Post, Publish, Look, Fetch, Serve, Head, Give, Shake, Reclaim, ClearHead, ClearTail, Renew}
 use Rattle.ring_model.specs.shared.Queue.{Queue, opening, posted_count, served_count, given_count, returned_count, next_head, is_settled, may, by}
-use Rattle.ring_model.specs.shared.Kept.{ShakesAs, is_emptied, IsShaken, InOrder, IsKept}
+use Rattle.ring_model.specs.kept.Queues.{ShakesAs, is_emptied, IsShaken, InOrder, IsKept}
 use Rattle.ring_model.proofs.shared.Shakes.{new_open, on_open, open_unanswered, live_unanswered, stopped_answered, cleared_emptied, tailed_emptied, emptied_answered, answered_closed, answered_ended, serving_unanswered, shakes-ask_enable, shakes-look_asked, shakes-enable, shakes-disable, shakes-look_answered, learned_open, learned_emptied, learned_tailed, learned_unanswered, shakes-ask_disable, shakes-clear_head, shakes-clear_tail, shakes-renew, serving_unended, on_serving}
 use Rattle.ring_model.proofs.shared.Orders.{order-post, order-publish, order-look, order-fetch, served_below, order-serve, order-give, order-reclaim, order-shake, order-enable, order-disable, order-clear_tail, order-begin}
 use Rattle.ring_model.proofs.shared.Owners.{who-other, who-held, map-post, map-serve, map-return_at, map-none, map-opening}

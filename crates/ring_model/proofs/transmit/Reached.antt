@@ -18,7 +18,7 @@ use Rattle.ring_model.proofs.shared.Stepping.{unended}
 use Rattle.ring_model.proofs.shared.Fixed.{ended-shake, later-refl, later-trans, later-by}
 use Rattle.ring_model.proofs.shared.Reached.{ordered, concluded, lawful}
 use Rattle.ring_model.proofs.shared.Reaching.{kept-reached, later-all}
-use Rattle.ring_model.specs.transmit.Kept.{IsTxKept}
+use Rattle.ring_model.specs.kept.Transmit.{IsTxKept}
 use Rattle.ring_model.proofs.transmit.Stepping.{tx_kept-opening, tx_kept-changed, tx_ledger, may_clean}
 
 nothing_more : {X : Type 0} (xs rest : List X) → length (xs ++ rest) ≤ length xs → xs ++ rest ≡ xs

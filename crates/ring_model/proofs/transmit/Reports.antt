@@ -5,7 +5,7 @@ use Rattle.std.proofs.lemmas.Bool.{cases_lt, cases_Bool, both_ways, false≢true
 use Rattle.ring_model.specs.transmit.Ring.{Posting}
 use Rattle.ring_model.specs.transmit.Steps.{asks_report}
 use Rattle.ring_model.proofs.shared.Beginnings.{slice_get-front}
-use Rattle.ring_model.specs.transmit.Kept.{InReports}
+use Rattle.ring_model.specs.kept.Transmit.{InReports}
 
 module _ {Payload : Type 0} where
   pub slice_get-last : (xs : List (Posting Payload)) (p : Posting Payload) → slice_get (xs ++ p ∷ []) (length xs) ≡ Some p

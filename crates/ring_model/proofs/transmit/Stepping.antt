@@ -15,11 +15,11 @@ use Rattle.ring_model.specs.shared.Queue.{posted_count, served_count, given_coun
 use Rattle.ring_model.specs.transmit.Ring.{Posting, TxBeginning, TxLedger, TxRing, tx_opening, are_whole, ends_posting, next_posting, next_sent, number_of_posting}
 use Rattle.ring_model.specs.transmit.Steps.{by_head, asks_report, first_report, oldest_report, tx_settled, sent_one, loaded_report, cleaned_one, tx_renewed, tx_cleared, tx_can, tx_changed}
 use Rattle.ring_model.specs.transmit.Lawful.{IsLawfulTxLedger}
-use Rattle.ring_model.specs.shared.Kept.{IsKept}
+use Rattle.ring_model.specs.kept.Queues.{IsKept}
 use Rattle.ring_model.proofs.shared.Shakes.{tailed_emptied, emptied_answered}
 use Rattle.ring_model.proofs.shared.Beginnings.{beginning-append, beginning-snoc, slice_get-snoc}
 use Rattle.ring_model.proofs.shared.Stepping.{kept-opening, kept-by, answered_idle}
-use Rattle.ring_model.specs.transmit.Kept.{InReports, IsTxKept}
+use Rattle.ring_model.specs.kept.Transmit.{InReports, IsTxKept}
 use Rattle.ring_model.proofs.transmit.Reports.{reports-none, unserving_paid, reports-fetch, reports-send, reports-report, reports-load, reports-give, reports-answer}
 
 pub tx_kept-opening : {Payload : Type 0} (n : ℕ) (b : TxBeginning) → 1 < n → IsTxKept Payload n (tx_opening n b)

@@ -1,15 +1,11 @@
 -- What a receive ring's words and slots have.
 use Rattle.std.specs.Prelude.{ℕ, ◌+◌, ◌*◌, ◌^◌, Bool, Option, Some, None}
-use Rattle.ring_model.specs.shared.Agreement.{Registers, bit, registers_of}
-use Rattle.ring_model.specs.receive.Ring.{RxRing}
+use Rattle.ring_model.specs.shared.Agreement.{bit}
 use Rattle.ring_model.specs.shared.Segments.{Segment}
 
 -- the second word of a write-back (82599 datasheet, 7.1.6.2): DD in bit 0, EOP in bit 1, the length in bits 47:32
 abbrev pub rx_word : ℕ → Bool → ℕ
 rx_word len eop = 1 + 2 * bit eop + len * 2 ^ 32
-
-abbrev pub rx_registers_of : {Payload : Type 0} → RxRing Payload → Registers
-rx_registers_of r = registers_of r.queue r.quiet
 
 -- `size` counts a payload's bytes, `fresh` is the posted buffer with a number, and `filled` that buffer with a payload
 module _ {Payload Buffer : Type 0} (size : Payload → ℕ) (fresh : ℕ → Buffer) (filled : ℕ → Payload → Buffer) where

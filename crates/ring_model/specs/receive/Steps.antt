@@ -1,5 +1,5 @@
 -- The steps of a receive ring: where each can happen, what it changes, and what it tells.
-use Rattle.std.specs.Prelude.{ℕ, ◌-◌, ◌%◌, Bool, true, not, ◌&&◌, nat_lt, List, Option, Some, None, slice_index, if◌then◌else◌}
+use Rattle.std.specs.Prelude.{ℕ, ◌-◌, ◌%◌, Bool, true, not, ◌&&◌, nat_lt, List, Option, Some, None, slice_index}
 use Rattle.ring_model.specs.declared.steps.RxStep.{RxStep}
 use Rattle.ring_model.specs.declared.steps.RxStep.TheVariants.{Post, Publish, Look, Fetch, Store, Take, Head, Control, Reclaim, StoreQuiet, LoadQuiet, ClearHead, ClearTail, ClearQuiet}
 use Rattle.ring_model.specs.declared.notes.TakenSegment.{TakenSegment}
@@ -87,10 +87,6 @@ rx_note_of r LoadQuiet = note.Quiet r.quiet
 rx_note_of r ClearHead = note.Head 0
 rx_note_of r ClearTail = note.Tail 0
 rx_note_of r ClearQuiet = note.Quiet 0
-
--- the ring after the step, with its note, where it can happen
-abbrev pub rx_after : RxRing ℕ → RxStep ℕ → Option (RxRing ℕ × Note)
-rx_after r s = if rx_can r s then Some (rx_changed r s, rx_note_of r s) else None
 
 abbrev pub rx_notes : RxRing ℕ → List (RxStep ℕ) → List (Option Note)
 rx_notes = told_by rx_can rx_changed rx_note_of

@@ -1,5 +1,5 @@
 -- How a queue whose places wrap, with words and slots, agrees with the unbounded one.
-use Rattle.std.specs.Prelude.{◌≡◌, ℕ, ◌+◌, ◌%◌, Bool, true, false, ◌&&◌, ◌==◌, List, Option, Some, None, slice_get, slice_index, if◌then◌else◌}
+use Rattle.std.specs.Prelude.{◌≡◌, ℕ, ◌%◌, Bool, true, false, ◌&&◌, ◌==◌, List, Option, Some, None, slice_get, slice_index, if◌then◌else◌}
 use Rattle.ring_model.specs.declared.states.Owner.TheVariants.{Driver}
 use Rattle.ring_model.specs.declared.handshake.Handshake.{Handshake}
 use Rattle.ring_model.specs.shared.Lists.{EachItem, slot_at}
@@ -11,22 +11,6 @@ use Rattle.ring_model.specs.shared.Queue.{Queue, posted_count, served_count, ret
 abbrev pub bit : Bool → ℕ
 bit true = 1
 bit false = 0
-
--- The words of a queue's table that are no descriptor: head at n, tail at n + 1, control at n + 2, quiet at n + 3
-pub record Registers : Type 0 where
-  pub head : ℕ
-  pub tail : ℕ
-  pub control : ℕ
-  pub quiet : ℕ
-
-abbrev pub registers_of : {Posted Served Given : Type 0} → Queue Posted Served Given → ℕ → Registers
-registers_of q quiet = record { head = q.head; tail = q.published % q.size; control = q.handshake.control; quiet = quiet }
-
-pub record HasRegisters (n : ℕ) (g : Registers) (words : List ℕ) : Type 0 where
-  pub head : slice_index words n ≡ g.head
-  pub tail : slice_index words (n + 1) ≡ g.tail
-  pub control : slice_index words (n + 2) ≡ g.control
-  pub quiet : slice_index words (n + 3) ≡ g.quiet
 
 -- `says` is the word of item k, of what was posted and what was served there; `lies` the buffer
 module _ {Posted Served Given Buffer : Type 0} (says : ℕ → Option Posted → Option Served → ℕ) (lies : Option Posted → Option Served → Option Buffer) where

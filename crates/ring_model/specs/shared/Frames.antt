@@ -93,12 +93,3 @@ pub record IsCutBy (b : ℕ) (ps : List Piece) : Type 0 where
   pub some_left : (k : ℕ) (p : Piece) → slice_get ps k ≡ Some p → 0 < length p.bytes
   pub few_left : (k : ℕ) (p : Piece) → slice_get ps k ≡ Some p → length p.bytes ≤ b
   pub ends : (k : ℕ) (p : Piece) → slice_get ps k ≡ Some p → k + 1 ≡ length ps → p.eop ≡ true
-
--- a frame of so many bytes can be cut to pieces of b bytes, and stored or posted in a ring of n places
-pub record CanCut (n b len : ℕ) : Type 0 where
-  pub some_room : 0 < b
-  pub room : b ≤ BUFFER_BYTES
-  pub least : LEAST_FRAME ≤ len
-  pub most : len ≤ MOST_FRAME
-  pub segments : piece_count b len ≤ MOST_SEGMENTS
-  pub descriptors : piece_count b len < n

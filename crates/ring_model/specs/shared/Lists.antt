@@ -1,5 +1,5 @@
 -- Words on lists, and on items that lie round a ring: item k lies at the place k % n.
-use Rattle.std.specs.Prelude.{◌≡◌, ◌≢◌, ℕ, ◌%◌, ◌<◌, ◌≤◌, List, ◌++◌, Option, Some, None, slice_get}
+use Rattle.std.specs.Prelude.{◌≡◌, ℕ, ◌%◌, ◌<◌, ◌≤◌, List, ◌++◌, Option, Some, None, slice_get}
 
 -- ys is xs followed by something, perhaps by nothing
 abbrev pub IsBeginning : {X : Type 0} → List X → List X → Type 0
@@ -16,8 +16,3 @@ slot_at slots place = within (slice_get slots place)
     within : {Y : Type 0} → Option (Option Y) → Option Y
     within None = None
     within (Some x) = x
-
--- after one write: x at the place p, and all else as it was
-pub record Writes {X : Type 0} (n : ℕ) (before later : ℕ → X) (p : ℕ) (x : X) : Type 0 where
-  pub here : later p ≡ x
-  pub rest : (j : ℕ) → j < n → j ≢ p → later j ≡ before j

@@ -1,6 +1,6 @@
 -- What a transmit ring's words and slots have, however it reports.
 use Rattle.std.specs.Prelude.{ℕ, ◌+◌, ◌*◌, ◌^◌, Bool, not, ◌&&◌, nat_lt, Option, Some, None, if◌then◌else◌}
-use Rattle.ring_model.specs.shared.Agreement.{Registers, bit, registers_of}
+use Rattle.ring_model.specs.shared.Agreement.{bit}
 use Rattle.ring_model.specs.transmit.Ring.{Posting, TxRing}
 use Rattle.ring_model.specs.transmit.Steps.{by_head}
 
@@ -11,9 +11,6 @@ tx_word len eop rs paylen = len + 3 * 2 ^ 20 + 2 ^ 25 + 2 ^ 29 + bit eop * 2 ^ 2
 -- the second word of a transmit write-back: DD in bit 32
 abbrev pub done_word : ℕ
 done_word = 2 ^ 32
-
-abbrev pub tx_registers_of : {Payload : Type 0} → TxRing Payload → Registers
-tx_registers_of r = registers_of r.queue 0
 
 -- whether the report of item k, if it asks for one, stands in its descriptor
 abbrev pub is_told : {Payload : Type 0} → TxRing Payload → ℕ → Bool

@@ -143,9 +143,5 @@ tx_note_of r ClearHead = note.Head 0
 tx_note_of r ClearTail = note.Tail 0
 tx_note_of r ClearReport = note.Head 0
 
--- the ring after the step, with its note, where it can happen
-abbrev pub tx_after : TxRing ℕ → TxStep (Posting ℕ) → Option (TxRing ℕ × Note)
-tx_after r s = if tx_can r s then Some (tx_changed r s, tx_note_of r s) else None
-
 abbrev pub tx_notes : TxRing ℕ → List (TxStep (Posting ℕ)) → List (Option Note)
 tx_notes = told_by tx_can tx_changed tx_note_of

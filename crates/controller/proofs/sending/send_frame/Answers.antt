@@ -1,6 +1,6 @@
 use Rattle.std.proofs.Common.{◌∙◌, Bool, sym, ap, subst}
 use Rattle.ring_model.specs.transmit.Ring.{carried, are_whole}
-use Rattle.ring_model.proofs.shared.Following.{whole-unfinished}
+use Rattle.ring_laws.specs.Frames.{whole-unfinished}
 use Rattle.tx_ring.specs.Records.{TxControlled}
 use Rattle.tx_ring.specs.Ends.{ControllerSide, controller_record, sent}
 use Rattle.controller.specs.Sending.{SentBytes}

@@ -1,6 +1,6 @@
 use Rattle.std.proofs.Common.{arith, ap, ◌∙◌}
 use Rattle.ring_model.specs.shared.Segments.{piece_of}
-use Rattle.ring_model.proofs.shared.Following.{whole-unfinished}
+use Rattle.ring_laws.specs.Frames.{whole-unfinished}
 use Rattle.rx_ring.specs.Records.{RxControlled}
 use Rattle.rx_ring.specs.Ends.{stored}
 use Rattle.controller.proofs.Cutting.{can_cut}

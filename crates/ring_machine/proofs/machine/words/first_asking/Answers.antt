@@ -2,7 +2,7 @@
 use Rattle.std.proofs.Common.{◌≡◌, ℕ, suc, ◌+◌, ◌-◌, false, List, refl, sym, ap, ◌∙◌, arith}
 use Rattle.std.specs.Prelude.{slice_index}
 use Rattle.ring_model.specs.shared.Places.{place_next}
-use Rattle.ring_machine.specs.transmit.Words.{first_asking, word_asks}
+use Rattle.ring_machine.specs.code.Words.{first_asking, word_asks}
 use Rattle.ring_machine.proofs.machine.words.first_asking.Goals as goal
 
 passed : (words : List ℕ) (n place after k left : ℕ) → k ≡ suc left → after ≡ place_next n place → word_asks (slice_index words place) ≡ false → first_asking words n after left ≡ first_asking words n place k

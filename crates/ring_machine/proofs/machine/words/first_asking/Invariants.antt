@@ -1,6 +1,6 @@
 -- What is left to look at finds what all finds.
 use Rattle.std.proofs.Common.{◌≡◌, ◌<◌, ◌-◌}
-use Rattle.ring_machine.specs.transmit.Words.{first_asking}
+use Rattle.ring_machine.specs.code.Words.{first_asking}
 use Rattle.ring_machine.proofs.machine.words.first_asking.Given as goal
 
 abbrev pub invariant-loop-i : goal.invariant-loop-i

@@ -2,7 +2,7 @@ use Rattle.std.proofs.Common.{◌≡◌, ◌++◌, List, ℕ, map, length, Some,
 use Rattle.std.specs.Prelude.{decimal}
 use Rattle.std.proofs.lemmas.Bool.{eqb-true}
 use Rattle.std.proofs.lemmas.List.{append-nil}
-use Rattle.ring_machine.specs.text.Fields.{later_fields}
+use Rattle.ring_machine.specs.code.Fields.{later_fields}
 use Rattle.ring_machine.proofs.text.ArgumentFields.{less_left, next_field, no_number, one_more, small_more, too_many}
 use Rattle.ring_machine.proofs.moves.fields.arguments_in.Goals as goal
 

@@ -1,6 +1,6 @@
 use Rattle.std.proofs.Common.{◌≡◌, ◌++◌, map}
 use Rattle.std.specs.Prelude.{decimal}
-use Rattle.ring_machine.specs.text.Fields.{AreSmall, later_fields}
+use Rattle.ring_machine.specs.code.Fields.{AreSmall, later_fields}
 use Rattle.ring_machine.proofs.text.ArgumentFields.{left_len}
 use Rattle.ring_machine.proofs.moves.fields.arguments_in.Given as goal
 

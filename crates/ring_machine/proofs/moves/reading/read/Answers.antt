@@ -1,6 +1,6 @@
 use Rattle.std.proofs.Common.{◌≡◌, ◌∷◌, List, ℕ, Some, None, sym, ap, subst, ◌∙◌, map, rules}
 use Rattle.std.specs.Prelude.{decimal}
-use Rattle.ring_machine.specs.text.Fields.{AreSmall, later_fields}
+use Rattle.ring_machine.specs.code.Fields.{AreSmall, later_fields}
 use Rattle.ring_machine.proofs.text.MoveLines.{no_arguments, one_field, spelled, two_fields}
 use Rattle.ring_machine.proofs.moves.reading.read.Goals as goal
 

@@ -6,7 +6,7 @@ use Rattle.ring_model.specs.declared.steps.TxStep.{TxStep}
 use Rattle.ring_model.specs.declared.steps.TxStep.TheVariants.{Post, Publish, Look, Fetch, Send, Report, LoadReport, Clean, Control, Reclaim, ClearHead, ClearTail, ClearReport}
 use Rattle.ring_model.specs.declared.notes.Note.{Note}
 use Rattle.ring_model.specs.declared.notes.Note.TheVariants as note
-use Rattle.ring_model.specs.shared.Told.{place, tail, head, buffer, control}
+use Rattle.ring_model.specs.rows.Told.{place, tail, head, buffer, control}
 use Rattle.ring_model.specs.transmit.Ring.{Posting, new_posting, TxRing, tx_opening}
 use Rattle.ring_model.specs.transmit.Steps.{tx_after_all, tx_happened, tx_notes}
 

@@ -2,8 +2,8 @@
 use Rattle.std.specs.Prelude.{◌≡◌, true, false, [], ◌∷◌, ◌++◌, None}
 use Rattle.ring_model.specs.declared.steps.ControlStep.TheVariants.{AskEnable, LookAsked, Answer, LookAnswered, AskDisable}
 use Rattle.ring_model.specs.declared.steps.RxStep.TheVariants.{Post, Publish, Look, Fetch, Store, Take, Head, Control, Reclaim, StoreQuiet, LoadQuiet, ClearHead, ClearTail, ClearQuiet}
-use Rattle.ring_model.specs.shared.Told.{place, tail, head, buffer, control}
-use Rattle.ring_model.specs.receive.Rows.{on_8, off_8, free, fetched, taken, nothing, quiet, rx_posts, rx_turns, seven_posted, disabling, renewal, second_disabling}
+use Rattle.ring_model.specs.rows.Told.{place, tail, head, buffer, control}
+use Rattle.ring_model.specs.rows.Receive.{on_8, off_8, free, fetched, taken, nothing, quiet, rx_posts, rx_turns, seven_posted, disabling, renewal, second_disabling}
 use Rattle.ring_model.specs.receive.Steps.{rx_after_all, rx_notes}
 
 pub record RxStateRows : Type 0 where

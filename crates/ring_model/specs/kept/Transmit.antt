@@ -6,7 +6,7 @@ use Rattle.ring_model.specs.shared.Queue.{given_count}
 use Rattle.ring_model.specs.transmit.Ring.{Posting, TxLedger, TxRing, are_whole, ends_posting, number_of_posting}
 use Rattle.ring_model.specs.transmit.Steps.{asks_report}
 use Rattle.ring_model.specs.transmit.Lawful.{IsLawfulTxLedger}
-use Rattle.ring_model.specs.shared.Kept.{IsKept}
+use Rattle.ring_model.specs.kept.Queues.{IsKept}
 
 -- the counts of reports, in their order. Of those that were sent and not reported, only the last may have asked for a report, and then one is owed
 pub record InReports {Payload : Type 0} (sent : List (Posting Payload)) (given seen reported : ℕ) (held owed serving : Bool) : Type 0 where

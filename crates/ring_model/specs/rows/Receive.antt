@@ -5,7 +5,7 @@ use Rattle.ring_model.specs.declared.steps.RxStep.{RxStep}
 use Rattle.ring_model.specs.declared.steps.RxStep.TheVariants.{Post, Publish, Look, Fetch, Store, Take, Head, Control, Reclaim, StoreQuiet, LoadQuiet, ClearHead, ClearTail, ClearQuiet}
 use Rattle.ring_model.specs.declared.notes.Note.{Note}
 use Rattle.ring_model.specs.declared.notes.Note.TheVariants as note
-use Rattle.ring_model.specs.shared.Told.{place, tail, head, buffer, control}
+use Rattle.ring_model.specs.rows.Told.{place, tail, head, buffer, control}
 use Rattle.ring_model.specs.receive.Ring.{RxRing, rx_opening}
 use Rattle.ring_model.specs.shared.Segments.{Segment}
 use Rattle.ring_model.specs.receive.Steps.{rx_after_all, rx_happened, rx_notes}

@@ -2,9 +2,9 @@
 use Rattle.std.specs.Prelude.{◌≡◌, true, false, [], ◌∷◌, ◌++◌, None}
 use Rattle.ring_model.specs.declared.steps.ControlStep.TheVariants.{AskEnable, LookAsked, Answer, LookAnswered, AskDisable}
 use Rattle.ring_model.specs.declared.steps.TxStep.TheVariants.{Post, Publish, Look, Fetch, Send, Report, LoadReport, Clean, Control, Reclaim, ClearHead, ClearTail, ClearReport}
-use Rattle.ring_model.specs.shared.Told.{place, tail, head, buffer, control}
+use Rattle.ring_model.specs.rows.Told.{place, tail, head, buffer, control}
 use Rattle.ring_model.specs.transmit.Ring.{new_posting}
-use Rattle.ring_model.specs.transmit.Rows.{by_status, by_head_word, off, off_by_head, frame, ready, sending, sends, unreported, reported, tx_posts, tx_turns, disabling, renewal, second_disabling}
+use Rattle.ring_model.specs.rows.Transmit.{by_status, by_head_word, off, off_by_head, frame, ready, sending, sends, unreported, reported, tx_posts, tx_turns, disabling, renewal, second_disabling}
 use Rattle.ring_model.specs.transmit.Steps.{tx_after_all, tx_notes}
 
 pub record TxStateRows : Type 0 where

@@ -6,11 +6,11 @@ use Rattle.ring_model.specs.declared.steps.TxStep.TheVariants as tx
 use Rattle.ring_model.specs.declared.states.Completion.TheVariants as by
 use Rattle.ring_model.specs.declared.notes.Note.{Note}
 use Rattle.ring_model.specs.shared.Schedules.{next}
-use Rattle.ring_model.specs.shared.Told.{place, tail, head, buffer, control}
+use Rattle.ring_model.specs.rows.Told.{place, tail, head, buffer, control}
 use Rattle.ring_model.specs.receive.Ring.{RxRing}
-use Rattle.ring_model.specs.receive.Rows.{free, fetched, taken, nothing}
+use Rattle.ring_model.specs.rows.Receive.{free, fetched, taken, nothing}
 use Rattle.ring_model.specs.transmit.Ring.{TxRing}
-use Rattle.ring_model.specs.transmit.Rows.{frame, ready, sending, reported}
+use Rattle.ring_model.specs.rows.Transmit.{frame, ready, sending, reported}
 use Rattle.ring_model.specs.Worlds.{QueueMove, Receive, Transmit, World, after_move, after_moves, can_move, moves_happened, note_in, opening_world}
 
 abbrev two_pairs : World

@@ -6,7 +6,7 @@ use Rattle.ring_model.specs.receive.Ring.{RxLedger, RxRing, is_whole}
 use Rattle.ring_model.specs.shared.Segments.{ends_segment, number_of_segment}
 use Rattle.ring_model.specs.receive.Lawful.{IsLawfulRxLedger}
 use Rattle.ring_model.specs.receive.Laws.{rx_over}
-use Rattle.ring_model.specs.shared.Kept.{IsKept}
+use Rattle.ring_model.specs.kept.Queues.{IsKept}
 
 pub record IsRxKept (Payload : Type 0) (n : ℕ) (r : RxRing Payload) : Type 0 where
   pub queue : IsKept n ends_segment r.queue

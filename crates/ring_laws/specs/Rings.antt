@@ -1,0 +1,6 @@
+-- The lemmas that are clauses of `src/rings.rt`, by name, for proofs of crates above.
+pub use Rattle.ring_model.proofs.receive.Reached.{rx_kept, rx_lawful, rx_concluded, rx_later-all}
+pub use Rattle.ring_model.proofs.receive.Stepping.{rx_kept-opening}
+pub use Rattle.ring_model.proofs.receive.Over.{over-ended, said-stays}
+pub use Rattle.ring_model.proofs.transmit.Reached.{tx_kept, tx_lawful, tx_concluded, tx_later-all}
+pub use Rattle.ring_model.proofs.transmit.Stepping.{first_report-above, seen_sent}

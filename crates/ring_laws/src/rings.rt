@@ -1,0 +1,40 @@
+//! What holds of every ring that a schedule gives, as contracts of functions that do nothing.
+ghost use Rattle.std.specs.Prelude.{◌≡◌, ℕ, ◌<◌, ◌≤◌, Bool, true, ◌&&◌, ◌||◌, List, Some};
+ghost use Rattle.ring_model.specs.declared.handshake.Handshake.{Handshake};
+ghost use Rattle.ring_model.specs.declared.steps.RxStep.{RxStep};
+ghost use Rattle.ring_model.specs.declared.steps.TxStep.{TxStep};
+ghost use Rattle.ring_model.specs.shared.Handshakes.{is_serving, has_ended};
+ghost use Rattle.ring_model.specs.shared.Queue.{served_count};
+ghost use Rattle.ring_model.specs.receive.Ring.{RxRing, rx_opening};
+ghost use Rattle.ring_model.specs.receive.Steps.{rx_can, rx_changed, rx_after_all, IsRxReachable};
+ghost use Rattle.ring_model.specs.kept.Receive.{IsRxKept};
+ghost use Rattle.ring_model.specs.receive.Lawful.{IsLawfulRx};
+ghost use Rattle.ring_model.specs.receive.Laws.{IsRxConcluded, RxLater, rx_over};
+ghost use Rattle.ring_model.specs.transmit.Ring.{Posting, TxRing};
+ghost use Rattle.ring_model.specs.transmit.Steps.{first_report, tx_after_all, IsTxReachable};
+ghost use Rattle.ring_model.specs.kept.Transmit.{IsTxKept};
+ghost use Rattle.ring_model.specs.transmit.Lawful.{IsLawfulTx};
+ghost use Rattle.ring_model.specs.transmit.Laws.{IsTxConcluded, TxLater};
+
+/// Of receive rings, whatever a payload is: one that a schedule gives has what every step keeps (`IsRxKept`), and what has that
+/// is lawful, concluded, and goes on as a ring has to.
+pub fn rx_rings_are_kept<Payload>()
+    ensures rx_kept { (n : ℕ) (r : RxRing Payload) → 1 < n → IsRxReachable Payload n r → IsRxKept Payload n r }
+    ensures rx_lawful { (n : ℕ) (r : RxRing Payload) → IsRxKept Payload n r → IsLawfulRx Payload r }
+    ensures rx_concluded { (n : ℕ) (r : RxRing Payload) → IsRxKept Payload n r → IsRxConcluded r }
+    ensures rx_later_all { (n : ℕ) (r : RxRing Payload) (more : List (RxStep Payload)) → IsRxKept Payload n r → RxLater r (rx_after_all r more) }
+    ensures opening { (n : ℕ) (enabled : Bool) → 1 < n → IsRxKept Payload n (rx_opening n enabled) }
+    ensures over_ended { (h : Handshake) (still : Bool) → has_ended h ≡ true → (has_ended h || (is_serving h.controller && still)) ≡ true }
+    ensures said_stays { (n : ℕ) (r : RxRing Payload) → IsRxKept Payload n r → (s : RxStep Payload) → rx_can r s ≡ true → rx_over r ≡ true → r.still ≡ true → (rx_changed r s).still ≡ true }
+{}
+
+/// Of transmit rings, whatever a payload is: one that a schedule gives has what every step keeps (`IsTxKept`), and what has that
+/// is lawful, concluded, and goes on as a ring has to.
+pub fn tx_rings_are_kept<Payload>()
+    ensures tx_kept { (n : ℕ) (r : TxRing Payload) → 1 < n → IsTxReachable Payload n r → IsTxKept Payload n r }
+    ensures tx_lawful { (n : ℕ) (r : TxRing Payload) → IsTxKept Payload n r → IsLawfulTx Payload r }
+    ensures tx_concluded { (n : ℕ) (r : TxRing Payload) → IsTxKept Payload n r → IsTxConcluded r }
+    ensures tx_later_all { (n : ℕ) (r : TxRing Payload) (more : List (TxStep (Posting Payload))) → IsTxKept Payload n r → TxLater r (tx_after_all r more) }
+    ensures first_report_above { (ps : List (Posting Payload)) (k : ℕ) (count : ℕ) (j : ℕ) → first_report ps k count ≡ Some j → k ≤ j }
+    ensures seen_sent { (n : ℕ) (r : TxRing Payload) → IsTxKept Payload n r → r.seen_reported ≤ served_count r.queue }
+{}

@@ -1,0 +1,15 @@
+-- What the fields of a machine's core keep, whatever it agrees with.
+use Rattle.std.specs.Prelude.{◌≡◌, ℕ, ◌<◌, ◌≤◌, length}
+use Rattle.limits.specs.declared.profile.TheConstants.{MOST_RING}
+use Rattle.ring_model.specs.shared.Agreement.{Wrapped}
+
+-- every place is one of the ring's, and there is a word and a slot for each
+pub record IsSound (w : Wrapped ℕ) : Type 0 where
+  pub some_places : 1 < w.size
+  pub few_places : w.size ≤ MOST_RING
+  pub words : length w.words ≡ w.size
+  pub slots : length w.slots ≡ w.size
+  pub fill : w.fill < w.size
+  pub next : w.next < w.size
+  pub serve : w.serve < w.size
+  pub tail : w.tail < w.size
