@@ -9,7 +9,7 @@ ghost use Rattle.ring_model.specs.rows.Postings.{PostingRows};
 ghost use Rattle.ring_model.specs.rows.Worlds.{WorldRows};
 
 /// The notes of each schedule, the pieces of each frame, and what may follow an unfinished frame are those that were
-/// worked out by hand.
+/// worked out apart from the definitions: by hand, and the notes of the rows of states by a machine of plain lists.
 pub fn worked_rows()
     ensures cut { CutRows }
     ensures follow { FollowRows }
