@@ -4,8 +4,6 @@
 //! that of the whole call: pool and rings are made in it, and the workers started and joined.
 #![tactic(auto)]
 
-mod heat;
-mod hot;
 mod load;
 
 use anyhow::{Result, ensure};

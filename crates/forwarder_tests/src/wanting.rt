@@ -54,7 +54,12 @@ fn without_memory_or_threads_no_buffer_is_lost(rt: HostRuntime) -> Result<(), Fa
         &mut pass,
     )
     .err();
-    assert!(rt; matches!(ended, None | Some(ForwardError::Memory | ForwardError::Thread)));
+    assert!(rt;
+        matches!(
+            ended,
+            None | Some(ForwardError::Memory | ForwardError::Thread)
+        )
+    );
     assert!(rt; taken_out(&rt, &pool, &mut spare).came_once());
     Ok(())
 }

@@ -90,8 +90,12 @@ pub(crate) fn wrap_all<'a>(
             unreachable!()
         };
         let cell = &cells[number];
-        rooms.drivers.push_reserved(Watched::new(driver, &cell.drive, own.drive));
-        rooms.controllers.push_reserved(Watched::new(controller, &cell.stat, own.stat));
+        rooms
+            .drivers
+            .push_reserved(Watched::new(driver, &cell.drive, own.drive));
+        rooms
+            .controllers
+            .push_reserved(Watched::new(controller, &cell.stat, own.stat));
         number += 1;
     }
     rooms

@@ -39,8 +39,7 @@ loop-item-preserved g c =
     let many : length hands ≡ count = search (rules, length-map) in
     let in-row : turn < length vecs = search rules in
     let pushed : more.items ≡ hand.items ++ item ∷ [] = search rules in
-    let passes : Passes count turn c.next_turn-turn.result = subst (λ n. Passes n turn c.next_turn-turn.result) (search rules) c.next_turn-turn.ensures.passes in
-    (
+    let passes : Passes count turn c.next_turn-turn.result = subst (λ n. Passes n turn c.next_turn-turn.result) (search rules) c.next_turn-turn.ensures.passes in (
       was.0 ++ item ∷ [],
       record {
         all = was.1.all ∙ append-one was.0 item _ _ c.in-Some.ensures.steps.0;
