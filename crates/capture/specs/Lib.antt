@@ -1,0 +1,5 @@
+pub mod Record
+pub mod CaptureError
+pub mod Layout
+pub mod Reading
+pub mod Writing

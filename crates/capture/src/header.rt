@@ -1,0 +1,39 @@
+//! The header of a capture.
+
+ghost use Rattle.std.specs.Prelude.{◌≡◌};
+ghost use Rattle.capture.specs.Layout.{form_of};
+
+/// The unit of the fractions of seconds in a capture's times.
+#[derive(Clone, Copy, Debug, PartialEq, Eq)]
+pub enum TimeUnit {
+    Micros,
+    Nanos,
+}
+
+/// The order of the bytes of a capture's numbers.
+#[derive(Clone, Copy, Debug, PartialEq, Eq)]
+pub enum Order {
+    Big,
+    Little,
+}
+
+/// What a capture's first four bytes tell.
+#[derive(Clone, Copy, Debug, PartialEq, Eq)]
+pub struct Form {
+    pub order: Order,
+    pub unit: TimeUnit,
+}
+
+/// The form that a magic number tells, which is read in big-endian order, if it tells one.
+pub fn form_of(magic: u32) -> Option<Form>
+    ensures { result ≡ form_of magic }
+{
+    let (order, unit) = match magic {
+        0xa1b2_c3d4 => (Order::Big, TimeUnit::Micros),
+        0xa1b2_3c4d => (Order::Big, TimeUnit::Nanos),
+        0xd4c3_b2a1 => (Order::Little, TimeUnit::Micros),
+        0x4d3c_b2a1 => (Order::Little, TimeUnit::Nanos),
+        _ => return None,
+    };
+    Some(Form { order, unit })
+}
