@@ -188,7 +188,7 @@ impl Side for Controllers<'_> {
         if self.tx.turn(&mut self.wire) == Turn::Sent {
             self.sent += 1;
             if !self.keeps && self.wire.len() == 1_024 {
-                self.wire = Wire::default();
+                self.wire.clear();
             }
             progress = Progress::Worked;
         }

@@ -15,11 +15,9 @@ pub struct Load {
     pub frames: u32,
     pub flows: u32,
     size: u32,
-    pub ring: u32,
-    pub batch: u32,
-    pub workers: u32,
-    /// Whether the wires are kept. Else a few frames come again and again, and the wires are thrown away.
-    pub keeps: bool,
+    ring: u32,
+    batch: u32,
+    workers: u32,
 }
 
 impl Load {
@@ -32,9 +30,8 @@ impl Load {
             ring: number_of(words, "--ring")?,
             batch: number_of(words, "--batch")?,
             workers: number_of(words, "--workers")?,
-            keeps: number_of(words, "--keep")? == 1,
         };
-        (words.len() == 14 && load.is_lawful()).then_some(load)
+        (words.len() == 12 && load.is_lawful()).then_some(load)
     }
 
     fn is_lawful(&self) -> bool {
@@ -72,15 +69,6 @@ impl Load {
             "too many frames for a script"
         );
         Ok(Script::new(frames))
-    }
-
-    /// So many frames of the load's size.
-    pub fn bytes(&self, alloc: Global, count: usize) -> Result<Vec<Vec<u8>>> {
-        let mut frames = Vec::new(alloc);
-        for _ in 0..count {
-            frames.push(Vec::from_elem(alloc, 0xab, self.size as usize)?)?;
-        }
-        Ok(frames)
     }
 
     /// A frame of the flow of this number.

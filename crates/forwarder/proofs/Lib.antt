@@ -1,4 +1,4 @@
 mod Places
-pub mod Pairs
-pub mod Plans
+mod Pairs
+mod Plans
 mod FlowFrames
