@@ -132,12 +132,6 @@ impl Wire {
         &self.bytes[start..self.ends[i]]
     }
 
-    /// Throws all frames away, and keeps the room.
-    pub fn clear(&mut self) {
-        self.bytes.clear();
-        self.ends.clear();
-    }
-
     /// Makes room for the longest frame and its entry, by at least a quarter of what there is.
     fn reserve(&mut self) {
         if self.bytes.capacity() - self.bytes.len() < MOST_FRAME {

@@ -15,18 +15,15 @@ use std::thread;
 /// To how many bytes buffers are filled.
 const FILL: usize = 2048;
 
-/// The frames of a flow: those at these places of a list, as often as they are asked for.
+/// After how many frames a new wire is begun, where the wire is thrown away: before the memory of the old one has to grow.
+const KEPT: usize = 4;
+
+/// The frames of a flow: those at these places of a list, again and again, so many in all.
 #[derive(Clone, Copy)]
 pub struct Feed<'a> {
     pub frames: &'a [Vec<u8>],
     pub places: &'a [u32],
     pub count: u64,
-}
-
-impl Feed<'_> {
-    fn frame(&self, k: u64) -> &[u8] {
-        &self.frames[self.places[(k % self.places.len() as u64) as usize] as usize]
-    }
 }
 
 /// How the flows are forwarded.
@@ -156,8 +153,12 @@ impl Side for Drivers<'_> {
 struct Controllers<'a> {
     rx: RxController<'a>,
     tx: TxController<'a>,
-    feed: Feed<'a>,
-    next: u64,
+    frames: &'a [Vec<u8>],
+    places: &'a [u32],
+    /// at which of the places stands the frame that is offered next
+    next: usize,
+    /// how many frames are still to be decided on
+    left: u64,
     keeps: bool,
     wire: Wire,
     sent: u64,
@@ -175,10 +176,14 @@ impl Side for Controllers<'_> {
         }
         self.enabled |= self.rx.is_serving() && self.tx.is_serving();
         let mut progress = Progress::Idle;
-        if self.next < self.feed.count {
-            let offer = self.rx.offer(self.feed.frame(self.next));
+        if self.left != 0 {
+            let offer = self.rx.offer(&self.frames[self.places[self.next] as usize]);
             if !matches!(offer.expect("a lawful frame"), Offer::Off | Offer::Held) {
+                self.left -= 1;
                 self.next += 1;
+                if self.next == self.places.len() {
+                    self.next = 0;
+                }
                 progress = Progress::Worked;
             }
         } else if !self.finished && self.rx.is_serving() {
@@ -187,8 +192,8 @@ impl Side for Controllers<'_> {
         }
         if self.tx.turn(&mut self.wire) == Turn::Sent {
             self.sent += 1;
-            if !self.keeps && self.wire.len() == 1_024 {
-                self.wire.clear();
+            if !self.keeps && self.wire.len() == KEPT {
+                self.wire = Wire::default();
             }
             progress = Progress::Worked;
         }
@@ -280,8 +285,10 @@ pub fn forward(feeds: &[Feed<'_>], plan: &Plan) -> Vec<Report> {
         controllers.push(Controllers {
             rx: RxController::new(rx_end, FILL, false),
             tx: TxController::new(tx_end),
-            feed: *feed,
+            frames: feed.frames,
+            places: feed.places,
             next: 0,
+            left: feed.count,
             keeps: plan.keeps,
             wire: Wire::default(),
             sent: 0,

@@ -14,12 +14,19 @@ use wire_script::Script;
 /// How many microseconds a second has.
 const SECOND: u32 = 1_000_000;
 
-/// A capture of the frames of this port, 0 or 1, in the script's order, frame k at k microseconds.
+/// How many bytes a capture has before its records, and each record before its frame.
+const HEADER: usize = 24;
+
+const RECORD_HEADER: usize = 16;
+
+/// A capture of the frames of this port, 0 or 1, in the script's order, frame k at k microseconds. Its room is made at
+/// once.
 pub fn capture_of(alloc: Global, port: u8, script: &Script) -> Result<Vec<u8>, CaptureError>
     ensures bytes { IfOk result (λ bytes. bytes.items ≡ capture_of (records_of_port port script.now)) }
     ensures err { IfErr result (λ e. e ≡ Memory) }
 {
-    let mut bytes = Vec::new(alloc);
+    let room = capture_len(port, script);
+    let mut bytes = Vec::with_capacity(alloc, room).map_err(|_| CaptureError::Memory)?;
     write_header(&mut bytes)?;
     let mut number: u32 = 0;
     for frame in script.frames() {
@@ -30,4 +37,16 @@ pub fn capture_of(alloc: Global, port: u8, script: &Script) -> Result<Vec<u8>, C
         }
     }
     Ok(bytes)
+}
+
+/// How many bytes the capture has. No clause needs it.
+fn capture_len(port: u8, script: &Script) -> usize {
+    let mut len = HEADER;
+    for frame in script.frames() {
+        if port == frame.port() {
+            let held = frame.bytes().len();
+            len = len.saturating_add(RECORD_HEADER).saturating_add(held);
+        }
+    }
+    len
 }

@@ -1,18 +1,24 @@
 -- From what the words ask for to how the run ends.
 use Rattle.std.proofs.Common.{◌≡◌, inr, refl, ℕ, List, Option, Some, subst}
+use Rattle.std.specs.Prelude.{Result}
 use Rattle.std.specs.Io.KnownBytes.{Keeps}
 use Rattle.commands.specs.declared.answering.TheConstants.{DONE, REFUSED}
 use Rattle.commands.specs.declared.decode.Form.{Form}
 use Rattle.commands.specs.declared.replay.QueuePlan.{QueuePlan}
 use Rattle.commands.specs.declared.request.Request.{Request}
 use Rattle.commands.specs.declared.request.Request.TheVariants.{Once, Decode, Replay}
-use Rattle.commands.specs.Answers.{Ends, EndsAs, EndsDecode}
+use Rattle.commands.specs.Answers.{Ends, EndsAs, EndsBy, EndsDecode}
 use Rattle.commands.specs.Frame.{frame_in}
 use Rattle.commands.specs.Replay.{EndsReplay, HasReplayed}
+use Rattle.capture_command.proofs.Endings.{kept as capture-kept-by}
+use Rattle.capture_command.specs.Meanings.{meant}
+use Rattle.capture_command.specs.declared.request.CaptureRequest.{CaptureRequest}
+use Rattle.commands.specs.declared.refusal.Refusal.{Refusal}
 use Rattle.forward_command.proofs.Endings.{kept}
 use Rattle.forward_command.specs.Forwards.{EndsForward}
 use Rattle.forwarder.specs.declared.config.Config.{Config}
-use Rattle.command_line.specs.CommandLine.{IsDecode, IsForward, IsOnce, IsReplayOf, IsRequest}
+use Rattle.forward_command.specs.declared.printing.Printing.{Printing}
+use Rattle.command_line.specs.CommandLine.{IsCapture, IsDecode, IsForward, IsOnce, IsReplayOf, IsRequest}
 use Rattle.command_line.specs.declared.command.Asked.{Asked}
 use Rattle.command_line.specs.declared.command.Asked.TheVariants as asked
 
@@ -20,14 +26,38 @@ use Rattle.command_line.specs.declared.command.Asked.TheVariants as asked
 pub as-request : (P : Request → Type 0) (a : Asked) (request : Request) → a ≡ asked.Request request → IsRequest P a → P request
 as-request P a request is has = subst (IsRequest P) is has
 
-pub no-request : (P : Request → Type 0) (a : Asked) (given : Config) → a ≡ asked.Forward given → IsRequest P a → ⊥
-no-request P a given is has = subst (IsRequest P) is has
+pub no-request : (P : Request → Type 0) (a : Asked) (given : Config) (shown : Printing) → a ≡ asked.Forward given shown → IsRequest P a → ⊥
+no-request P a given shown is has = subst (IsRequest P) is has
 
-pub as-forward : (a : Asked) (given config : Config) → a ≡ asked.Forward given → IsForward a config → given ≡ config
-as-forward a given config is has = subst (λ (b : Asked). IsForward b config) is has
+pub as-forward : (a : Asked) (given config : Config) (shown printing : Printing) → a ≡ asked.Forward given shown → IsForward a config printing
+    → (given ≡ config) × (shown ≡ printing)
+as-forward a given config shown printing is has = subst (λ (b : Asked). IsForward b config printing) is has
 
-pub no-forward : (a : Asked) (request : Request) (config : Config) → a ≡ asked.Request request → IsForward a config → ⊥
-no-forward a request config is has = subst (λ (b : Asked). IsForward b config) is has
+pub no-forward : (a : Asked) (request : Request) (config : Config) (printing : Printing) → a ≡ asked.Request request → IsForward a config printing → ⊥
+no-forward a request config printing is has = subst (λ (b : Asked). IsForward b config printing) is has
+
+-- the same of requests of captures
+pub no-request-of-captures : (P : Request → Type 0) (a : Asked) (given : CaptureRequest) → a ≡ asked.Capture given → IsRequest P a → ⊥
+no-request-of-captures P a given is has = subst (IsRequest P) is has
+
+pub no-forward-of-captures : (a : Asked) (given : CaptureRequest) (config : Config) (printing : Printing) → a ≡ asked.Capture given → IsForward a config printing → ⊥
+no-forward-of-captures a given config printing is has = subst (λ (b : Asked). IsForward b config printing) is has
+
+pub as-capture : (a : Asked) (given request : CaptureRequest) → a ≡ asked.Capture given → IsCapture a request → given ≡ request
+as-capture a given request is has = subst (λ (b : Asked). IsCapture b request) is has
+
+pub no-capture-of-request : (a : Asked) (given : Request) (request : CaptureRequest) → a ≡ asked.Request given → IsCapture a request → ⊥
+no-capture-of-request a given request is has = subst (λ (b : Asked). IsCapture b request) is has
+
+pub no-capture-of-forward : (a : Asked) (given : Config) (shown : Printing) (request : CaptureRequest) → a ≡ asked.Forward given shown → IsCapture a request → ⊥
+no-capture-of-forward a given shown request is has = subst (λ (b : Asked). IsCapture b request) is has
+
+pub capture-ends : (given request : CaptureRequest) (bytes : List ℕ) (input : Option (List ℕ)) (status : ℕ) (old new : Option (List ℕ)) → given ≡ request
+    → input ≡ Some bytes → ((b : List ℕ) → input ≡ Some b → EndsBy (meant given b) status old new) → EndsBy (meant request bytes) status old new
+capture-ends given request bytes input status old new is known ends = subst (λ (r : CaptureRequest). EndsBy (meant r bytes) status old new) is (ends bytes known)
+
+pub capture-kept : (answer : Result (List ℕ) Refusal) (old new : Option (List ℕ)) → Keeps old new → EndsBy answer REFUSED old new
+capture-kept answer old new keeps = capture-kept-by answer old new keeps
 
 pub once-ends : (request : Request) (digits : List ℕ) (input : Option (List ℕ)) (status : ℕ) (old new : Option (List ℕ)) → IsOnce request digits
     → EndsAs request input status old new → Ends (frame_in digits) status old new
@@ -55,9 +85,11 @@ undone plan text old new e = let bad : ⊥ = cc e in absurd bad
 pub replay-kept : (plan : QueuePlan) (text : List ℕ) (old new : Option (List ℕ)) → Keeps old new → EndsReplay plan text REFUSED old new
 replay-kept plan text old new kept = record { done = undone plan text old new; either = inr refl; faulty = λ k f. (refl, kept); no_queues = λ no. (refl, kept) }
 
-pub forward-ends : (given config : Config) (text : List ℕ) (input : Option (List ℕ)) (status : ℕ) (old new : Option (List ℕ)) → given ≡ config
-    → input ≡ Some text → ((t : List ℕ) → input ≡ Some t → EndsForward given t status old new) → EndsForward config text status old new
-forward-ends given config text input status old new is known ends = subst (λ (c : Config). EndsForward c text status old new) is (ends text known)
+pub forward-ends : (given config : Config) (shown printing : Printing) (text : List ℕ) (input : Option (List ℕ)) (status : ℕ) (old new : Option (List ℕ))
+    → (given ≡ config) × (shown ≡ printing) → input ≡ Some text → ((t : List ℕ) → input ≡ Some t → EndsForward given shown t status old new)
+    → EndsForward config printing text status old new
+forward-ends given config shown printing text input status old new is known ends =
+    subst (λ (c : Config). EndsForward c printing text status old new) is.0 (subst (λ (p : Printing). EndsForward given p text status old new) is.1 (ends text known))
 
-pub forward-kept : (config : Config) (text : List ℕ) (old new : Option (List ℕ)) → Keeps old new → EndsForward config text REFUSED old new
-forward-kept config text old new keeps = kept config text old new keeps
+pub forward-kept : (config : Config) (printing : Printing) (text : List ℕ) (old new : Option (List ℕ)) → Keeps old new → EndsForward config printing text REFUSED old new
+forward-kept config printing text old new keeps = kept config printing text old new keeps

@@ -10,13 +10,14 @@ use Rattle.clap.specs.Walk.{Held, Names, Walk, finished, nothing_held, walk, wal
 use Rattle.clap.specs.Words.{App, Row, Rule, Shape, Text, built, one_of, subcommand_of, takes}
 use Rattle.clap.proofs.OnLiterals.{clap_on_literals}
 use Rattle.forwarder.specs.declared.config.Config.{Config}
+use Rattle.forward_command.specs.declared.printing.Printing.{Printing}
 use Rattle.ring_model.specs.declared.states.Completion.{Completion}
-use Rattle.command_line.specs.CommandLine.{Choices, HasForward, IsProgram, SaysForward, SaysNumber, is_head, program_app}
+use Rattle.command_line.specs.CommandLine.{Choices, HasForward, HasPrinting, IsProgram, SaysForward, SaysNumber, is_head, program_app}
 use Rattle.command_line.proofs.CommandLine.{IsNumber, is_number, numeral_of, strips_none}
 use Rattle.command_line.proofs.OptionRows.{OptionUse, rows_in}
 use Rattle.command_line.proofs.ForwardOptions.{Number, Stands, after_flag, after_number, default_of, default_word, flag_id, flag_in, flag_passes, flag_stands, flag_use, flag_used, flag_value, flag_walked, number_id, number_option, number_passes, number_said, number_stands, number_use, number_value, number_walked, number_words, rules, settles, shape}
 use Rattle.command_line.proofs.ForwardOptions.Number.{pairs, ring, buffers, bsize, batch, rs_every, workers, turns}
-use Rattle.command_line.proofs.ForwardOptions.Flag.{drop_en, no_retry, head}
+use Rattle.command_line.proofs.ForwardOptions.Flag.{drop_en, no_retry, head, quiet, json}
 
 -- ---- the words of all of them
 
@@ -33,6 +34,8 @@ record Said : Type 0 where
   drop_en : Bool
   no_retry : Bool
   head : Bool
+  quiet : Bool
+  json : Bool
 
 record AreNumbers (s : Said) : Type 0 where
   pairs : IfSome s.pairs IsNumber
@@ -45,8 +48,14 @@ record AreNumbers (s : Said) : Type 0 where
   turns : IfSome s.turns IsNumber
 
 -- the words from each of them on
+abbrev words_json : Said → List Text
+words_json s = flag_in json s.json
+
+abbrev words_quiet : Said → List Text
+words_quiet s = flag_in quiet s.quiet ++ words_json s
+
 abbrev words_head : Said → List Text
-words_head s = flag_in head s.head
+words_head s = flag_in head s.head ++ words_quiet s
 
 abbrev words_no_retry : Said → List Text
 words_no_retry s = flag_in no_retry s.no_retry ++ words_head s
@@ -145,6 +154,18 @@ held_head s = after_flag head s.head (held_no_retry s)
 abbrev uses_head : Said → List OptionUse
 uses_head s = uses_no_retry s ++ flag_use head s.head ∷ []
 
+abbrev held_quiet : Said → Held
+held_quiet s = after_flag quiet s.quiet (held_head s)
+
+abbrev uses_quiet : Said → List OptionUse
+uses_quiet s = uses_head s ++ flag_use quiet s.quiet ∷ []
+
+abbrev held_json : Said → Held
+held_json s = after_flag json s.json (held_quiet s)
+
+abbrev uses_json : Said → List OptionUse
+uses_json s = uses_quiet s ++ flag_use json s.json ∷ []
+
 stands_pairs : (s : Said) → AreNumbers s → Stands (held_pairs s) (uses_pairs s)
 stands_pairs s are = number_stands pairs s.pairs nothing_held [] are.pairs (record { rows = refl; settles = refl }) refl
 
@@ -178,11 +199,17 @@ stands_no_retry s are = flag_stands no_retry s.no_retry (held_drop_en s) (uses_d
 stands_head : (s : Said) → AreNumbers s → Stands (held_head s) (uses_head s)
 stands_head s are = flag_stands head s.head (held_no_retry s) (uses_no_retry s) (stands_no_retry s are) refl
 
-no_more : (e : Bool) → flag_in head e ≡ flag_in head e ++ []
+stands_quiet : (s : Said) → AreNumbers s → Stands (held_quiet s) (uses_quiet s)
+stands_quiet s are = flag_stands quiet s.quiet (held_head s) (uses_head s) (stands_head s are) refl
+
+stands_json : (s : Said) → AreNumbers s → Stands (held_json s) (uses_json s)
+stands_json s are = flag_stands json s.json (held_quiet s) (uses_quiet s) (stands_quiet s are) refl
+
+no_more : (e : Bool) → flag_in json e ≡ flag_in json e ++ []
 no_more false = refl
 no_more true = refl
 
-options_walked : (s : Said) → AreNumbers s → walk rules [] nothing_held (words_pairs s) ≡ walk_from (held_head s)
+options_walked : (s : Said) → AreNumbers s → walk rules [] nothing_held (words_pairs s) ≡ walk_from (held_json s)
 options_walked s are =
     number_walked pairs s.pairs nothing_held (words_ring s) are.pairs
     ∙ (number_walked ring s.ring (held_pairs s) (words_buffers s) are.ring
@@ -194,8 +221,10 @@ options_walked s are =
     ∙ (number_walked turns s.turns (held_workers s) (words_drop_en s) are.turns
     ∙ (flag_walked drop_en s.drop_en (held_turns s) (words_no_retry s)
     ∙ (flag_walked no_retry s.no_retry (held_drop_en s) (words_head s)
-    ∙ (ap (fold (walked rules []) (walk_from (held_no_retry s))) (no_more s.head)
-    ∙ (flag_walked head s.head (held_no_retry s) [])))))))))))
+    ∙ (flag_walked head s.head (held_no_retry s) (words_quiet s)
+    ∙ (flag_walked quiet s.quiet (held_head s) (words_json s)
+    ∙ (ap (fold (walked rules []) (walk_from (held_quiet s))) (no_more s.json)
+    ∙ (flag_walked json s.json (held_quiet s) [])))))))))))))
 
 nothing_left : (h : Held) → walk_passes shape [] (walk_from h) [] ≡ true
 unfolding clap_on_literals
@@ -213,9 +242,11 @@ options_pass s are =
     ∙ (number_passes turns s.turns (held_workers s) (words_drop_en s) are.turns (stands_workers s are).settles
     ∙ (flag_passes drop_en s.drop_en (held_turns s) (words_no_retry s) (flag_used drop_en s.drop_en (held_turns s) (uses_turns s) (stands_turns s are) refl)
     ∙ (flag_passes no_retry s.no_retry (held_drop_en s) (words_head s) (flag_used no_retry s.no_retry (held_drop_en s) (uses_drop_en s) (stands_drop_en s are) refl)
-    ∙ (ap (walk_passes shape [] (walk_from (held_no_retry s))) (no_more s.head)
-    ∙ (flag_passes head s.head (held_no_retry s) [] (flag_used head s.head (held_no_retry s) (uses_no_retry s) (stands_no_retry s are) refl)
-    ∙ (nothing_left (held_head s)))))))))))))
+    ∙ (flag_passes head s.head (held_no_retry s) (words_quiet s) (flag_used head s.head (held_no_retry s) (uses_no_retry s) (stands_no_retry s are) refl)
+    ∙ (flag_passes quiet s.quiet (held_head s) (words_json s) (flag_used quiet s.quiet (held_head s) (uses_head s) (stands_head s are) refl)
+    ∙ (ap (walk_passes shape [] (walk_from (held_quiet s))) (no_more s.json)
+    ∙ (flag_passes json s.json (held_quiet s) [] (flag_used json s.json (held_quiet s) (uses_quiet s) (stands_quiet s are) refl)
+    ∙ (nothing_left (held_json s)))))))))))))))
 
 valid : (h : Held) → (list_all default_passes rules && is_valid shape (finished rules h) false) ≡ true
 valid h = refl
@@ -223,20 +254,26 @@ valid h = refl
 level : (s : Said) → AreNumbers s → level_passes shape [] nothing_held (words_pairs s) false ≡ true
 level s are =
     ap₂ (λ b (w : Walk). b && (settles w.held && (list_all default_passes rules && is_valid shape (finished rules w.held) false))) (options_pass s are) (options_walked s are)
-    ∙ ap₂ (λ a b. a && b) (stands_head s are).settles (valid (held_head s))
+    ∙ ap₂ (λ a b. a && b) (stands_json s are).settles (valid (held_json s))
 
 -- ---- the rows at last
 
 -- the rows at last
 abbrev at_last : Said → List Row
-at_last s = fold with_default (rows_in (uses_head s)) rules
+at_last s = fold with_default (rows_in (uses_json s)) rules
 
-rows_at_last : (s : Said) → AreNumbers s → finished rules (held_head s) ≡ at_last s
-rows_at_last s are = ap (λ (l : List Row). fold with_default l rules) (stands_head s are).rows
+rows_at_last : (s : Said) → AreNumbers s → finished rules (held_json s) ≡ at_last s
+rows_at_last s are = ap (λ (l : List Row). fold with_default l rules) (stands_json s are).rows
 
 -- the uses behind each of them
+abbrev behind_quiet : Said → List OptionUse
+behind_quiet s = flag_use json s.json ∷ []
+
+abbrev behind_head : Said → List OptionUse
+behind_head s = flag_use quiet s.quiet ∷ behind_quiet s
+
 abbrev behind_no_retry : Said → List OptionUse
-behind_no_retry s = flag_use head s.head ∷ []
+behind_no_retry s = flag_use head s.head ∷ behind_head s
 
 abbrev behind_drop_en : Said → List OptionUse
 behind_drop_en s = flag_use no_retry s.no_retry ∷ behind_no_retry s
@@ -371,7 +408,7 @@ is_said which words n (inr out) = record {
 -- ---- a configuration
 
 -- what each of its words says
-record Saying (words : List Text) (config : Config) (says : SaysForward words config) : Type 0 where
+record Saying (words : List Text) (config : Config) (printing : Printing) (says : SaysForward words config printing) : Type 0 where
   pairs : IsSaid pairs says.pairs config.pairs
   ring : IsSaid ring says.ring config.ring
   buffers : IsSaid buffers says.buffers config.buffers
@@ -381,8 +418,8 @@ record Saying (words : List Text) (config : Config) (says : SaysForward words co
   workers : IsSaid workers says.workers config.workers
   turns : IsSaid turns says.turns config.turns
 
-saying : (words : List Text) (config : Config) (says : SaysForward words config) → Saying words config says
-saying words config says = record {
+saying : (words : List Text) (config : Config) (printing : Printing) (says : SaysForward words config printing) → Saying words config printing says
+saying words config printing says = record {
   pairs = is_said pairs says.pairs config.pairs says.says_pairs;
   ring = is_said ring says.ring config.ring says.says_ring;
   buffers = is_said buffers says.buffers config.buffers says.says_buffers;
@@ -393,8 +430,8 @@ saying words config says = record {
   turns = is_said turns says.turns config.turns says.says_turns;
 }
 
-abbrev said_by : (words : List Text) (config : Config) (says : SaysForward words config) → Saying words config says → Said
-said_by words config says are = record {
+abbrev said_by : (words : List Text) (config : Config) (printing : Printing) (says : SaysForward words config printing) → Saying words config printing says → Said
+said_by words config printing says are = record {
   pairs = are.pairs.said;
   ring = are.ring.said;
   buffers = are.buffers.said;
@@ -406,10 +443,12 @@ said_by words config says are = record {
   drop_en = config.drop_en;
   no_retry = not config.retry;
   head = is_head config.completion;
+  quiet = printing.quiet;
+  json = printing.json;
 }
 
-numbers_by : (words : List Text) (config : Config) (says : SaysForward words config) (are : Saying words config says) → AreNumbers (said_by words config says are)
-numbers_by words config says are = record {
+numbers_by : (words : List Text) (config : Config) (printing : Printing) (says : SaysForward words config printing) (are : Saying words config printing says) → AreNumbers (said_by words config printing says are)
+numbers_by words config printing says are = record {
   pairs = are.pairs.number;
   ring = are.ring.number;
   buffers = are.buffers.number;
@@ -421,11 +460,11 @@ numbers_by words config says are = record {
 }
 
 -- the words, as the options that are said
-words_of : (words : List Text) (config : Config) (says : SaysForward words config) (are : Saying words config says)
-    → words ≡ codes "forward" ∷ words_pairs (said_by words config says are)
-words_of words config says are =
-    let flags : List Text = words_drop_en (said_by words config says are) in
-    let work : says.batch ++ (says.rs_every ++ (says.workers ++ (says.turns ++ flags))) ≡ words_batch (said_by words config says are) =
+words_of : (words : List Text) (config : Config) (printing : Printing) (says : SaysForward words config printing) (are : Saying words config printing says)
+    → words ≡ codes "forward" ∷ words_pairs (said_by words config printing says are)
+words_of words config printing says are =
+    let flags : List Text = words_drop_en (said_by words config printing says are) in
+    let work : says.batch ++ (says.rs_every ++ (says.workers ++ (says.turns ++ flags))) ≡ words_batch (said_by words config printing says are) =
     ap₂ (λ (a b : List Text). a ++ b) are.batch.words_are
     (ap₂ (λ (a b : List Text). a ++ b) are.rs_every.words_are
     (ap₂ (λ (a b : List Text). a ++ b) are.workers.words_are (ap (λ (a : List Text). a ++ flags) are.turns.words_are))) in
@@ -435,24 +474,24 @@ words_of words config says are =
     (ap₂ (λ (a b : List Text). a ++ b) are.ring.words_are
     (ap₂ (λ (a b : List Text). a ++ b) are.buffers.words_are (ap₂ (λ (a b : List Text). a ++ b) are.bsize.words_are work))))
 
-pub forward_taken : (app : App) (words : List Text) (config : Config) → IsProgram app → SaysForward words config → takes app words ≡ true
-forward_taken app words config program says =
-    let are = saying words config says in
-    let s = said_by words config says are in
+pub forward_taken : (app : App) (words : List Text) (config : Config) (printing : Printing) → IsProgram app → SaysForward words config printing → takes app words ≡ true
+forward_taken app words config printing program says =
+    let are = saying words config printing says in
+    let s = said_by words config printing says are in
     ap (λ (a : App). takes a words) program.app_is
-    ∙ (ap (takes (program_app program.rings program.formats)) (words_of words config says are)
-    ∙ (takes_forward program.rings program.formats (words_pairs s) ∙ ap (λ b. b && true) (level s (numbers_by words config says are))))
+    ∙ (ap (takes (program_app program.rings program.formats)) (words_of words config printing says are)
+    ∙ (takes_forward program.rings program.formats (words_pairs s) ∙ ap (λ b. b && true) (level s (numbers_by words config printing says are))))
 
-pub forward_found : (app : App) (words : List Text) (config : Config) → IsProgram app → SaysForward words config
-    → (rows : List Row) × (subcommand_of app words ≡ Some (codes "forward", rows)) × HasForward rows config
-forward_found app words config program says =
-    let are = saying words config says in
-    let s = said_by words config says are in
-    let numbers = numbers_by words config says are in
+pub forward_found : (app : App) (words : List Text) (config : Config) (printing : Printing) → IsProgram app → SaysForward words config printing
+    → (rows : List Row) × (subcommand_of app words ≡ Some (codes "forward", rows)) × HasForward rows config × HasPrinting rows printing
+forward_found app words config printing program says =
+    let are = saying words config printing says in
+    let s = said_by words config printing says are in
+    let numbers = numbers_by words config printing says are in
     let last = rows_at_last s numbers in (
-      finished rules (held_head s),
+      finished rules (held_json s),
       ap (λ (a : App). subcommand_of a words) program.app_is
-          ∙ (ap (subcommand_of (program_app program.rings program.formats)) (words_of words config says are)
+          ∙ (ap (subcommand_of (program_app program.rings program.formats)) (words_of words config printing says are)
           ∙ (found_forward program.rings program.formats (words_pairs s)
           ∙ ap (λ (w : Walk). Some (codes "forward", finished rules w.held)) (options_walked s numbers))),
       record {
@@ -466,9 +505,13 @@ forward_found app words config program says =
         turns = ap (one_of (number_id turns)) last ∙ (number_value turns (uses_workers s) (behind_turns s) are.turns.said refl refl ∙ ap (λ (t : Text). Some t) are.turns.value);
         drop = ap (one_of (flag_id drop_en)) last ∙ flag_value drop_en (uses_turns s) (behind_drop_en s) config.drop_en refl refl;
         no_retry = ap (one_of (flag_id no_retry)) last ∙ flag_value no_retry (uses_drop_en s) (behind_no_retry s) (not config.retry) refl refl;
-        head = ap (one_of (flag_id head)) last ∙ flag_value head (uses_no_retry s) [] (is_head config.completion) refl refl;
+        head = ap (one_of (flag_id head)) last ∙ flag_value head (uses_no_retry s) (behind_head s) (is_head config.completion) refl refl;
         queues_fit = (are.pairs.fits, are.ring.fits, are.buffers.fits, are.bsize.fits);
         work_fits = (are.batch.fits, are.rs_every.fits, are.workers.fits, are.turns.fits);
+      },
+      record {
+        quiet = ap (one_of (flag_id quiet)) last ∙ flag_value quiet (uses_head s) (behind_quiet s) printing.quiet refl refl;
+        json = ap (one_of (flag_id json)) last ∙ flag_value json (uses_quiet s) [] printing.json refl refl;
       },
     )
 

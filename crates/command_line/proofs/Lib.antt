@@ -5,4 +5,5 @@ pub mod ReplayWords
 mod OptionRows
 mod ForwardOptions
 pub mod ForwardWords
+pub mod CaptureWords
 pub mod Endings

@@ -35,6 +35,7 @@ data Number : Type 0 where
 data Flag : Type 0 where
   off : Flag
   head : Flag
+  json : Flag
 
 abbrev number_id : Number → Text
 number_id ring = codes "ring"
@@ -47,10 +48,12 @@ number_option pairs = codes "--pairs"
 abbrev flag_option : Flag → Text
 flag_option off = codes "--off"
 flag_option head = codes "--head"
+flag_option json = codes "--json"
 
 abbrev flag_at : Flag → Rule
 flag_at off = slice_index_or rules 2 (new_rule [])
 flag_at head = slice_index_or rules 3 (new_rule [])
+flag_at json = slice_index_or rules 4 (new_rule [])
 
 -- ---- the words of one option
 
@@ -144,16 +147,19 @@ unfolding clap_on_literals
 flag_walked which false h rest = refl
 flag_walked off true h rest = refl
 flag_walked head true h rest = refl
+flag_walked json true h rest = refl
 
 flag_turn : (which : Flag) (h : Held) → turn_passes shape [] (walk_from h) (flag_option which) ≡ (react_passes rules false (flag_at which) [] h && true)
 unfolding clap_on_literals
 flag_turn off h = refl
 flag_turn head h = refl
+flag_turn json h = refl
 
 flag_step : (which : Flag) (h : Held) → walked rules [] (walk_from h) (flag_option which) ≡ walk_from (after_flag which true h)
 unfolding clap_on_literals
 flag_step off h = refl
 flag_step head h = refl
+flag_step json h = refl
 
 -- the option may be used here
 abbrev reacts : Flag → Bool → Held → Bool
@@ -169,14 +175,17 @@ flag_passes which true h rest passes =
 
 -- ---- the words of all of them
 
-abbrev option_words : Option Text → Option Text → Bool → Bool → List Text
-option_words r p o e = number_words ring r ++ (number_words pairs p ++ (flag_in off o ++ flag_in head e))
+abbrev option_words : Option Text → Option Text → Bool → Bool → Bool → List Text
+option_words r p o e j = number_words ring r ++ (number_words pairs p ++ (flag_in off o ++ (flag_in head e ++ flag_in json j)))
 
 abbrev with_numbers : Option Text → Option Text → Held
 with_numbers r p = after_number pairs p (after_number ring r nothing_held)
 
-abbrev with_options : Option Text → Option Text → Bool → Bool → Held
-with_options r p o e = after_flag head e (after_flag off o (with_numbers r p))
+abbrev with_head : Option Text → Option Text → Bool → Bool → Held
+with_head r p o e = after_flag head e (after_flag off o (with_numbers r p))
+
+abbrev with_options : Option Text → Option Text → Bool → Bool → Bool → Held
+with_options r p o e j = after_flag json j (with_head r p o e)
 
 ring_settles : (r : Option Text) → IfSome r IsNumber → settles (after_number ring r nothing_held) ≡ true
 ring_settles None numbers = refl
@@ -215,79 +224,125 @@ head_reacts : (r p : Option Text) (o e : Bool) → IfSome r IsNumber → IfSome 
 head_reacts r p o false numbers more = refl
 head_reacts r p o true numbers more = ap₂ (λ a b. a && b) (off_settles r p o numbers more) (head_used r p o)
 
-all_settles : (r p : Option Text) (o e : Bool) → IfSome r IsNumber → IfSome p IsNumber → settles (with_options r p o e) ≡ true
-all_settles r p o false numbers more = off_settles r p o numbers more
-all_settles r p o true numbers more = refl
+head_settles : (r p : Option Text) (o e : Bool) → IfSome r IsNumber → IfSome p IsNumber → settles (with_head r p o e) ≡ true
+head_settles r p o false numbers more = off_settles r p o numbers more
+head_settles r p o true numbers more = refl
 
-no_more : (e : Bool) → flag_in head e ≡ flag_in head e ++ []
+json_used : (r p : Option Text) (o e : Bool) → use_passes false (flag_at json) [] (settled rules (with_head r p o e)).rows ≡ true
+json_used None None false false = refl
+json_used None (Some q) false false = refl
+json_used (Some n) None false false = refl
+json_used (Some n) (Some q) false false = refl
+json_used None None false true = refl
+json_used None (Some q) false true = refl
+json_used (Some n) None false true = refl
+json_used (Some n) (Some q) false true = refl
+json_used None None true false = refl
+json_used None (Some q) true false = refl
+json_used (Some n) None true false = refl
+json_used (Some n) (Some q) true false = refl
+json_used None None true true = refl
+json_used None (Some q) true true = refl
+json_used (Some n) None true true = refl
+json_used (Some n) (Some q) true true = refl
+
+json_reacts : (r p : Option Text) (o e j : Bool) → IfSome r IsNumber → IfSome p IsNumber → reacts json j (with_head r p o e) ≡ true
+json_reacts r p o e false numbers more = refl
+json_reacts r p o e true numbers more = ap₂ (λ a b. a && b) (head_settles r p o e numbers more) (json_used r p o e)
+
+all_settles : (r p : Option Text) (o e j : Bool) → IfSome r IsNumber → IfSome p IsNumber → settles (with_options r p o e j) ≡ true
+all_settles r p o e false numbers more = head_settles r p o e numbers more
+all_settles r p o e true numbers more = refl
+
+no_more : (j : Bool) → flag_in json j ≡ flag_in json j ++ []
 no_more false = refl
 no_more true = refl
 
-options_walked : (r p : Option Text) (o e : Bool) → IfSome r IsNumber → IfSome p IsNumber
-    → walk rules [] nothing_held (option_words r p o e) ≡ walk_from (with_options r p o e)
-options_walked r p o e numbers more =
+options_walked : (r p : Option Text) (o e j : Bool) → IfSome r IsNumber → IfSome p IsNumber
+    → walk rules [] nothing_held (option_words r p o e j) ≡ walk_from (with_options r p o e j)
+options_walked r p o e j numbers more =
     let h = with_numbers r p in
-    number_walked ring r nothing_held (number_words pairs p ++ (flag_in off o ++ flag_in head e)) numbers
-    ∙ (number_walked pairs p (after_number ring r nothing_held) (flag_in off o ++ flag_in head e) more
-    ∙ (flag_walked off o h (flag_in head e)
-    ∙ (ap (fold (walked rules []) (walk_from (after_flag off o h))) (no_more e) ∙ flag_walked head e (after_flag off o h) [])))
+    let flags = flag_in off o ++ (flag_in head e ++ flag_in json j) in
+    number_walked ring r nothing_held (number_words pairs p ++ flags) numbers
+    ∙ (number_walked pairs p (after_number ring r nothing_held) flags more
+    ∙ (flag_walked off o h (flag_in head e ++ flag_in json j)
+    ∙ (flag_walked head e (after_flag off o h) (flag_in json j)
+    ∙ (ap (fold (walked rules []) (walk_from (with_head r p o e))) (no_more j) ∙ flag_walked json j (with_head r p o e) []))))
 
 nothing_left : (h : Held) → walk_passes shape [] (walk_from h) [] ≡ true
 unfolding clap_on_literals
 nothing_left h = refl
 
-options_pass : (r p : Option Text) (o e : Bool) → IfSome r IsNumber → IfSome p IsNumber
-    → walk_passes shape [] (walk_from nothing_held) (option_words r p o e) ≡ true
-options_pass r p o e numbers more =
+options_pass : (r p : Option Text) (o e j : Bool) → IfSome r IsNumber → IfSome p IsNumber
+    → walk_passes shape [] (walk_from nothing_held) (option_words r p o e j) ≡ true
+options_pass r p o e j numbers more =
     let h = with_numbers r p in
-    number_passes ring r nothing_held (number_words pairs p ++ (flag_in off o ++ flag_in head e)) numbers refl
-    ∙ (number_passes pairs p (after_number ring r nothing_held) (flag_in off o ++ flag_in head e) more (ring_settles r numbers)
-    ∙ (flag_passes off o h (flag_in head e) (off_reacts r p o numbers more)
-    ∙ (ap (walk_passes shape [] (walk_from (after_flag off o h))) (no_more e)
-    ∙ (flag_passes head e (after_flag off o h) [] (head_reacts r p o e numbers more) ∙ nothing_left (with_options r p o e)))))
+    let flags = flag_in off o ++ (flag_in head e ++ flag_in json j) in
+    number_passes ring r nothing_held (number_words pairs p ++ flags) numbers refl
+    ∙ (number_passes pairs p (after_number ring r nothing_held) flags more (ring_settles r numbers)
+    ∙ (flag_passes off o h (flag_in head e ++ flag_in json j) (off_reacts r p o numbers more)
+    ∙ (flag_passes head e (after_flag off o h) (flag_in json j) (head_reacts r p o e numbers more)
+    ∙ (ap (walk_passes shape [] (walk_from (with_head r p o e))) (no_more j)
+    ∙ (flag_passes json j (with_head r p o e) [] (json_reacts r p o e j numbers more) ∙ nothing_left (with_options r p o e j))))))
 
 valid : (h : Held) → (list_all default_passes rules && is_valid shape (finished rules h) false) ≡ true
 valid h = refl
 
-level : (r p : Option Text) (o e : Bool) → IfSome r IsNumber → IfSome p IsNumber
-    → level_passes shape [] nothing_held (option_words r p o e) false ≡ true
-level r p o e numbers more =
+level : (r p : Option Text) (o e j : Bool) → IfSome r IsNumber → IfSome p IsNumber
+    → level_passes shape [] nothing_held (option_words r p o e j) false ≡ true
+level r p o e j numbers more =
     ap₂ (λ b (w : Walk). b && (settles w.held && (list_all default_passes rules && is_valid shape (finished rules w.held) false)))
-    (options_pass r p o e numbers more) (options_walked r p o e numbers more)
-    ∙ ap₂ (λ a b. a && b) (all_settles r p o e numbers more) (valid (with_options r p o e))
+    (options_pass r p o e j numbers more) (options_walked r p o e j numbers more)
+    ∙ ap₂ (λ a b. a && b) (all_settles r p o e j numbers more) (valid (with_options r p o e j))
 
 -- ---- the values
 
 abbrev Values : Type 0
-Values = (Option Text × Option Text) × (Option Text × Option Text)
+Values = (Option Text × Option Text) × ((Option Text × Option Text) × Option Text)
 
 abbrev values_of : List Row → Values
-values_of rows = ((one_of (codes "ring") rows, one_of (codes "pairs") rows), (one_of (codes "off") rows, one_of (codes "head") rows))
+values_of rows = ((one_of (codes "ring") rows, one_of (codes "pairs") rows), ((one_of (codes "off") rows, one_of (codes "head") rows), one_of (codes "json") rows))
 
 abbrev number_said : Text → Option Text → Text
 number_said default None = default
 number_said default (Some word) = without_minus word
 
-abbrev said : Option Text → Option Text → Bool → Bool → Values
-said r p o e = ((Some (number_said (codes "8") r), Some (number_said (codes "1") p)), (Some (bool_text o), Some (bool_text e)))
+abbrev said : Option Text → Option Text → Bool → Bool → Bool → Values
+said r p o e j = ((Some (number_said (codes "8") r), Some (number_said (codes "1") p)), ((Some (bool_text o), Some (bool_text e)), Some (bool_text j)))
 
-values_are : (r p : Option Text) (o e : Bool) → values_of (finished rules (with_options r p o e)) ≡ said r p o e
-values_are None None false false = refl
-values_are None None false true = refl
-values_are None None true false = refl
-values_are None None true true = refl
-values_are None (Some q) false false = refl
-values_are None (Some q) false true = refl
-values_are None (Some q) true false = refl
-values_are None (Some q) true true = refl
-values_are (Some n) None false false = refl
-values_are (Some n) None false true = refl
-values_are (Some n) None true false = refl
-values_are (Some n) None true true = refl
-values_are (Some n) (Some q) false false = refl
-values_are (Some n) (Some q) false true = refl
-values_are (Some n) (Some q) true false = refl
-values_are (Some n) (Some q) true true = refl
+values_are : (r p : Option Text) (o e j : Bool) → values_of (finished rules (with_options r p o e j)) ≡ said r p o e j
+values_are None None false false false = refl
+values_are None None false false true = refl
+values_are None None false true false = refl
+values_are None None false true true = refl
+values_are None None true false false = refl
+values_are None None true false true = refl
+values_are None None true true false = refl
+values_are None None true true true = refl
+values_are None (Some q) false false false = refl
+values_are None (Some q) false false true = refl
+values_are None (Some q) false true false = refl
+values_are None (Some q) false true true = refl
+values_are None (Some q) true false false = refl
+values_are None (Some q) true false true = refl
+values_are None (Some q) true true false = refl
+values_are None (Some q) true true true = refl
+values_are (Some n) None false false false = refl
+values_are (Some n) None false false true = refl
+values_are (Some n) None false true false = refl
+values_are (Some n) None false true true = refl
+values_are (Some n) None true false false = refl
+values_are (Some n) None true false true = refl
+values_are (Some n) None true true false = refl
+values_are (Some n) None true true true = refl
+values_are (Some n) (Some q) false false false = refl
+values_are (Some n) (Some q) false false true = refl
+values_are (Some n) (Some q) false true false = refl
+values_are (Some n) (Some q) false true true = refl
+values_are (Some n) (Some q) true false false = refl
+values_are (Some n) (Some q) true false true = refl
+values_are (Some n) (Some q) true true false = refl
+values_are (Some n) (Some q) true true true = refl
 
 -- ---- the command
 
@@ -392,9 +447,9 @@ is_said which words n (inr out) = record {
 -- the words, as the options that are said
 words_of : (words : List Text) (plan : QueuePlan) (says : SaysReplay words plan)
     (r : IsSaid ring says.ring plan.ring) (p : IsSaid pairs says.pairs plan.pairs)
-    → words ≡ codes "replay" ∷ option_words r.said p.said (not plan.enabled) (is_head plan.completion)
+    → words ≡ codes "replay" ∷ option_words r.said p.said (not plan.enabled) (is_head plan.completion) plan.json
 words_of words plan says r p =
-    let flags = flag_in off (not plan.enabled) ++ flag_in head (is_head plan.completion) in
+    let flags = flag_in off (not plan.enabled) ++ (flag_in head (is_head plan.completion) ++ flag_in json plan.json) in
     says.words_are ∙ ap₂ (λ (a b : List Text). codes "replay" ∷ (a ++ (b ++ flags))) r.words_are p.words_are
 
 pub replay_taken : (app : App) (words : List Text) (plan : QueuePlan) → IsProgram app → SaysReplay words plan → takes app words ≡ true
@@ -405,8 +460,8 @@ replay_taken app words plan program says =
     let e = is_head plan.completion in
     ap (λ (a : App). takes a words) program.app_is
     ∙ (ap (takes (program_app program.rings program.formats)) (words_of words plan says r p)
-    ∙ (takes_replay program.rings program.formats (option_words r.said p.said o e)
-    ∙ ap (λ b. b && true) (level r.said p.said o e r.numbers p.numbers)))
+    ∙ (takes_replay program.rings program.formats (option_words r.said p.said o e plan.json)
+    ∙ ap (λ b. b && true) (level r.said p.said o e plan.json r.numbers p.numbers)))
 
 pub replay_found : (app : App) (words : List Text) (plan : QueuePlan) → IsProgram app → SaysReplay words plan
     → (rows : List Row) × (subcommand_of app words ≡ Some (codes "replay", rows)) × HasReplay rows plan
@@ -415,17 +470,18 @@ replay_found app words plan program says =
     let p = is_said pairs says.pairs plan.pairs says.says_pairs in
     let o = not plan.enabled in
     let e = is_head plan.completion in
-    let values = values_are r.said p.said o e in (
-      finished rules (with_options r.said p.said o e),
+    let values = values_are r.said p.said o e plan.json in (
+      finished rules (with_options r.said p.said o e plan.json),
       ap (λ (a : App). subcommand_of a words) program.app_is
           ∙ (ap (subcommand_of (program_app program.rings program.formats)) (words_of words plan says r p)
-          ∙ (found_replay program.rings program.formats (option_words r.said p.said o e)
-          ∙ ap (λ (w : Walk). Some (codes "replay", finished rules w.held)) (options_walked r.said p.said o e r.numbers p.numbers))),
+          ∙ (found_replay program.rings program.formats (option_words r.said p.said o e plan.json)
+          ∙ ap (λ (w : Walk). Some (codes "replay", finished rules w.held)) (options_walked r.said p.said o e plan.json r.numbers p.numbers))),
       record {
         ring = ap (λ (v : Values). v.0.0) values ∙ ap (λ (t : Text). Some t) r.value;
         pairs = ap (λ (v : Values). v.0.1) values ∙ ap (λ (t : Text). Some t) p.value;
-        off = ap (λ (v : Values). v.1.0) values;
-        head = ap (λ (v : Values). v.1.1) values;
+        off = ap (λ (v : Values). v.1.0.0) values;
+        head = ap (λ (v : Values). v.1.0.1) values;
+        json = ap (λ (v : Values). v.1.1) values;
         ring_fits = r.fits;
         pairs_fits = p.fits;
       },
@@ -440,8 +496,7 @@ pub completion_is : (c : Completion) → completion_of (is_head c) ≡ c
 completion_is Head = refl
 completion_is Status = refl
 
-pub plan_is : (plan : QueuePlan) (n k : ℕ) (b : Bool) (c : Completion) → k ≡ plan.pairs → n ≡ plan.ring → b ≡ plan.enabled → c ≡ plan.completion
-    → ◌≡◌ {A = QueuePlan} (record { pairs = k; ring = n; enabled = b; completion = c }) plan
-plan_is plan n k b c pairs_are ring_is enabled_is completion_is =
-    ap₂ {C = QueuePlan} (λ k n. record { pairs = k; ring = n; enabled = b; completion = c }) pairs_are ring_is
-    ∙ ap₂ {C = QueuePlan} (λ b c. record { pairs = plan.pairs; ring = plan.ring; enabled = b; completion = c }) enabled_is completion_is
+pub plan_is : (plan : QueuePlan) (n k : ℕ) (b : Bool) (c : Completion) (j : Bool) → k ≡ plan.pairs → n ≡ plan.ring → b ≡ plan.enabled → c ≡ plan.completion → j ≡ plan.json
+    → ◌≡◌ {A = QueuePlan} (record { pairs = k; ring = n; enabled = b; completion = c; json = j }) plan
+plan_is plan n k b c j pairs_are ring_is enabled_is completion_is json_is =
+    rw (pairs_are, ring_is, enabled_is, completion_is, json_is) refl

@@ -15,6 +15,10 @@ use Rattle.ring_model.specs.declared.states.Completion.{Completion}
 use Rattle.ring_model.specs.declared.states.Completion.TheVariants.{Head, Status}
 use Rattle.commands.specs.Decoding.{ring_word, format_word}
 use Rattle.forwarder.specs.declared.config.Config.{Config}
+use Rattle.forward_command.specs.declared.printing.Printing.{Printing}
+use Rattle.capture_command.specs.Requests.{IsPlaced}
+use Rattle.capture_command.specs.declared.request.CaptureRequest.{CaptureRequest}
+use Rattle.command_line.specs.CaptureWords.{from_capture_app, to_capture_app}
 use Rattle.command_line.specs.declared.command.Asked.{Asked}
 use Rattle.command_line.specs.declared.command.Asked.TheVariants as asked
 
@@ -57,7 +61,7 @@ abbrev pub replay_app : App
 replay_app =
     let with_ring = with_rule (new_app (codes "replay")) (number_rule (codes "ring") (codes "8")) in
     let with_pairs = with_rule with_ring (number_rule (codes "pairs") (codes "1")) in
-    with_rule (with_rule with_pairs (flag_rule (codes "off"))) (flag_rule (codes "head"))
+    with_rule (with_rule (with_rule with_pairs (flag_rule (codes "off"))) (flag_rule (codes "head"))) (flag_rule (codes "json"))
 
 -- the options of `forward` for queues and buffers
 abbrev pub with_queue_rules : App → App
@@ -75,17 +79,22 @@ with_work_rules app =
     let with_workers = with_rule with_rs_every (number_rule (codes "workers") (codes "1")) in
     with_rule with_workers (number_rule (codes "turns") (codes "0"))
 
+-- and for what it prints
+abbrev pub with_printing_rules : App → App
+with_printing_rules app = with_rule (with_rule app (flag_rule (codes "quiet"))) (flag_rule (codes "json"))
+
 -- the command `forward`
 abbrev pub forward_app : App
 forward_app =
     let with_drop = with_rule (with_work_rules (with_queue_rules (new_app (codes "forward")))) (flag_rule (codes "drop")) in
-    with_rule (with_rule with_drop (flag_rule (codes "no-retry"))) (flag_rule (codes "head"))
+    with_printing_rules (with_rule (with_rule with_drop (flag_rule (codes "no-retry"))) (flag_rule (codes "head")))
 
 abbrev pub program_app : Choices → Choices → App
 program_app rings formats =
     let with_once = with_subcommand bare_app once_app.top in
     let with_decode = with_subcommand with_once (decode_app rings formats).top in
-    with_subcommand (with_subcommand with_decode replay_app.top) forward_app.top
+    let with_forward = with_subcommand (with_subcommand with_decode replay_app.top) forward_app.top in
+    with_subcommand (with_subcommand with_forward from_capture_app.top) to_capture_app.top
 
 -- the command line is this one. clap keeps a list of choices by its address too, which is any
 pub record HasChoices (with_choices : Choices → Choices → App) (app : App) : Type 0 where
@@ -127,19 +136,21 @@ abbrev pub completion_of : Bool → Completion
 completion_of true = Head
 completion_of false = Status
 
--- the words are `replay` and its options in this order: `--off` stands where the queues begin disabled, and `--head`
--- where they report by a head word
+-- the words are `replay` and its options in this order: `--off` stands where the queues begin disabled, `--head` where
+-- they report by a head word, and `--json` where objects are printed
 pub record SaysReplay (words : List Text) (plan : QueuePlan) : Type 0 where
   pub ring : List Text
   pub pairs : List Text
   pub says_ring : SaysNumber (codes "--ring") 8 ring plan.ring
   pub says_pairs : SaysNumber (codes "--pairs") 1 pairs plan.pairs
   pub words_are : words ≡ codes "replay" ∷ (ring ++ (pairs
-      ++ (flag_words (codes "--off") (not plan.enabled) ++ flag_words (codes "--head") (is_head plan.completion))))
+      ++ (flag_words (codes "--off") (not plan.enabled)
+      ++ (flag_words (codes "--head") (is_head plan.completion) ++ flag_words (codes "--json") plan.json))))
 
 -- the words are `forward` and its options in this order: `--drop` stands where frames are dropped, `--no-retry` where
--- packets are, and `--head` where the transmit queues report by a head word
-pub record SaysForward (words : List Text) (config : Config) : Type 0 where
+-- packets are, `--head` where the transmit queues report by a head word, `--quiet` where no wire is printed, and `--json`
+-- where the counts are objects
+pub record SaysForward (words : List Text) (config : Config) (printing : Printing) : Type 0 where
   pub pairs : List Text
   pub ring : List Text
   pub buffers : List Text
@@ -158,7 +169,8 @@ pub record SaysForward (words : List Text) (config : Config) : Type 0 where
   pub says_turns : SaysNumber (codes "--turns") 0 turns config.turns
   pub words_are : words ≡ codes "forward" ∷ (pairs ++ (ring ++ (buffers ++ (bsize ++ (batch ++ (rs_every ++ (workers ++ (turns
       ++ (flag_words (codes "--drop") config.drop_en ++ (flag_words (codes "--no-retry") (not config.retry)
-      ++ flag_words (codes "--head") (is_head config.completion)))))))))))
+      ++ (flag_words (codes "--head") (is_head config.completion)
+      ++ (flag_words (codes "--quiet") printing.quiet ++ flag_words (codes "--json") printing.json))))))))))))
 
 -- the values of the arguments
 abbrev pub HasOnce : List Row → Text → Type 0
@@ -174,6 +186,7 @@ pub record HasReplay (rows : List Row) (plan : QueuePlan) : Type 0 where
   pub pairs : one_of (codes "pairs") rows ≡ Some (decimal plan.pairs)
   pub off : one_of (codes "off") rows ≡ Some (bool_text (not plan.enabled))
   pub head : one_of (codes "head") rows ≡ Some (bool_text (is_head plan.completion))
+  pub json : one_of (codes "json") rows ≡ Some (bool_text plan.json)
   pub ring_fits : plan.ring < 2 ^ 32
   pub pairs_fits : plan.pairs < 2 ^ 32
 
@@ -191,6 +204,10 @@ pub record HasForward (rows : List Row) (config : Config) : Type 0 where
   pub head : one_of (codes "head") rows ≡ Some (bool_text (is_head config.completion))
   pub queues_fit : (config.pairs < 2 ^ 32) × (config.ring < 2 ^ 32) × (config.buffers < 2 ^ 32) × (config.bsize < 2 ^ 32)
   pub work_fits : (config.batch < 2 ^ 32) × (config.rs_every < 2 ^ 32) × (config.workers < 2 ^ 32) × (config.turns < 2 ^ 32)
+
+pub record HasPrinting (rows : List Row) (printing : Printing) : Type 0 where
+  pub quiet : one_of (codes "quiet") rows ≡ Some (bool_text printing.quiet)
+  pub json : one_of (codes "json") rows ≡ Some (bool_text printing.json)
 
 -- what is asked for is `once` of these digits
 abbrev pub IsOnce : Request → Text → Type 0
@@ -210,12 +227,26 @@ IsReplayOf request plan = ⊥
 -- what the words ask for is a request, of which this holds
 abbrev pub IsRequest : (Request → Type 0) → Asked → Type 0
 IsRequest P (asked.Request request) = P request
-IsRequest P (asked.Forward config) = ⊥
+IsRequest P (asked.Forward config printing) = ⊥
+IsRequest P (asked.Capture request) = ⊥
 
--- it is to forward under this configuration
-abbrev pub IsForward : Asked → Config → Type 0
-IsForward (asked.Forward given) config = given ≡ config
-IsForward (asked.Request request) config = ⊥
+-- it is to forward under this configuration, and to print so
+abbrev pub IsForward : Asked → Config → Printing → Type 0
+IsForward (asked.Forward given shown) config printing = (given ≡ config) × (shown ≡ printing)
+IsForward (asked.Request request) config printing = ⊥
+IsForward (asked.Capture request) config printing = ⊥
+
+-- it is this request of captures
+abbrev pub IsCapture : Asked → CaptureRequest → Type 0
+IsCapture (asked.Capture given) request = given ≡ request
+IsCapture (asked.Request given) request = ⊥
+IsCapture (asked.Forward config printing) request = ⊥
+
+-- a request of captures that is asked for can be done
+abbrev pub CanBeDone : Asked → Type 0
+CanBeDone (asked.Capture request) = IsPlaced request
+CanBeDone (asked.Request request) = Unit {0}
+CanBeDone (asked.Forward config printing) = Unit {0}
 
 -- a mistake in the words, which is neither a call for help nor want of memory
 pub record IsMistake (kind : ErrorKind) : Type 0 where

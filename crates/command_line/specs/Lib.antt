@@ -1,1 +1,2 @@
+pub mod CaptureWords
 pub mod CommandLine

@@ -1,24 +1,31 @@
 //! The words of the command line, as `clap` reads them, to a request.
 ghost use Rattle.std.specs.Prelude.{◌≡◌, ◌⊎◌, ℕ, Bool, List, Some, false, codes, map};
-ghost use Rattle.std.specs.Prelude.{IfOk, IsErrAnd, IsSomeAnd, MatchResult};
+ghost use Rattle.std.specs.Prelude.{IfOk, IfSome, IsErrAnd, IsSomeAnd, MatchResult};
 ghost use Rattle.std.specs.String.{string_bytes};
 ghost use Rattle.clap.specs.Words.{Row, Text, app_of, kind_of, found_of, one_of, rows_of, rule_of, subcommand_rows_of};
 ghost use Rattle.clap.specs.Values.{bool_text};
 ghost use Rattle.clap.specs.declared.builder.command.Command.TheViews.{out-Command};
 ghost use Rattle.clap.specs.declared.error.kind.ErrorKind.TheVariants.{OutOfMemory};
 ghost use Rattle.commands.specs.declared.decode.Form.{Form};
-ghost use Rattle.command_line.specs.CommandLine.{IsDecodeApp, IsProgram, choice_rule, hex_rule, once_app};
-ghost use Rattle.command_line.specs.CommandLine.{flag_rule, forward_app, number_rule, replay_app, with_queue_rules, with_work_rules};
+ghost use Rattle.command_line.specs.CommandLine.{IsDecodeApp, IsProgram, bare_app, choice_rule, hex_rule, once_app};
+ghost use Rattle.command_line.specs.CommandLine.{flag_rule, forward_app, number_rule, replay_app, with_printing_rules, with_queue_rules, with_work_rules};
 ghost use Rattle.commands.specs.declared.replay.QueuePlan.{QueuePlan};
 ghost use Rattle.command_line.specs.CommandLine.{HasDecode, IsDecode, SaysDecode};
 ghost use Rattle.command_line.specs.CommandLine.{HasReplay, IsReplayOf, SaysReplay};
-ghost use Rattle.command_line.specs.CommandLine.{HasForward, IsForward, IsRequest, SaysForward, completion_of};
+ghost use Rattle.command_line.specs.CommandLine.{HasForward, HasPrinting, IsForward, IsRequest, SaysForward, completion_of};
 ghost use Rattle.forwarder.specs.declared.config.Config.{Config as ForwardConfig};
+ghost use Rattle.forward_command.specs.declared.printing.Printing.{Printing as Printed};
 ghost use Rattle.command_line.specs.CommandLine.{HasOnce, IsMistake, IsMisuse, IsOnce, SaysOnce};
+ghost use Rattle.capture_command.specs.declared.request.CaptureRequest.TheVariants.{FromCapture, ToCapture};
+ghost use Rattle.command_line.specs.CaptureWords.{HasFromCapture, HasToCapture, SaysFromCapture, SaysToCapture};
+ghost use Rattle.command_line.specs.CommandLine.{CanBeDone, IsCapture};
 
+use crate::captures::{from_capture, from_capture_in, to_capture, to_capture_in};
+use capture_command::CaptureRequest;
 use clap::error::ErrorKind;
 use clap::{Arg, ArgAction, ArgMatches, Command, Error, value_parser};
 use commands::{Form, QueuePlan, Request};
+use forward_command::Printing;
 use forwarder::Config;
 use ring_machine::Completion;
 use std::alloc::{AllocError, Global};
@@ -40,7 +47,7 @@ const FORWARD_EXAMPLES: &str =
 
 /// One example of each command.
 const EXAMPLES: &str =
-    "Examples:\n  poll82599 once 000102030405060708090a0b0c0d\n  poll82599 decode rx back 0000000000000000030000003c000000\n  echo 'r0 A1 5' | poll82599 replay --ring 16\n  echo '0 0 fill 60 01' | poll82599 forward";
+    "Examples:\n  poll82599 once 000102030405060708090a0b0c0d\n  poll82599 decode rx back 0000000000000000030000003c000000\n  echo 'r0 A1 5' | poll82599 replay --ring 16\n  echo '0 0 fill 60 01' | poll82599 forward\n  poll82599 from-capture 0 0 < x.pcap | poll82599 forward | poll82599 to-capture 1 > y.pcap";
 
 static RINGS: [&str; 2] = ["rx", "tx"];
 
@@ -51,8 +58,10 @@ static FORMATS: [&str; 2] = ["read", "back"];
 pub enum Asked<'a> {
     /// A request of `commands`.
     Request(Request<'a>),
-    /// To forward the script of standard input.
-    Forward(Config),
+    /// To forward the script of standard input, and to print what came of it.
+    Forward { config: Config, printing: Printing },
+    /// A request of captures.
+    Capture(CaptureRequest),
 }
 
 /// Reads the words after the program's name. What it answers in place of a request is an error of `clap`, which is
@@ -64,8 +73,13 @@ pub fn asked_of<'a>(alloc: Global, words: &'a [String]) -> Result<Asked<'a>, Err
         → MatchResult result (IsRequest (λ r. IsDecode r form digits)) (λ e. kind_of e ≡ OutOfMemory) }
     ensures replay { (plan : QueuePlan) → SaysReplay (map string_bytes words.entry.now) plan
         → MatchResult result (IsRequest (λ r. IsReplayOf r plan)) (λ e. kind_of e ≡ OutOfMemory) }
-    ensures forward { (config : ForwardConfig) → SaysForward (map string_bytes words.entry.now) config
-        → MatchResult result (λ a. IsForward a config) (λ e. kind_of e ≡ OutOfMemory) }
+    ensures forward { (config : ForwardConfig) (printing : Printed) → SaysForward (map string_bytes words.entry.now) config printing
+        → MatchResult result (λ a. IsForward a config printing) (λ e. kind_of e ≡ OutOfMemory) }
+    ensures from_capture { (port queue : ℕ) → SaysFromCapture (map string_bytes words.entry.now) port queue
+        → MatchResult result (λ a. IsCapture a (FromCapture port queue)) (λ e. kind_of e ≡ OutOfMemory) }
+    ensures to_capture { (port : ℕ) → SaysToCapture (map string_bytes words.entry.now) port
+        → MatchResult result (λ a. IsCapture a (ToCapture port)) (λ e. kind_of e ≡ OutOfMemory) }
+    ensures can_be_done { IfOk result CanBeDone }
     ensures misuse { IsMisuse (map string_bytes words.entry.now)
         → IsErrAnd result (λ e. (kind_of e ≡ OutOfMemory) ⊎ IsMistake (kind_of e)) }
 {
@@ -86,15 +100,27 @@ fn asked_in<'a>(matches: &ArgMatches<'a>) -> Option<Asked<'a>>
         → HasDecode rows form digits → IsSomeAnd result (IsRequest (λ r. IsDecode r form digits)) }
     ensures replay { (rows : List Row) (plan : QueuePlan) → subcommand_rows_of matches.now ≡ Some (codes "replay", rows)
         → HasReplay rows plan → IsSomeAnd result (IsRequest (λ r. IsReplayOf r plan)) }
-    ensures forward { (rows : List Row) (config : ForwardConfig)
+    ensures forward { (rows : List Row) (config : ForwardConfig) (printing : Printed)
         → subcommand_rows_of matches.now ≡ Some (codes "forward", rows)
-        → HasForward rows config → IsSomeAnd result (λ a. IsForward a config) }
+        → HasForward rows config → HasPrinting rows printing → IsSomeAnd result (λ a. IsForward a config printing) }
+    ensures from_capture { (rows : List Row) (port queue : ℕ)
+        → subcommand_rows_of matches.now ≡ Some (codes "from-capture", rows)
+        → HasFromCapture rows port queue → IsSomeAnd result (λ a. IsCapture a (FromCapture port queue)) }
+    ensures to_capture { (rows : List Row) (port : ℕ)
+        → subcommand_rows_of matches.now ≡ Some (codes "to-capture", rows)
+        → HasToCapture rows port → IsSomeAnd result (λ a. IsCapture a (ToCapture port)) }
+    ensures can_be_done { IfSome result CanBeDone }
 {
     match matches.subcommand()? {
         ("once", once) => Some(Asked::Request(once_in(once)?)),
         ("decode", decode) => Some(Asked::Request(decode_in(decode)?)),
         ("replay", replay) => Some(Asked::Request(replay_in(replay)?)),
-        ("forward", forward) => Some(Asked::Forward(config_in(forward)?)),
+        ("forward", forward) => Some(Asked::Forward {
+            config: config_in(forward)?,
+            printing: printing_in(forward),
+        }),
+        ("from-capture", found) => Some(Asked::Capture(from_capture_in(found)?)),
+        ("to-capture", found) => Some(Asked::Capture(to_capture_in(found)?)),
         _ => None,
     }
 }
@@ -127,12 +153,14 @@ fn replay_in<'a>(replay: &ArgMatches<'a>) -> Option<Request<'a>>
     let pairs = replay.get_one("pairs")?;
     let enabled = !replay.get_flag("off");
     let completion = completion_in(replay);
+    let json = replay.get_flag("json");
     Some(Request::Replay {
         plan: QueuePlan {
             pairs,
             ring,
             enabled,
             completion,
+            json,
         },
     })
 }
@@ -167,6 +195,15 @@ fn config_in<'a>(forward: &ArgMatches<'a>) -> Option<Config>
     })
 }
 
+/// What is to be printed, in matches of `forward`.
+fn printing_in<'a>(forward: &ArgMatches<'a>) -> Printing
+    ensures { (printing : Printed) → HasPrinting (rows_of (found_of forward.now)) printing → result ≡ printing }
+{
+    let quiet = forward.get_flag("quiet");
+    let json = forward.get_flag("json");
+    Printing { quiet, json }
+}
+
 /// How transmit queues report, in matches of a command with the flag `head`.
 fn completion_in<'a>(matches: &ArgMatches<'a>) -> Completion
     ensures { (by_head : Bool) → one_of (codes "head") (rows_of (found_of matches.now)) ≡ Some (bool_text by_head)
@@ -183,17 +220,28 @@ fn completion_in<'a>(matches: &ArgMatches<'a>) -> Completion
 fn program<'a>(alloc: Global) -> Result<Command<'a>, AllocError>
     ensures { IfOk result (λ c. IsProgram (app_of c)) }
 {
-    Command::new(alloc, "poll82599")
-        .bin_name("poll82599")?
-        .about("Both sides of the Intel 82599's descriptor rings, in one process")
-        .version(VERSION)
-        .after_help(EXAMPLES)
-        .no_binary_name(true)
-        .subcommand_required(true)
+    bare(alloc)?
         .subcommand(once(alloc)?)?
         .subcommand(decode(alloc)?)?
         .subcommand(replay(alloc)?)?
-        .subcommand(forward(alloc)?)
+        .subcommand(forward(alloc)?)?
+        .subcommand(from_capture(alloc)?)?
+        .subcommand(to_capture(alloc)?)
+}
+
+/// The program before its commands are added.
+fn bare<'a>(alloc: Global) -> Result<Command<'a>, AllocError>
+    ensures { IfOk result (λ c. app_of c ≡ bare_app) }
+{
+    let named = Command::new(alloc, "poll82599").bin_name("poll82599")?;
+    Ok(
+        named
+            .about("Both sides of the Intel 82599's descriptor rings, in one process")
+            .version(VERSION)
+            .after_help(EXAMPLES)
+            .no_binary_name(true)
+            .subcommand_required(true),
+    )
 }
 
 /// The command `once`.
@@ -253,13 +301,19 @@ fn replay<'a>(alloc: Global) -> Result<Command<'a>, AllocError>
     );
     let off = flag(alloc, "off", "Begins with disabled queues");
     let head = flag(alloc, "head", "Reports what was sent by a head word");
+    let json = flag(
+        alloc,
+        "json",
+        "Prints what each move tells as a JSON object",
+    );
     Command::new(alloc, "replay")
         .about("Makes the moves of standard input on queues, and prints what each of them tells")
         .after_help(REPLAY_EXAMPLE)
         .arg(ring)?
         .arg(pairs)?
         .arg(off)?
-        .arg(head)
+        .arg(head)?
+        .arg(json)
 }
 
 /// The command `forward`.
@@ -282,14 +336,15 @@ fn forward<'a>(alloc: Global) -> Result<Command<'a>, AllocError>
         "head",
         "Reports what was sent by a head word (default: in the descriptors)",
     );
-    with_work(alloc, with_queues(alloc, Command::new(alloc, "forward"))?)?
+    let command = with_work(alloc, with_queues(alloc, Command::new(alloc, "forward"))?)?
         .about(
             "Forwards the frames of standard input, one a line, between two ports, and prints the wires and the flows",
         )
         .after_help(FORWARD_EXAMPLES)
         .arg(drop)?
         .arg(no_retry)?
-        .arg(head)
+        .arg(head)?;
+    with_printing(alloc, command)
 }
 
 /// A command with the options of `forward` for queues and buffers.
@@ -354,6 +409,20 @@ fn with_work<'a>(alloc: Global, command: Command<'a>) -> Result<Command<'a>, All
         "After how many turns of its driver a flow is cut, 0 to 4,294,967,295; 0 is never",
     );
     command.arg(batch)?.arg(rs_every)?.arg(workers)?.arg(turns)
+}
+
+/// A command with the options of `forward` for what it prints.
+fn with_printing<'a>(alloc: Global, command: Command<'a>) -> Result<Command<'a>, AllocError>
+    ensures app { IfOk result (λ c. app_of c ≡ with_printing_rules (app_of command.entry)) }
+    ensures local { IfOk result (λ c. (out-Command c).has_globals ≡ (out-Command command.entry).has_globals) }
+{
+    let quiet = flag(alloc, "quiet", "Leaves the frames of the wires out");
+    let json = flag(
+        alloc,
+        "json",
+        "Prints the counts of each flow as a JSON object",
+    );
+    command.arg(quiet)?.arg(json)
 }
 
 /// An option with a number, which has this one where it is left out.

@@ -6,11 +6,14 @@ ghost use Rattle.clap.specs.Words.{kind_of};
 ghost use Rattle.clap.specs.declared.error.kind.ErrorKind.TheVariants.{OutOfMemory};
 ghost use Rattle.commands.specs.declared.decode.Form.{Form};
 ghost use Rattle.commands.specs.declared.replay.QueuePlan.{QueuePlan};
-ghost use Rattle.commands.specs.Answers.{Ends, EndsDecode};
+ghost use Rattle.capture_command.specs.Meanings.{capture_meant, lines_meant};
+ghost use Rattle.commands.specs.Answers.{Ends, EndsBy, EndsDecode};
 ghost use Rattle.commands.specs.Frame.{frame_in};
 ghost use Rattle.commands.specs.Replay.{EndsReplay};
+ghost use Rattle.command_line.specs.CaptureWords.{SaysFromCapture, SaysToCapture};
 ghost use Rattle.command_line.specs.CommandLine.{IsMistake, IsMisuse, SaysDecode, SaysForward, SaysOnce, SaysReplay};
 ghost use Rattle.forward_command.specs.Forwards.{EndsForward};
+ghost use Rattle.forward_command.specs.declared.printing.Printing.{Printing};
 ghost use Rattle.forwarder.specs.declared.config.Config.{Config};
 
 use crate::command::{Asked, asked_of};
@@ -27,8 +30,8 @@ pub const MISUSED: u8 = 2;
 /// Runs the program on the words after its name, and answers its exit status.
 ///
 /// Results and help go to `output`, with status 0. A refusal goes to `faults` as one line, `refused` with its number
-/// and its words, with status 1; before it stands the line of the input that it is for, if it is for one. What is wrong
-/// with the command line goes to `faults`, with status 2. A failed write to `faults` changes no status.
+/// and its words, with status 1; before it stands the line or the record of the input that it is for, if it is for one.
+/// What is wrong with the command line goes to `faults`, with status 2. A failed write to `faults` changes no status.
 pub fn run<R: Threads + Wait + Sync, I: Read, W: Write, E: Write>(
     rt: &R,
     alloc: Global,
@@ -48,13 +51,22 @@ pub fn run<R: Threads + Wait + Sync, I: Read, W: Write, E: Write>(
         → EndsDecode form digits result (W.contents output.old) (W.contents output.new) }
     ensures replay { (plan : QueuePlan) (text : List ℕ) → SaysReplay (map string_bytes words.now) plan
         → I.remaining input.old ≡ Some text → EndsReplay plan text result (W.contents output.old) (W.contents output.new) }
-    ensures forward { (config : Config) (text : List ℕ) → SaysForward (map string_bytes words.now) config
-        → I.remaining input.old ≡ Some text → EndsForward config text result (W.contents output.old) (W.contents output.new) }
+    ensures forward { (config : Config) (printing : Printing) (text : List ℕ) → SaysForward (map string_bytes words.now) config printing
+        → I.remaining input.old ≡ Some text → EndsForward config printing text result (W.contents output.old) (W.contents output.new) }
+    ensures from_capture { (port queue : ℕ) (bytes : List ℕ) → SaysFromCapture (map string_bytes words.now) port queue
+        → I.remaining input.old ≡ Some bytes
+        → EndsBy (lines_meant port queue bytes) result (W.contents output.old) (W.contents output.new) }
+    ensures to_capture { (port : ℕ) (text : List ℕ) → SaysToCapture (map string_bytes words.now) port
+        → I.remaining input.old ≡ Some text
+        → EndsBy (capture_meant port text) result (W.contents output.old) (W.contents output.new) }
 {
     match asked_of(alloc, words) {
         Ok(Asked::Request(request)) => answer(rt, alloc, request, input, output, faults),
-        Ok(Asked::Forward(config)) => {
-            forward_command::answer(rt, alloc, &config, input, output, faults)
+        Ok(Asked::Forward { config, printing }) => {
+            forward_command::answer(rt, alloc, &config, printing, input, output, faults)
+        }
+        Ok(Asked::Capture(request)) => {
+            capture_command::answer(alloc, request, input, output, faults)
         }
         Err(error) => tell(&error, output, faults),
     }

@@ -8,6 +8,8 @@
 #[cfg(test)]
 mod decode_tests;
 #[cfg(test)]
+mod object_rows;
+#[cfg(test)]
 mod once_tests;
 #[cfg(test)]
 mod replay_rows;

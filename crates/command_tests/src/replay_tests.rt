@@ -1,5 +1,6 @@
 //! The command `replay`, row after row.
 
+use crate::object_rows::OBJECTS;
 use crate::replay_rows::{ENDS, MIDDLE, ROWS};
 use crate::told::{comes_to, outcome_of, times};
 use std::alloc::{AllocError, Global};
@@ -103,6 +104,14 @@ const PAIRS: [(&str, &str, &str, &str); 8] = [
 #[test]
 fn lists_of_moves_are_answered(rt: HostRuntime) -> Result<(), Fail> {
     for row in ROWS {
+        comes_to(&rt, rt.alloc(), row.words, row.input, (0, row.output, ""))?;
+    }
+    Ok(())
+}
+
+#[test]
+fn objects_tell_what_lines_tell(rt: HostRuntime) -> Result<(), Fail> {
+    for row in OBJECTS {
         comes_to(&rt, rt.alloc(), row.words, row.input, (0, row.output, ""))?;
     }
     Ok(())

@@ -100,6 +100,7 @@ fn want_of_memory(rt: HostRuntime) -> Result<(), Fail> {
         ring: 8,
         enabled: true,
         completion: Completion::Status,
+        json: false,
     };
     let mut input = "r0 A1 5\nt0 B2\n".as_bytes();
     let mut output = Narrow::new(rt.alloc(), 100);

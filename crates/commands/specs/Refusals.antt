@@ -1,7 +1,7 @@
 -- The numbers of refusals, and what they are for.
 use Rattle.std.specs.Prelude.{◌≡◌, ◌⊎◌, ℕ, Option, Some, None}
 use Rattle.commands.specs.declared.refusal.Refusal.{Refusal}
-use Rattle.commands.specs.declared.refusal.Refusal.TheVariants.{Descriptor, Forward, Machine, Ring, Script, Stock, FrameLength, Thread, Hex, Move, Input, Memory, Output}
+use Rattle.commands.specs.declared.refusal.Refusal.TheVariants.{Capture, Descriptor, Forward, Machine, Ring, Script, Stock, FrameLength, Thread, Hex, Move, Input, Memory, Output}
 use Rattle.descriptor.specs.Refusal.{refusal_number as descriptor_number}
 use Rattle.ring_machine.specs.MachineErrors.{number_of_error}
 use Rattle.forwarding.specs.Refusal.{refusal_number as forward_number}
@@ -10,6 +10,7 @@ use Rattle.shared_ring.specs.Refusal.{refusal_number as ring_number}
 use Rattle.buffer_pool.specs.declared.error.PoolError.TheVariants.{Memory as StockMemory}
 use Rattle.buffer_pool.specs.Refusal.{refusal_number as stock_number}
 use Rattle.wire_script.specs.ScriptError.{number_of as script_number, line_of as script_line}
+use Rattle.capture.specs.CaptureError.{number_of as capture_number, record_of as capture_record}
 
 -- those of the libraries have numbers of their own
 abbrev pub refusal_number : Refusal → ℕ
@@ -23,6 +24,7 @@ refusal_number (Move line) = 14
 refusal_number (Machine error) = number_of_error error
 refusal_number (Script error) = script_number error
 refusal_number (Forward error) = forward_number error
+refusal_number (Capture error) = capture_number error
 refusal_number Input = 82
 refusal_number Memory = 83
 refusal_number Output = 84
@@ -32,6 +34,11 @@ abbrev pub refused_line : Refusal → Option ℕ
 refused_line (Move line) = Some line
 refused_line (Script error) = script_line error
 refused_line refusal = None
+
+-- a fault of a capture is of a record, but for the header's
+abbrev pub refused_record : Refusal → Option ℕ
+refused_record (Capture error) = capture_record error
+refused_record refusal = None
 
 -- no memory for the ring or its buffers, or no thread for one of its ends
 abbrev pub IsUnmade : Refusal → Type 0

@@ -7,6 +7,7 @@ use Rattle.ring_machine.specs.declared.moves.Move.{Move}
 use Rattle.ring_model.specs.declared.notes.Note.{Note}
 use Rattle.ring_machine.specs.declared.error.MachineError.TheVariants.{RingLength, Memory as MachineMemory}
 use Rattle.ring_model.specs.shared.Schedules.{next}
+use Rattle.note_objects.specs.NoteMembers.{note_members}
 use Rattle.ring_model.specs.NoteTexts.{note_text}
 use Rattle.ring_model.specs.Worlds.{World, opening_world, after_move, can_move, moves_happened, note_in}
 use Rattle.ring_machine.specs.Queues.{AreQueues, QueueParts, QueuesAgree, queue_move}
@@ -52,26 +53,36 @@ told_text (Some note) = note_text note
 abbrev pub after_it : World → Move → World
 after_it w m = next can_move after_move w (queue_move m)
 
--- the line of one move: its queue and kind, and what it tells
-abbrev pub line_in : World → Move → List ℕ
-line_in w m = name_of m ++ (codes " " ++ (told_text (note_in w (queue_move m)) ++ 10 ∷ []))
+-- the members of an object that say whether the move was made, and what it tells
+abbrev pub told_members : Option Note → List ℕ
+told_members None = codes "false"
+told_members (Some note) = codes "true" ++ note_members note
 
-abbrev pub lines_in : World → List Move → List ℕ
-lines_in w [] = []
-lines_in w (m ∷ ms) = line_in w m ++ lines_in (after_it w m) ms
+-- what is printed of a move, its queue and kind and what it tells: a line of words, or an object
+abbrev pub told_line : Bool → Move → Option Note → List ℕ
+told_line false m told = name_of m ++ (codes " " ++ (told_text told ++ 10 ∷ []))
+told_line true m told = codes "{\"move\":\"" ++ (name_of m ++ (codes "\",\"made\":" ++ (told_members told ++ codes "}\n")))
 
-abbrev pub count_line : ℕ → ℕ → List ℕ
-count_line made read = codes "moves " ++ (decimal made ++ (codes " of " ++ (decimal read ++ 10 ∷ [])))
+abbrev pub line_in : Bool → World → Move → List ℕ
+line_in json w m = told_line json m (note_in w (queue_move m))
 
--- one line a move, and at last how many of them happened
-abbrev pub replayed : World → List Move → List ℕ
-replayed w ms = lines_in w ms ++ count_line (moves_happened w (map queue_move ms)) (length ms)
+abbrev pub lines_in : Bool → World → List Move → List ℕ
+lines_in json w [] = []
+lines_in json w (m ∷ ms) = line_in json w m ++ lines_in json (after_it w m) ms
+
+abbrev pub count_line : Bool → ℕ → ℕ → List ℕ
+count_line false made read = codes "moves " ++ (decimal made ++ (codes " of " ++ (decimal read ++ 10 ∷ [])))
+count_line true made read = codes "{\"made\":" ++ (decimal made ++ (codes ",\"read\":" ++ (decimal read ++ codes "}\n")))
+
+-- one line or object a move, and at last how many of them happened
+abbrev pub replayed : Bool → World → List Move → List ℕ
+replayed json w ms = lines_in json w ms ++ count_line json (moves_happened w (map queue_move ms)) (length ms)
 
 -- the page is what the text's moves print
-pub record IsPageOf (w : World) (text page : List ℕ) : Type 0 where
+pub record IsPageOf (json : Bool) (w : World) (text page : List ℕ) : Type 0 where
   pub moves : List Move
   pub says : Says (lines_of text) moves
-  pub printed : page ≡ replayed w moves
+  pub printed : page ≡ replayed json w moves
 
 -- the queues of the plan, as they are made
 abbrev pub world_of : QueuePlan → World
@@ -86,13 +97,13 @@ pub record IsReplay (plan : QueuePlan) (text : List ℕ) (moves : List Move) : T
 pub record HasPage (plan : QueuePlan) (text page : List ℕ) : Type 0 where
   pub moves : List Move
   pub replay : IsReplay plan text moves
-  pub printed : page ≡ replayed (world_of plan) moves
+  pub printed : page ≡ replayed plan.json (world_of plan) moves
 
 -- all moves were answered
 pub record HasReplayed (plan : QueuePlan) (text : List ℕ) (old new : Option (List ℕ)) : Type 0 where
   pub moves : List Move
   pub replay : IsReplay plan text moves
-  pub printed : Appends old new (replayed (world_of plan) moves)
+  pub printed : Appends old new (replayed plan.json (world_of plan) moves)
 
 -- why a text that was read is refused, the first that applies: a faulty line comes before queues that there can't be, and
 -- both before want of memory
@@ -121,7 +132,7 @@ pub record EndsReplay (plan : QueuePlan) (text : List ℕ) (status : ℕ) (old n
   pub no_queues : ¬ (AreQueues plan.pairs plan.ring) → (status ≡ REFUSED) × Keeps old new
 
 -- one move's line was written, and the queues are those of the world after it
-pub record WroteMove (w : World) (m : Move) (made : Bool) (old new : List ℕ) (queues : QueueParts) : Type 0 where
-  pub text : new ≡ old ++ line_in w m
+pub record WroteMove (json : Bool) (w : World) (m : Move) (made : Bool) (old new : List ℕ) (queues : QueueParts) : Type 0 where
+  pub text : new ≡ old ++ line_in json w m
   pub agrees : QueuesAgree queues (after_it w m)
   pub counted : made ≡ can_move w (queue_move m)

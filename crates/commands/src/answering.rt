@@ -21,8 +21,8 @@ pub const DONE: u8 = 0;
 pub const REFUSED: u8 = 1;
 
 /// Does what is asked for, and answers an exit status. What was asked for goes to `output`, with status 0. A refusal goes
-/// to `faults` as one line, `refused` with its number and its words, with status 1; before it stands the line of the
-/// input that it is for, if it is for one. A failed write to `faults` changes no status.
+/// to `faults` as one line, `refused` with its number and its words, with status 1; before it stands the line or the record
+/// of the input that it is for, if it is for one. A failed write to `faults` changes no status.
 pub fn answer<R: Threads + Wait + Sync, I: Read, W: Write, E: Write>(
     rt: &R,
     alloc: Global,
@@ -79,9 +79,15 @@ pub fn print<W: Write>(text: &str, output: &mut W) -> Result<(), Refusal>
     ensures done { OnOk result (Appends (W.contents output.old) (W.contents output.new) text.now) }
     ensures refused { IfErr result (λ e. e ≡ Refusal.Output) }
 {
-    output
-        .write_all(text.as_bytes())
-        .map_err(|_| Refusal::Output)?;
+    put(text.as_bytes(), output)
+}
+
+/// Writes bytes to the output, whatever they are.
+pub fn put<W: Write>(bytes: &[u8], output: &mut W) -> Result<(), Refusal>
+    ensures done { OnOk result (Appends (W.contents output.old) (W.contents output.new) bytes.now) }
+    ensures refused { IfErr result (λ e. e ≡ Refusal.Output) }
+{
+    output.write_all(bytes).map_err(|_| Refusal::Output)?;
     output.flush().map_err(|_| Refusal::Output)
 }
 
@@ -90,9 +96,10 @@ pub fn refuse<E: Write>(faults: &mut E, refusal: Refusal) -> u8
     ensures { result ≡ REFUSED }
 {
     let number = refusal.number();
-    let _ = match refusal.line() {
-        Some(line) => writeln!(faults, "line {line}: refused {number} {refusal}"),
-        None => writeln!(faults, "refused {number} {refusal}"),
+    let _ = match (refusal.line(), refusal.record()) {
+        (Some(line), _) => writeln!(faults, "line {line}: refused {number} {refusal}"),
+        (None, Some(record)) => writeln!(faults, "record {record}: refused {number} {refusal}"),
+        (None, None) => writeln!(faults, "refused {number} {refusal}"),
     };
     REFUSED
 }

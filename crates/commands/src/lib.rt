@@ -20,7 +20,7 @@ mod refusal;
 mod replay;
 mod request;
 
-pub use answering::{DONE, REFUSED, answer, perform, print, refuse};
+pub use answering::{DONE, REFUSED, answer, perform, print, put, refuse};
 pub use decode::Form;
 pub use input::read_text;
 pub use refusal::Refusal;

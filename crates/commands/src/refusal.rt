@@ -1,9 +1,10 @@
 //! Why a command was refused.
 ghost use Rattle.std.specs.Prelude.{◌≡◌};
-ghost use Rattle.commands.specs.Refusals.{refusal_number, refused_line};
-ghost use Rattle.commands.specs.declared.refusal.Refusal.TheVariants.{Descriptor, Forward, Machine, Ring, Script, Stock, Memory};
+ghost use Rattle.commands.specs.Refusals.{refusal_number, refused_line, refused_record};
+ghost use Rattle.commands.specs.declared.refusal.Refusal.TheVariants.{Capture, Descriptor, Forward, Machine, Ring, Script, Stock, Memory};
 
 use buffer_pool::PoolError;
+use capture::CaptureError;
 use descriptor::DescError;
 use forwarding::ForwardError;
 use ring_machine::MachineError;
@@ -45,6 +46,9 @@ pub enum Refusal {
     /// The forwarder refused.
     #[error(transparent)]
     Forward(ForwardError),
+    /// The capture refused.
+    #[error(transparent)]
+    Capture(CaptureError),
     /// Standard input could not be read.
     #[error("input")]
     Input,
@@ -72,6 +76,7 @@ impl Refusal {
             Refusal::Machine(error) => error.number(),
             Refusal::Script(error) => error.number(),
             Refusal::Forward(error) => error.number(),
+            Refusal::Capture(error) => error.number(),
             Refusal::Input => 82,
             Refusal::Memory => 83,
             Refusal::Output => 84,
@@ -85,6 +90,16 @@ impl Refusal {
         match self {
             Refusal::Move { line } => Some(*line),
             Refusal::Script(error) => error.line(),
+            _ => None,
+        }
+    }
+
+    /// The record of the capture that is refused, counted from 1, if one is.
+    pub fn record(&self) -> Option<u64>
+        ensures { result ≡ refused_record self.now }
+    {
+        match self {
+            Refusal::Capture(error) => error.record(),
             _ => None,
         }
     }
@@ -135,6 +150,14 @@ impl From<ForwardError> for Refusal {
 
     fn from(error: ForwardError) -> Refusal {
         Refusal::Forward(error)
+    }
+}
+
+impl From<CaptureError> for Refusal {
+    ghost from_gives = { λ error refusal. refusal ≡ Capture error };
+
+    fn from(error: CaptureError) -> Refusal {
+        Refusal::Capture(error)
     }
 }
 

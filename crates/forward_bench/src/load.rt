@@ -18,6 +18,8 @@ pub struct Load {
     ring: u32,
     batch: u32,
     workers: u32,
+    /// Whether the wires are kept. Else a few frames come again and again, and the wires are thrown away.
+    pub keeps: bool,
 }
 
 impl Load {
@@ -30,8 +32,9 @@ impl Load {
             ring: number_of(words, "--ring")?,
             batch: number_of(words, "--batch")?,
             workers: number_of(words, "--workers")?,
+            keeps: number_of(words, "--keep")? == 1,
         };
-        (words.len() == 12 && load.is_lawful()).then_some(load)
+        (words.len() == 14 && load.is_lawful()).then_some(load)
     }
 
     fn is_lawful(&self) -> bool {
@@ -52,10 +55,13 @@ impl Load {
         }
     }
 
-    /// How many frames the flow of this number has.
-    pub fn frames_of(&self, flow: u32) -> u64 {
-        let more = flow < self.frames % self.flows.max(1);
-        u64::from(self.frames / self.flows.max(1)) + u64::from(more)
+    /// How many frames the flow of this number has: none beyond the load's flows.
+    pub fn frames_of(&self, flow: usize) -> u64 {
+        if self.flows as usize <= flow {
+            return 0;
+        }
+        let more = flow < (self.frames % self.flows) as usize;
+        u64::from(self.frames / self.flows) + u64::from(more)
     }
 
     /// The frames, those of the flows in turn: port 0's flows first.
@@ -69,6 +75,15 @@ impl Load {
             "too many frames for a script"
         );
         Ok(Script::new(frames))
+    }
+
+    /// So many frames of the load's size.
+    pub fn bytes(&self, alloc: Global, count: usize) -> Result<Vec<Vec<u8>>> {
+        let mut frames = Vec::new(alloc);
+        for _ in 0..count {
+            frames.push(Vec::from_elem(alloc, 0xab, self.size as usize)?)?;
+        }
+        Ok(frames)
     }
 
     /// A frame of the flow of this number.

@@ -1,15 +1,21 @@
 //! The program `forward_bench`: what a frame costs that is forwarded.
 //!
-//! A script of frames of one size, shared out to the flows in turn, is forwarded, and the wires are kept. The time is
-//! that of the whole call: pool and rings are made in it, and the workers started and joined.
+//! A script of frames of one size, shared out to the flows in turn, is forwarded, and the wires are kept. Or, without a
+//! script, a few frames come to each flow again and again, and the wires are thrown away. The time is that of the whole
+//! call: pool and rings are made in it, and the workers started and joined.
 #![tactic(auto)]
 
+mod hot;
+mod hot_flow;
+mod lines;
 mod load;
+mod sides;
 
 use anyhow::{Result, ensure};
 use flows::{Ended, FlowReport};
 use forwarder::{Config, Report, forward};
 use forwarding::Open;
+use hot::run_hot;
 use load::Load;
 use std::alloc::Global;
 use std::env;
@@ -21,7 +27,7 @@ use std::time::{Duration, Instant};
 use wire_script::Script;
 
 const USAGE: &str =
-    "Usage: forward_bench --ring N --frames N --size N --batch N --flows N --workers N
+    "Usage: forward_bench --ring N --frames N --size N --batch N --flows N --workers N --keep N
 
 Forwards so many frames, and prints how long that took.
 
@@ -31,9 +37,10 @@ Forwards so many frames, and prints how long that took.
   --batch    the most packets that a driver takes at once, 1 to 32
   --flows    how many flows have frames: 1, 2, 4, 8 or 16
   --workers  threads of each side, 1 to the number of flows; with one flow, to 2
+  --keep     1: a script's frames, and the wires are kept; 0: 256 frames again and again
 
 Example:
-  forward_bench --ring 512 --frames 200000 --size 60 --batch 32 --flows 2 --workers 1";
+  forward_bench --ring 512 --frames 200000 --size 60 --batch 32 --flows 2 --workers 1 --keep 1";
 
 /// Whether all frames of a flow went out.
 fn is_whole(flow: &FlowReport, count: u64) -> bool {
@@ -47,7 +54,7 @@ fn is_whole(flow: &FlowReport, count: u64) -> bool {
 fn all_went(report: &Report, load: &Load) -> bool {
     let mut rest = u64::from(load.frames);
     for (flow, k) in report.flows.iter().zip(0..load.flows) {
-        let count = load.frames_of(k);
+        let count = load.frames_of(k as usize);
         if !is_whole(flow, count) {
             return false;
         }
@@ -56,8 +63,12 @@ fn all_went(report: &Report, load: &Load) -> bool {
     rest == 0
 }
 
-/// Forwards the load, and answers how long that took.
-fn run<R: Threads + Wait + Clock + Sync>(rt: &R, alloc: Global, load: &Load) -> Result<Duration> {
+/// Forwards the load as a script, and answers how long that took.
+fn run_script<R: Threads + Wait + Clock + Sync>(
+    rt: &R,
+    alloc: Global,
+    load: &Load,
+) -> Result<Duration> {
     let script: Script = load.script(alloc)?;
     let config: Config = load.config();
     let start = Instant::now(rt)?;
@@ -73,7 +84,12 @@ fn main(rt: HostRuntime) -> Result<ExitCode> {
         eprintln!(rt; "{USAGE}")?;
         return Ok(ExitCode::from(2));
     };
-    let spent = run(&rt, rt.alloc(), &load)?.as_secs_f64();
+    let spent = if load.keeps {
+        run_script(&rt, rt.alloc(), &load)?
+    } else {
+        run_hot(&rt, rt.alloc(), &load)?
+    };
+    let spent = spent.as_secs_f64();
     let frames = f64::from(load.frames);
     println!(rt; "frames {}", load.frames)?;
     println!(rt; "ns/frame {:.1}", spent * 1e9 / frames)?;

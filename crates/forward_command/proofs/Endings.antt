@@ -9,6 +9,7 @@ use Rattle.forwarder.specs.declared.config.Config.{Config}
 use Rattle.wire_script.specs.Frame.{Frame}
 use Rattle.wire_script.specs.Script.{script_of}
 use Rattle.wire_script.specs.declared.error.ScriptError.{ScriptError}
+use Rattle.forward_command.specs.declared.printing.Printing.{Printing}
 use Rattle.forward_command.specs.Forwards.{EndsForward, HasForwarded, IsForwardable, IsForwarded, PrintsForward, WithholdsForward}
 
 -- a script that can be forwarded has no fault
@@ -21,12 +22,12 @@ no-misfit : (config : Config) (text : List ℕ) (script other : List Frame) → 
 no-misfit config text script other is says not = let same : script ≡ other = (let mine = is.says in cc) in not (subst (λ (s : List Frame). FitsIn s config) same is.fits)
 
 -- refused is not done
-undone : (config : Config) (text : List ℕ) (old new : Option (List ℕ)) → REFUSED ≡ DONE → HasForwarded config text old new
-undone config text old new e = let bad : ⊥ = cc e in absurd bad
+undone : (config : Config) (printing : Printing) (text : List ℕ) (old new : Option (List ℕ)) → REFUSED ≡ DONE → HasForwarded config printing text old new
+undone config printing text old new e = let bad : ⊥ = cc e in absurd bad
 
-done : (config : Config) (text page : List ℕ) (old new : Option (List ℕ)) → IsForwarded config (Some text) page → Appends old new page
-    → EndsForward config text DONE old new
-done config text page old new (read, same, has) printed = subst (λ (t : List ℕ). EndsForward config t DONE old new) same (record {
+done : (config : Config) (printing : Printing) (text page : List ℕ) (old new : Option (List ℕ)) → IsForwarded config printing (Some text) page → Appends old new page
+    → EndsForward config printing text DONE old new
+done config printing text page old new (read, same, has) printed = subst (λ (t : List ℕ). EndsForward config printing t DONE old new) same (record {
   done = λ e. record { flows = has.flows; report = has.report; printed = subst (λ (t : List ℕ). Appends old new t) has.printed printed };
   either = inl refl;
   faulty = λ e bad. absurd (no-fault config read has.report.script e has.report.forwardable bad);
@@ -34,25 +35,25 @@ done config text page old new (read, same, has) printed = subst (λ (t : List �
 })
 
 -- a refusal that prints nothing ends it, whatever the text is
-pub kept : (config : Config) (text : List ℕ) (old new : Option (List ℕ)) → Keeps old new → EndsForward config text REFUSED old new
-kept config text old new keeps = record { done = undone config text old new; either = inr refl; faulty = λ e bad. (refl, keeps); unfit = λ script says not. (refl, keeps) }
+pub kept : (config : Config) (printing : Printing) (text : List ℕ) (old new : Option (List ℕ)) → Keeps old new → EndsForward config printing text REFUSED old new
+kept config printing text old new keeps = record { done = undone config printing text old new; either = inr refl; faulty = λ e bad. (refl, keeps); unfit = λ script says not. (refl, keeps) }
 
 -- what was made and not printed is of a script that could be forwarded
-unprinted : (config : Config) (text page : List ℕ) (old new : Option (List ℕ)) → IsForwarded config (Some text) page → EndsForward config text REFUSED old new
-unprinted config text page old new (read, same, has) = subst (λ (t : List ℕ). EndsForward config t REFUSED old new) same (record {
-  done = undone config read old new;
+unprinted : (config : Config) (printing : Printing) (text page : List ℕ) (old new : Option (List ℕ)) → IsForwarded config printing (Some text) page → EndsForward config printing text REFUSED old new
+unprinted config printing text page old new (read, same, has) = subst (λ (t : List ℕ). EndsForward config printing t REFUSED old new) same (record {
+  done = undone config printing read old new;
   either = inr refl;
   faulty = λ e bad. absurd (no-fault config read has.report.script e has.report.forwardable bad);
   unfit = λ script says not. absurd (no-misfit config read has.report.script script has.report.forwardable says not);
 })
 
-pub done-ends : (config : Config) (input old new : Option (List ℕ)) (text : List ℕ) → PrintsForward config input old new → input ≡ Some text
-    → EndsForward config text DONE old new
-done-ends config input old new text (page, is, printed) known =
-    done config text page old new (subst (λ (i : Option (List ℕ)). IsForwarded config i page) known is) printed
+pub done-ends : (config : Config) (printing : Printing) (input old new : Option (List ℕ)) (text : List ℕ) → PrintsForward config printing input old new → input ≡ Some text
+    → EndsForward config printing text DONE old new
+done-ends config printing input old new text (page, is, printed) known =
+    done config printing text page old new (subst (λ (i : Option (List ℕ)). IsForwarded config printing i page) known is) printed
 
-pub refused-ends : (config : Config) (input : Option (List ℕ)) (e : Refusal) (old new : Option (List ℕ)) (text : List ℕ)
-    → WithholdsForward config input e old new → input ≡ Some text → EndsForward config text REFUSED old new
-refused-ends config input e old new text (inl (why, keeps)) known = kept config text old new keeps
-refused-ends config input e old new text (inr (page, is, out)) known =
-    unprinted config text page old new (subst (λ (i : Option (List ℕ)). IsForwarded config i page) known is)
+pub refused-ends : (config : Config) (printing : Printing) (input : Option (List ℕ)) (e : Refusal) (old new : Option (List ℕ)) (text : List ℕ)
+    → WithholdsForward config printing input e old new → input ≡ Some text → EndsForward config printing text REFUSED old new
+refused-ends config printing input e old new text (inl (why, keeps)) known = kept config printing text old new keeps
+refused-ends config printing input e old new text (inr (page, is, out)) known =
+    unprinted config printing text page old new (subst (λ (i : Option (List ℕ)). IsForwarded config printing i page) known is)

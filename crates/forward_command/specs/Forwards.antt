@@ -16,6 +16,7 @@ use Rattle.wire_script.specs.Script.{script_of}
 use Rattle.wire_script.specs.ScriptError.{Fails}
 use Rattle.wire_script.specs.declared.error.ScriptError.{ScriptError}
 use Rattle.forward_command.specs.Text.{report_text}
+use Rattle.forward_command.specs.declared.printing.Printing.{Printing}
 
 -- the text is a script that can be forwarded so
 pub record IsForwardable (config : Config) (text : List ℕ) (script : List Frame) : Type 0 where
@@ -30,16 +31,16 @@ pub record HasReport (config : Config) (text : List ℕ) (flows : List FlowRepor
   pub reports : (flow : ℕ) (d : FlowReport) → flow < PORTS * config.pairs → IsReport (plan config script flow) (slice_index_or flows flow d)
 
 -- the page is what a report of it prints
-pub record HasPage (config : Config) (text page : List ℕ) : Type 0 where
+pub record HasPage (config : Config) (printing : Printing) (text page : List ℕ) : Type 0 where
   pub flows : List FlowReport
   pub report : HasReport config text flows
-  pub printed : page ≡ report_text config.pairs flows
+  pub printed : page ≡ report_text printing config.pairs flows
 
 -- a report of it was printed
-pub record HasForwarded (config : Config) (text : List ℕ) (old new : Option (List ℕ)) : Type 0 where
+pub record HasForwarded (config : Config) (printing : Printing) (text : List ℕ) (old new : Option (List ℕ)) : Type 0 where
   pub flows : List FlowReport
   pub report : HasReport config text flows
-  pub printed : Appends old new (report_text config.pairs flows)
+  pub printed : Appends old new (report_text printing config.pairs flows)
 
 -- Why a text that was read is refused, the first that applies: its own fault comes before a configuration that doesn't fit,
 -- and that before what the run wants. No gate refuses
@@ -52,8 +53,8 @@ ForwardRefused config text refusal.Memory = (script : List Frame) × IsForwardab
 ForwardRefused config text e = ⊥
 
 -- a text was read, which is the input's where that is known, and the page is what a report of it prints
-abbrev pub IsForwarded : Config → Option (List ℕ) → List ℕ → Type 0
-IsForwarded config input page = (text : List ℕ) × IfSome input (λ known. text ≡ known) × HasPage config text page
+abbrev pub IsForwarded : Config → Printing → Option (List ℕ) → List ℕ → Type 0
+IsForwarded config printing input page = (text : List ℕ) × IfSome input (λ known. text ≡ known) × HasPage config printing text page
 
 -- or nothing was read, or its text was refused
 abbrev pub RefusesForward : Config → Option (List ℕ) → Refusal → Type 0
@@ -61,18 +62,18 @@ RefusesForward config input e =
     (e ≡ refusal.Input) ⊎ ((e ≡ refusal.Memory) ⊎ ((text : List ℕ) × IfSome input (λ known. text ≡ known) × ForwardRefused config text e))
 
 -- its page was printed whole, where the output's bytes are known
-abbrev pub PrintsForward : Config → Option (List ℕ) → Option (List ℕ) → Option (List ℕ) → Type 0
-PrintsForward config input old new = (page : List ℕ) × IsForwarded config input page × Appends old new page
+abbrev pub PrintsForward : Config → Printing → Option (List ℕ) → Option (List ℕ) → Option (List ℕ) → Type 0
+PrintsForward config printing input old new = (page : List ℕ) × IsForwarded config printing input page × Appends old new page
 
 -- it was refused: it has no page, and the output is as it was, or the output failed. Only a failed output has bytes of it
-abbrev pub WithholdsForward : Config → Option (List ℕ) → Refusal → Option (List ℕ) → Option (List ℕ) → Type 0
-WithholdsForward config input e old new =
-    (RefusesForward config input e × Keeps old new) ⊎ ((page : List ℕ) × IsForwarded config input page × (e ≡ refusal.Output))
+abbrev pub WithholdsForward : Config → Printing → Option (List ℕ) → Refusal → Option (List ℕ) → Option (List ℕ) → Type 0
+WithholdsForward config printing input e old new =
+    (RefusesForward config input e × Keeps old new) ⊎ ((page : List ℕ) × IsForwarded config printing input page × (e ≡ refusal.Output))
 
 -- how `forward` of this text ends: it is forwarded and printed, or refused. A faulty text, and a configuration that does
 -- not fit, are always refused, with nothing printed
-pub record EndsForward (config : Config) (text : List ℕ) (status : ℕ) (old new : Option (List ℕ)) : Type 0 where
-  pub done : status ≡ DONE → HasForwarded config text old new
+pub record EndsForward (config : Config) (printing : Printing) (text : List ℕ) (status : ℕ) (old new : Option (List ℕ)) : Type 0 where
+  pub done : status ≡ DONE → HasForwarded config printing text old new
   pub either : (status ≡ DONE) ⊎ (status ≡ REFUSED)
   pub faulty : (e : ScriptError) → script_of text ≡ Err e → (status ≡ REFUSED) × Keeps old new
   pub unfit : (script : List Frame) → script_of text ≡ Ok script → ¬ (FitsIn script config) → (status ≡ REFUSED) × Keeps old new

@@ -1,23 +1,24 @@
--- The text of a report: what went onto the wires, as a script's lines, and then a line a flow.
-use Rattle.std.specs.Prelude.{ℕ, ◌+◌, List, [], ◌∷◌, ◌++◌, codes, decimal, drop, length, map, take}
-use Rattle.flows.specs.declared.report.Ended.{Ended}
-use Rattle.flows.specs.declared.report.Ended.TheVariants.{Cut, Drained}
+-- The text of a report: what went onto the wires, as a script's lines, unless it is quiet, and then a line a flow, or an object.
+use Rattle.std.specs.Prelude.{ℕ, ◌+◌, Bool, true, false, if◌then◌else◌, List, [], ◌∷◌, ◌++◌, codes, decimal, drop, length, map, take}
 use Rattle.flows.specs.declared.report.FlowReport.{FlowReport}
 use Rattle.wire_script.specs.Frame.{Frame, frame_of}
 use Rattle.wire_script.specs.Script.{text_for}
+use Rattle.forward_command.specs.Objects.{ended_word, flow_object}
+use Rattle.forward_command.specs.declared.printing.Printing.{Printing}
 
 -- the frames that went out of a port, by the flows of its queues from this one on
 abbrev pub wires_from : ℕ → ℕ → List FlowReport → List Frame
 wires_from port queue [] = []
 wires_from port queue (r ∷ rs) = map (frame_of port queue) r.wire ++ wires_from port (queue + 1) rs
 
--- the frames that went out of both: what came in at a port goes out at the other, and the first flows came in at port 0
-abbrev pub wires_of : ℕ → List FlowReport → List Frame
-wires_of pairs flows = wires_from 0 0 (drop pairs flows) ++ wires_from 1 0 (take pairs flows)
+-- The frames that went out of both, of the flows that came in at port 0, and of those of port 1: what came in at a port goes
+-- out at the other
+abbrev pub wires_of : List FlowReport → List FlowReport → List Frame
+wires_of front back = wires_from 0 0 back ++ wires_from 1 0 front
 
-abbrev pub ended_word : Ended → List ℕ
-ended_word Drained = codes "drained"
-ended_word Cut = codes "cut"
+-- their lines, unless these are left out
+abbrev pub wires_text : Bool → List FlowReport → List FlowReport → List ℕ
+wires_text quiet front back = if quiet then [] else text_for (wires_of front back)
 
 -- what a flow was offered, which came in at this port and queue, and what became of it at its receive ring
 abbrev pub offered_words : ℕ → ℕ → FlowReport → List ℕ
@@ -38,12 +39,20 @@ ending_words r =
 unfoldable pub flow_line : ℕ → ℕ → FlowReport → List ℕ
 flow_line port queue r = offered_words port queue r ++ (driven_words r ++ ending_words r)
 
--- the lines of the flows that came in at a port, at its queues from this one on
-abbrev pub flow_lines : ℕ → ℕ → List FlowReport → List ℕ
-flow_lines port queue [] = []
-flow_lines port queue (r ∷ rs) = flow_line port queue r ++ flow_lines port (queue + 1) rs
+-- what is said of a flow, in an object or in a line
+abbrev pub flow_text : Bool → ℕ → ℕ → FlowReport → List ℕ
+flow_text true port queue r = flow_object port queue r
+flow_text false port queue r = flow_line port queue r
+
+-- of the flows that came in at a port, at its queues from this one on
+abbrev pub flow_texts : Bool → ℕ → ℕ → List FlowReport → List ℕ
+flow_texts json port queue [] = []
+flow_texts json port queue (r ∷ rs) = flow_text json port queue r ++ flow_texts json port (queue + 1) rs
+
+-- the text of the reports of both ports' flows
+abbrev pub both_text : Printing → List FlowReport → List FlowReport → List ℕ
+both_text printing front back = wires_text printing.quiet front back ++ (flow_texts printing.json 0 0 front ++ flow_texts printing.json 1 0 back)
 
 -- the text of a report of so many queue pairs a port
-abbrev pub report_text : ℕ → List FlowReport → List ℕ
-report_text pairs flows =
-    text_for (wires_of pairs flows) ++ (flow_lines 0 0 (take pairs flows) ++ flow_lines 1 0 (drop pairs flows))
+abbrev pub report_text : Printing → ℕ → List FlowReport → List ℕ
+report_text printing pairs flows = both_text printing (take pairs flows) (drop pairs flows)

@@ -5,6 +5,7 @@ ghost use Rattle.commands.specs.declared.answering.TheConstants.{DONE, REFUSED};
 ghost use Rattle.forward_command.specs.Forwards.{EndsForward, PrintsForward, WithholdsForward};
 
 use crate::page::forward;
+use crate::printing::Printing;
 use commands::{DONE, Refusal, print, refuse};
 use forwarder::Config;
 use std::alloc::Global;
@@ -18,6 +19,7 @@ pub fn answer<R: Threads + Wait + Sync, I: Read, W: Write, E: Write>(
     rt: &R,
     alloc: Global,
     config: &Config,
+    printing: Printing,
     input: &mut I,
     output: &mut W,
     faults: &mut E,
@@ -25,9 +27,9 @@ pub fn answer<R: Threads + Wait + Sync, I: Read, W: Write, E: Write>(
     ensures status { (result ≡ DONE) ⊎ (result ≡ REFUSED) }
     ensures done { result ≡ DONE → Keeps (E.contents faults.old) (E.contents faults.new) }
     ensures ends { (text : List ℕ) → I.remaining input.old ≡ Some text
-        → EndsForward config.now text result (W.contents output.old) (W.contents output.new) }
+        → EndsForward config.now printing text result (W.contents output.old) (W.contents output.new) }
 {
-    match perform(rt, alloc, config, input, output) {
+    match perform(rt, alloc, config, printing, input, output) {
         Ok(()) => DONE,
         Err(refusal) => refuse(faults, refusal),
     }
@@ -38,13 +40,14 @@ pub fn perform<R: Threads + Wait + Sync, I: Read, W: Write>(
     rt: &R,
     alloc: Global,
     config: &Config,
+    printing: Printing,
     input: &mut I,
     output: &mut W,
 ) -> Result<(), Refusal>
-    ensures done { OnOk result (PrintsForward config.now (I.remaining input.old) (W.contents output.old) (W.contents output.new)) }
+    ensures done { OnOk result (PrintsForward config.now printing (I.remaining input.old) (W.contents output.old) (W.contents output.new)) }
     ensures refused { IfErr result (λ e.
-        WithholdsForward config.now (I.remaining input.old) e (W.contents output.old) (W.contents output.new)) }
+        WithholdsForward config.now printing (I.remaining input.old) e (W.contents output.old) (W.contents output.new)) }
 {
-    let text = forward(rt, alloc, config, input)?;
+    let text = forward(rt, alloc, config, printing, input)?;
     print(text.as_str(), output)
 }

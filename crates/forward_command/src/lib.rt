@@ -1,13 +1,16 @@
 //! The command `forward` of the program `poll82599`: a script's frames forwarded between two ports, from text to text.
 //!
 //! [`forward`] makes the text of an input and a configuration: what went onto the wires, as a script's lines, and then a
-//! line of counts a flow. [`perform`] prints it, and [`answer`] does the same for a caller who wants an exit status. It
+//! line of counts a flow, or a JSON object of them ([`Printing`]). [`perform`] prints it, and [`answer`] does the same for a caller who wants an exit status. It
 //! stands beside the crate `commands`, whose refusals it answers, so that those commands need no forwarder.
 #![tactic(auto)]
 
 mod answering;
+mod objects;
 mod page;
+mod printing;
 mod text;
 
 pub use answering::{answer, perform};
 pub use page::forward;
+pub use printing::Printing;

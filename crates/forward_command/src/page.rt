@@ -7,6 +7,7 @@ ghost use Rattle.wire_script.specs.ScriptError.{Fails};
 ghost use Rattle.wire_script.specs.declared.error.ScriptError.{ScriptError};
 ghost use Rattle.forward_command.specs.Forwards.{ForwardRefused, HasPage, HasReport, IsForwarded, RefusesForward};
 
+use crate::printing::Printing;
 use crate::text::text_of;
 use commands::{Refusal, read_text};
 use forwarder::{Config, Report};
@@ -26,13 +27,14 @@ pub fn forward<R: Threads + Wait + Sync, I: Read>(
     rt: &R,
     alloc: Global,
     config: &Config,
+    printing: Printing,
     input: &mut I,
 ) -> Result<String, Refusal>
-    ensures done { IfOk result (λ page. IsForwarded config.now (I.remaining input.old) (string_bytes page)) }
+    ensures done { IfOk result (λ page. IsForwarded config.now printing (I.remaining input.old) (string_bytes page)) }
     ensures refused { IfErr result (λ e. RefusesForward config.now (I.remaining input.old) e) }
 {
     let text = read_text(alloc, input)?;
-    page_for(rt, alloc, config, text)
+    page_for(rt, alloc, config, printing, text)
 }
 
 /// What a script's text prints.
@@ -40,14 +42,15 @@ fn page_for<R: Threads + Wait + Sync>(
     rt: &R,
     alloc: Global,
     config: &Config,
+    printing: Printing,
     text: Vec<u8>,
 ) -> Result<String, Refusal>
-    ensures done { IfOk result (λ page. HasPage config.now text.items (string_bytes page)) }
+    ensures done { IfOk result (λ page. HasPage config.now printing text.items (string_bytes page)) }
     ensures refused { IfErr result (λ e. ForwardRefused config.now text.items e) }
 {
     let report = report_for(rt, alloc, config, text)?;
     let pairs = config.pairs as usize;
-    text_of(alloc, report.flows.as_slice(), pairs)
+    text_of(alloc, report.flows.as_slice(), pairs, printing)
 }
 
 /// What became of the flows of a script's text.

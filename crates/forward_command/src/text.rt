@@ -5,29 +5,21 @@ ghost use Rattle.limits.specs.declared.profile.TheConstants.{MOST_PAIRS, PORTS};
 ghost use Rattle.commands.specs.declared.refusal.Refusal.TheVariants.{Memory};
 ghost use Rattle.wire_script.specs.Frame.{frame_of};
 ghost use Rattle.wire_script.specs.Script.{text_for};
-ghost use Rattle.forward_command.specs.Text.{driven_words, ended_word, ending_words, flow_line, flow_lines, offered_words, report_text, wires_from};
+ghost use Rattle.forward_command.specs.Text.{driven_words, ending_words, flow_line, flow_text, flow_texts, offered_words, report_text, wires_from, wires_text};
 
+use crate::objects::{word_of, write_object};
+use crate::printing::Printing;
 use commands::Refusal;
 use controller::Wire;
-use flows::{Ended, FlowReport};
+use flows::FlowReport;
 use std::alloc::Global;
 use wire_script::print_line;
 
 /// How many bytes a frame's line has beside its digits: port, queue, two spaces and LF.
 const AROUND_FRAME: usize = 5;
 
-/// Room for the line of a flow: its words, and numbers of up to 20 digits.
-const FLOW_LINE: usize = 288;
-
-/// How an end is printed.
-fn word_of(ended: Ended) -> &'static str
-    ensures { result.now ≡ ended_word ended }
-{
-    match ended {
-        Ended::Drained => "drained",
-        Ended::Cut => "cut",
-    }
-}
+/// Room for the line or the object of a flow: its words, and numbers of up to 20 digits.
+const FLOW_LINE: usize = 512;
 
 /// How many bytes the lines of a wire have.
 fn wire_room(wire: &Wire) -> usize {
@@ -42,12 +34,11 @@ fn wire_room(wire: &Wire) -> usize {
 }
 
 /// Room for the text of these flows.
-fn room_for(flows: &[FlowReport]) -> usize {
+fn room_for(flows: &[FlowReport], quiet: bool) -> usize {
     let mut room = 0usize;
     for flow in flows {
-        room = room
-            .saturating_add(wire_room(&flow.wire))
-            .saturating_add(FLOW_LINE);
+        let wire = if quiet { 0 } else { wire_room(&flow.wire) };
+        room = room.saturating_add(wire).saturating_add(FLOW_LINE);
     }
     room
 }
@@ -91,6 +82,26 @@ fn write_wires(
         queue += 1;
     }
     Ok(())
+}
+
+/// Writes the wires of both ports, port 0's first, unless they are left out.
+fn write_both(
+    alloc: Global,
+    text: &mut String,
+    quiet: bool,
+    from_0: &[FlowReport],
+    from_1: &[FlowReport],
+) -> Result<(), Refusal>
+    requires front { length from_0.now ≤ MOST_PAIRS }
+    requires back { length from_1.now ≤ MOST_PAIRS }
+    ensures lines { OnOk result (string_bytes text.new ≡ string_bytes text.old ++ wires_text quiet from_0.now from_1.now) }
+    ensures refused { IfErr result (λ e. e ≡ Memory) }
+{
+    if quiet {
+        return Ok(());
+    }
+    write_wires(alloc, text, 0, from_1)?;
+    write_wires(alloc, text, 1, from_0)
 }
 
 /// Writes the line of a flow, which came in at this port and queue.
@@ -139,35 +150,57 @@ fn write_ending(text: &mut String, flow: &FlowReport) -> Result<(), Refusal>
     Ok(())
 }
 
-/// Writes the lines of the flows that came in at a port.
-fn write_flows(text: &mut String, port: u8, flows: &[FlowReport]) -> Result<(), Refusal>
+/// Writes the object of a flow, or its line.
+fn write_counts(
+    text: &mut String,
+    json: bool,
+    port: u8,
+    queue: u8,
+    flow: &FlowReport,
+) -> Result<(), Refusal>
+    ensures counts { OnOk result (string_bytes text.new ≡ string_bytes text.old ++ flow_text json port queue flow.now) }
+    ensures refused { IfErr result (λ e. e ≡ Memory) }
+{
+    if json {
+        write_object(text, port, queue, flow)
+    } else {
+        write_flow(text, port, queue, flow)
+    }
+}
+
+/// Writes the objects of the flows that came in at a port, or their lines.
+fn write_flows(text: &mut String, json: bool, port: u8, flows: &[FlowReport]) -> Result<(), Refusal>
     requires queues { length flows.now ≤ MOST_PAIRS }
-    ensures lines { OnOk result (string_bytes text.new ≡ string_bytes text.old ++ flow_lines port 0 flows.now) }
+    ensures lines { OnOk result (string_bytes text.new ≡ string_bytes text.old ++ flow_texts json port 0 flows.now) }
     ensures refused { IfErr result (λ e. e ≡ Memory) }
 {
     let mut queue = 0u8;
     for flow in flows {
-        write_flow(text, port, queue, flow)?;
+        write_counts(text, json, port, queue, flow)?;
         queue += 1;
     }
     Ok(())
 }
 
-/// The text of a report of so many queue pairs a port: the wires, port 0's first and queues ascending, and then a line a
-/// flow, those that came in at port 0 first. What came in at a port goes out at the other.
+/// The text of a report of so many queue pairs a port: the wires, port 0's first and queues ascending, unless they are left
+/// out, and then a line or an object a flow, those that came in at port 0 first. What came in at a port goes out at the other.
 ///
 /// Its room is taken once, so that it isn't copied while it grows, and the frames are printed from where they lie.
-pub(crate) fn text_of(alloc: Global, flows: &[FlowReport], pairs: usize) -> Result<String, Refusal>
+pub(crate) fn text_of(
+    alloc: Global,
+    flows: &[FlowReport],
+    pairs: usize,
+    printing: Printing,
+) -> Result<String, Refusal>
     requires pairs { pairs ≤ MOST_PAIRS }
     requires flows { length flows.now ≡ PORTS * pairs }
-    ensures text { IfOk result (λ text. string_bytes text ≡ report_text pairs flows.now) }
+    ensures text { IfOk result (λ text. string_bytes text ≡ report_text printing pairs flows.now) }
     ensures refused { IfErr result (λ e. e ≡ Memory) }
 {
     let (from_0, from_1) = flows.split_at(pairs);
-    let mut text = String::with_capacity(alloc, room_for(flows))?;
-    write_wires(alloc, &mut text, 0, from_1)?;
-    write_wires(alloc, &mut text, 1, from_0)?;
-    write_flows(&mut text, 0, from_0)?;
-    write_flows(&mut text, 1, from_1)?;
+    let mut text = String::with_capacity(alloc, room_for(flows, printing.quiet))?;
+    write_both(alloc, &mut text, printing.quiet, from_0, from_1)?;
+    write_flows(&mut text, printing.json, 0, from_0)?;
+    write_flows(&mut text, printing.json, 1, from_1)?;
     Ok(text)
 }

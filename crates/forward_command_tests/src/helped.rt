@@ -27,6 +27,8 @@ const LINES: &[&str] = &[
     "--turns <N>",
     "[default: 0]",
     "--head",
+    "--quiet",
+    "--json",
     "echo '0 0 fill 14 05' | poll82599 forward\n",
     "prints 1 0 0506050505050505050505050505\n",
 ];

@@ -3,7 +3,7 @@
 use crate::forty::{FORTY_WORDS, forty, forty_forwarded};
 use crate::streams::{Broken, Halting, Narrow, PIECE, Piecemeal, Unflushed};
 use crate::told::status_of;
-use forward_command::perform;
+use forward_command::{Printing, perform};
 use forwarder::Config;
 use std::alloc::Global;
 use std::io::{Read, Write};
@@ -121,7 +121,14 @@ fn each_read_that_fails_is_refused(rt: HostRuntime) -> Result<(), Fail> {
 fn want_of_memory(rt: HostRuntime) -> Result<(), Fail> {
     let mut input = SCRIPT.as_bytes();
     let mut output = Narrow::new(rt.alloc(), 400);
-    match perform(&rt, rt.alloc(), &Config::default(), &mut input, &mut output) {
+    match perform(
+        &rt,
+        rt.alloc(),
+        &Config::default(),
+        Printing::default(),
+        &mut input,
+        &mut output,
+    ) {
         Ok(()) => assert_eq!(rt; output.taken.as_slice(), PRINTED.as_bytes()),
         Err(refusal) => {
             let number = refusal.number();

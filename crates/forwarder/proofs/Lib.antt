@@ -1,4 +1,4 @@
 mod Places
-mod Pairs
-mod Plans
+pub mod Pairs
+pub mod Plans
 mod FlowFrames

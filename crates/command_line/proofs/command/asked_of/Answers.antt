@@ -1,5 +1,6 @@
 use Rattle.std.proofs.Common.{◌∙◌}
 use Rattle.std.proofs.lemmas.Result.{err_from_is_err_and}
+use Rattle.command_line.proofs.CaptureWords.{from_found, from_taken, to_found, to_taken}
 use Rattle.command_line.proofs.CommandLine.{free, misuse_fails, misuse_not_taken, simple}
 use Rattle.command_line.proofs.DecodeWords.{decode_found, decode_taken}
 use Rattle.command_line.proofs.ForwardWords.{forward_found, forward_taken}
@@ -23,9 +24,19 @@ returns-in_err-matches-clause-replay c plan says =
     rw (p.1, p.2) (c.in_err-matches.ensures.passes (replay_taken _ _ plan c.in_ok-program.ensures says))
 
 pub returns-in_err-matches-clause-forward : goal.returns-in_err-matches-clause-forward
-returns-in_err-matches-clause-forward c config says =
+returns-in_err-matches-clause-forward c config printing says =
     let p = err_from_is_err_and c.from_residual-in_err-matches.result c.from_residual-in_err-matches.ensures.1 in
-    rw (p.1, p.2) (c.in_err-matches.ensures.passes (forward_taken _ _ config c.in_ok-program.ensures says))
+    rw (p.1, p.2) (c.in_err-matches.ensures.passes (forward_taken _ _ config printing c.in_ok-program.ensures says))
+
+pub returns-in_err-matches-clause-from_capture : goal.returns-in_err-matches-clause-from_capture
+returns-in_err-matches-clause-from_capture c port queue says =
+    let p = err_from_is_err_and c.from_residual-in_err-matches.result c.from_residual-in_err-matches.ensures.1 in
+    rw (p.1, p.2) (c.in_err-matches.ensures.passes (from_taken _ _ port queue c.in_ok-program.ensures says))
+
+pub returns-in_err-matches-clause-to_capture : goal.returns-in_err-matches-clause-to_capture
+returns-in_err-matches-clause-to_capture c port says =
+    let p = err_from_is_err_and c.from_residual-in_err-matches.result c.from_residual-in_err-matches.ensures.1 in
+    rw (p.1, p.2) (c.in_err-matches.ensures.passes (to_taken _ _ port c.in_ok-program.ensures says))
 
 pub returns-in_err-matches-clause-misuse : goal.returns-in_err-matches-clause-misuse
 returns-in_err-matches-clause-misuse c misuse =
@@ -52,10 +63,22 @@ returns-in-Some-clause-replay c plan says =
     c.in-Some.ensures.replay replay.0 plan found replay.2
 
 pub returns-in-Some-clause-forward : goal.returns-in-Some-clause-forward
-returns-in-Some-clause-forward c config says =
-    let forward = forward_found _ _ config c.in_ok-program.ensures says in
+returns-in-Some-clause-forward c config printing says =
+    let forward = forward_found _ _ config printing c.in_ok-program.ensures says in
     let found = (c.in_ok-matches.ensures.ok.2 (simple _ c.in_ok-program.ensures)).1 ∙ forward.1 in
-    c.in-Some.ensures.forward forward.0 config found forward.2
+    c.in-Some.ensures.forward forward.0 config printing found forward.2 forward.3
+
+pub returns-in-Some-clause-from_capture : goal.returns-in-Some-clause-from_capture
+returns-in-Some-clause-from_capture c port queue says =
+    let from = from_found _ _ port queue c.in_ok-program.ensures says in
+    let found = (c.in_ok-matches.ensures.ok.2 (simple _ c.in_ok-program.ensures)).1 ∙ from.1 in
+    c.in-Some.ensures.from_capture from.0 port queue found from.2
+
+pub returns-in-Some-clause-to_capture : goal.returns-in-Some-clause-to_capture
+returns-in-Some-clause-to_capture c port says =
+    let to = to_found _ _ port c.in_ok-program.ensures says in
+    let found = (c.in_ok-matches.ensures.ok.2 (simple _ c.in_ok-program.ensures)).1 ∙ to.1 in
+    c.in-Some.ensures.to_capture to.0 port found to.2
 
 pub returns-in-Some-clause-misuse : goal.returns-in-Some-clause-misuse
 returns-in-Some-clause-misuse c misuse =
@@ -81,10 +104,22 @@ returns-clause-replay c plan says =
     absurd (c.in-None.ensures.replay replay.0 plan found replay.2)
 
 pub returns-clause-forward : goal.returns-clause-forward
-returns-clause-forward c config says =
-    let forward = forward_found _ _ config c.in_ok-program.ensures says in
+returns-clause-forward c config printing says =
+    let forward = forward_found _ _ config printing c.in_ok-program.ensures says in
     let found = (c.in_ok-matches.ensures.ok.2 (simple _ c.in_ok-program.ensures)).1 ∙ forward.1 in
-    absurd (c.in-None.ensures.forward forward.0 config found forward.2)
+    absurd (c.in-None.ensures.forward forward.0 config printing found forward.2 forward.3)
+
+pub returns-clause-from_capture : goal.returns-clause-from_capture
+returns-clause-from_capture c port queue says =
+    let from = from_found _ _ port queue c.in_ok-program.ensures says in
+    let found = (c.in_ok-matches.ensures.ok.2 (simple _ c.in_ok-program.ensures)).1 ∙ from.1 in
+    absurd (c.in-None.ensures.from_capture from.0 port queue found from.2)
+
+pub returns-clause-to_capture : goal.returns-clause-to_capture
+returns-clause-to_capture c port says =
+    let to = to_found _ _ port c.in_ok-program.ensures says in
+    let found = (c.in_ok-matches.ensures.ok.2 (simple _ c.in_ok-program.ensures)).1 ∙ to.1 in
+    absurd (c.in-None.ensures.to_capture to.0 port found to.2)
 
 pub returns-clause-misuse : goal.returns-clause-misuse
 returns-clause-misuse c misuse =

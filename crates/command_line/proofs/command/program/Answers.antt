@@ -1,20 +1,21 @@
-use Rattle.std.proofs.Common.{rules, ◌≡◌, ◌∙◌, ap, ap₂}
+use Rattle.std.proofs.Common.{◌∙◌, ap, ap₂}
 use Rattle.std.proofs.lemmas.Result.{IfOk-weaker}
-use Rattle.clap.specs.Words.{App, app_of, with_subcommand}
-use Rattle.command_line.specs.CommandLine.{bare_app}
+use Rattle.clap.specs.Words.{App, with_subcommand}
 use Rattle.command_line.proofs.command.program.Goals as goal
 
 pub returns : goal.returns
 returns c =
-    let bare_is : app_of c.subcommand_required.result ≡ bare_app = search rules in
+    let bare_is = c.in_ok-bare.ensures in
     let with_once = c.in_ok-subcommand.ensures.shape c.in_ok-once.ensures.local ∙ ap₂ with_subcommand bare_is (ap (λ (a : App). a.top) c.in_ok-once.ensures.app) in
     let decode = c.in_ok-decode.ensures.app in
     let with_decode = c.in_ok-subcommand-2.ensures.shape c.in_ok-decode.ensures.local ∙ ap₂ with_subcommand with_once (ap (λ (a : App). a.top) decode.app_is) in
     let with_replay = c.in_ok-subcommand-3.ensures.shape c.in_ok-replay.ensures.local ∙ ap₂ with_subcommand with_decode (ap (λ (a : App). a.top) c.in_ok-replay.ensures.app) in
-    IfOk-weaker c.subcommand-4.result _ _ (λ r adds. record {
+    let with_forward = c.in_ok-subcommand-4.ensures.shape c.in_ok-forward.ensures.local ∙ ap₂ with_subcommand with_replay (ap (λ (a : App). a.top) c.in_ok-forward.ensures.app) in
+    let with_from = c.in_ok-subcommand-5.ensures.shape c.in_ok-from_capture.ensures.local ∙ ap₂ with_subcommand with_forward (ap (λ (a : App). a.top) c.in_ok-from_capture.ensures.app) in
+    IfOk-weaker c.subcommand-6.result _ _ (λ r adds. record {
       rings = decode.rings;
       formats = decode.formats;
       rings_are = decode.rings_are;
       formats_are = decode.formats_are;
-      app_is = adds.shape c.in_ok-forward.ensures.local ∙ ap₂ with_subcommand with_replay (ap (λ (a : App). a.top) c.in_ok-forward.ensures.app);
-    }) c.subcommand-4.ensures
+      app_is = adds.shape c.in_ok-to_capture.ensures.local ∙ ap₂ with_subcommand with_from (ap (λ (a : App). a.top) c.in_ok-to_capture.ensures.app);
+    }) c.subcommand-6.ensures

@@ -27,7 +27,8 @@ returns c plan has =
     (text_is found (codes "off") _ has.off) in
     let completion : c.completion_in-completion.result ≡ plan.completion =
     c.completion_in-completion.ensures (is_head plan.completion) has.head ∙ completion_is plan.completion in
-    plan_is plan c.in_ok-ring.ring c.in_ok-pairs.pairs (not c.get_flag-enabled.result) c.completion_in-completion.result
+    let json = reads_flag plan.json c.get_flag-json.result _ c.get_flag-json.ensures.value c.get_flag-json.ensures.other (text_is found (codes "json") _ has.json) in
+    plan_is plan c.in_ok-ring.ring c.in_ok-pairs.pairs (not c.get_flag-enabled.result) c.completion_in-completion.result c.get_flag-json.result
     (ap (λ (o : Option ℕ). unwrap_or o c.in_ok-pairs.pairs) pairs)
     (ap (λ (o : Option ℕ). unwrap_or o c.in_ok-ring.ring) ring)
-    (begins_as plan.enabled c.get_flag-enabled.result off) completion
+    (begins_as plan.enabled c.get_flag-enabled.result off) completion json

@@ -1,9 +1,12 @@
 use Rattle.std.proofs.Common.{ℕ, sym, subst}
+use Rattle.capture_command.specs.Meanings.{capture_meant, lines_meant, meant}
+use Rattle.capture_command.specs.declared.request.CaptureRequest.TheVariants.{FromCapture, ToCapture}
+use Rattle.commands.specs.Answers.{EndsBy}
 use Rattle.commands.specs.Replay.{EndsReplay}
 use Rattle.commands.specs.declared.request.Request.{Request}
 use Rattle.forward_command.specs.Forwards.{EndsForward}
 use Rattle.command_line.specs.CommandLine.{IsDecode, IsOnce, IsReplayOf}
-use Rattle.command_line.proofs.Endings.{as-forward, as-request, decode-ends, forward-ends, forward-kept, no-forward, no-request, once-ends, replay-ends, replay-kept}
+use Rattle.command_line.proofs.Endings.{as-capture, as-forward, as-request, capture-ends, capture-kept, decode-ends, forward-ends, forward-kept, no-capture-of-forward, no-capture-of-request, no-forward, no-forward-of-captures, no-request, no-request-of-captures, once-ends, replay-ends, replay-kept}
 use Rattle.command_line.proofs.running.run.Goals as goal
 
 pub returns-in-Ok-Request-clause-once : goal.returns-in-Ok-Request-clause-once
@@ -25,18 +28,19 @@ returns-in-Ok-Request-clause-replay g c plan text says known =
     replay-ends request plan text _ _ _ _ is known c.answer.ensures.ends
 
 pub returns-in-Ok-Request-clause-forward : goal.returns-in-Ok-Request-clause-forward
-returns-in-Ok-Request-clause-forward g c config text says known =
-    absurd (no-forward c.in-Ok-Request.field-0 c.in-Ok-Request.request config c.in-Ok-Request.field-0-is (c.in-Ok-Request.ensures.forward config says))
+returns-in-Ok-Request-clause-forward g c config printing text says known =
+    absurd (no-forward c.in-Ok-Request.field-0 c.in-Ok-Request.request config printing c.in-Ok-Request.field-0-is (c.in-Ok-Request.ensures.forward config printing says))
 
 pub returns-in-Ok-Forward-clause-replay : goal.returns-in-Ok-Forward-clause-replay
 returns-in-Ok-Forward-clause-replay g c plan text says known =
-    absurd (no-request (λ (r : Request). IsReplayOf r plan) c.in-Ok-Forward.field-0 c.in-Ok-Forward.config c.in-Ok-Forward.field-0-is (c.in-Ok-Forward.ensures.replay plan says))
+    absurd (no-request (λ (r : Request). IsReplayOf r plan) c.in-Ok-Forward.field-0 c.in-Ok-Forward.config c.in-Ok-Forward.printing c.in-Ok-Forward.field-0-is (c.in-Ok-Forward.ensures.replay plan says))
 
 pub returns-in-Ok-Forward-clause-forward : goal.returns-in-Ok-Forward-clause-forward
-returns-in-Ok-Forward-clause-forward g c config text says known =
+returns-in-Ok-Forward-clause-forward g c config printing text says known =
     let given = c.in-Ok-Forward.config in
-    let is = as-forward c.in-Ok-Forward.field-0 given config c.in-Ok-Forward.field-0-is (c.in-Ok-Forward.ensures.forward config says) in
-    forward-ends given config text _ _ _ _ is known c.answer-in-Ok-Forward.ensures.ends
+    let shown = c.in-Ok-Forward.printing in
+    let is = as-forward c.in-Ok-Forward.field-0 given config shown printing c.in-Ok-Forward.field-0-is (c.in-Ok-Forward.ensures.forward config printing says) in
+    forward-ends given config shown printing text _ _ _ _ is known c.answer-in-Ok-Forward.ensures.ends
 
 pub returns-in-Err-clause-replay : goal.returns-in-Err-clause-replay
 returns-in-Err-clause-replay g c plan text says known = let m = c.tell.ensures.memory (c.in-Err.ensures.replay plan says) in
@@ -44,6 +48,52 @@ returns-in-Err-clause-replay g c plan text says known = let m = c.tell.ensures.m
     (replay-kept plan text (g.W.Write.contents c.args.output.now) (g.W.Write.contents c.tell.new.output) m.1)
 
 pub returns-in-Err-clause-forward : goal.returns-in-Err-clause-forward
-returns-in-Err-clause-forward g c config text says known = let m = c.tell.ensures.memory (c.in-Err.ensures.forward config says) in
-    subst (λ (status : ℕ). EndsForward config text status (g.W.Write.contents c.args.output.now) (g.W.Write.contents c.tell.new.output)) (sym m.0)
-    (forward-kept config text (g.W.Write.contents c.args.output.now) (g.W.Write.contents c.tell.new.output) m.1)
+returns-in-Err-clause-forward g c config printing text says known = let m = c.tell.ensures.memory (c.in-Err.ensures.forward config printing says) in
+    subst (λ (status : ℕ). EndsForward config printing text status (g.W.Write.contents c.args.output.now) (g.W.Write.contents c.tell.new.output)) (sym m.0)
+    (forward-kept config printing text (g.W.Write.contents c.args.output.now) (g.W.Write.contents c.tell.new.output) m.1)
+
+pub returns-in-Ok-Request-clause-from_capture : goal.returns-in-Ok-Request-clause-from_capture
+returns-in-Ok-Request-clause-from_capture g c port queue bytes says known =
+    absurd (no-capture-of-request c.in-Ok-Request.field-0 c.in-Ok-Request.request (FromCapture port queue) c.in-Ok-Request.field-0-is (c.in-Ok-Request.ensures.from_capture port queue says))
+
+pub returns-in-Ok-Forward-clause-from_capture : goal.returns-in-Ok-Forward-clause-from_capture
+returns-in-Ok-Forward-clause-from_capture g c port queue bytes says known =
+    absurd (no-capture-of-forward c.in-Ok-Forward.field-0 c.in-Ok-Forward.config c.in-Ok-Forward.printing (FromCapture port queue) c.in-Ok-Forward.field-0-is (c.in-Ok-Forward.ensures.from_capture port queue says))
+
+pub returns-in-Ok-Capture-clause-from_capture : goal.returns-in-Ok-Capture-clause-from_capture
+returns-in-Ok-Capture-clause-from_capture g c port queue bytes says known =
+    let given = c.in-Ok-Capture.request in
+    let is = as-capture c.in-Ok-Capture.field-0 given (FromCapture port queue) c.in-Ok-Capture.field-0-is (c.in-Ok-Capture.ensures.from_capture port queue says) in
+    capture-ends given (FromCapture port queue) bytes _ _ _ _ is known c.answer-in-Ok-Capture.ensures.ends
+
+pub returns-in-Err-clause-from_capture : goal.returns-in-Err-clause-from_capture
+returns-in-Err-clause-from_capture g c port queue bytes says known = let m = c.tell.ensures.memory (c.in-Err.ensures.from_capture port queue says) in
+    subst (λ (status : ℕ). EndsBy (lines_meant port queue bytes) status (g.W.Write.contents c.args.output.now) (g.W.Write.contents c.tell.new.output)) (sym m.0)
+    (capture-kept (lines_meant port queue bytes) (g.W.Write.contents c.args.output.now) (g.W.Write.contents c.tell.new.output) m.1)
+
+pub returns-in-Ok-Request-clause-to_capture : goal.returns-in-Ok-Request-clause-to_capture
+returns-in-Ok-Request-clause-to_capture g c port bytes says known =
+    absurd (no-capture-of-request c.in-Ok-Request.field-0 c.in-Ok-Request.request (ToCapture port) c.in-Ok-Request.field-0-is (c.in-Ok-Request.ensures.to_capture port says))
+
+pub returns-in-Ok-Forward-clause-to_capture : goal.returns-in-Ok-Forward-clause-to_capture
+returns-in-Ok-Forward-clause-to_capture g c port bytes says known =
+    absurd (no-capture-of-forward c.in-Ok-Forward.field-0 c.in-Ok-Forward.config c.in-Ok-Forward.printing (ToCapture port) c.in-Ok-Forward.field-0-is (c.in-Ok-Forward.ensures.to_capture port says))
+
+pub returns-in-Ok-Capture-clause-to_capture : goal.returns-in-Ok-Capture-clause-to_capture
+returns-in-Ok-Capture-clause-to_capture g c port bytes says known =
+    let given = c.in-Ok-Capture.request in
+    let is = as-capture c.in-Ok-Capture.field-0 given (ToCapture port) c.in-Ok-Capture.field-0-is (c.in-Ok-Capture.ensures.to_capture port says) in
+    capture-ends given (ToCapture port) bytes _ _ _ _ is known c.answer-in-Ok-Capture.ensures.ends
+
+pub returns-in-Err-clause-to_capture : goal.returns-in-Err-clause-to_capture
+returns-in-Err-clause-to_capture g c port bytes says known = let m = c.tell.ensures.memory (c.in-Err.ensures.to_capture port says) in
+    subst (λ (status : ℕ). EndsBy (capture_meant port bytes) status (g.W.Write.contents c.args.output.now) (g.W.Write.contents c.tell.new.output)) (sym m.0)
+    (capture-kept (capture_meant port bytes) (g.W.Write.contents c.args.output.now) (g.W.Write.contents c.tell.new.output) m.1)
+
+pub returns-in-Ok-Capture-clause-replay : goal.returns-in-Ok-Capture-clause-replay
+returns-in-Ok-Capture-clause-replay g c plan text says known =
+    absurd (no-request-of-captures (λ (r : Request). IsReplayOf r plan) c.in-Ok-Capture.field-0 c.in-Ok-Capture.request c.in-Ok-Capture.field-0-is (c.in-Ok-Capture.ensures.replay plan says))
+
+pub returns-in-Ok-Capture-clause-forward : goal.returns-in-Ok-Capture-clause-forward
+returns-in-Ok-Capture-clause-forward g c config printing text says known =
+    absurd (no-forward-of-captures c.in-Ok-Capture.field-0 c.in-Ok-Capture.request config printing c.in-Ok-Capture.field-0-is (c.in-Ok-Capture.ensures.forward config printing says))

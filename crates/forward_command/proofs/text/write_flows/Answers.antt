@@ -1,6 +1,6 @@
 use Rattle.std.proofs.Common.{◌++◌, ◌∙◌, ap, arith, rules}
 use Rattle.std.specs.String.{string_bytes}
-use Rattle.forward_command.specs.Text.{flow_line}
+use Rattle.forward_command.specs.Text.{flow_text}
 use Rattle.forward_command.proofs.Lines.{flows-all, flows-more}
 use Rattle.forward_command.proofs.text.write_flows.Goals as goal
 
@@ -11,9 +11,9 @@ loop-flow-preserved c =
     let before = string_bytes c.loop-flow.text in
     record {
       queue = search rules;
-      lines = flows-more c.args.port c.loop-flow.flow-index c.args.flows.now flow before (string_bytes c.write_flow.new.text) _ (omega arith) c.flow-item.is was.lines
-          (c.in_ok-write_flow.ensures.line ∙ ap (λ (q : _). before ++ flow_line c.args.port q flow) was.queue);
+      lines = flows-more c.args.json c.args.port c.loop-flow.flow-index c.args.flows.now flow before (string_bytes c.write_counts.new.text) _ (omega arith) c.flow-item.is was.lines
+          (c.in_ok-write_counts.ensures.counts ∙ ap (λ (q : _). before ++ flow_text c.args.json c.args.port q flow) was.queue);
     }
 
 pub returns-clause-lines : goal.returns-clause-lines
-returns-clause-lines c = flows-all c.args.port c.loop-flow.flow-index c.args.flows.now (string_bytes c.loop-flow.text) _ (omega arith) c.loop-flow.invariant.lines
+returns-clause-lines c = flows-all c.args.json c.args.port c.loop-flow.flow-index c.args.flows.now (string_bytes c.loop-flow.text) _ (omega arith) c.loop-flow.invariant.lines

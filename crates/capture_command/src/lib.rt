@@ -1,0 +1,16 @@
+//! The commands `from-capture` and `to-capture` of the program `poll82599`: from a capture to a script's lines, and from
+//! the lines of a wire to a capture.
+//!
+//! [`perform`] reads the input whole, makes of it what a [`CaptureRequest`] asks for and writes that, bytes that need not
+//! be text; [`answer`] does the same for a caller who wants an exit status. It stands beside the crate `commands`, whose
+//! refusals it answers.
+#![tactic(auto)]
+
+mod answering;
+mod flows;
+mod page;
+mod request;
+
+pub use answering::{answer, perform};
+pub use page::{capture_in, lines_in};
+pub use request::CaptureRequest;

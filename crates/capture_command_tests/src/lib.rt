@@ -1,0 +1,21 @@
+//! Tests of the commands `from-capture` and `to-capture`, on the program's run. They stand above its crates, so that each
+//! of those is proved without them.
+//!
+//! Most are tables of rows, a run with all that it has to come to, which `told` walks. `streams` has inputs and outputs
+//! that fail.
+#![tactic(auto)]
+
+#[cfg(test)]
+mod captured;
+#[cfg(test)]
+mod from_tests;
+#[cfg(test)]
+mod helped;
+#[cfg(test)]
+mod stream_tests;
+#[cfg(test)]
+mod streams;
+#[cfg(test)]
+mod to_tests;
+#[cfg(test)]
+mod told;

@@ -1,0 +1,148 @@
+-- What clap makes of `from-capture` and `to-capture` and their places.
+use Rattle.std.proofs.Common.{◌≡◌, ◌∙◌, ◌+◌, ap, ap₂, sym, refl, arith, ℕ, suc, zero, true, List, [], ◌∷◌, codes, Option, Some, None, option_map, unwrap_or}
+use Rattle.std.specs.Prelude.{◌<◌, ◌^◌, decimal, Result, Ok, Err}
+use Rattle.std.specs.Str.Parse.{ExplainsUnsignedError, HasUnsignedDigitsIfOk, ParsesUnsigned}
+use Rattle.std.proofs.lemmas.Fmt.{decimal_digit, parse-decimal}
+use Rattle.clap.specs.Words.{App, ReadsOne, Row, Text, one_of, subcommand_of, takes}
+use Rattle.clap.proofs.OnLiterals.{clap_on_literals}
+use Rattle.limits.specs.declared.profile.TheConstants.{MOST_PAIRS, PORTS}
+use Rattle.command_line.specs.CaptureWords.{HasFromCapture, HasToCapture, SaysFromCapture, SaysToCapture}
+use Rattle.command_line.specs.CommandLine.{Choices, IsProgram, program_app}
+use Rattle.command_line.proofs.CommandLine.{rows_in}
+
+-- ---- a port, and a queue
+
+each-port : (P : ℕ → Type 0) (n : ℕ) → n < PORTS → P 0 → P 1 → P n
+each-port P zero low p0 p1 = p0
+each-port P (suc zero) low p0 p1 = p1
+each-port P (suc (suc n)) low p0 p1 = absurd (omega (arith, low))
+
+each-queue : (P : ℕ → Type 0) (n : ℕ) → n < MOST_PAIRS → P 0 → P 1 → P 2 → P 3 → P 4 → P 5 → P 6 → P 7 → P n
+each-queue P zero low p0 p1 p2 p3 p4 p5 p6 p7 = p0
+each-queue P (suc zero) low p0 p1 p2 p3 p4 p5 p6 p7 = p1
+each-queue P (suc (suc zero)) low p0 p1 p2 p3 p4 p5 p6 p7 = p2
+each-queue P (suc (suc (suc zero))) low p0 p1 p2 p3 p4 p5 p6 p7 = p3
+each-queue P (suc (suc (suc (suc zero)))) low p0 p1 p2 p3 p4 p5 p6 p7 = p4
+each-queue P (suc (suc (suc (suc (suc zero))))) low p0 p1 p2 p3 p4 p5 p6 p7 = p5
+each-queue P (suc (suc (suc (suc (suc (suc zero)))))) low p0 p1 p2 p3 p4 p5 p6 p7 = p6
+each-queue P (suc (suc (suc (suc (suc (suc (suc zero))))))) low p0 p1 p2 p3 p4 p5 p6 p7 = p7
+each-queue P (suc (suc (suc (suc (suc (suc (suc (suc n)))))))) low p0 p1 p2 p3 p4 p5 p6 p7 = absurd (omega (arith, low))
+
+-- as ports are fewer than queues
+pub port-is-place : (n : ℕ) → n < PORTS → n < MOST_PAIRS
+port-is-place n low = omega (arith, low)
+
+reads_by : {E : Type 0} (G : List ℕ → Result ℕ E → Type 0) (n : ℕ) (r : Option ℕ) → n < MOST_PAIRS
+    → ((u : List ℕ) (x : Result ℕ E) → G u x → ParsesUnsigned 8 10 u x) → ReadsOne G (decimal n) r → r ≡ Some n
+reads_by {E} G n (Some v) low parses reads =
+    let same : ◌≡◌ {A = Result ℕ E} (Ok v) (Ok n) = parse-decimal 8 n (decimal n) (Ok v) (omega (arith, low)) (omega (arith, low)) refl (parses (decimal n) (Ok v) reads) in cc
+reads_by {E} G n None low parses reads =
+    let same : ◌≡◌ {A = Result ℕ E} (Err reads.0) (Ok n) =
+    parse-decimal 8 n (decimal n) (Err reads.0) (omega (arith, low)) (omega (arith, low)) refl (parses (decimal n) (Err reads.0) reads.1) in cc
+
+-- what `get_one` reads of it
+pub reads_place : (n : ℕ) (r : Option ℕ) → n < MOST_PAIRS
+    → ReadsOne (λ bs x. ParsesUnsigned 8 10 bs x × ExplainsUnsignedError 10 bs x × HasUnsignedDigitsIfOk bs x) (decimal n) r → r ≡ Some n
+reads_place n r low reads =
+    reads_by (λ bs x. ParsesUnsigned 8 10 bs x × ExplainsUnsignedError 10 bs x × HasUnsignedDigitsIfOk bs x) n r low (λ u x g. g.0) reads
+
+-- its one digit
+abbrev digit : ℕ → Text
+digit n = (48 + n) ∷ []
+
+-- ---- from a capture
+
+abbrev from_words : ℕ → ℕ → List Text
+from_words port queue = codes "from-capture" ∷ digit port ∷ digit queue ∷ []
+
+from_words_are : (port queue : ℕ) → port < PORTS → queue < MOST_PAIRS → codes "from-capture" ∷ decimal port ∷ decimal queue ∷ [] ≡ from_words port queue
+from_words_are port queue port_is queue_is =
+    ap₂ (λ (p q : Text). codes "from-capture" ∷ p ∷ q ∷ []) (decimal_digit port (omega (arith, port_is))) (decimal_digit queue (omega (arith, queue_is)))
+
+abbrev TakesFrom : Choices → Choices → ℕ → ℕ → Type 0
+TakesFrom rings formats port queue = takes (program_app rings formats) (from_words port queue) ≡ true
+
+takes_from : (rings formats : Choices) (port queue : ℕ) → port < PORTS → queue < MOST_PAIRS → TakesFrom rings formats port queue
+unfolding clap_on_literals
+takes_from rings formats port queue port_is queue_is =
+    each-port (λ p. TakesFrom rings formats p queue) port port_is
+    (each-queue (TakesFrom rings formats 0) queue queue_is refl refl refl refl refl refl refl refl)
+    (each-queue (TakesFrom rings formats 1) queue queue_is refl refl refl refl refl refl refl refl)
+
+abbrev Places : Type 0
+Places = Option Text × Option Text
+
+abbrev places_of : List Row → Places
+places_of rows = (one_of (codes "port") rows, one_of (codes "queue") rows)
+
+abbrev FindsFrom : Choices → Choices → ℕ → ℕ → Type 0
+FindsFrom rings formats port queue =
+    option_map {U = Text × Places} (λ p. (p.0, places_of p.1)) (subcommand_of (program_app rings formats) (from_words port queue))
+    ≡ Some (codes "from-capture", (Some (digit port), Some (digit queue)))
+
+finds_from : (rings formats : Choices) (port queue : ℕ) → port < PORTS → queue < MOST_PAIRS → FindsFrom rings formats port queue
+unfolding clap_on_literals
+finds_from rings formats port queue port_is queue_is =
+    each-port (λ p. FindsFrom rings formats p queue) port port_is
+    (each-queue (FindsFrom rings formats 0) queue queue_is refl refl refl refl refl refl refl refl)
+    (each-queue (FindsFrom rings formats 1) queue queue_is refl refl refl refl refl refl refl refl)
+
+pub from_taken : (app : App) (words : List Text) (port queue : ℕ) → IsProgram app → SaysFromCapture words port queue → takes app words ≡ true
+from_taken app words port queue program says =
+    ap (λ (a : App). takes a words) program.app_is ∙ (ap (takes (program_app program.rings program.formats)) (says.words_are ∙ from_words_are port queue says.port_is says.queue_is)
+    ∙ takes_from program.rings program.formats port queue says.port_is says.queue_is)
+
+pub from_found : (app : App) (words : List Text) (port queue : ℕ) → IsProgram app → SaysFromCapture words port queue
+    → (rows : List Row) × (subcommand_of app words ≡ Some (codes "from-capture", rows)) × HasFromCapture rows port queue
+from_found app words port queue program says =
+    let same = ap (λ (a : App). subcommand_of a words) program.app_is
+    ∙ ap (subcommand_of (program_app program.rings program.formats)) (says.words_are ∙ from_words_are port queue says.port_is says.queue_is) in
+    let found = rows_in places_of (subcommand_of app words) (codes "from-capture") (Some (digit port), Some (digit queue))
+    (ap (option_map {U = Text × Places} (λ p. (p.0, places_of p.1))) same ∙ finds_from program.rings program.formats port queue says.port_is says.queue_is) in (
+      found.0,
+      found.1,
+      record {
+        port_text = ap (λ (v : Places). v.0) found.2 ∙ ap (λ (t : Text). Some t) (sym (decimal_digit port (omega (arith, says.port_is))));
+        queue_text = ap (λ (v : Places). v.1) found.2 ∙ ap (λ (t : Text). Some t) (sym (decimal_digit queue (omega (arith, says.queue_is))));
+        port_is = says.port_is;
+        queue_is = says.queue_is;
+      },
+    )
+
+-- ---- to a capture
+
+abbrev to_words : ℕ → List Text
+to_words port = codes "to-capture" ∷ digit port ∷ []
+
+to_words_are : (port : ℕ) → port < PORTS → codes "to-capture" ∷ decimal port ∷ [] ≡ to_words port
+to_words_are port port_is = ap (λ (p : Text). codes "to-capture" ∷ p ∷ []) (decimal_digit port (omega (arith, port_is)))
+
+abbrev TakesTo : Choices → Choices → ℕ → Type 0
+TakesTo rings formats port = takes (program_app rings formats) (to_words port) ≡ true
+
+takes_to : (rings formats : Choices) (port : ℕ) → port < PORTS → TakesTo rings formats port
+unfolding clap_on_literals
+takes_to rings formats port port_is = each-port (TakesTo rings formats) port port_is refl refl
+
+abbrev FindsTo : Choices → Choices → ℕ → Type 0
+FindsTo rings formats port =
+    option_map {U = Text × Option Text} (λ p. (p.0, one_of (codes "port") p.1)) (subcommand_of (program_app rings formats) (to_words port))
+    ≡ Some (codes "to-capture", Some (digit port))
+
+finds_to : (rings formats : Choices) (port : ℕ) → port < PORTS → FindsTo rings formats port
+unfolding clap_on_literals
+finds_to rings formats port port_is = each-port (FindsTo rings formats) port port_is refl refl
+
+pub to_taken : (app : App) (words : List Text) (port : ℕ) → IsProgram app → SaysToCapture words port → takes app words ≡ true
+to_taken app words port program says =
+    ap (λ (a : App). takes a words) program.app_is ∙ (ap (takes (program_app program.rings program.formats)) (says.words_are ∙ to_words_are port says.port_is)
+    ∙ takes_to program.rings program.formats port says.port_is)
+
+pub to_found : (app : App) (words : List Text) (port : ℕ) → IsProgram app → SaysToCapture words port
+    → (rows : List Row) × (subcommand_of app words ≡ Some (codes "to-capture", rows)) × HasToCapture rows port
+to_found app words port program says =
+    let same = ap (λ (a : App). subcommand_of a words) program.app_is
+    ∙ ap (subcommand_of (program_app program.rings program.formats)) (says.words_are ∙ to_words_are port says.port_is) in
+    let found = rows_in (one_of (codes "port")) (subcommand_of app words) (codes "to-capture") (Some (digit port))
+    (ap (option_map {U = Text × Option Text} (λ p. (p.0, one_of (codes "port") p.1))) same ∙ finds_to program.rings program.formats port says.port_is) in
+    (found.0, found.1, record { port_text = found.2 ∙ ap (λ (t : Text). Some t) (sym (decimal_digit port (omega (arith, says.port_is)))); port_is = says.port_is })

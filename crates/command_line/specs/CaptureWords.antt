@@ -1,0 +1,45 @@
+-- The words of `from-capture` and `to-capture`.
+use Rattle.std.specs.Prelude.{◌≡◌, ℕ, ◌<◌, true, pos, List, [], ◌∷◌, codes, decimal, Some}
+use Rattle.clap.specs.Words.{App, Row, Rule, Text, new_app, new_rule, one_of, with_rule}
+use Rattle.clap.specs.declared.builder.value_parser.ValueParser.TheVariants.{Signed}
+use Rattle.limits.specs.declared.profile.TheConstants.{MOST_PAIRS, PORTS}
+
+-- an argument that is a number up to this one
+abbrev pub place_rule : Text → ℕ → Rule
+place_rule id most = record (new_rule id) { value_names = 1; required = true; parser = Some (Signed (pos 0) (pos most)) }
+
+abbrev pub port_rule : Rule
+port_rule = place_rule (codes "port") 1
+
+abbrev pub queue_rule : Rule
+queue_rule = place_rule (codes "queue") 7
+
+-- the command `from-capture`
+abbrev pub from_capture_app : App
+from_capture_app = with_rule (with_rule (new_app (codes "from-capture")) port_rule) queue_rule
+
+-- the command `to-capture`
+abbrev pub to_capture_app : App
+to_capture_app = with_rule (new_app (codes "to-capture")) port_rule
+
+-- the words are `from-capture`, a port and a queue
+pub record SaysFromCapture (words : List Text) (port queue : ℕ) : Type 0 where
+  pub words_are : words ≡ codes "from-capture" ∷ decimal port ∷ decimal queue ∷ []
+  pub port_is : port < PORTS
+  pub queue_is : queue < MOST_PAIRS
+
+-- the words are `to-capture` and a port
+pub record SaysToCapture (words : List Text) (port : ℕ) : Type 0 where
+  pub words_are : words ≡ codes "to-capture" ∷ decimal port ∷ []
+  pub port_is : port < PORTS
+
+-- the values of the arguments
+pub record HasFromCapture (rows : List Row) (port queue : ℕ) : Type 0 where
+  pub port_text : one_of (codes "port") rows ≡ Some (decimal port)
+  pub queue_text : one_of (codes "queue") rows ≡ Some (decimal queue)
+  pub port_is : port < PORTS
+  pub queue_is : queue < MOST_PAIRS
+
+pub record HasToCapture (rows : List Row) (port : ℕ) : Type 0 where
+  pub port_text : one_of (codes "port") rows ≡ Some (decimal port)
+  pub port_is : port < PORTS

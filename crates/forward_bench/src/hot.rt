@@ -1,0 +1,80 @@
+//! The hot forward: a few frames come to each flow again and again, and the wires are thrown away.
+ghost use Rattle.forwarder.specs.Configs.{IsLawful};
+
+use crate::hot_flow::HotFlow;
+use crate::lines::make_lines;
+use crate::load::Load;
+use crate::sides::make_sides;
+use anyhow::{Result, ensure};
+use flows::{DriverFlow, Served, serve_flows};
+use forwarder::Config;
+use forwarding::Open;
+use limits::PORTS;
+use pool::Pool;
+use std::alloc::Global;
+use std::rt::Clock;
+use std::sync::Wait;
+use std::thread::Threads;
+use std::time::{Duration, Instant};
+
+/// How many frames a flow goes over again and again.
+const FRAMES: usize = 256;
+
+/// Whether all frames of a flow were stored, taken, posted and sent.
+fn all_went(driver: &DriverFlow<'_>, controller: &HotFlow<'_>, count: u64) -> bool {
+    let (tally, sent) = controller.counts();
+    let counts = driver.counts();
+    [tally.stored, counts.taken, counts.posted, sent] == [count; 4]
+}
+
+/// Whether all frames of the load went out, each on its flow.
+fn is_whole(served: &Served<DriverFlow<'_>, HotFlow<'_>>, load: &Load) -> bool {
+    let sides = served.drivers.iter().zip(served.controllers.iter());
+    let mut rest = u64::from(load.frames);
+    for ((driver, controller), number) in sides.zip(0..usize::MAX) {
+        let count = load.frames_of(number);
+        if !all_went(driver, controller, count) {
+            return false;
+        }
+        rest = rest.saturating_sub(count);
+    }
+    rest == 0 && served.refusal.is_none()
+}
+
+/// Makes a pool, and rings and both sides of each flow, and has workers serve them as they serve the forwarder's. It tells
+/// whether all frames went out.
+fn forward_hot<R: Threads + Wait + Sync>(
+    rt: &R,
+    alloc: Global,
+    load: &Load,
+    config: &Config,
+    frames: &[Vec<u8>],
+) -> Result<bool>
+    requires { IsLawful config.now }
+{
+    let flows = PORTS * config.pairs as usize;
+    let workers = config.workers as usize;
+    let (pool, mut pass) = Pool::new(rt, alloc, config.buffers)?;
+    let (lines, ends) = make_lines(alloc, config.ring, flows)?;
+    let sides = make_sides(
+        rt, alloc, load, config, frames, &lines, ends, &pool, &mut pass,
+    )?;
+    let served = serve_flows(rt, alloc, &Open, sides.drivers, sides.controllers, workers);
+    Ok(is_whole(&served, load))
+}
+
+/// Forwards the load by hot flows, and answers how long that took.
+pub(crate) fn run_hot<R: Threads + Wait + Clock + Sync>(
+    rt: &R,
+    alloc: Global,
+    load: &Load,
+) -> Result<Duration> {
+    let config = load.config();
+    ensure!(config.is_lawful(), "the configuration is not lawful");
+    let frames = load.bytes(alloc, FRAMES)?;
+    let start = Instant::now(rt)?;
+    let whole = forward_hot(rt, alloc, load, &config, &frames)?;
+    let spent = start.elapsed(rt)?;
+    ensure!(whole, "not all frames went out");
+    Ok(spent)
+}

@@ -1,0 +1,170 @@
+//! Flows whose frames come again and again, and whose wires are thrown away.
+ghost use Rattle.std.specs.Prelude.{◌≡◌, ◌&&◌, IfErr};
+ghost use Rattle.flows.specs.Sides.{has_ended};
+ghost use Rattle.forwarding.specs.declared.error.ForwardError.TheVariants.{Memory};
+ghost use Rattle.shared_ring.specs.Calls.{IsFreshController};
+
+use controller::{Offer, RxController, Tally, Turn, TxController, Wire};
+use flows::Service;
+use forwarding::{Flow, ForwardError, Gate, Progress};
+use rx_ring::{RxControllerEnd, RxRing};
+use std::alloc::Global;
+use std::sync::Wait;
+use tx_ring::{TxControllerEnd, TxRing};
+
+/// After how many frames a new wire is begun: before the memory of the old one has to grow, with frames of 1,500 bytes.
+const KEPT: usize = 4;
+
+/// To how many bytes buffers are filled.
+const FILL: usize = 2_048;
+
+/// The controller's side of a flow: it offers a few frames again and again, and keeps no wire for long.
+#[derive(Drop)]
+pub(crate) struct HotFlow<'a> {
+    from: &'a RxRing,
+    to: &'a TxRing,
+    rx: RxController,
+    tx: TxController,
+    receiving: Service,
+    sending: Service,
+    frames: &'a [Vec<u8>],
+    /// The place of the frame that is offered next.
+    next: usize,
+    /// How many frames are still to be decided on.
+    left: u64,
+    alloc: Global,
+    wire: Wire,
+    /// How many frames went out.
+    sent: u64,
+    ghost stores: { rx.end.table ≡ from.now },
+    ghost sends: { tx.table ≡ to.now },
+}
+
+impl<'a> HotFlow<'a> {
+    /// A flow to which `count` frames come, these again and again. The ends have done nothing yet.
+    pub(crate) fn new(
+        alloc: Global,
+        rings: (&'a RxRing, &'a TxRing),
+        ends: (RxControllerEnd, TxControllerEnd),
+        frames: &'a [Vec<u8>],
+        count: u64,
+    ) -> HotFlow<'a>
+        requires from { ends.0.table ≡ rings.0.now }
+        requires to { ends.1.table ≡ rings.1.now }
+        requires fresh { IsFreshController ends.0 × IsFreshController ends.1 }
+    {
+        HotFlow {
+            from: rings.0,
+            to: rings.1,
+            rx: RxController::new(ends.0, FILL, false),
+            tx: TxController::new(ends.1),
+            receiving: Service::Waiting,
+            sending: Service::Waiting,
+            frames,
+            next: 0,
+            left: count,
+            alloc,
+            wire: Wire::new(alloc),
+            sent: 0,
+        }
+    }
+
+    /// What became of the frames that were offered, and how many went out.
+    pub(crate) fn counts(&self) -> (Tally, u64) {
+        (self.rx.tally(), self.sent)
+    }
+
+    /// Answers what is asked of either queue, and tells whether anything was.
+    fn shake(&mut self) -> bool {
+        let was = (self.receiving, self.sending);
+        if self.receiving != Service::Ended {
+            self.rx.turn_control(self.from);
+            self.receiving = self.receiving.after(self.rx.is_serving());
+        }
+        if self.sending != Service::Ended {
+            self.tx.turn_control(self.to);
+            self.sending = self.sending.after(self.tx.is_serving());
+        }
+        was != (self.receiving, self.sending)
+    }
+
+    /// Offers the next frame, and tells whether that decided on it. Once all are decided it says that no more comes.
+    fn offer(&mut self) -> bool {
+        if self.receiving != Service::Serving {
+            return false;
+        }
+        if self.left == 0 {
+            return self.rx.finish(self.from);
+        }
+        let Some(frame) = self.frames.get(self.next) else {
+            return false;
+        };
+        if matches!(
+            self.rx.offer(self.from, frame),
+            Ok(Offer::Off | Offer::Held)
+        ) {
+            return false;
+        }
+        self.left -= 1;
+        self.next += 1;
+        if self.next == self.frames.len() {
+            self.next = 0;
+        }
+        true
+    }
+
+    /// Sends the next frame, and tells whether there was one. The wire is thrown away once it has many.
+    fn send(&mut self) -> Result<bool, ForwardError>
+        ensures { IfErr result (λ e. e ≡ Memory) }
+    {
+        if self.sending != Service::Serving {
+            return Ok(false);
+        }
+        let Ok(turn) = self.tx.turn(self.to, &mut self.wire) else {
+            return Err(ForwardError::Memory);
+        };
+        if self.wire.len() == KEPT {
+            self.wire = Wire::new(self.alloc);
+        }
+        let sent = turn == Turn::Sent;
+        self.sent = self.sent.saturating_add(u64::from(sent));
+        Ok(sent)
+    }
+
+    /// Whether both disablings were answered.
+    fn has_served(&self) -> bool
+        ensures { result ≡ (has_ended self.now.receiving && has_ended self.now.sending) }
+    {
+        self.receiving == Service::Ended && self.sending == Service::Ended
+    }
+}
+
+impl<'a> Flow for HotFlow<'a> {
+    ghost use Rattle.std.specs.Prelude.{ℕ, [], ◌&&◌};
+    ghost use Rattle.flows.specs.Sides.{has_ended};
+
+    ghost Key = { ℕ };
+
+    ghost key = { λ _. 0 };
+
+    ghost over = { λ f. has_ended f.receiving && has_ended f.sending };
+
+    ghost numbers = { λ _. [] };
+
+    fn turn<R: Wait, G: Gate>(&mut self, _rt: &R, _gate: &G) -> Result<Progress, ForwardError> {
+        let asked = self.shake();
+        let offered = self.offer();
+        let sent = self.send()?;
+        Ok(if self.has_served() {
+            Progress::Over
+        } else if asked || offered || sent {
+            Progress::Worked
+        } else {
+            Progress::Idle
+        })
+    }
+
+    fn is_over(&self) -> bool {
+        self.has_served()
+    }
+}

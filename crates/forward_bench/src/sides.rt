@@ -1,0 +1,127 @@
+//! Both sides of hot flows: the driver's is the forwarder's, the controller's is of this program.
+ghost use Rattle.std.specs.Prelude.{◌≡◌, ℕ, ◌<◌, [], length, vec_len, slice_index_or};
+ghost use Rattle.pool.specs.Owned.{IsOf};
+ghost use Rattle.forwarder.specs.Configs.{IsLawful};
+ghost use Rattle.forward_bench.specs.Lines.{AreEnds};
+
+use crate::hot_flow::HotFlow;
+use crate::lines::{Line, LineEnds};
+use crate::load::Load;
+use anyhow::Result;
+use flows::{DriverFlow, Task};
+use forwarder::Config;
+use pool::{Pool, PoolPass};
+use std::alloc::Global;
+use std::sync::Wait;
+
+/// The share of the pool that each flow's pass has.
+const SHARE: u32 = 1;
+
+/// How many buffers a flow may hold beyond a full receive ring.
+const STASHED: u32 = 255;
+
+/// The frames that come to a flow: these again and again, so many in all.
+#[derive(Clone, Copy)]
+struct Feed<'a> {
+    frames: &'a [Vec<u8>],
+    count: u64,
+}
+
+/// Both sides of one flow.
+#[derive(Drop)]
+struct Side<'a> {
+    driver: DriverFlow<'a>,
+    controller: HotFlow<'a>,
+}
+
+/// Both sides of all flows, in the order of the flows.
+#[derive(Drop)]
+pub(crate) struct Sides<'a> {
+    pub drivers: Vec<DriverFlow<'a>>,
+    pub controllers: Vec<HotFlow<'a>>,
+}
+
+/// Makes both sides of a flow. As many of its share of the buffers as fit are posted to its receive ring.
+fn make_side<'a, R: Wait>(
+    rt: &R,
+    alloc: Global,
+    config: &Config,
+    number: usize,
+    feed: Feed<'a>,
+    line: &'a Line,
+    ends: LineEnds,
+    pool: &'a Pool,
+    pass: PoolPass,
+) -> Side<'a>
+    requires lawful { IsLawful config.now }
+    requires ends { AreEnds config.now.ring line.now ends }
+    requires pool { IsOf pool.now pass }
+    requires share { pass.hand.share ≡ 1 }
+    requires none { pass.hand.held ≡ [] }
+{
+    let share = config.buffers / (2 * config.pairs);
+    let most = share.min(config.ring + STASHED) as usize;
+    let task = Task {
+        number,
+        from: &line.from,
+        to: &line.to,
+        pool,
+        share: SHARE as u64,
+        retry: config.retry,
+        turns: config.turns,
+    };
+    let driver = DriverFlow::start(
+        rt,
+        task,
+        (ends.takes, ends.posts),
+        pass,
+        most,
+        config.batch as usize,
+        config.rs_every as u16,
+    );
+    let controller = HotFlow::new(
+        alloc,
+        (&line.from, &line.to),
+        (ends.stores, ends.sends),
+        feed.frames,
+        feed.count,
+    );
+    Side { driver, controller }
+}
+
+/// Makes both sides of each flow. A pass is split off for each driver.
+pub(crate) fn make_sides<'a, R: Wait>(
+    rt: &R,
+    alloc: Global,
+    load: &Load,
+    config: &Config,
+    frames: &'a [Vec<u8>],
+    lines: &'a [Line],
+    ends: Vec<LineEnds>,
+    pool: &'a Pool,
+    pass: &mut PoolPass,
+) -> Result<Sides<'a>>
+    requires lawful { IsLawful config.now }
+    requires flows { vec_len ends ≡ length lines.now }
+    requires ends { (k : ℕ) (d : _) (e : _) → k < length lines.now → AreEnds config.now.ring (slice_index_or lines.now k d) (slice_index_or ends.items k e) }
+    requires pool { IsOf pool.now pass.old }
+    requires share { length lines.now < pass.old.hand.share }
+{
+    let mut drivers = Vec::with_capacity(alloc, lines.len())?;
+    let mut controllers = Vec::with_capacity(alloc, lines.len())?;
+    let mut number = 0;
+    for own in ends {
+        let count = load.frames_of(number);
+        let feed = Feed { frames, count };
+        let share = pass.split(pool, SHARE);
+        let line = &lines[number];
+        let side = make_side(rt, alloc, config, number, feed, line, own, pool, share);
+        drivers.push_reserved(side.driver);
+        controllers.push_reserved(side.controller);
+        number += 1;
+    }
+    Ok(Sides {
+        drivers,
+        controllers,
+    })
+}

@@ -1,0 +1,25 @@
+-- What is printed of a note in a JSON object: a member for each number of its text, behind a comma. Where nothing was found,
+-- there is no buffer, or no report.
+use Rattle.std.specs.Prelude.{ℕ, List, ◌++◌, codes, decimal, Some, None}
+use Rattle.ring_model.specs.declared.notes.Note.{Note}
+use Rattle.ring_model.specs.declared.notes.Note.TheVariants as note
+use Rattle.ring_model.specs.shared.Agreement.{bit}
+
+abbrev pub note_members : Note → List ℕ
+note_members (note.Place p) = codes ",\"place\":" ++ decimal p
+note_members (note.Tail t) = codes ",\"tail\":" ++ decimal t
+note_members (note.Free n) = codes ",\"free\":" ++ decimal n
+note_members (note.Ready n) = codes ",\"ready\":" ++ decimal n
+note_members (note.Fetched p b) = codes ",\"place\":" ++ decimal p ++ codes ",\"buffer\":" ++ decimal b
+note_members (note.Sending p s) =
+    codes ",\"place\":" ++ decimal p ++ codes ",\"buffer\":" ++ decimal s.buffer ++ codes ",\"length\":" ++ decimal s.len
+    ++ codes ",\"eop\":" ++ decimal (bit s.eop) ++ codes ",\"rs\":" ++ decimal (bit s.rs)
+note_members (note.Taken None) = codes ",\"buffer\":null"
+note_members (note.Taken (Some s)) =
+    codes ",\"buffer\":" ++ decimal s.buffer ++ codes ",\"length\":" ++ decimal s.len ++ codes ",\"eop\":" ++ decimal (bit s.eop)
+note_members (note.Reported None) = codes ",\"reported\":null"
+note_members (note.Reported (Some p)) = codes ",\"reported\":" ++ decimal p
+note_members (note.Head h) = codes ",\"head\":" ++ decimal h
+note_members (note.Buffer b) = codes ",\"buffer\":" ++ decimal b
+note_members (note.Control v) = codes ",\"control\":" ++ decimal v
+note_members (note.Quiet v) = codes ",\"quiet\":" ++ decimal v

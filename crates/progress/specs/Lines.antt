@@ -1,0 +1,21 @@
+-- What is shown of a run.
+use Rattle.std.specs.Prelude.{ℕ, List, [], ◌∷◌, ◌++◌, codes, decimal}
+use Rattle.progress.specs.declared.line.Form.{Form}
+use Rattle.progress.specs.declared.line.Form.TheVariants.{Lines, Rewritten, Objects}
+use Rattle.progress.specs.declared.line.Shown.{Shown}
+
+-- the numbers, each behind its word
+abbrev pub words_of : Shown → List ℕ
+words_of s = codes "offered " ++ decimal s.offered ++ codes " of " ++ decimal s.frames ++ codes " taken " ++ decimal s.taken
+    ++ codes " posted " ++ decimal s.posted ++ codes " per-second " ++ decimal s.per_second
+
+-- as members of a JSON object
+abbrev pub members_of : Shown → List ℕ
+members_of s = codes "\"offered\":" ++ decimal s.offered ++ codes ",\"frames\":" ++ decimal s.frames ++ codes ",\"taken\":" ++ decimal s.taken
+    ++ codes ",\"posted\":" ++ decimal s.posted ++ codes ",\"per_second\":" ++ decimal s.per_second
+
+-- a line of a terminal is begun anew, and what stood there is cleared: CR, ESC and `[K`
+abbrev pub line_text : Form → Shown → List ℕ
+line_text Lines s = words_of s
+line_text Rewritten s = (13 ∷ 27 ∷ codes "[K") ++ words_of s
+line_text Objects s = codes "{" ++ members_of s ++ codes "}"

@@ -1,0 +1,116 @@
+//! A forwarding that is shown.
+ghost use Rattle.std.specs.Prelude.{◌≡◌, ◌⊎◌, ℕ, ◌*◌, ◌<◌, ◌↔◌, IfErr, IfOk, IsErrOf, None, length, slice_index_or, vec_len};
+ghost use Rattle.counters.specs.Paired.{ArePaired};
+ghost use Rattle.flows.specs.Reports.{IsReport};
+ghost use Rattle.forwarder.specs.Configs.{FitsIn};
+ghost use Rattle.forwarder.specs.Plans.{plan};
+ghost use Rattle.forwarding.specs.declared.error.ForwardError.TheVariants.{Config as ConfigRefused};
+ghost use Rattle.limits.specs.declared.profile.TheConstants.{PORTS};
+ghost use Rattle.teams.specs.Refusals.{Halted};
+
+use crate::line::Form;
+use crate::reading::{Reader, readers_of};
+use crate::showing::watch;
+use counters::{FlowCells, FlowPens};
+use forwarder::{Config, Report, forward_watched};
+use forwarding::{ForwardError, Gate};
+use limits::PORTS;
+use std::alloc::Global;
+use std::io::Write;
+use std::marker::Send;
+use std::sync::Wait;
+use std::sync::atomic::{AtomicBool, Ordering};
+use std::thread;
+use std::thread::Threads;
+use std::time::Clock;
+use wire_script::Script;
+
+/// Forwards a script, and shows how far it is where a form is given.
+pub fn forward<R: Threads + Wait + Clock + Sync, G: Gate + Sync, M: Write + Send>(
+    rt: &R,
+    alloc: Global,
+    script: &Script,
+    config: &Config,
+    gate: &G,
+    screen: &mut M,
+    form: Option<Form>,
+) -> Result<Report, ForwardError>
+    ensures screen { form ≡ None → screen.new ≡ screen.old }
+    ensures config { IsErrOf result ConfigRefused ↔ ¬ FitsIn script.now config.now }
+    ensures fits { IsErrOf result ConfigRefused ⊎ FitsIn script.now config.now }
+    ensures halted { FitsIn script.now config.now → IfErr result (λ e. Halted G.answers gate.now e) }
+    ensures flows { IfOk result (λ r. vec_len r.flows ≡ PORTS * config.now.pairs) }
+    ensures reports { IfOk result (λ r. (flow : ℕ) (d : _) → flow < PORTS * config.now.pairs → IsReport (plan config.now script.now flow) (slice_index_or r.flows.items flow d)) }
+{
+    match form {
+        Some(form) => forward_shown(rt, alloc, script, config, gate, screen, form),
+        None => forwarder::forward(rt, alloc, script, config, gate),
+    }
+}
+
+/// The same as [`forwarder::forward`], while a thread of its own writes to the screen how far it is. That thread is joined
+/// before anything is answered. Where it can't be started, the numbers are shown once, at last.
+pub fn forward_shown<R: Threads + Wait + Clock + Sync, G: Gate + Sync, M: Write + Send>(
+    rt: &R,
+    alloc: Global,
+    script: &Script,
+    config: &Config,
+    gate: &G,
+    screen: &mut M,
+    form: Form,
+) -> Result<Report, ForwardError>
+    ensures config { IsErrOf result ConfigRefused ↔ ¬ FitsIn script.now config.now }
+    ensures fits { IsErrOf result ConfigRefused ⊎ FitsIn script.now config.now }
+    ensures halted { FitsIn script.now config.now → IfErr result (λ e. Halted G.answers gate.now e) }
+    ensures flows { IfOk result (λ r. vec_len r.flows ≡ PORTS * config.now.pairs) }
+    ensures reports { IfOk result (λ r. (flow : ℕ) (d : _) → flow < PORTS * config.now.pairs → IsReport (plan config.now script.now flow) (slice_index_or r.flows.items flow d)) }
+{
+    config.check(script)?;
+    let flows = PORTS * config.pairs as usize;
+    let Ok((cells, mut pens)) = FlowCells::of(alloc, flows) else {
+        return Err(ForwardError::Memory);
+    };
+    let readers = readers_of(alloc, cells.as_slice(), pens.as_mut_slice())?;
+    forward_beside(
+        rt, alloc, script, config, gate, &cells, pens, readers, screen, form,
+    )
+}
+
+/// Forwards a script that fits, beside the thread that shows how far it is.
+fn forward_beside<R: Threads + Wait + Clock + Sync, G: Gate + Sync, M: Write + Send>(
+    rt: &R,
+    alloc: Global,
+    script: &Script,
+    config: &Config,
+    gate: &G,
+    cells: &[FlowCells],
+    pens: Vec<FlowPens>,
+    mut readers: Vec<Reader<'_>>,
+    screen: &mut M,
+    form: Form,
+) -> Result<Report, ForwardError>
+    requires fits { FitsIn script.now config.now }
+    requires cells { length cells.now ≡ PORTS * config.now.pairs }
+    requires pens { ArePaired cells.now pens.items }
+    ensures config { ¬ (IsErrOf result ConfigRefused) }
+    ensures halted { IfErr result (λ e. Halted G.answers gate.now e) }
+    ensures flows { IfOk result (λ r. vec_len r.flows ≡ PORTS * config.now.pairs) }
+    ensures reports { IfOk result (λ r. (flow : ℕ) (d : _) → flow < PORTS * config.now.pairs → IsReport (plan config.now script.now flow) (slice_index_or r.flows.items flow d)) }
+{
+    let over = AtomicBool::new(false);
+    let over = &over;
+    let frames = script.frames().len() as u64;
+    let (_, ran) = thread::join(
+        rt,
+        move || watch(rt, readers.as_mut_slice(), frames, screen, form, over),
+        move || -> Result<(Report, Vec<FlowPens>), ForwardError>
+            requires { (length cells.now ≡ PORTS * config.now.pairs) × ArePaired cells.now pens.items }
+        {
+            let ran = forward_watched(rt, alloc, script, config, gate, cells, pens);
+            over.store(true, Ordering::SeqCst);
+            ran
+        },
+    );
+    let (report, _) = ran?;
+    Ok(report)
+}

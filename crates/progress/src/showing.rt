@@ -1,0 +1,95 @@
+//! The thread that shows how far a run is.
+
+use crate::line::{Form, Line, Shown};
+use crate::reading::{Reader, Seen, read_all};
+use std::io::Write;
+use std::sync::Wait;
+use std::sync::atomic::{AtomicBool, Ordering};
+use std::thread;
+use std::time::{Clock, Duration, Instant};
+
+/// How often it looks whether the run is over, before it shows numbers again.
+const LOOKS: u32 = 100;
+
+/// How many milliseconds lie between two looks.
+const NAP: u64 = 10;
+
+/// What was shown last, and when.
+#[derive(Drop)]
+struct Last {
+    posted: u64,
+    at: Option<Instant>,
+}
+
+/// Sleeps for a second, or until the run is over. It answers whether it is.
+fn rest<C: Clock>(clock: &C, over: &AtomicBool) -> bool {
+    for _ in 0..LOOKS {
+        if over.load(Ordering::SeqCst) {
+            return true;
+        }
+        thread::sleep(clock, Duration::from_millis(NAP));
+    }
+    over.load(Ordering::SeqCst)
+}
+
+/// How many milliseconds lie between two readings of the clock; at least 1. Where it can't be read, a second is taken.
+fn millis_between(earlier: Option<Instant>, later: Option<Instant>) -> u64 {
+    let (Some(earlier), Some(later)) = (earlier, later) else {
+        return 1000;
+    };
+    let passed = later.duration_since(earlier).as_millis();
+    u64::try_from(passed).unwrap_or(u64::MAX).max(1)
+}
+
+impl Last {
+    /// What is to be shown of these numbers, which are the last from then on.
+    fn shown<C: Clock>(&mut self, clock: &C, seen: Seen, frames: u64) -> Shown {
+        let now = Instant::now(clock).ok();
+        let more = seen.posted.saturating_sub(self.posted).saturating_mul(1000);
+        let millis = millis_between(self.at, now);
+        self.posted = seen.posted;
+        self.at = now;
+        Shown {
+            offered: seen.offered,
+            frames,
+            taken: seen.taken,
+            posted: seen.posted,
+            per_second: more.checked_div(millis).unwrap_or(0),
+        }
+    }
+}
+
+/// Writes a line, and its end where it isn't written anew. A screen that fails changes nothing.
+fn write_line<M: Write>(to: &mut M, line: Line) {
+    let _ = match line.form {
+        Form::Rewritten => write!(to, "{line}"),
+        Form::Lines | Form::Objects => writeln!(to, "{line}"),
+    };
+}
+
+/// Shows the numbers once a second, and once more when the run is over.
+pub(crate) fn watch<R: Wait + Clock, M: Write>(
+    rt: &R,
+    readers: &mut [Reader<'_>],
+    frames: u64,
+    screen: &mut M,
+    form: Form,
+    over: &AtomicBool,
+) {
+    let mut last = Last {
+        posted: 0,
+        at: Instant::now(rt).ok(),
+    };
+    for _ in rt.forever() {
+        let ended = rest(rt, over);
+        let seen = read_all(rt, readers);
+        let shown = last.shown(rt, seen, frames);
+        write_line(screen, Line { form, shown });
+        if ended {
+            break;
+        }
+    }
+    if form == Form::Rewritten {
+        let _ = screen.write_all(b"\n");
+    }
+}
