@@ -38,6 +38,10 @@ pub const FIVES: &[u8] = b"\x05\x06\x05\x05\x05\x05\x05\x05\x05\x05\x05\x05\x05\
 
 pub const THIRTEEN: &[u8] = b"abcdefghijklm";
 
+/// The capture of [`FIVES`] alone.
+pub const CAPTURE: &[u8] =
+    b"\xd4\xc3\xb2\xa1\x02\x00\x04\x00\0\0\0\0\0\0\0\0\xff\xff\0\0\x01\0\0\0\0\0\0\0\0\0\0\0\x0e\0\0\0\x0e\0\0\0\x05\x06\x05\x05\x05\x05\x05\x05\x05\x05\x05\x05\x05\x05";
+
 pub const NONE: &[u8] = b"";
 
 /// The digits of the first two.

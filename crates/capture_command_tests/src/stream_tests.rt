@@ -1,6 +1,6 @@
 //! Streams that fail, and want of memory.
 
-use crate::captured::{AT_0, FIVES, HEADER, joined};
+use crate::captured::{CAPTURE, HEADER};
 use crate::streams::{Broken, Narrow, Unflushed};
 use crate::told::status_of;
 use capture_command::{CaptureRequest, perform};
@@ -34,13 +34,12 @@ fn is_refused<R: Abort + Threads + Wait + Sync, I: Read, W: Write>(
 
 #[test]
 fn an_output_that_fails_has_a_beginning(rt: HostRuntime) -> Result<(), Fail> {
-    let capture = joined(rt.alloc(), &[HEADER, AT_0, FIVES])?;
     let line = "refused 84 output\n";
-    for room in [0, 1, 23, 24, 25, 40, capture.len() - 1] {
+    for room in [0, 1, 23, 24, 25, 40, CAPTURE.len() - 1] {
         let mut output = Narrow::new(rt.alloc(), room);
         let mut input = SCRIPT.as_bytes();
         is_refused(&rt, rt.alloc(), WORDS, &mut input, &mut output, line)?;
-        assert_eq!(rt; output.taken.as_slice(), &capture[..room]);
+        assert_eq!(rt; output.taken.as_slice(), &CAPTURE[..room]);
     }
     let mut input = SCRIPT.as_bytes();
     is_refused(&rt, rt.alloc(), WORDS, &mut input, &mut Unflushed, line)
