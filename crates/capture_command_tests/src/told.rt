@@ -31,7 +31,15 @@ pub fn status_of<R: Threads + Wait + Clock + Sync, I: Read, W: Write, E: Write>(
     for word in words {
         given.push(String::from_str(alloc, word)?)?;
     }
-    Ok(run(rt, alloc, given.as_slice(), input, output, faults, &mut Dark))
+    Ok(run(
+        rt,
+        alloc,
+        given.as_slice(),
+        input,
+        output,
+        faults,
+        &mut Dark,
+    ))
 }
 
 /// What a run on these words and this input comes to.
