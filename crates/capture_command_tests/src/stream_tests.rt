@@ -10,13 +10,14 @@ use std::process::Abort;
 use std::sync::Wait;
 use std::test::Fail;
 use std::thread::Threads;
+use std::time::Clock;
 
 const WORDS: &[&str] = &["to-capture", "1"];
 
 const SCRIPT: &str = "1 0 0506050505050505050505050505\n";
 
 /// A run with these streams is refused so.
-fn is_refused<R: Abort + Threads + Wait + Sync, I: Read, W: Write>(
+fn is_refused<R: Abort + Threads + Wait + Clock + Sync, I: Read, W: Write>(
     rt: &R,
     alloc: Global,
     words: &[&str],

@@ -1,5 +1,6 @@
 //! Runs of the program on words and an input of bytes, and what each of them has to come to.
 
+use crate::streams::Dark;
 use command_line::run;
 use std::alloc::{AllocError, Global};
 use std::io::{Read, Write};
@@ -7,6 +8,7 @@ use std::process::Abort;
 use std::sync::Wait;
 use std::test::Fail;
 use std::thread::Threads;
+use std::time::Clock;
 
 /// What a run came to: its status, and what it wrote to the output and to the faults.
 #[derive(Drop)]
@@ -17,7 +19,7 @@ pub struct Told {
 }
 
 /// The status of a run on these words and streams.
-pub fn status_of<R: Threads + Wait + Sync, I: Read, W: Write, E: Write>(
+pub fn status_of<R: Threads + Wait + Clock + Sync, I: Read, W: Write, E: Write>(
     rt: &R,
     alloc: Global,
     words: &[&str],
@@ -29,11 +31,19 @@ pub fn status_of<R: Threads + Wait + Sync, I: Read, W: Write, E: Write>(
     for word in words {
         given.push(String::from_str(alloc, word)?)?;
     }
-    Ok(run(rt, alloc, given.as_slice(), input, output, faults))
+    Ok(run(
+        rt,
+        alloc,
+        given.as_slice(),
+        input,
+        output,
+        faults,
+        &mut Dark,
+    ))
 }
 
 /// What a run on these words and this input comes to.
-pub fn outcome_of<R: Threads + Wait + Sync>(
+pub fn outcome_of<R: Threads + Wait + Clock + Sync>(
     rt: &R,
     alloc: Global,
     words: &[&str],
@@ -49,7 +59,7 @@ pub fn outcome_of<R: Threads + Wait + Sync>(
 }
 
 /// A run on these words and this input writes these bytes, and no faults.
-pub fn writes<R: Abort + Threads + Wait + Sync>(
+pub fn writes<R: Abort + Threads + Wait + Clock + Sync>(
     rt: &R,
     alloc: Global,
     words: &[&str],
@@ -64,7 +74,7 @@ pub fn writes<R: Abort + Threads + Wait + Sync>(
 }
 
 /// A run on these words and this input is refused with this line, and writes nothing else.
-pub fn is_refused<R: Abort + Threads + Wait + Sync>(
+pub fn is_refused<R: Abort + Threads + Wait + Clock + Sync>(
     rt: &R,
     alloc: Global,
     words: &[&str],

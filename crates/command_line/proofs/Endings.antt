@@ -1,5 +1,5 @@
 -- From what the words ask for to how the run ends.
-use Rattle.std.proofs.Common.{◌≡◌, inr, refl, ℕ, List, Option, Some, subst}
+use Rattle.std.proofs.Common.{◌≡◌, ◌∙◌, ap, inr, refl, false, ℕ, List, Option, Some, subst}
 use Rattle.std.specs.Prelude.{Result}
 use Rattle.std.specs.Io.KnownBytes.{Keeps}
 use Rattle.commands.specs.declared.answering.TheConstants.{DONE, REFUSED}
@@ -18,7 +18,10 @@ use Rattle.forward_command.proofs.Endings.{kept}
 use Rattle.forward_command.specs.Forwards.{EndsForward}
 use Rattle.forwarder.specs.declared.config.Config.{Config}
 use Rattle.forward_command.specs.declared.printing.Printing.{Printing}
-use Rattle.command_line.specs.CommandLine.{IsCapture, IsDecode, IsForward, IsOnce, IsReplayOf, IsRequest}
+use Rattle.capture_command.specs.declared.request.CaptureRequest.TheVariants.{FromCapture, ToCapture}
+use Rattle.command_line.specs.CaptureWords.{SaysFromCapture, SaysToCapture}
+use Rattle.command_line.specs.CommandLine.{IsCapture, IsDecode, IsForward, IsMisuse, IsOnce, IsReplayOf, IsRequest, IsUnshown, SaysDecode, SaysForward, SaysOnce, SaysReplay}
+use Rattle.command_line.specs.CommandLine.IsUnshown.{is_misuse, asks_once, asks_decode, asks_replay, asks_forward, asks_from_capture, asks_to_capture}
 use Rattle.command_line.specs.declared.command.Asked.{Asked}
 use Rattle.command_line.specs.declared.command.Asked.TheVariants as asked
 
@@ -93,3 +96,26 @@ forward-ends given config shown printing text input status old new is known ends
 
 pub forward-kept : (config : Config) (printing : Printing) (text : List ℕ) (old new : Option (List ℕ)) → Keeps old new → EndsForward config printing text REFUSED old new
 forward-kept config printing text old new keeps = kept config printing text old new keeps
+
+-- words of which nothing is shown ask for no forwarding, or for one that isn't shown
+pub unshown-forward : (words : List (List ℕ)) (a : Asked) (given : Config) (shown : Printing) → a ≡ asked.Forward given shown
+    → ((digits : List ℕ) → SaysOnce words digits → IsRequest (λ r. IsOnce r digits) a)
+    → ((form : Form) (digits : List ℕ) → SaysDecode words form digits → IsRequest (λ r. IsDecode r form digits) a)
+    → ((plan : QueuePlan) → SaysReplay words plan → IsRequest (λ r. IsReplayOf r plan) a)
+    → ((config : Config) (printing : Printing) → SaysForward words config printing → IsForward a config printing)
+    → ((port queue : ℕ) → SaysFromCapture words port queue → IsCapture a (FromCapture port queue))
+    → ((port : ℕ) → SaysToCapture words port → IsCapture a (ToCapture port))
+    → (IsMisuse words → ⊥) → IsUnshown words → shown.progress ≡ false
+unshown-forward words a given shown is once decode replay forward from to misuse (is_misuse wrong) = absurd (misuse wrong)
+unshown-forward words a given shown is once decode replay forward from to misuse (asks_once digits says) =
+    absurd (no-request (λ (r : Request). IsOnce r digits) a given shown is (once digits says))
+unshown-forward words a given shown is once decode replay forward from to misuse (asks_decode form digits says) =
+    absurd (no-request (λ (r : Request). IsDecode r form digits) a given shown is (decode form digits says))
+unshown-forward words a given shown is once decode replay forward from to misuse (asks_replay plan says) =
+    absurd (no-request (λ (r : Request). IsReplayOf r plan) a given shown is (replay plan says))
+unshown-forward words a given shown is once decode replay forward from to misuse (asks_forward config printing says dark) =
+    ap (λ (p : Printing). p.progress) (as-forward a given config shown printing is (forward config printing says)).1 ∙ dark
+unshown-forward words a given shown is once decode replay forward from to misuse (asks_from_capture port queue says) =
+    absurd (no-capture-of-forward a given shown (FromCapture port queue) is (from port queue says))
+unshown-forward words a given shown is once decode replay forward from to misuse (asks_to_capture port says) =
+    absurd (no-capture-of-forward a given shown (ToCapture port) is (to port says))

@@ -42,6 +42,7 @@ pub data Flag : Type 0 where
   head : Flag
   quiet : Flag
   json : Flag
+  progress : Flag
 
 abbrev pub number_id : Number → Text
 number_id pairs = codes "pairs"
@@ -79,6 +80,7 @@ flag_id no_retry = codes "no-retry"
 flag_id head = codes "head"
 flag_id quiet = codes "quiet"
 flag_id json = codes "json"
+flag_id progress = codes "progress"
 
 abbrev flag_option : Flag → Text
 flag_option drop_en = codes "--drop"
@@ -86,6 +88,7 @@ flag_option no_retry = codes "--no-retry"
 flag_option head = codes "--head"
 flag_option quiet = codes "--quiet"
 flag_option json = codes "--json"
+flag_option progress = codes "--progress"
 
 abbrev flag_at : Flag → Rule
 flag_at drop_en = slice_index_or rules 8 (new_rule [])
@@ -93,6 +96,7 @@ flag_at no_retry = slice_index_or rules 9 (new_rule [])
 flag_at head = slice_index_or rules 10 (new_rule [])
 flag_at quiet = slice_index_or rules 11 (new_rule [])
 flag_at json = slice_index_or rules 12 (new_rule [])
+flag_at progress = slice_index_or rules 13 (new_rule [])
 
 -- ---- the words of one option
 
@@ -213,6 +217,7 @@ flag_walked no_retry true h rest = refl
 flag_walked head true h rest = refl
 flag_walked quiet true h rest = refl
 flag_walked json true h rest = refl
+flag_walked progress true h rest = refl
 
 flag_turn : (which : Flag) (h : Held) → turn_passes shape [] (walk_from h) (flag_option which) ≡ (react_passes rules false (flag_at which) [] h && true)
 unfolding clap_on_literals
@@ -221,6 +226,7 @@ flag_turn no_retry h = refl
 flag_turn head h = refl
 flag_turn quiet h = refl
 flag_turn json h = refl
+flag_turn progress h = refl
 
 flag_step : (which : Flag) (h : Held) → walked rules [] (walk_from h) (flag_option which) ≡ walk_from (after_flag which true h)
 unfolding clap_on_literals
@@ -229,6 +235,7 @@ flag_step no_retry h = refl
 flag_step head h = refl
 flag_step quiet h = refl
 flag_step json h = refl
+flag_step progress h = refl
 
 -- the option may be used here
 abbrev reacts : Flag → Bool → Held → Bool
@@ -322,6 +329,7 @@ flag_rows no_retry h = refl
 flag_rows head h = refl
 flag_rows quiet h = refl
 flag_rows json h = refl
+flag_rows progress h = refl
 
 flag_settles : (which : Flag) (h : Held) → settles (after_flag which true h) ≡ true
 flag_settles drop_en h = refl
@@ -329,6 +337,7 @@ flag_settles no_retry h = refl
 flag_settles head h = refl
 flag_settles quiet h = refl
 flag_settles json h = refl
+flag_settles progress h = refl
 
 flag_reacts : (which : Flag) (h : Held) → reacts which true h ≡ (settles h && ((not (has_row (flag_id which) (settled rules h).rows) || false) && true))
 flag_reacts drop_en h = refl
@@ -336,6 +345,7 @@ flag_reacts no_retry h = refl
 flag_reacts head h = refl
 flag_reacts quiet h = refl
 flag_reacts json h = refl
+flag_reacts progress h = refl
 
 pub flag_stands : (which : Flag) (said : Bool) (h : Held) (us : List OptionUse) → Stands h us → mentions (flag_id which) us ≡ false
     → Stands (after_flag which said h) (us ++ flag_use which said ∷ [])
@@ -410,6 +420,7 @@ flag_default no_retry rows absent = ap (option_and_then row_text) (default-found
 flag_default head rows absent = ap (option_and_then row_text) (default-found (take 10 rules) (flag_at head) (drop 11 rules) rows (codes "false") [] absent refl refl refl)
 flag_default quiet rows absent = ap (option_and_then row_text) (default-found (take 11 rules) (flag_at quiet) (drop 12 rules) rows (codes "false") [] absent refl refl refl)
 flag_default json rows absent = ap (option_and_then row_text) (default-found (take 12 rules) (flag_at json) (drop 13 rules) rows (codes "false") [] absent refl refl refl)
+flag_default progress rows absent = ap (option_and_then row_text) (default-found (take 13 rules) (flag_at progress) (drop 14 rules) rows (codes "false") [] absent refl refl refl)
 
 flag_row : (which : Flag) → row_text (row (flag_id which) (reading_by (flag_at which)) CommandLine (codes "true" ∷ [])) ≡ Some (codes "true")
 flag_row drop_en = refl
@@ -417,6 +428,7 @@ flag_row no_retry = refl
 flag_row head = refl
 flag_row quiet = refl
 flag_row json = refl
+flag_row progress = refl
 
 -- an id is itself
 number_same : (which : Number) → bytes_eq (number_id which) (number_id which) ≡ true
@@ -435,6 +447,7 @@ flag_same no_retry = refl
 flag_same head = refl
 flag_same quiet = refl
 flag_same json = refl
+flag_same progress = refl
 
 -- the value of an option, whatever options stand before it and behind it
 pub number_value : (which : Number) (before after : List OptionUse) (said : Option Text) → mentions (number_id which) before ≡ false

@@ -17,7 +17,7 @@ use Rattle.command_line.proofs.CommandLine.{IsNumber, is_number, numeral_of, str
 use Rattle.command_line.proofs.OptionRows.{OptionUse, rows_in}
 use Rattle.command_line.proofs.ForwardOptions.{Number, Stands, after_flag, after_number, default_of, default_word, flag_id, flag_in, flag_passes, flag_stands, flag_use, flag_used, flag_value, flag_walked, number_id, number_option, number_passes, number_said, number_stands, number_use, number_value, number_walked, number_words, rules, settles, shape}
 use Rattle.command_line.proofs.ForwardOptions.Number.{pairs, ring, buffers, bsize, batch, rs_every, workers, turns}
-use Rattle.command_line.proofs.ForwardOptions.Flag.{drop_en, no_retry, head, quiet, json}
+use Rattle.command_line.proofs.ForwardOptions.Flag.{drop_en, no_retry, head, quiet, json, progress}
 
 -- ---- the words of all of them
 
@@ -36,6 +36,7 @@ record Said : Type 0 where
   head : Bool
   quiet : Bool
   json : Bool
+  progress : Bool
 
 record AreNumbers (s : Said) : Type 0 where
   pairs : IfSome s.pairs IsNumber
@@ -48,8 +49,11 @@ record AreNumbers (s : Said) : Type 0 where
   turns : IfSome s.turns IsNumber
 
 -- the words from each of them on
+abbrev words_progress : Said → List Text
+words_progress s = flag_in progress s.progress
+
 abbrev words_json : Said → List Text
-words_json s = flag_in json s.json
+words_json s = flag_in json s.json ++ words_progress s
 
 abbrev words_quiet : Said → List Text
 words_quiet s = flag_in quiet s.quiet ++ words_json s
@@ -166,6 +170,12 @@ held_json s = after_flag json s.json (held_quiet s)
 abbrev uses_json : Said → List OptionUse
 uses_json s = uses_quiet s ++ flag_use json s.json ∷ []
 
+abbrev held_progress : Said → Held
+held_progress s = after_flag progress s.progress (held_json s)
+
+abbrev uses_progress : Said → List OptionUse
+uses_progress s = uses_json s ++ flag_use progress s.progress ∷ []
+
 stands_pairs : (s : Said) → AreNumbers s → Stands (held_pairs s) (uses_pairs s)
 stands_pairs s are = number_stands pairs s.pairs nothing_held [] are.pairs (record { rows = refl; settles = refl }) refl
 
@@ -205,11 +215,14 @@ stands_quiet s are = flag_stands quiet s.quiet (held_head s) (uses_head s) (stan
 stands_json : (s : Said) → AreNumbers s → Stands (held_json s) (uses_json s)
 stands_json s are = flag_stands json s.json (held_quiet s) (uses_quiet s) (stands_quiet s are) refl
 
-no_more : (e : Bool) → flag_in json e ≡ flag_in json e ++ []
+stands_progress : (s : Said) → AreNumbers s → Stands (held_progress s) (uses_progress s)
+stands_progress s are = flag_stands progress s.progress (held_json s) (uses_json s) (stands_json s are) refl
+
+no_more : (e : Bool) → flag_in progress e ≡ flag_in progress e ++ []
 no_more false = refl
 no_more true = refl
 
-options_walked : (s : Said) → AreNumbers s → walk rules [] nothing_held (words_pairs s) ≡ walk_from (held_json s)
+options_walked : (s : Said) → AreNumbers s → walk rules [] nothing_held (words_pairs s) ≡ walk_from (held_progress s)
 options_walked s are =
     number_walked pairs s.pairs nothing_held (words_ring s) are.pairs
     ∙ (number_walked ring s.ring (held_pairs s) (words_buffers s) are.ring
@@ -223,8 +236,9 @@ options_walked s are =
     ∙ (flag_walked no_retry s.no_retry (held_drop_en s) (words_head s)
     ∙ (flag_walked head s.head (held_no_retry s) (words_quiet s)
     ∙ (flag_walked quiet s.quiet (held_head s) (words_json s)
-    ∙ (ap (fold (walked rules []) (walk_from (held_quiet s))) (no_more s.json)
-    ∙ (flag_walked json s.json (held_quiet s) [])))))))))))))
+    ∙ (flag_walked json s.json (held_quiet s) (words_progress s)
+    ∙ (ap (fold (walked rules []) (walk_from (held_json s))) (no_more s.progress)
+    ∙ (flag_walked progress s.progress (held_json s) []))))))))))))))
 
 nothing_left : (h : Held) → walk_passes shape [] (walk_from h) [] ≡ true
 unfolding clap_on_literals
@@ -244,9 +258,10 @@ options_pass s are =
     ∙ (flag_passes no_retry s.no_retry (held_drop_en s) (words_head s) (flag_used no_retry s.no_retry (held_drop_en s) (uses_drop_en s) (stands_drop_en s are) refl)
     ∙ (flag_passes head s.head (held_no_retry s) (words_quiet s) (flag_used head s.head (held_no_retry s) (uses_no_retry s) (stands_no_retry s are) refl)
     ∙ (flag_passes quiet s.quiet (held_head s) (words_json s) (flag_used quiet s.quiet (held_head s) (uses_head s) (stands_head s are) refl)
-    ∙ (ap (walk_passes shape [] (walk_from (held_quiet s))) (no_more s.json)
-    ∙ (flag_passes json s.json (held_quiet s) [] (flag_used json s.json (held_quiet s) (uses_quiet s) (stands_quiet s are) refl)
-    ∙ (nothing_left (held_json s)))))))))))))))
+    ∙ (flag_passes json s.json (held_quiet s) (words_progress s) (flag_used json s.json (held_quiet s) (uses_quiet s) (stands_quiet s are) refl)
+    ∙ (ap (walk_passes shape [] (walk_from (held_json s))) (no_more s.progress)
+    ∙ (flag_passes progress s.progress (held_json s) [] (flag_used progress s.progress (held_json s) (uses_json s) (stands_json s are) refl)
+    ∙ (nothing_left (held_progress s))))))))))))))))
 
 valid : (h : Held) → (list_all default_passes rules && is_valid shape (finished rules h) false) ≡ true
 valid h = refl
@@ -254,20 +269,23 @@ valid h = refl
 level : (s : Said) → AreNumbers s → level_passes shape [] nothing_held (words_pairs s) false ≡ true
 level s are =
     ap₂ (λ b (w : Walk). b && (settles w.held && (list_all default_passes rules && is_valid shape (finished rules w.held) false))) (options_pass s are) (options_walked s are)
-    ∙ ap₂ (λ a b. a && b) (stands_json s are).settles (valid (held_json s))
+    ∙ ap₂ (λ a b. a && b) (stands_progress s are).settles (valid (held_progress s))
 
 -- ---- the rows at last
 
 -- the rows at last
 abbrev at_last : Said → List Row
-at_last s = fold with_default (rows_in (uses_json s)) rules
+at_last s = fold with_default (rows_in (uses_progress s)) rules
 
-rows_at_last : (s : Said) → AreNumbers s → finished rules (held_json s) ≡ at_last s
-rows_at_last s are = ap (λ (l : List Row). fold with_default l rules) (stands_json s are).rows
+rows_at_last : (s : Said) → AreNumbers s → finished rules (held_progress s) ≡ at_last s
+rows_at_last s are = ap (λ (l : List Row). fold with_default l rules) (stands_progress s are).rows
 
 -- the uses behind each of them
+abbrev behind_json : Said → List OptionUse
+behind_json s = flag_use progress s.progress ∷ []
+
 abbrev behind_quiet : Said → List OptionUse
-behind_quiet s = flag_use json s.json ∷ []
+behind_quiet s = flag_use json s.json ∷ behind_json s
 
 abbrev behind_head : Said → List OptionUse
 behind_head s = flag_use quiet s.quiet ∷ behind_quiet s
@@ -445,6 +463,7 @@ said_by words config printing says are = record {
   head = is_head config.completion;
   quiet = printing.quiet;
   json = printing.json;
+  progress = printing.progress;
 }
 
 numbers_by : (words : List Text) (config : Config) (printing : Printing) (says : SaysForward words config printing) (are : Saying words config printing says) → AreNumbers (said_by words config printing says are)
@@ -489,7 +508,7 @@ forward_found app words config printing program says =
     let s = said_by words config printing says are in
     let numbers = numbers_by words config printing says are in
     let last = rows_at_last s numbers in (
-      finished rules (held_json s),
+      finished rules (held_progress s),
       ap (λ (a : App). subcommand_of a words) program.app_is
           ∙ (ap (subcommand_of (program_app program.rings program.formats)) (words_of words config printing says are)
           ∙ (found_forward program.rings program.formats (words_pairs s)
@@ -511,7 +530,8 @@ forward_found app words config printing program says =
       },
       record {
         quiet = ap (one_of (flag_id quiet)) last ∙ flag_value quiet (uses_head s) (behind_quiet s) printing.quiet refl refl;
-        json = ap (one_of (flag_id json)) last ∙ flag_value json (uses_quiet s) [] printing.json refl refl;
+        json = ap (one_of (flag_id json)) last ∙ flag_value json (uses_quiet s) (behind_json s) printing.json refl refl;
+        progress = ap (one_of (flag_id progress)) last ∙ flag_value progress (uses_json s) [] printing.progress refl refl;
       },
     )
 

@@ -18,7 +18,7 @@ use Rattle.forwarder.specs.declared.config.Config.{Config}
 use Rattle.forward_command.specs.declared.printing.Printing.{Printing}
 use Rattle.capture_command.specs.Requests.{IsPlaced}
 use Rattle.capture_command.specs.declared.request.CaptureRequest.{CaptureRequest}
-use Rattle.command_line.specs.CaptureWords.{from_capture_app, to_capture_app}
+use Rattle.command_line.specs.CaptureWords.{SaysFromCapture, SaysToCapture, from_capture_app, to_capture_app}
 use Rattle.command_line.specs.declared.command.Asked.{Asked}
 use Rattle.command_line.specs.declared.command.Asked.TheVariants as asked
 
@@ -81,7 +81,8 @@ with_work_rules app =
 
 -- and for what it prints
 abbrev pub with_printing_rules : App → App
-with_printing_rules app = with_rule (with_rule app (flag_rule (codes "quiet"))) (flag_rule (codes "json"))
+with_printing_rules app =
+    with_rule (with_rule (with_rule app (flag_rule (codes "quiet"))) (flag_rule (codes "json"))) (flag_rule (codes "progress"))
 
 -- the command `forward`
 abbrev pub forward_app : App
@@ -148,8 +149,8 @@ pub record SaysReplay (words : List Text) (plan : QueuePlan) : Type 0 where
       ++ (flag_words (codes "--head") (is_head plan.completion) ++ flag_words (codes "--json") plan.json))))
 
 -- the words are `forward` and its options in this order: `--drop` stands where frames are dropped, `--no-retry` where
--- packets are, `--head` where the transmit queues report by a head word, `--quiet` where no wire is printed, and `--json`
--- where the counts are objects
+-- packets are, `--head` where the transmit queues report by a head word, `--quiet` where no wire is printed, `--json`
+-- where the counts are objects, and `--progress` where it is shown how far it is
 pub record SaysForward (words : List Text) (config : Config) (printing : Printing) : Type 0 where
   pub pairs : List Text
   pub ring : List Text
@@ -170,7 +171,8 @@ pub record SaysForward (words : List Text) (config : Config) (printing : Printin
   pub words_are : words ≡ codes "forward" ∷ (pairs ++ (ring ++ (buffers ++ (bsize ++ (batch ++ (rs_every ++ (workers ++ (turns
       ++ (flag_words (codes "--drop") config.drop_en ++ (flag_words (codes "--no-retry") (not config.retry)
       ++ (flag_words (codes "--head") (is_head config.completion)
-      ++ (flag_words (codes "--quiet") printing.quiet ++ flag_words (codes "--json") printing.json))))))))))))
+      ++ (flag_words (codes "--quiet") printing.quiet
+      ++ (flag_words (codes "--json") printing.json ++ flag_words (codes "--progress") printing.progress)))))))))))))
 
 -- the values of the arguments
 abbrev pub HasOnce : List Row → Text → Type 0
@@ -208,6 +210,7 @@ pub record HasForward (rows : List Row) (config : Config) : Type 0 where
 pub record HasPrinting (rows : List Row) (printing : Printing) : Type 0 where
   pub quiet : one_of (codes "quiet") rows ≡ Some (bool_text printing.quiet)
   pub json : one_of (codes "json") rows ≡ Some (bool_text printing.json)
+  pub progress : one_of (codes "progress") rows ≡ Some (bool_text printing.progress)
 
 -- what is asked for is `once` of these digits
 abbrev pub IsOnce : Request → Text → Type 0
@@ -262,3 +265,14 @@ AreMistakes (kind ∷ kinds) = All IsMistake (kind ∷ kinds)
 -- the words are no command line of the program
 abbrev pub IsMisuse : List Text → Type 0
 IsMisuse words = (app : App) → IsProgram app → AreMistakes (fault_of app words)
+
+-- the words ask for nothing of which it is shown how far it is: they are no command line of the program, or another
+-- command, or `forward` without `--progress`
+pub data IsUnshown (words : List Text) : Type 0 where
+  is_misuse : IsMisuse words → IsUnshown words
+  asks_once : (digits : Text) → SaysOnce words digits → IsUnshown words
+  asks_decode : (form : Form) (digits : Text) → SaysDecode words form digits → IsUnshown words
+  asks_replay : (plan : QueuePlan) → SaysReplay words plan → IsUnshown words
+  asks_forward : (config : Config) (printing : Printing) → SaysForward words config printing → printing.progress ≡ false → IsUnshown words
+  asks_from_capture : (port queue : ℕ) → SaysFromCapture words port queue → IsUnshown words
+  asks_to_capture : (port : ℕ) → SaysToCapture words port → IsUnshown words

@@ -201,7 +201,12 @@ fn printing_in<'a>(forward: &ArgMatches<'a>) -> Printing
 {
     let quiet = forward.get_flag("quiet");
     let json = forward.get_flag("json");
-    Printing { quiet, json }
+    let progress = forward.get_flag("progress");
+    Printing {
+        quiet,
+        json,
+        progress,
+    }
 }
 
 /// How transmit queues report, in matches of a command with the flag `head`.
@@ -422,7 +427,12 @@ fn with_printing<'a>(alloc: Global, command: Command<'a>) -> Result<Command<'a>,
         "json",
         "Prints the counts of each flow as a JSON object",
     );
-    command.arg(quiet)?.arg(json)
+    let progress = flag(
+        alloc,
+        "progress",
+        "Shows on standard error once a second how far it is, with --json as a JSON object",
+    );
+    command.arg(quiet)?.arg(json)?.arg(progress)
 }
 
 /// An option with a number, which has this one where it is left out.

@@ -11,7 +11,7 @@ ghost use Rattle.commands.specs.Answers.{Ends, EndsBy, EndsDecode};
 ghost use Rattle.commands.specs.Frame.{frame_in};
 ghost use Rattle.commands.specs.Replay.{EndsReplay};
 ghost use Rattle.command_line.specs.CaptureWords.{SaysFromCapture, SaysToCapture};
-ghost use Rattle.command_line.specs.CommandLine.{IsMistake, IsMisuse, SaysDecode, SaysForward, SaysOnce, SaysReplay};
+ghost use Rattle.command_line.specs.CommandLine.{IsMistake, IsMisuse, IsUnshown, SaysDecode, SaysForward, SaysOnce, SaysReplay};
 ghost use Rattle.forward_command.specs.Forwards.{EndsForward};
 ghost use Rattle.forward_command.specs.declared.printing.Printing.{Printing};
 ghost use Rattle.forwarder.specs.declared.config.Config.{Config};
@@ -20,9 +20,11 @@ use crate::command::{Asked, asked_of};
 use clap::error::ErrorKind;
 use commands::{DONE, REFUSED, Refusal, answer, refuse};
 use std::alloc::Global;
-use std::io::{Read, Write};
+use std::io::{IsTerminal, Read, Write};
+use std::marker::Send;
 use std::sync::Wait;
 use std::thread::Threads;
+use std::time::Clock;
 
 /// The command line asks for nothing that the program knows.
 pub const MISUSED: u8 = 2;
@@ -32,16 +34,25 @@ pub const MISUSED: u8 = 2;
 /// Results and help go to `output`, with status 0. A refusal goes to `faults` as one line, `refused` with its number
 /// and its words, with status 1; before it stands the line or the record of the input that it is for, if it is for one.
 /// What is wrong with the command line goes to `faults`, with status 2. A failed write to `faults` changes no status.
-pub fn run<R: Threads + Wait + Sync, I: Read, W: Write, E: Write>(
+/// `screen` is a second way to standard error, beside `faults`: with `forward --progress` it is shown there how far it is.
+pub fn run<
+    R: Threads + Wait + Clock + Sync,
+    I: Read,
+    W: Write,
+    E: Write,
+    M: Write + IsTerminal + Send,
+>(
     rt: &R,
     alloc: Global,
     words: &[String],
     input: &mut I,
     output: &mut W,
     faults: &mut E,
+    screen: &mut M,
 ) -> u8
     ensures status { (result ≡ DONE) ⊎ (result ≡ REFUSED) ⊎ (result ≡ MISUSED) }
     ensures done { result ≡ DONE → Keeps (E.contents faults.old) (E.contents faults.new) }
+    ensures screen { IsUnshown (map string_bytes words.now) → screen.new ≡ screen.old }
     ensures misused { result ≡ MISUSED → Keeps (W.contents output.old) (W.contents output.new) }
     ensures misuse { IsMisuse (map string_bytes words.now)
         → ((result ≡ MISUSED) ⊎ (result ≡ REFUSED)) × Keeps (W.contents output.old) (W.contents output.new) }
@@ -63,7 +74,7 @@ pub fn run<R: Threads + Wait + Sync, I: Read, W: Write, E: Write>(
     match asked_of(alloc, words) {
         Ok(Asked::Request(request)) => answer(rt, alloc, request, input, output, faults),
         Ok(Asked::Forward { config, printing }) => {
-            forward_command::answer(rt, alloc, &config, printing, input, output, faults)
+            forward_command::answer(rt, alloc, &config, printing, input, output, faults, screen)
         }
         Ok(Asked::Capture(request)) => {
             capture_command::answer(alloc, request, input, output, faults)

@@ -8,6 +8,7 @@ use std::process::Abort;
 use std::sync::Wait;
 use std::test::Fail;
 use std::thread::Threads;
+use std::time::Clock;
 
 /// A list of moves, and the number of its first line that is no move.
 const FAULTY: [(&str, &str); 16] = [
@@ -173,7 +174,7 @@ fn a_disabling_at_every_step_makes_as_many_moves(rt: HostRuntime) -> Result<(), 
 }
 
 /// Such queues are made: the last of them takes one post less than its length, and the next is not there.
-fn are_made<R: Abort + Threads + Wait + Sync>(
+fn are_made<R: Abort + Threads + Wait + Clock + Sync>(
     rt: &R,
     alloc: Global,
     (pairs, post, beyond, told): (&'static str, &str, &str, &str),

@@ -10,6 +10,7 @@ use std::process::Abort;
 use std::sync::Wait;
 use std::test::Fail;
 use std::thread::Threads;
+use std::time::Clock;
 
 const FRAME: &str = "000102030405060708090a0b0c0d";
 
@@ -37,7 +38,7 @@ const STATUSES: [(&[&str], u8); 7] = [
 ];
 
 /// A run with such an output is refused for it.
-fn is_refused<R: Abort + Threads + Wait + Sync, W: Write>(
+fn is_refused<R: Abort + Threads + Wait + Clock + Sync, W: Write>(
     rt: &R,
     alloc: Global,
     words: &[&str],

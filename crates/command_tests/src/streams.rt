@@ -1,8 +1,8 @@
-//! Inputs and outputs that fail.
+//! Inputs and outputs that fail, and a screen that shows nothing.
 
 use std::alloc::Global;
 use std::io;
-use std::io::{ErrorKind, Read, Write};
+use std::io::{ErrorKind, IsTerminal, Read, Write};
 
 /// A stream that gives these bytes, and then fails.
 #[derive(Drop)]
@@ -65,5 +65,25 @@ impl Write for Unflushed {
 
     fn flush(&mut self) -> io::Result<()> {
         Err(io::Error::from(ErrorKind::BrokenPipe))
+    }
+}
+
+/// A screen on which nothing is shown: it takes nothing.
+#[derive(Drop)]
+pub struct Dark;
+
+impl Write for Dark {
+    fn write(&mut self, _buf: &[u8]) -> io::Result<usize> {
+        Err(io::Error::from(ErrorKind::BrokenPipe))
+    }
+
+    fn flush(&mut self) -> io::Result<()> {
+        Ok(())
+    }
+}
+
+impl IsTerminal for Dark {
+    fn is_terminal(&self) -> bool {
+        false
     }
 }

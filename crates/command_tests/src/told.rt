@@ -1,5 +1,6 @@
 //! Runs of the program on words and an input, and what each of them has to come to.
 
+use crate::streams::Dark;
 use command_line::run;
 use std::alloc::{AllocError, Global};
 use std::io::{Read, Write};
@@ -7,6 +8,7 @@ use std::process::Abort;
 use std::sync::Wait;
 use std::test::Fail;
 use std::thread::Threads;
+use std::time::Clock;
 
 /// What a run came to: its status, and what it wrote to the output and to the faults.
 #[derive(Drop)]
@@ -25,7 +27,7 @@ pub struct Row {
 }
 
 /// The status of a run on these words and streams.
-pub fn status_of<R: Threads + Wait + Sync, I: Read, W: Write, E: Write>(
+pub fn status_of<R: Threads + Wait + Clock + Sync, I: Read, W: Write, E: Write>(
     rt: &R,
     alloc: Global,
     words: &[&str],
@@ -37,11 +39,19 @@ pub fn status_of<R: Threads + Wait + Sync, I: Read, W: Write, E: Write>(
     for word in words {
         given.push(String::from_str(alloc, word)?)?;
     }
-    Ok(run(rt, alloc, given.as_slice(), input, output, faults))
+    Ok(run(
+        rt,
+        alloc,
+        given.as_slice(),
+        input,
+        output,
+        faults,
+        &mut Dark,
+    ))
 }
 
 /// What a run on these words and this input comes to.
-pub fn outcome_of<R: Threads + Wait + Sync>(
+pub fn outcome_of<R: Threads + Wait + Clock + Sync>(
     rt: &R,
     alloc: Global,
     words: &[&str],
@@ -58,7 +68,7 @@ pub fn outcome_of<R: Threads + Wait + Sync>(
 }
 
 /// A run on these words and this input comes to this status, this output and these faults.
-pub fn comes_to<R: Abort + Threads + Wait + Sync>(
+pub fn comes_to<R: Abort + Threads + Wait + Clock + Sync>(
     rt: &R,
     alloc: Global,
     words: &[&str],
@@ -73,7 +83,7 @@ pub fn comes_to<R: Abort + Threads + Wait + Sync>(
 }
 
 /// A run on these words is told that they are wrong, with this text, and prints nothing on the output.
-pub fn is_mistaken<R: Abort + Threads + Wait + Sync>(
+pub fn is_mistaken<R: Abort + Threads + Wait + Clock + Sync>(
     rt: &R,
     alloc: Global,
     words: &[&str],
@@ -87,7 +97,7 @@ pub fn is_mistaken<R: Abort + Threads + Wait + Sync>(
 }
 
 /// A run on these words prints help with this text, and ends well.
-pub fn is_helped<R: Abort + Threads + Wait + Sync>(
+pub fn is_helped<R: Abort + Threads + Wait + Clock + Sync>(
     rt: &R,
     alloc: Global,
     words: &[&str],

@@ -1,5 +1,5 @@
 //! A script, read whole, forwarded, and then answered whole.
-ghost use Rattle.std.specs.Prelude.{◌≡◌, IfErr, IfOk, Ok};
+ghost use Rattle.std.specs.Prelude.{◌≡◌, IfErr, IfOk, None, Ok, false};
 ghost use Rattle.std.specs.String.{string_bytes};
 ghost use Rattle.commands.specs.declared.refusal.Refusal.TheVariants as refusal;
 ghost use Rattle.wire_script.specs.Script.{script_of};
@@ -12,59 +12,71 @@ use crate::text::text_of;
 use commands::{Refusal, read_text};
 use forwarder::{Config, Report};
 use forwarding::Open;
+use progress::Form;
 use std::alloc::Global;
-use std::io::Read;
+use std::io::{IsTerminal, Read, Write};
+use std::marker::Send;
 use std::sync::Wait;
 use std::thread::Threads;
+use std::time::Clock;
 use wire_script::{Script, parse};
 
-/// Forwards the script of an input, and answers the text of what came of it.
+/// Forwards the script of an input, and answers the text of what came of it. How far it is goes to `screen`, if it is shown.
 ///
 /// It answers the first that applies of `Input` (or `Memory`) where the input can't be read, the script's first fault or
 /// its want of memory, the forwarder's `Config`, its `Memory` or `Thread`, and `Memory` where the text could not grow. The
 /// input's text is given back before the script is forwarded, and the script before its text is made.
-pub fn forward<R: Threads + Wait + Sync, I: Read>(
+pub fn forward<R: Threads + Wait + Clock + Sync, I: Read, M: Write + IsTerminal + Send>(
     rt: &R,
     alloc: Global,
     config: &Config,
     printing: Printing,
     input: &mut I,
+    screen: &mut M,
 ) -> Result<String, Refusal>
     ensures done { IfOk result (λ page. IsForwarded config.now printing (I.remaining input.old) (string_bytes page)) }
     ensures refused { IfErr result (λ e. RefusesForward config.now (I.remaining input.old) e) }
+    ensures screen { printing.progress ≡ false → screen.new ≡ screen.old }
 {
     let text = read_text(alloc, input)?;
-    page_for(rt, alloc, config, printing, text)
+    let form = printing.form(screen.is_terminal());
+    page_for(rt, alloc, config, printing, text, screen, form)
 }
 
 /// What a script's text prints.
-fn page_for<R: Threads + Wait + Sync>(
+fn page_for<R: Threads + Wait + Clock + Sync, M: Write + Send>(
     rt: &R,
     alloc: Global,
     config: &Config,
     printing: Printing,
     text: Vec<u8>,
+    screen: &mut M,
+    form: Option<Form>,
 ) -> Result<String, Refusal>
     ensures done { IfOk result (λ page. HasPage config.now printing text.items (string_bytes page)) }
     ensures refused { IfErr result (λ e. ForwardRefused config.now text.items e) }
+    ensures screen { form ≡ None → screen.new ≡ screen.old }
 {
-    let report = report_for(rt, alloc, config, text)?;
+    let report = report_for(rt, alloc, config, text, screen, form)?;
     let pairs = config.pairs as usize;
     text_of(alloc, report.flows.as_slice(), pairs, printing)
 }
 
 /// What became of the flows of a script's text.
-fn report_for<R: Threads + Wait + Sync>(
+fn report_for<R: Threads + Wait + Clock + Sync, M: Write + Send>(
     rt: &R,
     alloc: Global,
     config: &Config,
     text: Vec<u8>,
+    screen: &mut M,
+    form: Option<Form>,
 ) -> Result<Report, Refusal>
     ensures report { IfOk result (λ r. HasReport config.now text.items r.flows.items) }
     ensures refused { IfErr result (λ e. ForwardRefused config.now text.items e) }
+    ensures screen { form ≡ None → screen.new ≡ screen.old }
 {
     let script = script_in(alloc, text)?;
-    Ok(forwarder::forward(rt, alloc, &script, config, &Open)?)
+    Ok(progress::forward(rt, alloc, &script, config, &Open, screen, form)?)
 }
 
 /// The script that a text says.

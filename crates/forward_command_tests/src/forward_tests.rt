@@ -9,6 +9,7 @@ use std::process::Abort;
 use std::sync::Wait;
 use std::test::Fail;
 use std::thread::Threads;
+use std::time::Clock;
 
 /// Options beside two pairs and rings of 8 that change nothing of what is printed.
 const SAME: &[&[&str]] = &[
@@ -25,7 +26,7 @@ const SAME: &[&[&str]] = &[
 ];
 
 /// With these options the 40 frames are printed so.
-fn forwards_forty<R: Abort + Threads + Wait + Sync>(
+fn forwards_forty<R: Abort + Threads + Wait + Clock + Sync>(
     rt: &R,
     alloc: Global,
     options: &[&str],

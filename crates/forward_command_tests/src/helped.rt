@@ -29,18 +29,20 @@ const LINES: &[&str] = &[
     "--head",
     "--quiet",
     "--json",
+    "--progress",
     "echo '0 0 fill 14 05' | poll82599 forward\n",
     "prints 1 0 0506050505050505050505050505\n",
 ];
 
 /// Words that are wrong, and what has to be told of them.
-const WRONG: [(&[&str], &str); 6] = [
+const WRONG: [(&[&str], &str); 7] = [
     (&["forward", "--ring", "eight"], "eight"),
     (&["forward", "--pairs", "4294967296"], "4294967296"),
     (&["forward", "--turns"], "--turns"),
     (&["forward", "--drop=1"], "--drop"),
     (&["forward", "--retry"], "--retry"),
     (&["forward", "script"], "script"),
+    (&["forward", "--progress=1"], "--progress"),
 ];
 
 /// Each refusal of a script and of a forwarding, and its line.

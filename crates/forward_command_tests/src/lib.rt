@@ -16,6 +16,8 @@ mod forward_tests;
 #[cfg(test)]
 mod helped;
 #[cfg(test)]
+mod shown_tests;
+#[cfg(test)]
 mod stream_tests;
 #[cfg(test)]
 mod streams;

@@ -1,7 +1,7 @@
 //! Streams that fail, and want of memory.
 
 use crate::forty::{FORTY_WORDS, forty, forty_forwarded};
-use crate::streams::{Broken, Halting, Narrow, PIECE, Piecemeal, Unflushed};
+use crate::streams::{Broken, Halting, Narrow, PIECE, Piecemeal, Screen, Unflushed};
 use crate::told::status_of;
 use forward_command::{Printing, perform};
 use forwarder::Config;
@@ -11,6 +11,7 @@ use std::process::Abort;
 use std::sync::Wait;
 use std::test::Fail;
 use std::thread::Threads;
+use std::time::Clock;
 
 const WORDS: &[&str] = &["forward"];
 
@@ -21,7 +22,7 @@ const PRINTED: &str =
     "1 0 0506050505050505050505050505\nflow 0 0 offered 1 stored 1 dropped 0 oversize 0 taken 1 posted 1 tx-dropped 0 wire 1 left 0 ended drained\nflow 1 0 offered 0 stored 0 dropped 0 oversize 0 taken 0 posted 0 tx-dropped 0 wire 0 left 0 ended drained\n";
 
 /// A run with these streams is refused so.
-fn is_refused<R: Abort + Threads + Wait + Sync, I: Read, W: Write>(
+fn is_refused<R: Abort + Threads + Wait + Clock + Sync, I: Read, W: Write>(
     rt: &R,
     alloc: Global,
     words: &[&str],
@@ -30,7 +31,8 @@ fn is_refused<R: Abort + Threads + Wait + Sync, I: Read, W: Write>(
     line: &str,
 ) -> Result<(), Fail> {
     let mut faults = Vec::new(alloc);
-    let status = status_of(rt, alloc, words, input, output, &mut faults)?;
+    let mut screen = Screen::new(alloc, false);
+    let status = status_of(rt, alloc, words, input, output, &mut faults, &mut screen)?;
     let faults = String::from_utf8(faults)?;
     assert_eq!(rt; faults.as_str(), line);
     assert_eq!(rt; status, 1);
@@ -121,6 +123,7 @@ fn each_read_that_fails_is_refused(rt: HostRuntime) -> Result<(), Fail> {
 fn want_of_memory(rt: HostRuntime) -> Result<(), Fail> {
     let mut input = SCRIPT.as_bytes();
     let mut output = Narrow::new(rt.alloc(), 400);
+    let mut screen = Screen::new(rt.alloc(), false);
     match perform(
         &rt,
         rt.alloc(),
@@ -128,6 +131,7 @@ fn want_of_memory(rt: HostRuntime) -> Result<(), Fail> {
         Printing::default(),
         &mut input,
         &mut output,
+        &mut screen,
     ) {
         Ok(()) => assert_eq!(rt; output.taken.as_slice(), PRINTED.as_bytes()),
         Err(refusal) => {

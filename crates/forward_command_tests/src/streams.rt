@@ -1,8 +1,8 @@
-//! Inputs and outputs that fail.
+//! Inputs and outputs that fail, and a screen.
 
 use std::alloc::Global;
 use std::io;
-use std::io::{ErrorKind, Read, Write};
+use std::io::{ErrorKind, IsTerminal, Read, Write};
 
 /// A stream that gives these bytes, and then fails.
 #[derive(Drop)]
@@ -120,5 +120,37 @@ impl Write for Unflushed {
 
     fn flush(&mut self) -> io::Result<()> {
         Err(io::Error::from(ErrorKind::BrokenPipe))
+    }
+}
+
+/// A screen, which is a terminal or is none.
+#[derive(Drop)]
+pub struct Screen {
+    pub shown: Vec<u8>,
+    is_terminal: bool,
+}
+
+impl Screen {
+    pub fn new(alloc: Global, is_terminal: bool) -> Screen {
+        Screen {
+            shown: Vec::new(alloc),
+            is_terminal,
+        }
+    }
+}
+
+impl Write for Screen {
+    fn write(&mut self, buf: &[u8]) -> io::Result<usize> {
+        self.shown.write(buf)
+    }
+
+    fn flush(&mut self) -> io::Result<()> {
+        Ok(())
+    }
+}
+
+impl IsTerminal for Screen {
+    fn is_terminal(&self) -> bool {
+        self.is_terminal
     }
 }

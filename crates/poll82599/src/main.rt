@@ -1,7 +1,7 @@
 //! The program `poll82599`: both sides of the 82599's descriptor rings, in one process.
 //!
-//! `main` gives the words and the three standard streams to `command_line`'s `run`, and ends with the status that it
-//! answers. All else stands in libraries: `commands` does what is asked for, `command_line` reads the words.
+//! `main` gives the words and the three standard streams to `command_line`'s `run`, standard error a second time to show
+//! there how far a run is, and ends with the status that it answers. All else stands in libraries: `commands` does what is asked for, `command_line` reads the words.
 #![tactic(auto)]
 
 use command_line::run;
@@ -27,6 +27,7 @@ fn main(rt: HostRuntime) -> ExitCode {
         &mut rt.stdin(),
         &mut rt.stdout(),
         &mut faults,
+        &mut rt.stderr(),
     );
     ExitCode::from(status)
 }

@@ -6,7 +6,8 @@ use Rattle.command_line.proofs.command.with_printing.Goals as goal
 pub returns-clause-app : goal.returns-clause-app
 returns-clause-app c =
     let with_quiet = c.in_ok-arg.ensures.shape c.flag-quiet.ensures.local ∙ ap (with_rule (app_of c.args.command)) c.flag-quiet.ensures.rule in
-    IfOk-weaker c.arg-2.result _ _ (λ r adds. adds.shape c.flag-json.ensures.local ∙ ap₂ with_rule with_quiet c.flag-json.ensures.rule) c.arg-2.ensures
+    let with_json = c.in_ok-arg-2.ensures.shape c.flag-json.ensures.local ∙ ap₂ with_rule with_quiet c.flag-json.ensures.rule in
+    IfOk-weaker c.arg-3.result _ _ (λ r adds. adds.shape c.flag-progress.ensures.local ∙ ap₂ with_rule with_json c.flag-progress.ensures.rule) c.arg-3.ensures
 
 -- no option that isn't global makes the command have one
 or_false : (b x : Bool) → x ≡ false → (b || x) ≡ b
@@ -16,4 +17,5 @@ or_false false x is = is
 pub returns-clause-local : goal.returns-clause-local
 returns-clause-local c =
     let with_quiet = c.in_ok-arg.ensures.globals ∙ or_false _ _ c.flag-quiet.ensures.local in
-    IfOk-weaker c.arg-2.result _ _ (λ r adds. adds.globals ∙ or_false _ _ c.flag-json.ensures.local ∙ with_quiet) c.arg-2.ensures
+    let with_json = c.in_ok-arg-2.ensures.globals ∙ or_false _ _ c.flag-json.ensures.local ∙ with_quiet in
+    IfOk-weaker c.arg-3.result _ _ (λ r adds. adds.globals ∙ or_false _ _ c.flag-progress.ensures.local ∙ with_json) c.arg-3.ensures

@@ -6,7 +6,7 @@ use Rattle.commands.specs.Replay.{EndsReplay}
 use Rattle.commands.specs.declared.request.Request.{Request}
 use Rattle.forward_command.specs.Forwards.{EndsForward}
 use Rattle.command_line.specs.CommandLine.{IsDecode, IsOnce, IsReplayOf}
-use Rattle.command_line.proofs.Endings.{as-capture, as-forward, as-request, capture-ends, capture-kept, decode-ends, forward-ends, forward-kept, no-capture-of-forward, no-capture-of-request, no-forward, no-forward-of-captures, no-request, no-request-of-captures, once-ends, replay-ends, replay-kept}
+use Rattle.command_line.proofs.Endings.{as-capture, as-forward, as-request, capture-ends, capture-kept, decode-ends, forward-ends, forward-kept, no-capture-of-forward, no-capture-of-request, no-forward, no-forward-of-captures, no-request, no-request-of-captures, once-ends, replay-ends, replay-kept, unshown-forward}
 use Rattle.command_line.proofs.running.run.Goals as goal
 
 pub returns-in-Ok-Request-clause-once : goal.returns-in-Ok-Request-clause-once
@@ -97,3 +97,13 @@ returns-in-Ok-Capture-clause-replay g c plan text says known =
 pub returns-in-Ok-Capture-clause-forward : goal.returns-in-Ok-Capture-clause-forward
 returns-in-Ok-Capture-clause-forward g c config printing text says known =
     absurd (no-forward-of-captures c.in-Ok-Capture.field-0 c.in-Ok-Capture.request config printing c.in-Ok-Capture.field-0-is (c.in-Ok-Capture.ensures.forward config printing says))
+
+-- what was asked for is a forwarding: so the words are none but those of one
+pub returns-in-Ok-Forward-clause-screen : goal.returns-in-Ok-Forward-clause-screen
+returns-in-Ok-Forward-clause-screen g c unshown =
+    let found = c.in-Ok-Forward.field-0 in
+    let given = c.in-Ok-Forward.config in
+    let shown = c.in-Ok-Forward.printing in
+    let asks = c.in-Ok-Forward.ensures in
+    c.answer-in-Ok-Forward.ensures.screen
+    (unshown-forward _ found given shown c.in-Ok-Forward.field-0-is asks.once asks.decode asks.replay asks.forward asks.from_capture asks.to_capture asks.misuse unshown)
