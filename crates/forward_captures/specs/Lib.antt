@@ -1,0 +1,4 @@
+pub mod Words
+pub mod Gathering
+pub mod Wires
+pub mod Endings

@@ -1,0 +1,22 @@
+//! The options `--capture` and `--wire-capture` of the command `forward`: frames that come in from captures, and what
+//! leaves a port as a capture.
+//!
+//! [`source_of`] and [`wire_file_of`] read the options' words. [`add_capture`] puts the frames of a capture behind others,
+//! at a port and a queue, and [`gather`] those of each file. [`wire_capture`] makes the capture of a port out of the reports
+//! of the flows. [`perform`] forwards with both, and [`answer`] does the same for a caller who wants an exit status. What
+//! the options say, and what captures and flows make, is exact by contract; no contract can say what a file has.
+#![tactic(auto)]
+
+mod answering;
+mod files;
+mod gathering;
+mod refused;
+mod running;
+mod wires;
+mod words;
+
+pub use answering::{answer, perform};
+pub use gathering::{add_capture, gather};
+pub use refused::{Place, Refused};
+pub use wires::wire_capture;
+pub use words::{Source, WireFile, source_of, wire_file_of};
