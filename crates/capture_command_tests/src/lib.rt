@@ -1,4 +1,4 @@
-//! Tests of the commands `from-capture` and `to-capture`, on the program's run. They stand above its crates, so that each
+//! Tests of the commands `from-capture` and `to-capture`, and of `forward` with captures, on the program's run. They stand above its crates, so that each
 //! of those is proved without them.
 //!
 //! Most are tables of rows, a run with all that it has to come to, which `told` walks. `streams` has inputs and outputs
@@ -7,6 +7,8 @@
 
 #[cfg(test)]
 mod captured;
+#[cfg(test)]
+mod file_tests;
 #[cfg(test)]
 mod from_tests;
 #[cfg(test)]

@@ -7,6 +7,7 @@ use capture_command::{CaptureRequest, perform};
 use std::alloc::Global;
 use std::io::{Read, Write};
 use std::process::Abort;
+use std::rt::Files;
 use std::sync::Wait;
 use std::test::Fail;
 use std::thread::Threads;
@@ -17,7 +18,7 @@ const WORDS: &[&str] = &["to-capture", "1"];
 const SCRIPT: &str = "1 0 0506050505050505050505050505\n";
 
 /// A run with these streams is refused so.
-fn is_refused<R: Abort + Threads + Wait + Clock + Sync, I: Read, W: Write>(
+fn is_refused<R: Abort + Threads + Wait + Clock + Sync + Files, I: Read, W: Write>(
     rt: &R,
     alloc: Global,
     words: &[&str],

@@ -5,6 +5,7 @@ use command_line::run;
 use std::alloc::{AllocError, Global};
 use std::io::{Read, Write};
 use std::process::Abort;
+use std::rt::Files;
 use std::sync::Wait;
 use std::test::Fail;
 use std::thread::Threads;
@@ -19,7 +20,7 @@ pub struct Told {
 }
 
 /// The status of a run on these words and streams.
-pub fn status_of<R: Threads + Wait + Clock + Sync, I: Read, W: Write, E: Write>(
+pub fn status_of<R: Threads + Wait + Clock + Sync + Files, I: Read, W: Write, E: Write>(
     rt: &R,
     alloc: Global,
     words: &[&str],
@@ -43,14 +44,24 @@ pub fn status_of<R: Threads + Wait + Clock + Sync, I: Read, W: Write, E: Write>(
 }
 
 /// What a run on these words and this input comes to.
-pub fn outcome_of<R: Threads + Wait + Clock + Sync>(
+pub fn outcome_of<R: Threads + Wait + Clock + Sync + Files>(
     rt: &R,
     alloc: Global,
     words: &[&str],
     mut input: &[u8],
 ) -> Result<Told, Fail> {
+    told_by(rt, alloc, words, &mut input)
+}
+
+/// The same of any input.
+pub fn told_by<R: Threads + Wait + Clock + Sync + Files, I: Read>(
+    rt: &R,
+    alloc: Global,
+    words: &[&str],
+    input: &mut I,
+) -> Result<Told, Fail> {
     let (mut output, mut faults) = (Vec::new(alloc), Vec::new(alloc));
-    let status = status_of(rt, alloc, words, &mut input, &mut output, &mut faults)?;
+    let status = status_of(rt, alloc, words, input, &mut output, &mut faults)?;
     Ok(Told {
         status,
         output,
@@ -59,7 +70,7 @@ pub fn outcome_of<R: Threads + Wait + Clock + Sync>(
 }
 
 /// A run on these words and this input writes these bytes, and no faults.
-pub fn writes<R: Abort + Threads + Wait + Clock + Sync>(
+pub fn writes<R: Abort + Threads + Wait + Clock + Sync + Files>(
     rt: &R,
     alloc: Global,
     words: &[&str],
@@ -74,7 +85,7 @@ pub fn writes<R: Abort + Threads + Wait + Clock + Sync>(
 }
 
 /// A run on these words and this input is refused with this line, and writes nothing else.
-pub fn is_refused<R: Abort + Threads + Wait + Clock + Sync>(
+pub fn is_refused<R: Abort + Threads + Wait + Clock + Sync + Files>(
     rt: &R,
     alloc: Global,
     words: &[&str],

@@ -1,6 +1,6 @@
 -- What clap makes of `from-capture` and `to-capture` and their places.
-use Rattle.std.proofs.Common.{◌≡◌, ◌∙◌, ◌+◌, ap, ap₂, sym, refl, arith, ℕ, suc, zero, true, List, [], ◌∷◌, codes, Option, Some, None, option_map, unwrap_or}
-use Rattle.std.specs.Prelude.{◌<◌, ◌^◌, decimal, Result, Ok, Err}
+use Rattle.std.proofs.Common.{◌≡◌, ◌∙◌, ◌+◌, ap, ap₂, sym, refl, arith, ℕ, suc, zero, true, List, [], ◌∷◌, codes, Option, Some, None, option_map}
+use Rattle.std.specs.Prelude.{◌<◌, decimal, Result, Ok, Err}
 use Rattle.std.specs.Str.Parse.{ExplainsUnsignedError, HasUnsignedDigitsIfOk, ParsesUnsigned}
 use Rattle.std.proofs.lemmas.Fmt.{decimal_digit, parse-decimal}
 use Rattle.clap.specs.Words.{App, ReadsOne, Row, Text, one_of, subcommand_of, takes}

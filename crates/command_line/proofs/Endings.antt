@@ -1,5 +1,5 @@
 -- From what the words ask for to how the run ends.
-use Rattle.std.proofs.Common.{◌≡◌, ◌∙◌, ap, inr, refl, false, ℕ, List, Option, Some, subst}
+use Rattle.std.proofs.Common.{◌≡◌, ◌∙◌, ap, inl, inr, refl, false, ℕ, List, Option, Some, subst}
 use Rattle.std.specs.Prelude.{Result}
 use Rattle.std.specs.Io.KnownBytes.{Keeps}
 use Rattle.commands.specs.declared.answering.TheConstants.{DONE, REFUSED}
@@ -15,11 +15,13 @@ use Rattle.capture_command.specs.Meanings.{meant}
 use Rattle.capture_command.specs.declared.request.CaptureRequest.{CaptureRequest}
 use Rattle.commands.specs.declared.refusal.Refusal.{Refusal}
 use Rattle.forward_command.proofs.Endings.{kept}
-use Rattle.forward_command.specs.Forwards.{EndsForward}
 use Rattle.forwarder.specs.declared.config.Config.{Config}
 use Rattle.forward_command.specs.declared.printing.Printing.{Printing}
 use Rattle.capture_command.specs.declared.request.CaptureRequest.TheVariants.{FromCapture, ToCapture}
+use Rattle.port_files.specs.Words.{SourceFile}
 use Rattle.command_line.specs.CaptureWords.{SaysFromCapture, SaysToCapture}
+use Rattle.command_line.specs.FileWords.{FileOptions}
+use Rattle.command_line.specs.Forwarding.{EndsForwarding}
 use Rattle.command_line.specs.CommandLine.{IsCapture, IsDecode, IsForward, IsMisuse, IsOnce, IsReplayOf, IsRequest, IsUnshown, SaysDecode, SaysForward, SaysOnce, SaysReplay}
 use Rattle.command_line.specs.CommandLine.IsUnshown.{is_misuse, asks_once, asks_decode, asks_replay, asks_forward, asks_from_capture, asks_to_capture}
 use Rattle.command_line.specs.declared.command.Asked.{Asked}
@@ -88,21 +90,31 @@ undone plan text old new e = let bad : ⊥ = cc e in absurd bad
 pub replay-kept : (plan : QueuePlan) (text : List ℕ) (old new : Option (List ℕ)) → Keeps old new → EndsReplay plan text REFUSED old new
 replay-kept plan text old new kept = record { done = undone plan text old new; either = inr refl; faulty = λ k f. (refl, kept); no_queues = λ no. (refl, kept) }
 
-pub forward-ends : (given config : Config) (shown printing : Printing) (text : List ℕ) (input : Option (List ℕ)) (status : ℕ) (old new : Option (List ℕ))
-    → (given ≡ config) × (shown ≡ printing) → input ≡ Some text → ((t : List ℕ) → input ≡ Some t → EndsForward given shown t status old new)
-    → EndsForward config printing text status old new
-forward-ends given config shown printing text input status old new is known ends =
-    subst (λ (c : Config). EndsForward c printing text status old new) is.0 (subst (λ (p : Printing). EndsForward given p text status old new) is.1 (ends text known))
+pub forward-ends : (given config : Config) (shown printing : Printing) (sources : List SourceFile) (input : Option (List ℕ)) (status : ℕ) (old new : Option (List ℕ))
+    → (given ≡ config) × (shown ≡ printing) → EndsForwarding given shown sources input status old new → EndsForwarding config printing sources input status old new
+forward-ends given config shown printing sources input status old new is ends =
+    subst (λ (c : Config). EndsForwarding c printing sources input status old new) is.0 (subst (λ (p : Printing). EndsForwarding given p sources input status old new) is.1 ends)
 
-pub forward-kept : (config : Config) (printing : Printing) (text : List ℕ) (old new : Option (List ℕ)) → Keeps old new → EndsForward config printing text REFUSED old new
-forward-kept config printing text old new keeps = kept config printing text old new keeps
+-- a refusal that prints nothing ends it, whatever is forwarded
+pub forward-kept : (config : Config) (printing : Printing) (sources : List SourceFile) (input old new : Option (List ℕ)) → Keeps old new
+    → EndsForwarding config printing sources input REFUSED old new
+forward-kept config printing sources input old new keeps = record {
+  script = λ none text known. kept config printing text old new keeps;
+  captured = λ some e. let bad : ⊥ = cc e in absurd bad;
+  refused = λ some e. inl keeps;
+}
+
+-- with other names of the same sources
+pub forward-of : (config : Config) (printing : Printing) (held sources : List SourceFile) (input : Option (List ℕ)) (status : ℕ) (old new : Option (List ℕ)) → held ≡ sources
+    → EndsForwarding config printing held input status old new → EndsForwarding config printing sources input status old new
+forward-of config printing held sources input status old new same ends = subst (λ (ss : List SourceFile). EndsForwarding config printing ss input status old new) same ends
 
 -- words of which nothing is shown ask for no forwarding, or for one that isn't shown
 pub unshown-forward : (words : List (List ℕ)) (a : Asked) (given : Config) (shown : Printing) → a ≡ asked.Forward given shown
     → ((digits : List ℕ) → SaysOnce words digits → IsRequest (λ r. IsOnce r digits) a)
     → ((form : Form) (digits : List ℕ) → SaysDecode words form digits → IsRequest (λ r. IsDecode r form digits) a)
     → ((plan : QueuePlan) → SaysReplay words plan → IsRequest (λ r. IsReplayOf r plan) a)
-    → ((config : Config) (printing : Printing) → SaysForward words config printing → IsForward a config printing)
+    → ((config : Config) (printing : Printing) (files : FileOptions) → SaysForward words config printing files → IsForward a config printing)
     → ((port queue : ℕ) → SaysFromCapture words port queue → IsCapture a (FromCapture port queue))
     → ((port : ℕ) → SaysToCapture words port → IsCapture a (ToCapture port))
     → (IsMisuse words → ⊥) → IsUnshown words → shown.progress ≡ false
@@ -113,8 +125,8 @@ unshown-forward words a given shown is once decode replay forward from to misuse
     absurd (no-request (λ (r : Request). IsDecode r form digits) a given shown is (decode form digits says))
 unshown-forward words a given shown is once decode replay forward from to misuse (asks_replay plan says) =
     absurd (no-request (λ (r : Request). IsReplayOf r plan) a given shown is (replay plan says))
-unshown-forward words a given shown is once decode replay forward from to misuse (asks_forward config printing says dark) =
-    ap (λ (p : Printing). p.progress) (as-forward a given config shown printing is (forward config printing says)).1 ∙ dark
+unshown-forward words a given shown is once decode replay forward from to misuse (asks_forward config printing files says dark) =
+    ap (λ (p : Printing). p.progress) (as-forward a given config shown printing is (forward config printing files says)).1 ∙ dark
 unshown-forward words a given shown is once decode replay forward from to misuse (asks_from_capture port queue says) =
     absurd (no-capture-of-forward a given shown (FromCapture port queue) is (from port queue says))
 unshown-forward words a given shown is once decode replay forward from to misuse (asks_to_capture port says) =

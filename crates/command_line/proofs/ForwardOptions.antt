@@ -1,20 +1,23 @@
 -- What clap makes of one option of `forward`: what its words do to what is held, the row that it leaves, and its value at last,
 -- for any options before and behind it.
-use Rattle.std.proofs.Common.{◌≡◌, ◌∙◌, ap, ap₂, refl, ℕ, Bool, true, false, ◌&&◌, List, [], ◌∷◌, ◌++◌, codes, drop, slice_index_or, take, Option, Some, None, IfSome}
-use Rattle.std.specs.Prelude.{◌||◌, if◌then◌else◌, not, fold, option_and_then, option_map}
+use Rattle.std.proofs.Common.{◌≡◌, ◌∙◌, ap, ap₂, refl, sym, subst, ℕ, Bool, true, false, ◌&&◌, List, [], ◌∷◌, ◌++◌, codes, drop, slice_index_or, take, Option, Some, None, IfSome}
+use Rattle.std.specs.Prelude.{◌||◌, All, if◌then◌else◌, not, fold, option_and_then, option_map}
 use Rattle.std.specs.Option.{option_map_or}
 use Rattle.std.specs.Str.{bytes_eq}
+use Rattle.std.proofs.lemmas.List.{append_assoc, append-nil}
+use Rattle.std.proofs.lemmas.List.Elements.{All-head, All-tail}
 use Rattle.clap.specs.Lexer.{long_of}
 use Rattle.clap.specs.Simple.{new_shape}
 use Rattle.clap.specs.Takes.{bundle_passes, flag_word_passes, react_passes, settle_passes, step_passes, turn_passes, value_passes, walk_passes, word_passes}
 use Rattle.clap.specs.Values.{bool_text}
 use Rattle.clap.specs.Walk.{Held, Step, Walk, after_step, has_row, long_or_other, option, plain_word, reacted, reading_by, row_text, settled, short_or_plain, trailing, walk_from, walked, with_default, with_values, without, word_met}
-use Rattle.clap.specs.Words.{Row, Rule, Shape, Text, built, new_rule, one_of, without_minus}
+use Rattle.clap.specs.Words.{Row, Rule, Shape, Text, all_of, built, new_rule, one_of, without_minus}
 use Rattle.clap.specs.declared.parser.matches.ValueSource.TheVariants.{CommandLine}
 use Rattle.clap.proofs.OnLiterals.{clap_on_literals}
 use Rattle.command_line.specs.CommandLine.{Choices, flag_words, program_app}
+use Rattle.command_line.specs.FileWords.{file_values, file_words}
 use Rattle.command_line.proofs.CommandLine.{IsNumber, IsPlain}
-use Rattle.command_line.proofs.OptionRows.{OptionUse, absent-in, absent-use, all-keep, default-found, found-use, mentions, row, rows-unused, rows-used, rows_in, used-absent, without-absent}
+use Rattle.command_line.proofs.OptionRows.{OptionUse, absent-in, absent-use, all-keep, default-found, found, found-use, mentions, never-found, one-longer, row, rows-unused, rows-used, rows_in, used-absent, without-absent}
 
 -- ---- the options
 
@@ -97,6 +100,23 @@ flag_at head = slice_index_or rules 10 (new_rule [])
 flag_at quiet = slice_index_or rules 11 (new_rule [])
 flag_at json = slice_index_or rules 12 (new_rule [])
 flag_at progress = slice_index_or rules 13 (new_rule [])
+
+-- the options with a file, which may stand again and again
+pub data File : Type 0 where
+  capture : File
+  wire_capture : File
+
+abbrev pub file_id : File → Text
+file_id capture = codes "capture"
+file_id wire_capture = codes "wire-capture"
+
+abbrev pub file_option : File → Text
+file_option capture = codes "--capture"
+file_option wire_capture = codes "--wire-capture"
+
+abbrev file_at : File → Rule
+file_at capture = slice_index_or rules 14 (new_rule [])
+file_at wire_capture = slice_index_or rules 15 (new_rule [])
 
 -- ---- the words of one option
 
@@ -472,3 +492,146 @@ flag_value which before after true first behind =
     ∙ flag_row which
 flag_value which before after false first behind =
     flag_default which (rows_in (before ++ flag_use which false ∷ after)) (absent-use before after (flag_id which) (reading_by (flag_at which)) first behind)
+
+-- ---- options with a file
+
+-- what is held after some of them
+abbrev after_file : File → Text → Held → Held
+after_file which word h = record (settled rules h) { pending = Some (file_id which, word ∷ []) }
+
+abbrev pub after_files : File → List Text → Held → Held
+after_files which [] h = h
+after_files which (word ∷ words) h = after_files which words (after_file which word h)
+
+-- the option waits for its file
+abbrev file_waits : File → Held → Walk
+file_waits which h = record (walk_from (record (settled rules h) { pending = Some (file_id which, []) })) { waiting = option (file_id which) }
+
+file_option_walked : (which : File) (h : Held) → walked rules [] (walk_from h) (file_option which) ≡ file_waits which h
+unfolding clap_on_literals
+file_option_walked capture h = refl
+file_option_walked wire_capture h = refl
+
+file_option_passes : (which : File) (h : Held) → turn_passes shape [] (walk_from h) (file_option which) ≡ (settles h && true)
+unfolding clap_on_literals
+file_option_passes capture h = refl
+file_option_passes wire_capture h = refl
+
+after_file_word : (which : File) (word : Text) (h : Held) → let met = plain_word rules (option (file_id which)) word (file_waits which h).held in
+    after_step rules word (file_waits which h) met.0 met.1 ≡ walk_from (after_file which word h)
+unfolding clap_on_literals
+after_file_word capture word h = refl
+after_file_word wire_capture word h = refl
+
+file_word_walked : (which : File) (word : Text) (h : Held) → IsPlain word → walked rules [] (file_waits which h) word ≡ walk_from (after_file which word h)
+unfolding clap_on_literals
+file_word_walked which word h plain =
+    ap (λ (met : Held × Step). after_step rules word (file_waits which h) met.0 met.1) (plain_read (file_id which) word (file_waits which h).held plain)
+    ∙ after_file_word which word h
+
+step_after_file : (which : File) (word : Text) (h : Held) → let met = plain_word rules (option (file_id which)) word (file_waits which h).held in
+    step_passes shape 1 met.0 met.1 ≡ true
+unfolding clap_on_literals
+step_after_file capture word h = refl
+step_after_file wire_capture word h = refl
+
+turn_file : (which : File) (word : Text) (h : Held) → IsPlain word → turn_passes shape [] (file_waits which h) word ≡ true
+turn_file which word h plain =
+    ap₂ (λ b (met : Held × Step). b && step_passes shape 1 met.0 met.1)
+    (plain_read_passes (file_id which) word (file_waits which h).held plain) (plain_read (file_id which) word (file_waits which h).held plain)
+    ∙ step_after_file which word h
+
+pub files_walked : (which : File) (words : List Text) (h : Held) (rest : List Text) → All IsPlain words
+    → fold (walked rules []) (walk_from h) (file_words (file_option which) words ++ rest) ≡ fold (walked rules []) (walk_from (after_files which words h)) rest
+files_walked which [] h rest plain = refl
+files_walked which (word ∷ words) h rest plain =
+    ap (λ w. fold (walked rules []) w (file_words (file_option which) words ++ rest))
+    (ap (λ w. walked rules [] w word) (file_option_walked which h) ∙ file_word_walked which word h (All-head IsPlain word words plain))
+    ∙ files_walked which words (after_file which word h) rest (All-tail IsPlain word words plain)
+
+abbrev pub file_use : File → List Text → OptionUse
+file_use which words = record { id = file_id which; how = reading_by (file_at which); values = file_values words }
+
+file_rows : (which : File) (word : Text) (h : Held) → (settled rules (after_file which word h)).rows
+    ≡ with_values (file_id which) (reading_by (file_at which)) CommandLine (word ∷ []) (settled rules h).rows
+file_rows capture word h = refl
+file_rows wire_capture word h = refl
+
+file_settles : (which : File) (word : Text) (h : Held) → settles (after_file which word h) ≡ true
+file_settles capture word h = refl
+file_settles wire_capture word h = refl
+
+file_same : (which : File) → bytes_eq (file_id which) (file_id which) ≡ true
+file_same capture = refl
+file_same wire_capture = refl
+
+-- a file more
+more_rows : (which : File) (words : List Text) (word : Text) (rows : List Row) (us : List OptionUse) → rows ≡ rows_in (us ++ file_use which words ∷ [])
+    → mentions (file_id which) us ≡ false
+    → with_values (file_id which) (reading_by (file_at which)) CommandLine (word ∷ []) rows ≡ rows_in (us ++ file_use which (words ++ word ∷ []) ∷ [])
+more_rows which [] word rows us is new =
+    let how = reading_by (file_at which) in
+    ap (with_values (file_id which) how CommandLine (word ∷ [])) (is ∙ sym (rows-unused us (file_id which) how))
+    ∙ (used-absent (file_id which) how CommandLine (word ∷ []) (rows_in us) (absent-in (file_id which) us new) ∙ rows-used us (file_id which) how (word ∷ []))
+more_rows which (first ∷ words) word rows us is new =
+    let how = reading_by (file_at which) in
+    ap (with_values (file_id which) how CommandLine (word ∷ [])) (is ∙ sym (rows-used us (file_id which) how (first ∷ words)))
+    ∙ (one-longer us (file_id which) how (first ∷ words) (word ∷ []) new (file_same which) ∙ rows-used us (file_id which) how (first ∷ (words ++ word ∷ [])))
+
+file_stands : (which : File) (words : List Text) (word : Text) (h : Held) (us : List OptionUse) → Stands h (us ++ file_use which words ∷ [])
+    → mentions (file_id which) us ≡ false → Stands (after_file which word h) (us ++ file_use which (words ++ word ∷ []) ∷ [])
+file_stands which words word h us stands new = record {
+  rows = file_rows which word h ∙ more_rows which words word (settled rules h).rows us stands.rows new;
+  settles = file_settles which word h;
+}
+
+-- files behind others
+files_stand_behind : (which : File) (words before : List Text) (h : Held) (us : List OptionUse) → Stands h (us ++ file_use which before ∷ [])
+    → mentions (file_id which) us ≡ false → Stands (after_files which words h) (us ++ file_use which (before ++ words) ∷ [])
+files_stand_behind which [] before h us stands new =
+    subst (λ (ws : List Text). Stands h (us ++ file_use which ws ∷ [])) (sym (append-nil before)) stands
+files_stand_behind which (word ∷ words) before h us stands new =
+    subst (λ (ws : List Text). Stands (after_files which words (after_file which word h)) (us ++ file_use which ws ∷ [])) (append_assoc before (word ∷ []) words)
+    (files_stand_behind which words (before ++ word ∷ []) (after_file which word h) us (file_stands which before word h us stands new) new)
+
+none_stands : (which : File) (h : Held) (us : List OptionUse) → Stands h us → Stands h (us ++ file_use which [] ∷ [])
+none_stands which h us stands = record { rows = stands.rows ∙ rows-unused us (file_id which) (reading_by (file_at which)); settles = stands.settles }
+
+pub files_stand : (which : File) (words : List Text) (h : Held) (us : List OptionUse) → Stands h us → mentions (file_id which) us ≡ false
+    → Stands (after_files which words h) (us ++ file_use which words ∷ [])
+files_stand which words h us stands new = files_stand_behind which words [] h us (none_stands which h us stands) new
+
+files_pass_behind : (which : File) (words before : List Text) (h : Held) (us : List OptionUse) (rest : List Text) → All IsPlain words
+    → Stands h (us ++ file_use which before ∷ []) → mentions (file_id which) us ≡ false
+    → walk_passes shape [] (walk_from h) (file_words (file_option which) words ++ rest) ≡ walk_passes shape [] (walk_from (after_files which words h)) rest
+unfolding clap_on_literals
+files_pass_behind which [] before h us rest plain stands new = refl
+files_pass_behind which (word ∷ words) before h us rest plain stands new =
+    let mine = All-head IsPlain word words plain in
+    let others = file_words (file_option which) words ++ rest in
+    ap₂ (λ b w. b && (turn_passes shape [] w word && walk_passes shape [] (walked rules [] w word) others))
+    (file_option_passes which h ∙ ap (λ b. b && true) stands.settles) (file_option_walked which h)
+    ∙ (ap₂ (λ b w. b && walk_passes shape [] w others) (turn_file which word h mine) (file_word_walked which word h mine)
+    ∙ files_pass_behind which words (before ++ word ∷ []) (after_file which word h) us rest (All-tail IsPlain word words plain) (file_stands which before word h us stands new) new)
+
+pub files_pass : (which : File) (words : List Text) (h : Held) (us : List OptionUse) (rest : List Text) → All IsPlain words → Stands h us
+    → mentions (file_id which) us ≡ false
+    → walk_passes shape [] (walk_from h) (file_words (file_option which) words ++ rest) ≡ walk_passes shape [] (walk_from (after_files which words h)) rest
+files_pass which words h us rest plain stands new = files_pass_behind which words [] h us rest plain (none_stands which h us stands) new
+
+no_file : (which : File) (rows : List Row) → has_row (file_id which) rows ≡ false → found (file_id which) (fold with_default rows rules) ≡ None
+no_file capture rows absent = never-found (take 14 rules) (file_at capture) (drop 15 rules) rows (codes "capture") absent refl refl refl
+no_file wire_capture rows absent = never-found (take 15 rules) (file_at wire_capture) (drop 16 rules) rows (codes "wire-capture") absent refl refl refl
+
+-- the files of an option, whatever options stand before it and behind it
+pub files_value : (which : File) (before after : List OptionUse) (words : List Text) → mentions (file_id which) before ≡ false
+    → mentions (file_id which) after ≡ false
+    → all_of (file_id which) (fold with_default (rows_in (before ++ file_use which words ∷ after)) rules) ≡ file_values words
+files_value which before after [] first behind =
+    ap (option_map (λ (r : Row). r.values))
+    (no_file which (rows_in (before ++ file_use which [] ∷ after)) (absent-use before after (file_id which) (reading_by (file_at which)) first behind))
+files_value which before after (word ∷ words) first behind =
+    let how = reading_by (file_at which) in
+    let stands = found-use before after (file_id which) how (word ∷ words) first (file_same which) in
+    ap (option_map (λ (r : Row). r.values))
+    (all-keep (file_id which) rules (rows_in (before ++ file_use which (word ∷ words) ∷ after)) (row (file_id which) how CommandLine (word ∷ words)) stands)

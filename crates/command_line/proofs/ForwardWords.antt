@@ -1,23 +1,27 @@
 -- What clap makes of `forward` and all its options.
-use Rattle.std.proofs.Common.{◌≡◌, ◌∙◌, ap, ap₂, sym, subst, refl, arith, inl, inr, ℕ, Bool, true, false, ◌&&◌, List, [], ◌∷◌, ◌++◌, codes, Option, Some, None, IfSome}
-use Rattle.std.specs.Prelude.{◌<◌, ◌^◌, not, decimal, fold, is_some}
+use Rattle.std.proofs.Common.{◌≡◌, ◌∙◌, ap, ap₂, sym, subst, refl, arith, inl, inr, ℕ, ◌+◌, Bool, true, false, ◌&&◌, List, [], ◌∷◌, ◌++◌, codes, Option, Some, None, IfSome}
+use Rattle.std.specs.Prelude.{◌≢◌, ◌<◌, ◌^◌, All, not, decimal, fold, is_some, map, slice_index}
 use Rattle.std.specs.List.{list_all}
 use Rattle.std.specs.Fmt.{digits}
 use Rattle.std.proofs.lemmas.List.{append_assoc, append-nil}
+use Rattle.std.proofs.lemmas.List.Elements.{All-cons, All-head, All-nil, All-tail}
 use Rattle.clap.specs.Simple.{entered, names_of}
 use Rattle.clap.specs.Takes.{default_passes, entered_passes, is_valid, level_passes, settle_passes, walk_passes}
 use Rattle.clap.specs.Walk.{Held, Names, Walk, finished, nothing_held, walk, walk_from, walked, with_default}
-use Rattle.clap.specs.Words.{App, Row, Rule, Shape, Text, built, one_of, subcommand_of, takes}
+use Rattle.clap.specs.Words.{App, Row, Rule, Shape, Text, all_of, built, one_of, subcommand_of, takes}
 use Rattle.clap.proofs.OnLiterals.{clap_on_literals}
 use Rattle.forwarder.specs.declared.config.Config.{Config}
 use Rattle.forward_command.specs.declared.printing.Printing.{Printing}
 use Rattle.ring_model.specs.declared.states.Completion.{Completion}
 use Rattle.command_line.specs.CommandLine.{Choices, HasForward, HasPrinting, IsProgram, SaysForward, SaysNumber, is_head, program_app}
-use Rattle.command_line.proofs.CommandLine.{IsNumber, is_number, numeral_of, strips_none}
+use Rattle.command_line.specs.FileWords.{FileOptions, HasFiles, file_words}
+use Rattle.port_files.specs.Words.{IsSource, IsWireFile, PortFile, SourceFile, source_word, wire_file_word}
+use Rattle.command_line.proofs.CommandLine.{IsNumber, IsPlain, is_number, is_plain, numeral_of, strips_none}
 use Rattle.command_line.proofs.OptionRows.{OptionUse, rows_in}
-use Rattle.command_line.proofs.ForwardOptions.{Number, Stands, after_flag, after_number, default_of, default_word, flag_id, flag_in, flag_passes, flag_stands, flag_use, flag_used, flag_value, flag_walked, number_id, number_option, number_passes, number_said, number_stands, number_use, number_value, number_walked, number_words, rules, settles, shape}
+use Rattle.command_line.proofs.ForwardOptions.{Number, Stands, after_files, after_flag, after_number, default_of, default_word, file_id, file_option, file_use, files_pass, files_stand, files_value, files_walked, flag_id, flag_in, flag_passes, flag_stands, flag_use, flag_used, flag_value, flag_walked, number_id, number_option, number_passes, number_said, number_stands, number_use, number_value, number_walked, number_words, rules, settles, shape}
 use Rattle.command_line.proofs.ForwardOptions.Number.{pairs, ring, buffers, bsize, batch, rs_every, workers, turns}
 use Rattle.command_line.proofs.ForwardOptions.Flag.{drop_en, no_retry, head, quiet, json, progress}
+use Rattle.command_line.proofs.ForwardOptions.File.{capture, wire_capture}
 
 -- ---- the words of all of them
 
@@ -37,6 +41,8 @@ record Said : Type 0 where
   quiet : Bool
   json : Bool
   progress : Bool
+  sources : List Text
+  wires : List Text
 
 record AreNumbers (s : Said) : Type 0 where
   pairs : IfSome s.pairs IsNumber
@@ -47,10 +53,18 @@ record AreNumbers (s : Said) : Type 0 where
   rs_every : IfSome s.rs_every IsNumber
   workers : IfSome s.workers IsNumber
   turns : IfSome s.turns IsNumber
+  sources : All IsPlain s.sources
+  wires : All IsPlain s.wires
 
 -- the words from each of them on
+abbrev words_wires : Said → List Text
+words_wires s = file_words (file_option wire_capture) s.wires
+
+abbrev words_sources : Said → List Text
+words_sources s = file_words (file_option capture) s.sources ++ words_wires s
+
 abbrev words_progress : Said → List Text
-words_progress s = flag_in progress s.progress
+words_progress s = flag_in progress s.progress ++ words_sources s
 
 abbrev words_json : Said → List Text
 words_json s = flag_in json s.json ++ words_progress s
@@ -176,6 +190,18 @@ held_progress s = after_flag progress s.progress (held_json s)
 abbrev uses_progress : Said → List OptionUse
 uses_progress s = uses_json s ++ flag_use progress s.progress ∷ []
 
+abbrev held_sources : Said → Held
+held_sources s = after_files capture s.sources (held_progress s)
+
+abbrev uses_sources : Said → List OptionUse
+uses_sources s = uses_progress s ++ file_use capture s.sources ∷ []
+
+abbrev held_wires : Said → Held
+held_wires s = after_files wire_capture s.wires (held_sources s)
+
+abbrev uses_wires : Said → List OptionUse
+uses_wires s = uses_sources s ++ file_use wire_capture s.wires ∷ []
+
 stands_pairs : (s : Said) → AreNumbers s → Stands (held_pairs s) (uses_pairs s)
 stands_pairs s are = number_stands pairs s.pairs nothing_held [] are.pairs (record { rows = refl; settles = refl }) refl
 
@@ -218,11 +244,13 @@ stands_json s are = flag_stands json s.json (held_quiet s) (uses_quiet s) (stand
 stands_progress : (s : Said) → AreNumbers s → Stands (held_progress s) (uses_progress s)
 stands_progress s are = flag_stands progress s.progress (held_json s) (uses_json s) (stands_json s are) refl
 
-no_more : (e : Bool) → flag_in progress e ≡ flag_in progress e ++ []
-no_more false = refl
-no_more true = refl
+stands_sources : (s : Said) → AreNumbers s → Stands (held_sources s) (uses_sources s)
+stands_sources s are = files_stand capture s.sources (held_progress s) (uses_progress s) (stands_progress s are) refl
 
-options_walked : (s : Said) → AreNumbers s → walk rules [] nothing_held (words_pairs s) ≡ walk_from (held_progress s)
+stands_wires : (s : Said) → AreNumbers s → Stands (held_wires s) (uses_wires s)
+stands_wires s are = files_stand wire_capture s.wires (held_sources s) (uses_sources s) (stands_sources s are) refl
+
+options_walked : (s : Said) → AreNumbers s → walk rules [] nothing_held (words_pairs s) ≡ walk_from (held_wires s)
 options_walked s are =
     number_walked pairs s.pairs nothing_held (words_ring s) are.pairs
     ∙ (number_walked ring s.ring (held_pairs s) (words_buffers s) are.ring
@@ -237,8 +265,10 @@ options_walked s are =
     ∙ (flag_walked head s.head (held_no_retry s) (words_quiet s)
     ∙ (flag_walked quiet s.quiet (held_head s) (words_json s)
     ∙ (flag_walked json s.json (held_quiet s) (words_progress s)
-    ∙ (ap (fold (walked rules []) (walk_from (held_json s))) (no_more s.progress)
-    ∙ (flag_walked progress s.progress (held_json s) []))))))))))))))
+    ∙ (flag_walked progress s.progress (held_json s) (words_sources s)
+    ∙ (files_walked capture s.sources (held_progress s) (words_wires s) are.sources
+    ∙ (ap (fold (walked rules []) (walk_from (held_sources s))) (sym (append-nil (words_wires s)))
+    ∙ (files_walked wire_capture s.wires (held_sources s) [] are.wires))))))))))))))))
 
 nothing_left : (h : Held) → walk_passes shape [] (walk_from h) [] ≡ true
 unfolding clap_on_literals
@@ -259,9 +289,11 @@ options_pass s are =
     ∙ (flag_passes head s.head (held_no_retry s) (words_quiet s) (flag_used head s.head (held_no_retry s) (uses_no_retry s) (stands_no_retry s are) refl)
     ∙ (flag_passes quiet s.quiet (held_head s) (words_json s) (flag_used quiet s.quiet (held_head s) (uses_head s) (stands_head s are) refl)
     ∙ (flag_passes json s.json (held_quiet s) (words_progress s) (flag_used json s.json (held_quiet s) (uses_quiet s) (stands_quiet s are) refl)
-    ∙ (ap (walk_passes shape [] (walk_from (held_json s))) (no_more s.progress)
-    ∙ (flag_passes progress s.progress (held_json s) [] (flag_used progress s.progress (held_json s) (uses_json s) (stands_json s are) refl)
-    ∙ (nothing_left (held_progress s))))))))))))))))
+    ∙ (flag_passes progress s.progress (held_json s) (words_sources s) (flag_used progress s.progress (held_json s) (uses_json s) (stands_json s are) refl)
+    ∙ (files_pass capture s.sources (held_progress s) (uses_progress s) (words_wires s) are.sources (stands_progress s are) refl
+    ∙ (ap (walk_passes shape [] (walk_from (held_sources s))) (sym (append-nil (words_wires s)))
+    ∙ (files_pass wire_capture s.wires (held_sources s) (uses_sources s) [] are.wires (stands_sources s are) refl
+    ∙ (nothing_left (held_wires s))))))))))))))))))
 
 valid : (h : Held) → (list_all default_passes rules && is_valid shape (finished rules h) false) ≡ true
 valid h = refl
@@ -269,20 +301,26 @@ valid h = refl
 level : (s : Said) → AreNumbers s → level_passes shape [] nothing_held (words_pairs s) false ≡ true
 level s are =
     ap₂ (λ b (w : Walk). b && (settles w.held && (list_all default_passes rules && is_valid shape (finished rules w.held) false))) (options_pass s are) (options_walked s are)
-    ∙ ap₂ (λ a b. a && b) (stands_progress s are).settles (valid (held_progress s))
+    ∙ ap₂ (λ a b. a && b) (stands_wires s are).settles (valid (held_wires s))
 
 -- ---- the rows at last
 
 -- the rows at last
 abbrev at_last : Said → List Row
-at_last s = fold with_default (rows_in (uses_progress s)) rules
+at_last s = fold with_default (rows_in (uses_wires s)) rules
 
-rows_at_last : (s : Said) → AreNumbers s → finished rules (held_progress s) ≡ at_last s
-rows_at_last s are = ap (λ (l : List Row). fold with_default l rules) (stands_progress s are).rows
+rows_at_last : (s : Said) → AreNumbers s → finished rules (held_wires s) ≡ at_last s
+rows_at_last s are = ap (λ (l : List Row). fold with_default l rules) (stands_wires s are).rows
 
 -- the uses behind each of them
+abbrev behind_sources : Said → List OptionUse
+behind_sources s = file_use wire_capture s.wires ∷ []
+
+abbrev behind_progress : Said → List OptionUse
+behind_progress s = file_use capture s.sources ∷ behind_sources s
+
 abbrev behind_json : Said → List OptionUse
-behind_json s = flag_use progress s.progress ∷ []
+behind_json s = flag_use progress s.progress ∷ behind_progress s
 
 abbrev behind_quiet : Said → List OptionUse
 behind_quiet s = flag_use json s.json ∷ behind_json s
@@ -426,7 +464,7 @@ is_said which words n (inr out) = record {
 -- ---- a configuration
 
 -- what each of its words says
-record Saying (words : List Text) (config : Config) (printing : Printing) (says : SaysForward words config printing) : Type 0 where
+record Saying (words : List Text) (config : Config) (printing : Printing) (files : FileOptions) (says : SaysForward words config printing files) : Type 0 where
   pairs : IsSaid pairs says.pairs config.pairs
   ring : IsSaid ring says.ring config.ring
   buffers : IsSaid buffers says.buffers config.buffers
@@ -436,8 +474,8 @@ record Saying (words : List Text) (config : Config) (printing : Printing) (says 
   workers : IsSaid workers says.workers config.workers
   turns : IsSaid turns says.turns config.turns
 
-saying : (words : List Text) (config : Config) (printing : Printing) (says : SaysForward words config printing) → Saying words config printing says
-saying words config printing says = record {
+saying : (words : List Text) (config : Config) (printing : Printing) (files : FileOptions) (says : SaysForward words config printing files) → Saying words config printing files says
+saying words config printing files says = record {
   pairs = is_said pairs says.pairs config.pairs says.says_pairs;
   ring = is_said ring says.ring config.ring says.says_ring;
   buffers = is_said buffers says.buffers config.buffers says.says_buffers;
@@ -448,8 +486,8 @@ saying words config printing says = record {
   turns = is_said turns says.turns config.turns says.says_turns;
 }
 
-abbrev said_by : (words : List Text) (config : Config) (printing : Printing) (says : SaysForward words config printing) → Saying words config printing says → Said
-said_by words config printing says are = record {
+abbrev said_by : (words : List Text) (config : Config) (printing : Printing) (files : FileOptions) (says : SaysForward words config printing files) → Saying words config printing files says → Said
+said_by words config printing files says are = record {
   pairs = are.pairs.said;
   ring = are.ring.said;
   buffers = are.buffers.said;
@@ -464,10 +502,28 @@ said_by words config printing says are = record {
   quiet = printing.quiet;
   json = printing.json;
   progress = printing.progress;
+  sources = map source_word files.sources;
+  wires = map wire_file_word files.wires;
 }
 
-numbers_by : (words : List Text) (config : Config) (printing : Printing) (says : SaysForward words config printing) (are : Saying words config printing says) → AreNumbers (said_by words config printing says are)
-numbers_by words config printing says are = record {
+-- a port is no hyphen, and begins the word of a file
+begins-plain : (port below : ℕ) (rest : Text) → port < below → slice_index ((48 + port) ∷ rest) 0 ≢ 45
+begins-plain port below rest low is = let same : 48 + port ≡ 45 = is in absurd (omega (arith, same))
+
+sources_plain : (sources : List SourceFile) → All IsSource sources → All IsPlain (map source_word sources)
+sources_plain [] are = All-nil IsPlain
+sources_plain (s ∷ ss) are =
+    All-cons IsPlain (source_word s) (map source_word ss) (is_plain (source_word s) (begins-plain s.port 2 (58 ∷ (48 + s.queue) ∷ 61 ∷ s.file) (All-head IsSource s ss are).port))
+    (sources_plain ss (All-tail IsSource s ss are))
+
+wires_plain : (wires : List PortFile) → All IsWireFile wires → All IsPlain (map wire_file_word wires)
+wires_plain [] are = All-nil IsPlain
+wires_plain (w ∷ ws) are =
+    All-cons IsPlain (wire_file_word w) (map wire_file_word ws) (is_plain (wire_file_word w) (begins-plain w.port 2 (61 ∷ w.file) (All-head IsWireFile w ws are).port))
+    (wires_plain ws (All-tail IsWireFile w ws are))
+
+numbers_by : (words : List Text) (config : Config) (printing : Printing) (files : FileOptions) (says : SaysForward words config printing files) (are : Saying words config printing files says) → AreNumbers (said_by words config printing files says are)
+numbers_by words config printing files says are = record {
   pairs = are.pairs.number;
   ring = are.ring.number;
   buffers = are.buffers.number;
@@ -476,14 +532,16 @@ numbers_by words config printing says are = record {
   rs_every = are.rs_every.number;
   workers = are.workers.number;
   turns = are.turns.number;
+  sources = sources_plain files.sources says.are_files.sources;
+  wires = wires_plain files.wires says.are_files.wires;
 }
 
 -- the words, as the options that are said
-words_of : (words : List Text) (config : Config) (printing : Printing) (says : SaysForward words config printing) (are : Saying words config printing says)
-    → words ≡ codes "forward" ∷ words_pairs (said_by words config printing says are)
-words_of words config printing says are =
-    let flags : List Text = words_drop_en (said_by words config printing says are) in
-    let work : says.batch ++ (says.rs_every ++ (says.workers ++ (says.turns ++ flags))) ≡ words_batch (said_by words config printing says are) =
+words_of : (words : List Text) (config : Config) (printing : Printing) (files : FileOptions) (says : SaysForward words config printing files) (are : Saying words config printing files says)
+    → words ≡ codes "forward" ∷ words_pairs (said_by words config printing files says are)
+words_of words config printing files says are =
+    let flags : List Text = words_drop_en (said_by words config printing files says are) in
+    let work : says.batch ++ (says.rs_every ++ (says.workers ++ (says.turns ++ flags))) ≡ words_batch (said_by words config printing files says are) =
     ap₂ (λ (a b : List Text). a ++ b) are.batch.words_are
     (ap₂ (λ (a b : List Text). a ++ b) are.rs_every.words_are
     (ap₂ (λ (a b : List Text). a ++ b) are.workers.words_are (ap (λ (a : List Text). a ++ flags) are.turns.words_are))) in
@@ -493,24 +551,24 @@ words_of words config printing says are =
     (ap₂ (λ (a b : List Text). a ++ b) are.ring.words_are
     (ap₂ (λ (a b : List Text). a ++ b) are.buffers.words_are (ap₂ (λ (a b : List Text). a ++ b) are.bsize.words_are work))))
 
-pub forward_taken : (app : App) (words : List Text) (config : Config) (printing : Printing) → IsProgram app → SaysForward words config printing → takes app words ≡ true
-forward_taken app words config printing program says =
-    let are = saying words config printing says in
-    let s = said_by words config printing says are in
+pub forward_taken : (app : App) (words : List Text) (config : Config) (printing : Printing) (files : FileOptions) → IsProgram app → SaysForward words config printing files → takes app words ≡ true
+forward_taken app words config printing files program says =
+    let are = saying words config printing files says in
+    let s = said_by words config printing files says are in
     ap (λ (a : App). takes a words) program.app_is
-    ∙ (ap (takes (program_app program.rings program.formats)) (words_of words config printing says are)
-    ∙ (takes_forward program.rings program.formats (words_pairs s) ∙ ap (λ b. b && true) (level s (numbers_by words config printing says are))))
+    ∙ (ap (takes (program_app program.rings program.formats)) (words_of words config printing files says are)
+    ∙ (takes_forward program.rings program.formats (words_pairs s) ∙ ap (λ b. b && true) (level s (numbers_by words config printing files says are))))
 
-pub forward_found : (app : App) (words : List Text) (config : Config) (printing : Printing) → IsProgram app → SaysForward words config printing
-    → (rows : List Row) × (subcommand_of app words ≡ Some (codes "forward", rows)) × HasForward rows config × HasPrinting rows printing
-forward_found app words config printing program says =
-    let are = saying words config printing says in
-    let s = said_by words config printing says are in
-    let numbers = numbers_by words config printing says are in
+pub forward_found : (app : App) (words : List Text) (config : Config) (printing : Printing) (files : FileOptions) → IsProgram app → SaysForward words config printing files
+    → (rows : List Row) × (subcommand_of app words ≡ Some (codes "forward", rows)) × HasForward rows config × HasPrinting rows printing × HasFiles rows files
+forward_found app words config printing files program says =
+    let are = saying words config printing files says in
+    let s = said_by words config printing files says are in
+    let numbers = numbers_by words config printing files says are in
     let last = rows_at_last s numbers in (
-      finished rules (held_progress s),
+      finished rules (held_wires s),
       ap (λ (a : App). subcommand_of a words) program.app_is
-          ∙ (ap (subcommand_of (program_app program.rings program.formats)) (words_of words config printing says are)
+          ∙ (ap (subcommand_of (program_app program.rings program.formats)) (words_of words config printing files says are)
           ∙ (found_forward program.rings program.formats (words_pairs s)
           ∙ ap (λ (w : Walk). Some (codes "forward", finished rules w.held)) (options_walked s numbers))),
       record {
@@ -531,7 +589,11 @@ forward_found app words config printing program says =
       record {
         quiet = ap (one_of (flag_id quiet)) last ∙ flag_value quiet (uses_head s) (behind_quiet s) printing.quiet refl refl;
         json = ap (one_of (flag_id json)) last ∙ flag_value json (uses_quiet s) (behind_json s) printing.json refl refl;
-        progress = ap (one_of (flag_id progress)) last ∙ flag_value progress (uses_json s) [] printing.progress refl refl;
+        progress = ap (one_of (flag_id progress)) last ∙ flag_value progress (uses_json s) (behind_progress s) printing.progress refl refl;
+      },
+      record {
+        sources = ap (all_of (file_id capture)) last ∙ files_value capture (uses_progress s) (behind_sources s) (map source_word files.sources) refl refl;
+        wires = ap (all_of (file_id wire_capture)) last ∙ files_value wire_capture (uses_sources s) [] (map wire_file_word files.wires) refl refl;
       },
     )
 

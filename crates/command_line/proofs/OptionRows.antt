@@ -49,6 +49,16 @@ pub used-absent : (id : Text) (how : Reading) (source : ValueSource) (values : L
     → with_values id how source values rows ≡ rows ++ row id how source values ∷ []
 used-absent id how source values rows absent = at_row-absent id (more_values source values) (row id how source values ∷ []) rows absent
 
+at_row-later : (id : Text) (change : Row → List Row) (missing xs ys : List Row) → has_row id xs ≡ false → at_row id change missing (xs ++ ys) ≡ xs ++ at_row id change missing ys
+at_row-later id change missing [] ys absent = refl
+at_row-later id change missing (x ∷ xs) ys absent =
+    by-first (bytes_eq x.id id) (or-left (bytes_eq x.id id) (has_row id xs) absent) (at_row-later id change missing xs ys (or-right (bytes_eq x.id id) (has_row id xs) absent))
+  where
+    by-first : (b : Bool) → b ≡ false → at_row id change missing (xs ++ ys) ≡ xs ++ at_row id change missing ys
+        → (if b then change x ++ (xs ++ ys) else x ∷ at_row id change missing (xs ++ ys)) ≡ x ∷ (xs ++ at_row id change missing ys)
+    by-first true other later = cc other
+    by-first false other later = ap (λ (l : List Row). x ∷ l) later
+
 pub without-absent : (id : Text) (rows : List Row) → has_row id rows ≡ false → without id rows ≡ rows
 without-absent id rows absent = at_row-absent id (λ _. []) [] rows absent ∙ append-nil rows
 
@@ -119,6 +129,16 @@ rows-used us id how values = sym (rows_in-append us (record { id = id; how = how
 
 pub rows-unused : (us : List OptionUse) (id : Text) (how : Reading) → rows_in us ≡ rows_in (us ++ record { id = id; how = how; values = None } ∷ [])
 rows-unused us id how = sym (append-nil (rows_in us)) ∙ sym (rows_in-append us (record { id = id; how = how; values = None } ∷ []))
+
+-- one value more of an option that stood last
+pub one-longer : (us : List OptionUse) (id : Text) (how : Reading) (values more : List Text) → mentions id us ≡ false → bytes_eq id id ≡ true
+    → with_values id how CommandLine more (rows_in us ++ row id how CommandLine values ∷ []) ≡ rows_in us ++ row id how CommandLine (values ++ more) ∷ []
+one-longer us id how values more unseen same =
+    let change : Row → List Row = more_values CommandLine more in
+    let missing : List Row = row id how CommandLine more ∷ [] in
+    let last : Row = row id how CommandLine values in
+    at_row-later id change missing (rows_in us) (last ∷ []) (absent-in id us unseen)
+    ∙ ap (λ b. rows_in us ++ (if b then change last ++ [] else last ∷ missing)) same
 
 -- the row of an option that stands
 pub found-use : (before after : List OptionUse) (id : Text) (how : Reading) (values : List Text) → mentions id before ≡ false → bytes_eq id id ≡ true
@@ -193,3 +213,28 @@ pub default-found : (before : List Rule) (a : Rule) (after : List Rule) (rows : 
 default-found before a after rows v vs absent none defaults same =
     all-keep a.id after (with_default (fold with_default rows before) a) (row a.id (reading_by a) DefaultValue (v ∷ vs))
     (default-given a (fold with_default rows before) v vs (all-skip a.id before rows absent none) defaults same)
+
+-- ---- an option without a default
+
+no-default : (id : Text) (a : Rule) (rows : List Row) → a.defaults ≡ [] → has_row id rows ≡ false → has_row id (with_default rows a) ≡ false
+no-default id a rows none absent = by-has (has_row a.id rows)
+  where
+    by-has : (b : Bool) → has_row id (if b then rows else default_rows a.id (reading_by a) a.defaults rows) ≡ false
+    by-has true = absent
+    by-has false = ap (λ (ds : List Text). has_row id (default_rows a.id (reading_by a) ds rows)) none ∙ absent
+
+found-none : (id : Text) (rows : List Row) → has_row id rows ≡ false → found id rows ≡ None
+found-none id [] absent = refl
+found-none id (r ∷ rs) absent = by-first (bytes_eq r.id id) (or-left (bytes_eq r.id id) (has_row id rs) absent) (found-none id rs (or-right (bytes_eq r.id id) (has_row id rs) absent))
+  where
+    by-first : (b : Bool) → b ≡ false → found id rs ≡ None → (if b then Some r else found id rs) ≡ None
+    by-first true other later = cc other
+    by-first false other later = later
+
+-- one that does not stand has no row at last
+pub never-found : (before : List Rule) (a : Rule) (after : List Rule) (rows : List Row) (id : Text) → has_row id rows ≡ false
+    → list_any (λ b. bytes_eq b.id id) before ≡ false → a.defaults ≡ [] → list_any (λ b. bytes_eq b.id id) after ≡ false
+    → found id (fold with_default (with_default (fold with_default rows before) a) after) ≡ None
+never-found before a after rows id absent first none behind =
+    found-none id (fold with_default (with_default (fold with_default rows before) a) after)
+    (all-skip id after (with_default (fold with_default rows before) a) (no-default id a (fold with_default rows before) none (all-skip id before rows absent first)) behind)

@@ -18,6 +18,7 @@ use Rattle.forwarder.specs.declared.config.Config.{Config}
 use Rattle.forward_command.specs.declared.printing.Printing.{Printing}
 use Rattle.capture_command.specs.Requests.{IsPlaced}
 use Rattle.capture_command.specs.declared.request.CaptureRequest.{CaptureRequest}
+use Rattle.command_line.specs.FileWords.{AreFiles, FileOptions, with_file_rules, words_of_files}
 use Rattle.command_line.specs.CaptureWords.{SaysFromCapture, SaysToCapture, from_capture_app, to_capture_app}
 use Rattle.command_line.specs.declared.command.Asked.{Asked}
 use Rattle.command_line.specs.declared.command.Asked.TheVariants as asked
@@ -88,7 +89,7 @@ with_printing_rules app =
 abbrev pub forward_app : App
 forward_app =
     let with_drop = with_rule (with_work_rules (with_queue_rules (new_app (codes "forward")))) (flag_rule (codes "drop")) in
-    with_printing_rules (with_rule (with_rule with_drop (flag_rule (codes "no-retry"))) (flag_rule (codes "head")))
+    with_file_rules (with_printing_rules (with_rule (with_rule with_drop (flag_rule (codes "no-retry"))) (flag_rule (codes "head"))))
 
 abbrev pub program_app : Choices → Choices → App
 program_app rings formats =
@@ -150,8 +151,9 @@ pub record SaysReplay (words : List Text) (plan : QueuePlan) : Type 0 where
 
 -- the words are `forward` and its options in this order: `--drop` stands where frames are dropped, `--no-retry` where
 -- packets are, `--head` where the transmit queues report by a head word, `--quiet` where no wire is printed, `--json`
--- where the counts are objects, and `--progress` where it is shown how far it is
-pub record SaysForward (words : List Text) (config : Config) (printing : Printing) : Type 0 where
+-- where the counts are objects, and `--progress` where it is shown how far it is; then `--capture` for each source, and
+-- `--wire-capture` for each wire file
+pub record SaysForward (words : List Text) (config : Config) (printing : Printing) (files : FileOptions) : Type 0 where
   pub pairs : List Text
   pub ring : List Text
   pub buffers : List Text
@@ -172,7 +174,9 @@ pub record SaysForward (words : List Text) (config : Config) (printing : Printin
       ++ (flag_words (codes "--drop") config.drop_en ++ (flag_words (codes "--no-retry") (not config.retry)
       ++ (flag_words (codes "--head") (is_head config.completion)
       ++ (flag_words (codes "--quiet") printing.quiet
-      ++ (flag_words (codes "--json") printing.json ++ flag_words (codes "--progress") printing.progress)))))))))))))
+      ++ (flag_words (codes "--json") printing.json
+      ++ (flag_words (codes "--progress") printing.progress ++ words_of_files files))))))))))))))
+  pub are_files : AreFiles files
 
 -- the values of the arguments
 abbrev pub HasOnce : List Row → Text → Type 0
@@ -273,6 +277,6 @@ pub data IsUnshown (words : List Text) : Type 0 where
   asks_once : (digits : Text) → SaysOnce words digits → IsUnshown words
   asks_decode : (form : Form) (digits : Text) → SaysDecode words form digits → IsUnshown words
   asks_replay : (plan : QueuePlan) → SaysReplay words plan → IsUnshown words
-  asks_forward : (config : Config) (printing : Printing) → SaysForward words config printing → printing.progress ≡ false → IsUnshown words
+  asks_forward : (config : Config) (printing : Printing) (files : FileOptions) → SaysForward words config printing files → printing.progress ≡ false → IsUnshown words
   asks_from_capture : (port queue : ℕ) → SaysFromCapture words port queue → IsUnshown words
   asks_to_capture : (port : ℕ) → SaysToCapture words port → IsUnshown words

@@ -1,2 +1,4 @@
 pub mod CaptureWords
+pub mod FileWords
+pub mod Forwarding
 pub mod CommandLine

@@ -19,8 +19,10 @@ ghost use Rattle.command_line.specs.CommandLine.{HasOnce, IsMistake, IsMisuse, I
 ghost use Rattle.capture_command.specs.declared.request.CaptureRequest.TheVariants.{FromCapture, ToCapture};
 ghost use Rattle.command_line.specs.CaptureWords.{HasFromCapture, HasToCapture, SaysFromCapture, SaysToCapture};
 ghost use Rattle.command_line.specs.CommandLine.{CanBeDone, IsCapture};
+ghost use Rattle.command_line.specs.FileWords.{FileOptions};
 
 use crate::captures::{from_capture, from_capture_in, to_capture, to_capture_in};
+use crate::files::with_files;
 use capture_command::CaptureRequest;
 use clap::error::ErrorKind;
 use clap::{Arg, ArgAction, ArgMatches, Command, Error, value_parser};
@@ -58,7 +60,8 @@ static FORMATS: [&str; 2] = ["read", "back"];
 pub enum Asked<'a> {
     /// A request of `commands`.
     Request(Request<'a>),
-    /// To forward the script of standard input, and to print what came of it.
+    /// To forward the script of standard input, or captures, and to print what came of it. The words say of which files
+    /// ([`files_of`](crate::files_of)).
     Forward { config: Config, printing: Printing },
     /// A request of captures.
     Capture(CaptureRequest),
@@ -73,7 +76,7 @@ pub fn asked_of<'a>(alloc: Global, words: &'a [String]) -> Result<Asked<'a>, Err
         → MatchResult result (IsRequest (λ r. IsDecode r form digits)) (λ e. kind_of e ≡ OutOfMemory) }
     ensures replay { (plan : QueuePlan) → SaysReplay (map string_bytes words.entry.now) plan
         → MatchResult result (IsRequest (λ r. IsReplayOf r plan)) (λ e. kind_of e ≡ OutOfMemory) }
-    ensures forward { (config : ForwardConfig) (printing : Printed) → SaysForward (map string_bytes words.entry.now) config printing
+    ensures forward { (config : ForwardConfig) (printing : Printed) (files : FileOptions) → SaysForward (map string_bytes words.entry.now) config printing files
         → MatchResult result (λ a. IsForward a config printing) (λ e. kind_of e ≡ OutOfMemory) }
     ensures from_capture { (port queue : ℕ) → SaysFromCapture (map string_bytes words.entry.now) port queue
         → MatchResult result (λ a. IsCapture a (FromCapture port queue)) (λ e. kind_of e ≡ OutOfMemory) }
@@ -222,7 +225,7 @@ fn completion_in<'a>(matches: &ArgMatches<'a>) -> Completion
 }
 
 /// The program's commands and their arguments.
-fn program<'a>(alloc: Global) -> Result<Command<'a>, AllocError>
+pub(crate) fn program<'a>(alloc: Global) -> Result<Command<'a>, AllocError>
     ensures { IfOk result (λ c. IsProgram (app_of c)) }
 {
     bare(alloc)?
@@ -349,7 +352,7 @@ fn forward<'a>(alloc: Global) -> Result<Command<'a>, AllocError>
         .arg(drop)?
         .arg(no_retry)?
         .arg(head)?;
-    with_printing(alloc, command)
+    with_files(alloc, with_printing(alloc, command)?)
 }
 
 /// A command with the options of `forward` for queues and buffers.

@@ -1,5 +1,5 @@
 //! The program's run: its words to a request, and the request to an exit status.
-ghost use Rattle.std.specs.Prelude.{◌≡◌, ◌⊎◌, ℕ, List, Some, map};
+ghost use Rattle.std.specs.Prelude.{◌≡◌, ◌≢◌, ◌⊎◌, ℕ, List, [], Some, false, map};
 ghost use Rattle.std.specs.String.{string_bytes};
 ghost use Rattle.std.specs.Io.KnownBytes.{Keeps};
 ghost use Rattle.clap.specs.Words.{kind_of};
@@ -12,16 +12,21 @@ ghost use Rattle.commands.specs.Frame.{frame_in};
 ghost use Rattle.commands.specs.Replay.{EndsReplay};
 ghost use Rattle.command_line.specs.CaptureWords.{SaysFromCapture, SaysToCapture};
 ghost use Rattle.command_line.specs.CommandLine.{IsMistake, IsMisuse, IsUnshown, SaysDecode, SaysForward, SaysOnce, SaysReplay};
-ghost use Rattle.forward_command.specs.Forwards.{EndsForward};
+ghost use Rattle.command_line.specs.FileWords.{FileOptions};
+ghost use Rattle.command_line.specs.Forwarding.{EndsForwarding};
 ghost use Rattle.forward_command.specs.declared.printing.Printing.{Printing};
 ghost use Rattle.forwarder.specs.declared.config.Config.{Config};
 
 use crate::command::{Asked, asked_of};
+use crate::files::files_of;
 use clap::error::ErrorKind;
 use commands::{DONE, REFUSED, Refusal, answer, refuse};
+use forward_command::Printing as Printed;
+use forwarder::Config as ForwardConfig;
 use std::alloc::Global;
 use std::io::{IsTerminal, Read, Write};
 use std::marker::Send;
+use std::rt::Files;
 use std::sync::Wait;
 use std::thread::Threads;
 use std::time::Clock;
@@ -32,11 +37,12 @@ pub const MISUSED: u8 = 2;
 /// Runs the program on the words after its name, and answers its exit status.
 ///
 /// Results and help go to `output`, with status 0. A refusal goes to `faults` as one line, `refused` with its number
-/// and its words, with status 1; before it stands the line or the record of the input that it is for, if it is for one.
-/// What is wrong with the command line goes to `faults`, with status 2. A failed write to `faults` changes no status.
+/// and its words, with status 1; before it stands the file, and the line or the record of the input, that it is for, if it is
+/// for one. With `forward --capture` the frames of captures are forwarded and `input` is not read; what leaves a port goes to
+/// the files of `--wire-capture` too. What is wrong with the command line goes to `faults`, with status 2. A failed write to `faults` changes no status.
 /// `screen` is a second way to standard error, beside `faults`: with `forward --progress` it is shown there how far it is.
 pub fn run<
-    R: Threads + Wait + Clock + Sync,
+    R: Threads + Wait + Clock + Sync + Files,
     I: Read,
     W: Write,
     E: Write,
@@ -62,8 +68,10 @@ pub fn run<
         → EndsDecode form digits result (W.contents output.old) (W.contents output.new) }
     ensures replay { (plan : QueuePlan) (text : List ℕ) → SaysReplay (map string_bytes words.now) plan
         → I.remaining input.old ≡ Some text → EndsReplay plan text result (W.contents output.old) (W.contents output.new) }
-    ensures forward { (config : Config) (printing : Printing) (text : List ℕ) → SaysForward (map string_bytes words.now) config printing
-        → I.remaining input.old ≡ Some text → EndsForward config printing text result (W.contents output.old) (W.contents output.new) }
+    ensures forward { (config : Config) (printing : Printing) (files : FileOptions) → SaysForward (map string_bytes words.now) config printing files
+        → EndsForwarding config printing files.sources (I.remaining input.old) result (W.contents output.old) (W.contents output.new) }
+    ensures unread { (config : Config) (printing : Printing) (files : FileOptions) → SaysForward (map string_bytes words.now) config printing files
+        → files.sources ≢ [] → input.new ≡ input.old }
     ensures from_capture { (port queue : ℕ) (bytes : List ℕ) → SaysFromCapture (map string_bytes words.now) port queue
         → I.remaining input.old ≡ Some bytes
         → EndsBy (lines_meant port queue bytes) result (W.contents output.old) (W.contents output.new) }
@@ -73,12 +81,56 @@ pub fn run<
 {
     match asked_of(alloc, words) {
         Ok(Asked::Request(request)) => answer(rt, alloc, request, input, output, faults),
-        Ok(Asked::Forward { config, printing }) => {
-            forward_command::answer(rt, alloc, &config, printing, input, output, faults, screen)
-        }
+        Ok(Asked::Forward { config, printing }) => forward(
+            rt, alloc, words, &config, printing, input, output, faults, screen,
+        ),
         Ok(Asked::Capture(request)) => {
             capture_command::answer(alloc, request, input, output, faults)
         }
+        Err(error) => tell(&error, output, faults),
+    }
+}
+
+/// Forwards under this configuration, with the files in the words, and answers the status.
+fn forward<
+    R: Threads + Wait + Clock + Sync + Files,
+    I: Read,
+    W: Write,
+    E: Write,
+    M: Write + IsTerminal + Send,
+>(
+    rt: &R,
+    alloc: Global,
+    words: &[String],
+    config: &ForwardConfig,
+    printing: Printed,
+    input: &mut I,
+    output: &mut W,
+    faults: &mut E,
+    screen: &mut M,
+) -> u8
+    ensures status { (result ≡ DONE) ⊎ (result ≡ REFUSED) ⊎ (result ≡ MISUSED) }
+    ensures done { result ≡ DONE → Keeps (E.contents faults.old) (E.contents faults.new) }
+    ensures misused { result ≡ MISUSED → Keeps (W.contents output.old) (W.contents output.new) }
+    ensures screen { printing.progress ≡ false → screen.new ≡ screen.old }
+    ensures ends { (said : Config) (shown : Printing) (files : FileOptions) → SaysForward (map string_bytes words.now) said shown files
+        → EndsForwarding config.now printing files.sources (I.remaining input.old) result (W.contents output.old) (W.contents output.new) }
+    ensures unread { (said : Config) (shown : Printing) (files : FileOptions) → SaysForward (map string_bytes words.now) said shown files
+        → files.sources ≢ [] → input.new ≡ input.old }
+{
+    match files_of(alloc, words) {
+        Ok(files) => forward_captures::answer(
+            rt,
+            alloc,
+            config,
+            printing,
+            files.sources.as_slice(),
+            files.wires.as_slice(),
+            input,
+            output,
+            faults,
+            screen,
+        ),
         Err(error) => tell(&error, output, faults),
     }
 }

@@ -5,6 +5,7 @@ use crate::replay_rows::{ENDS, MIDDLE, ROWS};
 use crate::told::{comes_to, outcome_of, times};
 use std::alloc::{AllocError, Global};
 use std::process::Abort;
+use std::rt::Files;
 use std::sync::Wait;
 use std::test::Fail;
 use std::thread::Threads;
@@ -174,7 +175,7 @@ fn a_disabling_at_every_step_makes_as_many_moves(rt: HostRuntime) -> Result<(), 
 }
 
 /// Such queues are made: the last of them takes one post less than its length, and the next is not there.
-fn are_made<R: Abort + Threads + Wait + Clock + Sync>(
+fn are_made<R: Abort + Threads + Wait + Clock + Sync + Files>(
     rt: &R,
     alloc: Global,
     (pairs, post, beyond, told): (&'static str, &str, &str, &str),

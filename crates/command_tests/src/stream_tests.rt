@@ -7,6 +7,7 @@ use ring_machine::Completion;
 use std::alloc::Global;
 use std::io::Write;
 use std::process::Abort;
+use std::rt::Files;
 use std::sync::Wait;
 use std::test::Fail;
 use std::thread::Threads;
@@ -38,7 +39,7 @@ const STATUSES: [(&[&str], u8); 7] = [
 ];
 
 /// A run with such an output is refused for it.
-fn is_refused<R: Abort + Threads + Wait + Clock + Sync, W: Write>(
+fn is_refused<R: Abort + Threads + Wait + Clock + Sync + Files, W: Write>(
     rt: &R,
     alloc: Global,
     words: &[&str],

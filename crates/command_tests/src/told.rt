@@ -5,6 +5,7 @@ use command_line::run;
 use std::alloc::{AllocError, Global};
 use std::io::{Read, Write};
 use std::process::Abort;
+use std::rt::Files;
 use std::sync::Wait;
 use std::test::Fail;
 use std::thread::Threads;
@@ -27,7 +28,7 @@ pub struct Row {
 }
 
 /// The status of a run on these words and streams.
-pub fn status_of<R: Threads + Wait + Clock + Sync, I: Read, W: Write, E: Write>(
+pub fn status_of<R: Threads + Wait + Clock + Sync + Files, I: Read, W: Write, E: Write>(
     rt: &R,
     alloc: Global,
     words: &[&str],
@@ -51,7 +52,7 @@ pub fn status_of<R: Threads + Wait + Clock + Sync, I: Read, W: Write, E: Write>(
 }
 
 /// What a run on these words and this input comes to.
-pub fn outcome_of<R: Threads + Wait + Clock + Sync>(
+pub fn outcome_of<R: Threads + Wait + Clock + Sync + Files>(
     rt: &R,
     alloc: Global,
     words: &[&str],
@@ -68,7 +69,7 @@ pub fn outcome_of<R: Threads + Wait + Clock + Sync>(
 }
 
 /// A run on these words and this input comes to this status, this output and these faults.
-pub fn comes_to<R: Abort + Threads + Wait + Clock + Sync>(
+pub fn comes_to<R: Abort + Threads + Wait + Clock + Sync + Files>(
     rt: &R,
     alloc: Global,
     words: &[&str],
@@ -83,7 +84,7 @@ pub fn comes_to<R: Abort + Threads + Wait + Clock + Sync>(
 }
 
 /// A run on these words is told that they are wrong, with this text, and prints nothing on the output.
-pub fn is_mistaken<R: Abort + Threads + Wait + Clock + Sync>(
+pub fn is_mistaken<R: Abort + Threads + Wait + Clock + Sync + Files>(
     rt: &R,
     alloc: Global,
     words: &[&str],
@@ -97,7 +98,7 @@ pub fn is_mistaken<R: Abort + Threads + Wait + Clock + Sync>(
 }
 
 /// A run on these words prints help with this text, and ends well.
-pub fn is_helped<R: Abort + Threads + Wait + Clock + Sync>(
+pub fn is_helped<R: Abort + Threads + Wait + Clock + Sync + Files>(
     rt: &R,
     alloc: Global,
     words: &[&str],

@@ -58,7 +58,7 @@ const WRONG: [(&[&str], &str); 17] = [
 ];
 
 /// Each refusal, and its line.
-const LINES: [(Refusal, &str); 18] = [
+const LINES: [(Refusal, &str); 20] = [
     (Refusal::Descriptor(DescError::Length), "refused 1 length\n"),
     (
         Refusal::Descriptor(DescError::Reserved),
@@ -92,6 +92,8 @@ const LINES: [(Refusal, &str); 18] = [
     (Refusal::Input, "refused 82 input\n"),
     (Refusal::Memory, "refused 83 memory\n"),
     (Refusal::Output, "refused 84 output\n"),
+    (Refusal::FileNotRead, "refused 85 file not read\n"),
+    (Refusal::FileNotWritten, "refused 86 file not written\n"),
 ];
 
 #[test]

@@ -1,7 +1,7 @@
 -- The numbers of refusals, and what they are for.
 use Rattle.std.specs.Prelude.{◌≡◌, ◌⊎◌, ℕ, Option, Some, None}
 use Rattle.commands.specs.declared.refusal.Refusal.{Refusal}
-use Rattle.commands.specs.declared.refusal.Refusal.TheVariants.{Capture, Descriptor, Forward, Machine, Ring, Script, Stock, FrameLength, Thread, Hex, Move, Input, Memory, Output}
+use Rattle.commands.specs.declared.refusal.Refusal.TheVariants.{Capture, Descriptor, Forward, Machine, Ring, Script, Stock, FrameLength, Thread, Hex, Move, Input, Memory, Output, FileNotRead, FileNotWritten}
 use Rattle.descriptor.specs.Refusal.{refusal_number as descriptor_number}
 use Rattle.ring_machine.specs.MachineErrors.{number_of_error}
 use Rattle.forwarding.specs.Refusal.{refusal_number as forward_number}
@@ -28,6 +28,8 @@ refusal_number (Capture error) = capture_number error
 refusal_number Input = 82
 refusal_number Memory = 83
 refusal_number Output = 84
+refusal_number FileNotRead = 85
+refusal_number FileNotWritten = 86
 
 -- a move that can't be read is on a line, and a fault of a script
 abbrev pub refused_line : Refusal → Option ℕ

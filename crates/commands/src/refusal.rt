@@ -58,6 +58,12 @@ pub enum Refusal {
     /// Standard output could not be written. A beginning of the output may have gone out.
     #[error("output")]
     Output,
+    /// A file could not be read.
+    #[error("file not read")]
+    FileNotRead,
+    /// A file could not be written.
+    #[error("file not written")]
+    FileNotWritten,
 }
 
 impl Refusal {
@@ -80,6 +86,8 @@ impl Refusal {
             Refusal::Input => 82,
             Refusal::Memory => 83,
             Refusal::Output => 84,
+            Refusal::FileNotRead => 85,
+            Refusal::FileNotWritten => 86,
         }
     }
 

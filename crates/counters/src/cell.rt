@@ -1,18 +1,14 @@
 //! A cell, the pen that writes its numbers, and the passes that read them.
 ghost use Rattle.std.specs.Prelude.{◌≡◌, All, IfOk, IfErr};
-ghost use Rattle.counters.specs.Moments.{GoesOn, NoneFalls};
+ghost use Rattle.moments.specs.Moments.{GoesOn, NoneFalls};
 ghost use Rattle.counters.specs.Watching.{fresh, with_moment, all_of};
 ghost use Rattle.counters.specs.declared.error.CounterError.TheVariants.{Memory};
 
 use crate::CounterError;
-use crate::moment::{Known, Moment, Reads, Tells, Watched, Writes};
-use crossbeam_utils::atomic::seq_cell::{Pass, RuledSeqCell};
+use moments::{Moment, Numbers, View};
 use std::alloc::{AllocError, Global};
 use std::marker::Model;
 use std::sync::{Arc, Wait};
-
-/// The words of a cell, under its rule.
-type Numbers<T, const N: usize> = RuledSeqCell<T, Known<T>, Watched<N>, N>;
 
 /// Numbers that one pen writes and any number of passes read. Threads share it.
 #[derive(Drop)]
@@ -24,13 +20,13 @@ pub struct MomentCell<T: Moment<N>, const N: usize> {
 #[derive(Drop)]
 pub struct MomentPen<T: Moment<N>, const N: usize> {
     numbers: Arc<Numbers<T, N>, Global>,
-    pass: Pass<T, Known<T>>,
+    view: View<T>,
 }
 
 /// Reads the numbers of its cell. It has no bytes.
 #[derive(Drop)]
 pub struct MomentPass<T> {
-    pass: Pass<T, Known<T>>,
+    view: View<T>,
 }
 
 impl<T: Moment<N>, const N: usize> Model for MomentCell<T, N> {
@@ -39,30 +35,27 @@ impl<T: Moment<N>, const N: usize> Model for MomentCell<T, N> {
 
     ghost Value = { TableId };
 
-    ghost view = { λ c. (arc_value c.numbers).table.shared.table_id };
+    ghost view = { λ c. arc_value c.numbers };
 }
 
 impl<T: Moment<N>, const N: usize> Model for MomentPen<T, N> {
     ghost use Rattle.std.specs.Prelude.{◌≡◌, true};
     ghost use Rattle.std.specs.Arc.{arc_value};
-    ghost use Rattle.crossbeam_utils.specs.Seq.{cell_view};
     ghost use Rattle.counters.specs.Watching.{Knowing, knowing};
 
     ghost Value = { Knowing T };
 
-    ghost view = { λ p. knowing p.pass.table_id (cell_view p.pass) };
+    ghost view = { λ p. knowing p.view };
 
-    ghost invariant = { λ p. (p.pass.table_id ≡ (arc_value p.numbers).table.shared.table_id)
-        × ((cell_view p.pass).writes ≡ true) };
+    ghost invariant = { λ p. (p.view.cell ≡ arc_value p.numbers) × (p.view.writes ≡ true) };
 }
 
 impl<T> Model for MomentPass<T> {
-    ghost use Rattle.crossbeam_utils.specs.Seq.{cell_view};
     ghost use Rattle.counters.specs.Watching.{Knowing, knowing};
 
     ghost Value = { Knowing T };
 
-    ghost view = { λ p. knowing p.pass.table_id (cell_view p.pass) };
+    ghost view = { λ p. knowing p.view };
 }
 
 impl<T: Moment<N>, const N: usize> MomentCell<T, N> {
@@ -74,17 +67,17 @@ impl<T: Moment<N>, const N: usize> MomentCell<T, N> {
         ensures pen { IfOk result (λ made. made.1 ≡ fresh made.0 T.opening) }
         ensures pass { IfOk result (λ made. made.2 ≡ fresh made.0 T.opening) }
     {
-        let (cell, mut pen) = Numbers::<T, N>::ruled(alloc, T::opening())?;
-        let pass = cell.split_pass::<Tells>(&mut pen);
-        let numbers = Arc::new(alloc, cell).map_err(AllocError::from)?;
+        let (numbers, mut pen) = Numbers::<T, N>::new(alloc)?;
+        let view = numbers.tell(&mut pen);
+        let numbers = Arc::new(alloc, numbers).map_err(AllocError::from)?;
         let theirs = Arc::try_clone(&numbers)?;
         Ok((
             MomentCell { numbers },
             MomentPen {
                 numbers: theirs,
-                pass: pen,
+                view: pen,
             },
-            MomentPass { pass },
+            MomentPass { view },
         ))
     }
 
@@ -96,7 +89,7 @@ impl<T: Moment<N>, const N: usize> MomentCell<T, N> {
         ensures written { pen.new ≡ with_moment numbers pen.old }
     {
         let cell = &self.numbers;
-        cell.swap_as::<Writes<N>, R>(rt, &mut pen.pass, numbers);
+        cell.write(rt, &mut pen.view, numbers);
     }
 
     /// The numbers of one moment, of those that the pen wrote or of the opening.
@@ -108,7 +101,7 @@ impl<T: Moment<N>, const N: usize> MomentCell<T, N> {
         ensures lawful { T.lawful result }
         ensures none_falls { NoneFalls (T.words pass.old.last) (T.words result) }
     {
-        self.numbers.load_as::<Reads<N>, R>(rt, &mut pass.pass)
+        self.numbers.read(rt, &mut pass.view)
     }
 
     /// Another pass, which knows what this one has read. Either may go to another thread.
@@ -118,7 +111,7 @@ impl<T: Moment<N>, const N: usize> MomentCell<T, N> {
         ensures knows { result ≡ pass.old }
     {
         MomentPass {
-            pass: self.numbers.split_pass::<Tells>(&mut pass.pass),
+            view: self.numbers.tell(&mut pass.view),
         }
     }
 }
@@ -130,7 +123,7 @@ impl<T: Moment<N>, const N: usize> MomentPen<T, N> {
         ensures knows { result ≡ self.old }
     {
         MomentPass {
-            pass: self.numbers.split_pass::<Tells>(&mut self.pass),
+            view: self.numbers.tell(&mut self.view),
         }
     }
 }

@@ -1,9 +1,10 @@
 //! The kinds of cells: their numbers, what these owe one another, and the names of their cells.
 ghost use Rattle.std.specs.Prelude.{◌≡◌};
 
-use crate::{Moment, MomentCell, MomentPass, MomentPen};
+use crate::{MomentCell, MomentPass, MomentPen};
 use crossbeam_utils::atomic::seq_cell::Words;
 use limits::{LEAST_FRAME, MOST_FRAME};
+use moments::Moment;
 
 /// How many frames were offered to a receive queue, and what became of them: `offered` is `stored`,
 /// `dropped` and `oversize` together.

@@ -4,8 +4,8 @@
 //! of [`MomentPass`]es read them, each from a thread of its own. A read shows the numbers of one moment
 //! that was written, or of the opening, in which all are 0: what the numbers of a moment owe one another
 //! ([`Moment`]) holds between them, and none is below what this pass has read, nor below what the pen had
-//! written when it gave that pass. That is the rule of the cell ([`Watched`]), which each step of any
-//! thread keeps.
+//! written when it gave that pass. That is the rule of the cell, which each step of any thread keeps; the
+//! crate `moments` has it, and the words under it.
 //!
 //! [`StatCell`] has what was offered to a queue, [`DriveCell`] what a driver did with what it took, and
 //! [`ByteCell`] frames and bytes. Another kind of cell is its numbers, what they owe one another, and
@@ -20,7 +20,6 @@ mod cell;
 mod error;
 mod flows;
 mod kinds;
-mod moment;
 
 pub use cell::{MomentCell, MomentPass, MomentPen};
 pub use error::CounterError;
@@ -29,4 +28,4 @@ pub use kinds::{
     ByteCell, BytePass, BytePen, Bytes, DriveCell, DrivePass, DrivePen, Driven, Offered, StatCell,
     StatPass, StatPen,
 };
-pub use moment::{Known, Moment, Watched};
+pub use moments::Moment;

@@ -25,6 +25,11 @@ pub struct Load {
 impl Load {
     /// Reads the words after the program's name. The forwarder itself refuses a configuration that is not lawful.
     pub fn of(words: &[String]) -> Option<Load> {
+        let keeps = match number_of(words, "--keep")? {
+            0 => false,
+            1 => true,
+            _ => return None,
+        };
         let load = Load {
             frames: number_of(words, "--frames")?,
             flows: number_of(words, "--flows")?,
@@ -32,7 +37,7 @@ impl Load {
             ring: number_of(words, "--ring")?,
             batch: number_of(words, "--batch")?,
             workers: number_of(words, "--workers")?,
-            keeps: number_of(words, "--keep")? == 1,
+            keeps,
         };
         (words.len() == 14 && load.is_lawful()).then_some(load)
     }

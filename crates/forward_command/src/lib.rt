@@ -14,3 +14,4 @@ mod text;
 pub use answering::{answer, perform};
 pub use page::forward;
 pub use printing::Printing;
+pub use text::text_of;

@@ -18,7 +18,7 @@ pub struct Printing {
 
 impl Printing {
     /// How it is shown how far a run is, if it is shown. The line of a terminal is written anew.
-    pub(crate) fn form(self, on_terminal: bool) -> Option<Form>
+    pub fn form(self, on_terminal: bool) -> Option<Form>
         ensures unshown { self.progress ≡ false → result ≡ None }
         ensures objects { self.progress ≡ true → self.json ≡ true → result ≡ Some Objects }
     {

@@ -186,7 +186,7 @@ fn write_flows(text: &mut String, json: bool, port: u8, flows: &[FlowReport]) ->
 /// out, and then a line or an object a flow, those that came in at port 0 first. What came in at a port goes out at the other.
 ///
 /// Its room is taken once, so that it isn't copied while it grows, and the frames are printed from where they lie.
-pub(crate) fn text_of(
+pub fn text_of(
     alloc: Global,
     flows: &[FlowReport],
     pairs: usize,

@@ -6,6 +6,7 @@ use crate::forward_rows::ROWS;
 use crate::told::{comes_to, outcome_of};
 use std::alloc::Global;
 use std::process::Abort;
+use std::rt::Files;
 use std::sync::Wait;
 use std::test::Fail;
 use std::thread::Threads;
@@ -26,7 +27,7 @@ const SAME: &[&[&str]] = &[
 ];
 
 /// With these options the 40 frames are printed so.
-fn forwards_forty<R: Abort + Threads + Wait + Clock + Sync>(
+fn forwards_forty<R: Abort + Threads + Wait + Clock + Sync + Files>(
     rt: &R,
     alloc: Global,
     options: &[&str],

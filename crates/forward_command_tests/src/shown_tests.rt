@@ -5,6 +5,7 @@ use crate::streams::Screen;
 use crate::told::{outcome_of, outcome_on};
 use std::alloc::Global;
 use std::process::Abort;
+use std::rt::Files;
 use std::sync::Wait;
 use std::test::Fail;
 use std::thread::Threads;
@@ -24,7 +25,7 @@ fn behind<'a>(shown: &'a str, last: &str) -> Option<&'a str> {
 
 /// With these options the output is the same with `--progress` and without it, and the last line shown is this one, with
 /// digits and its end behind it.
-fn shows<R: Abort + Threads + Wait + Clock + Sync>(
+fn shows<R: Abort + Threads + Wait + Clock + Sync + Files>(
     rt: &R,
     alloc: Global,
     options: &[&str],

@@ -8,6 +8,7 @@ use forwarder::Config;
 use std::alloc::Global;
 use std::io::{Read, Write};
 use std::process::Abort;
+use std::rt::Files;
 use std::sync::Wait;
 use std::test::Fail;
 use std::thread::Threads;
@@ -22,7 +23,7 @@ const PRINTED: &str =
     "1 0 0506050505050505050505050505\nflow 0 0 offered 1 stored 1 dropped 0 oversize 0 taken 1 posted 1 tx-dropped 0 wire 1 left 0 ended drained\nflow 1 0 offered 0 stored 0 dropped 0 oversize 0 taken 0 posted 0 tx-dropped 0 wire 0 left 0 ended drained\n";
 
 /// A run with these streams is refused so.
-fn is_refused<R: Abort + Threads + Wait + Clock + Sync, I: Read, W: Write>(
+fn is_refused<R: Abort + Threads + Wait + Clock + Sync + Files, I: Read, W: Write>(
     rt: &R,
     alloc: Global,
     words: &[&str],

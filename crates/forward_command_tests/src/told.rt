@@ -5,6 +5,7 @@ use command_line::run;
 use std::alloc::{AllocError, Global};
 use std::io::{Read, Write};
 use std::process::Abort;
+use std::rt::Files;
 use std::sync::Wait;
 use std::test::Fail;
 use std::thread::Threads;
@@ -30,7 +31,7 @@ pub struct Row {
 }
 
 /// The status of a run on these words and streams.
-pub fn status_of<R: Threads + Wait + Clock + Sync, I: Read, W: Write, E: Write>(
+pub fn status_of<R: Threads + Wait + Clock + Sync + Files, I: Read, W: Write, E: Write>(
     rt: &R,
     alloc: Global,
     words: &[&str],
@@ -47,7 +48,7 @@ pub fn status_of<R: Threads + Wait + Clock + Sync, I: Read, W: Write, E: Write>(
 }
 
 /// What a run on these words and this input comes to, with no terminal.
-pub fn outcome_of<R: Threads + Wait + Clock + Sync>(
+pub fn outcome_of<R: Threads + Wait + Clock + Sync + Files>(
     rt: &R,
     alloc: Global,
     words: &[&str],
@@ -57,7 +58,7 @@ pub fn outcome_of<R: Threads + Wait + Clock + Sync>(
 }
 
 /// What a run on these words and this input comes to, with this screen.
-pub fn outcome_on<R: Threads + Wait + Clock + Sync>(
+pub fn outcome_on<R: Threads + Wait + Clock + Sync + Files>(
     rt: &R,
     alloc: Global,
     words: &[&str],
@@ -84,7 +85,7 @@ pub fn outcome_on<R: Threads + Wait + Clock + Sync>(
 }
 
 /// A run on these words and this input comes to this status, this output and these faults, and nothing is shown.
-pub fn comes_to<R: Abort + Threads + Wait + Clock + Sync>(
+pub fn comes_to<R: Abort + Threads + Wait + Clock + Sync + Files>(
     rt: &R,
     alloc: Global,
     words: &[&str],

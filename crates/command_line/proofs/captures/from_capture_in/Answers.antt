@@ -1,4 +1,4 @@
-use Rattle.std.proofs.Common.{◌≡◌, ◌∙◌, ap, ap₂, arith, codes, sym, subst, ℕ, Option, Some, None, unwrap_or}
+use Rattle.std.proofs.Common.{◌≡◌, ◌∙◌, ap, ap₂, codes, sym, subst, ℕ, Option, Some, None, unwrap_or}
 use Rattle.std.specs.Prelude.{decimal}
 use Rattle.clap.specs.Words.{found_of}
 use Rattle.capture_command.specs.Requests.{IsPlaced}

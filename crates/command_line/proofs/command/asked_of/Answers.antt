@@ -24,9 +24,9 @@ returns-in_err-matches-clause-replay c plan says =
     rw (p.1, p.2) (c.in_err-matches.ensures.passes (replay_taken _ _ plan c.in_ok-program.ensures says))
 
 pub returns-in_err-matches-clause-forward : goal.returns-in_err-matches-clause-forward
-returns-in_err-matches-clause-forward c config printing says =
+returns-in_err-matches-clause-forward c config printing files says =
     let p = err_from_is_err_and c.from_residual-in_err-matches.result c.from_residual-in_err-matches.ensures.1 in
-    rw (p.1, p.2) (c.in_err-matches.ensures.passes (forward_taken _ _ config printing c.in_ok-program.ensures says))
+    rw (p.1, p.2) (c.in_err-matches.ensures.passes (forward_taken _ _ config printing files c.in_ok-program.ensures says))
 
 pub returns-in_err-matches-clause-from_capture : goal.returns-in_err-matches-clause-from_capture
 returns-in_err-matches-clause-from_capture c port queue says =
@@ -63,8 +63,8 @@ returns-in-Some-clause-replay c plan says =
     c.in-Some.ensures.replay replay.0 plan found replay.2
 
 pub returns-in-Some-clause-forward : goal.returns-in-Some-clause-forward
-returns-in-Some-clause-forward c config printing says =
-    let forward = forward_found _ _ config printing c.in_ok-program.ensures says in
+returns-in-Some-clause-forward c config printing files says =
+    let forward = forward_found _ _ config printing files c.in_ok-program.ensures says in
     let found = (c.in_ok-matches.ensures.ok.2 (simple _ c.in_ok-program.ensures)).1 ∙ forward.1 in
     c.in-Some.ensures.forward forward.0 config printing found forward.2 forward.3
 
@@ -104,8 +104,8 @@ returns-clause-replay c plan says =
     absurd (c.in-None.ensures.replay replay.0 plan found replay.2)
 
 pub returns-clause-forward : goal.returns-clause-forward
-returns-clause-forward c config printing says =
-    let forward = forward_found _ _ config printing c.in_ok-program.ensures says in
+returns-clause-forward c config printing files says =
+    let forward = forward_found _ _ config printing files c.in_ok-program.ensures says in
     let found = (c.in_ok-matches.ensures.ok.2 (simple _ c.in_ok-program.ensures)).1 ∙ forward.1 in
     absurd (c.in-None.ensures.forward forward.0 config printing found forward.2 forward.3)
 

@@ -3,6 +3,7 @@ use Rattle.std.proofs.lemmas.Result.{IfOk-weaker}
 use Rattle.clap.specs.Words.{app_of, new_app, with_rule}
 use Rattle.clap.specs.declared.builder.command.Command.TheViews.{out-Command}
 use Rattle.command_line.specs.CommandLine.{with_printing_rules, with_queue_rules, with_work_rules}
+use Rattle.command_line.specs.FileWords.{with_file_rules}
 use Rattle.command_line.proofs.command.forward.Goals as goal
 
 pub returns-clause-app : goal.returns-clause-app
@@ -14,7 +15,8 @@ returns-clause-app c =
     let with_drop = c.in_ok-arg.ensures.shape c.flag-drop.ensures.local ∙ ap₂ with_rule (shown ∙ with_work) c.flag-drop.ensures.rule in
     let with_no_retry = c.in_ok-arg-2.ensures.shape c.flag-no_retry.ensures.local ∙ ap₂ with_rule with_drop c.flag-no_retry.ensures.rule in
     let with_head = c.in_ok-command.ensures.shape c.flag-head.ensures.local ∙ ap₂ with_rule with_no_retry c.flag-head.ensures.rule in
-    IfOk-weaker c.with_printing.result _ _ (λ r app. app ∙ ap with_printing_rules with_head) c.with_printing.ensures.app
+    let with_printing = c.in_ok-with_printing.ensures.app ∙ ap with_printing_rules with_head in
+    IfOk-weaker c.with_files.result _ _ (λ r app. app ∙ ap with_file_rules with_printing) c.with_files.ensures.app
 
 pub returns-clause-local : goal.returns-clause-local
 returns-clause-local c =
@@ -24,4 +26,5 @@ returns-clause-local c =
     let with_drop = c.in_ok-arg.ensures.globals ∙ ap₂ (λ x y. x || y) shown c.flag-drop.ensures.local in
     let with_no_retry = c.in_ok-arg-2.ensures.globals ∙ ap₂ (λ x y. x || y) with_drop c.flag-no_retry.ensures.local in
     let with_head = c.in_ok-command.ensures.globals ∙ ap₂ (λ x y. x || y) with_no_retry c.flag-head.ensures.local in
-    IfOk-weaker c.with_printing.result _ _ (λ r local. local ∙ with_head) c.with_printing.ensures.local
+    let with_printing = c.in_ok-with_printing.ensures.local ∙ with_head in
+    IfOk-weaker c.with_files.result _ _ (λ r local. local ∙ with_printing) c.with_files.ensures.local

@@ -1,10 +1,10 @@
 use Rattle.std.proofs.Common.{ℕ, sym, subst}
-use Rattle.capture_command.specs.Meanings.{capture_meant, lines_meant, meant}
+use Rattle.capture_command.specs.Meanings.{capture_meant, lines_meant}
 use Rattle.capture_command.specs.declared.request.CaptureRequest.TheVariants.{FromCapture, ToCapture}
 use Rattle.commands.specs.Answers.{EndsBy}
 use Rattle.commands.specs.Replay.{EndsReplay}
 use Rattle.commands.specs.declared.request.Request.{Request}
-use Rattle.forward_command.specs.Forwards.{EndsForward}
+use Rattle.command_line.specs.Forwarding.{EndsForwarding}
 use Rattle.command_line.specs.CommandLine.{IsDecode, IsOnce, IsReplayOf}
 use Rattle.command_line.proofs.Endings.{as-capture, as-forward, as-request, capture-ends, capture-kept, decode-ends, forward-ends, forward-kept, no-capture-of-forward, no-capture-of-request, no-forward, no-forward-of-captures, no-request, no-request-of-captures, once-ends, replay-ends, replay-kept, unshown-forward}
 use Rattle.command_line.proofs.running.run.Goals as goal
@@ -28,19 +28,23 @@ returns-in-Ok-Request-clause-replay g c plan text says known =
     replay-ends request plan text _ _ _ _ is known c.answer.ensures.ends
 
 pub returns-in-Ok-Request-clause-forward : goal.returns-in-Ok-Request-clause-forward
-returns-in-Ok-Request-clause-forward g c config printing text says known =
-    absurd (no-forward c.in-Ok-Request.field-0 c.in-Ok-Request.request config printing c.in-Ok-Request.field-0-is (c.in-Ok-Request.ensures.forward config printing says))
+returns-in-Ok-Request-clause-forward g c config printing files says =
+    absurd (no-forward c.in-Ok-Request.field-0 c.in-Ok-Request.request config printing c.in-Ok-Request.field-0-is (c.in-Ok-Request.ensures.forward config printing files says))
+
+pub returns-in-Ok-Request-clause-unread : goal.returns-in-Ok-Request-clause-unread
+returns-in-Ok-Request-clause-unread g c config printing files says =
+    absurd (no-forward c.in-Ok-Request.field-0 c.in-Ok-Request.request config printing c.in-Ok-Request.field-0-is (c.in-Ok-Request.ensures.forward config printing files says))
 
 pub returns-in-Ok-Forward-clause-replay : goal.returns-in-Ok-Forward-clause-replay
 returns-in-Ok-Forward-clause-replay g c plan text says known =
     absurd (no-request (λ (r : Request). IsReplayOf r plan) c.in-Ok-Forward.field-0 c.in-Ok-Forward.config c.in-Ok-Forward.printing c.in-Ok-Forward.field-0-is (c.in-Ok-Forward.ensures.replay plan says))
 
 pub returns-in-Ok-Forward-clause-forward : goal.returns-in-Ok-Forward-clause-forward
-returns-in-Ok-Forward-clause-forward g c config printing text says known =
+returns-in-Ok-Forward-clause-forward g c config printing files says =
     let given = c.in-Ok-Forward.config in
     let shown = c.in-Ok-Forward.printing in
-    let is = as-forward c.in-Ok-Forward.field-0 given config shown printing c.in-Ok-Forward.field-0-is (c.in-Ok-Forward.ensures.forward config printing says) in
-    forward-ends given config shown printing text _ _ _ _ is known c.answer-in-Ok-Forward.ensures.ends
+    let is = as-forward c.in-Ok-Forward.field-0 given config shown printing c.in-Ok-Forward.field-0-is (c.in-Ok-Forward.ensures.forward config printing files says) in
+    forward-ends given config shown printing files.sources _ _ _ _ is (c.forward.ensures.ends config printing files says)
 
 pub returns-in-Err-clause-replay : goal.returns-in-Err-clause-replay
 returns-in-Err-clause-replay g c plan text says known = let m = c.tell.ensures.memory (c.in-Err.ensures.replay plan says) in
@@ -48,9 +52,9 @@ returns-in-Err-clause-replay g c plan text says known = let m = c.tell.ensures.m
     (replay-kept plan text (g.W.Write.contents c.args.output.now) (g.W.Write.contents c.tell.new.output) m.1)
 
 pub returns-in-Err-clause-forward : goal.returns-in-Err-clause-forward
-returns-in-Err-clause-forward g c config printing text says known = let m = c.tell.ensures.memory (c.in-Err.ensures.forward config printing says) in
-    subst (λ (status : ℕ). EndsForward config printing text status (g.W.Write.contents c.args.output.now) (g.W.Write.contents c.tell.new.output)) (sym m.0)
-    (forward-kept config printing text (g.W.Write.contents c.args.output.now) (g.W.Write.contents c.tell.new.output) m.1)
+returns-in-Err-clause-forward g c config printing files says = let m = c.tell.ensures.memory (c.in-Err.ensures.forward config printing files says) in
+    subst (λ (status : ℕ). EndsForwarding config printing files.sources (g.I.Read.remaining c.args.input.now) status (g.W.Write.contents c.args.output.now) (g.W.Write.contents c.tell.new.output)) (sym m.0)
+    (forward-kept config printing files.sources (g.I.Read.remaining c.args.input.now) (g.W.Write.contents c.args.output.now) (g.W.Write.contents c.tell.new.output) m.1)
 
 pub returns-in-Ok-Request-clause-from_capture : goal.returns-in-Ok-Request-clause-from_capture
 returns-in-Ok-Request-clause-from_capture g c port queue bytes says known =
@@ -95,8 +99,12 @@ returns-in-Ok-Capture-clause-replay g c plan text says known =
     absurd (no-request-of-captures (λ (r : Request). IsReplayOf r plan) c.in-Ok-Capture.field-0 c.in-Ok-Capture.request c.in-Ok-Capture.field-0-is (c.in-Ok-Capture.ensures.replay plan says))
 
 pub returns-in-Ok-Capture-clause-forward : goal.returns-in-Ok-Capture-clause-forward
-returns-in-Ok-Capture-clause-forward g c config printing text says known =
-    absurd (no-forward-of-captures c.in-Ok-Capture.field-0 c.in-Ok-Capture.request config printing c.in-Ok-Capture.field-0-is (c.in-Ok-Capture.ensures.forward config printing says))
+returns-in-Ok-Capture-clause-forward g c config printing files says =
+    absurd (no-forward-of-captures c.in-Ok-Capture.field-0 c.in-Ok-Capture.request config printing c.in-Ok-Capture.field-0-is (c.in-Ok-Capture.ensures.forward config printing files says))
+
+pub returns-in-Ok-Capture-clause-unread : goal.returns-in-Ok-Capture-clause-unread
+returns-in-Ok-Capture-clause-unread g c config printing files says =
+    absurd (no-forward-of-captures c.in-Ok-Capture.field-0 c.in-Ok-Capture.request config printing c.in-Ok-Capture.field-0-is (c.in-Ok-Capture.ensures.forward config printing files says))
 
 -- what was asked for is a forwarding: so the words are none but those of one
 pub returns-in-Ok-Forward-clause-screen : goal.returns-in-Ok-Forward-clause-screen
@@ -105,5 +113,5 @@ returns-in-Ok-Forward-clause-screen g c unshown =
     let given = c.in-Ok-Forward.config in
     let shown = c.in-Ok-Forward.printing in
     let asks = c.in-Ok-Forward.ensures in
-    c.answer-in-Ok-Forward.ensures.screen
+    c.forward.ensures.screen
     (unshown-forward _ found given shown c.in-Ok-Forward.field-0-is asks.once asks.decode asks.replay asks.forward asks.from_capture asks.to_capture asks.misuse unshown)

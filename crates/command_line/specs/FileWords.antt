@@ -1,0 +1,46 @@
+-- The options of `forward` for files.
+use Rattle.std.specs.Prelude.{◌≡◌, List, [], ◌∷◌, ◌++◌, All, codes, map, Option, Some, None}
+use Rattle.std.specs.List.{flat_map}
+use Rattle.clap.specs.Words.{App, Row, Rule, Text, all_of, new_rule, with_rule}
+use Rattle.clap.specs.declared.builder.action.ArgAction.TheVariants.{Append}
+use Rattle.port_files.specs.Words.{IsSource, IsWireFile, PortFile, SourceFile, source_word, wire_file_word}
+use Rattle.command_line.specs.declared.files.ForwardFiles.{ForwardFiles}
+
+-- an option that may stand any number of times, each time with a word
+abbrev pub file_rule : Text → Rule
+file_rule id = record (new_rule id) { long = Some id; value_names = 1; action = Some Append }
+
+abbrev pub with_file_rules : App → App
+with_file_rules app = with_rule (with_rule app (file_rule (codes "capture"))) (file_rule (codes "wire-capture"))
+
+-- captures whose frames come in, and files for what leaves a port, each in the order of their words
+pub record FileOptions : Type 0 where
+  pub sources : List SourceFile
+  pub wires : List PortFile
+
+pub record AreFiles (files : FileOptions) : Type 0 where
+  pub sources : All IsSource files.sources
+  pub wires : All IsWireFile files.wires
+
+-- an option stands once for each of these words
+abbrev pub file_words : Text → List Text → List Text
+file_words option words = flat_map (λ word. option ∷ word ∷ []) words
+
+-- the words of files
+abbrev pub words_of_files : FileOptions → List Text
+words_of_files files =
+    file_words (codes "--capture") (map source_word files.sources) ++ file_words (codes "--wire-capture") (map wire_file_word files.wires)
+
+-- the values of an option that stands for each of these words
+abbrev pub file_values : List Text → Option (List Text)
+file_values [] = None
+file_values (word ∷ words) = Some (word ∷ words)
+
+-- the values of the options
+pub record HasFiles (rows : List Row) (files : FileOptions) : Type 0 where
+  pub sources : all_of (codes "capture") rows ≡ file_values (map source_word files.sources)
+  pub wires : all_of (codes "wire-capture") rows ≡ file_values (map wire_file_word files.wires)
+
+-- these are the files
+abbrev pub HoldsFiles : ForwardFiles → FileOptions → Type 0
+HoldsFiles held files = (held.sources.items ≡ files.sources) × (held.wires.items ≡ files.wires)

@@ -1,0 +1,4 @@
+pub mod Lists
+pub mod Pairs
+pub mod Told
+pub mod Tried

@@ -1,0 +1,56 @@
+//! Lists of moves that together meet all pairs that a search has met.
+ghost use Rattle.std.specs.Prelude.{◌≡◌, All, IfOk, IfSome, OnOk};
+ghost use Rattle.coverage.specs.Lists.{Meets};
+
+use crate::pairs::Pair;
+use crate::search::{Search, queues_of};
+use crate::told::Told;
+use crate::tried::Side;
+use ring_machine::Move;
+use std::alloc::{AllocError, Global};
+
+/// A list of moves, of which the last meets the pair.
+#[derive(Drop)]
+pub struct CoverList {
+    pub pair: Pair,
+    pub moves: Vec<Move>,
+}
+
+// The list of these moves and the pair's, if they all happen and the last then tells what the pair says.
+fn met_by(
+    alloc: Global,
+    side: Side,
+    path: Vec<Move>,
+    pair: Pair,
+) -> Result<Option<CoverList>, AllocError>
+    ensures { IfOk result (λ list. IfSome list (Meets side)) }
+{
+    let mut queues = queues_of(alloc, side)?;
+    if queues.run(path.as_slice()) != path.len() {
+        return Ok(None);
+    }
+    if Told::of(queues.step(pair.action)) != pair.told {
+        return Ok(None);
+    }
+    let mut moves = path;
+    moves.push(pair.action)?;
+    Ok(Some(CoverList { pair, moves }))
+}
+
+impl Search {
+    /// Lists of moves that together meet all pairs that were met so far, those with the fewest moves first. A list leads
+    /// by as few moves as any schedule needs to a state in which its pair can be met.
+    pub fn lists(&self, alloc: Global) -> Result<Vec<CoverList>, AllocError>
+        ensures { IfOk result (λ lists. All (Meets self.now.side) lists.items) }
+    {
+        let chosen = self.chosen(alloc)?;
+        let mut lists = Vec::new(alloc);
+        for found in chosen.as_slice().iter().rev() {
+            let path = self.path_to(alloc, found.at)?;
+            if let Some(list) = met_by(alloc, self.side, path, found.pair)? {
+                lists.push(list)?;
+            }
+        }
+        Ok(lists)
+    }
+}

@@ -1,0 +1,98 @@
+//! What a queue can be met in: a kind of move, how far both sides are, and what it tells.
+ghost use Rattle.std.specs.Prelude.{◌≡◌, ◌<◌};
+ghost use Rattle.coverage.specs.Pairs.{controller_number, driver_number};
+
+use crate::told::Told;
+use ring_machine::{ControlStep, ControllerState, DriverState, Move, RxStep, TxStep};
+
+/// A kind of move, how far driver and controller are where it is tried, and what it then tells.
+#[derive(Clone, Copy)]
+pub struct Pair {
+    /// A move of that kind.
+    pub action: Move,
+    /// How far the driver is.
+    pub driver: DriverState,
+    /// How far the controller is.
+    pub controller: ControllerState,
+    /// What it tells.
+    pub told: Told,
+}
+
+/// How many pairs could be told apart for one side: kinds of moves, states of both sides, kinds of notes.
+pub(crate) const PAIRS: usize = 18 * 7 * 3 * 15;
+
+/// The number of a driver's state, from 0.
+pub(crate) fn driver_number(state: DriverState) -> usize
+    ensures value { result ≡ driver_number state }
+    ensures below { result < 7 }
+{
+    match state {
+        DriverState::New => 0,
+        DriverState::Asked => 1,
+        DriverState::On => 2,
+        DriverState::Stopping => 3,
+        DriverState::Stopped => 4,
+        DriverState::Cleared => 5,
+        DriverState::Tailed => 6,
+    }
+}
+
+/// The number of a controller's state, from 0.
+pub(crate) fn controller_number(state: ControllerState) -> usize
+    ensures value { result ≡ controller_number state }
+    ensures below { result < 3 }
+{
+    match state {
+        ControllerState::Off => 0,
+        ControllerState::Serving => 1,
+        ControllerState::Ended => 2,
+    }
+}
+
+// The number of a step of the handshake, from 0.
+fn control_number(step: ControlStep) -> usize
+    ensures { result < 5 }
+{
+    match step {
+        ControlStep::AskEnable => 0,
+        ControlStep::LookAsked => 1,
+        ControlStep::Answer => 2,
+        ControlStep::LookAnswered => 3,
+        ControlStep::AskDisable => 4,
+    }
+}
+
+// The number of a kind of move among those of its side, from 0.
+fn kind_number(action: Move) -> usize
+    ensures { result < 18 }
+{
+    match action {
+        Move::Receive(_, RxStep::Control(step)) | Move::Transmit(_, TxStep::Control(step)) => {
+            control_number(step)
+        }
+        Move::Receive(_, RxStep::Post(_)) | Move::Transmit(_, TxStep::Post(_)) => 5,
+        Move::Receive(_, RxStep::Publish) | Move::Transmit(_, TxStep::Publish) => 6,
+        Move::Receive(_, RxStep::Look) | Move::Transmit(_, TxStep::Look) => 7,
+        Move::Receive(_, RxStep::Fetch) | Move::Transmit(_, TxStep::Fetch) => 8,
+        Move::Receive(_, RxStep::Reclaim) | Move::Transmit(_, TxStep::Reclaim) => 9,
+        Move::Receive(_, RxStep::ClearHead) | Move::Transmit(_, TxStep::ClearHead) => 10,
+        Move::Receive(_, RxStep::ClearTail) | Move::Transmit(_, TxStep::ClearTail) => 11,
+        Move::Receive(_, RxStep::Store(_, _)) | Move::Transmit(_, TxStep::Send) => 12,
+        Move::Receive(_, RxStep::Take) | Move::Transmit(_, TxStep::Clean) => 13,
+        Move::Receive(_, RxStep::Head) | Move::Transmit(_, TxStep::Report) => 14,
+        Move::Receive(_, RxStep::StoreQuiet) | Move::Transmit(_, TxStep::LoadReport) => 15,
+        Move::Receive(_, RxStep::LoadQuiet) | Move::Transmit(_, TxStep::ClearReport) => 16,
+        Move::Receive(_, RxStep::ClearQuiet) => 17,
+    }
+}
+
+impl Pair {
+    /// The pair's number among those of its side, below 5,670. Two pairs of one side with the same number have the same
+    /// kind of move, the same states, and the same kind of note.
+    pub fn number(&self) -> usize
+        ensures { result < 5670 }
+    {
+        let states = driver_number(self.driver) * 3 + controller_number(self.controller);
+        (kind_number(self.action) * 21 + states) * 15 + self.told.number()
+    }
+}

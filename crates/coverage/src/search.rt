@@ -1,0 +1,263 @@
+//! The search over the states of one queue.
+ghost use Rattle.std.specs.Prelude.{◌≡◌, ◌≤◌, OnOk, IfOk};
+ghost use Rattle.ring_machine.specs.Queues.{QueuesAgree};
+ghost use Rattle.coverage.specs.Lists.{beginning};
+
+use crate::pairs::{PAIRS, Pair};
+use crate::standing::Standing;
+use crate::told::Told;
+use crate::tried::{MOVES_TRIED, Side, moves_tried};
+use ring_machine::{MachineError, Move, Note, Queues};
+use std::alloc::{AllocError, Global};
+use std::collections::HashSet;
+
+/// A state that was reached: how the queue stands, from which state and by which move, and after how many moves.
+#[derive(Clone, Copy)]
+struct Node {
+    standing: Standing,
+    from: usize,
+    action: Option<Move>,
+    pair: usize,
+    depth: usize,
+}
+
+/// A pair that was met for the first time, and in which state.
+#[derive(Clone, Copy)]
+pub(crate) struct Found {
+    pub pair: Pair,
+    pub at: usize,
+}
+
+/// A search over the states of one queue of 8, from its making on, never enabled.
+#[derive(Drop)]
+pub struct Search {
+    pub(crate) side: Side,
+    nodes: Vec<Node>,
+    reached: HashSet<u64>,
+    gone_over: usize,
+    steps: u64,
+    met: Vec<bool>,
+    found: Vec<Found>,
+}
+
+/// A pair of a receive and a transmit queue of 8 as they are made, never enabled.
+pub(crate) fn queues_of(alloc: Global, side: Side) -> Result<Queues, AllocError>
+    ensures { IfOk result (λ q. QueuesAgree q (beginning side)) }
+{
+    match Queues::new_with(alloc, 1, 8, false, side.completion()) {
+        Ok(queues) => Ok(queues),
+        Err(_) => Err(AllocError),
+    }
+}
+
+// The same, after these moves.
+fn queues_after(alloc: Global, side: Side, moves: &[Move]) -> Result<Queues, AllocError> {
+    let mut queues = queues_of(alloc, side)?;
+    queues.run(moves);
+    Ok(queues)
+}
+
+fn is_set(flags: &Vec<bool>, k: usize) -> bool {
+    matches!(flags.get(k), Some(true))
+}
+
+fn set(flags: &mut Vec<bool>, k: usize) {
+    if let Some(flag) = flags.get_mut(k) {
+        *flag = true;
+    }
+}
+
+impl Search {
+    /// A search that has reached the queue as it is made, and gone over nothing yet. It is refused only where memory was.
+    pub fn new(alloc: Global, side: Side) -> Result<Search, AllocError> {
+        let mut nodes = Vec::new(alloc);
+        let mut reached = HashSet::new(alloc);
+        let standing = Standing::first(side);
+        reached.insert(standing.key())?;
+        nodes.push(Node {
+            standing,
+            from: 0,
+            action: None,
+            pair: 0,
+            depth: 0,
+        })?;
+        Ok(Search {
+            side,
+            nodes,
+            reached,
+            gone_over: 0,
+            steps: 0,
+            met: vec![in alloc; false; PAIRS]?,
+            found: Vec::new(alloc),
+        })
+    }
+
+    /// Goes over so many more states at most: tries each move in each of them.
+    pub fn go_on(&mut self, alloc: Global, most: usize) -> Result<(), AllocError> {
+        let Some(moves) = moves_tried(self.side) else {
+            return Err(AllocError);
+        };
+        for _ in 0..most {
+            let Some(node) = self.nodes.get(self.gone_over) else {
+                return Ok(());
+            };
+            let node = *node;
+            self.go_over(alloc, &node, &moves)?;
+            self.gone_over = self.gone_over.saturating_add(1);
+        }
+        Ok(())
+    }
+
+    // Tries each move in the next state.
+    fn go_over(
+        &mut self,
+        alloc: Global,
+        node: &Node,
+        moves: &[Move; MOVES_TRIED],
+    ) -> Result<(), AllocError> {
+        let path = self.path_to(alloc, self.gone_over)?;
+        let mut queues = queues_after(alloc, self.side, path.as_slice())?;
+        for action in moves {
+            if node.standing.is_too_much(*action) {
+                continue;
+            }
+            self.steps = self.steps.saturating_add(1);
+            let answer = queues.step(*action);
+            if self.meet(node, *action, answer)? {
+                queues = queues_after(alloc, self.side, path.as_slice())?;
+            }
+        }
+        Ok(())
+    }
+
+    // A move was answered so in the state that is gone over. It answers whether the move was made.
+    fn meet(
+        &mut self,
+        node: &Node,
+        action: Move,
+        answer: Result<Note, MachineError>,
+    ) -> Result<bool, AllocError> {
+        let pair = Pair {
+            action,
+            driver: node.standing.driver(),
+            controller: node.standing.controller(),
+            told: Told::of(answer),
+        };
+        self.find(&pair)?;
+        match answer {
+            Ok(note) => {
+                self.reach(node, &pair, note)?;
+                Ok(true)
+            }
+            Err(_) => Ok(false),
+        }
+    }
+
+    // A pair is met in the state that is gone over.
+    fn find(&mut self, pair: &Pair) -> Result<(), AllocError> {
+        let at = self.gone_over;
+        if let Some(is_met) = self.met.get_mut(pair.number()) {
+            if !*is_met {
+                *is_met = true;
+                self.found.push(Found { pair: *pair, at })?;
+            }
+        }
+        Ok(())
+    }
+
+    // The move of a pair was made in the state that is gone over, and told this.
+    fn reach(&mut self, node: &Node, pair: &Pair, note: Note) -> Result<(), AllocError> {
+        let standing = node.standing.after(pair.action, note);
+        if self.reached.insert(standing.key())? {
+            self.nodes.push(Node {
+                standing,
+                from: self.gone_over,
+                action: Some(pair.action),
+                pair: pair.number(),
+                depth: node.depth.saturating_add(1),
+            })?;
+        }
+        Ok(())
+    }
+
+    // The moves that lead to a state, in their order.
+    pub(crate) fn path_to(&self, alloc: Global, at: usize) -> Result<Vec<Move>, AllocError> {
+        let mut path = Vec::new(alloc);
+        let mut at = at;
+        let depth = match self.nodes.get(at) {
+            Some(node) => node.depth,
+            None => 0,
+        };
+        for _ in 0..depth {
+            if let Some(node) = self.nodes.get(at) {
+                if let Some(action) = node.action {
+                    path.push(action)?;
+                }
+                at = node.from;
+            }
+        }
+        path.as_mut_slice().reverse();
+        Ok(path)
+    }
+
+    /// Those of the pairs that were met which are left where each pair is left out that a list of a later one meets on its
+    /// way; the last that was met first.
+    pub(crate) fn chosen(&self, alloc: Global) -> Result<Vec<Found>, AllocError> {
+        let mut covered = vec![in alloc; false; PAIRS]?;
+        let mut chosen = Vec::new(alloc);
+        for found in self.found.as_slice().iter().rev() {
+            if is_set(&covered, found.pair.number()) {
+                continue;
+            }
+            set(&mut covered, found.pair.number());
+            self.cover(&mut covered, found.at);
+            chosen.push(*found)?;
+        }
+        Ok(chosen)
+    }
+
+    // Marks the pairs that are met on the way to a state.
+    fn cover(&self, covered: &mut Vec<bool>, at: usize) {
+        let mut at = at;
+        let depth = match self.nodes.get(at) {
+            Some(node) => node.depth,
+            None => 0,
+        };
+        for _ in 0..depth {
+            if let Some(node) = self.nodes.get(at) {
+                set(covered, node.pair);
+                at = node.from;
+            }
+        }
+    }
+
+    /// Whether each state that was reached was gone over.
+    pub fn is_whole(&self) -> bool {
+        self.gone_over >= self.nodes.len()
+    }
+
+    /// How many states were reached.
+    pub fn states(&self) -> usize {
+        self.nodes.len()
+    }
+
+    /// How many of them were gone over.
+    pub fn gone_over(&self) -> usize {
+        self.gone_over
+    }
+
+    /// How many moves were tried.
+    pub fn steps(&self) -> u64 {
+        self.steps
+    }
+
+    /// Whether a pair of this number was met.
+    pub fn has_met(&self, pair: &Pair) -> bool {
+        is_set(&self.met, pair.number())
+    }
+
+    /// How many pairs were met.
+    pub fn pairs(&self) -> usize {
+        self.found.len()
+    }
+}

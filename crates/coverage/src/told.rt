@@ -1,0 +1,118 @@
+//! What a move tells of itself, as far as pairs go.
+ghost use Rattle.std.specs.Prelude.{◌≡◌, ◌<◌, Some};
+ghost use Rattle.coverage.specs.Told.{told_by, told_number, told_words};
+
+use ring_machine::{MachineError, Note};
+use std::fmt;
+
+/// That a move was not made, or the kind of its note.
+#[derive(Clone, Copy, PartialEq, Eq)]
+pub enum Told {
+    /// The queue had no such step.
+    NotEnabled,
+    /// A place was posted or written back.
+    Place,
+    /// The tail was stored.
+    Tail,
+    /// The controller of a receive queue knows how many descriptors are free.
+    Free,
+    /// The controller of a transmit queue knows how many descriptors are ready.
+    Ready,
+    /// A descriptor of a receive queue was fetched.
+    Fetched,
+    /// A descriptor of a transmit queue was fetched.
+    Sending,
+    /// DD was not set.
+    NothingTaken,
+    /// A segment was taken.
+    Taken,
+    /// No report was there.
+    NothingReported,
+    /// A report was seen.
+    Reported,
+    /// The head was stored.
+    Head,
+    /// A buffer came out.
+    Buffer,
+    /// A control value was stored or loaded.
+    Control,
+    /// A quiet value was stored or loaded.
+    Quiet,
+}
+
+/// How many kinds there are.
+pub(crate) const TOLD_KINDS: usize = 15;
+
+impl Told {
+    /// What a move told that was answered so.
+    pub fn of(answer: Result<Note, MachineError>) -> Told
+        ensures { result ≡ told_by answer }
+    {
+        match answer {
+            Err(_) => Told::NotEnabled,
+            Ok(Note::Place(_)) => Told::Place,
+            Ok(Note::Tail(_)) => Told::Tail,
+            Ok(Note::Free(_)) => Told::Free,
+            Ok(Note::Ready(_)) => Told::Ready,
+            Ok(Note::Fetched(_, _)) => Told::Fetched,
+            Ok(Note::Sending(_, _)) => Told::Sending,
+            Ok(Note::Taken(None)) => Told::NothingTaken,
+            Ok(Note::Taken(Some(_))) => Told::Taken,
+            Ok(Note::Reported(None)) => Told::NothingReported,
+            Ok(Note::Reported(Some(_))) => Told::Reported,
+            Ok(Note::Head(_)) => Told::Head,
+            Ok(Note::Buffer(_)) => Told::Buffer,
+            Ok(Note::Control(_)) => Told::Control,
+            Ok(Note::Quiet(_)) => Told::Quiet,
+        }
+    }
+
+    /// The number of the kind, from 0, in the order above.
+    pub fn number(self) -> usize
+        ensures value { result ≡ told_number self }
+        ensures below { result < 15 }
+    {
+        match self {
+            Told::NotEnabled => 0,
+            Told::Place => 1,
+            Told::Tail => 2,
+            Told::Free => 3,
+            Told::Ready => 4,
+            Told::Fetched => 5,
+            Told::Sending => 6,
+            Told::NothingTaken => 7,
+            Told::Taken => 8,
+            Told::NothingReported => 9,
+            Told::Reported => 10,
+            Told::Head => 11,
+            Told::Buffer => 12,
+            Told::Control => 13,
+            Told::Quiet => 14,
+        }
+    }
+}
+
+impl fmt::Display for Told {
+    ghost output = { λ t. Some (told_words t) };
+
+    fn fmt<W: fmt::Write>(&self, f: &mut fmt::Formatter<W>) -> fmt::Result {
+        let words = match self {
+            Told::NotEnabled => "not enabled",
+            Told::Place => "place",
+            Told::Tail => "tail",
+            Told::Free => "free",
+            Told::Ready => "ready",
+            Told::Fetched => "place buffer",
+            Told::Sending => "place buffer length eop rs",
+            Told::NothingTaken => "none",
+            Told::Taken => "buffer length eop",
+            Told::NothingReported => "none",
+            Told::Reported => "reported",
+            Told::Head => "head",
+            Told::Buffer => "buffer",
+            Told::Control => "control",
+            Told::Quiet => "quiet",
+        };
+        f.write_str(words)
+    }
+}

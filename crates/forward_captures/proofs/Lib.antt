@@ -1,0 +1,2 @@
+mod Records
+pub mod Endings

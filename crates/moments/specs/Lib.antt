@@ -1,0 +1,3 @@
+pub mod Moments
+pub mod Rule
+pub mod Viewed

@@ -1,0 +1,22 @@
+//! The numbers of one moment.
+ghost use Rattle.std.specs.Prelude.{◌≡◌, ◌↔◌, All, IsTrue};
+
+use crossbeam_utils::atomic::seq_cell::Words;
+
+/// The numbers that stand in a cell together, as `N` words: what they owe one another at every moment,
+/// and those of the opening, which are all 0.
+pub trait Moment<const N: usize>: Words<N> {
+    ghost lawful: { Self → Type 0 };
+
+    ghost opening: { Self };
+
+    /// All numbers are 0.
+    fn opening() -> Self
+        ensures same { result ≡ opening }
+        ensures zero { All (λ n. n ≡ 0) (Self.words result) }
+        ensures lawful { lawful result };
+
+    /// Whether the numbers may stand together.
+    fn is_lawful(&self) -> bool
+        ensures { IsTrue result ↔ lawful self.now };
+}

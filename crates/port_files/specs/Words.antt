@@ -1,0 +1,39 @@
+-- The words of the two options, and what they tell.
+use Rattle.std.specs.Prelude.{◌≢◌, ℕ, ◌+◌, ◌<◌, ◌≤◌, List, [], ◌∷◌}
+use Rattle.limits.specs.declared.profile.TheConstants.{MOST_PAIRS, PORTS}
+
+-- a capture's file, and the port and the queue at which its frames come in
+pub record SourceFile : Type 0 where
+  pub port : ℕ
+  pub queue : ℕ
+  pub file : List ℕ
+
+pub record IsSource (s : SourceFile) : Type 0 where
+  pub port : s.port < PORTS
+  pub queue : s.queue < MOST_PAIRS
+  pub named : s.file ≢ []
+
+-- its word: `P:Q=FILE`
+abbrev pub source_word : SourceFile → List ℕ
+source_word s = (48 + s.port) ∷ 58 ∷ (48 + s.queue) ∷ 61 ∷ s.file
+
+-- a file for what leaves a port
+pub record PortFile : Type 0 where
+  pub port : ℕ
+  pub file : List ℕ
+
+pub record IsWireFile (w : PortFile) : Type 0 where
+  pub port : w.port < PORTS
+  pub named : w.file ≢ []
+
+-- its word: `P=FILE`
+abbrev pub wire_file_word : PortFile → List ℕ
+wire_file_word w = (48 + w.port) ∷ 61 ∷ w.file
+
+-- the byte is a digit below a number
+abbrev pub IsDigit : ℕ → ℕ → Type 0
+IsDigit below byte = (48 ≤ byte) × (byte < 48 + below)
+
+-- a word that doesn't begin with a byte of ASCII
+abbrev pub NoFirst : List ℕ → Type 0
+NoFirst word = (byte : ℕ) (rest : List ℕ) → byte < 128 → word ≢ byte ∷ rest
