@@ -1,5 +1,5 @@
-//! Tests of the commands `from-capture` and `to-capture`, and of `forward` with captures, on the program's run. They stand above its crates, so that each
-//! of those is proved without them.
+//! Tests of the commands `from-capture` and `to-capture`, and of `forward` with captures, on the program's run. They stand
+//! above its crates, so that each of those is proved without them.
 //!
 //! Most are tables of rows, a run with all that it has to come to, which `told` walks. `streams` has inputs and outputs
 //! that fail.

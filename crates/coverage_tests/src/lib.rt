@@ -1,5 +1,7 @@
 //! Tests of the search over a queue's states.
 #![tactic(auto)]
 
+#[cfg(test)]
 mod search_tests;
+#[cfg(test)]
 mod second;
