@@ -7,7 +7,7 @@ ghost use Rattle.commands.specs.Answers.{EndsAs, IsText, IsWithheld, Prints, Ref
 use crate::decode::decode;
 use crate::once::once;
 use crate::refusal::Refusal;
-use crate::replay::replay;
+use crate::replay::replay_text;
 use crate::request::Request;
 use std::alloc::Global;
 use std::io::{Read, Write};
@@ -70,7 +70,7 @@ fn text_of<R: Threads + Wait + Sync, I: Read>(
     match request {
         Request::Once { digits } => once(rt, alloc, digits),
         Request::Decode { form, digits } => decode(alloc, form, digits),
-        Request::Replay { plan } => replay(alloc, plan, input),
+        Request::Replay { plan } => replay_text(alloc, plan, input),
     }
 }
 

@@ -24,5 +24,5 @@ pub use answering::{DONE, REFUSED, answer, perform, print, put, refuse};
 pub use decode::Form;
 pub use input::read_text;
 pub use refusal::Refusal;
-pub use replay::QueuePlan;
+pub use replay::{QueuePlan, replay_text};
 pub use request::Request;

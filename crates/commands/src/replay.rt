@@ -32,7 +32,11 @@ pub struct QueuePlan {
 ///
 /// It answers the first that applies of `Input` (or `Memory`) where the input can't be read, `Move` where a line is no
 /// move, the machine's ring length where there can be no such queues, and the machine's or its own want of memory.
-pub fn replay<I: Read>(alloc: Global, plan: QueuePlan, input: &mut I) -> Result<String, Refusal>
+pub fn replay_text<I: Read>(
+    alloc: Global,
+    plan: QueuePlan,
+    input: &mut I,
+) -> Result<String, Refusal>
     ensures done { IfOk result (λ page. IsReplayed plan (I.remaining input.old) (string_bytes page)) }
     ensures refused { IfErr result (λ e. RefusesReplay plan (I.remaining input.old) e) }
 {

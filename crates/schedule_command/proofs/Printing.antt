@@ -1,0 +1,35 @@
+-- One list more is printed.
+use Rattle.std.proofs.Common.{◌≡◌, ◌∙◌, ℕ, ◌+◌, List, [], ◌∷◌, ◌++◌, length, length-append, Option, refl, sym, ap, subst}
+use Rattle.std.specs.Prelude.{All}
+use Rattle.std.specs.Io.KnownBytes.{Appends}
+use Rattle.std.proofs.KnownBytes.{Appends-nil, Appends-trans}
+use Rattle.std.proofs.lemmas.List.{append-nil}
+use Rattle.std.proofs.lemmas.List.Concat.{flat_map-append}
+use Rattle.std.proofs.lemmas.List.Elements.{All-append, All-cons, All-nil}
+use Rattle.schedule_command.specs.Lists.{IsPrinted, Prints, joined}
+use Rattle.schedule_command.specs.declared.request.ScheduleRequest.{ScheduleRequest}
+
+-- so many lists were printed; and there can be such queues, if there was one
+pub record PrintedSoFar (r : ScheduleRequest) (k : ℕ) (old now : Option (List ℕ)) : Type 0 where
+  pub texts : List (List ℕ)
+  pub count : length texts ≡ k
+  pub each : All (IsPrinted r) texts
+  pub appends : Appends old now (joined texts)
+
+pub none-printed : (r : ScheduleRequest) (old : Option (List ℕ)) → PrintedSoFar r 0 old old
+none-printed r old = record { texts = []; count = refl; each = All-nil (IsPrinted r); appends = Appends-nil old }
+
+joined-append : (ts : List (List ℕ)) (t : List ℕ) → joined (ts ++ t ∷ []) ≡ joined ts ++ t
+joined-append ts t = flat_map-append (λ (x : List ℕ). x) ts (t ∷ []) ∙ ap (λ (x : List ℕ). joined ts ++ x) (append-nil t)
+
+pub one-printed : (r : ScheduleRequest) (k : ℕ) (old now later : Option (List ℕ)) (text : List ℕ) → IsPrinted r text → Appends now later text → PrintedSoFar r k old now
+    → PrintedSoFar r (k + 1) old later
+one-printed r k old now later text is adds s = record {
+  texts = s.texts ++ text ∷ [];
+  count = length-append s.texts (text ∷ []) ∙ ap (λ (n : ℕ). n + 1) s.count;
+  each = All-append (IsPrinted r) s.texts (text ∷ []) s.each (All-cons (IsPrinted r) text [] is (All-nil (IsPrinted r)));
+  appends = subst (Appends old later) (sym (joined-append s.texts text)) (Appends-trans old now later (joined s.texts) text s.appends adds);
+}
+
+pub all-printed : (r : ScheduleRequest) (k : ℕ) (old new : Option (List ℕ)) → k ≡ r.count → PrintedSoFar r k old new → Prints r old new
+all-printed r k old new whole s = record { texts = s.texts; count = s.count ∙ whole; each = s.each; appends = s.appends }

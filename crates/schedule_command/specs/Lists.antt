@@ -1,0 +1,65 @@
+-- What `schedules` prints.
+use Rattle.std.specs.Prelude.{◌≡◌, ◌⊎◌, ⊤, ℕ, Bool, true, false, List, [], ◌∷◌, ◌++◌, codes, length, Option, Some, All}
+use Rattle.std.specs.List.{flat_map}
+use Rattle.std.specs.Io.KnownBytes.{Appends}
+use Rattle.ring_machine.specs.Queues.{AreQueues}
+use Rattle.ring_machine.specs.declared.error.MachineError.TheVariants.{RingLength, Memory as NoQueues}
+use Rattle.ring_machine.specs.text.Moves.{text_of}
+use Rattle.commands.specs.Replay.{HasPage, RefusesReplay}
+use Rattle.commands.specs.declared.refusal.Refusal.{Refusal}
+use Rattle.commands.specs.declared.refusal.Refusal.TheVariants as refusal
+use Rattle.commands.specs.declared.replay.QueuePlan.{QueuePlan}
+use Rattle.schedules.specs.Drawing.{IsDrawn}
+use Rattle.schedules.specs.declared.drawing.Drawn.{Drawn}
+use Rattle.schedule_command.specs.declared.request.ScheduleRequest.{ScheduleRequest}
+
+-- the queues that the lists are drawn for, as `replay` makes them
+abbrev pub queues_of : ScheduleRequest → QueuePlan
+queues_of r = record { pairs = r.plan.pairs; ring = r.plan.ring; enabled = r.plan.enabled; completion = r.plan.completion; json = false }
+
+-- each move on a line of its own
+abbrev pub move_lines : List Drawn → List ℕ
+move_lines l = flat_map (λ d. text_of d.action ++ 10 ∷ []) l
+
+-- and a line that ends the list
+abbrev pub list_text : List Drawn → List ℕ
+list_text l = move_lines l ++ codes "# end\n"
+
+-- what follows a list is what `replay` prints of it, or nothing
+abbrev pub Follows : Bool → QueuePlan → List ℕ → List ℕ → Type 0
+Follows true queues list more = HasPage queues list more
+Follows false queues list more = more ≡ []
+
+-- a list that was drawn as is asked for, and what follows it
+pub record IsPrinted (r : ScheduleRequest) (text : List ℕ) : Type 0 where
+  pub list : List Drawn
+  pub drawn : IsDrawn r.plan list
+  pub more : List ℕ
+  pub follows : Follows r.expect (queues_of r) (list_text list) more
+  pub text_is : text ≡ list_text list ++ more
+
+-- why a list was not drawn: there can be no such queues, or memory was refused
+abbrev pub NotDrawn : ScheduleRequest → Refusal → Type 0
+NotDrawn r (refusal.Machine RingLength) = ¬ (AreQueues r.plan.pairs r.plan.ring)
+NotDrawn r (refusal.Machine NoQueues) = ⊤
+NotDrawn r refusal.Memory = ⊤
+NotDrawn r e = ⊥
+
+-- why it was not printed: it was not drawn, or `replay` refuses its text
+abbrev pub NotPrinted : ScheduleRequest → Refusal → Type 0
+NotPrinted r e = NotDrawn r e ⊎ ((l : List Drawn) × IsDrawn r.plan l × RefusesReplay (queues_of r) (Some (list_text l)) e)
+
+-- the texts, one behind another
+abbrev pub joined : List (List ℕ) → List ℕ
+joined texts = flat_map (λ t. t) texts
+
+-- as many lists as are asked for were printed, and nothing else
+pub record Prints (r : ScheduleRequest) (old new : Option (List ℕ)) : Type 0 where
+  pub texts : List (List ℕ)
+  pub count : length texts ≡ r.count
+  pub each : All (IsPrinted r) texts
+  pub appends : Appends old new (joined texts)
+
+-- fewer were: for want of memory, or because the output failed
+abbrev pub Refuses : ScheduleRequest → Refusal → Type 0
+Refuses r e = NotPrinted r e ⊎ (e ≡ refusal.Output)

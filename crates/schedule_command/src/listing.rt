@@ -1,0 +1,59 @@
+//! The text of one list.
+ghost use Rattle.std.specs.Prelude.{◌≡◌, ◌++◌, IfErr, IfOk, IsErr};
+ghost use Rattle.std.specs.String.{string_bytes};
+ghost use Rattle.ring_machine.specs.Queues.{AreQueues};
+ghost use Rattle.schedule_command.specs.Lists.{IsPrinted, NotPrinted, list_text, move_lines, queues_of};
+
+use crate::request::ScheduleRequest;
+use commands::{QueuePlan, Refusal, replay_text};
+use schedules::{Drawn, draw};
+use std::alloc::{AllocError, Global};
+
+// The queues that the moves are replayed on.
+fn queues_of(request: &ScheduleRequest) -> QueuePlan
+    ensures { result ≡ queues_of request.now }
+{
+    QueuePlan {
+        pairs: request.plan.pairs,
+        ring: request.plan.ring,
+        enabled: request.plan.enabled,
+        completion: request.plan.completion,
+        json: false,
+    }
+}
+
+// The moves of a list, one a line, and a line that ends it.
+fn text_of(alloc: Global, drawn: &[Drawn]) -> Result<String, AllocError>
+    ensures { IfOk result (λ text. string_bytes text ≡ list_text drawn.now) }
+{
+    let mut text = String::new(alloc);
+    for d in drawn {
+        writeln!(text, "{}", d.action)?;
+    }
+    text.push_str("# end\n")?;
+    Ok(text)
+}
+
+/// The list of this number as it is printed.
+pub(crate) fn list_of(
+    alloc: Global,
+    request: &ScheduleRequest,
+    number: u32,
+) -> Result<String, Refusal>
+    ensures done { IfOk result (λ text. IsPrinted request.now (string_bytes text)) }
+    ensures refused { IfErr result (NotPrinted request.now) }
+    ensures no_queues { ¬ (AreQueues request.now.plan.pairs request.now.plan.ring) → IsErr result }
+{
+    let drawn = draw(
+        alloc,
+        &request.plan,
+        u64::from(request.seed),
+        u64::from(number),
+    )?;
+    let mut text = text_of(alloc, drawn.as_slice())?;
+    if request.expect {
+        let expected = replay_text(alloc, queues_of(request), &mut text.as_bytes())?;
+        text.push_str(expected.as_str())?;
+    }
+    Ok(text)
+}

@@ -1,0 +1,54 @@
+//! Numbers drawn from a seed.
+ghost use Rattle.std.specs.Prelude.{◌<◌};
+
+use rand::RngExt;
+use rand_pcg::Pcg64;
+
+/// A source of numbers that a seed and a list's number decide.
+#[derive(Drop)]
+pub(crate) struct Chance {
+    rng: Pcg64,
+}
+
+impl Chance {
+    /// The source of this seed for this list.
+    pub fn new(seed: u64, list: u64) -> Chance {
+        Chance {
+            rng: Pcg64::new(u128::from(seed), u128::from(list)),
+        }
+    }
+
+    /// A number below `n`.
+    pub fn below(&mut self, n: u32) -> u32
+        requires { 0 < n }
+        ensures { result < n }
+    {
+        self.rng.random_range(0..n)
+    }
+
+    /// Whether a number below `n` is 0.
+    pub fn one_in(&mut self, n: u32) -> bool
+        requires { 0 < n }
+    {
+        self.below(n) == 0
+    }
+
+    /// A place of these weights, each as likely as its weight says; 0 where all are 0.
+    pub fn place(&mut self, weights: &[u32]) -> usize {
+        let mut sum: u32 = 0;
+        for weight in weights {
+            sum = sum.saturating_add(*weight);
+        }
+        if sum == 0 {
+            return 0;
+        }
+        let mut left = self.below(sum);
+        for place in 0..weights.len() {
+            if left < weights[place] {
+                return place;
+            }
+            left -= weights[place];
+        }
+        0
+    }
+}

@@ -1,0 +1,113 @@
+//! A list of moves, drawn move by move on queues that make each of them.
+ghost use Rattle.std.specs.Prelude.{◌≡◌, ◌≤◌, ◌+◌, ◌*◌, ◌↔◌, ◌⊎◌, false, true, IfErr, IfOk};
+ghost use Rattle.ring_machine.specs.Queues.{AreQueues};
+ghost use Rattle.ring_machine.specs.declared.error.MachineError.TheVariants.{Memory, RingLength};
+ghost use Rattle.schedules.specs.Drawing.{Draws, IsDrawn, Surely};
+
+use crate::plan::SchedulePlan;
+use crate::proposing::Proposer;
+use ring_machine::{
+    ControlStep, MachineError, Move, QueueNumber, Queues, RxStep, SegmentDescriptor, SegmentLength,
+    TxStep,
+};
+use std::alloc::Global;
+
+/// A move of a list, and whether it happens when its turn comes.
+#[derive(Clone, Copy)]
+pub struct Drawn {
+    pub action: Move,
+    pub happens: bool,
+}
+
+/// How many moves are drawn for one that happens, before one is taken that always does.
+const MOST_TRIES: usize = 256;
+
+// Makes a move, and says whether it happened.
+fn make(queues: &mut Queues, proposer: &mut Proposer, action: Move) -> Drawn
+    ensures draws { Draws queues.old result queues.new }
+    ensures action { result.action ≡ action }
+    ensures kept { result.happens ≡ false → queues.new ≡ queues.old }
+{
+    let happens = queues.step(action).is_ok();
+    if happens {
+        proposer.made(&action);
+    }
+    Drawn { action, happens }
+}
+
+// Makes a move that always happens: the controller of receive queue 0 loads the control word.
+fn make_look(queues: &mut Queues, proposer: &mut Proposer) -> Drawn
+    ensures draws { Draws queues.old result queues.new }
+    ensures happens { Surely queues.old result }
+{
+    let queue = QueueNumber::new(0).unwrap();
+    let look = RxStep::Control(ControlStep::LookAsked);
+    make(queues, proposer, Move::Receive(queue, look))
+}
+
+// Draws moves until one happens.
+fn draw_happening(queues: &mut Queues, proposer: &mut Proposer) -> Drawn
+    ensures draws { Draws queues.old result queues.new }
+    ensures happens { Surely queues.old result }
+{
+    for _ in 0..MOST_TRIES {
+        if let Some(action) = proposer.propose(false) {
+            let drawn = make(queues, proposer, action);
+            if drawn.happens {
+                return drawn;
+            }
+        }
+    }
+    make_look(queues, proposer)
+}
+
+// Draws the next move: one that happens, or where it may be refused any.
+fn draw_next(queues: &mut Queues, proposer: &mut Proposer, may_be_refused: bool) -> Drawn
+    ensures draws { Draws queues.old result queues.new }
+    ensures happens { may_be_refused ≡ false → Surely queues.old result }
+{
+    if may_be_refused && proposer.one_in(2) {
+        if let Some(action) = proposer.propose(true) {
+            return make(queues, proposer, action);
+        }
+    }
+    draw_happening(queues, proposer)
+}
+
+// Whether one move more may be refused, of so many that are drawn, of which so many were.
+fn is_owed(plan: &SchedulePlan, drawn: u32, refused: u64) -> bool
+    requires { refused ≤ drawn }
+    ensures { result ≡ true → 100 * (refused + 1) ≤ plan.now.refused * (drawn + 1) }
+{
+    100 * (refused + 1) <= u64::from(plan.refused).saturating_mul(u64::from(drawn) + 1)
+}
+
+/// Draws the list of this number and seed. It answers `RingLength` where there can be no such queues, and `Memory` only
+/// where memory was refused.
+pub fn draw(
+    alloc: Global,
+    plan: &SchedulePlan,
+    seed: u64,
+    list: u64,
+) -> Result<Vec<Drawn>, MachineError>
+    ensures refused { (result ≡ Err RingLength) ↔ ¬ (AreQueues plan.now.pairs plan.now.ring) }
+    ensures error { IfErr result (λ e. (e ≡ RingLength) ⊎ (e ≡ Memory)) }
+    ensures drawn { IfOk result (λ l. IsDrawn plan.now l.items) }
+{
+    let _receive: Option<RxStep<SegmentLength>> = None;
+    let _transmit: Option<TxStep<SegmentDescriptor>> = None;
+    let _action: Option<Move> = None;
+    let (pairs, ring) = (plan.pairs as usize, plan.ring as usize);
+    let mut queues = Queues::new_with(alloc, pairs, ring, plan.enabled, plan.completion)?;
+    let mut proposer = Proposer::new(plan, seed, list);
+    let mut drawn = Vec::new(alloc);
+    let mut refused: u64 = 0;
+    for k in 0..plan.moves {
+        let next = draw_next(&mut queues, &mut proposer, is_owed(plan, k, refused));
+        refused += u64::from(!next.happens);
+        if drawn.push(next).is_err() {
+            return Err(MachineError::Memory);
+        }
+    }
+    Ok(drawn)
+}

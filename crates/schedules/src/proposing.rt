@@ -1,0 +1,180 @@
+//! Moves that might come next, drawn by weight.
+
+use crate::chance::Chance;
+use crate::lane::Lane;
+use crate::plan::SchedulePlan;
+use crate::weights::{
+    RECEIVE_DATA_KINDS, RECEIVE_KINDS, TRANSMIT_DATA_KINDS, TRANSMIT_KINDS, receive_weights,
+    transmit_weights,
+};
+use limits::MOST_PAIRS;
+use ring_machine::{
+    ControlStep, Move, QueueNumber, RxStep, SegmentDescriptor, SegmentLength, TxStep,
+};
+
+/// What draws moves for queues: its numbers, and how far each queue is.
+#[derive(Drop)]
+pub(crate) struct Proposer {
+    chance: Chance,
+    pairs: u32,
+    device_only: bool,
+    receive: [Lane; MOST_PAIRS],
+    transmit: [Lane; MOST_PAIRS],
+}
+
+// The step of the handshake that stands there among five.
+fn control_step(kind: usize) -> ControlStep {
+    match kind {
+        0 => ControlStep::AskEnable,
+        1 => ControlStep::LookAsked,
+        2 => ControlStep::Answer,
+        3 => ControlStep::LookAnswered,
+        _ => ControlStep::AskDisable,
+    }
+}
+
+// The step of this kind of a receive queue, as `receive_weights` counts them.
+fn receive_step(kind: usize, buffer: u16, lane: &Lane) -> Option<RxStep<SegmentLength>> {
+    Some(match kind {
+        0 => RxStep::Post(buffer),
+        1 => RxStep::Publish,
+        2 => RxStep::Look,
+        3 => RxStep::Fetch,
+        4 => {
+            let (len, eop) = lane.segment()?;
+            RxStep::Store(len, eop)
+        }
+        5 => RxStep::Take,
+        6 => RxStep::Head,
+        7..=11 => RxStep::Control(control_step(kind - 7)),
+        12 => RxStep::Reclaim,
+        13 => RxStep::StoreQuiet,
+        14 => RxStep::LoadQuiet,
+        15 => RxStep::ClearHead,
+        16 => RxStep::ClearTail,
+        _ => RxStep::ClearQuiet,
+    })
+}
+
+// The step of this kind of a transmit queue, as `transmit_weights` counts them.
+fn transmit_step(
+    kind: usize,
+    buffer: u16,
+    lane: &Lane,
+    chance: &mut Chance,
+) -> Option<TxStep<SegmentDescriptor>> {
+    Some(match kind {
+        0 => TxStep::Post(lane.posting(chance, buffer)?),
+        1 => TxStep::Publish,
+        2 => TxStep::Look,
+        3 => TxStep::Fetch,
+        4 => TxStep::Send,
+        5 => TxStep::Report,
+        6 => TxStep::LoadReport,
+        7 => TxStep::Clean,
+        8..=12 => TxStep::Control(control_step(kind - 8)),
+        13 => TxStep::Reclaim,
+        14 => TxStep::ClearHead,
+        15 => TxStep::ClearTail,
+        _ => TxStep::ClearReport,
+    })
+}
+
+impl Proposer {
+    /// What draws the list of this number and seed.
+    pub fn new(plan: &SchedulePlan, seed: u64, list: u64) -> Proposer {
+        let mut chance = Chance::new(seed, list);
+        let lane = Lane::new(&mut chance);
+        let mut receive = [lane; MOST_PAIRS];
+        let mut transmit = [lane; MOST_PAIRS];
+        for lane in receive.as_mut_slice() {
+            *lane = Lane::new(&mut chance);
+        }
+        for lane in transmit.as_mut_slice() {
+            *lane = Lane::new(&mut chance);
+        }
+        Proposer {
+            chance,
+            pairs: plan.pairs,
+            device_only: plan.device_only,
+            receive,
+            transmit,
+        }
+    }
+
+    // A buffer's number.
+    fn buffer(&mut self) -> u16 {
+        u16::try_from(self.chance.below(65_536)).unwrap_or(0)
+    }
+
+    /// Whether now, of so many times, is the one.
+    pub fn one_in(&mut self, n: u32) -> bool {
+        n > 0 && self.chance.one_in(n)
+    }
+
+    /// A move that might happen next, by weight; with `any` each kind is as likely as the others.
+    pub fn propose(&mut self, any: bool) -> Option<Move> {
+        let number = self.chance.below(self.pairs.max(1));
+        let queue = QueueNumber::new(u8::try_from(number).ok()?)?;
+        if self.chance.one_in(2) {
+            self.propose_receive(queue, any)
+        } else {
+            self.propose_transmit(queue, any)
+        }
+    }
+
+    // The same of this receive queue.
+    fn propose_receive(&mut self, queue: QueueNumber, any: bool) -> Option<Move> {
+        let buffer = self.buffer();
+        let lane = self.receive.get_mut(usize::from(queue.number()))?;
+        lane.turn(&mut self.chance);
+        let weights = if any {
+            [1; RECEIVE_KINDS]
+        } else {
+            receive_weights(lane.mood)
+        };
+        let kinds = if self.device_only {
+            RECEIVE_DATA_KINDS
+        } else {
+            RECEIVE_KINDS
+        };
+        let kind = self.chance.place(weights.as_slice().get(..kinds)?);
+        Some(Move::Receive(queue, receive_step(kind, buffer, lane)?))
+    }
+
+    // The same of this transmit queue.
+    fn propose_transmit(&mut self, queue: QueueNumber, any: bool) -> Option<Move> {
+        let buffer = self.buffer();
+        let lane = self.transmit.get_mut(usize::from(queue.number()))?;
+        lane.turn(&mut self.chance);
+        let weights = if any {
+            [1; TRANSMIT_KINDS]
+        } else {
+            transmit_weights(lane.mood)
+        };
+        let kinds = if self.device_only {
+            TRANSMIT_DATA_KINDS
+        } else {
+            TRANSMIT_KINDS
+        };
+        let kind = self.chance.place(weights.as_slice().get(..kinds)?);
+        let step = transmit_step(kind, buffer, lane, &mut self.chance)?;
+        Some(Move::Transmit(queue, step))
+    }
+
+    /// A move was made.
+    pub fn made(&mut self, action: &Move) {
+        match action {
+            Move::Receive(queue, _) => {
+                if let Some(lane) = self.receive.get_mut(usize::from(queue.number())) {
+                    lane.made(&mut self.chance, action);
+                }
+            }
+            Move::Transmit(queue, _) => {
+                if let Some(lane) = self.transmit.get_mut(usize::from(queue.number())) {
+                    lane.made(&mut self.chance, action);
+                }
+            }
+        }
+    }
+}

@@ -1,0 +1,72 @@
+//! How likely each kind of move is to be drawn.
+
+/// What a queue is being brought to: the weights of its moves change with it.
+#[derive(Clone, Copy, PartialEq, Eq)]
+pub(crate) enum Mood {
+    /// Both sides go on alike.
+    Even,
+    /// More is posted than taken or sent: rings fill.
+    Filling,
+    /// More is taken or sent than posted: rings drain.
+    Draining,
+    /// The driver asks for a disabling, and a receive queue's controller may say that it is quiet.
+    Turning,
+}
+
+impl Mood {
+    /// The mood of this number, of which the greatest is 3.
+    pub fn of(number: u32) -> Mood {
+        match number {
+            0 => Mood::Even,
+            1 => Mood::Filling,
+            2 => Mood::Draining,
+            _ => Mood::Turning,
+        }
+    }
+}
+
+/// How many kinds of moves a receive queue has; those of data come first.
+pub(crate) const RECEIVE_KINDS: usize = 18;
+
+/// How many of them are of data: no handshake's, none of the quiet word, of reclaiming and of renewal.
+pub(crate) const RECEIVE_DATA_KINDS: usize = 7;
+
+/// How many kinds of moves a transmit queue has; those of data come first.
+pub(crate) const TRANSMIT_KINDS: usize = 17;
+
+/// How many of them are of data.
+pub(crate) const TRANSMIT_DATA_KINDS: usize = 8;
+
+/// The weights of a receive queue's kinds of moves: post, publish, look, fetch, store, take, head; ask to enable, look
+/// asked, answer, look answered, ask to disable; reclaim; store quiet, load quiet; clear head, clear tail, clear quiet.
+pub(crate) fn receive_weights(mood: Mood) -> [u32; RECEIVE_KINDS] {
+    match mood {
+        Mood::Even => [
+            32, 8, 8, 32, 32, 24, 4, 16, 2, 16, 2, 0, 32, 0, 1, 16, 16, 16,
+        ],
+        Mood::Filling => [
+            48, 12, 12, 48, 48, 3, 4, 16, 2, 16, 2, 0, 32, 0, 1, 16, 16, 16,
+        ],
+        Mood::Draining => [
+            3, 3, 8, 16, 24, 40, 4, 16, 2, 16, 2, 0, 32, 0, 1, 16, 16, 16,
+        ],
+        Mood::Turning => [
+            16, 6, 6, 16, 32, 24, 8, 16, 6, 16, 6, 4, 32, 2, 2, 16, 16, 16,
+        ],
+    }
+}
+
+/// The weights of a transmit queue's kinds of moves: post, publish, look, fetch, send, report, load report, clean; ask to
+/// enable, look asked, answer, look answered, ask to disable; reclaim; clear head, clear tail, clear report.
+pub(crate) fn transmit_weights(mood: Mood) -> [u32; TRANSMIT_KINDS] {
+    match mood {
+        Mood::Even => [
+            32, 10, 8, 32, 32, 32, 16, 32, 16, 2, 16, 2, 0, 32, 16, 16, 16,
+        ],
+        Mood::Filling => [48, 16, 8, 8, 8, 8, 3, 3, 16, 2, 16, 2, 0, 32, 16, 16, 16],
+        Mood::Draining => [3, 6, 8, 48, 48, 48, 24, 48, 16, 2, 16, 2, 0, 32, 16, 16, 16],
+        Mood::Turning => [
+            24, 6, 6, 24, 24, 24, 12, 24, 16, 6, 16, 6, 4, 32, 16, 16, 16,
+        ],
+    }
+}
