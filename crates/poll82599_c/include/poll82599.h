@@ -1,0 +1,134 @@
+/* A running receive ring of the Intel 82599, whose driver and controller are two threads of a program in C.
+ *
+ * What the library promises is proved of its exports; what its caller owes stands here, and nothing checks it:
+ * - an end begins as {0}, is passed by its address, and is never copied;
+ * - one call at a time takes an end. Two ends of one ring may be in calls of two threads at once;
+ * - poll82599_rx_new is given two empty ends, each other call ends that it has filled, and poll82599_rx_close both ends of
+ *   one ring, which no other thread uses any more. */
+#ifndef POLL82599_H
+#define POLL82599_H
+
+#include <stddef.h>
+#include <stdint.h>
+
+#ifdef __cplusplus
+extern "C" {
+#endif
+
+/* The limits of the profile. */
+enum {
+    POLL82599_LEAST_RING = 8,       /* descriptors of a ring: a power of two from here .. */
+    POLL82599_MOST_RING = 4096,     /* .. to here */
+    POLL82599_BUFFER_BYTES = 2048,  /* of a buffer, and the most of a segment */
+    POLL82599_LEAST_FRAME = 14,     /* bytes of a frame without its CRC */
+    POLL82599_LEAST_BUFFERS = 16,   /* that a driver may have .. */
+    POLL82599_MOST_BUFFERS = 256
+};
+
+/* What a driver's or a controller's call is to do, and what it answers. */
+struct poll82599_call {
+    uint32_t operation;
+    uint32_t answer;
+    uint32_t len; /* of a segment that was polled, in bytes */
+    uint32_t eop; /* whether it ends its frame */
+};
+
+/* The control word, as poll82599_rx_state loads it. */
+enum { POLL82599_OFF = 0, POLL82599_ENABLE_ASKED = 1, POLL82599_ON = 2, POLL82599_DISABLE_ASKED = 3 };
+
+/* The two ends of a receive ring. */
+struct poll82599_rx_driver { uint8_t *end; };
+struct poll82599_rx_controller { uint8_t *end; };
+
+/* The exports. Below is a function for each operation. */
+int32_t poll82599_rx_new(uint32_t descriptors, uint32_t buffers, struct poll82599_rx_driver *driver, struct poll82599_rx_controller *controller);
+void poll82599_rx_drive(struct poll82599_rx_driver *driver, struct poll82599_call *call, uint8_t *bytes, size_t room);
+void poll82599_rx_serve(struct poll82599_rx_controller *controller, struct poll82599_call *call, const uint8_t *frame, size_t len);
+int64_t poll82599_rx_close(struct poll82599_rx_driver *driver, struct poll82599_rx_controller *controller);
+
+/* poll82599_rx_new makes a ring of so many descriptors, its driver with so many buffers, and its controller: 0, or 1 where the
+ * length is not lawful, 2 where memory was refused, 3 where there are not 16 to 256 buffers. Only 0 changes the ends.
+ *
+ * poll82599_rx_close gives all of it back: how many buffers lay in the ring, or -1. Both ends are empty then. */
+
+static inline uint32_t poll82599_rx_do(struct poll82599_rx_driver *driver, uint32_t operation)
+{
+    struct poll82599_call call = {operation, 0, 0, 0};
+    uint8_t none;
+    poll82599_rx_drive(driver, &call, &none, 0);
+    return call.answer;
+}
+
+/* ---- The driver's thread. */
+
+/* Posts an empty buffer (section 7.1.6.1): 1, or 0 where there is no room, no buffer, or a disabling was asked for. */
+static inline uint32_t poll82599_rx_post(struct poll82599_rx_driver *driver) { return poll82599_rx_do(driver, 0); }
+
+/* Stores RDT behind all that is posted (section 7.1.9): 1, or 0 where a disabling was asked for. */
+static inline uint32_t poll82599_rx_set_tail(struct poll82599_rx_driver *driver) { return poll82599_rx_do(driver, 1); }
+
+/* Takes the next segment, in the order in which they were stored (section 7.1.6.2): 1, with its bytes at the beginning of
+ * `bytes` and its length and EOP in `len` and `eop`; 0 where the next descriptor has no DD, 2 where nothing is posted, 3 where
+ * the queue is off, 4 where `room` is below 2,048, which takes nothing. The buffer is the driver's again. */
+static inline uint32_t poll82599_rx_poll(struct poll82599_rx_driver *driver, uint8_t *bytes, size_t room, uint32_t *len, uint32_t *eop)
+{
+    struct poll82599_call call = {2, 0, 0, 0};
+    poll82599_rx_drive(driver, &call, bytes, room);
+    *len = call.len;
+    *eop = call.eop;
+    return call.answer;
+}
+
+/* Asks for the queue to be enabled (section 4.6.7): 1, or 0 where that was asked before. */
+static inline uint32_t poll82599_rx_ask_enable(struct poll82599_rx_driver *driver) { return poll82599_rx_do(driver, 3); }
+
+/* Loads the control word: POLL82599_ON once an enabling is answered, POLL82599_OFF once a disabling is. */
+static inline uint32_t poll82599_rx_state(struct poll82599_rx_driver *driver) { return poll82599_rx_do(driver, 4); }
+
+/* Asks for the queue to be disabled: 1, or 0 where it was not seen on. */
+static inline uint32_t poll82599_rx_ask_disable(struct poll82599_rx_driver *driver) { return poll82599_rx_do(driver, 5); }
+
+/* Loads whether the controller said that it stores no more: 1 or 0. */
+static inline uint32_t poll82599_rx_is_quiet(struct poll82599_rx_driver *driver) { return poll82599_rx_do(driver, 6); }
+
+/* Takes the oldest buffer that is out back (section 4.6.7): 1; 0 where none is; 2 where no disabling was seen answered. */
+static inline uint32_t poll82599_rx_reclaim(struct poll82599_rx_driver *driver) { return poll82599_rx_do(driver, 7); }
+
+/* Clears the registers of a disabled queue, which can be enabled again: 1; or 0 where no disabling was seen answered, or a
+ * buffer is out. */
+static inline uint32_t poll82599_rx_renew(struct poll82599_rx_driver *driver) { return poll82599_rx_do(driver, 8); }
+
+/* ---- The controller's thread. */
+
+static inline uint32_t poll82599_rx_act(struct poll82599_rx_controller *controller, uint32_t operation, const uint8_t *frame, size_t len)
+{
+    struct poll82599_call call = {operation, 0, 0, 0};
+    poll82599_rx_serve(controller, &call, frame, len);
+    return call.answer;
+}
+
+/* Loads what the driver asks, and answers it where it may: 1 where it answered, else 0. */
+static inline uint32_t poll82599_rx_answer(struct poll82599_rx_controller *controller)
+{
+    static const uint8_t none = 0;
+    return poll82599_rx_act(controller, 0, &none, 0);
+}
+
+/* Stores a frame of one segment, 14 to 2,048 bytes, and RDH: 1; 0 where no descriptor is free; 2 where the length is another; 3
+ * where the queue is not served, or was said to be quiet. */
+static inline uint32_t poll82599_rx_store(struct poll82599_rx_controller *controller, const uint8_t *frame, size_t len)
+{
+    return poll82599_rx_act(controller, 1, frame, len);
+}
+
+/* Says that no more is stored until the queue is enabled again: 1, or 0 where the queue is not served. */
+static inline uint32_t poll82599_rx_set_quiet(struct poll82599_rx_controller *controller)
+{
+    static const uint8_t none = 0;
+    return poll82599_rx_act(controller, 2, &none, 0);
+}
+
+#ifdef __cplusplus
+}
+#endif
+#endif

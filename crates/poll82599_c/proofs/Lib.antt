@@ -1,0 +1,2 @@
+pub mod RxControllerHandleAsBox
+pub mod RxDriverHandleAsBox

@@ -1,0 +1,110 @@
+-- What the exports of a receive ring say of the two ends that handles hold, and of their steps.
+use Rattle.std.specs.Prelude.{◌≡◌, ℕ, Option, Some, Bool, true, ◌++◌, length, drop, [], ◌∷◌}
+use Rattle.std.specs.Int.{from_bool}
+use Rattle.buffer_pool.specs.Buffer.{Buffer}
+use Rattle.ring_model.specs.receive.Lawful.{IsLawfulRxLedger}
+use Rattle.ring_model.specs.shared.Frames.{Bytes}
+use Rattle.shared_ring.specs.declared.events.DriverEvent.TheVariants as driver
+use Rattle.shared_ring.specs.declared.events.ControllerEvent.TheVariants as controller
+use Rattle.rx_ring.specs.Calls.{Answered}
+use Rattle.rx_ring.specs.declared.events.RxDriverOwn.TheVariants.{LoadedQuiet}
+use Rattle.rx_ring.specs.declared.events.RxControllerOwn.TheVariants.{SaidQuiet}
+use Rattle.rx_ring.specs.Ends.{DriverSide, ControllerSide, answered, appended, driver_size, fill_place, next_place, stored, taken}
+use Rattle.rx_ring.specs.Meeting.{MadeSeats, ledger_of}
+
+-- both are there, and this holds of them
+abbrev pub Between : {A B : Type 0} → (A → B → Type 0) → Option A → Option B → Type 0
+Between Holds (Some a) (Some b) = Holds a b
+Between Holds _ _ = ⊥
+
+-- both are fresh ends of one ring of n descriptors
+abbrev pub AreMade : ℕ → Option DriverSide → Option ControllerSide → Type 0
+AreMade n = Between (λ d c. MadeSeats n d.table d c)
+
+-- both are ends of one ring
+abbrev pub AreOfOne : Option DriverSide → Option ControllerSide → Type 0
+AreOfOne = Between (λ d c. d.table ≡ c.table)
+
+-- the end is there before and after, and of the same ring
+abbrev pub SameDriven : Option DriverSide → Option DriverSide → Type 0
+SameDriven = Between (λ old new. new.table ≡ old.table)
+
+abbrev pub SameServed : Option ControllerSide → Option ControllerSide → Type 0
+SameServed = Between (λ old new. new.table ≡ old.table)
+
+-- the records of both are those of one lawful ring: what is taken is a beginning of what is stored
+abbrev pub AreLawful : Option DriverSide → Option ControllerSide → Type 0
+AreLawful = Between (λ d c. IsLawfulRxLedger Bytes (driver_size d) (ledger_of d c))
+
+-- ---- a driver's steps
+
+-- A1: an empty buffer is posted at the place where the driver posts next
+pub record PostedOne (old new : DriverSide) : Type 0 where
+  pub buf : Buffer
+  pub step : new ≡ appended old (driver.Posted (fill_place old) 0 buf)
+
+-- A2
+abbrev pub PublishedAll : DriverSide → DriverSide → Type 0
+PublishedAll old new = new ≡ appended old (driver.Published (fill_place old))
+
+-- A6: one more segment is taken, and its bytes are at the beginning of the room
+pub record TookOne (len eop : ℕ) (before after : Bytes) (old new : DriverSide) : Type 0 where
+  pub number : ℕ
+  pub payload : Bytes
+  pub ends : Bool
+  pub step : taken new ≡ taken old ++ record { number = number; payload = payload; eop = ends } ∷ []
+  pub len_is : len ≡ length payload
+  pub eop_is : eop ≡ from_bool ends
+  pub copied : after ≡ payload ++ drop (length payload) before
+
+-- nothing was taken, and nothing handed out
+pub record TookNone (before after : Bytes) (old new : DriverSide) : Type 0 where
+  pub same : taken new ≡ taken old
+  pub kept : after ≡ before
+
+-- C1 and C5
+abbrev pub AskedEnable : DriverSide → DriverSide → Type 0
+AskedEnable old new = new ≡ appended old driver.AskedEnable
+
+abbrev pub AskedDisable : DriverSide → DriverSide → Type 0
+AskedDisable old new = new ≡ appended old driver.AskedDisable
+
+-- C4 and C8: the control word, and the quiet word, had this value
+abbrev pub LoadedControl : ℕ → DriverSide → DriverSide → Type 0
+LoadedControl value old new = new ≡ appended old (driver.LoadedControl value)
+
+abbrev pub FoundQuiet : ℕ → DriverSide → DriverSide → Type 0
+FoundQuiet value old new = new ≡ appended old (driver.Own (LoadedQuiet value))
+
+-- C6: the oldest buffer that was out is back
+pub record ReclaimedOne (old new : DriverSide) : Type 0 where
+  pub buf : Buffer
+  pub step : new ≡ appended old (driver.Reclaimed (next_place old) buf)
+
+-- no step was made
+abbrev pub Stays : {A : Type 0} → A → A → Type 0
+Stays old new = new ≡ old
+
+-- ---- a controller's steps
+
+-- C2: what is asked was loaded, and not answered
+pub record LookedAsked (old new : ControllerSide) : Type 0 where
+  pub value : ℕ
+  pub step : new ≡ answered old (controller.LoadedRequest value)
+
+-- C2 and C3: it was loaded, and answered
+pub record AnsweredAsked (old new : ControllerSide) : Type 0 where
+  pub value : ℕ
+  pub step : Answered (answered old (controller.LoadedRequest value)) new
+
+-- A4, A5 and A7: one more frame of one segment is stored, of these bytes
+pub record StoredOne (bytes : Bytes) (old new : ControllerSide) : Type 0 where
+  pub number : ℕ
+  pub step : stored new ≡ stored old ++ record { number = number; payload = bytes; eop = true } ∷ []
+
+abbrev pub StoredNone : ControllerSide → ControllerSide → Type 0
+StoredNone old new = stored new ≡ stored old
+
+-- C7
+abbrev pub SaidNoMore : ControllerSide → ControllerSide → Type 0
+SaidNoMore old new = new ≡ answered old (controller.Own SaidQuiet)

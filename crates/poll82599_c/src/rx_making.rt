@@ -1,0 +1,120 @@
+//! The making of a ring with its two objects.
+ghost use Rattle.std.specs.Prelude.{◌≡◌, IfOk};
+ghost use Rattle.ring_model.specs.receive.Lawful.{IsLawfulRxLedger};
+ghost use Rattle.ring_model.specs.shared.Frames.{Bytes};
+ghost use Rattle.rx_ring.specs.Ends.{driver_size};
+ghost use Rattle.rx_ring.specs.Meeting.{MadeSeats, ledger_of};
+
+use crate::rx_driving::RxDriving;
+use crate::rx_serving::RxServing;
+use buffer_pool::{PoolError, Stash, Stock};
+use rx_ring::{RingError, RxRing, close, meet_rx};
+use std::alloc::{AllocError, Global};
+use std::sync::Arc;
+
+/// Why nothing was made.
+#[derive(Drop)]
+pub(crate) enum Unmade {
+    /// The length is no power of two from 8 to 4,096.
+    Length,
+    /// Memory was refused.
+    Memory,
+    /// There are not 16 to 256 buffers.
+    Buffers,
+}
+
+/// The least buffers that a driver may have.
+const LEAST_BUFFERS: u32 = 16;
+
+/// The most, so that its stash has room for all.
+const MOST_BUFFERS: u32 = 256;
+
+/// A ring of so many descriptors, and its two objects. The driver has so many buffers.
+pub(crate) fn make(
+    alloc: Global,
+    ring: u32,
+    buffers: u32,
+) -> Result<(Box<RxDriving>, Box<RxServing>), Unmade>
+    ensures { IfOk result (λ r. MadeSeats ring r.0.value.table r.0.value r.1.value) }
+{
+    if buffers < LEAST_BUFFERS || MOST_BUFFERS < buffers {
+        return Err(Unmade::Buffers);
+    }
+    let (ring, driver, controller) = match RxRing::new(alloc, ring) {
+        Ok(made) => made,
+        Err(RingError::RingLength) => return Err(Unmade::Length),
+        Err(RingError::Memory) => return Err(Unmade::Memory),
+    };
+    let Ok(stash) = filled(alloc, buffers) else {
+        return Err(Unmade::Memory);
+    };
+    let Ok(ring) = Arc::new(alloc, ring) else {
+        return Err(Unmade::Memory);
+    };
+    let Ok(other) = Arc::try_clone(&ring) else {
+        return Err(Unmade::Memory);
+    };
+    let driving = RxDriving {
+        ring,
+        end: driver,
+        stash,
+    };
+    let serving = RxServing {
+        ring: other,
+        end: controller,
+    };
+    let Ok(driving) = Box::new(alloc, crossing(driving)) else {
+        return Err(Unmade::Memory);
+    };
+    let Ok(serving) = Box::new(alloc, crossing(serving)) else {
+        return Err(Unmade::Memory);
+    };
+    Ok((driving, serving))
+}
+
+/// A stash with so many buffers.
+fn filled(alloc: Global, buffers: u32) -> Result<Stash, PoolError> {
+    let mut stock = Stock::new(alloc, 0, buffers)?;
+    let mut stash = Stash::new();
+    for _ in 0..buffers {
+        if let Some(buf) = stock.take() {
+            drop(stash.put(buf));
+        }
+    }
+    Ok(stash)
+}
+
+/// Closes a ring: how many buffers lay in it, or -1 where another owner of the ring is left.
+pub(crate) fn unmake(driving: Box<RxDriving>, serving: Box<RxServing>) -> i64
+    requires { driving.value.table ≡ serving.value.table }
+    ensures { IsLawfulRxLedger Bytes (driver_size driving.value) (ledger_of driving.value serving.value) }
+{
+    let RxDriving {
+        ring,
+        end: mut driver,
+        ..
+    } = Box::into_inner(driving);
+    let RxServing {
+        ring: other,
+        end: mut controller,
+    } = Box::into_inner(serving);
+    meet_rx(&other, &mut driver, &mut controller);
+    drop(other);
+    let Some(ring) = Arc::into_inner(ring) else {
+        return -1;
+    };
+    let mut left = 0u32;
+    for place in close(ring, driver, controller) {
+        if place.is_some() {
+            left = left.wrapping_add(1);
+        }
+    }
+    i64::from(left)
+}
+
+/// What may go to another thread.
+fn crossing<T: Send>(value: T) -> T
+    ensures { result ≡ value }
+{
+    value
+}
