@@ -1,10 +1,11 @@
-/* A running receive ring of the Intel 82599, whose driver and controller are two threads of a program in C.
+/* Running receive and transmit rings of the Intel 82599, whose drivers and controllers are threads of a program in C.
  *
  * What the library promises is proved of its exports; what its caller owes stands here, and nothing checks it:
  * - an end begins as {0}, is passed by its address, and is never copied;
  * - one call at a time takes an end. Two ends of one ring may be in calls of two threads at once;
- * - poll82599_rx_new is given two empty ends, each other call ends that it has filled, and poll82599_rx_close both ends of
- *   one ring, which no other thread uses any more. */
+ * - poll82599_rx_new and poll82599_tx_new are given two empty ends, each other call ends that they have filled, and
+ *   poll82599_rx_close and poll82599_tx_close both ends of one ring, which no other thread uses any more;
+ * - a pointer to bytes has as many bytes as the call is told, and is not null. */
 #ifndef POLL82599_H
 #define POLL82599_H
 
@@ -29,11 +30,11 @@ enum {
 struct poll82599_call {
     uint32_t operation;
     uint32_t answer;
-    uint32_t len; /* of a segment that was polled, in bytes */
+    uint32_t len; /* of a segment that was handed out, in bytes */
     uint32_t eop; /* whether it ends its frame */
 };
 
-/* The control word, as poll82599_rx_state loads it. */
+/* The control word, as poll82599_rx_state and poll82599_tx_state load it. */
 enum { POLL82599_OFF = 0, POLL82599_ENABLE_ASKED = 1, POLL82599_ON = 2, POLL82599_DISABLE_ASKED = 3 };
 
 /* The two ends of a receive ring. */
@@ -54,7 +55,7 @@ int64_t poll82599_rx_close(struct poll82599_rx_driver *driver, struct poll82599_
 static inline uint32_t poll82599_rx_do(struct poll82599_rx_driver *driver, uint32_t operation)
 {
     struct poll82599_call call = {operation, 0, 0, 0};
-    uint8_t none;
+    uint8_t none = 0;
     poll82599_rx_drive(driver, &call, &none, 0);
     return call.answer;
 }
@@ -126,6 +127,86 @@ static inline uint32_t poll82599_rx_set_quiet(struct poll82599_rx_controller *co
 {
     static const uint8_t none = 0;
     return poll82599_rx_act(controller, 2, &none, 0);
+}
+
+/* ---- Transmit rings. */
+
+struct poll82599_tx_driver { uint8_t *end; };
+struct poll82599_tx_controller { uint8_t *end; };
+
+int32_t poll82599_tx_new(uint32_t descriptors, uint32_t buffers, uint32_t by_head, struct poll82599_tx_driver *driver, struct poll82599_tx_controller *controller);
+void poll82599_tx_drive(struct poll82599_tx_driver *driver, struct poll82599_call *call, const uint8_t *frame, size_t len);
+void poll82599_tx_serve(struct poll82599_tx_controller *controller, struct poll82599_call *call, uint8_t *bytes, size_t room);
+int64_t poll82599_tx_close(struct poll82599_tx_driver *driver, struct poll82599_tx_controller *controller);
+
+/* poll82599_tx_new answers as poll82599_rx_new does. The ring reports what is sent by DD in its descriptors (section 7.2.3.5), or
+ * where by_head is not 0 by a word in memory that has the head. poll82599_tx_close is poll82599_rx_close's like. */
+
+static inline uint32_t poll82599_tx_do(struct poll82599_tx_driver *driver, uint32_t operation, const uint8_t *frame, size_t len)
+{
+    struct poll82599_call call = {operation, 0, 0, 0};
+    poll82599_tx_drive(driver, &call, frame, len);
+    return call.answer;
+}
+
+static inline uint32_t poll82599_tx_step(struct poll82599_tx_driver *driver, uint32_t operation)
+{
+    static const uint8_t none = 0;
+    return poll82599_tx_do(driver, operation, &none, 0);
+}
+
+/* ---- The driver's thread. */
+
+/* Posts a frame of one segment, 14 to 2,048 bytes, with EOP and RS (section 7.2.3.2.4): 1; 0 where there is no room, no buffer,
+ * or a disabling was asked for; 2 where the length is another. The bytes are copied. */
+static inline uint32_t poll82599_tx_post(struct poll82599_tx_driver *driver, const uint8_t *frame, size_t len) { return poll82599_tx_do(driver, 0, frame, len); }
+
+/* Stores TDT behind all that is posted (section 7.2.3.4): 1, or 0 where a disabling was asked for. */
+static inline uint32_t poll82599_tx_set_tail(struct poll82599_tx_driver *driver) { return poll82599_tx_step(driver, 1); }
+
+/* Loads the oldest report that is outstanding (section 7.2.3.5): 1 where it is made, and so are all before it; else 0. */
+static inline uint32_t poll82599_tx_poll_report(struct poll82599_tx_driver *driver) { return poll82599_tx_step(driver, 2); }
+
+/* Asks for the queue to be enabled (section 4.6.8): 1, or 0 where that was asked before. */
+static inline uint32_t poll82599_tx_ask_enable(struct poll82599_tx_driver *driver) { return poll82599_tx_step(driver, 3); }
+
+/* Loads the control word: POLL82599_ON once an enabling is answered, POLL82599_OFF once a disabling is. */
+static inline uint32_t poll82599_tx_state(struct poll82599_tx_driver *driver) { return poll82599_tx_step(driver, 4); }
+
+/* Asks for the queue to be disabled: 1, or 0 where it was not seen on. */
+static inline uint32_t poll82599_tx_ask_disable(struct poll82599_tx_driver *driver) { return poll82599_tx_step(driver, 5); }
+
+/* Cleans the oldest descriptor that is seen reported, and has its buffer back: 1, or 0 where none is. */
+static inline uint32_t poll82599_tx_clean(struct poll82599_tx_driver *driver) { return poll82599_tx_step(driver, 6); }
+
+/* Takes the oldest buffer that is out back: 1; 0 where none is; 2 where no disabling was seen answered. */
+static inline uint32_t poll82599_tx_reclaim(struct poll82599_tx_driver *driver) { return poll82599_tx_step(driver, 7); }
+
+/* Clears the registers of a disabled queue, which can be enabled again: 1; or 0 where no disabling was seen answered, or a
+ * buffer is out. */
+static inline uint32_t poll82599_tx_renew(struct poll82599_tx_driver *driver) { return poll82599_tx_step(driver, 8); }
+
+/* ---- The controller's thread. */
+
+/* Loads what the driver asks, and answers it where it may: 1 where it answered, else 0. */
+static inline uint32_t poll82599_tx_answer(struct poll82599_tx_controller *controller)
+{
+    struct poll82599_call call = {0, 0, 0, 0};
+    uint8_t none = 0;
+    poll82599_tx_serve(controller, &call, &none, 0);
+    return call.answer;
+}
+
+/* Sends the next segment, in the order in which they were posted, and reports it: 1, with its bytes at the beginning of `bytes`
+ * and its length and EOP in `len` and `eop`; 0 where none is ready; 3 where the queue is not served; 4 where `room` is below
+ * 2,048, which sends nothing. */
+static inline uint32_t poll82599_tx_send(struct poll82599_tx_controller *controller, uint8_t *bytes, size_t room, uint32_t *len, uint32_t *eop)
+{
+    struct poll82599_call call = {1, 0, 0, 0};
+    poll82599_tx_serve(controller, &call, bytes, room);
+    *len = call.len;
+    *eop = call.eop;
+    return call.answer;
 }
 
 #ifdef __cplusplus

@@ -1,2 +1,4 @@
 pub mod RxControllerHandleAsBox
 pub mod RxDriverHandleAsBox
+pub mod TxControllerHandleAsBox
+pub mod TxDriverHandleAsBox

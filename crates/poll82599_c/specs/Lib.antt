@@ -1,1 +1,2 @@
 pub mod RxEnds
+pub mod TxEnds

@@ -81,10 +81,6 @@ pub record ReclaimedOne (old new : DriverSide) : Type 0 where
   pub buf : Buffer
   pub step : new ≡ appended old (driver.Reclaimed (next_place old) buf)
 
--- no step was made
-abbrev pub Stays : {A : Type 0} → A → A → Type 0
-Stays old new = new ≡ old
-
 -- ---- a controller's steps
 
 -- C2: what is asked was loaded, and not answered

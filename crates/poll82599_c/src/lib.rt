@@ -1,28 +1,28 @@
-//! A running receive ring for programs in C and plain Rust: a static library whose two ends are in two threads of theirs.
+//! A running receive or transmit ring for programs in C and plain Rust: a static library whose two ends are in two threads of
+//! theirs.
 //!
-//! Each end is behind a handle of one pointer ([`RxDriverHandle`], [`RxControllerHandle`]), and has one export, with an
-//! operation's number. `include/poll82599.h` has a function for each operation. What an export promises is said over the
-//! ends that the handles hold: what its step was, and, at closing, that what the driver took is a beginning of what the
-//! controller stored, byte for byte. What C owes stands as `requires`, and in the header.
+//! Each end is behind a handle of one pointer, and has one export, with an operation's number. `include/poll82599.h` has a
+//! function for each operation. What an export promises is said over the ends that the handles hold: what its step was, and,
+//! at closing, that what the driver took is a beginning of what the controller stored, and what was sent of what was posted,
+//! byte for byte. What C owes stands as `requires`, and in the header.
 #![tactic(auto)]
 
-ghost use Rattle.std.specs.Prelude.{◌≡◌, ◌≢◌, None, IsSome, pos};
-ghost use Rattle.rx_ring.specs.Calls.{GoneOver};
-ghost use Rattle.poll82599_c.specs.RxEnds.{AnsweredAsked, AreLawful, AreMade, AreOfOne, AskedDisable, AskedEnable, Between, FoundQuiet, LoadedControl, LookedAsked};
-ghost use Rattle.poll82599_c.specs.RxEnds.{PostedOne, PublishedAll, ReclaimedOne, SaidNoMore, SameDriven, SameServed, Stays, StoredNone, StoredOne, TookNone, TookOne};
-
+mod making;
+mod room;
+mod rx;
 mod rx_controller_handle;
 mod rx_driver_handle;
 mod rx_driving;
 mod rx_making;
 mod rx_serving;
+mod tx;
+mod tx_controller_handle;
+mod tx_driver_handle;
+mod tx_driving;
+mod tx_making;
+mod tx_serving;
 
-use rx_controller_handle::RxControllerHandle;
-use rx_driver_handle::RxDriverHandle;
-use rx_making::{Unmade, make, unmake};
-use std::alloc::Global;
-
-/// What an end's call is to do, what it answers, and of a segment that was polled the length in bytes and EOP.
+/// What an end's call is to do, what it answers, and of a segment that was handed out the length in bytes and EOP.
 #[repr(C)]
 #[derive(Clone, Copy)]
 pub struct Poll82599Call {
@@ -33,118 +33,4 @@ pub struct Poll82599Call {
 }
 
 /// What answers an operation that there is not.
-const NO_OPERATION: u32 = 0xFFFF_FFFF;
-
-/// Makes a receive ring of so many descriptors, and its driver with so many buffers and its controller: 0; 1 where the length
-/// is no power of two from 8 to 4,096; 2 where memory was refused; 3 where there are not 16 to 256 buffers. Only 0 changes
-/// the handles, which must hold nothing.
-#[unsafe(no_mangle)]
-pub extern "C" fn poll82599_rx_new(
-    alloc: Global,
-    descriptors: u32,
-    buffers: u32,
-    driver: &mut RxDriverHandle,
-    controller: &mut RxControllerHandle,
-) -> i32
-    ensures made { (result ≡ pos 0) → AreMade descriptors driver.new.held controller.new.held }
-    ensures driver { (result ≢ pos 0) → driver.new ≡ driver.old }
-    ensures controller { (result ≢ pos 0) → controller.new ≡ controller.old }
-{
-    match make(alloc, descriptors, buffers) {
-        Ok((driving, serving)) => {
-            driver.put(driving);
-            controller.put(serving);
-            0
-        }
-        Err(Unmade::Length) => 1,
-        Err(Unmade::Memory) => 2,
-        Err(Unmade::Buffers) => 3,
-    }
-}
-
-/// Makes a driver's step: 0 posts a buffer, 1 stores the tail, 2 polls into `bytes`, 3 asks for the queue to be enabled, 4
-/// loads the control word, 5 asks for it to be disabled, 6 loads the quiet word, 7 takes a buffer back out of a disabled
-/// queue, and 8 renews one of which none is out.
-#[unsafe(no_mangle)]
-pub extern "C" fn poll82599_rx_drive(
-    alloc: Global,
-    driver: &mut RxDriverHandle,
-    call: &mut Poll82599Call,
-    bytes: &mut [u8],
-)
-    requires { IsSome driver.old.held }
-    ensures own { SameDriven driver.old.held driver.new.held }
-    ensures posted { (call.old.operation ≡ 0) → (call.new.answer ≡ 1) → Between PostedOne driver.old.held driver.new.held }
-    ensures published { (call.old.operation ≡ 1) → (call.new.answer ≡ 1) → Between PublishedAll driver.old.held driver.new.held }
-    ensures taken { (call.old.operation ≡ 2) → (call.new.answer ≡ 1)
-        → Between (TookOne call.new.len call.new.eop bytes.old bytes.new) driver.old.held driver.new.held }
-    ensures none { (call.old.operation ≡ 2) → (call.new.answer ≢ 1) → Between (TookNone bytes.old bytes.new) driver.old.held driver.new.held }
-    ensures asked_enable { (call.old.operation ≡ 3) → (call.new.answer ≡ 1) → Between AskedEnable driver.old.held driver.new.held }
-    ensures loaded { (call.old.operation ≡ 4) → Between (LoadedControl call.new.answer) driver.old.held driver.new.held }
-    ensures asked_disable { (call.old.operation ≡ 5) → (call.new.answer ≡ 1) → Between AskedDisable driver.old.held driver.new.held }
-    ensures quiet { (call.old.operation ≡ 6) → Between (FoundQuiet call.new.answer) driver.old.held driver.new.held }
-    ensures reclaimed { (call.old.operation ≡ 7) → (call.new.answer ≡ 1) → Between ReclaimedOne driver.old.held driver.new.held }
-    ensures renewed { (call.old.operation ≡ 8) → (call.new.answer ≡ 1) → Between GoneOver driver.old.held driver.new.held }
-{
-    let mut driving = driver.take(alloc);
-    call.answer = match call.operation {
-        0 => driving.post(),
-        1 => driving.publish(),
-        2 => {
-            let found = driving.poll(bytes);
-            call.len = found.len;
-            call.eop = found.eop;
-            found.answer
-        }
-        3 => driving.ask_enable(),
-        4 => driving.state(),
-        5 => driving.ask_disable(),
-        6 => driving.is_quiet(),
-        7 => driving.reclaim(),
-        8 => driving.renew(),
-        _ => NO_OPERATION,
-    };
-    driver.put(driving);
-}
-
-/// Makes a controller's step: 0 loads what the driver asks and answers it where it may, 1 stores `frame`, and 2 says that no
-/// more is stored.
-#[unsafe(no_mangle)]
-pub extern "C" fn poll82599_rx_serve(
-    alloc: Global,
-    controller: &mut RxControllerHandle,
-    call: &mut Poll82599Call,
-    frame: &[u8],
-)
-    requires { IsSome controller.old.held }
-    ensures own { SameServed controller.old.held controller.new.held }
-    ensures answered { (call.old.operation ≡ 0) → (call.new.answer ≡ 1) → Between AnsweredAsked controller.old.held controller.new.held }
-    ensures looked { (call.old.operation ≡ 0) → (call.new.answer ≡ 0) → Between LookedAsked controller.old.held controller.new.held }
-    ensures stored { (call.old.operation ≡ 1) → (call.new.answer ≡ 1) → Between (StoredOne frame.now) controller.old.held controller.new.held }
-    ensures none { (call.old.operation ≡ 1) → (call.new.answer ≢ 1) → Between StoredNone controller.old.held controller.new.held }
-    ensures quiet { (call.old.operation ≡ 2) → (call.new.answer ≡ 1) → Between SaidNoMore controller.old.held controller.new.held }
-{
-    let mut serving = controller.take(alloc);
-    call.answer = match call.operation {
-        0 => serving.answer(),
-        1 => serving.store(frame),
-        2 => serving.set_quiet(),
-        _ => NO_OPERATION,
-    };
-    controller.put(serving);
-}
-
-/// Closes a receive ring by its two ends: how many buffers lay in it, or -1 where another owner of the ring is left.
-#[unsafe(no_mangle)]
-pub extern "C" fn poll82599_rx_close(
-    alloc: Global,
-    driver: &mut RxDriverHandle,
-    controller: &mut RxControllerHandle,
-) -> i64
-    requires { AreOfOne driver.old.held controller.old.held }
-    ensures lawful { AreLawful driver.old.held controller.old.held }
-    ensures driver { driver.new.held ≡ None }
-    ensures controller { controller.new.held ≡ None }
-{
-    unmake(driver.take(alloc), controller.take(alloc))
-}
+pub(crate) const NO_OPERATION: u32 = 0xFFFF_FFFF;

@@ -1,8 +1,9 @@
 //! The driver's object: its end, the ring that it shares, and its empty buffers.
-ghost use Rattle.std.specs.Prelude.{◌≡◌, ◌≢◌, ◌≤◌, ◌++◌, length, drop};
+ghost use Rattle.std.specs.Prelude.{◌≡◌, ◌≢◌};
 ghost use Rattle.rx_ring.specs.Calls.{GoneOver};
 ghost use Rattle.poll82599_c.specs.RxEnds.{AskedDisable, AskedEnable, FoundQuiet, LoadedControl, PostedOne, PublishedAll, ReclaimedOne, TookNone, TookOne};
 
+use crate::room::{Found, overwrite};
 use buffer_pool::Stash;
 use limits::BUFFER_BYTES;
 use rx_ring::{DriverEnd, Poll, RxDriverEnd, RxRing};
@@ -28,26 +29,6 @@ impl Model for RxDriving {
     ghost view = { λ d. d.end };
 
     ghost invariant = { λ d. d.end.table ≡ arc_value d.ring };
-}
-
-/// What a poll found: its answer, and of a segment the length and EOP.
-#[derive(Clone, Copy)]
-pub(crate) struct Found {
-    pub(crate) answer: u32,
-    pub(crate) len: u32,
-    pub(crate) eop: u32,
-}
-
-impl Found {
-    fn nothing(answer: u32) -> Found
-        ensures { result.answer ≡ answer }
-    {
-        Found {
-            answer,
-            len: 0,
-            eop: 0,
-        }
-    }
 }
 
 impl RxDriving {
@@ -182,13 +163,4 @@ impl RxDriving {
         self.end.renew(&self.ring);
         1
     }
-}
-
-/// Puts `bytes` over the first bytes of a buffer's room, and leaves the others as they were.
-#[inline]
-fn overwrite(room: &mut [u8], bytes: &[u8])
-    requires { length bytes.now ≤ length room.old }
-    ensures { room.new ≡ bytes.now ++ drop (length bytes.now) room.old }
-{
-    room[..bytes.len()].copy_from_slice(bytes);
 }

@@ -1,33 +1,16 @@
-//! The making of a ring with its two objects.
+//! The making of a receive ring with its two objects, and its closing.
 ghost use Rattle.std.specs.Prelude.{◌≡◌, IfOk};
 ghost use Rattle.ring_model.specs.receive.Lawful.{IsLawfulRxLedger};
 ghost use Rattle.ring_model.specs.shared.Frames.{Bytes};
 ghost use Rattle.rx_ring.specs.Ends.{driver_size};
 ghost use Rattle.rx_ring.specs.Meeting.{MadeSeats, ledger_of};
 
+use crate::making::{Unmade, crossing, stash_of};
 use crate::rx_driving::RxDriving;
 use crate::rx_serving::RxServing;
-use buffer_pool::{PoolError, Stash, Stock};
 use rx_ring::{RingError, RxRing, close, meet_rx};
-use std::alloc::{AllocError, Global};
+use std::alloc::Global;
 use std::sync::Arc;
-
-/// Why nothing was made.
-#[derive(Drop)]
-pub(crate) enum Unmade {
-    /// The length is no power of two from 8 to 4,096.
-    Length,
-    /// Memory was refused.
-    Memory,
-    /// There are not 16 to 256 buffers.
-    Buffers,
-}
-
-/// The least buffers that a driver may have.
-const LEAST_BUFFERS: u32 = 16;
-
-/// The most, so that its stash has room for all.
-const MOST_BUFFERS: u32 = 256;
 
 /// A ring of so many descriptors, and its two objects. The driver has so many buffers.
 pub(crate) fn make(
@@ -37,16 +20,11 @@ pub(crate) fn make(
 ) -> Result<(Box<RxDriving>, Box<RxServing>), Unmade>
     ensures { IfOk result (λ r. MadeSeats ring r.0.value.table r.0.value r.1.value) }
 {
-    if buffers < LEAST_BUFFERS || MOST_BUFFERS < buffers {
-        return Err(Unmade::Buffers);
-    }
+    let stash = stash_of(alloc, buffers)?;
     let (ring, driver, controller) = match RxRing::new(alloc, ring) {
         Ok(made) => made,
         Err(RingError::RingLength) => return Err(Unmade::Length),
         Err(RingError::Memory) => return Err(Unmade::Memory),
-    };
-    let Ok(stash) = filled(alloc, buffers) else {
-        return Err(Unmade::Memory);
     };
     let Ok(ring) = Arc::new(alloc, ring) else {
         return Err(Unmade::Memory);
@@ -70,18 +48,6 @@ pub(crate) fn make(
         return Err(Unmade::Memory);
     };
     Ok((driving, serving))
-}
-
-/// A stash with so many buffers.
-fn filled(alloc: Global, buffers: u32) -> Result<Stash, PoolError> {
-    let mut stock = Stock::new(alloc, 0, buffers)?;
-    let mut stash = Stash::new();
-    for _ in 0..buffers {
-        if let Some(buf) = stock.take() {
-            drop(stash.put(buf));
-        }
-    }
-    Ok(stash)
 }
 
 /// Closes a ring: how many buffers lay in it, or -1 where another owner of the ring is left.
@@ -110,11 +76,4 @@ pub(crate) fn unmake(driving: Box<RxDriving>, serving: Box<RxServing>) -> i64
         }
     }
     i64::from(left)
-}
-
-/// What may go to another thread.
-fn crossing<T: Send>(value: T) -> T
-    ensures { result ≡ value }
-{
-    value
 }

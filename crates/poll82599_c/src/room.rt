@@ -1,0 +1,32 @@
+//! What a call hands out into its caller's bytes.
+ghost use Rattle.std.specs.Prelude.{◌≡◌, ◌≤◌, ◌++◌, length, drop};
+
+/// What a call found: its answer, and of a segment the length and EOP.
+#[derive(Clone, Copy)]
+pub(crate) struct Found {
+    pub(crate) answer: u32,
+    pub(crate) len: u32,
+    pub(crate) eop: u32,
+}
+
+impl Found {
+    /// No segment.
+    pub(crate) fn nothing(answer: u32) -> Found
+        ensures { result.answer ≡ answer }
+    {
+        Found {
+            answer,
+            len: 0,
+            eop: 0,
+        }
+    }
+}
+
+/// Puts `bytes` over the first bytes of a buffer's room, and leaves the others as they were.
+#[inline]
+pub(crate) fn overwrite(room: &mut [u8], bytes: &[u8])
+    requires { length bytes.now ≤ length room.old }
+    ensures { room.new ≡ bytes.now ++ drop (length bytes.now) room.old }
+{
+    room[..bytes.len()].copy_from_slice(bytes);
+}

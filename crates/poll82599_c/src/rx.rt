@@ -1,0 +1,123 @@
+//! The exports of a receive ring.
+ghost use Rattle.std.specs.Prelude.{◌≡◌, ◌≢◌, None, IsSome, pos};
+ghost use Rattle.rx_ring.specs.Calls.{GoneOver};
+ghost use Rattle.poll82599_c.specs.RxEnds.{AnsweredAsked, AreLawful, AreMade, AreOfOne, AskedDisable, AskedEnable, Between, FoundQuiet, LoadedControl, LookedAsked};
+ghost use Rattle.poll82599_c.specs.RxEnds.{PostedOne, PublishedAll, ReclaimedOne, SaidNoMore, SameDriven, SameServed, StoredNone, StoredOne, TookNone, TookOne};
+
+use crate::rx_controller_handle::RxControllerHandle;
+use crate::rx_driver_handle::RxDriverHandle;
+use crate::rx_making::{make, unmake};
+use crate::{NO_OPERATION, Poll82599Call};
+use std::alloc::Global;
+
+/// Makes a receive ring of so many descriptors, and its driver with so many buffers and its controller: 0; 1 where the length
+/// is no power of two from 8 to 4,096; 2 where memory was refused; 3 where there are not 16 to 256 buffers. Only 0 changes
+/// the handles, which must hold nothing.
+#[unsafe(no_mangle)]
+pub extern "C" fn poll82599_rx_new(
+    alloc: Global,
+    descriptors: u32,
+    buffers: u32,
+    driver: &mut RxDriverHandle,
+    controller: &mut RxControllerHandle,
+) -> i32
+    ensures made { (result ≡ pos 0) → AreMade descriptors driver.new.held controller.new.held }
+    ensures driver { (result ≢ pos 0) → driver.new ≡ driver.old }
+    ensures controller { (result ≢ pos 0) → controller.new ≡ controller.old }
+{
+    match make(alloc, descriptors, buffers) {
+        Ok((driving, serving)) => {
+            driver.put(driving);
+            controller.put(serving);
+            0
+        }
+        Err(why) => why.number(),
+    }
+}
+
+/// Makes a driver's step: 0 posts a buffer, 1 stores the tail, 2 polls into `bytes`, 3 asks for the queue to be enabled, 4
+/// loads the control word, 5 asks for it to be disabled, 6 loads the quiet word, 7 takes a buffer back out of a disabled
+/// queue, and 8 renews one of which none is out.
+#[unsafe(no_mangle)]
+pub extern "C" fn poll82599_rx_drive(
+    alloc: Global,
+    driver: &mut RxDriverHandle,
+    call: &mut Poll82599Call,
+    bytes: &mut [u8],
+)
+    requires { IsSome driver.old.held }
+    ensures own { SameDriven driver.old.held driver.new.held }
+    ensures posted { (call.old.operation ≡ 0) → (call.new.answer ≡ 1) → Between PostedOne driver.old.held driver.new.held }
+    ensures published { (call.old.operation ≡ 1) → (call.new.answer ≡ 1) → Between PublishedAll driver.old.held driver.new.held }
+    ensures taken { (call.old.operation ≡ 2) → (call.new.answer ≡ 1)
+        → Between (TookOne call.new.len call.new.eop bytes.old bytes.new) driver.old.held driver.new.held }
+    ensures none { (call.old.operation ≡ 2) → (call.new.answer ≢ 1) → Between (TookNone bytes.old bytes.new) driver.old.held driver.new.held }
+    ensures asked_enable { (call.old.operation ≡ 3) → (call.new.answer ≡ 1) → Between AskedEnable driver.old.held driver.new.held }
+    ensures loaded { (call.old.operation ≡ 4) → Between (LoadedControl call.new.answer) driver.old.held driver.new.held }
+    ensures asked_disable { (call.old.operation ≡ 5) → (call.new.answer ≡ 1) → Between AskedDisable driver.old.held driver.new.held }
+    ensures quiet { (call.old.operation ≡ 6) → Between (FoundQuiet call.new.answer) driver.old.held driver.new.held }
+    ensures reclaimed { (call.old.operation ≡ 7) → (call.new.answer ≡ 1) → Between ReclaimedOne driver.old.held driver.new.held }
+    ensures renewed { (call.old.operation ≡ 8) → (call.new.answer ≡ 1) → Between GoneOver driver.old.held driver.new.held }
+{
+    let mut driving = driver.take(alloc);
+    call.answer = match call.operation {
+        0 => driving.post(),
+        1 => driving.publish(),
+        2 => {
+            let found = driving.poll(bytes);
+            call.len = found.len;
+            call.eop = found.eop;
+            found.answer
+        }
+        3 => driving.ask_enable(),
+        4 => driving.state(),
+        5 => driving.ask_disable(),
+        6 => driving.is_quiet(),
+        7 => driving.reclaim(),
+        8 => driving.renew(),
+        _ => NO_OPERATION,
+    };
+    driver.put(driving);
+}
+
+/// Makes a controller's step: 0 loads what the driver asks and answers it where it may, 1 stores `frame`, and 2 says that no
+/// more is stored.
+#[unsafe(no_mangle)]
+pub extern "C" fn poll82599_rx_serve(
+    alloc: Global,
+    controller: &mut RxControllerHandle,
+    call: &mut Poll82599Call,
+    frame: &[u8],
+)
+    requires { IsSome controller.old.held }
+    ensures own { SameServed controller.old.held controller.new.held }
+    ensures answered { (call.old.operation ≡ 0) → (call.new.answer ≡ 1) → Between AnsweredAsked controller.old.held controller.new.held }
+    ensures looked { (call.old.operation ≡ 0) → (call.new.answer ≡ 0) → Between LookedAsked controller.old.held controller.new.held }
+    ensures stored { (call.old.operation ≡ 1) → (call.new.answer ≡ 1) → Between (StoredOne frame.now) controller.old.held controller.new.held }
+    ensures none { (call.old.operation ≡ 1) → (call.new.answer ≢ 1) → Between StoredNone controller.old.held controller.new.held }
+    ensures quiet { (call.old.operation ≡ 2) → (call.new.answer ≡ 1) → Between SaidNoMore controller.old.held controller.new.held }
+{
+    let mut serving = controller.take(alloc);
+    call.answer = match call.operation {
+        0 => serving.answer(),
+        1 => serving.store(frame),
+        2 => serving.set_quiet(),
+        _ => NO_OPERATION,
+    };
+    controller.put(serving);
+}
+
+/// Closes a receive ring by its two ends: how many buffers lay in it, or -1 where another owner of the ring is left.
+#[unsafe(no_mangle)]
+pub extern "C" fn poll82599_rx_close(
+    alloc: Global,
+    driver: &mut RxDriverHandle,
+    controller: &mut RxControllerHandle,
+) -> i64
+    requires { AreOfOne driver.old.held controller.old.held }
+    ensures lawful { AreLawful driver.old.held controller.old.held }
+    ensures driver { driver.new.held ≡ None }
+    ensures controller { controller.new.held ≡ None }
+{
+    unmake(driver.take(alloc), controller.take(alloc))
+}

@@ -1,0 +1,130 @@
+//! The exports of a transmit ring.
+ghost use Rattle.std.specs.Prelude.{◌≡◌, ◌≢◌, None, IsSome, pos};
+ghost use Rattle.ring_model.specs.declared.states.Completion.TheVariants as by;
+ghost use Rattle.tx_ring.specs.Calls.{GoneOver, SawReported};
+ghost use Rattle.poll82599_c.specs.RxEnds.{Between};
+ghost use Rattle.poll82599_c.specs.TxEnds.{AnsweredAsked, AreLawful, AreMade, AreOfOne, AskedDisable, AskedEnable, CleanedBuffer, LoadedControl, LookedAsked};
+ghost use Rattle.poll82599_c.specs.TxEnds.{PostedFrame, PublishedAll, ReclaimedOne, SameDriven, SameServed, SentNone, SentOne};
+
+use crate::tx_controller_handle::TxControllerHandle;
+use crate::tx_driver_handle::TxDriverHandle;
+use crate::tx_making::{make, unmake};
+use crate::{NO_OPERATION, Poll82599Call};
+use std::alloc::Global;
+use tx_ring::Completion;
+
+/// Makes a transmit ring of so many descriptors, which reports by DD in its descriptors, or where `by_head` is not 0 by a head
+/// word, and its driver with so many buffers and its controller: 0; 1 where the length is no power of two from 8 to 4,096; 2
+/// where memory was refused; 3 where there are not 16 to 256 buffers. Only 0 changes the handles, which must hold nothing.
+#[unsafe(no_mangle)]
+pub extern "C" fn poll82599_tx_new(
+    alloc: Global,
+    descriptors: u32,
+    buffers: u32,
+    by_head: u32,
+    driver: &mut TxDriverHandle,
+    controller: &mut TxControllerHandle,
+) -> i32
+    ensures status { (result ≡ pos 0) → (by_head ≡ 0) → AreMade descriptors by.Status driver.new.held controller.new.held }
+    ensures head { (result ≡ pos 0) → (by_head ≢ 0) → AreMade descriptors by.Head driver.new.held controller.new.held }
+    ensures driver { (result ≢ pos 0) → driver.new ≡ driver.old }
+    ensures controller { (result ≢ pos 0) → controller.new ≡ controller.old }
+{
+    let completion = if by_head == 0 {
+        Completion::Status
+    } else {
+        Completion::Head
+    };
+    match make(alloc, descriptors, buffers, completion) {
+        Ok((driving, serving)) => {
+            driver.put(driving);
+            controller.put(serving);
+            0
+        }
+        Err(why) => why.number(),
+    }
+}
+
+/// Makes a driver's step: 0 posts `frame`, 1 stores the tail, 2 loads a report, 3 asks for the queue to be enabled, 4 loads the
+/// control word, 5 asks for it to be disabled, 6 cleans a descriptor that is seen reported, 7 takes a buffer back out of a
+/// disabled queue, and 8 renews one of which none is out.
+#[unsafe(no_mangle)]
+pub extern "C" fn poll82599_tx_drive(
+    alloc: Global,
+    driver: &mut TxDriverHandle,
+    call: &mut Poll82599Call,
+    frame: &[u8],
+)
+    requires { IsSome driver.old.held }
+    ensures own { SameDriven driver.old.held driver.new.held }
+    ensures posted { (call.old.operation ≡ 0) → (call.new.answer ≡ 1) → Between (PostedFrame frame.now) driver.old.held driver.new.held }
+    ensures published { (call.old.operation ≡ 1) → (call.new.answer ≡ 1) → Between PublishedAll driver.old.held driver.new.held }
+    ensures reported { (call.old.operation ≡ 2) → (call.new.answer ≡ 1) → Between SawReported driver.old.held driver.new.held }
+    ensures asked_enable { (call.old.operation ≡ 3) → (call.new.answer ≡ 1) → Between AskedEnable driver.old.held driver.new.held }
+    ensures loaded { (call.old.operation ≡ 4) → Between (LoadedControl call.new.answer) driver.old.held driver.new.held }
+    ensures asked_disable { (call.old.operation ≡ 5) → (call.new.answer ≡ 1) → Between AskedDisable driver.old.held driver.new.held }
+    ensures cleaned { (call.old.operation ≡ 6) → (call.new.answer ≡ 1) → Between CleanedBuffer driver.old.held driver.new.held }
+    ensures reclaimed { (call.old.operation ≡ 7) → (call.new.answer ≡ 1) → Between ReclaimedOne driver.old.held driver.new.held }
+    ensures renewed { (call.old.operation ≡ 8) → (call.new.answer ≡ 1) → Between GoneOver driver.old.held driver.new.held }
+{
+    let mut driving = driver.take(alloc);
+    call.answer = match call.operation {
+        0 => driving.post(frame),
+        1 => driving.publish(),
+        2 => driving.poll_report(),
+        3 => driving.ask_enable(),
+        4 => driving.state(),
+        5 => driving.ask_disable(),
+        6 => driving.clean(),
+        7 => driving.reclaim(),
+        8 => driving.renew(),
+        _ => NO_OPERATION,
+    };
+    driver.put(driving);
+}
+
+/// Makes a controller's step: 0 loads what the driver asks and answers it where it may, and 1 sends the next segment into
+/// `bytes`, and reports it where a report is asked for.
+#[unsafe(no_mangle)]
+pub extern "C" fn poll82599_tx_serve(
+    alloc: Global,
+    controller: &mut TxControllerHandle,
+    call: &mut Poll82599Call,
+    bytes: &mut [u8],
+)
+    requires { IsSome controller.old.held }
+    ensures own { SameServed controller.old.held controller.new.held }
+    ensures answered { (call.old.operation ≡ 0) → (call.new.answer ≡ 1) → Between AnsweredAsked controller.old.held controller.new.held }
+    ensures looked { (call.old.operation ≡ 0) → (call.new.answer ≡ 0) → Between LookedAsked controller.old.held controller.new.held }
+    ensures sent { (call.old.operation ≡ 1) → (call.new.answer ≡ 1)
+        → Between (SentOne call.new.len bytes.old bytes.new) controller.old.held controller.new.held }
+    ensures none { (call.old.operation ≡ 1) → (call.new.answer ≢ 1) → Between (SentNone bytes.old bytes.new) controller.old.held controller.new.held }
+{
+    let mut serving = controller.take(alloc);
+    call.answer = match call.operation {
+        0 => serving.answer(),
+        1 => {
+            let found = serving.send(bytes);
+            call.len = found.len;
+            call.eop = found.eop;
+            found.answer
+        }
+        _ => NO_OPERATION,
+    };
+    controller.put(serving);
+}
+
+/// Closes a transmit ring by its two ends: how many buffers lay in it, or -1 where another owner of the ring is left.
+#[unsafe(no_mangle)]
+pub extern "C" fn poll82599_tx_close(
+    alloc: Global,
+    driver: &mut TxDriverHandle,
+    controller: &mut TxControllerHandle,
+) -> i64
+    requires { AreOfOne driver.old.held controller.old.held }
+    ensures lawful { AreLawful driver.old.held controller.old.held }
+    ensures driver { driver.new.held ≡ None }
+    ensures controller { controller.new.held ≡ None }
+{
+    unmake(driver.take(alloc), controller.take(alloc))
+}

@@ -1,0 +1,77 @@
+//! What C has of the driver's object: a pointer.
+ghost use Rattle.std.specs.Prelude.{◌≡◌, Option, Some, None, IsSome};
+ghost use Rattle.tx_ring.specs.Ends.{DriverSide};
+
+use crate::tx_driving::TxDriving;
+use opaque::Parts;
+use std::alloc::Global;
+use std::marker::Model;
+use std::mem::replace;
+use std::ptr::null_mut;
+
+/// A pointer that owns the driver's object, or null and none. C begins one as null, passes its address, and copies none.
+#[repr(C)]
+#[derive(Drop)]
+pub struct TxDriverHandle {
+    ptr: *mut u8,
+    alloc: Global,
+    pub ghost held: { Option DriverSide },
+}
+
+impl Model for TxDriverHandle {
+    ghost use Rattle.opaque.specs.Held.{held_owns};
+    ghost use Rattle.std.specs.contracts.impls.GlobalAllocator.TheImpl.{ghosts};
+    ghost use Rattle.poll82599_c.specs.contracts.tx_driving.TxDriving.{the_row};
+
+    ghost also_owns = { λ h. held_owns (ghosts.dealloc_token h.alloc) the_row h.ptr h.held };
+}
+
+impl TxDriverHandle {
+    fn empty(alloc: Global) -> TxDriverHandle
+        ensures { result.held ≡ None }
+    {
+        TxDriverHandle {
+            ptr: null_mut(),
+            alloc,
+        }
+    }
+
+    fn of_parts(parts: Parts<TxDriving, Global>) -> TxDriverHandle
+        ensures { result.held ≡ Some parts.value }
+    {
+        let Parts { ptr, alloc } = parts;
+        TxDriverHandle {
+            ptr: ptr as *mut u8,
+            alloc,
+        }
+    }
+
+    fn into_parts(self) -> Parts<TxDriving, Global>
+        requires { IsSome self.held }
+        ensures { self.held ≡ Some result.value }
+    {
+        let TxDriverHandle { ptr, alloc } = self;
+        Parts {
+            ptr: ptr as *mut TxDriving,
+            alloc,
+        }
+    }
+
+    /// Takes the object, and leaves none.
+    pub(crate) fn take(&mut self, alloc: Global) -> Box<TxDriving>
+        requires { IsSome self.old.held }
+        ensures value { self.old.held ≡ Some result.value }
+        ensures left { self.new.held ≡ None }
+    {
+        replace(self, TxDriverHandle::empty(alloc))
+            .into_parts()
+            .into_box()
+    }
+
+    /// Puts an object in.
+    pub(crate) fn put(&mut self, made: Box<TxDriving>)
+        ensures { self.new.held ≡ Some made.value }
+    {
+        *self = TxDriverHandle::of_parts(Parts::of(made));
+    }
+}
