@@ -101,23 +101,12 @@ fn all_go<R: Threads + Wait + Sync>(
 }
 
 #[test]
-fn sixteen_flows_by_each_number_of_workers(rt: HostRuntime) -> Result<(), Fail> {
-    let script = crowd(rt.alloc(), 1_600)?;
-    let wanted = wanted(&script);
-    for workers in 1..=16 {
-        assert!(rt;
-            all_go(&rt, rt.alloc(), &script, &wanted, workers)?,
-            "{workers} workers"
-        );
-    }
-    Ok(())
-}
-
-#[test]
-fn fifty_thousand_frames_over_sixteen_flows(rt: HostRuntime) -> Result<(), Fail> {
+fn fifty_thousand_frames_over_sixteen_flows_by_each_number_of_workers(
+    rt: HostRuntime,
+) -> Result<(), Fail> {
     let script = crowd(rt.alloc(), 50_000)?;
     let wanted = wanted(&script);
-    for workers in [1, 3, 8, 16] {
+    for workers in 1..=16 {
         assert!(rt;
             all_go(&rt, rt.alloc(), &script, &wanted, workers)?,
             "{workers} workers"
