@@ -122,9 +122,12 @@ pub record SaysDecode (words : List Text) (form : Form) (digits : Text) : Type 0
   pub words_are : words ≡ codes "decode" ∷ ring_word form ∷ format_word form ∷ digits ∷ []
   pub no_option : slice_index digits 0 ≢ 45
 
--- an option stands with a number, or is left out where the number is its default
+-- an option stands with a number below a bound, or is left out where the number is its default
+abbrev pub SaysNumberBelow : ℕ → Text → ℕ → List Text → ℕ → Type 0
+SaysNumberBelow bound option default words n = ((words ≡ option ∷ decimal n ∷ []) × (n < bound)) ⊎ ((words ≡ []) × (n ≡ default))
+
 abbrev pub SaysNumber : Text → ℕ → List Text → ℕ → Type 0
-SaysNumber option default words n = ((words ≡ option ∷ decimal n ∷ []) × (n < 2 ^ 32)) ⊎ ((words ≡ []) × (n ≡ default))
+SaysNumber = SaysNumberBelow (2 ^ 32)
 
 -- an option without a value stands, or does not
 abbrev pub flag_words : Text → Bool → List Text
