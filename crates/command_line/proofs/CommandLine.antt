@@ -91,6 +91,11 @@ plain_passes s word h plain =
     ∙ (ap (λ o. flag_word_passes s.rules s.args_override_self o word h) plain.no_long
     ∙ ap (λ o. option_map_or (λ flags. bundle_passes s.rules s.args_override_self flags h) o true) plain.no_short)
 
+-- no option that isn't global makes the command have one
+pub or_false : (b x : Bool) → x ≡ false → (b || x) ≡ b
+or_false true x is = refl
+or_false false x is = is
+
 -- ---- numbers and flags
 
 -- a text that clap takes for a number up to this one
@@ -159,6 +164,12 @@ pub reads_number : (n : ℕ) (r : Option ℕ) → n < 2 ^ 32
     → ReadsOne (λ bs x. ParsesUnsigned 32 10 bs x × ExplainsUnsignedError 10 bs x × HasUnsignedDigitsIfOk bs x) (decimal n) r → r ≡ Some n
 reads_number n r fits reads =
     reads_by (λ bs x. ParsesUnsigned 32 10 bs x × ExplainsUnsignedError 10 bs x × HasUnsignedDigitsIfOk bs x) n r fits (λ u x g. g.0) reads
+
+-- the number of an option, and that it has one
+pub number_is : (found : Found) (id : Text) (n : ℕ) (r : Option ℕ) → one_of id (rows_of found) ≡ Some (decimal n) → n < 2 ^ 32
+    → ((text : Text) → one_text found id ≡ Some text
+    → ReadsOne (λ bs x. ParsesUnsigned 32 10 bs x × ExplainsUnsignedError 10 bs x × HasUnsignedDigitsIfOk bs x) text r) → r ≡ Some n
+number_is found id n r is fits reads = reads_number n r fits (reads (decimal n) (text_is found id (decimal n) is))
 
 -- and what `get_flag` does of a flag
 pub reads_flag : (b read : Bool) (o : Option Text) → (o ≡ Some (codes "true") → read ≡ true) → (o ≡ Some (codes "false") → read ≡ false)

@@ -1,6 +1,6 @@
 -- What clap makes of `forward` and its options.
 use Rattle.std.proofs.Common.{◌≡◌, ◌∙◌, ap, ap₂, refl, arith, ℕ, ◌+◌, Bool, true, false, List, [], ◌∷◌, ◌++◌, codes, map, slice_index, slice_index_or, Some}
-use Rattle.std.specs.Prelude.{◌≢◌, ◌<◌, All, decimal, not}
+use Rattle.std.specs.Prelude.{◌≢◌, ◌<◌, All, not}
 use Rattle.std.specs.Fmt.{digits}
 use Rattle.std.proofs.lemmas.List.Elements.{All-cons, All-head, All-nil, All-tail}
 use Rattle.clap.specs.Simple.{Shape, new_shape}
@@ -9,11 +9,12 @@ use Rattle.clap.proofs.OnLiterals.{clap_on_literals}
 use Rattle.forwarder.specs.declared.config.Config.{Config}
 use Rattle.forward_command.specs.declared.printing.Printing.{Printing}
 use Rattle.ring_model.specs.declared.states.Completion.{Completion}
-use Rattle.command_line.specs.CommandLine.{Choices, HasForward, HasPrinting, IsProgram, SaysForward, is_head, program_app}
-use Rattle.command_line.specs.FileWords.{FileOptions, HasFiles, words_of_files}
+use Rattle.command_line.specs.CommandLine.{Choices, HasForward, HasPrinting, IsProgram, SaysForward, program_app}
+use Rattle.command_line.specs.OptionWords.{is_head}
+use Rattle.command_line.specs.FileWords.{FileOptions, HasFiles}
 use Rattle.port_files.specs.Words.{IsSource, IsWireFile, PortFile, SourceFile, source_word, wire_file_word}
 use Rattle.command_line.proofs.CommandLine.{IsPlain, is_plain}
-use Rattle.command_line.proofs.Options.{Given, words_of}
+use Rattle.command_line.proofs.Options.{Given}
 use Rattle.command_line.proofs.Options.Given.{files as file_option, flag, number}
 use Rattle.command_line.proofs.OptionLists.{AreLawful, HasOptions, IsCommand, IsSaid, all_words, is_said, options_found, options_taken, said_of}
 
@@ -107,7 +108,7 @@ words_are words config printing files says =
     let flags : List Text = all_words (plain_options config printing files) in
     says.words_are
     ∙ ap (λ (a : List Text). codes "forward" ∷ a)
-    (both _ _ _ _ are.pairs.words_are (both _ _ _ _ are.ring.words_are (both _ _ _ _ are.buffers.words_are (both _ _ _ _ are.bsize.words_are 
+    (both _ _ _ _ are.pairs.words_are (both _ _ _ _ are.ring.words_are (both _ _ _ _ are.buffers.words_are (both _ _ _ _ are.bsize.words_are
     (both _ _ _ _ are.batch.words_are (both _ _ _ _ are.rs_every.words_are (both _ _ _ _ are.workers.words_are (ap (λ (a : List Text). a ++ flags) are.turns.words_are))))))))
 
 -- ---- what clap makes of them

@@ -7,5 +7,6 @@ mod OptionLists
 pub mod ReplayWords
 mod SaidWords
 pub mod ForwardWords
+pub mod ScheduleWords
 pub mod CaptureWords
 pub mod Endings

@@ -7,13 +7,14 @@ use Rattle.std.proofs.lemmas.List.Elements.{All-cons, All-nil}
 use Rattle.clap.specs.Lexer.{without_minus}
 use Rattle.clap.specs.Simple.{Shape, entered, names_of}
 use Rattle.clap.specs.Takes.{default_passes, entered_passes, is_valid, level_passes, settle_passes, walk_passes}
-use Rattle.clap.specs.Walk.{Held, Names, Row, Rule, Text, Walk, finished, nothing_held, walk, walk_from, walked, with_default}
+use Rattle.clap.specs.Walk.{Held, Names, Row, Rule, Text, Waiting, Walk, finished, idle, nothing_held, walk, walk_from, walked, with_default}
 use Rattle.clap.specs.Words.{App, built, subcommand_of, takes}
 use Rattle.clap.proofs.OnLiterals.{clap_on_literals}
-use Rattle.command_line.specs.CommandLine.{Choices, IsProgram, SaysNumberBelow, program_app}
+use Rattle.command_line.specs.CommandLine.{Choices, IsProgram, program_app}
+use Rattle.command_line.specs.OptionWords.{SaysNumberBelow}
 use Rattle.command_line.proofs.CommandLine.{IsNumber, is_number, numeral_of, strips_none}
 use Rattle.command_line.proofs.OptionRows.{OptionUse, and-left, and-right, mentions, rows_in}
-use Rattle.command_line.proofs.Options.{Facts, Given, HasValue, IsLawful, Stands, after, dashed, facts_in, facts_of, given_passes, given_stands, given_value, given_walked, id_of, is_among, number_said, settles, use_of, words_of}
+use Rattle.command_line.proofs.Options.{Facts, Given, HasValue, IsLawful, Stands, after, at, dashed, facts_in, facts_of, given_passes, given_stands, given_value, given_walked, id_of, is_among, number_said, settles, use_of, waiting_after, words_of}
 use Rattle.command_line.proofs.Options.Given.{number}
 
 -- ---- the options
@@ -41,6 +42,11 @@ abbrev pub are_distinct : List OptionUse → List Given → Bool
 are_distinct before [] = true
 are_distinct before (g ∷ gs) =
     not (mentions (id_of g) before) && (not (mentions (id_of g) (map use_of gs)) && are_distinct (before ++ use_of g ∷ []) gs)
+
+-- what waits for a next word after all of them, and what is held
+abbrev pub all_waiting : List Given → Waiting → Waiting
+all_waiting [] w = w
+all_waiting (g ∷ gs) w = all_waiting gs (waiting_after g w)
 
 abbrev pub all_after : List Rule → List Given → Held → Held
 all_after rules [] h = h
@@ -87,22 +93,22 @@ others before g gs distinct =
 
 -- ---- the walk over their words
 
-all_walked : (rules : List Rule) (gs : List Given) (h : Held) → AreAmong rules gs → AreLawful gs
-    → fold (walked rules []) (walk_from h) (flat_words gs) ≡ walk_from (all_after rules gs h)
-all_walked rules [] h among lawful = refl
-all_walked rules (g ∷ gs) h among lawful =
-    given_walked rules g h (flat_words gs) (is_among rules g (first_fact rules g gs among)) lawful.0
-    ∙ all_walked rules gs (after rules g h) (ap (drop 1) among) lawful.1
+all_walked : (rules : List Rule) (gs : List Given) (w : Waiting) (h : Held) → AreAmong rules gs → AreLawful gs
+    → fold (walked rules []) (at w h) (flat_words gs) ≡ at (all_waiting gs w) (all_after rules gs h)
+all_walked rules [] w h among lawful = refl
+all_walked rules (g ∷ gs) w h among lawful =
+    given_walked rules g w h (flat_words gs) (is_among rules g (first_fact rules g gs among)) lawful.0
+    ∙ all_walked rules gs (waiting_after g w) (after rules g h) (ap (drop 1) among) lawful.1
 
-all_pass : (s : Shape) (gs : List Given) (h : Held) (us : List OptionUse) → AreAmong s.rules gs → AreLawful gs → Stands s h us → are_distinct us gs ≡ true
-    → walk_passes s [] (walk_from h) (flat_words gs) ≡ true
+all_pass : (s : Shape) (gs : List Given) (w : Waiting) (h : Held) (us : List OptionUse) → AreAmong s.rules gs → AreLawful gs → Stands s h us → are_distinct us gs ≡ true
+    → walk_passes s [] (at w h) (flat_words gs) ≡ true
 unfolding clap_on_literals
-all_pass s [] h us among lawful stands distinct = refl
-all_pass s (g ∷ gs) h us among lawful stands distinct =
+all_pass s [] w h us among lawful stands distinct = refl
+all_pass s (g ∷ gs) w h us among lawful stands distinct =
     let mine = is_among s.rules g (first_fact s.rules g gs among) in
     let new = new-to us g gs distinct in
-    given_passes s g h us (flat_words gs) mine lawful.0 stands new
-    ∙ all_pass s gs (after s.rules g h) (us ++ use_of g ∷ []) (ap (drop 1) among) lawful.1 (given_stands s g h us mine lawful.0 stands new) (others us g gs distinct)
+    given_passes s g w h us (flat_words gs) mine lawful.0 stands new
+    ∙ all_pass s gs (waiting_after g w) (after s.rules g h) (us ++ use_of g ∷ []) (ap (drop 1) among) lawful.1 (given_stands s g h us mine lawful.0 stands new) (others us g gs distinct)
 
 all_stand : (s : Shape) (gs : List Given) (h : Held) (us : List OptionUse) → AreAmong s.rules gs → AreLawful gs → Stands s h us → are_distinct us gs ≡ true
     → Stands s (all_after s.rules gs h) (us ++ map use_of gs)
@@ -174,14 +180,14 @@ options_level name s gs has lawful =
     let held = all_after s.rules gs nothing_held in
     ap (λ (words : List Text). level_passes s [] nothing_held words false) (flat gs)
     ∙ (ap₂ (λ b (w : Walk). b && (settles s w.held && (list_all default_passes s.rules && is_valid s (finished s.rules w.held) false)))
-    (all_pass s gs nothing_held [] has.among lawful (begins s) has.distinct) (all_walked s.rules gs nothing_held has.among lawful)
+    (all_pass s gs idle nothing_held [] has.among lawful (begins s) has.distinct) (all_walked s.rules gs idle nothing_held has.among lawful)
     ∙ ap₂ (λ a b. a && b) (all_stand s gs nothing_held [] has.among lawful (begins s) has.distinct).settles (has.valid held))
 
 options_rows : (name : Text) (s : Shape) (gs : List Given) → HasOptions name s gs → AreLawful gs
     → finished s.rules (walk s.rules [] nothing_held (all_words gs)).held ≡ fold with_default (rows_in (map use_of gs)) s.rules
 options_rows name s gs has lawful =
     ap (λ (words : List Text). finished s.rules (walk s.rules [] nothing_held words).held) (flat gs)
-    ∙ (ap (λ (w : Walk). finished s.rules w.held) (all_walked s.rules gs nothing_held has.among lawful)
+    ∙ (ap (λ (w : Walk). finished s.rules w.held) (all_walked s.rules gs idle nothing_held has.among lawful)
     ∙ ap (λ (l : List Row). fold with_default l s.rules) (all_stand s gs nothing_held [] has.among lawful (begins s) has.distinct).rows)
 
 -- the words are taken

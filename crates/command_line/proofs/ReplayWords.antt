@@ -1,6 +1,6 @@
 -- What clap makes of `replay` and its options.
 use Rattle.std.proofs.Common.{◌≡◌, ◌∙◌, ap, ap₂, refl, arith, ℕ, Bool, true, false, List, [], ◌∷◌, ◌++◌, codes, slice_index_or, Some}
-use Rattle.std.specs.Prelude.{All, decimal, not}
+use Rattle.std.specs.Prelude.{not}
 use Rattle.std.specs.Fmt.{digits}
 use Rattle.clap.specs.Simple.{Shape, new_shape}
 use Rattle.clap.specs.Words.{App, Row, Text, built, subcommand_of, takes}
@@ -8,7 +8,8 @@ use Rattle.clap.proofs.OnLiterals.{clap_on_literals}
 use Rattle.ring_model.specs.declared.states.Completion.{Completion}
 use Rattle.ring_model.specs.declared.states.Completion.TheVariants.{Head, Status}
 use Rattle.commands.specs.declared.replay.QueuePlan.{QueuePlan}
-use Rattle.command_line.specs.CommandLine.{Choices, HasReplay, IsProgram, SaysReplay, completion_of, is_head, program_app}
+use Rattle.command_line.specs.CommandLine.{Choices, HasReplay, IsProgram, SaysReplay, program_app}
+use Rattle.command_line.specs.OptionWords.{completion_of, is_head}
 use Rattle.command_line.proofs.Options.{Given, words_of}
 use Rattle.command_line.proofs.Options.Given.{flag, number}
 use Rattle.command_line.proofs.OptionLists.{AreLawful, HasOptions, IsSaid, IsCommand, all_words, is_said, options_found, options_taken, said_of}
