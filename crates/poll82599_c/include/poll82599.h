@@ -21,7 +21,9 @@ enum {
     POLL82599_LEAST_RING = 8,       /* descriptors of a ring: a power of two from here .. */
     POLL82599_MOST_RING = 4096,     /* .. to here */
     POLL82599_BUFFER_BYTES = 2048,  /* of a buffer, and the most of a segment */
-    POLL82599_LEAST_FRAME = 14,     /* bytes of a frame without its CRC */
+    POLL82599_LEAST_FRAME = 14,     /* bytes of a frame without its CRC .. */
+    POLL82599_MOST_FRAME = 15000,
+    POLL82599_MOST_SEGMENTS = 15,   /* of a frame, and no more than a ring's length less 1 */
     POLL82599_LEAST_BUFFERS = 16,   /* that a driver may have .. */
     POLL82599_MOST_BUFFERS = 256
 };
@@ -30,8 +32,10 @@ enum {
 struct poll82599_call {
     uint32_t operation;
     uint32_t answer;
-    uint32_t len; /* of a segment that was handed out, in bytes */
-    uint32_t eop; /* whether it ends its frame */
+    uint32_t len; /* of a segment that was handed out, in bytes; or how many segments are left */
+    uint32_t eop; /* whether a segment ends its frame: of one that was handed out, and of one that is to be stored or posted */
+    uint32_t rs; /* of a segment that is to be posted: whether a report is asked for, */
+    uint32_t paylen; /* and the whole frame's length in bytes */
 };
 
 /* The control word, as poll82599_rx_state and poll82599_tx_state load it. */
@@ -44,7 +48,7 @@ struct poll82599_rx_controller { uint8_t *end; };
 /* The exports. Below is a function for each operation. */
 int32_t poll82599_rx_new(uint32_t descriptors, uint32_t buffers, struct poll82599_rx_driver *driver, struct poll82599_rx_controller *controller);
 void poll82599_rx_drive(struct poll82599_rx_driver *driver, struct poll82599_call *call, uint8_t *bytes, size_t room);
-void poll82599_rx_serve(struct poll82599_rx_controller *controller, struct poll82599_call *call, const uint8_t *frame, size_t len);
+void poll82599_rx_serve(struct poll82599_rx_controller *controller, struct poll82599_call *call, const uint8_t *segment, size_t len);
 int64_t poll82599_rx_close(struct poll82599_rx_driver *driver, struct poll82599_rx_controller *controller);
 
 /* poll82599_rx_new makes a ring of so many descriptors, its driver with so many buffers, and its controller: 0, or 1 where the
@@ -54,7 +58,7 @@ int64_t poll82599_rx_close(struct poll82599_rx_driver *driver, struct poll82599_
 
 static inline uint32_t poll82599_rx_do(struct poll82599_rx_driver *driver, uint32_t operation)
 {
-    struct poll82599_call call = {operation, 0, 0, 0};
+    struct poll82599_call call = {operation, 0, 0, 0, 0, 0};
     uint8_t none = 0;
     poll82599_rx_drive(driver, &call, &none, 0);
     return call.answer;
@@ -73,7 +77,7 @@ static inline uint32_t poll82599_rx_set_tail(struct poll82599_rx_driver *driver)
  * the queue is off, 4 where `room` is below 2,048, which takes nothing. The buffer is the driver's again. */
 static inline uint32_t poll82599_rx_poll(struct poll82599_rx_driver *driver, uint8_t *bytes, size_t room, uint32_t *len, uint32_t *eop)
 {
-    struct poll82599_call call = {2, 0, 0, 0};
+    struct poll82599_call call = {2, 0, 0, 0, 0, 0};
     poll82599_rx_drive(driver, &call, bytes, room);
     *len = call.len;
     *eop = call.eop;
@@ -92,6 +96,17 @@ static inline uint32_t poll82599_rx_ask_disable(struct poll82599_rx_driver *driv
 /* Loads whether the controller said that it stores no more: 1 or 0. */
 static inline uint32_t poll82599_rx_is_quiet(struct poll82599_rx_driver *driver) { return poll82599_rx_do(driver, 6); }
 
+/* Loads RDH, and puts into `left` how many segments were stored and not taken when the disabling was answered: 1; 0 where a
+ * buffer was reclaimed before, 2 where no disabling was seen answered. It stays so: nothing more is stored. */
+static inline uint32_t poll82599_rx_untaken(struct poll82599_rx_driver *driver, uint32_t *left)
+{
+    struct poll82599_call call = {9, 0, 0, 0, 0, 0};
+    uint8_t none = 0;
+    poll82599_rx_drive(driver, &call, &none, 0);
+    *left = call.len;
+    return call.answer;
+}
+
 /* Takes the oldest buffer that is out back (section 4.6.7): 1; 0 where none is; 2 where no disabling was seen answered. */
 static inline uint32_t poll82599_rx_reclaim(struct poll82599_rx_driver *driver) { return poll82599_rx_do(driver, 7); }
 
@@ -101,10 +116,10 @@ static inline uint32_t poll82599_rx_renew(struct poll82599_rx_driver *driver) { 
 
 /* ---- The controller's thread. */
 
-static inline uint32_t poll82599_rx_act(struct poll82599_rx_controller *controller, uint32_t operation, const uint8_t *frame, size_t len)
+static inline uint32_t poll82599_rx_act(struct poll82599_rx_controller *controller, uint32_t operation, const uint8_t *segment, size_t len, uint32_t eop)
 {
-    struct poll82599_call call = {operation, 0, 0, 0};
-    poll82599_rx_serve(controller, &call, frame, len);
+    struct poll82599_call call = {operation, 0, 0, eop, 0, 0};
+    poll82599_rx_serve(controller, &call, segment, len);
     return call.answer;
 }
 
@@ -112,21 +127,29 @@ static inline uint32_t poll82599_rx_act(struct poll82599_rx_controller *controll
 static inline uint32_t poll82599_rx_answer(struct poll82599_rx_controller *controller)
 {
     static const uint8_t none = 0;
-    return poll82599_rx_act(controller, 0, &none, 0);
+    return poll82599_rx_act(controller, 0, &none, 0, 0);
 }
 
-/* Stores a frame of one segment, 14 to 2,048 bytes, and RDH: 1; 0 where no descriptor is free; 2 where the length is another; 3
- * where the queue is not served, or was said to be quiet. */
+/* Stores a frame of one segment, 14 to 2,048 bytes, and RDH: 1; 0 where no descriptor is free; 2 where the length is another, or
+ * a frame is begun that these bytes may not end; 3 where the queue is not served, or was said to be quiet. */
 static inline uint32_t poll82599_rx_store(struct poll82599_rx_controller *controller, const uint8_t *frame, size_t len)
 {
-    return poll82599_rx_act(controller, 1, frame, len);
+    return poll82599_rx_act(controller, 1, frame, len, 1);
 }
 
-/* Says that no more is stored until the queue is enabled again: 1, or 0 where the queue is not served. */
+/* Stores a segment of 1 to 2,048 bytes, with EOP where `eop` is not 0 (section 7.1.6.2), and RDH where it ends its frame: 1; 0
+ * where no descriptor is free; 2 where it may not follow the frame so far, which has 14 to 15,000 bytes in up to 15 segments,
+ * fewer than the ring's length; 3 as above. Another answer than 1 leaves the frame as it was begun. */
+static inline uint32_t poll82599_rx_store_segment(struct poll82599_rx_controller *controller, const uint8_t *bytes, size_t len, uint32_t eop)
+{
+    return poll82599_rx_act(controller, 1, bytes, len, eop);
+}
+
+/* Says that no more is stored until the queue is enabled again: 1, or 0 where the queue is not served, or a frame is begun. */
 static inline uint32_t poll82599_rx_set_quiet(struct poll82599_rx_controller *controller)
 {
     static const uint8_t none = 0;
-    return poll82599_rx_act(controller, 2, &none, 0);
+    return poll82599_rx_act(controller, 2, &none, 0, 0);
 }
 
 /* ---- Transmit rings. */
@@ -135,33 +158,46 @@ struct poll82599_tx_driver { uint8_t *end; };
 struct poll82599_tx_controller { uint8_t *end; };
 
 int32_t poll82599_tx_new(uint32_t descriptors, uint32_t buffers, uint32_t by_head, struct poll82599_tx_driver *driver, struct poll82599_tx_controller *controller);
-void poll82599_tx_drive(struct poll82599_tx_driver *driver, struct poll82599_call *call, const uint8_t *frame, size_t len);
+void poll82599_tx_drive(struct poll82599_tx_driver *driver, struct poll82599_call *call, const uint8_t *segment, size_t len);
 void poll82599_tx_serve(struct poll82599_tx_controller *controller, struct poll82599_call *call, uint8_t *bytes, size_t room);
 int64_t poll82599_tx_close(struct poll82599_tx_driver *driver, struct poll82599_tx_controller *controller);
 
 /* poll82599_tx_new answers as poll82599_rx_new does. The ring reports what is sent by DD in its descriptors (section 7.2.3.5), or
  * where by_head is not 0 by a word in memory that has the head. poll82599_tx_close is poll82599_rx_close's like. */
 
-static inline uint32_t poll82599_tx_do(struct poll82599_tx_driver *driver, uint32_t operation, const uint8_t *frame, size_t len)
+static inline uint32_t poll82599_tx_do(struct poll82599_tx_driver *driver, struct poll82599_call *call)
 {
-    struct poll82599_call call = {operation, 0, 0, 0};
-    poll82599_tx_drive(driver, &call, frame, len);
-    return call.answer;
+    static const uint8_t none = 0;
+    poll82599_tx_drive(driver, call, &none, 0);
+    return call->answer;
 }
 
 static inline uint32_t poll82599_tx_step(struct poll82599_tx_driver *driver, uint32_t operation)
 {
-    static const uint8_t none = 0;
-    return poll82599_tx_do(driver, operation, &none, 0);
+    struct poll82599_call call = {operation, 0, 0, 0, 0, 0};
+    return poll82599_tx_do(driver, &call);
 }
 
 /* ---- The driver's thread. */
 
-/* Posts a frame of one segment, 14 to 2,048 bytes, with EOP and RS (section 7.2.3.2.4): 1; 0 where there is no room, no buffer,
- * or a disabling was asked for; 2 where the length is another. The bytes are copied. */
-static inline uint32_t poll82599_tx_post(struct poll82599_tx_driver *driver, const uint8_t *frame, size_t len) { return poll82599_tx_do(driver, 0, frame, len); }
+/* Posts a segment of 1 to 2,048 bytes, with EOP and RS where they are not 0, and the whole frame's length as PAYLEN (section
+ * 7.2.3.2.4): 1; 0 where there is no room, no buffer, or a disabling was asked for; 2 where it may not follow the frame so far.
+ * A frame has 14 to 15,000 bytes in up to 15 segments, fewer than the ring's length; each has the same PAYLEN, and RS stands
+ * beside EOP alone. The bytes are copied. */
+static inline uint32_t poll82599_tx_post_segment(struct poll82599_tx_driver *driver, const uint8_t *bytes, size_t len, uint32_t eop, uint32_t rs, uint32_t paylen)
+{
+    struct poll82599_call call = {0, 0, 0, eop, rs, paylen};
+    poll82599_tx_drive(driver, &call, bytes, len);
+    return call.answer;
+}
 
-/* Stores TDT behind all that is posted (section 7.2.3.4): 1, or 0 where a disabling was asked for. */
+/* Posts a frame of one segment, 14 to 2,048 bytes, with EOP and RS. It answers as poll82599_tx_post_segment does. */
+static inline uint32_t poll82599_tx_post(struct poll82599_tx_driver *driver, const uint8_t *frame, size_t len)
+{
+    return poll82599_tx_post_segment(driver, frame, len, 1, 1, len <= POLL82599_MOST_FRAME ? (uint32_t)len : 0);
+}
+
+/* Stores TDT behind all that is posted (section 7.2.3.4): 1, or 0 where a disabling was asked for, or a frame is begun. */
 static inline uint32_t poll82599_tx_set_tail(struct poll82599_tx_driver *driver) { return poll82599_tx_step(driver, 1); }
 
 /* Loads the oldest report that is outstanding (section 7.2.3.5): 1 where it is made, and so are all before it; else 0. */
@@ -179,6 +215,16 @@ static inline uint32_t poll82599_tx_ask_disable(struct poll82599_tx_driver *driv
 /* Cleans the oldest descriptor that is seen reported, and has its buffer back: 1, or 0 where none is. */
 static inline uint32_t poll82599_tx_clean(struct poll82599_tx_driver *driver) { return poll82599_tx_step(driver, 6); }
 
+/* Loads TDH, and puts into `left` how many segments were posted and not sent when the disabling was answered: 1, or 2 where no
+ * disabling was seen answered. It stays so: nothing more is sent. */
+static inline uint32_t poll82599_tx_unsent(struct poll82599_tx_driver *driver, uint32_t *left)
+{
+    struct poll82599_call call = {9, 0, 0, 0, 0, 0};
+    uint32_t answer = poll82599_tx_do(driver, &call);
+    *left = call.len;
+    return answer;
+}
+
 /* Takes the oldest buffer that is out back: 1; 0 where none is; 2 where no disabling was seen answered. */
 static inline uint32_t poll82599_tx_reclaim(struct poll82599_tx_driver *driver) { return poll82599_tx_step(driver, 7); }
 
@@ -191,7 +237,7 @@ static inline uint32_t poll82599_tx_renew(struct poll82599_tx_driver *driver) { 
 /* Loads what the driver asks, and answers it where it may: 1 where it answered, else 0. */
 static inline uint32_t poll82599_tx_answer(struct poll82599_tx_controller *controller)
 {
-    struct poll82599_call call = {0, 0, 0, 0};
+    struct poll82599_call call = {0, 0, 0, 0, 0, 0};
     uint8_t none = 0;
     poll82599_tx_serve(controller, &call, &none, 0);
     return call.answer;
@@ -202,7 +248,7 @@ static inline uint32_t poll82599_tx_answer(struct poll82599_tx_controller *contr
  * 2,048, which sends nothing. */
 static inline uint32_t poll82599_tx_send(struct poll82599_tx_controller *controller, uint8_t *bytes, size_t room, uint32_t *len, uint32_t *eop)
 {
-    struct poll82599_call call = {1, 0, 0, 0};
+    struct poll82599_call call = {1, 0, 0, 0, 0, 0};
     poll82599_tx_serve(controller, &call, bytes, room);
     *len = call.len;
     *eop = call.eop;

@@ -1,4 +1,7 @@
+pub mod Following
 pub mod RxControllerHandleAsBox
 pub mod RxDriverHandleAsBox
 pub mod TxControllerHandleAsBox
 pub mod TxDriverHandleAsBox
+pub mod Storing
+pub mod Posting
