@@ -255,6 +255,55 @@ static inline uint32_t poll82599_tx_send(struct poll82599_tx_controller *control
     return call.answer;
 }
 
+/* ---- Plain data. These calls keep nothing, and any thread may make them. */
+
+/* What a descriptor says: its buffer's number, how many bytes lie there, and EOP, RS and PAYLEN, in bytes. A word that is not 0
+ * says yes. What a form has no field for is 0 where it is read, and not looked at where it is written. */
+struct poll82599_descriptor {
+    uint32_t number;
+    uint32_t len;
+    uint32_t eop;
+    uint32_t rs;
+    uint32_t paylen;
+};
+
+/* The forms of a descriptor: as the driver posts it (sections 7.1.6.1 and 7.2.3.2.4), and as the controller writes it back
+ * (sections 7.1.6.2 and 7.2.3.2.4). The bytes do not tell which it is. */
+enum { POLL82599_RX_READ = 0, POLL82599_RX_BACK = 1, POLL82599_TX_READ = 2, POLL82599_TX_BACK = 3 };
+
+enum { POLL82599_DESCRIPTOR_BYTES = 16 };
+
+/* Reads the `len` bytes of a descriptor: 0; or of the refusals that apply the one of the lowest number: 1 there are not 16 bytes, 2
+ * a bit that the profile fixes has another value, 3 it is no advanced data descriptor, 4 a length is out of range; and
+ * 4,294,967,295 for a form that there is not. Only 0 changes `said`. */
+uint32_t poll82599_decode(uint32_t form, const uint8_t *bytes, size_t len, struct poll82599_descriptor *said);
+
+/* Writes the 16 bytes of the descriptor that says this: 0; 1 where `len` is not 16; 2 where no descriptor of the form says it, for a
+ * number of 65,536 or more, a length of none or of more than 2,048 bytes, RS without EOP, or PAYLEN not from 14 to 15,000; and
+ * 4,294,967,295 as above. Only 0 changes the bytes. */
+uint32_t poll82599_encode(uint32_t form, const struct poll82599_descriptor *said, uint8_t *bytes, size_t len);
+
+/* Queues for a list of moves: how many pairs, 1 to 8, of how many descriptors each; and where the word is not 0, that they begin
+ * enabled, that the transmit queues report by a head word, and that what the moves tell is printed as JSON objects. */
+struct poll82599_plan {
+    uint32_t pairs;
+    uint32_t descriptors;
+    uint32_t enabled;
+    uint32_t by_head;
+    uint32_t json;
+};
+
+/* How many bytes the moves print, and the number of the first line that is no move, counted from 1. */
+struct poll82599_moved {
+    uint64_t needed;
+    uint64_t line;
+};
+
+/* Makes the moves of a text, one a line, on new queues (docs/REPLAY.md has both texts), and writes what they tell to the beginning of
+ * `page`: 0; 1 where `room` is less than `needed` then says; or a refusal's number: 14 where a line is no move, which `line` then
+ * names, 12 where there can be no such queues, and others where memory was refused. Only 0 changes the page. */
+uint32_t poll82599_moves(const struct poll82599_plan *plan, const uint8_t *text, size_t len, uint8_t *page, size_t room, struct poll82599_moved *moved);
+
 #ifdef __cplusplus
 }
 #endif

@@ -1,5 +1,5 @@
 -- How far the frame is that an end has begun and not ended, and what may follow in it.
-use Rattle.std.specs.Prelude.{◌≡◌, ℕ, zero, suc, ◌+◌, ◌<◌, ◌≤◌, Bool, true, false, List, length, Some, slice_get}
+use Rattle.std.specs.Prelude.{◌≡◌, ℕ, ◌+◌, ◌<◌, ◌≤◌, Bool, true, false, List, length, Some, slice_get}
 use Rattle.limits.specs.declared.profile.TheConstants.{BUFFER_BYTES, LEAST_FRAME, MOST_FRAME, MOST_SEGMENTS}
 use Rattle.ring_model.specs.shared.Frames.{Piece, join, unfinished}
 use Rattle.ring_model.specs.transmit.Ring.{carried}
@@ -33,8 +33,3 @@ pub record CanPost (n : ℕ) (begun : Begun) (len : ℕ) (eop rs : Bool) (paylen
 pub record IsPosting (ps : List Posting) (begun : Begun) (paylen : ℕ) : Type 0 where
   pub counts : IsBegun carried ps begun
   pub same : (k : ℕ) (q : Posting) → slice_get (unfinished carried ps) k ≡ Some q → q.paylen ≡ paylen
-
--- a word of C that is not 0 says yes
-abbrev pub is_set : ℕ → Bool
-is_set zero = false
-is_set (suc n) = true

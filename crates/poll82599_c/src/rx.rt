@@ -1,14 +1,15 @@
 //! The exports of a receive ring.
 ghost use Rattle.std.specs.Prelude.{◌≡◌, ◌≢◌, None, IsSome, pos};
 ghost use Rattle.rx_ring.specs.Calls.{FoundLeft, GoneOver};
-ghost use Rattle.poll82599_c.specs.Following.{is_set};
+ghost use Rattle.opaque.specs.Words.{is_set};
 ghost use Rattle.poll82599_c.specs.RxEnds.{AnsweredAsked, AreLawful, AreMade, AreOfOne, AskedDisable, AskedEnable, Between, FoundNoneFree, FoundQuiet, LoadedControl, LookedAsked};
 ghost use Rattle.poll82599_c.specs.RxEnds.{PostedOne, PublishedAll, ReclaimedOne, SaidNoMore, SameDriven, SameServed, StoredOne, TookNone, TookOne};
 
-use crate::call::{NO_OPERATION, Poll82599Call, is_set};
+use crate::call::{NO_OPERATION, Poll82599Call};
 use crate::rx_controller_handle::RxControllerHandle;
 use crate::rx_driver_handle::RxDriverHandle;
 use crate::rx_making::{make, unmake};
+use opaque::is_set;
 use std::alloc::Global;
 
 /// Makes a receive ring of so many descriptors, and its driver with so many buffers and its controller: 0; 1 where the length

@@ -3,9 +3,10 @@ ghost use Rattle.std.specs.Prelude.{◌≡◌, ◌≢◌};
 ghost use Rattle.rx_ring.specs.Calls.{FoundLeft, GoneOver};
 ghost use Rattle.poll82599_c.specs.RxEnds.{AskedDisable, AskedEnable, FoundQuiet, LoadedControl, PostedOne, PublishedAll, ReclaimedOne, TookNone, TookOne};
 
-use crate::room::{Found, overwrite};
+use crate::room::Found;
 use buffer_pool::Stash;
 use limits::BUFFER_BYTES;
+use opaque::overwrite;
 use rx_ring::{DriverEnd, Poll, RxDriverEnd, RxRing};
 use std::alloc::Global;
 use std::marker::Model;

@@ -2,16 +2,17 @@
 ghost use Rattle.std.specs.Prelude.{◌≡◌, ◌≢◌, None, IsSome, pos};
 ghost use Rattle.ring_model.specs.declared.states.Completion.TheVariants as by;
 ghost use Rattle.tx_ring.specs.Calls.{FoundLeft, GoneOver, SawReported};
-ghost use Rattle.poll82599_c.specs.Following.{is_set};
+ghost use Rattle.opaque.specs.Words.{is_set};
 ghost use Rattle.poll82599_c.specs.RxEnds.{Between};
 ghost use Rattle.poll82599_c.specs.TxEnds.{AnsweredAsked, AreLawful, AreMade, AreOfOne, AskedDisable, AskedEnable, CleanedBuffer, LoadedControl, LookedAsked};
 ghost use Rattle.poll82599_c.specs.TxEnds.{PostedSegment, PublishedAll, ReclaimedOne, SameDriven, SameServed, SawNoReport, SentNone, SentOne};
 
 use crate::begun::Asking;
-use crate::call::{NO_OPERATION, Poll82599Call, is_set};
+use crate::call::{NO_OPERATION, Poll82599Call};
 use crate::tx_controller_handle::TxControllerHandle;
 use crate::tx_driver_handle::TxDriverHandle;
 use crate::tx_making::{make, unmake};
+use opaque::is_set;
 use std::alloc::Global;
 use tx_ring::Completion;
 

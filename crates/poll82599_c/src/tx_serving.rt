@@ -2,8 +2,9 @@
 ghost use Rattle.std.specs.Prelude.{◌≡◌, ◌≢◌};
 ghost use Rattle.poll82599_c.specs.TxEnds.{AnsweredAsked, LookedAsked, SentNone, SentOne};
 
-use crate::room::{Found, overwrite};
+use crate::room::Found;
 use limits::BUFFER_BYTES;
+use opaque::overwrite;
 use std::alloc::Global;
 use std::marker::Model;
 use std::sync::Arc;
