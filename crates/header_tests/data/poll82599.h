@@ -3,6 +3,8 @@
  * What the library promises is proved of its exports; what its caller owes stands here, and nothing checks it:
  * - an end begins as {0}, is passed by its address, and is never copied;
  * - one call at a time takes an end. Two ends of one ring may be in calls of two threads at once;
+ * - an end may go to another thread between two calls, which is proved of it, where a lock, a thread's start or join, or a
+ *   sequentially consistent atomic orders the two calls;
  * - poll82599_rx_new and poll82599_tx_new are given two empty ends, each other call ends that they have filled, and
  *   poll82599_rx_close and poll82599_tx_close both ends of one ring, which no other thread uses any more;
  * - a pointer to bytes has as many bytes as the call is told, and is not null. */

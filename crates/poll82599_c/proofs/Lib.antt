@@ -5,3 +5,4 @@ pub mod TxControllerHandleAsBox
 pub mod TxDriverHandleAsBox
 pub mod Storing
 pub mod Posting
+pub mod Sendable
