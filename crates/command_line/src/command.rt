@@ -28,7 +28,7 @@ ghost use Rattle.schedule_command.specs.declared.request.ScheduleRequest.{Schedu
 use crate::arguments::{choice, flag, hex, number};
 use crate::captures::{from_capture, from_capture_in, to_capture, to_capture_in};
 use crate::files::with_files;
-use crate::schedules::{schedules, schedules_in};
+use crate::lists::{schedules, schedules_in};
 use capture_command::CaptureRequest;
 use clap::error::ErrorKind;
 use clap::{ArgMatches, Command, Error};

@@ -10,8 +10,8 @@ mod arguments;
 mod captures;
 mod command;
 mod files;
+mod lists;
 mod running;
-mod schedules;
 
 pub use command::{Asked, asked_of};
 pub use files::{ForwardFiles, files_of};

@@ -4,7 +4,7 @@ use Rattle.clap.specs.Words.{found_of}
 use Rattle.schedules.specs.declared.plan.SchedulePlan.{SchedulePlan}
 use Rattle.schedule_command.specs.declared.request.ScheduleRequest.{ScheduleRequest}
 use Rattle.command_line.proofs.CommandLine.{number_is, reads_flag, text_is}
-use Rattle.command_line.proofs.schedules.schedules_in.Goals as goal
+use Rattle.command_line.proofs.lists.schedules_in.Goals as goal
 
 -- a request, from its parts
 from-parts : (request : ScheduleRequest) (p : SchedulePlan) (s n : ℕ) (e : Bool) → p ≡ request.plan → s ≡ request.seed → n ≡ request.count → e ≡ request.expect

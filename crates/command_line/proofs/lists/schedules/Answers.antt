@@ -3,7 +3,7 @@ use Rattle.std.proofs.lemmas.Result.{IfOk-weaker}
 use Rattle.clap.specs.Words.{app_of, new_app}
 use Rattle.clap.specs.declared.builder.command.Command.TheViews.{out-Command}
 use Rattle.command_line.specs.ScheduleWords.{with_drawing_rules, with_list_rules}
-use Rattle.command_line.proofs.schedules.schedules.Goals as goal
+use Rattle.command_line.proofs.lists.schedules.Goals as goal
 
 pub returns-clause-app : goal.returns-clause-app
 returns-clause-app c =

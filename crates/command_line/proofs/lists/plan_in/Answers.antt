@@ -7,7 +7,7 @@ use Rattle.schedules.specs.declared.plan.SchedulePlan.{SchedulePlan}
 use Rattle.command_line.specs.OptionWords.{is_head}
 use Rattle.command_line.proofs.CommandLine.{number_is, reads_flag, text_is}
 use Rattle.command_line.proofs.ReplayWords.{begins_as, completion_is}
-use Rattle.command_line.proofs.schedules.plan_in.Goals as goal
+use Rattle.command_line.proofs.lists.plan_in.Goals as goal
 
 -- a plan, from its parts
 from-parts : (plan : SchedulePlan) (k n : ℕ) (b : Bool) (c : Completion) (m r : ℕ) (d : Bool) → k ≡ plan.pairs → n ≡ plan.ring → b ≡ plan.enabled → c ≡ plan.completion
