@@ -9,11 +9,11 @@ use Rattle.ring_model.specs.shared.Frames.{Bytes}
 use Rattle.ring_model.specs.shared.Segments.{piece_of}
 use Rattle.shared_ring.specs.declared.events.DriverEvent.TheVariants as driver
 use Rattle.shared_ring.specs.declared.events.ControllerEvent.TheVariants as controller
-use Rattle.rx_ring.specs.Calls.{Answered, FoundFree, FoundLeft, SawNotDone, TookSegment}
+use Rattle.rx_ring.specs.Calls.{Answered, FoundFree, FoundLeft, IsTold, SawNotDone, TookSegment, told_left}
 use Rattle.rx_ring.specs.declared.events.RxDriverOwn.TheVariants.{LoadedQuiet}
 use Rattle.rx_ring.specs.declared.events.RxControllerOwn.TheVariants.{SaidQuiet, WroteBack}
-use Rattle.rx_ring.specs.Ends.{DriverSide, ControllerSide, answered, appended, driver_size, fill_place, is_between, known_free, next_place, reclaimed, serve_place, stored}
-use Rattle.rx_ring.specs.Meeting.{MadeSeats, ledger_of}
+use Rattle.rx_ring.specs.Ends.{DriverSide, ControllerSide, answered, appended, driver_size, fill_place, is_between, known_free, next_place, reclaimed, serve_place, stored, taken}
+use Rattle.rx_ring.specs.Meeting.{MadeSeats, ledger_of, stored_now}
 use Rattle.poll82599_c.specs.Following.{IsBegun}
 use Rattle.poll82599_c.specs.declared.begun.Begun.{Begun}
 
@@ -40,6 +40,10 @@ SameServed = Between (λ old new. new.table ≡ old.table)
 -- the records of both are those of one lawful ring: what is taken is a beginning of what is stored
 abbrev pub AreLawful : Option DriverSide → Option ControllerSide → Type 0
 AreLawful = Between (λ d c. IsLawfulRxLedger Bytes (driver_size d) (ledger_of d c))
+
+-- where the head was loaded, what was said to be left is what of the stored is not taken
+abbrev pub AreTold : Option DriverSide → Option ControllerSide → Type 0
+AreTold = Between (λ d c. IsTold (told_left d) (length (taken d)) (length (stored_now d c)))
 
 -- ---- a driver's steps
 

@@ -12,7 +12,7 @@ use Rattle.shared_ring.specs.declared.events.DriverEvent.TheVariants as driver
 use Rattle.shared_ring.specs.declared.events.ControllerEvent.TheVariants as controller
 use Rattle.tx_ring.specs.Calls.{Answered, CleanedOne, FoundReady, Polled, report_of}
 use Rattle.tx_ring.specs.Ends.{DriverSide, ControllerSide, answered, appended, controller_size, driver_size, fill_place, known_ready, next_place, posted, sent}
-use Rattle.tx_ring.specs.Meeting.{MadeSeats, ledger_of}
+use Rattle.tx_ring.specs.Meeting.{IsTold, MadeSeats, ledger_of, sent_now, told_left}
 use Rattle.tx_ring.specs.Records.{Posting}
 use Rattle.poll82599_c.specs.Following.{IsPosting}
 use Rattle.poll82599_c.specs.RxEnds.{Between}
@@ -36,6 +36,10 @@ SameServed = Between (λ old new. new.table ≡ old.table)
 -- the records of both are those of one lawful ring: what is sent is a beginning of what is posted
 abbrev pub AreLawful : Option DriverSide → Option ControllerSide → Type 0
 AreLawful = Between (λ d c. IsLawfulTxLedger Bytes (driver_size d) (ledger_of d c))
+
+-- where the head was loaded, what was said to be left is what of the posted is not sent
+abbrev pub AreTold : Option DriverSide → Option ControllerSide → Type 0
+AreTold = Between (λ d c. IsTold (told_left d) (length (sent_now d c)) (length (posted d)))
 
 -- ---- a driver's steps
 

@@ -1,5 +1,5 @@
 //! What the makings of both kinds of rings share.
-ghost use Rattle.std.specs.Prelude.{◌≡◌, ◌≢◌, pos};
+ghost use Rattle.std.specs.Prelude.{◌≡◌, ◌≢◌, ◌<◌, ◌⊎◌, IfErr, pos};
 
 use buffer_pool::{Stash, Stock};
 use std::alloc::Global;
@@ -18,7 +18,9 @@ pub(crate) enum Unmade {
 impl Unmade {
     /// What an export answers for it.
     pub(crate) fn number(self) -> i32
-        ensures { result ≢ pos 0 }
+        ensures some { result ≢ pos 0 }
+        ensures length { result ≡ pos 1 → self ≡ Unmade.Length }
+        ensures buffers { result ≡ pos 3 → self ≡ Unmade.Buffers }
     {
         match self {
             Unmade::Length => 1,
@@ -35,7 +37,10 @@ const LEAST_BUFFERS: u32 = 16;
 const MOST_BUFFERS: u32 = 256;
 
 /// A stash with so many buffers.
-pub(crate) fn stash_of(alloc: Global, buffers: u32) -> Result<Stash, Unmade> {
+pub(crate) fn stash_of(alloc: Global, buffers: u32) -> Result<Stash, Unmade>
+    ensures length { IfErr result (λ e. e ≢ Unmade.Length) }
+    ensures buffers { IfErr result (λ e. e ≡ Unmade.Buffers → (buffers < 16) ⊎ (256 < buffers)) }
+{
     if buffers < LEAST_BUFFERS || MOST_BUFFERS < buffers {
         return Err(Unmade::Buffers);
     }

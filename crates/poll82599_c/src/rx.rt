@@ -1,8 +1,9 @@
 //! The exports of a receive ring.
-ghost use Rattle.std.specs.Prelude.{◌≡◌, ◌≢◌, None, IsSome, pos};
+ghost use Rattle.std.specs.Prelude.{◌≡◌, ◌≢◌, ◌<◌, ◌⊎◌, None, IsSome, pos};
+ghost use Rattle.limits.specs.RingLength.{IsRingLength};
 ghost use Rattle.rx_ring.specs.Calls.{FoundLeft, GoneOver};
 ghost use Rattle.opaque.specs.Words.{is_set};
-ghost use Rattle.poll82599_c.specs.RxEnds.{AnsweredAsked, AreLawful, AreMade, AreOfOne, AskedDisable, AskedEnable, Between, FoundNoneFree, FoundQuiet, LoadedControl, LookedAsked};
+ghost use Rattle.poll82599_c.specs.RxEnds.{AnsweredAsked, AreLawful, AreMade, AreOfOne, AreTold, AskedDisable, AskedEnable, Between, FoundNoneFree, FoundQuiet, LoadedControl, LookedAsked};
 ghost use Rattle.poll82599_c.specs.RxEnds.{PostedOne, PublishedAll, ReclaimedOne, SaidNoMore, SameDriven, SameServed, StoredOne, TookNone, TookOne};
 
 use crate::call::{NO_OPERATION, Poll82599Call};
@@ -24,6 +25,8 @@ pub extern "C" fn poll82599_rx_new(
     controller: &mut RxControllerHandle,
 ) -> i32
     ensures made { (result ≡ pos 0) → AreMade descriptors driver.new.held controller.new.held }
+    ensures length { (result ≡ pos 1) → ¬ IsRingLength descriptors }
+    ensures buffers { (result ≡ pos 3) → (buffers < 16) ⊎ (256 < buffers) }
     ensures driver { (result ≢ pos 0) → driver.new ≡ driver.old }
     ensures controller { (result ≢ pos 0) → controller.new ≡ controller.old }
 {
@@ -128,6 +131,7 @@ pub extern "C" fn poll82599_rx_close(
 ) -> i64
     requires { AreOfOne driver.old.held controller.old.held }
     ensures lawful { AreLawful driver.old.held controller.old.held }
+    ensures told { AreTold driver.old.held controller.old.held }
     ensures driver { driver.new.held ≡ None }
     ensures controller { controller.new.held ≡ None }
 {

@@ -1,9 +1,11 @@
 //! The making of a receive ring with its two objects, and its closing.
-ghost use Rattle.std.specs.Prelude.{◌≡◌, IfOk};
+ghost use Rattle.std.specs.Prelude.{◌≡◌, ◌<◌, ◌⊎◌, IfErr, IfOk, length};
+ghost use Rattle.limits.specs.RingLength.{IsRingLength};
 ghost use Rattle.ring_model.specs.receive.Lawful.{IsLawfulRxLedger};
 ghost use Rattle.ring_model.specs.shared.Frames.{Bytes};
-ghost use Rattle.rx_ring.specs.Ends.{driver_size};
-ghost use Rattle.rx_ring.specs.Meeting.{MadeSeats, ledger_of};
+ghost use Rattle.rx_ring.specs.Calls.{IsTold, told_left};
+ghost use Rattle.rx_ring.specs.Ends.{driver_size, taken};
+ghost use Rattle.rx_ring.specs.Meeting.{MadeSeats, ledger_of, stored_now};
 
 use crate::begun::Begun;
 use crate::making::{Unmade, crossing, stash_of};
@@ -19,7 +21,9 @@ pub(crate) fn make(
     ring: u32,
     buffers: u32,
 ) -> Result<(Box<RxDriving>, Box<RxServing>), Unmade>
-    ensures { IfOk result (λ r. MadeSeats ring r.0.value.table r.0.value r.1.value) }
+    ensures made { IfOk result (λ r. MadeSeats ring r.0.value.table r.0.value r.1.value) }
+    ensures length { IfErr result (λ e. e ≡ Unmade.Length → ¬ IsRingLength ring) }
+    ensures buffers { IfErr result (λ e. e ≡ Unmade.Buffers → (buffers < 16) ⊎ (256 < buffers)) }
 {
     let stash = stash_of(alloc, buffers)?;
     let (ring, driver, controller) = match RxRing::new(alloc, ring) {
@@ -56,7 +60,8 @@ pub(crate) fn make(
 /// Closes a ring: how many buffers lay in it, or -1 where another owner of the ring is left.
 pub(crate) fn unmake(driving: Box<RxDriving>, serving: Box<RxServing>) -> i64
     requires { driving.value.table ≡ serving.value.table }
-    ensures { IsLawfulRxLedger Bytes (driver_size driving.value) (ledger_of driving.value serving.value) }
+    ensures lawful { IsLawfulRxLedger Bytes (driver_size driving.value) (ledger_of driving.value serving.value) }
+    ensures told { IsTold (told_left driving.value) (length (taken driving.value)) (length (stored_now driving.value serving.value)) }
 {
     let RxDriving {
         ring,

@@ -1,10 +1,11 @@
 //! The exports of a transmit ring.
-ghost use Rattle.std.specs.Prelude.{◌≡◌, ◌≢◌, None, IsSome, pos};
+ghost use Rattle.std.specs.Prelude.{◌≡◌, ◌≢◌, ◌<◌, ◌⊎◌, None, IsSome, pos};
+ghost use Rattle.limits.specs.RingLength.{IsRingLength};
 ghost use Rattle.ring_model.specs.declared.states.Completion.TheVariants as by;
 ghost use Rattle.tx_ring.specs.Calls.{FoundLeft, GoneOver, SawReported};
 ghost use Rattle.opaque.specs.Words.{is_set};
 ghost use Rattle.poll82599_c.specs.RxEnds.{Between};
-ghost use Rattle.poll82599_c.specs.TxEnds.{AnsweredAsked, AreLawful, AreMade, AreOfOne, AskedDisable, AskedEnable, CleanedBuffer, LoadedControl, LookedAsked};
+ghost use Rattle.poll82599_c.specs.TxEnds.{AnsweredAsked, AreLawful, AreMade, AreOfOne, AreTold, AskedDisable, AskedEnable, CleanedBuffer, LoadedControl, LookedAsked};
 ghost use Rattle.poll82599_c.specs.TxEnds.{PostedSegment, PublishedAll, ReclaimedOne, SameDriven, SameServed, SawNoReport, SentNone, SentOne};
 
 use crate::begun::Asking;
@@ -30,6 +31,8 @@ pub extern "C" fn poll82599_tx_new(
 ) -> i32
     ensures status { (result ≡ pos 0) → (by_head ≡ 0) → AreMade descriptors by.Status driver.new.held controller.new.held }
     ensures head { (result ≡ pos 0) → (by_head ≢ 0) → AreMade descriptors by.Head driver.new.held controller.new.held }
+    ensures length { (result ≡ pos 1) → ¬ IsRingLength descriptors }
+    ensures buffers { (result ≡ pos 3) → (buffers < 16) ⊎ (256 < buffers) }
     ensures driver { (result ≢ pos 0) → driver.new ≡ driver.old }
     ensures controller { (result ≢ pos 0) → controller.new ≡ controller.old }
 {
@@ -144,6 +147,7 @@ pub extern "C" fn poll82599_tx_close(
 ) -> i64
     requires { AreOfOne driver.old.held controller.old.held }
     ensures lawful { AreLawful driver.old.held controller.old.held }
+    ensures told { AreTold driver.old.held controller.old.held }
     ensures driver { driver.new.held ≡ None }
     ensures controller { controller.new.held ≡ None }
 {

@@ -1,9 +1,10 @@
 //! The making of a transmit ring with its two objects, and its closing.
-ghost use Rattle.std.specs.Prelude.{◌≡◌, IfOk};
+ghost use Rattle.std.specs.Prelude.{◌≡◌, ◌<◌, ◌⊎◌, IfErr, IfOk, length};
+ghost use Rattle.limits.specs.RingLength.{IsRingLength};
 ghost use Rattle.ring_model.specs.transmit.Lawful.{IsLawfulTxLedger};
 ghost use Rattle.ring_model.specs.shared.Frames.{Bytes};
-ghost use Rattle.tx_ring.specs.Ends.{driver_size};
-ghost use Rattle.tx_ring.specs.Meeting.{MadeSeats, ledger_of};
+ghost use Rattle.tx_ring.specs.Ends.{driver_size, posted};
+ghost use Rattle.tx_ring.specs.Meeting.{IsTold, MadeSeats, ledger_of, sent_now, told_left};
 
 use crate::begun::Begun;
 use crate::making::{Unmade, crossing, stash_of};
@@ -20,7 +21,9 @@ pub(crate) fn make(
     buffers: u32,
     completion: Completion,
 ) -> Result<(Box<TxDriving>, Box<TxServing>), Unmade>
-    ensures { IfOk result (λ r. MadeSeats ring completion r.0.value.table r.0.value r.1.value) }
+    ensures made { IfOk result (λ r. MadeSeats ring completion r.0.value.table r.0.value r.1.value) }
+    ensures length { IfErr result (λ e. e ≡ Unmade.Length → ¬ IsRingLength ring) }
+    ensures buffers { IfErr result (λ e. e ≡ Unmade.Buffers → (buffers < 16) ⊎ (256 < buffers)) }
 {
     let stash = stash_of(alloc, buffers)?;
     let (ring, driver, controller) = match TxRing::new_with(alloc, ring, completion) {
@@ -57,7 +60,8 @@ pub(crate) fn make(
 /// Closes a ring: how many buffers lay in it, or -1 where another owner of the ring is left.
 pub(crate) fn unmake(driving: Box<TxDriving>, serving: Box<TxServing>) -> i64
     requires { driving.value.table ≡ serving.value.table }
-    ensures { IsLawfulTxLedger Bytes (driver_size driving.value) (ledger_of driving.value serving.value) }
+    ensures lawful { IsLawfulTxLedger Bytes (driver_size driving.value) (ledger_of driving.value serving.value) }
+    ensures told { IsTold (told_left driving.value) (length (sent_now driving.value serving.value)) (length (posted driving.value)) }
 {
     let TxDriving {
         ring,
