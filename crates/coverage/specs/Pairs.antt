@@ -36,6 +36,9 @@ controller_words controller.Off = codes "off"
 controller_words controller.Serving = codes "serving"
 controller_words controller.Ended = codes "ended"
 
+abbrev pub states_text : DriverState → ControllerState → List ℕ
+states_text d c = codes "driver " ++ driver_words d ++ codes " controller " ++ controller_words c
+
 -- "r0 A6 driver On controller serving: none"
 abbrev pub pair_text : Pair → List ℕ
-pair_text p = name_of p.action ++ codes " driver " ++ driver_words p.driver ++ codes " controller " ++ controller_words p.controller ++ codes ": " ++ told_words p.told
+pair_text p = name_of p.action ++ codes " " ++ states_text p.driver p.controller ++ codes ": " ++ told_words p.told

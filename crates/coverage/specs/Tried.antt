@@ -1,13 +1,54 @@
 -- The moves that a search tries in each state.
-use Rattle.std.specs.Prelude.{ℕ, true, false, List, [], ◌∷◌}
+use Rattle.std.specs.Prelude.{◌≡◌, ℕ, Bool, true, false, List, [], ◌∷◌, All, IsTrue}
+use Rattle.ring_model.specs.declared.states.Completion.{Completion}
+use Rattle.ring_model.specs.declared.states.Completion.TheVariants.{Status}
 use Rattle.ring_model.specs.declared.steps.ControlStep.TheVariants as control
+use Rattle.ring_model.specs.declared.steps.RxStep.{RxStep}
 use Rattle.ring_model.specs.declared.steps.RxStep.TheVariants as rx
+use Rattle.ring_model.specs.declared.steps.TxStep.{TxStep}
 use Rattle.ring_model.specs.declared.steps.TxStep.TheVariants as tx
 use Rattle.ring_model.specs.transmit.Ring.{Posting, new_posting}
 use Rattle.ring_machine.specs.declared.moves.Move.{Move}
 use Rattle.ring_machine.specs.declared.moves.Move.TheVariants.{Receive, Transmit}
+use Rattle.coverage.specs.declared.tried.Scope.{Scope}
 use Rattle.coverage.specs.declared.tried.Side.{Side}
 use Rattle.coverage.specs.declared.tried.Side.TheVariants as side
+
+abbrev pub completion_of : Side → Completion
+completion_of side.Receive = Status
+completion_of (side.Transmit by) = by
+
+-- kinds A: descriptors, buffers, head and tail
+abbrev pub rx_is_data : RxStep ℕ → Bool
+rx_is_data (rx.Post b) = true
+rx_is_data rx.Publish = true
+rx_is_data rx.Look = true
+rx_is_data rx.Fetch = true
+rx_is_data (rx.Store len eop) = true
+rx_is_data rx.Take = true
+rx_is_data rx.Head = true
+rx_is_data _ = false
+
+-- kinds B
+abbrev pub tx_is_data : TxStep (Posting ℕ) → Bool
+tx_is_data (tx.Post p) = true
+tx_is_data tx.Publish = true
+tx_is_data tx.Look = true
+tx_is_data tx.Fetch = true
+tx_is_data tx.Send = true
+tx_is_data tx.Report = true
+tx_is_data tx.LoadReport = true
+tx_is_data tx.Clean = true
+tx_is_data _ = false
+
+-- a controller of silicon and its driver make it too
+abbrev pub is_data : Move → Bool
+is_data (Receive q s) = rx_is_data s
+is_data (Transmit q s) = tx_is_data s
+
+-- where the scope has only data, all of them are such moves
+abbrev pub InScope : Scope → List Move → Type 0
+InScope s moves = s.device_only ≡ true → All (λ m. IsTrue (is_data m)) moves
 
 -- every kind of move of receive queue q, with one buffer's number and one length, and with both values of EOP
 abbrev pub receive_moves : ℕ → ℕ → List Move

@@ -5,7 +5,7 @@ ghost use Rattle.coverage.specs.Lists.{Meets};
 use crate::pairs::Pair;
 use crate::search::{Search, queues_of};
 use crate::told::Told;
-use crate::tried::Side;
+use crate::tried::Scope;
 use ring_machine::Move;
 use std::alloc::{AllocError, Global};
 
@@ -16,16 +16,17 @@ pub struct CoverList {
     pub moves: Vec<Move>,
 }
 
-// The list of these moves and the pair's, if they all happen and the last then tells what the pair says.
+// The list of these moves and the pair's, if they all happen and the last then tells what the pair says. A list with a
+// move outside of the scope is none.
 fn met_by(
     alloc: Global,
-    side: Side,
+    scope: Scope,
     path: Vec<Move>,
     pair: Pair,
 ) -> Result<Option<CoverList>, AllocError>
-    ensures { IfOk result (λ list. IfSome list (Meets side)) }
+    ensures { IfOk result (λ list. IfSome list (Meets scope)) }
 {
-    let mut queues = queues_of(alloc, side)?;
+    let mut queues = queues_of(alloc, scope)?;
     if queues.run(path.as_slice()) != path.len() {
         return Ok(None);
     }
@@ -34,6 +35,9 @@ fn met_by(
     }
     let mut moves = path;
     moves.push(pair.action)?;
+    if !scope.has_all(moves.as_slice()) {
+        return Ok(None);
+    }
     Ok(Some(CoverList { pair, moves }))
 }
 
@@ -41,13 +45,13 @@ impl Search {
     /// Lists of moves that together meet all pairs that were met so far, those with the fewest moves first. A list leads
     /// by as few moves as any schedule needs to a state in which its pair can be met.
     pub fn lists(&self, alloc: Global) -> Result<Vec<CoverList>, AllocError>
-        ensures { IfOk result (λ lists. All (Meets self.now.side) lists.items) }
+        ensures { IfOk result (λ lists. All (Meets self.now) lists.items) }
     {
         let chosen = self.chosen(alloc)?;
         let mut lists = Vec::new(alloc);
         for found in chosen.as_slice().iter().rev() {
             let path = self.path_to(alloc, found.at)?;
-            if let Some(list) = met_by(alloc, self.side, path, found.pair)? {
+            if let Some(list) = met_by(alloc, self.scope, path, found.pair)? {
                 lists.push(list)?;
             }
         }

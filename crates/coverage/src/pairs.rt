@@ -1,9 +1,10 @@
 //! What a queue can be met in: a kind of move, how far both sides are, and what it tells.
-ghost use Rattle.std.specs.Prelude.{◌≡◌, ◌<◌};
-ghost use Rattle.coverage.specs.Pairs.{controller_number, driver_number};
+ghost use Rattle.std.specs.Prelude.{◌≡◌, ◌<◌, Some};
+ghost use Rattle.coverage.specs.Pairs.{controller_number, controller_words, driver_number, driver_words, pair_text, states_text};
 
 use crate::told::Told;
 use ring_machine::{ControlStep, ControllerState, DriverState, Move, RxStep, TxStep};
+use std::fmt;
 
 /// A kind of move, how far driver and controller are where it is tried, and what it then tells.
 #[derive(Clone, Copy)]
@@ -16,6 +17,65 @@ pub struct Pair {
     pub controller: ControllerState,
     /// What it tells.
     pub told: Told,
+}
+
+/// A pair is printed as `r0 A6 driver On controller serving: none`.
+impl fmt::Display for Pair {
+    ghost output = { λ p. Some (pair_text p) };
+
+    fn fmt<W: fmt::Write>(&self, f: &mut fmt::Formatter<W>) -> fmt::Result {
+        let name = self.action.name();
+        let states = States {
+            driver: self.driver,
+            controller: self.controller,
+        };
+        let told = self.told;
+        write!(f, "{name} {states}: {told}")
+    }
+}
+
+// How far both sides are.
+#[derive(Clone, Copy)]
+struct States {
+    driver: DriverState,
+    controller: ControllerState,
+}
+
+impl fmt::Display for States {
+    ghost output = { λ s. Some (states_text s.driver s.controller) };
+
+    fn fmt<W: fmt::Write>(&self, f: &mut fmt::Formatter<W>) -> fmt::Result {
+        write!(
+            f,
+            "driver {} controller {}",
+            driver_words(self.driver),
+            controller_words(self.controller)
+        )
+    }
+}
+
+fn driver_words(state: DriverState) -> &'static str
+    ensures { result.now ≡ driver_words state }
+{
+    match state {
+        DriverState::New => "New",
+        DriverState::Asked => "Asked",
+        DriverState::On => "On",
+        DriverState::Stopping => "Stopping",
+        DriverState::Stopped => "Stopped",
+        DriverState::Cleared => "Cleared",
+        DriverState::Tailed => "Tailed",
+    }
+}
+
+fn controller_words(state: ControllerState) -> &'static str
+    ensures { result.now ≡ controller_words state }
+{
+    match state {
+        ControllerState::Off => "off",
+        ControllerState::Serving => "serving",
+        ControllerState::Ended => "ended",
+    }
 }
 
 /// How many pairs could be told apart for one side: kinds of moves, states of both sides, kinds of notes.

@@ -6,10 +6,11 @@ ghost use Rattle.coverage.specs.Lists.{beginning};
 use crate::pairs::{PAIRS, Pair};
 use crate::standing::Standing;
 use crate::told::Told;
-use crate::tried::{MOVES_TRIED, Side, moves_tried};
+use crate::tried::{MOVES_TRIED, Scope, moves_tried};
 use ring_machine::{MachineError, Move, Note, Queues};
 use std::alloc::{AllocError, Global};
 use std::collections::HashSet;
+use std::marker::Model;
 
 /// A state that was reached: how the queue stands, from which state and by which move, and after how many moves.
 #[derive(Clone, Copy)]
@@ -28,10 +29,10 @@ pub(crate) struct Found {
     pub at: usize,
 }
 
-/// A search over the states of one queue of 8, from its making on, never enabled.
+/// A search over the states of one queue of 8, from its making on.
 #[derive(Drop)]
 pub struct Search {
-    pub(crate) side: Side,
+    pub(crate) scope: Scope,
     nodes: Vec<Node>,
     reached: HashSet<u64>,
     gone_over: usize,
@@ -40,19 +41,28 @@ pub struct Search {
     found: Vec<Found>,
 }
 
-/// A pair of a receive and a transmit queue of 8 as they are made, never enabled.
-pub(crate) fn queues_of(alloc: Global, side: Side) -> Result<Queues, AllocError>
-    ensures { IfOk result (λ q. QueuesAgree q (beginning side)) }
+// What a search goes over is all that is promised of it.
+impl Model for Search {
+    ghost use Rattle.coverage.specs.declared.tried.Scope.{Scope};
+
+    ghost Value = { Scope };
+
+    ghost view = { λ s. s.scope };
+}
+
+/// A pair of a receive and a transmit queue of 8 as the search begins with them.
+pub(crate) fn queues_of(alloc: Global, scope: Scope) -> Result<Queues, AllocError>
+    ensures { IfOk result (λ q. QueuesAgree q (beginning scope)) }
 {
-    match Queues::new_with(alloc, 1, 8, false, side.completion()) {
+    match Queues::new_with(alloc, 1, 8, scope.device_only, scope.side.completion()) {
         Ok(queues) => Ok(queues),
         Err(_) => Err(AllocError),
     }
 }
 
 // The same, after these moves.
-fn queues_after(alloc: Global, side: Side, moves: &[Move]) -> Result<Queues, AllocError> {
-    let mut queues = queues_of(alloc, side)?;
+fn queues_after(alloc: Global, scope: Scope, moves: &[Move]) -> Result<Queues, AllocError> {
+    let mut queues = queues_of(alloc, scope)?;
     queues.run(moves);
     Ok(queues)
 }
@@ -69,10 +79,12 @@ fn set(flags: &mut Vec<bool>, k: usize) {
 
 impl Search {
     /// A search that has reached the queue as it is made, and gone over nothing yet. It is refused only where memory was.
-    pub fn new(alloc: Global, side: Side) -> Result<Search, AllocError> {
+    pub fn new(alloc: Global, scope: Scope) -> Result<Search, AllocError>
+        ensures { IfOk result (λ search. search ≡ scope) }
+    {
         let mut nodes = Vec::new(alloc);
         let mut reached = HashSet::new(alloc);
-        let standing = Standing::first(side);
+        let standing = Standing::first(scope);
         reached.insert(standing.key())?;
         nodes.push(Node {
             standing,
@@ -82,7 +94,7 @@ impl Search {
             depth: 0,
         })?;
         Ok(Search {
-            side,
+            scope,
             nodes,
             reached,
             gone_over: 0,
@@ -93,8 +105,10 @@ impl Search {
     }
 
     /// Goes over so many more states at most: tries each move in each of them.
-    pub fn go_on(&mut self, alloc: Global, most: usize) -> Result<(), AllocError> {
-        let Some(moves) = moves_tried(self.side) else {
+    pub fn go_on(&mut self, alloc: Global, most: usize) -> Result<(), AllocError>
+        ensures { self.new ≡ self.old }
+    {
+        let Some(moves) = moves_tried(self.scope.side) else {
             return Err(AllocError);
         };
         for _ in 0..most {
@@ -114,17 +128,19 @@ impl Search {
         alloc: Global,
         node: &Node,
         moves: &[Move; MOVES_TRIED],
-    ) -> Result<(), AllocError> {
+    ) -> Result<(), AllocError>
+        ensures { self.new ≡ self.old }
+    {
         let path = self.path_to(alloc, self.gone_over)?;
-        let mut queues = queues_after(alloc, self.side, path.as_slice())?;
+        let mut queues = queues_after(alloc, self.scope, path.as_slice())?;
         for action in moves {
-            if node.standing.is_too_much(*action) {
+            if !self.scope.has(*action) || node.standing.is_too_much(*action) {
                 continue;
             }
             self.steps = self.steps.saturating_add(1);
             let answer = queues.step(*action);
             if self.meet(node, *action, answer)? {
-                queues = queues_after(alloc, self.side, path.as_slice())?;
+                queues = queues_after(alloc, self.scope, path.as_slice())?;
             }
         }
         Ok(())
@@ -136,7 +152,9 @@ impl Search {
         node: &Node,
         action: Move,
         answer: Result<Note, MachineError>,
-    ) -> Result<bool, AllocError> {
+    ) -> Result<bool, AllocError>
+        ensures { self.new ≡ self.old }
+    {
         let pair = Pair {
             action,
             driver: node.standing.driver(),
@@ -154,7 +172,9 @@ impl Search {
     }
 
     // A pair is met in the state that is gone over.
-    fn find(&mut self, pair: &Pair) -> Result<(), AllocError> {
+    fn find(&mut self, pair: &Pair) -> Result<(), AllocError>
+        ensures { self.new ≡ self.old }
+    {
         let at = self.gone_over;
         if let Some(is_met) = self.met.get_mut(pair.number()) {
             if !*is_met {
@@ -166,7 +186,9 @@ impl Search {
     }
 
     // The move of a pair was made in the state that is gone over, and told this.
-    fn reach(&mut self, node: &Node, pair: &Pair, note: Note) -> Result<(), AllocError> {
+    fn reach(&mut self, node: &Node, pair: &Pair, note: Note) -> Result<(), AllocError>
+        ensures { self.new ≡ self.old }
+    {
         let standing = node.standing.after(pair.action, note);
         if self.reached.insert(standing.key())? {
             self.nodes.push(Node {

@@ -2,7 +2,7 @@
 ghost use Rattle.std.specs.Prelude.{◌≡◌};
 
 use crate::pairs::{controller_number, driver_number};
-use crate::tried::Side;
+use crate::tried::{Scope, Side};
 use ring_machine::{
     Completion, ControlStep, Move, Note, RxStep, SegmentDescriptor, SegmentLength, TxStep,
 };
@@ -66,10 +66,10 @@ fn has_bit(bits: u8, place: u8) -> bool {
 }
 
 impl Standing {
-    /// A queue as it is made, never enabled.
-    pub(crate) fn first(side: Side) -> Standing {
+    /// A queue as a search begins with it.
+    pub(crate) fn first(scope: Scope) -> Standing {
         Standing {
-            handshake: Handshake::first(false),
+            handshake: Handshake::first(scope.device_only),
             out: 0,
             tail: 0,
             known: 0,
@@ -83,7 +83,7 @@ impl Standing {
             whole: true,
             owed: false,
             quiet: false,
-            by_head: matches!(side, Side::Transmit(Completion::Head)),
+            by_head: matches!(scope.side, Side::Transmit(Completion::Head)),
         }
     }
 

@@ -1,7 +1,6 @@
 //! The moves that a search tries in each state.
-ghost use Rattle.std.specs.Prelude.{◌≡◌, IfSome};
-ghost use Rattle.coverage.specs.Lists.{completion_of};
-ghost use Rattle.coverage.specs.Tried.{receive_moves, transmit_moves, tried_on};
+ghost use Rattle.std.specs.Prelude.{◌≡◌, All, IfSome, IsTrue};
+ghost use Rattle.coverage.specs.Tried.{InScope, completion_of, is_data, receive_moves, rx_is_data, transmit_moves, tried_on, tx_is_data};
 
 use ring_machine::{
     Completion, ControlStep, Move, QueueNumber, RxStep, SegmentDescriptor, SegmentLength, TxStep,
@@ -18,13 +17,78 @@ pub enum Side {
 
 impl Side {
     /// How the transmit queue reports that stands beside the one that is gone over, or is it.
-    pub(crate) fn completion(self) -> Completion
+    pub fn completion(self) -> Completion
         ensures { result ≡ completion_of self }
     {
         match self {
             Side::Receive => Completion::Status,
             Side::Transmit(completion) => completion,
         }
+    }
+}
+
+/// What a search goes over.
+#[derive(Clone, Copy, PartialEq, Eq)]
+pub struct Scope {
+    /// Which queue.
+    pub side: Side,
+    /// Whether it begins enabled, and only moves are made that a controller of silicon and its driver make too: none of a
+    /// handshake's, of the quiet word, of reclaiming and of renewal. Else it begins never enabled, and all moves are made.
+    pub device_only: bool,
+}
+
+impl Scope {
+    /// Whether a move may be made.
+    pub(crate) fn has(self, action: Move) -> bool {
+        !self.device_only || is_data(action)
+    }
+
+    /// Whether these moves may be made.
+    pub(crate) fn has_all(self, moves: &[Move]) -> bool
+        ensures { IsTrue result → InScope self moves.now }
+    {
+        !self.device_only || moves.iter().all(|action| is_data(*action))
+    }
+}
+
+fn rx_is_data(step: RxStep<SegmentLength>) -> bool
+    ensures { result ≡ rx_is_data step }
+{
+    matches!(
+        step,
+        RxStep::Post(_)
+            | RxStep::Publish
+            | RxStep::Look
+            | RxStep::Fetch
+            | RxStep::Store(_, _)
+            | RxStep::Take
+            | RxStep::Head
+    )
+}
+
+fn tx_is_data(step: TxStep<SegmentDescriptor>) -> bool
+    ensures { result ≡ tx_is_data step }
+{
+    matches!(
+        step,
+        TxStep::Post(_)
+            | TxStep::Publish
+            | TxStep::Look
+            | TxStep::Fetch
+            | TxStep::Send
+            | TxStep::Report
+            | TxStep::LoadReport
+            | TxStep::Clean
+    )
+}
+
+/// Whether a move is one of data: a controller of silicon and its driver make it too.
+pub fn is_data(action: Move) -> bool
+    ensures { result ≡ is_data action }
+{
+    match action {
+        Move::Receive(_, step) => rx_is_data(step),
+        Move::Transmit(_, step) => tx_is_data(step),
     }
 }
 

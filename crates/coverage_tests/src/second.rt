@@ -1,6 +1,6 @@
 //! A second search, written by the table of moves in the documents and without the machine: a queue is the list of what
 //! is out, and its states are gone over depth first.
-use coverage::{Pair, Side, Told, moves_tried};
+use coverage::{Pair, Scope, Side, Told, moves_tried};
 use ring_machine::{
     Completion, ControlStep, ControllerState, DriverState, Move, RxStep, SegmentDescriptor,
     SegmentLength, TxStep,
@@ -51,7 +51,8 @@ struct Queue {
 }
 
 impl Queue {
-    fn new(side: Side) -> Queue {
+    fn new(scope: Scope) -> Queue {
+        let control = if scope.device_only { 2 } else { 0 };
         Queue {
             items: [EMPTY; 7],
             out: 0,
@@ -62,11 +63,19 @@ impl Queue {
             middle: false,
             owed: false,
             quiet: false,
-            by_head: matches!(side, Side::Transmit(Completion::Head)),
-            control: 0,
-            loaded: 0,
-            driver: DriverState::New,
-            controller: ControllerState::Off,
+            by_head: matches!(scope.side, Side::Transmit(Completion::Head)),
+            control,
+            loaded: control,
+            driver: if scope.device_only {
+                DriverState::On
+            } else {
+                DriverState::New
+            },
+            controller: if scope.device_only {
+                ControllerState::Serving
+            } else {
+                ControllerState::Off
+            },
         }
     }
 
@@ -449,13 +458,26 @@ impl Queue {
     }
 }
 
-/// Which pairs are met where these moves are made one after another on a new queue of this side, by their numbers.
+/// Whether no controller of silicon and its driver make this move: a handshake's, of the quiet word, of reclaiming and of
+/// renewal.
+fn is_own(action: Move) -> bool {
+    match action {
+        Move::Receive(_, RxStep::Control(_)) | Move::Transmit(_, TxStep::Control(_)) => true,
+        Move::Receive(_, RxStep::Reclaim | RxStep::StoreQuiet | RxStep::LoadQuiet) => true,
+        Move::Receive(_, RxStep::ClearHead | RxStep::ClearTail | RxStep::ClearQuiet) => true,
+        Move::Transmit(_, TxStep::Reclaim | TxStep::ClearHead) => true,
+        Move::Transmit(_, TxStep::ClearTail | TxStep::ClearReport) => true,
+        Move::Receive(..) | Move::Transmit(..) => false,
+    }
+}
+
+/// Which pairs are met where these moves are made one after another on a new queue of this scope, by their numbers.
 pub fn meet_along(
-    side: Side,
+    scope: Scope,
     moves: &[Move],
     numbers: &mut HashSet<usize>,
 ) -> Result<(), AllocError> {
-    let mut queue = Queue::new(side);
+    let mut queue = Queue::new(scope);
     for action in moves {
         let (told, later) = match queue.answer(*action) {
             Some((told, later)) => (told, later),
@@ -481,9 +503,9 @@ pub struct Second {
     pub states: usize,
 }
 
-/// Goes over all states of a queue of this side.
-pub fn second_search(alloc: Global, side: Side) -> Result<Second, AllocError> {
-    let Some(moves) = moves_tried(side) else {
+/// Goes over all states of a queue of this scope.
+pub fn second_search(alloc: Global, scope: Scope) -> Result<Second, AllocError> {
+    let Some(moves) = moves_tried(scope.side) else {
         return Err(AllocError);
     };
     let mut second = Second {
@@ -493,7 +515,7 @@ pub fn second_search(alloc: Global, side: Side) -> Result<Second, AllocError> {
     let mut numbers = HashSet::new(alloc);
     let mut reached = HashSet::new(alloc);
     let mut open = Vec::new(alloc);
-    let first = Queue::new(side);
+    let first = Queue::new(scope);
     reached.insert(first.key())?;
     open.push(first)?;
     for _ in 0..10_000_000 {
@@ -502,7 +524,7 @@ pub fn second_search(alloc: Global, side: Side) -> Result<Second, AllocError> {
         };
         second.states = second.states.saturating_add(1);
         for action in &moves {
-            if queue.is_too_much(*action) {
+            if queue.is_too_much(*action) || (scope.device_only && is_own(*action)) {
                 continue;
             }
             let (told, later) = match queue.answer(*action) {

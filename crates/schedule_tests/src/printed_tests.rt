@@ -1,12 +1,11 @@
 //! What is printed of lists.
 
+use crate::narrow::Narrow;
 use commands::{QueuePlan, replay_text};
 use ring_machine::Completion;
 use schedule_command::{ScheduleRequest, answer};
 use schedules::SchedulePlan;
 use std::alloc::Global;
-use std::io;
-use std::io::{ErrorKind, Write};
 use std::process::Abort;
 use std::test::Fail;
 
@@ -37,29 +36,6 @@ const QUEUES: QueuePlan = QueuePlan {
     completion: Completion::Status,
     json: false,
 };
-
-/// An output that takes so many bytes, and then fails.
-#[derive(Drop)]
-struct Narrow {
-    room: usize,
-    taken: Vec<u8>,
-}
-
-impl Write for Narrow {
-    fn write(&mut self, buf: &[u8]) -> io::Result<usize> {
-        let count = self.room.min(buf.len());
-        if count == 0 && !buf.is_empty() {
-            return Err(io::Error::from(ErrorKind::BrokenPipe));
-        }
-        self.taken.extend_from_slice(&buf[..count])?;
-        self.room -= count;
-        Ok(count)
-    }
-
-    fn flush(&mut self) -> io::Result<()> {
-        Ok(())
-    }
-}
 
 /// What is printed, for a request that is done.
 fn printed<A: Abort>(rt: &A, alloc: Global, request: &ScheduleRequest) -> Result<String, Fail> {

@@ -1,0 +1,91 @@
+//! What a request does to the streams, and the status that it ends with.
+ghost use Rattle.std.specs.Prelude.{◌≡◌, ◌⊎◌, IfErr, OnOk, All};
+ghost use Rattle.commands.specs.declared.answering.TheConstants.{DONE, REFUSED};
+ghost use Rattle.coverage.specs.Lists.{Meets};
+ghost use Rattle.cover_command.specs.Covers.{Prints, PrintsCover, PrintsLists, Refuses, RefusesCover};
+
+use crate::listing::list_of;
+use crate::request::CoverRequest;
+use crate::searching::search_of;
+use commands::{DONE, Refusal, print, refuse};
+use coverage::{CoverList, Scope, Side};
+use std::alloc::Global;
+use std::io::Write;
+
+/// Does what is asked for, and answers an exit status. The lists go to `output`, with status 0. How far it is goes to
+/// `faults`, a line after each 1,000 states. A refusal goes there as one line, with status 1, as the other commands' do.
+pub fn answer<W: Write, E: Write>(
+    alloc: Global,
+    request: &CoverRequest,
+    output: &mut W,
+    faults: &mut E,
+) -> u8
+    ensures status { (result ≡ DONE) ⊎ (result ≡ REFUSED) }
+    ensures prints { result ≡ DONE → PrintsCover request.now (W.contents output.old) (W.contents output.new) }
+{
+    match perform(alloc, request, output, faults) {
+        Ok(()) => DONE,
+        Err(refusal) => refuse(faults, refusal),
+    }
+}
+
+/// Goes over the states of a receive queue and then of a transmit queue, and prints the lists of each as soon as all its
+/// states are gone over. How far it is goes to `shown`, a line after each 1,000 states.
+///
+/// It answers `Memory` where memory was refused, and `Output` where a list could not be printed. Lists before that one were
+/// printed.
+pub fn perform<W: Write, E: Write>(
+    alloc: Global,
+    request: &CoverRequest,
+    output: &mut W,
+    shown: &mut E,
+) -> Result<(), Refusal>
+    ensures done { OnOk result (PrintsCover request.now (W.contents output.old) (W.contents output.new)) }
+    ensures refused { IfErr result (RefusesCover request.now) }
+{
+    let receive = Scope {
+        side: Side::Receive,
+        device_only: request.device_only,
+    };
+    let transmit = Scope {
+        side: Side::Transmit(request.completion),
+        device_only: request.device_only,
+    };
+    cover(alloc, receive, request.expect, output, shown)?;
+    cover(alloc, transmit, request.expect, output, shown)
+}
+
+// Prints the lists of a queue.
+fn cover<W: Write, E: Write>(
+    alloc: Global,
+    scope: Scope,
+    expect: bool,
+    output: &mut W,
+    shown: &mut E,
+) -> Result<(), Refusal>
+    ensures done { OnOk result (Prints scope expect (W.contents output.old) (W.contents output.new)) }
+    ensures refused { IfErr result (Refuses scope) }
+{
+    let search = search_of(alloc, scope, shown)?;
+    let lists = search.lists(alloc)?;
+    print_lists(alloc, scope, expect, lists.as_slice(), output)
+}
+
+// Prints these lists, one behind another.
+fn print_lists<W: Write>(
+    alloc: Global,
+    scope: Scope,
+    expect: bool,
+    lists: &[CoverList],
+    output: &mut W,
+) -> Result<(), Refusal>
+    requires { All (Meets scope) lists.now }
+    ensures done { OnOk result (PrintsLists scope expect lists.now (W.contents output.old) (W.contents output.new)) }
+    ensures refused { IfErr result (Refuses scope) }
+{
+    for list in lists {
+        let text = list_of(alloc, scope, expect, list)?;
+        print(text.as_str(), output)?;
+    }
+    Ok(())
+}

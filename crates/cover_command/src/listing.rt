@@ -1,0 +1,61 @@
+//! The text of one list.
+ghost use Rattle.std.specs.Prelude.{◌≡◌, ◌++◌, IfErr, IfOk, OnOk};
+ghost use Rattle.std.specs.String.{string_bytes};
+ghost use Rattle.cover_command.specs.Covers.{IsText, NotPrinted, list_text, move_lines, queues_of};
+
+use commands::{QueuePlan, Refusal, replay_text};
+use coverage::{CoverList, Scope};
+use ring_machine::Move;
+use std::alloc::{AllocError, Global};
+
+// The queues that a list begins with.
+fn queues_of(scope: Scope) -> QueuePlan
+    ensures { result ≡ queues_of scope }
+{
+    QueuePlan {
+        pairs: 1,
+        ring: 8,
+        enabled: scope.device_only,
+        completion: scope.side.completion(),
+        json: false,
+    }
+}
+
+// Writes moves, one a line.
+fn write_moves(text: &mut String, moves: &[Move]) -> Result<(), AllocError>
+    ensures { OnOk result (string_bytes text.new ≡ string_bytes text.old ++ move_lines moves.now) }
+{
+    for action in moves {
+        writeln!(text, "{action}")?;
+    }
+    Ok(())
+}
+
+// A list's pair as a comment, its moves, and a line that ends it.
+fn text_of(alloc: Global, list: &CoverList) -> Result<String, AllocError>
+    ensures { IfOk result (λ text. string_bytes text ≡ list_text list.now) }
+{
+    let mut text = String::new(alloc);
+    writeln!(text, "# {}", list.pair)?;
+    write_moves(&mut text, list.moves.as_slice())?;
+    text.push_str("# end\n")?;
+    Ok(text)
+}
+
+/// A list as it is printed.
+pub(crate) fn list_of(
+    alloc: Global,
+    scope: Scope,
+    expect: bool,
+    list: &CoverList,
+) -> Result<String, Refusal>
+    ensures done { IfOk result (λ text. IsText scope expect list.now (string_bytes text)) }
+    ensures refused { IfErr result (NotPrinted scope list.now) }
+{
+    let mut text = text_of(alloc, list)?;
+    if expect {
+        let expected = replay_text(alloc, queues_of(scope), &mut text.as_bytes())?;
+        text.push_str(expected.as_str())?;
+    }
+    Ok(text)
+}

@@ -1,0 +1,44 @@
+//! A search that is gone on with until it is whole, and how far it is meanwhile.
+ghost use Rattle.std.specs.Prelude.{◌≡◌, IfOk};
+
+use coverage::{Scope, Search, Side};
+use std::alloc::{AllocError, Global};
+use std::io::Write;
+
+/// After how many states it is told how far a search is.
+const STATES_A_LINE: usize = 1000;
+
+// Tells how far a search is, on a line of its own. A stream that fails changes nothing.
+fn tell<E: Write>(search: &Search, side: Side, shown: &mut E) {
+    let queue = match side {
+        Side::Receive => "r0",
+        Side::Transmit(_) => "t0",
+    };
+    let _ = writeln!(
+        shown,
+        "{queue} states {} of {} steps {} pairs {}",
+        search.gone_over(),
+        search.states(),
+        search.steps(),
+        search.pairs()
+    );
+}
+
+/// A whole search: no state that it reached was not gone over. How far it is goes to `shown`.
+pub(crate) fn search_of<E: Write>(
+    alloc: Global,
+    scope: Scope,
+    shown: &mut E,
+) -> Result<Search, AllocError>
+    ensures { IfOk result (λ search. search ≡ scope) }
+{
+    let mut search = Search::new(alloc, scope)?;
+    for _ in 0..u64::MAX {
+        if search.is_whole() {
+            break;
+        }
+        search.go_on(alloc, STATES_A_LINE)?;
+        tell(&search, scope.side, shown);
+    }
+    Ok(search)
+}
