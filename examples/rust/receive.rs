@@ -11,6 +11,8 @@ struct Call {
     answer: u32,
     len: u32,
     eop: u32,
+    rs: u32,
+    paylen: u32,
 }
 
 /// An end, which is never copied, and in one call at a time.
@@ -35,9 +37,9 @@ fn drive(driver: &mut End, operation: u32, room: &mut [u8]) -> Call {
     call
 }
 
-/// A controller's step, with a frame.
+/// A controller's step, with a frame of one segment.
 fn serve(controller: &mut End, operation: u32, frame: &[u8]) -> u32 {
-    let mut call = Call { operation, ..Call::default() };
+    let mut call = Call { operation, eop: 1, ..Call::default() };
     // SAFETY: the end was filled by `poll82599_rx_new`, and this thread alone has it.
     unsafe { poll82599_rx_serve(controller, &mut call, frame.as_ptr(), frame.len()) };
     call.answer

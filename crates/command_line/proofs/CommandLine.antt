@@ -1,6 +1,6 @@
 -- What clap makes of the program's words: the program as a whole, and words that are no command line.
 use Rattle.std.proofs.Common.{◌≡◌, ◌≢◌, ◌∙◌, ap, ap₂, sym, subst, refl, inl, inr, arith, ℕ, pos, Bool, true, false, List, [], ◌∷◌, ◌==◌, codes, map, drop, slice_index, slice_index_or, Option, Some, None, option_map, unwrap_or}
-use Rattle.std.specs.Prelude.{◌⊎◌, ◌<◌, ◌^◌, ◌||◌, if◌then◌else◌, All, cond, decimal, neg_ℤ, Result, Ok, Err}
+use Rattle.std.specs.Prelude.{◌⊎◌, ◌<◌, ◌≤◌, ◌^◌, ◌||◌, if◌then◌else◌, All, cond, decimal, neg_ℤ, Result, Ok, Err}
 use Rattle.std.specs.Borrow.{Bor}
 use Rattle.std.specs.Option.{option_map_or}
 use Rattle.std.specs.Str.{bytes_eq}
@@ -91,12 +91,17 @@ plain_passes s word h plain =
     ∙ (ap (λ o. flag_word_passes s.rules s.args_override_self o word h) plain.no_long
     ∙ ap (λ o. option_map_or (λ flags. bundle_passes s.rules s.args_override_self flags h) o true) plain.no_short)
 
+-- no option that isn't global makes the command have one
+pub or_false : (b x : Bool) → x ≡ false → (b || x) ≡ b
+or_false true x is = refl
+or_false false x is = is
+
 -- ---- numbers and flags
 
--- a text that clap takes for a number
-pub record IsNumber (word : Text) : Type 0 where
+-- a text that clap takes for a number up to this one
+pub record IsNumber (most : ℕ) (word : Text) : Type 0 where
   pub plain : IsPlain word
-  pub accepted : accepts false (Signed (pos 0) (pos 4294967295)) word ≡ true
+  pub accepted : accepts false (Signed (pos 0) (pos most)) word ≡ true
 
 -- a numeral has no sign
 numeral_unsigned : (ds : List ℕ) → (slice_index ds 0 == 45) ≡ false → (slice_index ds 0 == 43) ≡ false → without_leading_sign ds ≡ ds
@@ -130,20 +135,20 @@ numeral_of n fits =
       no_plus = ne_eqb _ _ (λ e. omega (arith, first));
     }
 
-numeral_accepted : (ds : List ℕ) (n : ℕ) → n < 2 ^ 32 → IsNumeralOf ds n → Accepts false (Signed (pos 0) (pos 4294967295)) ds
-numeral_accepted ds n fits is =
+numeral_accepted : (most : ℕ) (ds : List ℕ) (n : ℕ) → n ≤ most → n < 2 ^ 32 → IsNumeralOf ds n → Accepts false (Signed (pos 0) (pos most)) ds
+numeral_accepted most ds n low fits is =
     let value : signed_digits_value 10 ds ≡ pos n = numeral_value ds is.no_minus is.no_plus ∙ ap pos is.value in
-    rw (value, numeral_unsigned ds is.no_minus is.no_plus) (is.numeral, record { sfits = omega arith }, omega (arith, ints), omega (arith, ints))
+    rw (value, numeral_unsigned ds is.no_minus is.no_plus) (is.numeral, record { sfits = omega (arith, fits) }, omega (arith, ints), omega (arith, ints, low))
 
 not_45 : (ds : List ℕ) → (slice_index ds 0 == 45) ≡ false → slice_index ds 0 ≢ 45
 not_45 ds minus e = let bad : (slice_index ds 0 == 45) ≡ true = eq-eqb _ _ e in cc
 
-pub is_number : (n : ℕ) → n < 2 ^ 32 → IsNumber (decimal n)
-is_number n fits =
+pub is_number : (most n : ℕ) → n ≤ most → n < 2 ^ 32 → IsNumber most (decimal n)
+is_number most n low fits =
     let is = numeral_of n fits in
     record {
       plain = is_plain (decimal n) (not_45 (decimal n) is.no_minus);
-      accepted = Accepts-accepts false (Signed (pos 0) (pos 4294967295)) (decimal n) (numeral_accepted (decimal n) n fits is);
+      accepted = Accepts-accepts false (Signed (pos 0) (pos most)) (decimal n) (numeral_accepted most (decimal n) n low fits is);
     }
 
 reads_by : {E : Type 0} (G : List ℕ → Result ℕ E → Type 0) (n : ℕ) (r : Option ℕ) → n < 2 ^ 32
@@ -159,6 +164,12 @@ pub reads_number : (n : ℕ) (r : Option ℕ) → n < 2 ^ 32
     → ReadsOne (λ bs x. ParsesUnsigned 32 10 bs x × ExplainsUnsignedError 10 bs x × HasUnsignedDigitsIfOk bs x) (decimal n) r → r ≡ Some n
 reads_number n r fits reads =
     reads_by (λ bs x. ParsesUnsigned 32 10 bs x × ExplainsUnsignedError 10 bs x × HasUnsignedDigitsIfOk bs x) n r fits (λ u x g. g.0) reads
+
+-- the number of an option, and that it has one
+pub number_is : (found : Found) (id : Text) (n : ℕ) (r : Option ℕ) → one_of id (rows_of found) ≡ Some (decimal n) → n < 2 ^ 32
+    → ((text : Text) → one_text found id ≡ Some text
+    → ReadsOne (λ bs x. ParsesUnsigned 32 10 bs x × ExplainsUnsignedError 10 bs x × HasUnsignedDigitsIfOk bs x) text r) → r ≡ Some n
+number_is found id n r is fits reads = reads_number n r fits (reads (decimal n) (text_is found id (decimal n) is))
 
 -- and what `get_flag` does of a flag
 pub reads_flag : (b read : Bool) (o : Option Text) → (o ≡ Some (codes "true") → read ≡ true) → (o ≡ Some (codes "false") → read ≡ false)

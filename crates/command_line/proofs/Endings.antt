@@ -22,8 +22,11 @@ use Rattle.port_files.specs.Words.{SourceFile}
 use Rattle.command_line.specs.CaptureWords.{SaysFromCapture, SaysToCapture}
 use Rattle.command_line.specs.FileWords.{FileOptions}
 use Rattle.command_line.specs.Forwarding.{EndsForwarding}
-use Rattle.command_line.specs.CommandLine.{IsCapture, IsDecode, IsForward, IsMisuse, IsOnce, IsReplayOf, IsRequest, IsUnshown, SaysDecode, SaysForward, SaysOnce, SaysReplay}
-use Rattle.command_line.specs.CommandLine.IsUnshown.{is_misuse, asks_once, asks_decode, asks_replay, asks_forward, asks_from_capture, asks_to_capture}
+use Rattle.schedule_command.specs.Lists.{EndsSchedules}
+use Rattle.schedule_command.specs.declared.request.ScheduleRequest.{ScheduleRequest}
+use Rattle.command_line.specs.ScheduleWords.{SaysSchedules}
+use Rattle.command_line.specs.CommandLine.{IsCapture, IsDecode, IsSchedules, IsForward, IsMisuse, IsOnce, IsReplayOf, IsRequest, IsUnshown, SaysDecode, SaysForward, SaysOnce, SaysReplay}
+use Rattle.command_line.specs.CommandLine.IsUnshown.{is_misuse, asks_once, asks_decode, asks_replay, asks_forward, asks_from_capture, asks_to_capture, asks_schedules}
 use Rattle.command_line.specs.declared.command.Asked.{Asked}
 use Rattle.command_line.specs.declared.command.Asked.TheVariants as asked
 
@@ -109,6 +112,18 @@ pub forward-of : (config : Config) (printing : Printing) (held sources : List So
     → EndsForwarding config printing held input status old new → EndsForwarding config printing sources input status old new
 forward-of config printing held sources input status old new same ends = subst (λ (ss : List SourceFile). EndsForwarding config printing ss input status old new) same ends
 
+-- of lists, the same
+pub schedules-ends : (given request : ScheduleRequest) (status : ℕ) (old new : Option (List ℕ)) → given ≡ request → EndsSchedules given status old new
+    → EndsSchedules request status old new
+schedules-ends given request status old new is ends = subst (λ (r : ScheduleRequest). EndsSchedules r status old new) is ends
+
+pub schedules-kept : (request : ScheduleRequest) (old new : Option (List ℕ)) → Keeps old new → EndsSchedules request REFUSED old new
+schedules-kept request old new keeps = record {
+  done = λ e. let bad : ⊥ = cc e in absurd bad;
+  either = inr refl;
+  no_queues = λ off some. (refl, keeps);
+}
+
 -- words of which nothing is shown ask for no forwarding, or for one that isn't shown
 pub unshown-forward : (words : List (List ℕ)) (a : Asked) (given : Config) (shown : Printing) → a ≡ asked.Forward given shown
     → ((digits : List ℕ) → SaysOnce words digits → IsRequest (λ r. IsOnce r digits) a)
@@ -117,17 +132,20 @@ pub unshown-forward : (words : List (List ℕ)) (a : Asked) (given : Config) (sh
     → ((config : Config) (printing : Printing) (files : FileOptions) → SaysForward words config printing files → IsForward a config printing)
     → ((port queue : ℕ) → SaysFromCapture words port queue → IsCapture a (FromCapture port queue))
     → ((port : ℕ) → SaysToCapture words port → IsCapture a (ToCapture port))
+    → ((request : ScheduleRequest) → SaysSchedules words request → IsSchedules a request)
     → (IsMisuse words → ⊥) → IsUnshown words → shown.progress ≡ false
-unshown-forward words a given shown is once decode replay forward from to misuse (is_misuse wrong) = absurd (misuse wrong)
-unshown-forward words a given shown is once decode replay forward from to misuse (asks_once digits says) =
+unshown-forward words a given shown is once decode replay forward from to lists misuse (is_misuse wrong) = absurd (misuse wrong)
+unshown-forward words a given shown is once decode replay forward from to lists misuse (asks_once digits says) =
     absurd (no-request (λ (r : Request). IsOnce r digits) a given shown is (once digits says))
-unshown-forward words a given shown is once decode replay forward from to misuse (asks_decode form digits says) =
+unshown-forward words a given shown is once decode replay forward from to lists misuse (asks_decode form digits says) =
     absurd (no-request (λ (r : Request). IsDecode r form digits) a given shown is (decode form digits says))
-unshown-forward words a given shown is once decode replay forward from to misuse (asks_replay plan says) =
+unshown-forward words a given shown is once decode replay forward from to lists misuse (asks_replay plan says) =
     absurd (no-request (λ (r : Request). IsReplayOf r plan) a given shown is (replay plan says))
-unshown-forward words a given shown is once decode replay forward from to misuse (asks_forward config printing files says dark) =
+unshown-forward words a given shown is once decode replay forward from to lists misuse (asks_forward config printing files says dark) =
     ap (λ (p : Printing). p.progress) (as-forward a given config shown printing is (forward config printing files says)).1 ∙ dark
-unshown-forward words a given shown is once decode replay forward from to misuse (asks_from_capture port queue says) =
+unshown-forward words a given shown is once decode replay forward from to lists misuse (asks_from_capture port queue says) =
     absurd (no-capture-of-forward a given shown (FromCapture port queue) is (from port queue says))
-unshown-forward words a given shown is once decode replay forward from to misuse (asks_to_capture port says) =
+unshown-forward words a given shown is once decode replay forward from to lists misuse (asks_to_capture port says) =
     absurd (no-capture-of-forward a given shown (ToCapture port) is (to port says))
+unshown-forward words a given shown is once decode replay forward from to lists misuse (asks_schedules request says) =
+    absurd (subst (λ (b : Asked). IsSchedules b request) is (lists request says))

@@ -1,10 +1,12 @@
 pub mod CommandLine
 pub mod DecodeWords
 pub mod OnceWords
+mod OptionRows
+mod Options
+mod OptionLists
 pub mod ReplayWords
 mod SaidWords
-mod OptionRows
-mod ForwardOptions
 pub mod ForwardWords
+pub mod ScheduleWords
 pub mod CaptureWords
 pub mod Endings

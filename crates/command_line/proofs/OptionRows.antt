@@ -1,11 +1,12 @@
 -- What options that each may stand once leave in the rows of a parse: one row for each that stands, in their order, and at
 -- last a default for each that does not. It knows no command.
-use Rattle.std.proofs.Common.{◌≡◌, ◌∙◌, ap, sym, refl, Bool, true, false, List, [], ◌∷◌, ◌++◌, Option, Some, None}
+use Rattle.std.proofs.Common.{◌≡◌, ◌∙◌, ap, sym, subst, refl, arith, Bool, true, false, not, ◌&&◌, List, [], ◌∷◌, ◌++◌, ◌==◌, length, Option, Some, None, unwrap_or}
 use Rattle.std.specs.Prelude.{◌||◌, if◌then◌else◌, find, fold}
-use Rattle.std.specs.List.{list_any}
+use Rattle.std.specs.List.{list_all, list_any}
 use Rattle.std.specs.Str.{bytes_eq}
+use Rattle.std.proofs.lemmas.Bool.{ne_eqb}
 use Rattle.std.proofs.lemmas.List.{append_assoc, append-nil}
-use Rattle.clap.specs.Walk.{default_rows, has_row, more_values, reading_by, with_default, with_values, without, at_row}
+use Rattle.clap.specs.Walk.{arg_by_id, default_rows, has_row, is_empty, more_values, reading_by, with_default, with_values, without, at_row}
 use Rattle.clap.specs.Words.{Row, Rule, Text}
 use Rattle.clap.specs.declared.builder.value_parser.Reading.{Reading}
 use Rattle.clap.specs.declared.parser.matches.ValueSource.{ValueSource}
@@ -24,6 +25,15 @@ or-right false b is = is
 both-false : (a b : Bool) → a ≡ false → b ≡ false → (a || b) ≡ false
 both-false true b is other = cc is
 both-false false b is other = other
+
+-- and both sides of a conjunction
+pub and-left : (a b : Bool) → (a && b) ≡ true → a ≡ true
+and-left true b is = refl
+and-left false b is = cc is
+
+pub and-right : (a b : Bool) → (a && b) ≡ true → b ≡ true
+and-right true b is = is
+and-right false b is = cc is
 
 -- ---- rows
 
@@ -190,13 +200,6 @@ skips id a rows absent other = by-has (has_row a.id rows) refl
     by-has true seen = absent
     by-has false unseen = by-defaults a.defaults unseen
 
-all-skip : (id : Text) (rules : List Rule) (rows : List Row) → has_row id rows ≡ false → list_any (λ a. bytes_eq a.id id) rules ≡ false
-    → has_row id (fold with_default rows rules) ≡ false
-all-skip id [] rows absent none = absent
-all-skip id (a ∷ rules) rows absent none =
-    let others = list_any (λ (b : Rule). bytes_eq b.id id) rules in
-    all-skip id rules (with_default rows a) (skips id a rows absent (or-left (bytes_eq a.id id) others none)) (or-right (bytes_eq a.id id) others none)
-
 default-given : (a : Rule) (rows : List Row) (v : Text) (vs : List Text) → has_row a.id rows ≡ false → a.defaults ≡ v ∷ vs → bytes_eq a.id a.id ≡ true
     → found a.id (with_default rows a) ≡ Some (row a.id (reading_by a) DefaultValue (v ∷ vs))
 default-given a rows v vs absent defaults same =
@@ -207,12 +210,20 @@ default-given a rows v vs absent defaults same =
     ∙ ap (λ b. if b then Some (row a.id (reading_by a) DefaultValue (v ∷ vs)) else None) same)))
 
 -- an option that does not stand has its default at last
-pub default-found : (before : List Rule) (a : Rule) (after : List Rule) (rows : List Row) (v : Text) (vs : List Text) → has_row a.id rows ≡ false
-    → list_any (λ b. bytes_eq b.id a.id) before ≡ false → a.defaults ≡ v ∷ vs → bytes_eq a.id a.id ≡ true
-    → found a.id (fold with_default (with_default (fold with_default rows before) a) after) ≡ Some (row a.id (reading_by a) DefaultValue (v ∷ vs))
-default-found before a after rows v vs absent none defaults same =
-    all-keep a.id after (with_default (fold with_default rows before) a) (row a.id (reading_by a) DefaultValue (v ∷ vs))
-    (default-given a (fold with_default rows before) v vs (all-skip a.id before rows absent none) defaults same)
+pub default-found : (rules : List Rule) (a : Rule) (rows : List Row) (v : Text) (vs : List Text) → has_row a.id rows ≡ false → arg_by_id rules a.id ≡ Some a
+    → a.defaults ≡ v ∷ vs → bytes_eq a.id a.id ≡ true → found a.id (fold with_default rows rules) ≡ Some (row a.id (reading_by a) DefaultValue (v ∷ vs))
+default-found [] a rows v vs absent is defaults same = cc is
+default-found (b ∷ rules) a rows v vs absent is defaults same =
+    by-first (bytes_eq b.id a.id) refl is (λ other later. default-found rules a (with_default rows b) v vs (skips a.id b rows absent other) later defaults same)
+  where
+    by-first : (t : Bool) → bytes_eq b.id a.id ≡ t → (if t then Some b else arg_by_id rules a.id) ≡ Some a
+        → (bytes_eq b.id a.id ≡ false → arg_by_id rules a.id ≡ Some a → found a.id (fold with_default (with_default rows b) rules) ≡ Some (row a.id (reading_by a) DefaultValue (v ∷ vs)))
+        → found a.id (fold with_default (with_default rows b) rules) ≡ Some (row a.id (reading_by a) DefaultValue (v ∷ vs))
+    by-first true here first later =
+        let one : a ≡ b = sym (ap (λ (o : Option Rule). unwrap_or o a) first) in
+        subst (λ (r : Rule). found a.id (fold with_default (with_default rows r) rules) ≡ Some (row a.id (reading_by a) DefaultValue (v ∷ vs))) one
+        (all-keep a.id rules (with_default rows a) (row a.id (reading_by a) DefaultValue (v ∷ vs)) (default-given a rows v vs absent defaults same))
+    by-first false other first later = later other first
 
 -- ---- an option without a default
 
@@ -231,10 +242,21 @@ found-none id (r ∷ rs) absent = by-first (bytes_eq r.id id) (or-left (bytes_eq
     by-first true other later = cc other
     by-first false other later = later
 
+no-values : (vs : List Text) → is_empty vs ≡ true → vs ≡ []
+no-values [] none = refl
+no-values (v ∷ vs) none =
+    let some : (length (v ∷ vs) == 0) ≡ false = ne_eqb _ _ (λ e. omega (arith, e)) in
+    let bad : true ≡ false = sym none ∙ some in cc bad
+
 -- one that does not stand has no row at last
-pub never-found : (before : List Rule) (a : Rule) (after : List Rule) (rows : List Row) (id : Text) → has_row id rows ≡ false
-    → list_any (λ b. bytes_eq b.id id) before ≡ false → a.defaults ≡ [] → list_any (λ b. bytes_eq b.id id) after ≡ false
-    → found id (fold with_default (with_default (fold with_default rows before) a) after) ≡ None
-never-found before a after rows id absent first none behind =
-    found-none id (fold with_default (with_default (fold with_default rows before) a) after)
-    (all-skip id after (with_default (fold with_default rows before) a) (no-default id a (fold with_default rows before) none (all-skip id before rows absent first)) behind)
+pub never-found : (rules : List Rule) (rows : List Row) (id : Text) → has_row id rows ≡ false
+    → list_all (λ a. not (bytes_eq a.id id) || is_empty a.defaults) rules ≡ true → found id (fold with_default rows rules) ≡ None
+never-found [] rows id absent none = found-none id rows absent
+never-found (a ∷ rules) rows id absent none =
+    let others = list_all (λ (b : Rule). not (bytes_eq b.id id) || is_empty b.defaults) rules in
+    never-found rules (with_default rows a) id (by-first (bytes_eq a.id id) refl (and-left (not (bytes_eq a.id id) || is_empty a.defaults) others none))
+    (and-right (not (bytes_eq a.id id) || is_empty a.defaults) others none)
+  where
+    by-first : (t : Bool) → bytes_eq a.id id ≡ t → (not t || is_empty a.defaults) ≡ true → has_row id (with_default rows a) ≡ false
+    by-first true here empty = no-default id a rows (no-values a.defaults empty) absent
+    by-first false other empty = skips id a rows absent other

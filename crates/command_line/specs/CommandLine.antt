@@ -1,23 +1,23 @@
 -- The program's command line, as clap reads it.
-use Rattle.std.specs.Prelude.{◌≡◌, ◌≢◌, ◌⊎◌, ℕ, ◌^◌, ◌<◌, Bool, true, false, not, if◌then◌else◌, pos, List, [], ◌∷◌, ◌++◌, codes, decimal, map, slice_index, Some, All}
+use Rattle.std.specs.Prelude.{◌≡◌, ◌≢◌, ℕ, ◌^◌, ◌<◌, true, false, not, List, [], ◌∷◌, ◌++◌, codes, decimal, map, slice_index, Some, All}
 use Rattle.std.specs.Borrow.{Bor}
 use Rattle.clap.specs.Words.{App, Kinds, Row, Rule, Text, fault_of, first_of, new_app, new_rule, one_of, with_rule, with_subcommand}
 use Rattle.clap.specs.Values.{bool_text}
-use Rattle.clap.specs.declared.builder.action.ArgAction.TheVariants.{SetTrue}
-use Rattle.clap.specs.declared.builder.value_parser.ValueParser.TheVariants.{Names, Signed}
+use Rattle.clap.specs.declared.builder.value_parser.ValueParser.TheVariants.{Names}
 use Rattle.clap.specs.declared.error.kind.ErrorKind.{ErrorKind}
 use Rattle.clap.specs.declared.error.kind.ErrorKind.TheVariants.{DisplayHelp, DisplayVersion, OutOfMemory}
 use Rattle.commands.specs.declared.request.Request.{Request}
 use Rattle.commands.specs.declared.request.Request.TheVariants.{Once, Decode, Replay}
 use Rattle.commands.specs.declared.decode.Form.{Form}
 use Rattle.commands.specs.declared.replay.QueuePlan.{QueuePlan}
-use Rattle.ring_model.specs.declared.states.Completion.{Completion}
-use Rattle.ring_model.specs.declared.states.Completion.TheVariants.{Head, Status}
 use Rattle.commands.specs.Decoding.{ring_word, format_word}
 use Rattle.forwarder.specs.declared.config.Config.{Config}
 use Rattle.forward_command.specs.declared.printing.Printing.{Printing}
 use Rattle.capture_command.specs.Requests.{IsPlaced}
 use Rattle.capture_command.specs.declared.request.CaptureRequest.{CaptureRequest}
+use Rattle.command_line.specs.OptionWords.{SaysNumber, flag_rule, flag_words, is_head, number_rule}
+use Rattle.command_line.specs.ScheduleWords.{SaysSchedules, schedules_app}
+use Rattle.schedule_command.specs.declared.request.ScheduleRequest.{ScheduleRequest}
 use Rattle.command_line.specs.FileWords.{AreFiles, FileOptions, with_file_rules, words_of_files}
 use Rattle.command_line.specs.CaptureWords.{SaysFromCapture, SaysToCapture, from_capture_app, to_capture_app}
 use Rattle.command_line.specs.declared.command.Asked.{Asked}
@@ -48,14 +48,6 @@ abbrev pub decode_app : Choices → Choices → App
 decode_app rings formats =
     let with_ring = with_rule (new_app (codes "decode")) (choice_rule (codes "ring") rings) in
     with_rule (with_rule with_ring (choice_rule (codes "format") formats)) hex_rule
-
--- an option with a number of `u32`, which has this one where it is left out
-abbrev pub number_rule : Text → Text → Rule
-number_rule id default = record (new_rule id) { long = Some id; value_names = 1; parser = Some (Signed (pos 0) (pos 4294967295)); defaults = default ∷ [] }
-
--- an option without a value
-abbrev pub flag_rule : Text → Rule
-flag_rule id = record (new_rule id) { long = Some id; action = Some SetTrue }
 
 -- the command `replay`
 abbrev pub replay_app : App
@@ -96,7 +88,8 @@ program_app rings formats =
     let with_once = with_subcommand bare_app once_app.top in
     let with_decode = with_subcommand with_once (decode_app rings formats).top in
     let with_forward = with_subcommand (with_subcommand with_decode replay_app.top) forward_app.top in
-    with_subcommand (with_subcommand with_forward from_capture_app.top) to_capture_app.top
+    let with_captures = with_subcommand (with_subcommand with_forward from_capture_app.top) to_capture_app.top in
+    with_subcommand with_captures schedules_app.top
 
 -- the command line is this one. clap keeps a list of choices by its address too, which is any
 pub record HasChoices (with_choices : Choices → Choices → App) (app : App) : Type 0 where
@@ -121,22 +114,6 @@ pub record SaysOnce (words : List Text) (digits : Text) : Type 0 where
 pub record SaysDecode (words : List Text) (form : Form) (digits : Text) : Type 0 where
   pub words_are : words ≡ codes "decode" ∷ ring_word form ∷ format_word form ∷ digits ∷ []
   pub no_option : slice_index digits 0 ≢ 45
-
--- an option stands with a number, or is left out where the number is its default
-abbrev pub SaysNumber : Text → ℕ → List Text → ℕ → Type 0
-SaysNumber option default words n = ((words ≡ option ∷ decimal n ∷ []) × (n < 2 ^ 32)) ⊎ ((words ≡ []) × (n ≡ default))
-
--- an option without a value stands, or does not
-abbrev pub flag_words : Text → Bool → List Text
-flag_words option stands = if stands then option ∷ [] else []
-
-abbrev pub is_head : Completion → Bool
-is_head Head = true
-is_head Status = false
-
-abbrev pub completion_of : Bool → Completion
-completion_of true = Head
-completion_of false = Status
 
 -- the words are `replay` and its options in this order: `--off` stands where the queues begin disabled, `--head` where
 -- they report by a head word, and `--json` where objects are printed
@@ -236,24 +213,35 @@ abbrev pub IsRequest : (Request → Type 0) → Asked → Type 0
 IsRequest P (asked.Request request) = P request
 IsRequest P (asked.Forward config printing) = ⊥
 IsRequest P (asked.Capture request) = ⊥
+IsRequest P (asked.Schedules request) = ⊥
 
 -- it is to forward under this configuration, and to print so
 abbrev pub IsForward : Asked → Config → Printing → Type 0
 IsForward (asked.Forward given shown) config printing = (given ≡ config) × (shown ≡ printing)
 IsForward (asked.Request request) config printing = ⊥
 IsForward (asked.Capture request) config printing = ⊥
+IsForward (asked.Schedules request) config printing = ⊥
 
 -- it is this request of captures
 abbrev pub IsCapture : Asked → CaptureRequest → Type 0
 IsCapture (asked.Capture given) request = given ≡ request
 IsCapture (asked.Request given) request = ⊥
 IsCapture (asked.Forward config printing) request = ⊥
+IsCapture (asked.Schedules lists) request = ⊥
+
+-- it is this request of lists
+abbrev pub IsSchedules : Asked → ScheduleRequest → Type 0
+IsSchedules (asked.Schedules given) request = given ≡ request
+IsSchedules (asked.Request given) request = ⊥
+IsSchedules (asked.Forward config printing) request = ⊥
+IsSchedules (asked.Capture given) request = ⊥
 
 -- a request of captures that is asked for can be done
 abbrev pub CanBeDone : Asked → Type 0
 CanBeDone (asked.Capture request) = IsPlaced request
 CanBeDone (asked.Request request) = Unit {0}
 CanBeDone (asked.Forward config printing) = Unit {0}
+CanBeDone (asked.Schedules request) = Unit {0}
 
 -- a mistake in the words, which is neither a call for help nor want of memory
 pub record IsMistake (kind : ErrorKind) : Type 0 where
@@ -280,3 +268,4 @@ pub data IsUnshown (words : List Text) : Type 0 where
   asks_forward : (config : Config) (printing : Printing) (files : FileOptions) → SaysForward words config printing files → printing.progress ≡ false → IsUnshown words
   asks_from_capture : (port queue : ℕ) → SaysFromCapture words port queue → IsUnshown words
   asks_to_capture : (port : ℕ) → SaysToCapture words port → IsUnshown words
+  asks_schedules : (request : ScheduleRequest) → SaysSchedules words request → IsUnshown words

@@ -1,4 +1,6 @@
 pub mod CaptureWords
+pub mod OptionWords
+pub mod ScheduleWords
 pub mod FileWords
 pub mod Forwarding
 pub mod CommandLine

@@ -2,38 +2,48 @@
 ghost use Rattle.std.specs.Prelude.{◌≡◌, ◌⊎◌, ℕ, Bool, List, Some, false, codes, map};
 ghost use Rattle.std.specs.Prelude.{IfOk, IfSome, IsErrAnd, IsSomeAnd, MatchResult};
 ghost use Rattle.std.specs.String.{string_bytes};
-ghost use Rattle.clap.specs.Words.{Row, Text, app_of, kind_of, found_of, one_of, rows_of, rule_of, subcommand_rows_of};
+ghost use Rattle.clap.specs.Words.{Row, Text, app_of, kind_of, found_of, one_of, rows_of, subcommand_rows_of};
 ghost use Rattle.clap.specs.Values.{bool_text};
 ghost use Rattle.clap.specs.declared.builder.command.Command.TheViews.{out-Command};
 ghost use Rattle.clap.specs.declared.error.kind.ErrorKind.TheVariants.{OutOfMemory};
 ghost use Rattle.commands.specs.declared.decode.Form.{Form};
-ghost use Rattle.command_line.specs.CommandLine.{IsDecodeApp, IsProgram, bare_app, choice_rule, hex_rule, once_app};
-ghost use Rattle.command_line.specs.CommandLine.{flag_rule, forward_app, number_rule, replay_app, with_printing_rules, with_queue_rules, with_work_rules};
+ghost use Rattle.command_line.specs.CommandLine.{IsDecodeApp, IsProgram, bare_app, once_app};
+ghost use Rattle.command_line.specs.CommandLine.{forward_app, replay_app, with_printing_rules, with_queue_rules, with_work_rules};
 ghost use Rattle.commands.specs.declared.replay.QueuePlan.{QueuePlan};
 ghost use Rattle.command_line.specs.CommandLine.{HasDecode, IsDecode, SaysDecode};
 ghost use Rattle.command_line.specs.CommandLine.{HasReplay, IsReplayOf, SaysReplay};
-ghost use Rattle.command_line.specs.CommandLine.{HasForward, HasPrinting, IsForward, IsRequest, SaysForward, completion_of};
+ghost use Rattle.command_line.specs.CommandLine.{HasForward, HasPrinting, IsForward, IsRequest, SaysForward};
+ghost use Rattle.command_line.specs.OptionWords.{completion_of};
 ghost use Rattle.forwarder.specs.declared.config.Config.{Config as ForwardConfig};
 ghost use Rattle.forward_command.specs.declared.printing.Printing.{Printing as Printed};
 ghost use Rattle.command_line.specs.CommandLine.{HasOnce, IsMistake, IsMisuse, IsOnce, SaysOnce};
 ghost use Rattle.capture_command.specs.declared.request.CaptureRequest.TheVariants.{FromCapture, ToCapture};
 ghost use Rattle.command_line.specs.CaptureWords.{HasFromCapture, HasToCapture, SaysFromCapture, SaysToCapture};
 ghost use Rattle.command_line.specs.CommandLine.{CanBeDone, IsCapture};
+ghost use Rattle.command_line.specs.CommandLine.{IsSchedules};
 ghost use Rattle.command_line.specs.FileWords.{FileOptions};
+ghost use Rattle.command_line.specs.ScheduleWords.{HasSchedules, SaysSchedules};
+ghost use Rattle.schedule_command.specs.declared.request.ScheduleRequest.{ScheduleRequest as Lists};
 
+use crate::arguments::{choice, flag, hex, number};
 use crate::captures::{from_capture, from_capture_in, to_capture, to_capture_in};
 use crate::files::with_files;
+use crate::schedules::{schedules, schedules_in};
 use capture_command::CaptureRequest;
 use clap::error::ErrorKind;
-use clap::{Arg, ArgAction, ArgMatches, Command, Error, value_parser};
+use clap::{ArgMatches, Command, Error};
 use commands::{Form, QueuePlan, Request};
 use forward_command::Printing;
 use forwarder::Config;
 use ring_machine::Completion;
+use schedule_command::ScheduleRequest;
 use std::alloc::{AllocError, Global};
 
 /// The version that `--version` prints.
 const VERSION: &str = "0.1.0";
+
+/// What is told where words are missing that `clap` doesn't miss.
+const NOT_SAID: &str = "schedules takes --seed and --moves";
 
 const ONCE_EXAMPLE: &str =
     "Example:\n  poll82599 once 000102030405060708090a0b0c0d\n  prints 000102030405060708090a0b0c0d";
@@ -49,7 +59,7 @@ const FORWARD_EXAMPLES: &str =
 
 /// One example of each command.
 const EXAMPLES: &str =
-    "Examples:\n  poll82599 once 000102030405060708090a0b0c0d\n  poll82599 decode rx back 0000000000000000030000003c000000\n  echo 'r0 A1 5' | poll82599 replay --ring 16\n  echo '0 0 fill 60 01' | poll82599 forward\n  poll82599 from-capture 0 0 < x.pcap | poll82599 forward | poll82599 to-capture 1 > y.pcap";
+    "Examples:\n  poll82599 once 000102030405060708090a0b0c0d\n  poll82599 decode rx back 0000000000000000030000003c000000\n  echo 'r0 A1 5' | poll82599 replay --ring 16\n  echo '0 0 fill 60 01' | poll82599 forward\n  poll82599 from-capture 0 0 < x.pcap | poll82599 forward | poll82599 to-capture 1 > y.pcap\n  poll82599 schedules --seed 1 --moves 4";
 
 static RINGS: [&str; 2] = ["rx", "tx"];
 
@@ -65,6 +75,8 @@ pub enum Asked<'a> {
     Forward { config: Config, printing: Printing },
     /// A request of captures.
     Capture(CaptureRequest),
+    /// A request of lists of moves.
+    Schedules(ScheduleRequest),
 }
 
 /// Reads the words after the program's name. What it answers in place of a request is an error of `clap`, which is
@@ -82,6 +94,8 @@ pub fn asked_of<'a>(alloc: Global, words: &'a [String]) -> Result<Asked<'a>, Err
         → MatchResult result (λ a. IsCapture a (FromCapture port queue)) (λ e. kind_of e ≡ OutOfMemory) }
     ensures to_capture { (port : ℕ) → SaysToCapture (map string_bytes words.entry.now) port
         → MatchResult result (λ a. IsCapture a (ToCapture port)) (λ e. kind_of e ≡ OutOfMemory) }
+    ensures schedules { (request : Lists) → SaysSchedules (map string_bytes words.entry.now) request
+        → MatchResult result (λ a. IsSchedules a request) (λ e. kind_of e ≡ OutOfMemory) }
     ensures can_be_done { IfOk result CanBeDone }
     ensures misuse { IsMisuse (map string_bytes words.entry.now)
         → IsErrAnd result (λ e. (kind_of e ≡ OutOfMemory) ⊎ IsMistake (kind_of e)) }
@@ -90,7 +104,7 @@ pub fn asked_of<'a>(alloc: Global, words: &'a [String]) -> Result<Asked<'a>, Err
     let matches = program.try_get_matches_from_mut(words)?;
     match asked_in(&matches) {
         Some(asked) => Ok(asked),
-        None => Err(program.error(ErrorKind::MissingSubcommand, "no command was given")?),
+        None => Err(program.error(ErrorKind::MissingRequiredArgument, NOT_SAID)?),
     }
 }
 
@@ -112,6 +126,8 @@ fn asked_in<'a>(matches: &ArgMatches<'a>) -> Option<Asked<'a>>
     ensures to_capture { (rows : List Row) (port : ℕ)
         → subcommand_rows_of matches.now ≡ Some (codes "to-capture", rows)
         → HasToCapture rows port → IsSomeAnd result (λ a. IsCapture a (ToCapture port)) }
+    ensures schedules { (rows : List Row) (request : Lists) → subcommand_rows_of matches.now ≡ Some (codes "schedules", rows)
+        → HasSchedules rows request → IsSomeAnd result (λ a. IsSchedules a request) }
     ensures can_be_done { IfSome result CanBeDone }
 {
     match matches.subcommand()? {
@@ -124,6 +140,7 @@ fn asked_in<'a>(matches: &ArgMatches<'a>) -> Option<Asked<'a>>
         }),
         ("from-capture", found) => Some(Asked::Capture(from_capture_in(found)?)),
         ("to-capture", found) => Some(Asked::Capture(to_capture_in(found)?)),
+        ("schedules", found) => Some(Asked::Schedules(schedules_in(found)?)),
         _ => None,
     }
 }
@@ -213,7 +230,7 @@ fn printing_in<'a>(forward: &ArgMatches<'a>) -> Printing
 }
 
 /// How transmit queues report, in matches of a command with the flag `head`.
-fn completion_in<'a>(matches: &ArgMatches<'a>) -> Completion
+pub(crate) fn completion_in<'a>(matches: &ArgMatches<'a>) -> Completion
     ensures { (by_head : Bool) → one_of (codes "head") (rows_of (found_of matches.now)) ≡ Some (bool_text by_head)
         → result ≡ completion_of by_head }
 {
@@ -234,7 +251,8 @@ pub(crate) fn program<'a>(alloc: Global) -> Result<Command<'a>, AllocError>
         .subcommand(replay(alloc)?)?
         .subcommand(forward(alloc)?)?
         .subcommand(from_capture(alloc)?)?
-        .subcommand(to_capture(alloc)?)
+        .subcommand(to_capture(alloc)?)?
+        .subcommand(schedules(alloc)?)
 }
 
 /// The program before its commands are added.
@@ -436,50 +454,4 @@ fn with_printing<'a>(alloc: Global, command: Command<'a>) -> Result<Command<'a>,
         "Shows on standard error once a second how far it is, with --json as a JSON object",
     );
     command.arg(quiet)?.arg(json)?.arg(progress)
-}
-
-/// An option with a number, which has this one where it is left out.
-fn number<'a>(alloc: Global, id: &'a str, default: &'a str, help: &'a str) -> Arg<'a>
-    ensures rule { rule_of result ≡ number_rule id.entry.now default.entry.now }
-    ensures local { result.global ≡ false }
-{
-    Arg::new(alloc, id)
-        .long(id)
-        .value_name("N")
-        .value_parser(value_parser!(u32))
-        .default_value(default)
-        .help(help)
-}
-
-/// An option without a value.
-fn flag<'a>(alloc: Global, id: &'a str, help: &'a str) -> Arg<'a>
-    ensures rule { rule_of result ≡ flag_rule id.entry.now }
-    ensures local { result.global ≡ false }
-{
-    Arg::new(alloc, id)
-        .long(id)
-        .action(ArgAction::SetTrue)
-        .help(help)
-}
-
-/// An argument of hex digits.
-fn hex<'a>(alloc: Global, help: &'a str) -> Arg<'a>
-    ensures rule { rule_of result ≡ hex_rule }
-    ensures local { result.global ≡ false }
-{
-    Arg::new(alloc, "hex")
-        .required(true)
-        .value_name("HEX")
-        .help(help)
-}
-
-/// An argument that is one of these words.
-fn choice<'a>(alloc: Global, id: &'a str, name: &'a str, words: &'a [&'a str]) -> Arg<'a>
-    ensures rule { rule_of result ≡ choice_rule id.entry.now words.entry }
-    ensures local { result.global ≡ false }
-{
-    Arg::new(alloc, id)
-        .value_name(name)
-        .value_parser(words)
-        .required(true)
 }

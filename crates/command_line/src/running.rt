@@ -13,6 +13,9 @@ ghost use Rattle.commands.specs.Replay.{EndsReplay};
 ghost use Rattle.command_line.specs.CaptureWords.{SaysFromCapture, SaysToCapture};
 ghost use Rattle.command_line.specs.CommandLine.{IsMistake, IsMisuse, IsUnshown, SaysDecode, SaysForward, SaysOnce, SaysReplay};
 ghost use Rattle.command_line.specs.FileWords.{FileOptions};
+ghost use Rattle.command_line.specs.ScheduleWords.{SaysSchedules};
+ghost use Rattle.schedule_command.specs.Lists.{EndsSchedules};
+ghost use Rattle.schedule_command.specs.declared.request.ScheduleRequest.{ScheduleRequest as Lists};
 ghost use Rattle.command_line.specs.Forwarding.{EndsForwarding};
 ghost use Rattle.forward_command.specs.declared.printing.Printing.{Printing};
 ghost use Rattle.forwarder.specs.declared.config.Config.{Config};
@@ -78,6 +81,8 @@ pub fn run<
     ensures to_capture { (port : ℕ) (text : List ℕ) → SaysToCapture (map string_bytes words.now) port
         → I.remaining input.old ≡ Some text
         → EndsBy (capture_meant port text) result (W.contents output.old) (W.contents output.new) }
+    ensures schedules { (request : Lists) → SaysSchedules (map string_bytes words.now) request
+        → EndsSchedules request result (W.contents output.old) (W.contents output.new) }
 {
     match asked_of(alloc, words) {
         Ok(Asked::Request(request)) => answer(rt, alloc, request, input, output, faults),
@@ -86,6 +91,9 @@ pub fn run<
         ),
         Ok(Asked::Capture(request)) => {
             capture_command::answer(alloc, request, input, output, faults)
+        }
+        Ok(Asked::Schedules(request)) => {
+            schedule_command::answer(alloc, &request, output, faults)
         }
         Err(error) => tell(&error, output, faults),
     }

@@ -16,6 +16,8 @@ mod replay_rows;
 #[cfg(test)]
 mod replay_tests;
 #[cfg(test)]
+mod schedules_tests;
+#[cfg(test)]
 mod stream_tests;
 #[cfg(test)]
 mod told;

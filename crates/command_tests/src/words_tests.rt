@@ -18,8 +18,10 @@ const DECODE: &str = "poll82599 decode rx back 0000000000000000030000003c000000\
 
 const REPLAY: &str = "echo 'r0 A1 5' | poll82599 replay --ring 16\n";
 
+const SCHEDULES: &str = "poll82599 schedules --seed 1 --moves 4\n";
+
 /// Words that ask for help, and the example that it has to have.
-const HELPED: [(&[&str], &str); 14] = [
+const HELPED: [(&[&str], &str); 18] = [
     (&["--help"], ONCE),
     (&["--help"], DECODE),
     (&["--help"], REPLAY),
@@ -34,10 +36,14 @@ const HELPED: [(&[&str], &str); 14] = [
     (&["replay", "--help"], REPLAY),
     (&["replay", "-h"], REPLAY),
     (&["help", "replay"], REPLAY),
+    (&["--help"], SCHEDULES),
+    (&["schedules", "--help"], SCHEDULES),
+    (&["schedules", "-h"], SCHEDULES),
+    (&["help", "schedules"], SCHEDULES),
 ];
 
 /// Words that are wrong, and what has to be told of them.
-const WRONG: [(&[&str], &str); 17] = [
+const WRONG: [(&[&str], &str); 22] = [
     (&[], ""),
     (&["twice"], "twice"),
     (&["once"], "HEX"),
@@ -55,6 +61,22 @@ const WRONG: [(&[&str], &str); 17] = [
     (&["replay", "--ring", "4294967296"], "4294967296"),
     (&["replay", "--half"], "--half"),
     (&["replay", "moves"], "moves"),
+    (&["schedules"], "--seed"),
+    (&["schedules", "--seed", "1"], "--moves"),
+    (&["schedules", "--moves", "1"], "--seed"),
+    (&["schedules", "--seed", "one", "--moves", "1"], "one"),
+    (
+        &[
+            "schedules",
+            "--seed",
+            "1",
+            "--moves",
+            "1",
+            "--refused",
+            "101",
+        ],
+        "101",
+    ),
 ];
 
 /// Each refusal, and its line.

@@ -1,16 +1,21 @@
 -- What the exports of a receive ring say of the two ends that handles hold, and of their steps.
-use Rattle.std.specs.Prelude.{◌≡◌, ℕ, Option, Some, Bool, true, ◌++◌, length, drop, [], ◌∷◌}
+use Rattle.std.specs.Prelude.{◌≡◌, ◌≢◌, ℕ, ◌⊎◌, Option, Some, Bool, true, false, if◌then◌else◌, ◌++◌, length, drop, [], ◌∷◌}
 use Rattle.std.specs.Int.{from_bool}
-use Rattle.buffer_pool.specs.Buffer.{Buffer}
+use Rattle.atomic_table.specs.Seated.{TableId}
+use Rattle.buffer_pool.specs.Buffer.{Buffer, buffer}
+use Rattle.ring_model.specs.receive.Agreement.{rx_word}
 use Rattle.ring_model.specs.receive.Lawful.{IsLawfulRxLedger}
 use Rattle.ring_model.specs.shared.Frames.{Bytes}
+use Rattle.ring_model.specs.shared.Segments.{piece_of}
 use Rattle.shared_ring.specs.declared.events.DriverEvent.TheVariants as driver
 use Rattle.shared_ring.specs.declared.events.ControllerEvent.TheVariants as controller
-use Rattle.rx_ring.specs.Calls.{Answered}
+use Rattle.rx_ring.specs.Calls.{Answered, FoundFree, FoundLeft, SawNotDone, TookSegment}
 use Rattle.rx_ring.specs.declared.events.RxDriverOwn.TheVariants.{LoadedQuiet}
-use Rattle.rx_ring.specs.declared.events.RxControllerOwn.TheVariants.{SaidQuiet}
-use Rattle.rx_ring.specs.Ends.{DriverSide, ControllerSide, answered, appended, driver_size, fill_place, next_place, stored, taken}
+use Rattle.rx_ring.specs.declared.events.RxControllerOwn.TheVariants.{SaidQuiet, WroteBack}
+use Rattle.rx_ring.specs.Ends.{DriverSide, ControllerSide, answered, appended, driver_size, fill_place, is_between, known_free, next_place, reclaimed, serve_place, stored}
 use Rattle.rx_ring.specs.Meeting.{MadeSeats, ledger_of}
+use Rattle.poll82599_c.specs.Following.{IsBegun}
+use Rattle.poll82599_c.specs.declared.begun.Begun.{Begun}
 
 -- both are there, and this holds of them
 abbrev pub Between : {A B : Type 0} → (A → B → Type 0) → Option A → Option B → Type 0
@@ -49,17 +54,17 @@ PublishedAll old new = new ≡ appended old (driver.Published (fill_place old))
 
 -- A6: one more segment is taken, and its bytes are at the beginning of the room
 pub record TookOne (len eop : ℕ) (before after : Bytes) (old new : DriverSide) : Type 0 where
-  pub number : ℕ
-  pub payload : Bytes
+  pub buf : Buffer
   pub ends : Bool
-  pub step : taken new ≡ taken old ++ record { number = number; payload = payload; eop = ends } ∷ []
-  pub len_is : len ≡ length payload
+  pub took : TookSegment old buf ends new
+  pub len_is : len ≡ length buf.bytes
   pub eop_is : eop ≡ from_bool ends
-  pub copied : after ≡ payload ++ drop (length payload) before
+  pub copied : after ≡ buf.bytes ++ drop (length buf.bytes) before
 
--- nothing was taken, and nothing handed out
-pub record TookNone (before after : Bytes) (old new : DriverSide) : Type 0 where
-  pub same : taken new ≡ taken old
+-- nothing was taken, and nothing handed out: the next descriptor was loaded and had no DD, or where another number is answered no step was made
+pub record TookNone (answer : ℕ) (before after : Bytes) (old new : DriverSide) : Type 0 where
+  pub loaded : answer ≡ 0 → SawNotDone old new
+  pub still : answer ≢ 0 → new ≡ old
   pub kept : after ≡ before
 
 -- C1 and C5
@@ -93,14 +98,39 @@ pub record AnsweredAsked (old new : ControllerSide) : Type 0 where
   pub value : ℕ
   pub step : Answered (answered old (controller.LoadedRequest value)) new
 
--- A4, A5 and A7: one more frame of one segment is stored, of these bytes
-pub record StoredOne (bytes : Bytes) (old new : ControllerSide) : Type 0 where
+-- A4 and A5, and where it ends its frame A7: one more segment is stored, of these bytes
+pub record WroteOne (bytes : Bytes) (eop : Bool) (old new : ControllerSide) : Type 0 where
   pub number : ℕ
-  pub step : stored new ≡ stored old ++ record { number = number; payload = bytes; eop = true } ∷ []
+  pub word : ℕ
+  pub written : ControllerSide
+  pub segment : written ≡ answered (answered old (controller.Fetched (serve_place old) word (buffer number []))) (controller.Own (WroteBack (serve_place old) (rx_word (length bytes) eop) (buffer number bytes)))
+  pub head : new ≡ (if eop then answered written (controller.StoredHead (serve_place written)) else written)
+  pub grew : stored new ≡ stored old ++ record { number = number; payload = bytes; eop = eop } ∷ []
 
-abbrev pub StoredNone : ControllerSide → ControllerSide → Type 0
-StoredNone old new = stored new ≡ stored old
+-- the same, where a descriptor was known to be free, or a load of the tail (A3) showed one
+pub record StoredOne (bytes : Bytes) (eop : Bool) (old new : ControllerSide) : Type 0 where
+  pub ready : ControllerSide
+  pub knew : (ready ≡ old) ⊎ ((free : ℕ) × FoundFree old free ready)
+  pub wrote : WroteOne bytes eop ready new
+  pub grew : stored new ≡ stored old ++ record { number = wrote.number; payload = bytes; eop = eop } ∷ []
+
+-- none was known to be free, and a load of the tail (A3) showed none
+pub record FoundNoneFree (old new : ControllerSide) : Type 0 where
+  pub few_known : known_free old ≡ 0
+  pub looked : FoundFree old 0 new
 
 -- C7
 abbrev pub SaidNoMore : ControllerSide → ControllerSide → Type 0
 SaidNoMore old new = new ≡ answered old (controller.Own SaidQuiet)
+
+-- ---- what the objects behind the handles keep
+
+-- the end is of the object's ring, and of a frame that is begun so many segments and bytes are stored
+pub record IsServing (ring : TableId) (c : ControllerSide) (begun : Begun) : Type 0 where
+  pub own : c.table ≡ ring
+  pub begun_is : is_between c ≡ false → IsBegun piece_of (stored c) begun
+
+-- the end is of the object's ring, and unless it was said that buffers were reclaimed in this epoch, none was
+pub record IsDriving (ring : TableId) (d : DriverSide) (reclaiming : Bool) : Type 0 where
+  pub own : d.table ≡ ring
+  pub none_back : reclaiming ≡ false → reclaimed d ≡ 0

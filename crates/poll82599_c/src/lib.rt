@@ -7,6 +7,8 @@
 //! byte for byte. What C owes stands as `requires`, and in the header.
 #![tactic(auto)]
 
+mod begun;
+mod call;
 mod making;
 mod room;
 mod rx;
@@ -21,16 +23,3 @@ mod tx_driver_handle;
 mod tx_driving;
 mod tx_making;
 mod tx_serving;
-
-/// What an end's call is to do, what it answers, and of a segment that was handed out the length in bytes and EOP.
-#[repr(C)]
-#[derive(Clone, Copy)]
-pub struct Poll82599Call {
-    pub operation: u32,
-    pub answer: u32,
-    pub len: u32,
-    pub eop: u32,
-}
-
-/// What answers an operation that there is not.
-pub(crate) const NO_OPERATION: u32 = 0xFFFF_FFFF;

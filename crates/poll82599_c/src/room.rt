@@ -21,12 +21,3 @@ impl Found {
         }
     }
 }
-
-/// Puts `bytes` over the first bytes of a buffer's room, and leaves the others as they were.
-#[inline]
-pub(crate) fn overwrite(room: &mut [u8], bytes: &[u8])
-    requires { length bytes.now ≤ length room.old }
-    ensures { room.new ≡ bytes.now ++ drop (length bytes.now) room.old }
-{
-    room[..bytes.len()].copy_from_slice(bytes);
-}

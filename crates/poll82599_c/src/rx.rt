@@ -1,13 +1,15 @@
 //! The exports of a receive ring.
 ghost use Rattle.std.specs.Prelude.{◌≡◌, ◌≢◌, None, IsSome, pos};
-ghost use Rattle.rx_ring.specs.Calls.{GoneOver};
-ghost use Rattle.poll82599_c.specs.RxEnds.{AnsweredAsked, AreLawful, AreMade, AreOfOne, AskedDisable, AskedEnable, Between, FoundQuiet, LoadedControl, LookedAsked};
-ghost use Rattle.poll82599_c.specs.RxEnds.{PostedOne, PublishedAll, ReclaimedOne, SaidNoMore, SameDriven, SameServed, StoredNone, StoredOne, TookNone, TookOne};
+ghost use Rattle.rx_ring.specs.Calls.{FoundLeft, GoneOver};
+ghost use Rattle.opaque.specs.Words.{is_set};
+ghost use Rattle.poll82599_c.specs.RxEnds.{AnsweredAsked, AreLawful, AreMade, AreOfOne, AskedDisable, AskedEnable, Between, FoundNoneFree, FoundQuiet, LoadedControl, LookedAsked};
+ghost use Rattle.poll82599_c.specs.RxEnds.{PostedOne, PublishedAll, ReclaimedOne, SaidNoMore, SameDriven, SameServed, StoredOne, TookNone, TookOne};
 
+use crate::call::{NO_OPERATION, Poll82599Call};
 use crate::rx_controller_handle::RxControllerHandle;
 use crate::rx_driver_handle::RxDriverHandle;
 use crate::rx_making::{make, unmake};
-use crate::{NO_OPERATION, Poll82599Call};
+use opaque::is_set;
 use std::alloc::Global;
 
 /// Makes a receive ring of so many descriptors, and its driver with so many buffers and its controller: 0; 1 where the length
@@ -37,7 +39,7 @@ pub extern "C" fn poll82599_rx_new(
 
 /// Makes a driver's step: 0 posts a buffer, 1 stores the tail, 2 polls into `bytes`, 3 asks for the queue to be enabled, 4
 /// loads the control word, 5 asks for it to be disabled, 6 loads the quiet word, 7 takes a buffer back out of a disabled
-/// queue, and 8 renews one of which none is out.
+/// queue, 8 renews one of which none is out, and 9 loads how many segments were left in a disabled queue.
 #[unsafe(no_mangle)]
 pub extern "C" fn poll82599_rx_drive(
     alloc: Global,
@@ -51,13 +53,16 @@ pub extern "C" fn poll82599_rx_drive(
     ensures published { (call.old.operation ≡ 1) → (call.new.answer ≡ 1) → Between PublishedAll driver.old.held driver.new.held }
     ensures taken { (call.old.operation ≡ 2) → (call.new.answer ≡ 1)
         → Between (TookOne call.new.len call.new.eop bytes.old bytes.new) driver.old.held driver.new.held }
-    ensures none { (call.old.operation ≡ 2) → (call.new.answer ≢ 1) → Between (TookNone bytes.old bytes.new) driver.old.held driver.new.held }
+    ensures none { (call.old.operation ≡ 2) → (call.new.answer ≢ 1) → Between (TookNone call.new.answer bytes.old bytes.new) driver.old.held driver.new.held }
+    ensures room { (call.old.operation ≢ 2) → bytes.new ≡ bytes.old }
     ensures asked_enable { (call.old.operation ≡ 3) → (call.new.answer ≡ 1) → Between AskedEnable driver.old.held driver.new.held }
     ensures loaded { (call.old.operation ≡ 4) → Between (LoadedControl call.new.answer) driver.old.held driver.new.held }
     ensures asked_disable { (call.old.operation ≡ 5) → (call.new.answer ≡ 1) → Between AskedDisable driver.old.held driver.new.held }
     ensures quiet { (call.old.operation ≡ 6) → Between (FoundQuiet call.new.answer) driver.old.held driver.new.held }
     ensures reclaimed { (call.old.operation ≡ 7) → (call.new.answer ≡ 1) → Between ReclaimedOne driver.old.held driver.new.held }
     ensures renewed { (call.old.operation ≡ 8) → (call.new.answer ≡ 1) → Between GoneOver driver.old.held driver.new.held }
+    ensures left { (call.old.operation ≡ 9) → (call.new.answer ≡ 1) → Between (λ old new. FoundLeft old call.new.len new) driver.old.held driver.new.held }
+    ensures kept { (call.old.operation ≢ 2) → (call.old.operation ≢ 4) → (call.old.operation ≢ 6) → (call.new.answer ≢ 1) → driver.new.held ≡ driver.old.held }
 {
     let mut driving = driver.take(alloc);
     call.answer = match call.operation {
@@ -75,32 +80,39 @@ pub extern "C" fn poll82599_rx_drive(
         6 => driving.is_quiet(),
         7 => driving.reclaim(),
         8 => driving.renew(),
+        9 => {
+            let found = driving.left();
+            call.len = found.len;
+            found.answer
+        }
         _ => NO_OPERATION,
     };
     driver.put(driving);
 }
 
-/// Makes a controller's step: 0 loads what the driver asks and answers it where it may, 1 stores `frame`, and 2 says that no
-/// more is stored.
+/// Makes a controller's step: 0 loads what the driver asks and answers it where it may, 1 stores a segment, which ends its
+/// frame unless `eop` is 0, and 2 says that no more is stored.
 #[unsafe(no_mangle)]
 pub extern "C" fn poll82599_rx_serve(
     alloc: Global,
     controller: &mut RxControllerHandle,
     call: &mut Poll82599Call,
-    frame: &[u8],
+    segment: &[u8],
 )
     requires { IsSome controller.old.held }
     ensures own { SameServed controller.old.held controller.new.held }
     ensures answered { (call.old.operation ≡ 0) → (call.new.answer ≡ 1) → Between AnsweredAsked controller.old.held controller.new.held }
-    ensures looked { (call.old.operation ≡ 0) → (call.new.answer ≡ 0) → Between LookedAsked controller.old.held controller.new.held }
-    ensures stored { (call.old.operation ≡ 1) → (call.new.answer ≡ 1) → Between (StoredOne frame.now) controller.old.held controller.new.held }
-    ensures none { (call.old.operation ≡ 1) → (call.new.answer ≢ 1) → Between StoredNone controller.old.held controller.new.held }
+    ensures looked { (call.old.operation ≡ 0) → (call.new.answer ≢ 1) → Between LookedAsked controller.old.held controller.new.held }
+    ensures stored { (call.old.operation ≡ 1) → (call.new.answer ≡ 1) → Between (StoredOne segment.now (is_set call.old.eop)) controller.old.held controller.new.held }
+    ensures none { (call.old.operation ≡ 1) → (call.new.answer ≡ 0) → Between FoundNoneFree controller.old.held controller.new.held }
+    ensures refused { (call.old.operation ≡ 1) → (call.new.answer ≢ 0) → (call.new.answer ≢ 1) → controller.new.held ≡ controller.old.held }
     ensures quiet { (call.old.operation ≡ 2) → (call.new.answer ≡ 1) → Between SaidNoMore controller.old.held controller.new.held }
+    ensures kept { (call.old.operation ≢ 0) → (call.old.operation ≢ 1) → (call.new.answer ≢ 1) → controller.new.held ≡ controller.old.held }
 {
     let mut serving = controller.take(alloc);
     call.answer = match call.operation {
         0 => serving.answer(),
-        1 => serving.store(frame),
+        1 => serving.store(segment, is_set(call.eop)),
         2 => serving.set_quiet(),
         _ => NO_OPERATION,
     };

@@ -75,3 +75,6 @@ impl RxDriverHandle {
         *self = RxDriverHandle::of_parts(Parts::of(made));
     }
 }
+
+// What it owns is in one thread at a time, as the object behind it.
+unsafe impl Send for RxDriverHandle {}

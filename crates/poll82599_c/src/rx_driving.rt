@@ -1,11 +1,12 @@
 //! The driver's object: its end, the ring that it shares, and its empty buffers.
 ghost use Rattle.std.specs.Prelude.{◌≡◌, ◌≢◌};
-ghost use Rattle.rx_ring.specs.Calls.{GoneOver};
+ghost use Rattle.rx_ring.specs.Calls.{FoundLeft, GoneOver};
 ghost use Rattle.poll82599_c.specs.RxEnds.{AskedDisable, AskedEnable, FoundQuiet, LoadedControl, PostedOne, PublishedAll, ReclaimedOne, TookNone, TookOne};
 
-use crate::room::{Found, overwrite};
+use crate::room::Found;
 use buffer_pool::Stash;
 use limits::BUFFER_BYTES;
+use opaque::overwrite;
 use rx_ring::{DriverEnd, Poll, RxDriverEnd, RxRing};
 use std::alloc::Global;
 use std::marker::Model;
@@ -17,18 +18,20 @@ pub struct RxDriving {
     pub(crate) ring: Arc<RxRing, Global>,
     pub(crate) end: RxDriverEnd,
     pub(crate) stash: Stash,
+    // whether a buffer was reclaimed in this epoch
+    pub(crate) reclaiming: bool,
 }
 
 impl Model for RxDriving {
-    ghost use Rattle.std.specs.Prelude.{◌≡◌};
     ghost use Rattle.std.specs.Arc.{arc_value};
     ghost use Rattle.rx_ring.specs.Ends.{DriverSide};
+    ghost use Rattle.poll82599_c.specs.RxEnds.{IsDriving};
 
     ghost Value = { DriverSide };
 
     ghost view = { λ d. d.end };
 
-    ghost invariant = { λ d. d.end.table ≡ arc_value d.ring };
+    ghost invariant = { λ d. IsDriving (arc_value d.ring) d.end d.reclaiming };
 }
 
 impl RxDriving {
@@ -36,7 +39,7 @@ impl RxDriving {
     pub(crate) fn post(&mut self) -> u32
         ensures own { self.new.table ≡ self.old.table }
         ensures step { (result ≡ 1) → PostedOne self.old self.new }
-        ensures kept { (result ≡ 0) → self.new ≡ self.old }
+        ensures kept { (result ≢ 1) → self.new ≡ self.old }
     {
         if !self.end.is_open() || self.end.room() == 0 {
             return 0;
@@ -54,7 +57,7 @@ impl RxDriving {
     pub(crate) fn publish(&mut self) -> u32
         ensures own { self.new.table ≡ self.old.table }
         ensures step { (result ≡ 1) → PublishedAll self.old self.new }
-        ensures kept { (result ≡ 0) → self.new ≡ self.old }
+        ensures kept { (result ≢ 1) → self.new ≡ self.old }
     {
         if !self.end.is_open() {
             return 0;
@@ -68,7 +71,7 @@ impl RxDriving {
     pub(crate) fn poll(&mut self, bytes: &mut [u8]) -> Found
         ensures own { self.new.table ≡ self.old.table }
         ensures taken { (result.answer ≡ 1) → TookOne result.len result.eop bytes.old bytes.new self.old self.new }
-        ensures none { (result.answer ≢ 1) → TookNone bytes.old bytes.new self.old self.new }
+        ensures none { (result.answer ≢ 1) → TookNone result.answer bytes.old bytes.new self.old self.new }
     {
         if bytes.len() < BUFFER_BYTES {
             return Found::nothing(4);
@@ -94,7 +97,7 @@ impl RxDriving {
     pub(crate) fn ask_enable(&mut self) -> u32
         ensures own { self.new.table ≡ self.old.table }
         ensures step { (result ≡ 1) → AskedEnable self.old self.new }
-        ensures kept { (result ≡ 0) → self.new ≡ self.old }
+        ensures kept { (result ≢ 1) → self.new ≡ self.old }
     {
         if !self.end.is_new() {
             return 0;
@@ -115,7 +118,7 @@ impl RxDriving {
     pub(crate) fn ask_disable(&mut self) -> u32
         ensures own { self.new.table ≡ self.old.table }
         ensures step { (result ≡ 1) → AskedDisable self.old self.new }
-        ensures kept { (result ≡ 0) → self.new ≡ self.old }
+        ensures kept { (result ≢ 1) → self.new ≡ self.old }
     {
         if !self.end.is_on() {
             return 0;
@@ -132,6 +135,27 @@ impl RxDriving {
         u32::from(self.end.is_quiet(&self.ring))
     }
 
+    /// Loads the head, and hands out as `len` how many segments were stored and not taken when the disabling was answered: 1; 0
+    /// where a buffer was reclaimed before; 2 where no disabling was seen answered.
+    pub(crate) fn left(&mut self) -> Found
+        ensures own { self.new.table ≡ self.old.table }
+        ensures step { (result.answer ≡ 1) → FoundLeft self.old result.len self.new }
+        ensures kept { (result.answer ≢ 1) → self.new ≡ self.old }
+    {
+        if !self.end.is_stopped() {
+            return Found::nothing(2);
+        }
+        if self.reclaiming {
+            return Found::nothing(0);
+        }
+        let len = self.end.left(&self.ring);
+        Found {
+            answer: 1,
+            len,
+            eop: 0,
+        }
+    }
+
     /// Takes the oldest buffer that is out back: 1; 0 where none is; 2 where no disabling was seen answered.
     pub(crate) fn reclaim(&mut self) -> u32
         ensures own { self.new.table ≡ self.old.table }
@@ -145,6 +169,7 @@ impl RxDriving {
             None => 0,
             Some(buf) => {
                 drop(self.stash.put(buf));
+                self.reclaiming = true;
                 1
             }
         }
@@ -155,12 +180,13 @@ impl RxDriving {
     pub(crate) fn renew(&mut self) -> u32
         ensures own { self.new.table ≡ self.old.table }
         ensures step { (result ≡ 1) → GoneOver self.old self.new }
-        ensures kept { (result ≡ 0) → self.new ≡ self.old }
+        ensures kept { (result ≢ 1) → self.new ≡ self.old }
     {
         if !self.end.is_stopped() || self.end.size() != self.end.room() + 1 {
             return 0;
         }
         self.end.renew(&self.ring);
+        self.reclaiming = false;
         1
     }
 }

@@ -5,6 +5,7 @@ ghost use Rattle.ring_model.specs.shared.Frames.{Bytes};
 ghost use Rattle.rx_ring.specs.Ends.{driver_size};
 ghost use Rattle.rx_ring.specs.Meeting.{MadeSeats, ledger_of};
 
+use crate::begun::Begun;
 use crate::making::{Unmade, crossing, stash_of};
 use crate::rx_driving::RxDriving;
 use crate::rx_serving::RxServing;
@@ -36,10 +37,12 @@ pub(crate) fn make(
         ring,
         end: driver,
         stash,
+        reclaiming: false,
     };
     let serving = RxServing {
         ring: other,
         end: controller,
+        begun: Begun::none(),
     };
     let Ok(driving) = Box::new(alloc, crossing(driving)) else {
         return Err(Unmade::Memory);
@@ -63,6 +66,7 @@ pub(crate) fn unmake(driving: Box<RxDriving>, serving: Box<RxServing>) -> i64
     let RxServing {
         ring: other,
         end: mut controller,
+        ..
     } = Box::into_inner(serving);
     meet_rx(&other, &mut driver, &mut controller);
     drop(other);

@@ -1,15 +1,18 @@
 //! The exports of a transmit ring.
 ghost use Rattle.std.specs.Prelude.{◌≡◌, ◌≢◌, None, IsSome, pos};
 ghost use Rattle.ring_model.specs.declared.states.Completion.TheVariants as by;
-ghost use Rattle.tx_ring.specs.Calls.{GoneOver, SawReported};
+ghost use Rattle.tx_ring.specs.Calls.{FoundLeft, GoneOver, SawReported};
+ghost use Rattle.opaque.specs.Words.{is_set};
 ghost use Rattle.poll82599_c.specs.RxEnds.{Between};
 ghost use Rattle.poll82599_c.specs.TxEnds.{AnsweredAsked, AreLawful, AreMade, AreOfOne, AskedDisable, AskedEnable, CleanedBuffer, LoadedControl, LookedAsked};
-ghost use Rattle.poll82599_c.specs.TxEnds.{PostedFrame, PublishedAll, ReclaimedOne, SameDriven, SameServed, SentNone, SentOne};
+ghost use Rattle.poll82599_c.specs.TxEnds.{PostedSegment, PublishedAll, ReclaimedOne, SameDriven, SameServed, SawNoReport, SentNone, SentOne};
 
+use crate::begun::Asking;
+use crate::call::{NO_OPERATION, Poll82599Call};
 use crate::tx_controller_handle::TxControllerHandle;
 use crate::tx_driver_handle::TxDriverHandle;
 use crate::tx_making::{make, unmake};
-use crate::{NO_OPERATION, Poll82599Call};
+use opaque::is_set;
 use std::alloc::Global;
 use tx_ring::Completion;
 
@@ -45,31 +48,42 @@ pub extern "C" fn poll82599_tx_new(
     }
 }
 
-/// Makes a driver's step: 0 posts `frame`, 1 stores the tail, 2 loads a report, 3 asks for the queue to be enabled, 4 loads the
+/// Makes a driver's step: 0 posts a segment with EOP, RS and PAYLEN, 1 stores the tail, 2 loads a report, 3 asks for the queue to be enabled, 4 loads the
 /// control word, 5 asks for it to be disabled, 6 cleans a descriptor that is seen reported, 7 takes a buffer back out of a
-/// disabled queue, and 8 renews one of which none is out.
+/// disabled queue, 8 renews one of which none is out, and 9 loads how many segments were not sent in a disabled queue.
 #[unsafe(no_mangle)]
 pub extern "C" fn poll82599_tx_drive(
     alloc: Global,
     driver: &mut TxDriverHandle,
     call: &mut Poll82599Call,
-    frame: &[u8],
+    segment: &[u8],
 )
     requires { IsSome driver.old.held }
     ensures own { SameDriven driver.old.held driver.new.held }
-    ensures posted { (call.old.operation ≡ 0) → (call.new.answer ≡ 1) → Between (PostedFrame frame.now) driver.old.held driver.new.held }
+    ensures posted { (call.old.operation ≡ 0) → (call.new.answer ≡ 1)
+        → Between (PostedSegment segment.now (is_set call.old.eop) (is_set call.old.rs) call.old.paylen) driver.old.held driver.new.held }
     ensures published { (call.old.operation ≡ 1) → (call.new.answer ≡ 1) → Between PublishedAll driver.old.held driver.new.held }
     ensures reported { (call.old.operation ≡ 2) → (call.new.answer ≡ 1) → Between SawReported driver.old.held driver.new.held }
+    ensures unreported { (call.old.operation ≡ 2) → (call.new.answer ≢ 1) → Between SawNoReport driver.old.held driver.new.held }
     ensures asked_enable { (call.old.operation ≡ 3) → (call.new.answer ≡ 1) → Between AskedEnable driver.old.held driver.new.held }
     ensures loaded { (call.old.operation ≡ 4) → Between (LoadedControl call.new.answer) driver.old.held driver.new.held }
     ensures asked_disable { (call.old.operation ≡ 5) → (call.new.answer ≡ 1) → Between AskedDisable driver.old.held driver.new.held }
     ensures cleaned { (call.old.operation ≡ 6) → (call.new.answer ≡ 1) → Between CleanedBuffer driver.old.held driver.new.held }
     ensures reclaimed { (call.old.operation ≡ 7) → (call.new.answer ≡ 1) → Between ReclaimedOne driver.old.held driver.new.held }
     ensures renewed { (call.old.operation ≡ 8) → (call.new.answer ≡ 1) → Between GoneOver driver.old.held driver.new.held }
+    ensures left { (call.old.operation ≡ 9) → (call.new.answer ≡ 1) → Between (λ old new. FoundLeft old call.new.len new) driver.old.held driver.new.held }
+    ensures kept { (call.old.operation ≢ 2) → (call.old.operation ≢ 4) → (call.new.answer ≢ 1) → driver.new.held ≡ driver.old.held }
 {
     let mut driving = driver.take(alloc);
     call.answer = match call.operation {
-        0 => driving.post(frame),
+        0 => {
+            let ask = Asking {
+                eop: is_set(call.eop),
+                rs: is_set(call.rs),
+                paylen: call.paylen,
+            };
+            driving.post(segment, &ask)
+        }
         1 => driving.publish(),
         2 => driving.poll_report(),
         3 => driving.ask_enable(),
@@ -78,6 +92,11 @@ pub extern "C" fn poll82599_tx_drive(
         6 => driving.clean(),
         7 => driving.reclaim(),
         8 => driving.renew(),
+        9 => {
+            let found = driving.left();
+            call.len = found.len;
+            found.answer
+        }
         _ => NO_OPERATION,
     };
     driver.put(driving);
@@ -95,10 +114,12 @@ pub extern "C" fn poll82599_tx_serve(
     requires { IsSome controller.old.held }
     ensures own { SameServed controller.old.held controller.new.held }
     ensures answered { (call.old.operation ≡ 0) → (call.new.answer ≡ 1) → Between AnsweredAsked controller.old.held controller.new.held }
-    ensures looked { (call.old.operation ≡ 0) → (call.new.answer ≡ 0) → Between LookedAsked controller.old.held controller.new.held }
+    ensures looked { (call.old.operation ≡ 0) → (call.new.answer ≢ 1) → Between LookedAsked controller.old.held controller.new.held }
     ensures sent { (call.old.operation ≡ 1) → (call.new.answer ≡ 1)
-        → Between (SentOne call.new.len bytes.old bytes.new) controller.old.held controller.new.held }
-    ensures none { (call.old.operation ≡ 1) → (call.new.answer ≢ 1) → Between (SentNone bytes.old bytes.new) controller.old.held controller.new.held }
+        → Between (SentOne call.new.len call.new.eop bytes.old bytes.new) controller.old.held controller.new.held }
+    ensures none { (call.old.operation ≡ 1) → (call.new.answer ≢ 1) → Between (SentNone call.new.answer bytes.old bytes.new) controller.old.held controller.new.held }
+    ensures room { (call.old.operation ≢ 1) → bytes.new ≡ bytes.old }
+    ensures kept { (call.old.operation ≢ 0) → (call.old.operation ≢ 1) → controller.new.held ≡ controller.old.held }
 {
     let mut serving = controller.take(alloc);
     call.answer = match call.operation {

@@ -1,10 +1,13 @@
 //! The driver's object of a transmit ring: its end, the ring that it shares, and its empty buffers.
-ghost use Rattle.std.specs.Prelude.{◌≡◌, ◌≢◌};
-ghost use Rattle.tx_ring.specs.Calls.{GoneOver, SawReported};
-ghost use Rattle.poll82599_c.specs.TxEnds.{AskedDisable, AskedEnable, CleanedBuffer, LoadedControl, PostedFrame, PublishedAll, ReclaimedOne};
+ghost use Rattle.std.specs.Prelude.{◌≡◌, ◌≢◌, IfSome};
+ghost use Rattle.tx_ring.specs.Calls.{FoundLeft, GoneOver, SawReported};
+ghost use Rattle.tx_ring.specs.Ends.{posted};
+ghost use Rattle.poll82599_c.specs.Following.{IsPosting};
+ghost use Rattle.poll82599_c.specs.TxEnds.{AskedDisable, AskedEnable, CleanedBuffer, LoadedControl, PostedSegment, PublishedAll, ReclaimedOne, SawNoReport};
 
+use crate::begun::{Asking, Begun};
+use crate::room::Found;
 use buffer_pool::Stash;
-use limits::{BUFFER_BYTES, LEAST_FRAME};
 use std::alloc::Global;
 use std::marker::Model;
 use std::sync::Arc;
@@ -16,33 +19,51 @@ pub struct TxDriving {
     pub(crate) ring: Arc<TxRing, Global>,
     pub(crate) end: TxDriverEnd,
     pub(crate) stash: Stash,
+    // how far the frame is that is begun, where one is, and its PAYLEN
+    pub(crate) begun: Begun,
+    pub(crate) paylen: u32,
 }
 
 impl Model for TxDriving {
-    ghost use Rattle.std.specs.Prelude.{◌≡◌};
     ghost use Rattle.std.specs.Arc.{arc_value};
     ghost use Rattle.tx_ring.specs.Ends.{DriverSide};
+    ghost use Rattle.poll82599_c.specs.TxEnds.{IsDriving};
 
     ghost Value = { DriverSide };
 
     ghost view = { λ d. d.end };
 
-    ghost invariant = { λ d. d.end.table ≡ arc_value d.ring };
+    ghost invariant = { λ d. IsDriving (arc_value d.ring) d.end d.begun d.paylen };
 }
 
 impl TxDriving {
-    /// Posts a frame of one segment, and asks for a report of it: 1; 0 where there is no room, no buffer, or a disabling was
-    /// asked for; 2 where the length is none of a frame of one segment, 14 to 2,048.
-    pub(crate) fn post(&mut self, bytes: &[u8]) -> u32
+    /// How far the frame is that is begun.
+    fn begun(&self, paylen: u32) -> Option<Begun>
+        ensures { IfSome result (λ b. IsPosting (posted self.now) b paylen) }
+    {
+        if self.end.is_whole() {
+            return Some(Begun::none());
+        }
+        if self.paylen == paylen {
+            return Some(self.begun);
+        }
+        None
+    }
+
+    /// Posts a segment: 1; 0 where there is no room, no buffer, or a disabling was asked for; 2 where it may not follow the
+    /// frame's segments so far.
+    pub(crate) fn post(&mut self, bytes: &[u8], ask: &Asking) -> u32
         ensures own { self.new.table ≡ self.old.table }
-        ensures step { (result ≡ 1) → PostedFrame bytes.now self.old self.new }
+        ensures step { (result ≡ 1) → PostedSegment bytes.now ask.now.eop ask.now.rs ask.now.paylen self.old self.new }
         ensures kept { (result ≢ 1) → self.new ≡ self.old }
     {
-        if bytes.len() < LEAST_FRAME || BUFFER_BYTES < bytes.len() {
+        let Some(begun) = self.begun(ask.paylen) else {
+            return 2;
+        };
+        if !begun.can_post(bytes.len(), ask, self.end.size()) {
             return 2;
         }
-        let _size = self.end.size(); // which says that the length is lawful
-        if !self.end.is_open() || self.end.room() == 0 || !self.end.is_whole() {
+        if !self.end.is_open() || self.end.room() == 0 {
             return 0;
         }
         match self.stash.take() {
@@ -51,17 +72,19 @@ impl TxDriving {
                 let mut buf = empty;
                 buf.fill(bytes);
                 self.end
-                    .post(&self.ring, buf, true, true, bytes.len() as u16);
+                    .post(&self.ring, buf, ask.eop, ask.rs, ask.paylen as u16);
+                self.begun = begun.with(bytes.len());
+                self.paylen = ask.paylen;
                 1
             }
         }
     }
 
-    /// Stores the tail behind all that is posted: 1, or 0 where a disabling was asked for.
+    /// Stores the tail behind all that is posted: 1, or 0 where a disabling was asked for, or a frame is begun.
     pub(crate) fn publish(&mut self) -> u32
         ensures own { self.new.table ≡ self.old.table }
         ensures step { (result ≡ 1) → PublishedAll self.old self.new }
-        ensures kept { (result ≡ 0) → self.new ≡ self.old }
+        ensures kept { (result ≢ 1) → self.new ≡ self.old }
     {
         if !self.end.is_open() || !self.end.is_whole() {
             return 0;
@@ -74,6 +97,7 @@ impl TxDriving {
     pub(crate) fn poll_report(&mut self) -> u32
         ensures own { self.new.table ≡ self.old.table }
         ensures step { (result ≡ 1) → SawReported self.old self.new }
+        ensures none { (result ≢ 1) → SawNoReport self.old self.new }
     {
         if self.end.poll_report(&self.ring) {
             return 1;
@@ -85,7 +109,7 @@ impl TxDriving {
     pub(crate) fn clean(&mut self) -> u32
         ensures own { self.new.table ≡ self.old.table }
         ensures step { (result ≡ 1) → CleanedBuffer self.old self.new }
-        ensures kept { (result ≡ 0) → self.new ≡ self.old }
+        ensures kept { (result ≢ 1) → self.new ≡ self.old }
     {
         if !self.end.is_live() || self.end.reported() == 0 {
             return 0;
@@ -99,7 +123,7 @@ impl TxDriving {
     pub(crate) fn ask_enable(&mut self) -> u32
         ensures own { self.new.table ≡ self.old.table }
         ensures step { (result ≡ 1) → AskedEnable self.old self.new }
-        ensures kept { (result ≡ 0) → self.new ≡ self.old }
+        ensures kept { (result ≢ 1) → self.new ≡ self.old }
     {
         if !self.end.is_new() {
             return 0;
@@ -120,13 +144,31 @@ impl TxDriving {
     pub(crate) fn ask_disable(&mut self) -> u32
         ensures own { self.new.table ≡ self.old.table }
         ensures step { (result ≡ 1) → AskedDisable self.old self.new }
-        ensures kept { (result ≡ 0) → self.new ≡ self.old }
+        ensures kept { (result ≢ 1) → self.new ≡ self.old }
     {
         if !self.end.is_on() {
             return 0;
         }
         self.end.ask_disable(&self.ring);
         1
+    }
+
+    /// Loads the head, and hands out as `len` how many of the postings were not sent when the disabling was answered: 1; 2 where
+    /// no disabling was seen answered.
+    pub(crate) fn left(&mut self) -> Found
+        ensures own { self.new.table ≡ self.old.table }
+        ensures step { (result.answer ≡ 1) → FoundLeft self.old result.len self.new }
+        ensures kept { (result.answer ≢ 1) → self.new ≡ self.old }
+    {
+        if !self.end.is_stopped() {
+            return Found::nothing(2);
+        }
+        let len = self.end.left(&self.ring);
+        Found {
+            answer: 1,
+            len,
+            eop: 0,
+        }
     }
 
     /// Takes the oldest buffer that is out back: 1; 0 where none is; 2 where no disabling was seen answered.
@@ -152,7 +194,7 @@ impl TxDriving {
     pub(crate) fn renew(&mut self) -> u32
         ensures own { self.new.table ≡ self.old.table }
         ensures step { (result ≡ 1) → GoneOver self.old self.new }
-        ensures kept { (result ≡ 0) → self.new ≡ self.old }
+        ensures kept { (result ≢ 1) → self.new ≡ self.old }
     {
         if !self.end.is_stopped() || self.end.size() != self.end.room() + 1 {
             return 0;

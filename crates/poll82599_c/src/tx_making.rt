@@ -5,6 +5,7 @@ ghost use Rattle.ring_model.specs.shared.Frames.{Bytes};
 ghost use Rattle.tx_ring.specs.Ends.{driver_size};
 ghost use Rattle.tx_ring.specs.Meeting.{MadeSeats, ledger_of};
 
+use crate::begun::Begun;
 use crate::making::{Unmade, crossing, stash_of};
 use crate::tx_driving::TxDriving;
 use crate::tx_serving::TxServing;
@@ -37,6 +38,8 @@ pub(crate) fn make(
         ring,
         end: driver,
         stash,
+        begun: Begun::none(),
+        paylen: 0,
     };
     let serving = TxServing {
         ring: other,

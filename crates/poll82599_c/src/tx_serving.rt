@@ -2,8 +2,9 @@
 ghost use Rattle.std.specs.Prelude.{◌≡◌, ◌≢◌};
 ghost use Rattle.poll82599_c.specs.TxEnds.{AnsweredAsked, LookedAsked, SentNone, SentOne};
 
-use crate::room::{Found, overwrite};
+use crate::room::Found;
 use limits::BUFFER_BYTES;
+use opaque::overwrite;
 use std::alloc::Global;
 use std::marker::Model;
 use std::sync::Arc;
@@ -33,7 +34,7 @@ impl TxServing {
     pub(crate) fn answer(&mut self) -> u32
         ensures own { self.new.table ≡ self.old.table }
         ensures step { (result ≡ 1) → AnsweredAsked self.old self.new }
-        ensures looked { (result ≡ 0) → LookedAsked self.old self.new }
+        ensures looked { (result ≢ 1) → LookedAsked self.old self.new }
     {
         self.end.asked(&self.ring);
         if !self.end.can_answer() {
@@ -47,8 +48,8 @@ impl TxServing {
     /// one, 0 where none is ready, 3 where the queue is not served, and 4 where the room is too small.
     pub(crate) fn send(&mut self, bytes: &mut [u8]) -> Found
         ensures own { self.new.table ≡ self.old.table }
-        ensures sent { (result.answer ≡ 1) → SentOne result.len bytes.old bytes.new self.old self.new }
-        ensures none { (result.answer ≢ 1) → SentNone bytes.old bytes.new self.old self.new }
+        ensures sent { (result.answer ≡ 1) → SentOne result.len result.eop bytes.old bytes.new self.old self.new }
+        ensures none { (result.answer ≢ 1) → SentNone result.answer bytes.old bytes.new self.old self.new }
     {
         if bytes.len() < BUFFER_BYTES {
             return Found::nothing(4);
@@ -56,10 +57,7 @@ impl TxServing {
         if !self.end.is_serving() || self.end.is_holding() || self.end.owes_report() {
             return Found::nothing(3);
         }
-        if self.end.ready() == 0 {
-            self.end.look(&self.ring);
-        }
-        if self.end.ready() == 0 {
+        if self.end.ready() == 0 && self.end.look(&self.ring) == 0 {
             return Found::nothing(0);
         }
         let (buf, read) = self.end.fetch(&self.ring);

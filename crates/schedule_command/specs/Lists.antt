@@ -1,11 +1,12 @@
 -- What `schedules` prints.
-use Rattle.std.specs.Prelude.{◌≡◌, ◌⊎◌, ⊤, ℕ, Bool, true, false, List, [], ◌∷◌, ◌++◌, codes, length, Option, Some, All}
+use Rattle.std.specs.Prelude.{◌≡◌, ◌⊎◌, ◌≤◌, ⊤, ℕ, Bool, true, false, List, [], ◌∷◌, ◌++◌, codes, length, Option, Some, All}
 use Rattle.std.specs.List.{flat_map}
-use Rattle.std.specs.Io.KnownBytes.{Appends}
+use Rattle.std.specs.Io.KnownBytes.{Appends, Keeps}
 use Rattle.ring_machine.specs.Queues.{AreQueues}
 use Rattle.ring_machine.specs.declared.error.MachineError.TheVariants.{RingLength, Memory as NoQueues}
 use Rattle.ring_machine.specs.text.Moves.{text_of}
 use Rattle.commands.specs.Replay.{HasPage, RefusesReplay}
+use Rattle.commands.specs.declared.answering.TheConstants.{DONE, REFUSED}
 use Rattle.commands.specs.declared.refusal.Refusal.{Refusal}
 use Rattle.commands.specs.declared.refusal.Refusal.TheVariants as refusal
 use Rattle.commands.specs.declared.replay.QueuePlan.{QueuePlan}
@@ -63,3 +64,10 @@ pub record Prints (r : ScheduleRequest) (old new : Option (List ℕ)) : Type 0 w
 -- fewer were: for want of memory, or because the output failed
 abbrev pub Refuses : ScheduleRequest → Refusal → Type 0
 Refuses r e = NotPrinted r e ⊎ (e ≡ refusal.Output)
+
+-- how `schedules` ends: its lists were printed, or it is refused. A plan of queues that there can't be is always refused, with
+-- nothing printed, if there is a list to draw
+pub record EndsSchedules (r : ScheduleRequest) (status : ℕ) (old new : Option (List ℕ)) : Type 0 where
+  pub done : status ≡ DONE → Prints r old new
+  pub either : (status ≡ DONE) ⊎ (status ≡ REFUSED)
+  pub no_queues : ¬ (AreQueues r.plan.pairs r.plan.ring) → 1 ≤ r.count → (status ≡ REFUSED) × Keeps old new

@@ -12,7 +12,7 @@ use std::alloc::Global;
 use std::io::Write;
 
 /// Does what is asked for, and answers an exit status. The lists go to `output`, with status 0. A refusal goes to `faults`
-/// as one line, with status 1, as the other commands' do.
+/// as one line, with status 1, as the other commands' do: queues that there can't be with nothing printed.
 pub fn answer<W: Write, E: Write>(
     alloc: Global,
     request: &ScheduleRequest,
@@ -22,6 +22,8 @@ pub fn answer<W: Write, E: Write>(
     ensures status { (result ≡ DONE) ⊎ (result ≡ REFUSED) }
     ensures done { result ≡ DONE → Keeps (E.contents faults.old) (E.contents faults.new) }
     ensures prints { result ≡ DONE → Prints request.now (W.contents output.old) (W.contents output.new) }
+    ensures no_queues { ¬ (AreQueues request.now.plan.pairs request.now.plan.ring) → 1 ≤ request.now.count
+        → (result ≡ REFUSED) × Keeps (W.contents output.old) (W.contents output.new) }
 {
     match perform(alloc, request, output) {
         Ok(()) => DONE,

@@ -6,6 +6,7 @@ use Rattle.command_line.proofs.DecodeWords.{decode_found, decode_taken}
 use Rattle.command_line.proofs.ForwardWords.{forward_found, forward_taken}
 use Rattle.command_line.proofs.OnceWords.{once_found, once_taken}
 use Rattle.command_line.proofs.ReplayWords.{replay_found, replay_taken}
+use Rattle.command_line.proofs.ScheduleWords.{schedules_found, schedules_taken}
 use Rattle.command_line.proofs.command.asked_of.Goals as goal
 
 pub returns-in_err-matches-clause-once : goal.returns-in_err-matches-clause-once
@@ -125,3 +126,20 @@ pub returns-clause-misuse : goal.returns-clause-misuse
 returns-clause-misuse c misuse =
     let kinds = c.in_ok-matches.ensures.kinds (free _ c.in_ok-program.ensures) in
     absurd (misuse_not_taken _ _ c.in_ok-program.ensures misuse kinds)
+
+pub returns-in_err-matches-clause-schedules : goal.returns-in_err-matches-clause-schedules
+returns-in_err-matches-clause-schedules c request says =
+    let p = err_from_is_err_and c.from_residual-in_err-matches.result c.from_residual-in_err-matches.ensures.1 in
+    rw (p.1, p.2) (c.in_err-matches.ensures.passes (schedules_taken _ _ request c.in_ok-program.ensures says))
+
+pub returns-in-Some-clause-schedules : goal.returns-in-Some-clause-schedules
+returns-in-Some-clause-schedules c request says =
+    let lists = schedules_found _ _ request c.in_ok-program.ensures says in
+    let found = (c.in_ok-matches.ensures.ok.2 (simple _ c.in_ok-program.ensures)).1 ∙ lists.1 in
+    c.in-Some.ensures.schedules lists.0 request found lists.2
+
+pub returns-clause-schedules : goal.returns-clause-schedules
+returns-clause-schedules c request says =
+    let lists = schedules_found _ _ request c.in_ok-program.ensures says in
+    let found = (c.in_ok-matches.ensures.ok.2 (simple _ c.in_ok-program.ensures)).1 ∙ lists.1 in
+    absurd (c.in-None.ensures.schedules lists.0 request found lists.2)

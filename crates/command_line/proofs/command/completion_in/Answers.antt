@@ -1,6 +1,6 @@
 use Rattle.std.proofs.Common.{◌∙◌, ap, sym, codes}
 use Rattle.clap.specs.Words.{found_of}
-use Rattle.command_line.specs.CommandLine.{completion_of}
+use Rattle.command_line.specs.OptionWords.{completion_of}
 use Rattle.command_line.proofs.CommandLine.{reads_flag, text_is}
 use Rattle.command_line.proofs.command.completion_in.Goals as goal
 

@@ -12,10 +12,11 @@ returns c =
     let with_replay = c.in_ok-subcommand-3.ensures.shape c.in_ok-replay.ensures.local ∙ ap₂ with_subcommand with_decode (ap (λ (a : App). a.top) c.in_ok-replay.ensures.app) in
     let with_forward = c.in_ok-subcommand-4.ensures.shape c.in_ok-forward.ensures.local ∙ ap₂ with_subcommand with_replay (ap (λ (a : App). a.top) c.in_ok-forward.ensures.app) in
     let with_from = c.in_ok-subcommand-5.ensures.shape c.in_ok-from_capture.ensures.local ∙ ap₂ with_subcommand with_forward (ap (λ (a : App). a.top) c.in_ok-from_capture.ensures.app) in
-    IfOk-weaker c.subcommand-6.result _ _ (λ r adds. record {
+    let with_to = c.in_ok-subcommand-6.ensures.shape c.in_ok-to_capture.ensures.local ∙ ap₂ with_subcommand with_from (ap (λ (a : App). a.top) c.in_ok-to_capture.ensures.app) in
+    IfOk-weaker c.subcommand-7.result _ _ (λ r adds. record {
       rings = decode.rings;
       formats = decode.formats;
       rings_are = decode.rings_are;
       formats_are = decode.formats_are;
-      app_is = adds.shape c.in_ok-to_capture.ensures.local ∙ ap₂ with_subcommand with_from (ap (λ (a : App). a.top) c.in_ok-to_capture.ensures.app);
-    }) c.subcommand-6.ensures
+      app_is = adds.shape c.in_ok-schedules.ensures.local ∙ ap₂ with_subcommand with_to (ap (λ (a : App). a.top) c.in_ok-schedules.ensures.app);
+    }) c.subcommand-7.ensures

@@ -1,7 +1,7 @@
 use Rattle.std.proofs.Common.{◌≡◌, ◌∙◌, ap, ℕ, codes, Option, Some, None, unwrap_or}
 use Rattle.std.specs.Prelude.{decimal, not}
 use Rattle.clap.specs.Words.{found_of}
-use Rattle.command_line.specs.CommandLine.{is_head}
+use Rattle.command_line.specs.OptionWords.{is_head}
 use Rattle.command_line.proofs.CommandLine.{reads_flag, reads_number, text_is}
 use Rattle.command_line.proofs.ReplayWords.{begins_as, completion_is, plan_is}
 use Rattle.command_line.proofs.command.replay_in.Goals as goal

@@ -1,6 +1,7 @@
 use Rattle.std.proofs.Common.{◌≡◌, ◌∙◌, ap, ap₂, refl, Bool, true, false, ◌||◌}
 use Rattle.std.proofs.lemmas.Result.{IfOk-weaker}
 use Rattle.clap.specs.Words.{app_of, with_rule}
+use Rattle.command_line.proofs.CommandLine.{or_false}
 use Rattle.command_line.proofs.command.with_printing.Goals as goal
 
 pub returns-clause-app : goal.returns-clause-app
@@ -8,11 +9,6 @@ returns-clause-app c =
     let with_quiet = c.in_ok-arg.ensures.shape c.flag-quiet.ensures.local ∙ ap (with_rule (app_of c.args.command)) c.flag-quiet.ensures.rule in
     let with_json = c.in_ok-arg-2.ensures.shape c.flag-json.ensures.local ∙ ap₂ with_rule with_quiet c.flag-json.ensures.rule in
     IfOk-weaker c.arg-3.result _ _ (λ r adds. adds.shape c.flag-progress.ensures.local ∙ ap₂ with_rule with_json c.flag-progress.ensures.rule) c.arg-3.ensures
-
--- no option that isn't global makes the command have one
-or_false : (b x : Bool) → x ≡ false → (b || x) ≡ b
-or_false true x is = refl
-or_false false x is = is
 
 pub returns-clause-local : goal.returns-clause-local
 returns-clause-local c =

@@ -1,6 +1,7 @@
 use Rattle.std.proofs.Common.{◌≡◌, ◌∙◌, ap, ap₂, refl, Bool, true, false, ◌||◌}
 use Rattle.std.proofs.lemmas.Result.{IfOk-weaker}
 use Rattle.clap.specs.Words.{app_of, with_rule}
+use Rattle.command_line.proofs.CommandLine.{or_false}
 use Rattle.command_line.proofs.command.with_queues.Goals as goal
 
 pub returns-clause-app : goal.returns-clause-app
@@ -9,11 +10,6 @@ returns-clause-app c =
     let with_ring = c.in_ok-arg-2.ensures.shape c.number-ring.ensures.local ∙ ap₂ with_rule with_pairs c.number-ring.ensures.rule in
     let with_buffers = c.in_ok-arg-3.ensures.shape c.number-buffers.ensures.local ∙ ap₂ with_rule with_ring c.number-buffers.ensures.rule in
     IfOk-weaker c.arg-4.result _ _ (λ r adds. adds.shape c.number-bsize.ensures.local ∙ ap₂ with_rule with_buffers c.number-bsize.ensures.rule) c.arg-4.ensures
-
--- no option that isn't global makes the command have one
-or_false : (b x : Bool) → x ≡ false → (b || x) ≡ b
-or_false true x is = refl
-or_false false x is = is
 
 pub returns-clause-local : goal.returns-clause-local
 returns-clause-local c =

@@ -1,6 +1,7 @@
 use Rattle.std.proofs.Common.{◌≡◌, ◌∙◌, ap, ap₂, refl, Bool, true, false, ◌||◌}
 use Rattle.std.proofs.lemmas.Result.{IfOk-weaker}
 use Rattle.clap.specs.Words.{app_of, with_rule}
+use Rattle.command_line.proofs.CommandLine.{or_false}
 use Rattle.command_line.proofs.command.with_work.Goals as goal
 
 pub returns-clause-app : goal.returns-clause-app
@@ -9,11 +10,6 @@ returns-clause-app c =
     let with_rs_every = c.in_ok-arg-2.ensures.shape c.number-rs_every.ensures.local ∙ ap₂ with_rule with_batch c.number-rs_every.ensures.rule in
     let with_workers = c.in_ok-arg-3.ensures.shape c.number-workers.ensures.local ∙ ap₂ with_rule with_rs_every c.number-workers.ensures.rule in
     IfOk-weaker c.arg-4.result _ _ (λ r adds. adds.shape c.number-turns.ensures.local ∙ ap₂ with_rule with_workers c.number-turns.ensures.rule) c.arg-4.ensures
-
--- no option that isn't global makes the command have one
-or_false : (b x : Bool) → x ≡ false → (b || x) ≡ b
-or_false true x is = refl
-or_false false x is = is
 
 pub returns-clause-local : goal.returns-clause-local
 returns-clause-local c =

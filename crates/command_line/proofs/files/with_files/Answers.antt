@@ -1,17 +1,13 @@
 use Rattle.std.proofs.Common.{◌≡◌, ◌∙◌, ap, ap₂, refl, Bool, true, false, ◌||◌}
 use Rattle.std.proofs.lemmas.Result.{IfOk-weaker}
 use Rattle.clap.specs.Words.{app_of, with_rule}
+use Rattle.command_line.proofs.CommandLine.{or_false}
 use Rattle.command_line.proofs.files.with_files.Goals as goal
 
 pub returns-clause-app : goal.returns-clause-app
 returns-clause-app c =
     let with_capture = c.in_ok-arg.ensures.shape c.file-capture.ensures.local ∙ ap (with_rule (app_of c.args.command)) c.file-capture.ensures.rule in
     IfOk-weaker c.arg-2.result _ _ (λ r adds. adds.shape c.file-wire.ensures.local ∙ ap₂ with_rule with_capture c.file-wire.ensures.rule) c.arg-2.ensures
-
--- no option that isn't global makes the command have one
-or_false : (b x : Bool) → x ≡ false → (b || x) ≡ b
-or_false true x is = refl
-or_false false x is = is
 
 pub returns-clause-local : goal.returns-clause-local
 returns-clause-local c =

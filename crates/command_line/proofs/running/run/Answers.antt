@@ -5,8 +5,10 @@ use Rattle.commands.specs.Answers.{EndsBy}
 use Rattle.commands.specs.Replay.{EndsReplay}
 use Rattle.commands.specs.declared.request.Request.{Request}
 use Rattle.command_line.specs.Forwarding.{EndsForwarding}
-use Rattle.command_line.specs.CommandLine.{IsDecode, IsOnce, IsReplayOf}
-use Rattle.command_line.proofs.Endings.{as-capture, as-forward, as-request, capture-ends, capture-kept, decode-ends, forward-ends, forward-kept, no-capture-of-forward, no-capture-of-request, no-forward, no-forward-of-captures, no-request, no-request-of-captures, once-ends, replay-ends, replay-kept, unshown-forward}
+use Rattle.schedule_command.specs.Lists.{EndsSchedules}
+use Rattle.command_line.specs.CommandLine.{IsCapture, IsDecode, IsForward, IsOnce, IsReplayOf, IsRequest, IsSchedules}
+use Rattle.command_line.specs.declared.command.Asked.{Asked}
+use Rattle.command_line.proofs.Endings.{as-capture, as-forward, as-request, capture-ends, capture-kept, decode-ends, forward-ends, forward-kept, no-capture-of-forward, no-capture-of-request, no-forward, no-forward-of-captures, no-request, no-request-of-captures, once-ends, replay-ends, replay-kept, schedules-ends, schedules-kept, unshown-forward}
 use Rattle.command_line.proofs.running.run.Goals as goal
 
 pub returns-in-Ok-Request-clause-once : goal.returns-in-Ok-Request-clause-once
@@ -106,6 +108,52 @@ pub returns-in-Ok-Capture-clause-unread : goal.returns-in-Ok-Capture-clause-unre
 returns-in-Ok-Capture-clause-unread g c config printing files says =
     absurd (no-forward-of-captures c.in-Ok-Capture.field-0 c.in-Ok-Capture.request config printing c.in-Ok-Capture.field-0-is (c.in-Ok-Capture.ensures.forward config printing files says))
 
+-- ---- lists of moves
+
+pub returns-in-Ok-Request-clause-schedules : goal.returns-in-Ok-Request-clause-schedules
+returns-in-Ok-Request-clause-schedules g c request says =
+    absurd (subst (λ (a : Asked). IsSchedules a request) c.in-Ok-Request.field-0-is (c.in-Ok-Request.ensures.schedules request says))
+
+pub returns-in-Ok-Forward-clause-schedules : goal.returns-in-Ok-Forward-clause-schedules
+returns-in-Ok-Forward-clause-schedules g c request says =
+    absurd (subst (λ (a : Asked). IsSchedules a request) c.in-Ok-Forward.field-0-is (c.in-Ok-Forward.ensures.schedules request says))
+
+pub returns-in-Ok-Capture-clause-schedules : goal.returns-in-Ok-Capture-clause-schedules
+returns-in-Ok-Capture-clause-schedules g c request says =
+    absurd (subst (λ (a : Asked). IsSchedules a request) c.in-Ok-Capture.field-0-is (c.in-Ok-Capture.ensures.schedules request says))
+
+pub returns-in-Ok-Schedules-clause-schedules : goal.returns-in-Ok-Schedules-clause-schedules
+returns-in-Ok-Schedules-clause-schedules g c request says =
+    let given = c.in-Ok-Schedules.request in
+    let is = subst (λ (a : Asked). IsSchedules a request) c.in-Ok-Schedules.field-0-is (c.in-Ok-Schedules.ensures.schedules request says) in
+    let answered = c.answer-in-Ok-Schedules.ensures in
+    schedules-ends given request _ _ _ is (record { done = answered.prints; either = answered.status; no_queues = answered.no_queues })
+
+pub returns-in-Err-clause-schedules : goal.returns-in-Err-clause-schedules
+returns-in-Err-clause-schedules g c request says = let m = c.tell.ensures.memory (c.in-Err.ensures.schedules request says) in
+    subst (λ (status : ℕ). EndsSchedules request status (g.W.Write.contents c.args.output.now) (g.W.Write.contents c.tell.new.output)) (sym m.0)
+    (schedules-kept request (g.W.Write.contents c.args.output.now) (g.W.Write.contents c.tell.new.output) m.1)
+
+pub returns-in-Ok-Schedules-clause-replay : goal.returns-in-Ok-Schedules-clause-replay
+returns-in-Ok-Schedules-clause-replay g c plan text says known =
+    absurd (subst (λ (a : Asked). IsRequest (λ r. IsReplayOf r plan) a) c.in-Ok-Schedules.field-0-is (c.in-Ok-Schedules.ensures.replay plan says))
+
+pub returns-in-Ok-Schedules-clause-forward : goal.returns-in-Ok-Schedules-clause-forward
+returns-in-Ok-Schedules-clause-forward g c config printing files says =
+    absurd (subst (λ (a : Asked). IsForward a config printing) c.in-Ok-Schedules.field-0-is (c.in-Ok-Schedules.ensures.forward config printing files says))
+
+pub returns-in-Ok-Schedules-clause-unread : goal.returns-in-Ok-Schedules-clause-unread
+returns-in-Ok-Schedules-clause-unread g c config printing files says =
+    absurd (subst (λ (a : Asked). IsForward a config printing) c.in-Ok-Schedules.field-0-is (c.in-Ok-Schedules.ensures.forward config printing files says))
+
+pub returns-in-Ok-Schedules-clause-from_capture : goal.returns-in-Ok-Schedules-clause-from_capture
+returns-in-Ok-Schedules-clause-from_capture g c port queue bytes says known =
+    absurd (subst (λ (a : Asked). IsCapture a (FromCapture port queue)) c.in-Ok-Schedules.field-0-is (c.in-Ok-Schedules.ensures.from_capture port queue says))
+
+pub returns-in-Ok-Schedules-clause-to_capture : goal.returns-in-Ok-Schedules-clause-to_capture
+returns-in-Ok-Schedules-clause-to_capture g c port bytes says known =
+    absurd (subst (λ (a : Asked). IsCapture a (ToCapture port)) c.in-Ok-Schedules.field-0-is (c.in-Ok-Schedules.ensures.to_capture port says))
+
 -- what was asked for is a forwarding: so the words are none but those of one
 pub returns-in-Ok-Forward-clause-screen : goal.returns-in-Ok-Forward-clause-screen
 returns-in-Ok-Forward-clause-screen g c unshown =
@@ -114,4 +162,4 @@ returns-in-Ok-Forward-clause-screen g c unshown =
     let shown = c.in-Ok-Forward.printing in
     let asks = c.in-Ok-Forward.ensures in
     c.forward.ensures.screen
-    (unshown-forward _ found given shown c.in-Ok-Forward.field-0-is asks.once asks.decode asks.replay asks.forward asks.from_capture asks.to_capture asks.misuse unshown)
+    (unshown-forward _ found given shown c.in-Ok-Forward.field-0-is asks.once asks.decode asks.replay asks.forward asks.from_capture asks.to_capture asks.schedules asks.misuse unshown)

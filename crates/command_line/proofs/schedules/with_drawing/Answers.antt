@@ -1,0 +1,21 @@
+use Rattle.std.proofs.Common.{◌≡◌, ◌∙◌, ap, ap₂, refl, Bool, true, false, ◌||◌}
+use Rattle.std.proofs.lemmas.Result.{IfOk-weaker}
+use Rattle.clap.specs.Words.{app_of, with_rule}
+use Rattle.command_line.proofs.CommandLine.{or_false}
+use Rattle.command_line.proofs.schedules.with_drawing.Goals as goal
+
+pub returns-clause-app : goal.returns-clause-app
+returns-clause-app c =
+    let with_off = c.in_ok-arg.ensures.shape c.flag-off.ensures.local ∙ ap (with_rule (app_of c.args.command)) c.flag-off.ensures.rule in
+    let with_head = c.in_ok-arg-2.ensures.shape c.flag-head.ensures.local ∙ ap₂ with_rule with_off c.flag-head.ensures.rule in
+    let with_refused = c.in_ok-arg-3.ensures.shape c.share-refused.ensures.local ∙ ap₂ with_rule with_head c.share-refused.ensures.rule in
+    let with_expect = c.in_ok-arg-4.ensures.shape c.flag-expect.ensures.local ∙ ap₂ with_rule with_refused c.flag-expect.ensures.rule in
+    IfOk-weaker c.arg-5.result _ _ (λ r adds. adds.shape c.flag-device_only.ensures.local ∙ ap₂ with_rule with_expect c.flag-device_only.ensures.rule) c.arg-5.ensures
+
+pub returns-clause-local : goal.returns-clause-local
+returns-clause-local c =
+    let with_off = c.in_ok-arg.ensures.globals ∙ or_false _ _ c.flag-off.ensures.local in
+    let with_head = c.in_ok-arg-2.ensures.globals ∙ or_false _ _ c.flag-head.ensures.local ∙ with_off in
+    let with_refused = c.in_ok-arg-3.ensures.globals ∙ or_false _ _ c.share-refused.ensures.local ∙ with_head in
+    let with_expect = c.in_ok-arg-4.ensures.globals ∙ or_false _ _ c.flag-expect.ensures.local ∙ with_refused in
+    IfOk-weaker c.arg-5.result _ _ (λ r adds. adds.globals ∙ or_false _ _ c.flag-device_only.ensures.local ∙ with_expect) c.arg-5.ensures

@@ -1,0 +1,21 @@
+use Rattle.std.proofs.Common.{◌≡◌, ◌∙◌, ap, ap₂, refl, Bool, true, false, ◌||◌}
+use Rattle.std.proofs.lemmas.Result.{IfOk-weaker}
+use Rattle.clap.specs.Words.{app_of, with_rule}
+use Rattle.command_line.proofs.CommandLine.{or_false}
+use Rattle.command_line.proofs.schedules.with_lists.Goals as goal
+
+pub returns-clause-app : goal.returns-clause-app
+returns-clause-app c =
+    let with_seed = c.in_ok-arg.ensures.shape c.said-seed.ensures.local ∙ ap (with_rule (app_of c.args.command)) c.said-seed.ensures.rule in
+    let with_moves = c.in_ok-arg-2.ensures.shape c.said-moves.ensures.local ∙ ap₂ with_rule with_seed c.said-moves.ensures.rule in
+    let with_count = c.in_ok-arg-3.ensures.shape c.number-count.ensures.local ∙ ap₂ with_rule with_moves c.number-count.ensures.rule in
+    let with_ring = c.in_ok-arg-4.ensures.shape c.number-ring.ensures.local ∙ ap₂ with_rule with_count c.number-ring.ensures.rule in
+    IfOk-weaker c.arg-5.result _ _ (λ r adds. adds.shape c.number-pairs.ensures.local ∙ ap₂ with_rule with_ring c.number-pairs.ensures.rule) c.arg-5.ensures
+
+pub returns-clause-local : goal.returns-clause-local
+returns-clause-local c =
+    let with_seed = c.in_ok-arg.ensures.globals ∙ or_false _ _ c.said-seed.ensures.local in
+    let with_moves = c.in_ok-arg-2.ensures.globals ∙ or_false _ _ c.said-moves.ensures.local ∙ with_seed in
+    let with_count = c.in_ok-arg-3.ensures.globals ∙ or_false _ _ c.number-count.ensures.local ∙ with_moves in
+    let with_ring = c.in_ok-arg-4.ensures.globals ∙ or_false _ _ c.number-ring.ensures.local ∙ with_count in
+    IfOk-weaker c.arg-5.result _ _ (λ r adds. adds.globals ∙ or_false _ _ c.number-pairs.ensures.local ∙ with_ring) c.arg-5.ensures

@@ -1,0 +1,38 @@
+-- An option with a number, and one without a value: the argument that clap has for it, and its words.
+use Rattle.std.specs.Prelude.{◌≡◌, ◌⊎◌, ℕ, ◌^◌, ◌<◌, Bool, true, false, if◌then◌else◌, pos, List, [], ◌∷◌, decimal, Some}
+use Rattle.clap.specs.Words.{Rule, Text, new_rule}
+use Rattle.clap.specs.declared.builder.action.ArgAction.TheVariants.{SetTrue}
+use Rattle.clap.specs.declared.builder.value_parser.ValueParser.TheVariants.{Signed}
+use Rattle.ring_model.specs.declared.states.Completion.{Completion}
+use Rattle.ring_model.specs.declared.states.Completion.TheVariants.{Head, Status}
+
+-- an option with a number up to this one, which has these texts where it is left out
+abbrev pub bounded_rule : Text → ℕ → List Text → Rule
+bounded_rule id most defaults = record (new_rule id) { long = Some id; value_names = 1; parser = Some (Signed (pos 0) (pos most)); defaults = defaults }
+
+-- an option with a number of `u32`, which has this one where it is left out
+abbrev pub number_rule : Text → Text → Rule
+number_rule id default = bounded_rule id 4294967295 (default ∷ [])
+
+-- an option without a value
+abbrev pub flag_rule : Text → Rule
+flag_rule id = record (new_rule id) { long = Some id; action = Some SetTrue }
+
+-- an option stands with a number below a bound, or is left out where the number is its default
+abbrev pub SaysNumberBelow : ℕ → Text → ℕ → List Text → ℕ → Type 0
+SaysNumberBelow bound option default words n = ((words ≡ option ∷ decimal n ∷ []) × (n < bound)) ⊎ ((words ≡ []) × (n ≡ default))
+
+abbrev pub SaysNumber : Text → ℕ → List Text → ℕ → Type 0
+SaysNumber = SaysNumberBelow (2 ^ 32)
+
+-- an option without a value stands, or does not
+abbrev pub flag_words : Text → Bool → List Text
+flag_words option stands = if stands then option ∷ [] else []
+
+abbrev pub is_head : Completion → Bool
+is_head Head = true
+is_head Status = false
+
+abbrev pub completion_of : Bool → Completion
+completion_of true = Head
+completion_of false = Status

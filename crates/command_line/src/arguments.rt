@@ -1,0 +1,80 @@
+//! The arguments that commands are built of.
+ghost use Rattle.std.specs.Prelude.{◌≡◌, false};
+ghost use Rattle.clap.specs.Words.{rule_of};
+ghost use Rattle.command_line.specs.CommandLine.{choice_rule, hex_rule};
+ghost use Rattle.command_line.specs.OptionWords.{flag_rule, number_rule};
+ghost use Rattle.command_line.specs.ScheduleWords.{said_rule, share_rule};
+
+use clap::{Arg, ArgAction, value_parser};
+use std::alloc::Global;
+
+/// An option with a number, which has this one where it is left out.
+pub(crate) fn number<'a>(alloc: Global, id: &'a str, default: &'a str, help: &'a str) -> Arg<'a>
+    ensures rule { rule_of result ≡ number_rule id.entry.now default.entry.now }
+    ensures local { result.global ≡ false }
+{
+    Arg::new(alloc, id)
+        .long(id)
+        .value_name("N")
+        .value_parser(value_parser!(u32))
+        .default_value(default)
+        .help(help)
+}
+
+/// An option with a number that has to be said.
+pub(crate) fn said<'a>(alloc: Global, id: &'a str, help: &'a str) -> Arg<'a>
+    ensures rule { rule_of result ≡ said_rule id.entry.now }
+    ensures local { result.global ≡ false }
+{
+    Arg::new(alloc, id)
+        .long(id)
+        .value_name("N")
+        .value_parser(value_parser!(u32))
+        .help(help)
+}
+
+/// An option with how many of a hundred, which is none where it is left out.
+pub(crate) fn share<'a>(alloc: Global, id: &'a str, help: &'a str) -> Arg<'a>
+    ensures rule { rule_of result ≡ share_rule id.entry.now }
+    ensures local { result.global ≡ false }
+{
+    Arg::new(alloc, id)
+        .long(id)
+        .value_name("N")
+        .value_parser(value_parser!(u32).range(0..=100))
+        .default_value("0")
+        .help(help)
+}
+
+/// An option without a value.
+pub(crate) fn flag<'a>(alloc: Global, id: &'a str, help: &'a str) -> Arg<'a>
+    ensures rule { rule_of result ≡ flag_rule id.entry.now }
+    ensures local { result.global ≡ false }
+{
+    Arg::new(alloc, id)
+        .long(id)
+        .action(ArgAction::SetTrue)
+        .help(help)
+}
+
+/// An argument of hex digits.
+pub(crate) fn hex<'a>(alloc: Global, help: &'a str) -> Arg<'a>
+    ensures rule { rule_of result ≡ hex_rule }
+    ensures local { result.global ≡ false }
+{
+    Arg::new(alloc, "hex")
+        .required(true)
+        .value_name("HEX")
+        .help(help)
+}
+
+/// An argument that is one of these words.
+pub(crate) fn choice<'a>(alloc: Global, id: &'a str, name: &'a str, words: &'a [&'a str]) -> Arg<'a>
+    ensures rule { rule_of result ≡ choice_rule id.entry.now words.entry }
+    ensures local { result.global ≡ false }
+{
+    Arg::new(alloc, id)
+        .value_name(name)
+        .value_parser(words)
+        .required(true)
+}

@@ -1,0 +1,138 @@
+//! The command `schedules`, and what is asked for in its matches.
+ghost use Rattle.std.specs.Prelude.{◌≡◌, Some, false, codes, IfOk};
+ghost use Rattle.clap.specs.Words.{app_of, found_of, rows_of};
+ghost use Rattle.clap.specs.declared.builder.command.Command.TheViews.{out-Command};
+ghost use Rattle.schedule_command.specs.declared.request.ScheduleRequest.{ScheduleRequest as Lists};
+ghost use Rattle.command_line.specs.ScheduleWords.{HasSchedules, schedules_app, with_drawing_rules, with_list_rules};
+
+use crate::arguments::{flag, number, said, share};
+use crate::command::completion_in;
+use clap::{ArgMatches, Command};
+use schedule_command::ScheduleRequest;
+use schedules::SchedulePlan;
+use std::alloc::{AllocError, Global};
+
+const EXAMPLE: &str =
+    "Example:\n  poll82599 schedules --seed 1 --moves 4\n  prints r0 A1 50788\n  and t0 B1 4685 14 0 0 31\n  and t0 B1 44665 17 1 1 31\n  and t0 B7\n  and # end";
+
+/// The request in matches of `schedules`, if they have the seed and the moves.
+pub(crate) fn schedules_in<'a>(matches: &ArgMatches<'a>) -> Option<ScheduleRequest>
+    ensures { (request : Lists) → HasSchedules (rows_of (found_of matches.now)) request → result ≡ Some request }
+{
+    let plan = plan_in(matches)?;
+    let seed = matches.get_one("seed")?;
+    let count = matches.get_one("count")?;
+    let expect = matches.get_flag("expect");
+    Some(ScheduleRequest {
+        plan,
+        seed,
+        count,
+        expect,
+    })
+}
+
+/// How each list is drawn, in matches of `schedules`.
+fn plan_in<'a>(matches: &ArgMatches<'a>) -> Option<SchedulePlan>
+    ensures { (request : Lists) → HasSchedules (rows_of (found_of matches.now)) request → result ≡ Some request.plan }
+{
+    let moves = matches.get_one("moves")?;
+    let ring = matches.get_one("ring")?;
+    let pairs = matches.get_one("pairs")?;
+    let refused = matches.get_one("refused")?;
+    let enabled = !matches.get_flag("off");
+    let completion = completion_in(matches);
+    let device_only = matches.get_flag("device-only-real");
+    Some(SchedulePlan {
+        pairs,
+        ring,
+        enabled,
+        completion,
+        moves,
+        refused,
+        device_only,
+    })
+}
+
+/// The command `schedules`.
+pub(crate) fn schedules<'a>(alloc: Global) -> Result<Command<'a>, AllocError>
+    ensures app { IfOk result (λ c. app_of c ≡ schedules_app) }
+    ensures local { IfOk result (λ c. (out-Command c).has_globals ≡ false) }
+{
+    let command = Command::new(alloc, "schedules")
+        .about(
+            "Prints lists of moves drawn from a seed, the same for the same words on every machine",
+        )
+        .after_help(EXAMPLE);
+    with_drawing(alloc, with_lists(alloc, command)?)
+}
+
+/// A command with the options of `schedules` for its lists and their queues.
+fn with_lists<'a>(alloc: Global, command: Command<'a>) -> Result<Command<'a>, AllocError>
+    ensures app { IfOk result (λ c. app_of c ≡ with_list_rules (app_of command.entry)) }
+    ensures local { IfOk result (λ c. (out-Command c).has_globals ≡ (out-Command command.entry).has_globals) }
+{
+    let seed = said(
+        alloc,
+        "seed",
+        "Which lists are drawn, 0 to 4,294,967,295; has to be said",
+    );
+    let moves = said(
+        alloc,
+        "moves",
+        "How many moves each list has, 0 to 4,294,967,295; has to be said",
+    );
+    let count = number(
+        alloc,
+        "count",
+        "1",
+        "How many lists there are, 0 to 4,294,967,295",
+    );
+    let ring = number(
+        alloc,
+        "ring",
+        "8",
+        "How many descriptors each queue has, a power of two from 8 to 4,096",
+    );
+    let pairs = number(
+        alloc,
+        "pairs",
+        "1",
+        "How many pairs of a receive and a transmit queue there are, 1 to 8",
+    );
+    command
+        .arg(seed)?
+        .arg(moves)?
+        .arg(count)?
+        .arg(ring)?
+        .arg(pairs)
+}
+
+/// A command with the options of `schedules` for how a list is drawn and what follows it.
+fn with_drawing<'a>(alloc: Global, command: Command<'a>) -> Result<Command<'a>, AllocError>
+    ensures app { IfOk result (λ c. app_of c ≡ with_drawing_rules (app_of command.entry)) }
+    ensures local { IfOk result (λ c. (out-Command c).has_globals ≡ (out-Command command.entry).has_globals) }
+{
+    let off = flag(alloc, "off", "Begins with disabled queues");
+    let head = flag(alloc, "head", "Reports what was sent by a head word");
+    let refused = share(
+        alloc,
+        "refused",
+        "How many of a hundred moves at most don't happen, 0 to 100",
+    );
+    let expect = flag(
+        alloc,
+        "expect",
+        "Prints below each list what replay prints of it",
+    );
+    let device_only = flag(
+        alloc,
+        "device-only-real",
+        "Draws only moves that silicon and its driver make too",
+    );
+    command
+        .arg(off)?
+        .arg(head)?
+        .arg(refused)?
+        .arg(expect)?
+        .arg(device_only)
+}

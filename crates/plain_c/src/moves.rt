@@ -1,0 +1,91 @@
+//! Lists of moves, answered by the machines of queues.
+ghost use Rattle.std.specs.Prelude.{◌≡◌, ◌≢◌, length};
+ghost use Rattle.commands.specs.Refusals.{refused_line};
+ghost use Rattle.plain_c.specs.Moves.{IsRefused, Printed, TooSmall, line_of, plan_of};
+
+use commands::{QueuePlan, Refusal, replay_text};
+use opaque::{is_set, overwrite};
+use ring_machine::Completion;
+use std::alloc::Global;
+
+/// Which queues the moves are made on: how many pairs, 1 to 8, of how many descriptors each, a power of two from 8 to 4,096; and
+/// where the word is not 0, that they begin enabled, that the transmit queues report by a head word, and that what the moves
+/// tell is printed as JSON objects.
+#[repr(C)]
+#[derive(Clone, Copy)]
+pub struct Poll82599Plan {
+    pub pairs: u32,
+    pub descriptors: u32,
+    pub enabled: u32,
+    pub by_head: u32,
+    pub json: u32,
+}
+
+/// How many bytes the moves print, and the number of the first line that is no move, counted from 1.
+#[repr(C)]
+#[derive(Clone, Copy)]
+pub struct Poll82599Moved {
+    pub needed: u64,
+    pub line: u64,
+}
+
+/// Makes the moves of a text, one a line, on new queues, and writes what they tell, a line or an object each, to the beginning of
+/// `page`. It answers 0; 1 where `page` has fewer bytes than `needed` then says; or the number of the refusal: 14 where a line
+/// is no move, which `line` then names, 12 where there can be no such queues, and others where memory was refused. Only 0
+/// changes the page.
+#[unsafe(no_mangle)]
+pub extern "C" fn poll82599_moves(
+    alloc: Global,
+    plan: &Poll82599Plan,
+    text: &[u8],
+    page: &mut [u8],
+    moved: &mut Poll82599Moved,
+) -> u32
+    ensures printed { (result ≡ 0) → Printed (plan_of plan.now) text.now moved.new.needed page.old page.new }
+    ensures small { (result ≡ 1) → TooSmall (plan_of plan.now) text.now moved.new.needed page.old }
+    ensures refused { (result ≢ 0) → (result ≢ 1) → IsRefused (plan_of plan.now) text.now result moved.new.line }
+    ensures kept { (result ≢ 0) → page.new ≡ page.old }
+{
+    let mut input = text;
+    match replay_text(alloc, plan_read(plan), &mut input) {
+        Ok(printed) => {
+            let bytes = printed.as_bytes();
+            moved.needed = bytes.len() as u64;
+            if page.len() < bytes.len() {
+                return 1;
+            }
+            overwrite(page, bytes);
+            0
+        }
+        Err(why) => {
+            moved.line = line_said(&why);
+            u32::from(why.number())
+        }
+    }
+}
+
+fn plan_read(plan: &Poll82599Plan) -> QueuePlan
+    ensures { result ≡ plan_of plan.now }
+{
+    let completion = if is_set(plan.by_head) {
+        Completion::Head
+    } else {
+        Completion::Status
+    };
+    QueuePlan {
+        pairs: plan.pairs,
+        ring: plan.descriptors,
+        enabled: is_set(plan.enabled),
+        completion,
+        json: is_set(plan.json),
+    }
+}
+
+fn line_said(why: &Refusal) -> u64
+    ensures { result ≡ line_of (refused_line why.now) }
+{
+    match why.line() {
+        Some(line) => line,
+        None => 0,
+    }
+}

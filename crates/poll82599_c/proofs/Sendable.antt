@@ -1,0 +1,34 @@
+-- The objects behind the handles may go to another thread.
+use denote.Param.Send.{IsSend, sendable}
+use Rattle.arrayvec.proofs.cells.Cells.TheSendSync as cells
+use Rattle.atomic_table.proofs.send_lease.SendLease.TheSendSync as lease
+use Rattle.atomic_table.proofs.shared.Seat.TheSendSync as seat
+use Rattle.atomic_table.proofs.shared.Shared.TheSendSync as shared
+use Rattle.buffer_pool.proofs.chain.Chain.TheLaws.TheKnot.{send-Chain, sync-Chain}
+use Rattle.buffer_pool.proofs.chain.Room.TheSendSync as room
+use Rattle.core.proofs.marker.PhantomData.TheSendSync as phantom
+use Rattle.core.proofs.option.Option.TheSendSync as option
+use Rattle.poll82599_c.proofs.begun.Begun.TheSendSync as begun
+use Rattle.ring_model.proofs.states.Completion.TheSendSync as completion
+use Rattle.shared_ring.proofs.ends.ControllerPlaces.TheSendSync as controller_places
+use Rattle.shared_ring.proofs.ends.DriverPlaces.TheSendSync as driver_places
+use Rattle.std.proofs.Crossing.{crosses}
+use Rattle.std_heap.proofs.Global.TheSendSync as heap
+use Rattle.poll82599_c.specs.contracts.rx_driving.RxDriving as RxDriving
+use Rattle.poll82599_c.specs.contracts.rx_serving.RxServing as RxServing
+use Rattle.poll82599_c.specs.contracts.tx_driving.TxDriving as TxDriving
+use Rattle.poll82599_c.specs.contracts.tx_serving.TxServing as TxServing
+
+ruleset parts = (sendable, crosses, cells.the_field_send, lease.the_send, lease.the_sync, seat.the_send, shared.the_send, shared.the_sync, send-Chain, sync-Chain, room.the_field_send, room.the_field_sync, phantom.the_field_send, option.the_send, option.the_sync, begun.the_field_send, completion.the_field_send, controller_places.the_field_send, driver_places.the_field_send, heap.the_send, heap.the_sync)
+
+pub rx_driving : IsSend RxDriving.the_row
+rx_driving = search parts depth 60
+
+pub rx_serving : IsSend RxServing.the_row
+rx_serving = search parts depth 60
+
+pub tx_driving : IsSend TxDriving.the_row
+tx_driving = search parts depth 60
+
+pub tx_serving : IsSend TxServing.the_row
+tx_serving = search parts depth 60

@@ -1,0 +1,113 @@
+/* Frames of several segments on both kinds of rings, on one thread; what a disabling leaves; a descriptor in bytes; and a list of
+ * moves. It prints a line of each, and ends with status 1 where one is not as it should be. */
+#include <poll82599.h>
+
+#include <stdio.h>
+#include <string.h>
+
+enum { FRAME = 5000 };
+
+static int failed;
+
+static void check(int good, const char *what)
+{
+    printf("%s: %s\n", what, good ? "as it should be" : "WRONG");
+    failed |= !good;
+}
+
+/* Stores a frame in segments of 2,048 bytes: how many it took, or 0. */
+static uint32_t store(struct poll82599_rx_controller *controller, const uint8_t *frame, size_t len)
+{
+    uint32_t count = 0;
+    for (size_t at = 0; at < len; count++) {
+        size_t piece = len - at < POLL82599_BUFFER_BYTES ? len - at : POLL82599_BUFFER_BYTES;
+        if (poll82599_rx_store_segment(controller, frame + at, piece, at + piece == len) != 1)
+            return 0;
+        at += piece;
+    }
+    return count;
+}
+
+static void receive(const uint8_t *frame)
+{
+    struct poll82599_rx_driver driver = {0};
+    struct poll82599_rx_controller controller = {0};
+    uint8_t got[FRAME + POLL82599_BUFFER_BYTES];
+    uint32_t len, eop = 0, left;
+    size_t taken = 0;
+    check(poll82599_rx_new(8, 16, &driver, &controller) == 0, "a receive ring of 8");
+    while (poll82599_rx_post(&driver))
+        ;
+    poll82599_rx_set_tail(&driver);
+    poll82599_rx_ask_enable(&driver);
+    poll82599_rx_answer(&controller);
+    poll82599_rx_state(&driver);
+    check(store(&controller, frame, FRAME) == 3, "a frame of 5,000 bytes is stored in 3 segments");
+    check(poll82599_rx_store_segment(&controller, frame, 13, 1) == 2, "13 bytes are no frame");
+    while (!eop && poll82599_rx_poll(&driver, got + taken, POLL82599_BUFFER_BYTES, &len, &eop) == 1)
+        taken += len;
+    check(taken == FRAME && memcmp(got, frame, FRAME) == 0, "it is taken as it was");
+    check(store(&controller, frame, 60) == 1, "one more is stored, and not taken");
+    poll82599_rx_ask_disable(&driver);
+    poll82599_rx_answer(&controller);
+    poll82599_rx_state(&driver);
+    check(poll82599_rx_untaken(&driver, &left) == 1 && left == 1, "one segment is left after the disabling");
+    check(poll82599_rx_close(&driver, &controller) == 4, "4 buffers lay in the ring");
+}
+
+static void transmit(const uint8_t *frame)
+{
+    struct poll82599_tx_driver driver = {0};
+    struct poll82599_tx_controller controller = {0};
+    uint8_t got[FRAME + POLL82599_BUFFER_BYTES];
+    uint32_t len, eop = 0, left, answer = 1;
+    size_t sent = 0;
+    check(poll82599_tx_new(8, 16, 0, &driver, &controller) == 0, "a transmit ring of 8");
+    poll82599_tx_ask_enable(&driver);
+    poll82599_tx_answer(&controller);
+    poll82599_tx_state(&driver);
+    for (size_t at = 0; at < FRAME; at += 2000)
+        answer &= poll82599_tx_post_segment(&driver, frame + at, FRAME - at < 2000 ? FRAME - at : 2000, FRAME - at <= 2000, FRAME - at <= 2000, FRAME);
+    check(answer == 1, "a frame of 5,000 bytes is posted in 3 segments");
+    check(poll82599_tx_post_segment(&driver, frame, 60, 1, 1, 61) == 2, "PAYLEN is the whole frame's length");
+    check(poll82599_tx_set_tail(&driver) == 1, "the tail is stored");
+    while (!eop && poll82599_tx_send(&controller, got + sent, POLL82599_BUFFER_BYTES, &len, &eop) == 1)
+        sent += len;
+    check(sent == FRAME && memcmp(got, frame, FRAME) == 0, "it is sent as it was");
+    check(poll82599_tx_poll_report(&driver) == 1, "it is reported");
+    check(poll82599_tx_clean(&driver) + poll82599_tx_clean(&driver) + poll82599_tx_clean(&driver) == 3, "its 3 buffers are back");
+    poll82599_tx_post(&driver, frame, 60);
+    poll82599_tx_ask_disable(&driver);
+    poll82599_tx_answer(&controller);
+    poll82599_tx_state(&driver);
+    check(poll82599_tx_unsent(&driver, &left) == 1 && left == 1, "one segment was not sent when the queue was disabled");
+    check(poll82599_tx_close(&driver, &controller) == 1, "its buffer lay in the ring");
+}
+
+static void plain(void)
+{
+    static const char text[] = "r0 A1 5\nr0 A2\nr0 A6\n", faulty[] = "r0 A1 5\nr0 A9\n";
+    static const char page[] = "r0 A1 place 0\nr0 A2 tail 1\nr0 A6 none\nmoves 3 of 3\n";
+    struct poll82599_descriptor said = {5, 60, 1, 1, 60}, read = {0};
+    struct poll82599_plan plan = {1, 8, 1, 0, 0};
+    struct poll82599_moved moved = {0};
+    uint8_t bytes[POLL82599_DESCRIPTOR_BYTES], room[128];
+    check(poll82599_encode(POLL82599_TX_READ, &said, bytes, sizeof bytes) == 0, "a transmit descriptor is written");
+    check(memcmp(bytes, "\0\x28\0\0\0\0\0\0\x3c\0\x30\x2b\0\0\x0f\0", 16) == 0, "its bytes are those of the README");
+    check(poll82599_decode(POLL82599_TX_READ, bytes, sizeof bytes, &read) == 0 && memcmp(&said, &read, sizeof said) == 0, "it is read back");
+    check(poll82599_decode(POLL82599_RX_READ, bytes, sizeof bytes, &read) == 2, "it is no receive descriptor");
+    check(poll82599_moves(&plan, (const uint8_t *)text, sizeof text - 1, room, 3, &moved) == 1 && moved.needed == sizeof page - 1, "the moves print so many bytes");
+    check(poll82599_moves(&plan, (const uint8_t *)text, sizeof text - 1, room, sizeof room, &moved) == 0 && memcmp(room, page, sizeof page - 1) == 0, "and these");
+    check(poll82599_moves(&plan, (const uint8_t *)faulty, sizeof faulty - 1, room, sizeof room, &moved) == 14 && moved.line == 2, "line 2 is no move");
+}
+
+int main(void)
+{
+    uint8_t frame[FRAME];
+    for (size_t at = 0; at < sizeof frame; at++)
+        frame[at] = (uint8_t)(at * 7 + at / 256);
+    receive(frame);
+    transmit(frame);
+    plain();
+    return failed;
+}
