@@ -43,7 +43,10 @@ pub fn is_mistaken<R: Abort + Threads + Wait + Clock + Sync + Files>(
     let told = outcome_of(rt, alloc, words, b"r0 A2\n")?;
     assert_eq!(rt; told.status, 2, "at {words:?}");
     assert!(rt; told.output.is_empty(), "at {words:?}");
-    assert!(rt; is_page(told.faults.as_str(), "error: ", text), "at {words:?}");
+    assert!(rt;
+        is_page(told.faults.as_str(), "error: ", text),
+        "at {words:?}"
+    );
     Ok(())
 }
 

@@ -101,7 +101,10 @@ fn sixteen_flows_are_printed_alike_by_each_number_of_workers(rt: HostRuntime) ->
         let count = format!(in rt.alloc(); "{workers}")?;
         let words = ["forward", "--pairs", "8", "--workers", count.as_str()];
         let told = outcome_of(&rt, rt.alloc(), words.as_slice(), script.as_bytes())?;
-        assert!(rt; told.output.as_slice() == printed.as_bytes(), "with {workers} workers");
+        assert!(rt;
+            told.output.as_slice() == printed.as_bytes(),
+            "with {workers} workers"
+        );
         assert_eq!(rt; told.status, 0);
     }
     Ok(())

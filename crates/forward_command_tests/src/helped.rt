@@ -1,8 +1,8 @@
 //! The help of `forward`, words that are wrong, and refusals.
 
-use program_kit::outcome_of;
 use commands::{REFUSED, Refusal, refuse};
 use forwarding::ForwardError;
+use program_kit::outcome_of;
 use std::test::Fail;
 use wire_script::ScriptError;
 

@@ -54,7 +54,15 @@ pub fn outcome_on<R: Threads + Wait + Clock + Sync + Files, I: Read>(
     mut screen: Screen,
 ) -> Result<Told, Fail> {
     let (mut output, mut faults) = (Vec::new(alloc), Vec::new(alloc));
-    let status = status_of(rt, alloc, words, input, &mut output, &mut faults, &mut screen)?;
+    let status = status_of(
+        rt,
+        alloc,
+        words,
+        input,
+        &mut output,
+        &mut faults,
+        &mut screen,
+    )?;
     Ok(Told {
         status,
         output,
