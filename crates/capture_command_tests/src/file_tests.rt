@@ -1,8 +1,7 @@
 //! Forwarding from captures and to captures, with files.
 
 use crate::captured::{AT_0, AT_1, AT_2, BYTES, FIVES, HEADER, LETTERS, RAW, SHORT, joined};
-use crate::streams::Broken;
-use crate::told::{outcome_of, status_of, told_by};
+use program_kit::{Broken, outcome_of, told_by};
 use std::alloc::Global;
 use std::process::Abort;
 use std::rt::Files;

@@ -1,6 +1,6 @@
 //! The help of both commands, and words that are wrong.
 
-use crate::told::outcome_of;
+use program_kit::outcome_of;
 use std::test::Fail;
 
 /// Words that ask for help, and what it has to say.

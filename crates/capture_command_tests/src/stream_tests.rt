@@ -1,9 +1,8 @@
 //! Streams that fail, and want of memory.
 
 use crate::captured::{CAPTURE, HEADER};
-use crate::streams::{Broken, Narrow, Unflushed};
-use crate::told::status_of;
 use capture_command::{CaptureRequest, perform};
+use program_kit::{Broken, Narrow, Unflushed, refusal_of};
 use std::alloc::Global;
 use std::io::{Read, Write};
 use std::process::Abort;
@@ -26,9 +25,7 @@ fn is_refused<R: Abort + Threads + Wait + Clock + Sync + Files, I: Read, W: Writ
     output: &mut W,
     line: &str,
 ) -> Result<(), Fail> {
-    let mut faults = Vec::new(alloc);
-    let status = status_of(rt, alloc, words, input, output, &mut faults)?;
-    let faults = String::from_utf8(faults)?;
+    let (status, faults) = refusal_of(rt, alloc, words, input, output)?;
     assert_eq!(rt; faults.as_str(), line);
     assert_eq!(rt; status, 1);
     Ok(())

@@ -4,7 +4,8 @@ use crate::captured::{
     AT_0, AT_1, AT_2, BIG_NANOS, BIG_SOME, BYTE_DIGITS, BYTES, FIVES, HEADER, LETTER_DIGITS,
     LETTERS, joined,
 };
-use crate::told::{is_refused, outcome_of, writes};
+use crate::told::{is_refused, writes};
+use program_kit::outcome_of;
 use std::test::Fail;
 
 /// Texts that are refused, and why: line numbers count the lines that are passed over.

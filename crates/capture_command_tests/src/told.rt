@@ -1,73 +1,13 @@
-//! Runs of the program on words and an input of bytes, and what each of them has to come to.
+//! What runs of the program on bytes have to come to.
 
-use crate::streams::Dark;
-use command_line::run;
-use std::alloc::{AllocError, Global};
-use std::io::{Read, Write};
+use program_kit::outcome_of;
+use std::alloc::Global;
 use std::process::Abort;
 use std::rt::Files;
 use std::sync::Wait;
 use std::test::Fail;
 use std::thread::Threads;
 use std::time::Clock;
-
-/// What a run came to: its status, and what it wrote to the output and to the faults.
-#[derive(Drop)]
-pub struct Told {
-    pub status: u8,
-    pub output: Vec<u8>,
-    pub faults: String,
-}
-
-/// The status of a run on these words and streams.
-pub fn status_of<R: Threads + Wait + Clock + Sync + Files, I: Read, W: Write, E: Write>(
-    rt: &R,
-    alloc: Global,
-    words: &[&str],
-    input: &mut I,
-    output: &mut W,
-    faults: &mut E,
-) -> Result<u8, AllocError> {
-    let mut given = Vec::new(alloc);
-    for word in words {
-        given.push(String::from_str(alloc, word)?)?;
-    }
-    Ok(run(
-        rt,
-        alloc,
-        given.as_slice(),
-        input,
-        output,
-        faults,
-        &mut Dark,
-    ))
-}
-
-/// What a run on these words and this input comes to.
-pub fn outcome_of<R: Threads + Wait + Clock + Sync + Files>(
-    rt: &R,
-    alloc: Global,
-    words: &[&str],
-    mut input: &[u8],
-) -> Result<Told, Fail> {
-    told_by(rt, alloc, words, &mut input)
-}
-
-/// The same of any input.
-pub fn told_by<R: Threads + Wait + Clock + Sync + Files, I: Read>(
-    rt: &R,
-    alloc: Global,
-    words: &[&str],
-    input: &mut I,
-) -> Result<Told, Fail> {
-    let (mut output, mut faults) = (Vec::new(alloc), Vec::new(alloc));
-    let status = status_of(rt, alloc, words, input, &mut output, &mut faults)?;
-    Ok(Told {
-        status,
-        output,
-        faults: String::from_utf8(faults)?,
-    })
-}
 
 /// A run on these words and this input writes these bytes, and no faults.
 pub fn writes<R: Abort + Threads + Wait + Clock + Sync + Files>(

@@ -1,8 +1,8 @@
 //! Tests of the program's commands and of its command line. They stand above both crates, so that each of those is proved
 //! without them.
 //!
-//! Most are tables of rows, a run with all that it has to come to, which `told` walks. `streams` has inputs and outputs
-//! that fail.
+//! Most are tables of rows, a run with all that it has to come to, which `told` walks, over the runs and streams of
+//! `program_kit`.
 #![tactic(auto)]
 
 #[cfg(test)]
@@ -19,8 +19,6 @@ mod replay_tests;
 mod schedules_tests;
 #[cfg(test)]
 mod stream_tests;
-#[cfg(test)]
-mod streams;
 #[cfg(test)]
 mod told;
 #[cfg(test)]

@@ -2,7 +2,8 @@
 
 use crate::object_rows::OBJECTS;
 use crate::replay_rows::{ENDS, MIDDLE, ROWS};
-use crate::told::{comes_to, outcome_of, times};
+use crate::told::{comes_to, times};
+use program_kit::outcome_of;
 use std::alloc::{AllocError, Global};
 use std::process::Abort;
 use std::rt::Files;
@@ -167,8 +168,8 @@ fn asked_at(alloc: Global, at: usize) -> Result<String, AllocError> {
 fn a_disabling_at_every_step_makes_as_many_moves(rt: HostRuntime) -> Result<(), Fail> {
     for (at, end) in ENDS {
         let text = asked_at(rt.alloc(), at)?;
-        let told = outcome_of(&rt, rt.alloc(), &["replay"], text.as_str())?;
-        assert!(rt; told.output.as_str().ends_with(end), "with C5 at {at}");
+        let told = outcome_of(&rt, rt.alloc(), &["replay"], text.as_bytes())?;
+        assert!(rt; told.text()?.ends_with(end), "with C5 at {at}");
         assert_eq!(rt; told.status, 0, "with C5 at {at}");
     }
     Ok(())
@@ -183,10 +184,10 @@ fn are_made<R: Abort + Threads + Wait + Clock + Sync + Files>(
 ) -> Result<(), Fail> {
     let words = ["replay", "--pairs", pairs, "--ring", ring];
     let text = times(alloc, post, posts, "")?;
-    let posted = outcome_of(rt, alloc, words.as_slice(), text.as_str())?;
-    assert!(rt; posted.output.as_str().ends_with(end), "{pairs} of {ring}");
-    let next = outcome_of(rt, alloc, words.as_slice(), beyond)?;
-    assert!(rt; next.output.as_str() == told, "{pairs} of {ring}");
+    let posted = outcome_of(rt, alloc, words.as_slice(), text.as_bytes())?;
+    assert!(rt; posted.text()?.ends_with(end), "{pairs} of {ring}");
+    let next = outcome_of(rt, alloc, words.as_slice(), beyond.as_bytes())?;
+    assert!(rt; next.text()? == told, "{pairs} of {ring}");
     Ok(())
 }
 

@@ -1,6 +1,7 @@
 //! The command `schedules`, from its words to its lists.
 
-use crate::told::{comes_to, outcome_of};
+use crate::told::comes_to;
+use program_kit::outcome_of;
 use std::test::Fail;
 
 /// The two lists of four moves of seed 1.
@@ -32,14 +33,14 @@ fn lists_and_refusals(rt: HostRuntime) -> Result<(), Fail> {
 #[test]
 fn what_is_expected_is_what_replay_prints(rt: HostRuntime) -> Result<(), Fail> {
     let alloc = rt.alloc();
-    let list = outcome_of(&rt, alloc, BEGIN.as_slice(), "")?;
-    let page = outcome_of(&rt, alloc, ["replay"].as_slice(), list.output.as_str())?;
+    let list = outcome_of(&rt, alloc, BEGIN.as_slice(), b"")?;
+    let page = outcome_of(&rt, alloc, ["replay"].as_slice(), list.output.as_slice())?;
     let words = ["schedules", "--seed", "1", "--moves", "4", "--expect"];
-    let whole = outcome_of(&rt, alloc, words.as_slice(), "")?;
+    let whole = outcome_of(&rt, alloc, words.as_slice(), b"")?;
     assert_eq!(&rt;
-        whole.output.as_str(),
-        format!(in alloc; "{}{}", list.output, page.output)?.as_str()
+        whole.text()?,
+        format!(in alloc; "{}{}", list.text()?, page.text()?)?.as_str()
     );
-    assert!(&rt; whole.output.as_str().ends_with("moves 4 of 4\n"));
+    assert!(&rt; whole.text()?.ends_with("moves 4 of 4\n"));
     Ok(())
 }

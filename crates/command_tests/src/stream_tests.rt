@@ -1,8 +1,7 @@
 //! Streams that fail, and want of memory.
 
-use crate::streams::{Broken, Narrow, Unflushed};
-use crate::told::status_of;
 use commands::{QueuePlan, Request, perform};
+use program_kit::{Broken, Narrow, Screen, Unflushed, refusal_of, status_of};
 use ring_machine::Completion;
 use std::alloc::Global;
 use std::io::Write;
@@ -45,10 +44,8 @@ fn is_refused<R: Abort + Threads + Wait + Clock + Sync + Files, W: Write>(
     words: &[&str],
     output: &mut W,
 ) -> Result<(), Fail> {
-    let mut faults = Vec::new(alloc);
     let mut input = "r0 A2\nr0 A2\nr0 A2\n".as_bytes();
-    let status = status_of(rt, alloc, words, &mut input, output, &mut faults)?;
-    let faults = String::from_utf8(faults)?;
+    let (status, faults) = refusal_of(rt, alloc, words, &mut input, output)?;
     assert_eq!(rt; faults.as_str(), "refused 84 output\n", "at {words:?}");
     assert_eq!(rt; status, 1, "at {words:?}");
     Ok(())
@@ -74,7 +71,16 @@ fn faults_that_fail_change_no_status(rt: HostRuntime) -> Result<(), Fail> {
             let mut output = Vec::new(rt.alloc());
             let mut faults = Narrow::new(rt.alloc(), room);
             let mut input = "".as_bytes();
-            let told = status_of(&rt, rt.alloc(), words, &mut input, &mut output, &mut faults)?;
+            let mut screen = Screen::new(rt.alloc(), false);
+            let told = status_of(
+                &rt,
+                rt.alloc(),
+                words,
+                &mut input,
+                &mut output,
+                &mut faults,
+                &mut screen,
+            )?;
             assert_eq!(rt; told, status, "at {words:?}");
         }
     }
@@ -83,15 +89,15 @@ fn faults_that_fail_change_no_status(rt: HostRuntime) -> Result<(), Fail> {
 
 #[test]
 fn an_input_that_fails_in_mid_stream_is_refused(rt: HostRuntime) -> Result<(), Fail> {
-    let (mut output, mut faults) = (Vec::new(rt.alloc()), Vec::new(rt.alloc()));
+    let mut output = Vec::new(rt.alloc());
     let mut input = Broken {
         left: b"r0 A2\nr0 A9\n".as_slice(),
     };
     let words = ["replay"].as_slice();
-    let status = status_of(&rt, rt.alloc(), words, &mut input, &mut output, &mut faults)?;
+    let (status, faults) = refusal_of(&rt, rt.alloc(), words, &mut input, &mut output)?;
     assert_eq!(rt; status, 1);
     assert!(rt; output.is_empty());
-    assert_eq!(rt; String::from_utf8(faults)?.as_str(), "refused 82 input\n");
+    assert_eq!(rt; faults.as_str(), "refused 82 input\n");
     Ok(())
 }
 

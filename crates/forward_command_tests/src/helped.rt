@@ -1,8 +1,8 @@
 //! The help of `forward`, words that are wrong, and refusals.
 
-use crate::told::outcome_of;
 use commands::{REFUSED, Refusal, refuse};
 use forwarding::ForwardError;
+use program_kit::outcome_of;
 use std::test::Fail;
 use wire_script::ScriptError;
 
@@ -99,9 +99,9 @@ fn refusals_have_their_words(rt: HostRuntime) -> Result<(), Fail> {
 
 #[test]
 fn the_program_s_help_has_an_example(rt: HostRuntime) -> Result<(), Fail> {
-    let told = outcome_of(&rt, rt.alloc(), ["--help"].as_slice(), "")?;
+    let told = outcome_of(&rt, rt.alloc(), ["--help"].as_slice(), b"")?;
     assert!(rt;
-        told.output
+        told.text()?
             .contains("echo '0 0 fill 60 01' | poll82599 forward\n")
     );
     Ok(())
@@ -109,10 +109,10 @@ fn the_program_s_help_has_an_example(rt: HostRuntime) -> Result<(), Fail> {
 
 #[test]
 fn help_has_each_option(rt: HostRuntime) -> Result<(), Fail> {
-    let told = outcome_of(&rt, rt.alloc(), ["forward", "--help"].as_slice(), "")?;
+    let told = outcome_of(&rt, rt.alloc(), ["forward", "--help"].as_slice(), b"")?;
     assert_eq!(rt; told.status, 0);
     for text in LINES {
-        assert!(rt; told.output.contains(text), "{text}");
+        assert!(rt; told.text()?.contains(text), "{text}");
     }
     Ok(())
 }
@@ -120,7 +120,7 @@ fn help_has_each_option(rt: HostRuntime) -> Result<(), Fail> {
 #[test]
 fn wrong_words_are_told_with_status_2(rt: HostRuntime) -> Result<(), Fail> {
     for (words, text) in WRONG {
-        let told = outcome_of(&rt, rt.alloc(), words, "2 0 00\n")?;
+        let told = outcome_of(&rt, rt.alloc(), words, b"2 0 00\n")?;
         assert_eq!(rt; told.status, 2, "at {words:?}");
         assert!(rt; told.output.is_empty(), "at {words:?}");
         assert!(rt; told.faults.contains(text), "at {words:?}");

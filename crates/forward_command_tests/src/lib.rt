@@ -1,8 +1,8 @@
 //! Tests of the command `forward`, on the program's run. They stand above its crates, so that each of those is proved
 //! without them.
 //!
-//! Most are tables of rows, a run with all that it has to come to, which `told` walks. `streams` has inputs and outputs
-//! that fail.
+//! Most are tables of rows, a run with all that it has to come to, which `told` walks, over the runs and streams of
+//! `program_kit`.
 #![tactic(auto)]
 
 #[cfg(test)]
@@ -19,7 +19,5 @@ mod helped;
 mod shown_tests;
 #[cfg(test)]
 mod stream_tests;
-#[cfg(test)]
-mod streams;
 #[cfg(test)]
 mod told;

@@ -1,8 +1,7 @@
 //! With `--progress` it is shown how far it is, and the output is the same.
 
 use crate::forty::{FORTY_WORDS, forty};
-use crate::streams::Screen;
-use crate::told::{outcome_of, outcome_on};
+use program_kit::{Screen, outcome_of, outcome_on};
 use std::alloc::Global;
 use std::process::Abort;
 use std::rt::Files;
@@ -36,12 +35,13 @@ fn shows<R: Abort + Threads + Wait + Clock + Sync + Files>(
     let mut words = Vec::new(alloc);
     words.extend_from_slice(FORTY_WORDS)?;
     words.extend_from_slice(options)?;
-    let dark = outcome_of(rt, alloc, words.as_slice(), script.as_str())?;
+    let dark = outcome_of(rt, alloc, words.as_slice(), script.as_bytes())?;
     words.push("--progress")?;
     let screen = Screen::new(alloc, is_terminal);
-    let told = outcome_on(rt, alloc, words.as_slice(), script.as_str(), screen)?;
+    let mut input = script.as_bytes();
+    let told = outcome_on(rt, alloc, words.as_slice(), &mut input, screen)?;
     assert!(rt; dark.shown.is_empty(), "{}", dark.shown);
-    assert_eq!(rt; told.output, dark.output);
+    assert_eq!(rt; told.output.as_slice(), dark.output.as_slice());
     assert_eq!(rt; told.faults.as_str(), "");
     assert_eq!(rt; told.status, 0);
     let rate = behind(told.shown.as_str(), last).and_then(|rate| rate.strip_suffix(end));
@@ -67,7 +67,7 @@ const REFUSED: [(&[&str], &str); 2] = [
 #[test]
 fn what_is_refused_is_not_shown(rt: HostRuntime) -> Result<(), Fail> {
     for (words, end) in REFUSED {
-        let told = outcome_of(&rt, rt.alloc(), words, "0 0")?;
+        let told = outcome_of(&rt, rt.alloc(), words, b"0 0")?;
         assert!(rt; told.status > 0, "at {words:?}");
         assert!(rt; told.shown.is_empty(), "at {words:?}");
         assert!(rt; told.faults.ends_with(end), "at {words:?}");

@@ -1,10 +1,9 @@
 //! Streams that fail, and want of memory.
 
 use crate::forty::{FORTY_WORDS, forty, forty_forwarded};
-use crate::streams::{Broken, Halting, Narrow, PIECE, Piecemeal, Screen, Unflushed};
-use crate::told::status_of;
 use forward_command::{Printing, perform};
 use forwarder::Config;
+use program_kit::{Broken, Halting, Narrow, PIECE, Piecemeal, Screen, Unflushed, refusal_of};
 use std::alloc::Global;
 use std::io::{Read, Write};
 use std::process::Abort;
@@ -31,10 +30,7 @@ fn is_refused<R: Abort + Threads + Wait + Clock + Sync + Files, I: Read, W: Writ
     output: &mut W,
     line: &str,
 ) -> Result<(), Fail> {
-    let mut faults = Vec::new(alloc);
-    let mut screen = Screen::new(alloc, false);
-    let status = status_of(rt, alloc, words, input, output, &mut faults, &mut screen)?;
-    let faults = String::from_utf8(faults)?;
+    let (status, faults) = refusal_of(rt, alloc, words, input, output)?;
     assert_eq!(rt; faults.as_str(), line);
     assert_eq!(rt; status, 1);
     Ok(())

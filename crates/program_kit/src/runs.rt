@@ -1,0 +1,111 @@
+//! Runs of the program, and what they came to.
+
+use crate::streams::Screen;
+use command_line::run;
+use std::alloc::{AllocError, Global};
+use std::io::{Read, Write};
+use std::rt::Files;
+use std::str;
+use std::str::Utf8Error;
+use std::sync::Wait;
+use std::test::Fail;
+use std::thread::Threads;
+use std::time::Clock;
+
+/// What a run came to: its status, and what it wrote to the output, to the faults and on the screen.
+#[derive(Drop)]
+pub struct Told {
+    pub status: u8,
+    pub output: Vec<u8>,
+    pub faults: String,
+    pub shown: String,
+}
+
+impl Told {
+    /// The output as a text.
+    pub fn text(&self) -> Result<&str, Utf8Error> {
+        str::from_utf8(self.output.as_slice())
+    }
+}
+
+/// The status of a run on these words and streams.
+pub fn status_of<R: Threads + Wait + Clock + Sync + Files, I: Read, W: Write, E: Write>(
+    rt: &R,
+    alloc: Global,
+    words: &[&str],
+    input: &mut I,
+    output: &mut W,
+    faults: &mut E,
+    screen: &mut Screen,
+) -> Result<u8, AllocError> {
+    let mut given = Vec::new(alloc);
+    for word in words {
+        given.push(String::from_str(alloc, word)?)?;
+    }
+    Ok(run(rt, alloc, given.as_slice(), input, output, faults, screen))
+}
+
+/// What a run on these words, this input and this screen comes to.
+pub fn outcome_on<R: Threads + Wait + Clock + Sync + Files, I: Read>(
+    rt: &R,
+    alloc: Global,
+    words: &[&str],
+    input: &mut I,
+    mut screen: Screen,
+) -> Result<Told, Fail> {
+    let (mut output, mut faults) = (Vec::new(alloc), Vec::new(alloc));
+    let status = status_of(
+        rt,
+        alloc,
+        words,
+        input,
+        &mut output,
+        &mut faults,
+        &mut screen,
+    )?;
+    Ok(Told {
+        status,
+        output,
+        faults: String::from_utf8(faults)?,
+        shown: String::from_utf8(screen.shown)?,
+    })
+}
+
+/// The same with no terminal.
+pub fn told_by<R: Threads + Wait + Clock + Sync + Files, I: Read>(
+    rt: &R,
+    alloc: Global,
+    words: &[&str],
+    input: &mut I,
+) -> Result<Told, Fail> {
+    outcome_on(rt, alloc, words, input, Screen::new(alloc, false))
+}
+
+/// The same of an input that has these bytes.
+pub fn outcome_of<R: Threads + Wait + Clock + Sync + Files>(
+    rt: &R,
+    alloc: Global,
+    words: &[&str],
+    mut input: &[u8],
+) -> Result<Told, Fail> {
+    told_by(rt, alloc, words, &mut input)
+}
+
+/// The status and the faults of a run on these words, this input and this output, with no terminal.
+pub fn refusal_of<R: Threads + Wait + Clock + Sync + Files, I: Read, W: Write>(
+    rt: &R,
+    alloc: Global,
+    words: &[&str],
+    input: &mut I,
+    output: &mut W,
+) -> Result<(u8, String), Fail> {
+    let mut faults = Vec::new(alloc);
+    let mut screen = Screen::new(alloc, false);
+    let status = status_of(rt, alloc, words, input, output, &mut faults, &mut screen)?;
+    Ok((status, String::from_utf8(faults)?))
+}
+
+/// Whether a page has lines, begins so, and has this text.
+pub fn is_page(page: &str, begins: &str, text: &str) -> bool {
+    page.starts_with(begins) && page.contains(text) && page.ends_with("\n")
+}
