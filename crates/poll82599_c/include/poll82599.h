@@ -1,1 +1,0 @@
-../../header_tests/data/poll82599.h
