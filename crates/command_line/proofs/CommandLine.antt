@@ -1,6 +1,6 @@
 -- What clap makes of the program's words: the program as a whole, and words that are no command line.
 use Rattle.std.proofs.Common.{◌≡◌, ◌≢◌, ◌∙◌, ap, ap₂, sym, subst, refl, inl, inr, arith, ℕ, pos, Bool, true, false, List, [], ◌∷◌, ◌==◌, codes, map, drop, slice_index, slice_index_or, Option, Some, None, option_map, unwrap_or}
-use Rattle.std.specs.Prelude.{◌⊎◌, ◌<◌, ◌≤◌, ◌^◌, ◌||◌, if◌then◌else◌, All, cond, decimal, neg_ℤ, Result, Ok, Err}
+use Rattle.std.specs.Prelude.{◌⊎◌, ◌<◌, ◌≤◌, ◌^◌, ◌||◌, if◌then◌else◌, All, cond, decimal, find, neg_ℤ, option_and_then, Result, Ok, Err}
 use Rattle.std.specs.Borrow.{Bor}
 use Rattle.std.specs.Option.{option_map_or}
 use Rattle.std.specs.Str.{bytes_eq}
@@ -14,16 +14,20 @@ use Rattle.clap.specs.Lexer.{long_of, short_of}
 use Rattle.clap.specs.Takes.{bundle_passes, flag_word_passes, word_passes}
 use Rattle.clap.specs.Values.{bool_text}
 use Rattle.clap.specs.ValueTests.{accepts}
-use Rattle.clap.specs.Walk.{Held, idle, long_or_other, short_or_plain, trailing, value, word_met}
+use Rattle.clap.specs.Matches.{matched_of}
+use Rattle.clap.specs.Walk.{Held, idle, long_or_other, row_of, short_or_plain, trailing, value, word_met}
 use Rattle.clap.specs.Words.{Accepts, App, IsAmong, Kinds, ReadsOne, Row, Rule, Shape, Text, fault_of, first_of, first_value, is_simple, is_simple_and_free, one_of, one_text, rows_of, without_minus}
 use Rattle.clap.specs.declared.builder.value_parser.ValueParser.TheVariants.{Signed}
 use Rattle.clap.specs.declared.error.kind.ErrorKind.{ErrorKind}
 use Rattle.clap.specs.declared.error.kind.ErrorKind.TheVariants.{InvalidSubcommand, InvalidValue, MissingRequiredArgument, MissingSubcommand, OutOfMemory, UnknownArgument, ValueValidation}
 use Rattle.clap.specs.declared.parser.matches.Found.{Found}
+use Rattle.clap.specs.declared.parser.matches.MatchedArg.{MatchedArg}
+use Rattle.clap.specs.declared.parser.matches.ValueSource.{ValueSource}
 use Rattle.clap.proofs.OnLiterals.{clap_on_literals}
 use Rattle.clap.proofs.ValueTestLemmas.{Accepts-accepts}
-use Rattle.clap.proofs.WalkLemmas.{first_value-rows, one_text-rows}
+use Rattle.clap.proofs.WalkLemmas.{find_row, first_value-rows, one_text-rows}
 use Rattle.command_line.specs.CommandLine.{AreMistakes, Choices, IsMistake, IsMisuse, IsProgram, program_app}
+use Rattle.command_line.specs.ScheduleWords.{by_words, is_said}
 
 -- ---- the program
 
@@ -176,6 +180,23 @@ pub reads_flag : (b read : Bool) (o : Option Text) → (o ≡ Some (codes "true"
     → o ≡ Some (bool_text b) → read ≡ b
 reads_flag true read o as_true as_false is = as_true is
 reads_flag false read o as_true as_false is = as_false is
+
+-- ---- whether an option stands among the words
+
+source-rows : (f : Found) (id : Text)
+    → option_and_then (λ (a : MatchedArg). a.source) (matched_of f id) ≡ option_and_then (λ (r : Row). r.source) (find (λ r. bytes_eq r.id id) (rows_of f))
+source-rows f id =
+    go (find (λ e. bytes_eq e.0.now id) f.entries.items) ∙ ap (option_and_then (λ (r : Row). r.source)) (sym (find_row f.entries.items id))
+  where
+    go : (o : Option (Bor Text × MatchedArg))
+        → option_and_then (λ (a : MatchedArg). a.source) (option_map (λ e. e.1) o) ≡ option_and_then (λ (r : Row). r.source) (option_map row_of o)
+    go None = refl
+    go (Some e) = refl
+
+-- where a value came from, as `value_source` gives it
+pub said_is : (found : Found) (id : Text) (source : Option ValueSource) → source ≡ option_and_then (λ (a : MatchedArg). a.source) (matched_of found id)
+    → by_words source ≡ is_said id (rows_of found)
+said_is found id source is = ap by_words (is ∙ source-rows found id)
 
 -- ---- choices
 

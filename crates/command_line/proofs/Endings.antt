@@ -24,6 +24,8 @@ use Rattle.command_line.specs.FileWords.{FileOptions}
 use Rattle.command_line.specs.Forwarding.{EndsForwarding}
 use Rattle.schedule_command.specs.Lists.{EndsSchedules}
 use Rattle.schedule_command.specs.declared.request.ScheduleRequest.{ScheduleRequest}
+use Rattle.cover_command.specs.Covers.{EndsCover}
+use Rattle.cover_command.specs.declared.request.CoverRequest.{CoverRequest}
 use Rattle.command_line.specs.ScheduleWords.{SaysSchedules}
 use Rattle.command_line.specs.CommandLine.{IsCapture, IsDecode, IsSchedules, IsForward, IsMisuse, IsOnce, IsReplayOf, IsRequest, IsUnshown, SaysDecode, SaysForward, SaysOnce, SaysReplay}
 use Rattle.command_line.specs.CommandLine.IsUnshown.{is_misuse, asks_once, asks_decode, asks_replay, asks_forward, asks_from_capture, asks_to_capture, asks_schedules}
@@ -124,6 +126,9 @@ schedules-kept request old new keeps = record {
   no_queues = λ off some. (refl, keeps);
 }
 
+pub cover-kept : (request : CoverRequest) (old new : Option (List ℕ)) → EndsCover request REFUSED old new
+cover-kept request old new = record { done = λ e. let bad : ⊥ = cc e in absurd bad; either = inr refl }
+
 -- words of which nothing is shown ask for no forwarding, or for one that isn't shown
 pub unshown-forward : (words : List (List ℕ)) (a : Asked) (given : Config) (shown : Printing) → a ≡ asked.Forward given shown
     → ((digits : List ℕ) → SaysOnce words digits → IsRequest (λ r. IsOnce r digits) a)
@@ -149,3 +154,29 @@ unshown-forward words a given shown is once decode replay forward from to lists 
     absurd (no-capture-of-forward a given shown (ToCapture port) is (to port says))
 unshown-forward words a given shown is once decode replay forward from to lists misuse (asks_schedules request says) =
     absurd (subst (λ (b : Asked). IsSchedules b request) is (lists request says))
+
+-- and for no lists that cover what a queue can do
+pub unshown-cover : (words : List (List ℕ)) (a : Asked) (given : CoverRequest) → a ≡ asked.Cover given
+    → ((digits : List ℕ) → SaysOnce words digits → IsRequest (λ r. IsOnce r digits) a)
+    → ((form : Form) (digits : List ℕ) → SaysDecode words form digits → IsRequest (λ r. IsDecode r form digits) a)
+    → ((plan : QueuePlan) → SaysReplay words plan → IsRequest (λ r. IsReplayOf r plan) a)
+    → ((config : Config) (printing : Printing) (files : FileOptions) → SaysForward words config printing files → IsForward a config printing)
+    → ((port queue : ℕ) → SaysFromCapture words port queue → IsCapture a (FromCapture port queue))
+    → ((port : ℕ) → SaysToCapture words port → IsCapture a (ToCapture port))
+    → ((request : ScheduleRequest) → SaysSchedules words request → IsSchedules a request)
+    → (IsMisuse words → ⊥) → IsUnshown words → ⊥
+unshown-cover words a given is once decode replay forward from to lists misuse (is_misuse wrong) = misuse wrong
+unshown-cover words a given is once decode replay forward from to lists misuse (asks_once digits says) =
+    subst (IsRequest (λ r. IsOnce r digits)) is (once digits says)
+unshown-cover words a given is once decode replay forward from to lists misuse (asks_decode form digits says) =
+    subst (IsRequest (λ r. IsDecode r form digits)) is (decode form digits says)
+unshown-cover words a given is once decode replay forward from to lists misuse (asks_replay plan says) =
+    subst (IsRequest (λ r. IsReplayOf r plan)) is (replay plan says)
+unshown-cover words a given is once decode replay forward from to lists misuse (asks_forward config printing files says dark) =
+    subst (λ (b : Asked). IsForward b config printing) is (forward config printing files says)
+unshown-cover words a given is once decode replay forward from to lists misuse (asks_from_capture port queue says) =
+    subst (λ (b : Asked). IsCapture b (FromCapture port queue)) is (from port queue says)
+unshown-cover words a given is once decode replay forward from to lists misuse (asks_to_capture port says) =
+    subst (λ (b : Asked). IsCapture b (ToCapture port)) is (to port says)
+unshown-cover words a given is once decode replay forward from to lists misuse (asks_schedules request says) =
+    subst (λ (b : Asked). IsSchedules b request) is (lists request says)

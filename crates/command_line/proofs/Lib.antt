@@ -8,5 +8,6 @@ pub mod ReplayWords
 mod SaidWords
 pub mod ForwardWords
 pub mod ScheduleWords
+pub mod CoverWords
 pub mod CaptureWords
 pub mod Endings

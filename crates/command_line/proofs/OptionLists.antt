@@ -14,7 +14,7 @@ use Rattle.command_line.specs.CommandLine.{Choices, IsProgram, program_app}
 use Rattle.command_line.specs.OptionWords.{SaysNumberBelow}
 use Rattle.command_line.proofs.CommandLine.{IsNumber, is_number, numeral_of, strips_none}
 use Rattle.command_line.proofs.OptionRows.{OptionUse, and-left, and-right, mentions, rows_in}
-use Rattle.command_line.proofs.Options.{Facts, Given, HasValue, IsLawful, Stands, after, at, dashed, facts_in, facts_of, given_passes, given_stands, given_value, given_walked, id_of, is_among, number_said, settles, use_of, waiting_after, words_of}
+use Rattle.command_line.proofs.Options.{Facts, Given, HasValue, IsAmong, IsLawful, Stands, after, at, dashed, facts_in, facts_of, given_passes, given_stands, given_value, given_walked, id_of, is_among, number_said, rows_at_last, rule_at, settles, use_of, waiting_after, words_of}
 use Rattle.command_line.proofs.Options.Given.{number}
 
 -- ---- the options
@@ -119,16 +119,21 @@ all_stand s (g ∷ gs) h us among lawful stands distinct =
     subst (Stands s (all_after s.rules gs (after s.rules g h))) (append_assoc us (use_of g ∷ []) (map use_of gs))
     (all_stand s gs (after s.rules g h) (us ++ use_of g ∷ []) (ap (drop 1) among) lawful.1 (given_stands s g h us mine lawful.0 stands new) (others us g gs distinct))
 
--- ---- the value of each at last
+-- ---- what holds of each at last
 
-all_values : (rules : List Rule) (before : List OptionUse) (gs : List Given) → AreAmong rules gs → are_distinct before gs ≡ true
-    → All (HasValue (fold with_default (rows_in (before ++ map use_of gs)) rules)) gs
-all_values rules before [] among distinct = All-nil (HasValue (fold with_default (rows_in (before ++ [])) rules))
-all_values rules before (g ∷ gs) among distinct =
-    All-cons (HasValue (fold with_default (rows_in (before ++ use_of g ∷ map use_of gs)) rules)) g gs
-    (given_value rules before (map use_of gs) g (is_among rules g (first_fact rules g gs among)) (new-to before g gs distinct) (not-again before g gs distinct))
-    (subst (λ (us : List OptionUse). All (HasValue (fold with_default (rows_in us) rules)) gs) (append_assoc before (use_of g ∷ []) (map use_of gs))
-    (all_values rules (before ++ use_of g ∷ []) gs (ap (drop 1) among) (others before g gs distinct)))
+-- it holds of any one, whatever options stand before it and behind it
+abbrev pub HoldsOfEach : (List Row → Given → Type 0) → Type 0
+HoldsOfEach P = (rules : List Rule) (before behind : List OptionUse) (g : Given) → IsAmong rules (id_of g) (rule_at g)
+    → mentions (id_of g) before ≡ false → mentions (id_of g) behind ≡ false → P (rows_at_last rules before g behind) g
+
+all_hold : (P : List Row → Given → Type 0) → HoldsOfEach P → (rules : List Rule) (before : List OptionUse) (gs : List Given) → AreAmong rules gs
+    → are_distinct before gs ≡ true → All (P (fold with_default (rows_in (before ++ map use_of gs)) rules)) gs
+all_hold P each rules before [] among distinct = All-nil (P (fold with_default (rows_in (before ++ [])) rules))
+all_hold P each rules before (g ∷ gs) among distinct =
+    All-cons (P (fold with_default (rows_in (before ++ use_of g ∷ map use_of gs)) rules)) g gs
+    (each rules before (map use_of gs) g (is_among rules g (first_fact rules g gs among)) (new-to before g gs distinct) (not-again before g gs distinct))
+    (subst (λ (us : List OptionUse). All (P (fold with_default (rows_in us) rules)) gs) (append_assoc before (use_of g ∷ []) (map use_of gs))
+    (all_hold P each rules (before ++ use_of g ∷ []) gs (ap (drop 1) among) (others before g gs distinct)))
 
 -- ---- a command
 
@@ -202,18 +207,24 @@ options_taken app words name s gs program has lawful words_are =
     ∙ (ap₂ (top_passes program.rings program.formats) (stops a.top.rules (names_of a) name [] rest) (stop_passes a.top (names_of a) name [] rest)
     ∙ (command.level rest ∙ ap (λ b. b && true) (options_level name s gs has lawful))))
 
--- and each option has its value in the command's matches
-pub options_found : (app : App) (words : List Text) (name : Text) (s : Shape) (gs : List Given) → IsProgram app → HasOptions name s gs → AreLawful gs
-    → words ≡ name ∷ all_words gs → (rows : List Row) × (subcommand_of app words ≡ Some (name, rows)) × All (HasValue rows) gs
-options_found app words name s gs program has lawful words_are =
+-- and what holds of each option holds in the command's matches
+pub options_hold : (P : List Row → Given → Type 0) → HoldsOfEach P → (app : App) (words : List Text) (name : Text) (s : Shape) (gs : List Given) → IsProgram app
+    → HasOptions name s gs → AreLawful gs → words ≡ name ∷ all_words gs
+    → (rows : List Row) × (subcommand_of app words ≡ Some (name, rows)) × All (P rows) gs
+options_hold P each app words name s gs program has lawful words_are =
     let a = built_program program.rings program.formats in
     let command = has.command program.rings program.formats in
     let rest = all_words gs in (
       finished s.rules (walk s.rules [] nothing_held rest).held,
       ap₂ subcommand_of program.app_is words_are
           ∙ (command.met rest ∙ (ap (λ (w : Walk). entered a w.stopped) (stops a.top.rules (names_of a) name [] rest) ∙ command.entry rest)),
-      subst (λ (rows : List Row). All (HasValue rows) gs) (sym (options_rows name s gs has lawful)) (all_values s.rules [] gs has.among has.distinct),
+      subst (λ (rows : List Row). All (P rows) gs) (sym (options_rows name s gs has lawful)) (all_hold P each s.rules [] gs has.among has.distinct),
     )
+
+-- so each has its value there
+pub options_found : (app : App) (words : List Text) (name : Text) (s : Shape) (gs : List Given) → IsProgram app → HasOptions name s gs → AreLawful gs
+    → words ≡ name ∷ all_words gs → (rows : List Row) × (subcommand_of app words ≡ Some (name, rows)) × All (HasValue rows) gs
+options_found = options_hold HasValue given_value
 
 -- ---- what words say of a number
 

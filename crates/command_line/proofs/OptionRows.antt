@@ -22,7 +22,7 @@ or-right : (a b : Bool) → (a || b) ≡ false → b ≡ false
 or-right true b is = cc is
 or-right false b is = is
 
-both-false : (a b : Bool) → a ≡ false → b ≡ false → (a || b) ≡ false
+pub both-false : (a b : Bool) → a ≡ false → b ≡ false → (a || b) ≡ false
 both-false true b is other = cc is
 both-false false b is other = other
 

@@ -1,7 +1,7 @@
 -- What clap makes of one option, given or left out: what its words do to what is held, the row that it leaves, and its value at
 -- last. It knows no command: of the command's arguments it takes what a search for the option among them finds.
 use Rattle.std.proofs.Common.{◌≡◌, ◌∙◌, ap, ap₂, sym, subst, refl, ℕ, pos, Bool, true, false, ◌&&◌, List, [], ◌∷◌, ◌++◌, codes, length, slice_get, Option, Some, None, IfSome}
-use Rattle.std.specs.Prelude.{⊤, ◌||◌, All, if◌then◌else◌, not, fold, nat_lt, option_and_then, option_map}
+use Rattle.std.specs.Prelude.{⊤, ◌||◌, All, if◌then◌else◌, is_some, not, fold, nat_lt, option_and_then, option_map}
 use Rattle.std.specs.List.{list_all}
 use Rattle.std.specs.Option.{option_map_or}
 use Rattle.std.specs.Str.{bytes_eq}
@@ -24,6 +24,7 @@ use Rattle.clap.specs.declared.builder.value_parser.Reading.{Reading}
 use Rattle.clap.proofs.OnLiterals.{clap_on_literals}
 use Rattle.command_line.specs.OptionWords.{flag_words}
 use Rattle.command_line.specs.FileWords.{file_values, file_words}
+use Rattle.command_line.specs.ScheduleWords.{by_words, is_said}
 use Rattle.command_line.proofs.CommandLine.{IsNumber, IsPlain}
 use Rattle.command_line.proofs.OptionRows.{OptionUse, absent-in, absent-use, all-keep, default-found, found, found-use, mentions, never-found, one-longer, row, rows-unused, rows-used, rows_in, used-absent, without-absent}
 
@@ -542,7 +543,7 @@ HasValue rows (files id said) = all_of id rows ≡ file_values said
 HasValue rows (optional id value said) = first_of id rows ≡ optional_said value said
 
 -- whatever options stand before it and behind it
-abbrev rows_at_last : List Rule → List OptionUse → Given → List OptionUse → List Row
+abbrev pub rows_at_last : List Rule → List OptionUse → Given → List OptionUse → List Row
 rows_at_last rules before g behind = fold with_default (rows_in (before ++ use_of g ∷ behind)) rules
 
 -- the row of one that stands
@@ -590,3 +591,38 @@ given_value rules before behind (optional id value (Some alone)) among first las
     ap (option_and_then (λ (r : Row). slice_get r.values 0)) (standing rules before behind id (reading_by (optional_at id value)) (value ∷ []) among.same first)
 given_value rules before behind (optional id value (Some (with_word word))) among first last =
     ap (option_and_then (λ (r : Row). slice_get r.values 0)) (standing rules before behind id (reading_by (optional_at id value)) (word ∷ []) among.same first)
+
+-- ---- whether it stands
+
+abbrev pub stands : Given → Bool
+stands (number id most defaults said) = is_some said
+stands (flag id said) = said
+stands (files id said) = is_some (file_values said)
+stands (optional id value said) = is_some said
+
+abbrev row_is_said : Option Row → Bool
+row_is_said r = by_words (option_and_then (λ (r : Row). r.source) r)
+
+-- its row tells
+pub given_said : (rules : List Rule) (before behind : List OptionUse) (g : Given) → IsAmong rules (id_of g) (rule_at g)
+    → mentions (id_of g) before ≡ false → mentions (id_of g) behind ≡ false → is_said (id_of g) (rows_at_last rules before g behind) ≡ stands g
+given_said rules before behind (number id most defaults (Some word)) among first last =
+    ap row_is_said (standing rules before behind id (reading_by (number_at id most defaults)) (word ∷ []) among.same first)
+given_said rules before behind (number id most [] None) among first last =
+    ap row_is_said (by_nothing rules before behind id (reading_by (number_at id most [])) among.default first last)
+given_said rules before behind (number id most (value ∷ values) None) among first last =
+    ap row_is_said (by_default rules before behind (number_at id most (value ∷ values)) value values among refl first last)
+given_said rules before behind (flag id true) among first last =
+    ap row_is_said (standing rules before behind id (reading_by (flag_at id)) (codes "true" ∷ []) among.same first)
+given_said rules before behind (flag id false) among first last =
+    ap row_is_said (by_default rules before behind (flag_at id) (codes "false") [] among refl first last)
+given_said rules before behind (files id []) among first last =
+    ap row_is_said (by_nothing rules before behind id (reading_by (file_at id)) among.default first last)
+given_said rules before behind (files id (word ∷ words)) among first last =
+    ap row_is_said (standing rules before behind id (reading_by (file_at id)) (word ∷ words) among.same first)
+given_said rules before behind (optional id value None) among first last =
+    ap row_is_said (by_nothing rules before behind id (reading_by (optional_at id value)) among.default first last)
+given_said rules before behind (optional id value (Some alone)) among first last =
+    ap row_is_said (standing rules before behind id (reading_by (optional_at id value)) (value ∷ []) among.same first)
+given_said rules before behind (optional id value (Some (with_word word))) among first last =
+    ap row_is_said (standing rules before behind id (reading_by (optional_at id value)) (word ∷ []) among.same first)

@@ -15,14 +15,15 @@ use Rattle.command_line.proofs.Options.Given.{flag, number}
 use Rattle.command_line.proofs.OptionLists.{AreLawful, HasOptions, IsCommand, IsSaid, all_words, is_said, options_found, options_taken, reads_itself, said_of}
 
 -- `schedules` as clap builds it, which says nothing of the choices of `decode`
-abbrev shape : Shape
+abbrev pub shape : Shape
 shape = let none : Choices = record { ref_ptr = (0, 0); now = [] } in slice_index_or (built (program_app none none)).subs 6 (new_shape [])
 
 -- ---- its options, with what the words say
 
 abbrev options : (words : List Text) (request : ScheduleRequest) → SaysSchedules words request → List Given
 options words request says =
-    number (codes "seed") 4294967295 [] (Some (decimal request.seed))
+    flag (codes "cover") false
+    ∷ number (codes "seed") 4294967295 [] (Some (decimal request.seed))
     ∷ number (codes "moves") 4294967295 [] (Some (decimal request.plan.moves))
     ∷ number (codes "count") 4294967295 (codes "1" ∷ []) (said_of _ _ _ _ _ says.says_count)
     ∷ number (codes "ring") 4294967295 (codes "8" ∷ []) (said_of _ _ _ _ _ says.says_ring)
@@ -34,7 +35,7 @@ options words request says =
     ∷ flag (codes "device-only-real") request.plan.device_only
     ∷ []
 
-is_command : (rings formats : Choices) → IsCommand rings formats (codes "schedules") shape
+pub is_command : (rings formats : Choices) → IsCommand rings formats (codes "schedules") shape
 unfolding clap_on_literals
 is_command rings formats = record { taken = λ rest. refl; level = λ rest. refl; met = λ rest. refl; entry = λ rest. refl }
 
@@ -64,7 +65,7 @@ saying words request says = record {
 are_lawful : (words : List Text) (request : ScheduleRequest) (says : SaysSchedules words request) → AreLawful (options words request says)
 are_lawful words request says =
     let are = saying words request says in
-    (are.seed, (are.moves, (are.count.lawful, (are.ring.lawful, (are.pairs.lawful, (tt, (tt, (are.refused.lawful, (tt, (tt, tt))))))))))
+    (tt, (are.seed, (are.moves, (are.count.lawful, (are.ring.lawful, (are.pairs.lawful, (tt, (tt, (are.refused.lawful, (tt, (tt, tt)))))))))))
 
 words_are : (words : List Text) (request : ScheduleRequest) (says : SaysSchedules words request) → words ≡ codes "schedules" ∷ all_words (options words request says)
 words_are words request says =
@@ -95,16 +96,17 @@ schedules_found app words request program says =
       found.0,
       found.1,
       record {
-        seed = found.2 0 none (omega arith) ∙ reads_itself request.seed says.seed_fits;
-        moves = found.2 1 none (omega arith) ∙ reads_itself request.plan.moves says.moves_fits;
-        count = found.2 2 none (omega arith) ∙ are.count.value;
-        ring = found.2 3 none (omega arith) ∙ are.ring.value;
-        pairs = found.2 4 none (omega arith) ∙ are.pairs.value;
-        off = found.2 5 none (omega arith);
-        head = found.2 6 none (omega arith);
-        refused = found.2 7 none (omega arith) ∙ are.refused.value;
-        expect = found.2 8 none (omega arith);
-        device_only = found.2 9 none (omega arith);
+        cover = found.2 0 none (omega arith);
+        seed = found.2 1 none (omega arith) ∙ reads_itself request.seed says.seed_fits;
+        moves = found.2 2 none (omega arith) ∙ reads_itself request.plan.moves says.moves_fits;
+        count = found.2 3 none (omega arith) ∙ are.count.value;
+        ring = found.2 4 none (omega arith) ∙ are.ring.value;
+        pairs = found.2 5 none (omega arith) ∙ are.pairs.value;
+        off = found.2 6 none (omega arith);
+        head = found.2 7 none (omega arith);
+        refused = found.2 8 none (omega arith) ∙ are.refused.value;
+        expect = found.2 9 none (omega arith);
+        device_only = found.2 10 none (omega arith);
         list_fits = (says.seed_fits, says.moves_fits, are.count.fits, are.refused.fits);
         queues_fit = (are.ring.fits, are.pairs.fits);
       },

@@ -18,6 +18,7 @@ use Rattle.capture_command.specs.declared.request.CaptureRequest.{CaptureRequest
 use Rattle.command_line.specs.OptionWords.{SaysNumber, flag_rule, flag_words, is_head, number_rule}
 use Rattle.command_line.specs.ScheduleWords.{SaysSchedules, schedules_app}
 use Rattle.schedule_command.specs.declared.request.ScheduleRequest.{ScheduleRequest}
+use Rattle.cover_command.specs.declared.request.CoverRequest.{CoverRequest}
 use Rattle.command_line.specs.FileWords.{AreFiles, FileOptions, with_file_rules, words_of_files}
 use Rattle.command_line.specs.CaptureWords.{SaysFromCapture, SaysToCapture, from_capture_app, to_capture_app}
 use Rattle.command_line.specs.declared.command.Asked.{Asked}
@@ -214,6 +215,7 @@ IsRequest P (asked.Request request) = P request
 IsRequest P (asked.Forward config printing) = ⊥
 IsRequest P (asked.Capture request) = ⊥
 IsRequest P (asked.Schedules request) = ⊥
+IsRequest P (asked.Cover request) = ⊥
 
 -- it is to forward under this configuration, and to print so
 abbrev pub IsForward : Asked → Config → Printing → Type 0
@@ -221,6 +223,7 @@ IsForward (asked.Forward given shown) config printing = (given ≡ config) × (s
 IsForward (asked.Request request) config printing = ⊥
 IsForward (asked.Capture request) config printing = ⊥
 IsForward (asked.Schedules request) config printing = ⊥
+IsForward (asked.Cover request) config printing = ⊥
 
 -- it is this request of captures
 abbrev pub IsCapture : Asked → CaptureRequest → Type 0
@@ -228,13 +231,23 @@ IsCapture (asked.Capture given) request = given ≡ request
 IsCapture (asked.Request given) request = ⊥
 IsCapture (asked.Forward config printing) request = ⊥
 IsCapture (asked.Schedules lists) request = ⊥
+IsCapture (asked.Cover lists) request = ⊥
 
--- it is this request of lists
+-- it is this request of lists that are drawn
 abbrev pub IsSchedules : Asked → ScheduleRequest → Type 0
 IsSchedules (asked.Schedules given) request = given ≡ request
 IsSchedules (asked.Request given) request = ⊥
 IsSchedules (asked.Forward config printing) request = ⊥
 IsSchedules (asked.Capture given) request = ⊥
+IsSchedules (asked.Cover given) request = ⊥
+
+-- it is this request of lists that together meet all that a queue can do
+abbrev pub IsCover : Asked → CoverRequest → Type 0
+IsCover (asked.Cover given) request = given ≡ request
+IsCover (asked.Request given) request = ⊥
+IsCover (asked.Forward config printing) request = ⊥
+IsCover (asked.Capture given) request = ⊥
+IsCover (asked.Schedules given) request = ⊥
 
 -- a request of captures that is asked for can be done
 abbrev pub CanBeDone : Asked → Type 0
@@ -242,6 +255,7 @@ CanBeDone (asked.Capture request) = IsPlaced request
 CanBeDone (asked.Request request) = Unit {0}
 CanBeDone (asked.Forward config printing) = Unit {0}
 CanBeDone (asked.Schedules request) = Unit {0}
+CanBeDone (asked.Cover request) = Unit {0}
 
 -- a mistake in the words, which is neither a call for help nor want of memory
 pub record IsMistake (kind : ErrorKind) : Type 0 where
@@ -259,7 +273,7 @@ abbrev pub IsMisuse : List Text → Type 0
 IsMisuse words = (app : App) → IsProgram app → AreMistakes (fault_of app words)
 
 -- the words ask for nothing of which it is shown how far it is: they are no command line of the program, or another
--- command, or `forward` without `--progress`
+-- command, `forward` without `--progress`, or `schedules` without `--cover`
 pub data IsUnshown (words : List Text) : Type 0 where
   is_misuse : IsMisuse words → IsUnshown words
   asks_once : (digits : Text) → SaysOnce words digits → IsUnshown words

@@ -1,7 +1,11 @@
 -- The words of `schedules`.
-use Rattle.std.specs.Prelude.{◌≡◌, ◌^◌, ◌<◌, not, List, [], ◌∷◌, ◌++◌, codes, decimal, Some}
+use Rattle.std.specs.Prelude.{◌≡◌, ◌^◌, ◌<◌, ◌||◌, Bool, true, false, not, List, [], ◌∷◌, ◌++◌, codes, decimal, find, option_and_then, Option, Some, None}
+use Rattle.std.specs.Str.{bytes_eq}
 use Rattle.clap.specs.Words.{App, Row, Rule, Text, new_app, one_of, with_rule}
 use Rattle.clap.specs.Values.{bool_text}
+use Rattle.clap.specs.declared.parser.matches.ValueSource.{ValueSource}
+use Rattle.clap.specs.declared.parser.matches.ValueSource.TheVariants.{CommandLine, DefaultValue}
+use Rattle.cover_command.specs.declared.request.CoverRequest.{CoverRequest}
 use Rattle.schedule_command.specs.declared.request.ScheduleRequest.{ScheduleRequest}
 use Rattle.command_line.specs.OptionWords.{SaysNumber, SaysNumberBelow, bounded_rule, flag_rule, flag_words, is_head, number_rule}
 
@@ -23,7 +27,8 @@ with_list_rules app =
 abbrev pub with_drawing_rules : App → App
 with_drawing_rules app =
     let with_refused = with_rule (with_rule (with_rule app (flag_rule (codes "off"))) (flag_rule (codes "head"))) (share_rule (codes "refused")) in
-    with_rule (with_rule with_refused (flag_rule (codes "expect"))) (flag_rule (codes "device-only-real"))
+    let with_expect = with_rule with_refused (flag_rule (codes "expect")) in
+    with_rule (with_rule with_expect (flag_rule (codes "device-only-real"))) (flag_rule (codes "cover"))
 
 -- the command `schedules`
 abbrev pub schedules_app : App
@@ -50,8 +55,32 @@ pub record SaysSchedules (words : List Text) (request : ScheduleRequest) : Type 
       ++ (refused
       ++ (flag_words (codes "--expect") request.expect ++ flag_words (codes "--device-only-real") request.plan.device_only)))))))
 
+-- the words are `schedules --cover` and its options in this order: `--head` where the transmit queue reports by a head word,
+-- `--expect` where each list is followed by what `replay` prints of it, and `--device-only-real` where only moves of silicon
+-- are made
+pub record SaysCover (words : List Text) (request : CoverRequest) : Type 0 where
+  pub words_are : words ≡ codes "schedules" ∷ codes "--cover"
+      ∷ (flag_words (codes "--head") (is_head request.completion)
+      ++ (flag_words (codes "--expect") request.expect ++ flag_words (codes "--device-only-real") request.device_only))
+
+-- an option stands among the words, where its value is not its default
+abbrev pub by_words : Option ValueSource → Bool
+by_words (Some CommandLine) = true
+by_words (Some DefaultValue) = false
+by_words None = false
+
+abbrev pub is_said : Text → List Row → Bool
+is_said id rows = by_words (option_and_then (λ r. r.source) (find (λ r. bytes_eq r.id id) rows))
+
+-- one stands that says how lists are drawn
+abbrev pub draws : List Row → Bool
+draws rows =
+    is_said (codes "seed") rows || (is_said (codes "moves") rows || (is_said (codes "count") rows || (is_said (codes "ring") rows
+    || (is_said (codes "pairs") rows || (is_said (codes "off") rows || is_said (codes "refused") rows)))))
+
 -- the values of the arguments
 pub record HasSchedules (rows : List Row) (request : ScheduleRequest) : Type 0 where
+  pub cover : one_of (codes "cover") rows ≡ Some (bool_text false)
   pub seed : one_of (codes "seed") rows ≡ Some (decimal request.seed)
   pub moves : one_of (codes "moves") rows ≡ Some (decimal request.plan.moves)
   pub count : one_of (codes "count") rows ≡ Some (decimal request.count)
@@ -64,3 +93,10 @@ pub record HasSchedules (rows : List Row) (request : ScheduleRequest) : Type 0 w
   pub device_only : one_of (codes "device-only-real") rows ≡ Some (bool_text request.plan.device_only)
   pub list_fits : (request.seed < 2 ^ 32) × (request.plan.moves < 2 ^ 32) × (request.count < 2 ^ 32) × (request.plan.refused < 2 ^ 32)
   pub queues_fit : (request.plan.ring < 2 ^ 32) × (request.plan.pairs < 2 ^ 32)
+
+pub record HasCover (rows : List Row) (request : CoverRequest) : Type 0 where
+  pub cover : one_of (codes "cover") rows ≡ Some (bool_text true)
+  pub head : one_of (codes "head") rows ≡ Some (bool_text (is_head request.completion))
+  pub expect : one_of (codes "expect") rows ≡ Some (bool_text request.expect)
+  pub device_only : one_of (codes "device-only-real") rows ≡ Some (bool_text request.device_only)
+  pub undrawn : draws rows ≡ false

@@ -20,19 +20,21 @@ ghost use Rattle.command_line.specs.CommandLine.{HasOnce, IsMistake, IsMisuse, I
 ghost use Rattle.capture_command.specs.declared.request.CaptureRequest.TheVariants.{FromCapture, ToCapture};
 ghost use Rattle.command_line.specs.CaptureWords.{HasFromCapture, HasToCapture, SaysFromCapture, SaysToCapture};
 ghost use Rattle.command_line.specs.CommandLine.{CanBeDone, IsCapture};
-ghost use Rattle.command_line.specs.CommandLine.{IsSchedules};
+ghost use Rattle.command_line.specs.CommandLine.{IsCover, IsSchedules};
 ghost use Rattle.command_line.specs.FileWords.{FileOptions};
-ghost use Rattle.command_line.specs.ScheduleWords.{HasSchedules, SaysSchedules};
+ghost use Rattle.command_line.specs.ScheduleWords.{HasCover, HasSchedules, SaysCover, SaysSchedules};
 ghost use Rattle.schedule_command.specs.declared.request.ScheduleRequest.{ScheduleRequest as Lists};
+ghost use Rattle.cover_command.specs.declared.request.CoverRequest.{CoverRequest as Covering};
 
 use crate::arguments::{choice, flag, hex, number};
 use crate::captures::{from_capture, from_capture_in, to_capture, to_capture_in};
 use crate::files::with_files;
-use crate::lists::{schedules, schedules_in};
+use crate::lists::{lists_in, schedules};
 use capture_command::CaptureRequest;
 use clap::error::ErrorKind;
 use clap::{ArgMatches, Command, Error};
 use commands::{Form, QueuePlan, Request};
+use cover_command::CoverRequest;
 use forward_command::Printing;
 use forwarder::Config;
 use ring_machine::Completion;
@@ -43,7 +45,11 @@ use std::alloc::{AllocError, Global};
 const VERSION: &str = "0.1.0";
 
 /// What is told where words are missing that `clap` doesn't miss.
-const NOT_SAID: &str = "schedules takes --seed and --moves";
+const NOT_SAID: &str = "schedules takes --seed and --moves, or --cover";
+
+/// What is told where words stand beside `--cover` that say how lists are drawn.
+const NOT_DRAWN: &str =
+    "--cover draws no lists: it stands without --seed, --moves, --count, --ring, --pairs, --off and --refused";
 
 const ONCE_EXAMPLE: &str =
     "Example:\n  poll82599 once 000102030405060708090a0b0c0d\n  prints 000102030405060708090a0b0c0d";
@@ -59,7 +65,7 @@ const FORWARD_EXAMPLES: &str =
 
 /// One example of each command.
 const EXAMPLES: &str =
-    "Examples:\n  poll82599 once 000102030405060708090a0b0c0d\n  poll82599 decode rx back 0000000000000000030000003c000000\n  echo 'r0 A1 5' | poll82599 replay --ring 16\n  echo '0 0 fill 60 01' | poll82599 forward\n  poll82599 from-capture 0 0 < x.pcap | poll82599 forward | poll82599 to-capture 1 > y.pcap\n  poll82599 schedules --seed 1 --moves 4";
+    "Examples:\n  poll82599 once 000102030405060708090a0b0c0d\n  poll82599 decode rx back 0000000000000000030000003c000000\n  echo 'r0 A1 5' | poll82599 replay --ring 16\n  echo '0 0 fill 60 01' | poll82599 forward\n  poll82599 from-capture 0 0 < x.pcap | poll82599 forward | poll82599 to-capture 1 > y.pcap\n  poll82599 schedules --seed 1 --moves 4\n  poll82599 schedules --cover --device-only-real --expect";
 
 static RINGS: [&str; 2] = ["rx", "tx"];
 
@@ -75,8 +81,10 @@ pub enum Asked<'a> {
     Forward { config: Config, printing: Printing },
     /// A request of captures.
     Capture(CaptureRequest),
-    /// A request of lists of moves.
+    /// A request of lists of moves that are drawn.
     Schedules(ScheduleRequest),
+    /// A request of lists of moves that together meet all that a queue can do.
+    Cover(CoverRequest),
 }
 
 /// Reads the words after the program's name. What it answers in place of a request is an error of `clap`, which is
@@ -96,6 +104,8 @@ pub fn asked_of<'a>(alloc: Global, words: &'a [String]) -> Result<Asked<'a>, Err
         → MatchResult result (λ a. IsCapture a (ToCapture port)) (λ e. kind_of e ≡ OutOfMemory) }
     ensures schedules { (request : Lists) → SaysSchedules (map string_bytes words.entry.now) request
         → MatchResult result (λ a. IsSchedules a request) (λ e. kind_of e ≡ OutOfMemory) }
+    ensures cover { (request : Covering) → SaysCover (map string_bytes words.entry.now) request
+        → MatchResult result (λ a. IsCover a request) (λ e. kind_of e ≡ OutOfMemory) }
     ensures can_be_done { IfOk result CanBeDone }
     ensures misuse { IsMisuse (map string_bytes words.entry.now)
         → IsErrAnd result (λ e. (kind_of e ≡ OutOfMemory) ⊎ IsMistake (kind_of e)) }
@@ -104,7 +114,20 @@ pub fn asked_of<'a>(alloc: Global, words: &'a [String]) -> Result<Asked<'a>, Err
     let matches = program.try_get_matches_from_mut(words)?;
     match asked_in(&matches) {
         Some(asked) => Ok(asked),
-        None => Err(program.error(ErrorKind::MissingRequiredArgument, NOT_SAID)?),
+        None => {
+            let (kind, text) = fault_in(&matches);
+            Err(program.error(kind, text)?)
+        }
+    }
+}
+
+/// What is wrong with matches that ask for nothing.
+fn fault_in<'a>(matches: &ArgMatches<'a>) -> (ErrorKind, &'static str) {
+    match matches.subcommand() {
+        Some(("schedules", found)) if found.get_flag("cover") => {
+            (ErrorKind::ArgumentConflict, NOT_DRAWN)
+        }
+        _ => (ErrorKind::MissingRequiredArgument, NOT_SAID),
     }
 }
 
@@ -128,6 +151,8 @@ fn asked_in<'a>(matches: &ArgMatches<'a>) -> Option<Asked<'a>>
         → HasToCapture rows port → IsSomeAnd result (λ a. IsCapture a (ToCapture port)) }
     ensures schedules { (rows : List Row) (request : Lists) → subcommand_rows_of matches.now ≡ Some (codes "schedules", rows)
         → HasSchedules rows request → IsSomeAnd result (λ a. IsSchedules a request) }
+    ensures cover { (rows : List Row) (request : Covering) → subcommand_rows_of matches.now ≡ Some (codes "schedules", rows)
+        → HasCover rows request → IsSomeAnd result (λ a. IsCover a request) }
     ensures can_be_done { IfSome result CanBeDone }
 {
     match matches.subcommand()? {
@@ -140,7 +165,7 @@ fn asked_in<'a>(matches: &ArgMatches<'a>) -> Option<Asked<'a>>
         }),
         ("from-capture", found) => Some(Asked::Capture(from_capture_in(found)?)),
         ("to-capture", found) => Some(Asked::Capture(to_capture_in(found)?)),
-        ("schedules", found) => Some(Asked::Schedules(schedules_in(found)?)),
+        ("schedules", found) => lists_in(found),
         _ => None,
     }
 }

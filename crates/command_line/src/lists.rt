@@ -1,22 +1,41 @@
 //! The command `schedules`, and what is asked for in its matches.
-ghost use Rattle.std.specs.Prelude.{◌≡◌, Some, false, codes, IfOk};
+ghost use Rattle.std.specs.Prelude.{◌≡◌, Some, false, codes, IfOk, IfSome, IsSomeAnd};
 ghost use Rattle.clap.specs.Words.{app_of, found_of, rows_of};
 ghost use Rattle.clap.specs.declared.builder.command.Command.TheViews.{out-Command};
 ghost use Rattle.schedule_command.specs.declared.request.ScheduleRequest.{ScheduleRequest as Lists};
-ghost use Rattle.command_line.specs.ScheduleWords.{HasSchedules, schedules_app, with_drawing_rules, with_list_rules};
+ghost use Rattle.cover_command.specs.declared.request.CoverRequest.{CoverRequest as Covering};
+ghost use Rattle.command_line.specs.CommandLine.{CanBeDone, IsCover, IsSchedules};
+ghost use Rattle.command_line.specs.ScheduleWords.{HasCover, HasSchedules, schedules_app, with_drawing_rules, with_list_rules};
 
 use crate::arguments::{flag, number, said, share};
-use crate::command::completion_in;
+use crate::command::{Asked, completion_in};
+use crate::covers::cover_in;
 use clap::{ArgMatches, Command};
 use schedule_command::ScheduleRequest;
 use schedules::SchedulePlan;
 use std::alloc::{AllocError, Global};
 
-const EXAMPLE: &str =
-    "Example:\n  poll82599 schedules --seed 1 --moves 4\n  prints r0 A1 50788\n  and t0 B1 4685 14 0 0 31\n  and t0 B1 44665 17 1 1 31\n  and t0 B7\n  and # end";
+const EXAMPLES: &str =
+    "Examples:\n  poll82599 schedules --seed 1 --moves 4\n  prints r0 A1 50788\n  and t0 B1 4685 14 0 0 31\n  and t0 B1 44665 17 1 1 31\n  and t0 B7\n  and # end\n\n  poll82599 schedules --cover --device-only-real\n  prints first # r0 A4 driver On controller serving: not enabled\n  and r0 A4\n  and # end";
+
+/// What is asked for in matches of `schedules`: lists that are drawn, or with `--cover` lists that together meet all that a
+/// queue can do.
+pub(crate) fn lists_in<'a>(matches: &ArgMatches<'a>) -> Option<Asked<'a>>
+    ensures schedules { (request : Lists) → HasSchedules (rows_of (found_of matches.now)) request
+        → IsSomeAnd result (λ a. IsSchedules a request) }
+    ensures cover { (request : Covering) → HasCover (rows_of (found_of matches.now)) request
+        → IsSomeAnd result (λ a. IsCover a request) }
+    ensures can_be_done { IfSome result CanBeDone }
+{
+    if matches.get_flag("cover") {
+        Some(Asked::Cover(cover_in(matches)?))
+    } else {
+        Some(Asked::Schedules(schedules_in(matches)?))
+    }
+}
 
 /// The request in matches of `schedules`, if they have the seed and the moves.
-pub(crate) fn schedules_in<'a>(matches: &ArgMatches<'a>) -> Option<ScheduleRequest>
+fn schedules_in<'a>(matches: &ArgMatches<'a>) -> Option<ScheduleRequest>
     ensures { (request : Lists) → HasSchedules (rows_of (found_of matches.now)) request → result ≡ Some request }
 {
     let plan = plan_in(matches)?;
@@ -60,9 +79,9 @@ pub(crate) fn schedules<'a>(alloc: Global) -> Result<Command<'a>, AllocError>
 {
     let command = Command::new(alloc, "schedules")
         .about(
-            "Prints lists of moves drawn from a seed, the same for the same words on every machine",
+            "Prints lists of moves drawn from a seed, the same for the same words on every machine, or lists that together meet all that a queue can do",
         )
-        .after_help(EXAMPLE);
+        .after_help(EXAMPLES);
     with_drawing(alloc, with_lists(alloc, command)?)
 }
 
@@ -74,12 +93,12 @@ fn with_lists<'a>(alloc: Global, command: Command<'a>) -> Result<Command<'a>, Al
     let seed = said(
         alloc,
         "seed",
-        "Which lists are drawn, 0 to 4,294,967,295; has to be said",
+        "Which lists are drawn, 0 to 4,294,967,295; has to be said without --cover",
     );
     let moves = said(
         alloc,
         "moves",
-        "How many moves each list has, 0 to 4,294,967,295; has to be said",
+        "How many moves each list has, 0 to 4,294,967,295; has to be said without --cover",
     );
     let count = number(
         alloc,
@@ -127,12 +146,18 @@ fn with_drawing<'a>(alloc: Global, command: Command<'a>) -> Result<Command<'a>, 
     let device_only = flag(
         alloc,
         "device-only-real",
-        "Draws only moves that silicon and its driver make too",
+        "Only moves that silicon and its driver make too",
+    );
+    let cover = flag(
+        alloc,
+        "cover",
+        "Prints no drawn lists, but lists that together meet all that a queue of 8 can do, each below what it meets; beside it stand --head, --expect and --device-only-real alone. How far it is goes to standard error",
     );
     command
         .arg(off)?
         .arg(head)?
         .arg(refused)?
         .arg(expect)?
-        .arg(device_only)
+        .arg(device_only)?
+        .arg(cover)
 }

@@ -13,7 +13,9 @@ ghost use Rattle.commands.specs.Replay.{EndsReplay};
 ghost use Rattle.command_line.specs.CaptureWords.{SaysFromCapture, SaysToCapture};
 ghost use Rattle.command_line.specs.CommandLine.{IsMistake, IsMisuse, IsUnshown, SaysDecode, SaysForward, SaysOnce, SaysReplay};
 ghost use Rattle.command_line.specs.FileWords.{FileOptions};
-ghost use Rattle.command_line.specs.ScheduleWords.{SaysSchedules};
+ghost use Rattle.command_line.specs.ScheduleWords.{SaysCover, SaysSchedules};
+ghost use Rattle.cover_command.specs.Covers.{EndsCover};
+ghost use Rattle.cover_command.specs.declared.request.CoverRequest.{CoverRequest as Covering};
 ghost use Rattle.schedule_command.specs.Lists.{EndsSchedules};
 ghost use Rattle.schedule_command.specs.declared.request.ScheduleRequest.{ScheduleRequest as Lists};
 ghost use Rattle.command_line.specs.Forwarding.{EndsForwarding};
@@ -43,7 +45,8 @@ pub const MISUSED: u8 = 2;
 /// and its words, with status 1; before it stands the file, and the line or the record of the input, that it is for, if it is
 /// for one. With `forward --capture` the frames of captures are forwarded and `input` is not read; what leaves a port goes to
 /// the files of `--wire-capture` too. What is wrong with the command line goes to `faults`, with status 2. A failed write to `faults` changes no status.
-/// `screen` is a second way to standard error, beside `faults`: with `forward --progress` it is shown there how far it is.
+/// `screen` is a second way to standard error, beside `faults`: with `forward --progress` and with `schedules --cover` it is
+/// shown there how far it is.
 pub fn run<
     R: Threads + Wait + Clock + Sync + Files,
     I: Read,
@@ -83,6 +86,8 @@ pub fn run<
         → EndsBy (capture_meant port text) result (W.contents output.old) (W.contents output.new) }
     ensures schedules { (request : Lists) → SaysSchedules (map string_bytes words.now) request
         → EndsSchedules request result (W.contents output.old) (W.contents output.new) }
+    ensures cover { (request : Covering) → SaysCover (map string_bytes words.now) request
+        → EndsCover request result (W.contents output.old) (W.contents output.new) }
 {
     match asked_of(alloc, words) {
         Ok(Asked::Request(request)) => answer(rt, alloc, request, input, output, faults),
@@ -94,6 +99,9 @@ pub fn run<
         }
         Ok(Asked::Schedules(request)) => {
             schedule_command::answer(alloc, &request, output, faults)
+        }
+        Ok(Asked::Cover(request)) => {
+            cover_command::answer(alloc, &request, output, faults, screen)
         }
         Err(error) => tell(&error, output, faults),
     }

@@ -44,3 +44,21 @@ fn what_is_expected_is_what_replay_prints(rt: HostRuntime) -> Result<(), Fail> {
     assert!(&rt; whole.text()?.ends_with("moves 4 of 4\n"));
     Ok(())
 }
+
+/// The first list of those that together meet all that silicon's moves meet: of a pair, and by no move before its own.
+const FIRST: &str = "# r0 A4 driver On controller serving: not enabled\nr0 A4\n# end\n";
+
+#[test]
+fn lists_that_cover_are_printed(rt: HostRuntime) -> Result<(), Fail> {
+    let words = ["schedules", "--cover", "--device-only-real"];
+    let told = outcome_of(&rt, rt.alloc(), words.as_slice(), b"")?;
+    assert_eq!(&rt; (told.status, told.faults.as_str()), (0, ""));
+    assert!(&rt; told.text()?.starts_with(FIRST));
+    assert!(&rt; told.text()?.ends_with("t0 B8\n# end\n"));
+    assert!(&rt;
+        told.shown
+            .as_str()
+            .ends_with("t0 states 3445 of 3445 steps 25819 pairs 16\n")
+    );
+    Ok(())
+}

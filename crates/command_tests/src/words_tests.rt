@@ -20,8 +20,13 @@ const REPLAY: &str = "echo 'r0 A1 5' | poll82599 replay --ring 16\n";
 
 const SCHEDULES: &str = "poll82599 schedules --seed 1 --moves 4\n";
 
+const COVER: &str = "poll82599 schedules --cover --device-only-real";
+
+/// What is told where an option for drawn lists stands beside `--cover`.
+const NOT_DRAWN: &str = "--cover draws no lists";
+
 /// Words that ask for help, and the example that it has to have.
-const HELPED: [(&[&str], &str); 18] = [
+const HELPED: [(&[&str], &str); 20] = [
     (&["--help"], ONCE),
     (&["--help"], DECODE),
     (&["--help"], REPLAY),
@@ -40,10 +45,12 @@ const HELPED: [(&[&str], &str); 18] = [
     (&["schedules", "--help"], SCHEDULES),
     (&["schedules", "-h"], SCHEDULES),
     (&["help", "schedules"], SCHEDULES),
+    (&["--help"], COVER),
+    (&["schedules", "--help"], COVER),
 ];
 
 /// Words that are wrong, and what has to be told of them.
-const WRONG: [(&[&str], &str); 22] = [
+const WRONG: [(&[&str], &str); 30] = [
     (&[], ""),
     (&["twice"], "twice"),
     (&["once"], "HEX"),
@@ -77,6 +84,14 @@ const WRONG: [(&[&str], &str); 22] = [
         ],
         "101",
     ),
+    (&["schedules", "--cover", "--seed", "1"], NOT_DRAWN),
+    (&["schedules", "--moves", "4", "--cover"], NOT_DRAWN),
+    (&["schedules", "--cover", "--count", "1"], NOT_DRAWN),
+    (&["schedules", "--cover", "--ring", "8"], NOT_DRAWN),
+    (&["schedules", "--cover", "--pairs", "1"], NOT_DRAWN),
+    (&["schedules", "--cover", "--off"], NOT_DRAWN),
+    (&["schedules", "--cover", "--refused", "0"], NOT_DRAWN),
+    (&["schedules", "--cover", "--cover"], "--cover"),
 ];
 
 /// Each refusal, and its line.

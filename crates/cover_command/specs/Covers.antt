@@ -5,6 +5,7 @@ use Rattle.std.specs.Io.KnownBytes.{Appends}
 use Rattle.ring_machine.specs.declared.moves.Move.{Move}
 use Rattle.ring_machine.specs.text.Moves.{text_of}
 use Rattle.commands.specs.Replay.{RefusesReplay}
+use Rattle.commands.specs.declared.answering.TheConstants.{DONE, REFUSED}
 use Rattle.commands.specs.declared.refusal.Refusal.{Refusal}
 use Rattle.commands.specs.declared.refusal.Refusal.TheVariants as refusal
 use Rattle.commands.specs.declared.replay.QueuePlan.{QueuePlan}
@@ -77,3 +78,8 @@ Refuses s e = (e ≡ refusal.Memory) ⊎ (((l : CoverList) × Meets s l × NotPr
 
 abbrev pub RefusesCover : CoverRequest → Refusal → Type 0
 RefusesCover r e = Refuses (receive_scope r) e ⊎ Refuses (transmit_scope r) e
+
+-- how `schedules --cover` ends: its lists were printed, or it is refused
+pub record EndsCover (r : CoverRequest) (status : ℕ) (old new : Option (List ℕ)) : Type 0 where
+  pub done : status ≡ DONE → PrintsCover r old new
+  pub either : (status ≡ DONE) ⊎ (status ≡ REFUSED)

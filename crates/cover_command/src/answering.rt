@@ -1,8 +1,9 @@
 //! What a request does to the streams, and the status that it ends with.
-ghost use Rattle.std.specs.Prelude.{◌≡◌, ◌⊎◌, IfErr, OnOk, All};
-ghost use Rattle.commands.specs.declared.answering.TheConstants.{DONE, REFUSED};
+ghost use Rattle.std.specs.Prelude.{◌≡◌, IfErr, OnOk, All};
+ghost use Rattle.std.specs.Io.KnownBytes.{Keeps};
+ghost use Rattle.commands.specs.declared.answering.TheConstants.{DONE};
 ghost use Rattle.coverage.specs.Lists.{Meets};
-ghost use Rattle.cover_command.specs.Covers.{Prints, PrintsCover, PrintsLists, Refuses, RefusesCover};
+ghost use Rattle.cover_command.specs.Covers.{EndsCover, Prints, PrintsCover, PrintsLists, Refuses, RefusesCover};
 
 use crate::listing::list_of;
 use crate::request::CoverRequest;
@@ -13,17 +14,18 @@ use std::alloc::Global;
 use std::io::Write;
 
 /// Does what is asked for, and answers an exit status. The lists go to `output`, with status 0. How far it is goes to
-/// `faults`, a line after each 1,000 states. A refusal goes there as one line, with status 1, as the other commands' do.
-pub fn answer<W: Write, E: Write>(
+/// `shown`, a line after each 1,000 states. A refusal goes to `faults` as one line, with status 1, as the other commands' do.
+pub fn answer<W: Write, E: Write, M: Write>(
     alloc: Global,
     request: &CoverRequest,
     output: &mut W,
     faults: &mut E,
+    shown: &mut M,
 ) -> u8
-    ensures status { (result ≡ DONE) ⊎ (result ≡ REFUSED) }
-    ensures prints { result ≡ DONE → PrintsCover request.now (W.contents output.old) (W.contents output.new) }
+    ensures ends { EndsCover request.now result (W.contents output.old) (W.contents output.new) }
+    ensures done { result ≡ DONE → Keeps (E.contents faults.old) (E.contents faults.new) }
 {
-    match perform(alloc, request, output, faults) {
+    match perform(alloc, request, output, shown) {
         Ok(()) => DONE,
         Err(refusal) => refuse(faults, refusal),
     }
@@ -34,11 +36,11 @@ pub fn answer<W: Write, E: Write>(
 ///
 /// It answers `Memory` where memory was refused, and `Output` where a list could not be printed. Lists before that one were
 /// printed.
-pub fn perform<W: Write, E: Write>(
+pub fn perform<W: Write, M: Write>(
     alloc: Global,
     request: &CoverRequest,
     output: &mut W,
-    shown: &mut E,
+    shown: &mut M,
 ) -> Result<(), Refusal>
     ensures done { OnOk result (PrintsCover request.now (W.contents output.old) (W.contents output.new)) }
     ensures refused { IfErr result (RefusesCover request.now) }
@@ -56,12 +58,12 @@ pub fn perform<W: Write, E: Write>(
 }
 
 // Prints the lists of a queue.
-fn cover<W: Write, E: Write>(
+fn cover<W: Write, M: Write>(
     alloc: Global,
     scope: Scope,
     expect: bool,
     output: &mut W,
-    shown: &mut E,
+    shown: &mut M,
 ) -> Result<(), Refusal>
     ensures done { OnOk result (Prints scope expect (W.contents output.old) (W.contents output.new)) }
     ensures refused { IfErr result (Refuses scope) }

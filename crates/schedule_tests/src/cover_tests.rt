@@ -39,9 +39,10 @@ fn lists_in(text: &str) -> usize {
 fn lists_of_both_queues_are_printed(rt: HostRuntime) -> Result<(), Fail> {
     let alloc = rt.alloc();
     let (mut output, mut faults) = (Vec::new(alloc), Vec::new(alloc));
-    let status = answer(alloc, &REQUEST, &mut output, &mut faults);
-    assert_eq!(&rt; status, 0);
-    let (text, told) = (String::from_utf8(output)?, String::from_utf8(faults)?);
+    let mut shown = Vec::new(alloc);
+    let status = answer(alloc, &REQUEST, &mut output, &mut faults, &mut shown);
+    assert_eq!(&rt; (status, faults.len()), (0, 0));
+    let (text, told) = (String::from_utf8(output)?, String::from_utf8(shown)?);
     let first = format!(in alloc; "{FIRST}r0 A4 not enabled\nmoves 0 of 1\n")?;
     assert!(&rt; text.as_str().starts_with(first.as_str()));
     let page = replay_text(alloc, QUEUES, &mut LAST.as_bytes())?;
@@ -62,12 +63,11 @@ fn an_output_that_fails_has_a_beginning(rt: HostRuntime) -> Result<(), Fail> {
         room: FIRST.len() + 3,
         taken: Vec::new(alloc),
     };
-    let mut faults = Vec::new(alloc);
-    let status = answer(alloc, &REQUEST, &mut output, &mut faults);
+    let (mut faults, mut shown) = (Vec::new(alloc), Vec::new(alloc));
+    let status = answer(alloc, &REQUEST, &mut output, &mut faults, &mut shown);
     assert_eq!(&rt; status, 1);
     assert!(&rt; output.taken.as_slice().starts_with(FIRST.as_bytes()));
     assert_eq!(&rt; output.taken.len(), FIRST.len() + 3);
-    let told = str::from_utf8(faults.as_slice())?;
-    assert!(&rt; told.ends_with("refused 84 output\n"));
+    assert_eq!(&rt; str::from_utf8(faults.as_slice())?, "refused 84 output\n");
     Ok(())
 }

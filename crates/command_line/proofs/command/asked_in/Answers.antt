@@ -38,12 +38,7 @@ returns-in_default-clause-forward c =
     let other : (rows : List Row) → subcommand_rows_of c.args.matches.now ≡ Some (codes "forward", rows) → ⊥ = search rules in
     λ rows config printing found has shown. absurd (other rows found)
 
-pub returns-in_err-schedules_in-in-schedules-default-clause-forward : goal.returns-in_err-schedules_in-in-schedules-default-clause-forward
-returns-in_err-schedules_in-in-schedules-default-clause-forward c =
-    let other : (rows : List Row) → subcommand_rows_of c.args.matches.now ≡ Some (codes "forward", rows) → ⊥ = search rules in
-    λ rows config printing found has shown. absurd (other rows found)
-
-pub returns-in_ok-schedules_in-in-schedules-default-clause-forward : goal.returns-in_ok-schedules_in-in-schedules-default-clause-forward
-returns-in_ok-schedules_in-in-schedules-default-clause-forward c =
+pub returns-in-schedules-default-clause-forward : goal.returns-in-schedules-default-clause-forward
+returns-in-schedules-default-clause-forward c =
     let other : (rows : List Row) → subcommand_rows_of c.args.matches.now ≡ Some (codes "forward", rows) → ⊥ = search rules in
     λ rows config printing found has shown. absurd (other rows found)

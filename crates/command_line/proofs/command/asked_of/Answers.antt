@@ -2,6 +2,7 @@ use Rattle.std.proofs.Common.{◌∙◌}
 use Rattle.std.proofs.lemmas.Result.{err_from_is_err_and}
 use Rattle.command_line.proofs.CaptureWords.{from_found, from_taken, to_found, to_taken}
 use Rattle.command_line.proofs.CommandLine.{free, misuse_fails, misuse_not_taken, simple}
+use Rattle.command_line.proofs.CoverWords.{cover_found, cover_taken}
 use Rattle.command_line.proofs.DecodeWords.{decode_found, decode_taken}
 use Rattle.command_line.proofs.ForwardWords.{forward_found, forward_taken}
 use Rattle.command_line.proofs.OnceWords.{once_found, once_taken}
@@ -143,3 +144,20 @@ returns-clause-schedules c request says =
     let lists = schedules_found _ _ request c.in_ok-program.ensures says in
     let found = (c.in_ok-matches.ensures.ok.2 (simple _ c.in_ok-program.ensures)).1 ∙ lists.1 in
     absurd (c.in-None.ensures.schedules lists.0 request found lists.2)
+
+pub returns-in_err-matches-clause-cover : goal.returns-in_err-matches-clause-cover
+returns-in_err-matches-clause-cover c request says =
+    let p = err_from_is_err_and c.from_residual-in_err-matches.result c.from_residual-in_err-matches.ensures.1 in
+    rw (p.1, p.2) (c.in_err-matches.ensures.passes (cover_taken _ _ request c.in_ok-program.ensures says))
+
+pub returns-in-Some-clause-cover : goal.returns-in-Some-clause-cover
+returns-in-Some-clause-cover c request says =
+    let lists = cover_found _ _ request c.in_ok-program.ensures says in
+    let found = (c.in_ok-matches.ensures.ok.2 (simple _ c.in_ok-program.ensures)).1 ∙ lists.1 in
+    c.in-Some.ensures.cover lists.0 request found lists.2
+
+pub returns-clause-cover : goal.returns-clause-cover
+returns-clause-cover c request says =
+    let lists = cover_found _ _ request c.in_ok-program.ensures says in
+    let found = (c.in_ok-matches.ensures.ok.2 (simple _ c.in_ok-program.ensures)).1 ∙ lists.1 in
+    absurd (c.in-None.ensures.cover lists.0 request found lists.2)

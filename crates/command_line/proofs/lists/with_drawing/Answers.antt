@@ -1,4 +1,4 @@
-use Rattle.std.proofs.Common.{◌≡◌, ◌∙◌, ap, ap₂, refl, Bool, true, false, ◌||◌}
+use Rattle.std.proofs.Common.{◌∙◌, ap, ap₂}
 use Rattle.std.proofs.lemmas.Result.{IfOk-weaker}
 use Rattle.clap.specs.Words.{app_of, with_rule}
 use Rattle.command_line.proofs.CommandLine.{or_false}
@@ -10,7 +10,8 @@ returns-clause-app c =
     let with_head = c.in_ok-arg-2.ensures.shape c.flag-head.ensures.local ∙ ap₂ with_rule with_off c.flag-head.ensures.rule in
     let with_refused = c.in_ok-arg-3.ensures.shape c.share-refused.ensures.local ∙ ap₂ with_rule with_head c.share-refused.ensures.rule in
     let with_expect = c.in_ok-arg-4.ensures.shape c.flag-expect.ensures.local ∙ ap₂ with_rule with_refused c.flag-expect.ensures.rule in
-    IfOk-weaker c.arg-5.result _ _ (λ r adds. adds.shape c.flag-device_only.ensures.local ∙ ap₂ with_rule with_expect c.flag-device_only.ensures.rule) c.arg-5.ensures
+    let with_device = c.in_ok-arg-5.ensures.shape c.flag-device_only.ensures.local ∙ ap₂ with_rule with_expect c.flag-device_only.ensures.rule in
+    IfOk-weaker c.arg-6.result _ _ (λ r adds. adds.shape c.flag-cover.ensures.local ∙ ap₂ with_rule with_device c.flag-cover.ensures.rule) c.arg-6.ensures
 
 pub returns-clause-local : goal.returns-clause-local
 returns-clause-local c =
@@ -18,4 +19,5 @@ returns-clause-local c =
     let with_head = c.in_ok-arg-2.ensures.globals ∙ or_false _ _ c.flag-head.ensures.local ∙ with_off in
     let with_refused = c.in_ok-arg-3.ensures.globals ∙ or_false _ _ c.share-refused.ensures.local ∙ with_head in
     let with_expect = c.in_ok-arg-4.ensures.globals ∙ or_false _ _ c.flag-expect.ensures.local ∙ with_refused in
-    IfOk-weaker c.arg-5.result _ _ (λ r adds. adds.globals ∙ or_false _ _ c.flag-device_only.ensures.local ∙ with_expect) c.arg-5.ensures
+    let with_device = c.in_ok-arg-5.ensures.globals ∙ or_false _ _ c.flag-device_only.ensures.local ∙ with_expect in
+    IfOk-weaker c.arg-6.result _ _ (λ r adds. adds.globals ∙ or_false _ _ c.flag-cover.ensures.local ∙ with_device) c.arg-6.ensures

@@ -5,10 +5,12 @@ use Rattle.commands.specs.Answers.{EndsBy}
 use Rattle.commands.specs.Replay.{EndsReplay}
 use Rattle.commands.specs.declared.request.Request.{Request}
 use Rattle.command_line.specs.Forwarding.{EndsForwarding}
+use Rattle.cover_command.specs.Covers.{EndsCover}
+use Rattle.cover_command.specs.declared.request.CoverRequest.{CoverRequest}
 use Rattle.schedule_command.specs.Lists.{EndsSchedules}
-use Rattle.command_line.specs.CommandLine.{IsCapture, IsDecode, IsForward, IsOnce, IsReplayOf, IsRequest, IsSchedules}
+use Rattle.command_line.specs.CommandLine.{IsCapture, IsCover, IsDecode, IsForward, IsOnce, IsReplayOf, IsRequest, IsSchedules}
 use Rattle.command_line.specs.declared.command.Asked.{Asked}
-use Rattle.command_line.proofs.Endings.{as-capture, as-forward, as-request, capture-ends, capture-kept, decode-ends, forward-ends, forward-kept, no-capture-of-forward, no-capture-of-request, no-forward, no-forward-of-captures, no-request, no-request-of-captures, once-ends, replay-ends, replay-kept, schedules-ends, schedules-kept, unshown-forward}
+use Rattle.command_line.proofs.Endings.{as-capture, as-forward, as-request, capture-ends, capture-kept, cover-kept, decode-ends, forward-ends, forward-kept, no-capture-of-forward, no-capture-of-request, no-forward, no-forward-of-captures, no-request, no-request-of-captures, once-ends, replay-ends, replay-kept, schedules-ends, schedules-kept, unshown-cover, unshown-forward}
 use Rattle.command_line.proofs.running.run.Goals as goal
 
 pub returns-in-Ok-Request-clause-once : goal.returns-in-Ok-Request-clause-once
@@ -154,6 +156,61 @@ pub returns-in-Ok-Schedules-clause-to_capture : goal.returns-in-Ok-Schedules-cla
 returns-in-Ok-Schedules-clause-to_capture g c port bytes says known =
     absurd (subst (λ (a : Asked). IsCapture a (ToCapture port)) c.in-Ok-Schedules.field-0-is (c.in-Ok-Schedules.ensures.to_capture port says))
 
+-- ---- lists that cover what a queue can do
+
+pub returns-in-Ok-Request-clause-cover : goal.returns-in-Ok-Request-clause-cover
+returns-in-Ok-Request-clause-cover g c request says =
+    absurd (subst (λ (a : Asked). IsCover a request) c.in-Ok-Request.field-0-is (c.in-Ok-Request.ensures.cover request says))
+
+pub returns-in-Ok-Forward-clause-cover : goal.returns-in-Ok-Forward-clause-cover
+returns-in-Ok-Forward-clause-cover g c request says =
+    absurd (subst (λ (a : Asked). IsCover a request) c.in-Ok-Forward.field-0-is (c.in-Ok-Forward.ensures.cover request says))
+
+pub returns-in-Ok-Capture-clause-cover : goal.returns-in-Ok-Capture-clause-cover
+returns-in-Ok-Capture-clause-cover g c request says =
+    absurd (subst (λ (a : Asked). IsCover a request) c.in-Ok-Capture.field-0-is (c.in-Ok-Capture.ensures.cover request says))
+
+pub returns-in-Ok-Schedules-clause-cover : goal.returns-in-Ok-Schedules-clause-cover
+returns-in-Ok-Schedules-clause-cover g c request says =
+    absurd (subst (λ (a : Asked). IsCover a request) c.in-Ok-Schedules.field-0-is (c.in-Ok-Schedules.ensures.cover request says))
+
+pub returns-in-Ok-Cover-clause-cover : goal.returns-in-Ok-Cover-clause-cover
+returns-in-Ok-Cover-clause-cover g c request says =
+    let is = subst (λ (a : Asked). IsCover a request) c.in-Ok-Cover.field-0-is (c.in-Ok-Cover.ensures.cover request says) in
+    subst (λ (r : CoverRequest). EndsCover r c.answer-in-Ok-Cover.result (g.W.Write.contents c.args.output.now) (g.W.Write.contents c.answer-in-Ok-Cover.new.output)) is
+    c.answer-in-Ok-Cover.ensures.ends
+
+pub returns-in-Err-clause-cover : goal.returns-in-Err-clause-cover
+returns-in-Err-clause-cover g c request says = let m = c.tell.ensures.memory (c.in-Err.ensures.cover request says) in
+    subst (λ (status : ℕ). EndsCover request status (g.W.Write.contents c.args.output.now) (g.W.Write.contents c.tell.new.output)) (sym m.0)
+    (cover-kept request (g.W.Write.contents c.args.output.now) (g.W.Write.contents c.tell.new.output))
+
+pub returns-in-Ok-Cover-clause-replay : goal.returns-in-Ok-Cover-clause-replay
+returns-in-Ok-Cover-clause-replay g c plan text says known =
+    absurd (subst (λ (a : Asked). IsRequest (λ r. IsReplayOf r plan) a) c.in-Ok-Cover.field-0-is (c.in-Ok-Cover.ensures.replay plan says))
+
+pub returns-in-Ok-Cover-clause-forward : goal.returns-in-Ok-Cover-clause-forward
+returns-in-Ok-Cover-clause-forward g c config printing files says =
+    absurd (subst (λ (a : Asked). IsForward a config printing) c.in-Ok-Cover.field-0-is (c.in-Ok-Cover.ensures.forward config printing files says))
+
+pub returns-in-Ok-Cover-clause-unread : goal.returns-in-Ok-Cover-clause-unread
+returns-in-Ok-Cover-clause-unread g c config printing files says =
+    absurd (subst (λ (a : Asked). IsForward a config printing) c.in-Ok-Cover.field-0-is (c.in-Ok-Cover.ensures.forward config printing files says))
+
+pub returns-in-Ok-Cover-clause-from_capture : goal.returns-in-Ok-Cover-clause-from_capture
+returns-in-Ok-Cover-clause-from_capture g c port queue bytes says known =
+    absurd (subst (λ (a : Asked). IsCapture a (FromCapture port queue)) c.in-Ok-Cover.field-0-is (c.in-Ok-Cover.ensures.from_capture port queue says))
+
+pub returns-in-Ok-Cover-clause-to_capture : goal.returns-in-Ok-Cover-clause-to_capture
+returns-in-Ok-Cover-clause-to_capture g c port bytes says known =
+    absurd (subst (λ (a : Asked). IsCapture a (ToCapture port)) c.in-Ok-Cover.field-0-is (c.in-Ok-Cover.ensures.to_capture port says))
+
+pub returns-in-Ok-Cover-clause-schedules : goal.returns-in-Ok-Cover-clause-schedules
+returns-in-Ok-Cover-clause-schedules g c request says =
+    absurd (subst (λ (a : Asked). IsSchedules a request) c.in-Ok-Cover.field-0-is (c.in-Ok-Cover.ensures.schedules request says))
+
+-- ---- the screen
+
 -- what was asked for is a forwarding: so the words are none but those of one
 pub returns-in-Ok-Forward-clause-screen : goal.returns-in-Ok-Forward-clause-screen
 returns-in-Ok-Forward-clause-screen g c unshown =
@@ -163,3 +220,10 @@ returns-in-Ok-Forward-clause-screen g c unshown =
     let asks = c.in-Ok-Forward.ensures in
     c.forward.ensures.screen
     (unshown-forward _ found given shown c.in-Ok-Forward.field-0-is asks.once asks.decode asks.replay asks.forward asks.from_capture asks.to_capture asks.schedules asks.misuse unshown)
+
+-- and here it is lists that cover
+pub returns-in-Ok-Cover-clause-screen : goal.returns-in-Ok-Cover-clause-screen
+returns-in-Ok-Cover-clause-screen g c unshown =
+    let found = c.in-Ok-Cover.field-0 in
+    let asks = c.in-Ok-Cover.ensures in
+    absurd (unshown-cover _ found c.in-Ok-Cover.request c.in-Ok-Cover.field-0-is asks.once asks.decode asks.replay asks.forward asks.from_capture asks.to_capture asks.schedules asks.misuse unshown)

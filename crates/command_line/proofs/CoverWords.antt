@@ -1,0 +1,69 @@
+-- What clap makes of `schedules --cover` and its options.
+use Rattle.std.proofs.Common.{◌≡◌, refl, arith, true, false, List, [], ◌∷◌, codes, Some, None}
+use Rattle.clap.specs.Words.{App, Row, Text, subcommand_of, takes}
+use Rattle.cover_command.specs.declared.request.CoverRequest.{CoverRequest}
+use Rattle.command_line.specs.CommandLine.{IsProgram}
+use Rattle.command_line.specs.OptionWords.{is_head}
+use Rattle.command_line.specs.ScheduleWords.{HasCover, SaysCover, is_said}
+use Rattle.command_line.proofs.OptionRows.{both-false}
+use Rattle.command_line.proofs.Options.{Given, HasValue, given_said, given_value, id_of, stands}
+use Rattle.command_line.proofs.Options.Given.{flag, number}
+use Rattle.command_line.proofs.OptionLists.{AreLawful, HasOptions, HoldsOfEach, all_words, options_hold, options_taken}
+use Rattle.command_line.proofs.ScheduleWords.{is_command, shape}
+
+-- its options, with what the words say: none of those for drawn lists
+abbrev options : CoverRequest → List Given
+options request =
+    number (codes "seed") 4294967295 [] None
+    ∷ number (codes "moves") 4294967295 [] None
+    ∷ number (codes "count") 4294967295 (codes "1" ∷ []) None
+    ∷ number (codes "ring") 4294967295 (codes "8" ∷ []) None
+    ∷ number (codes "pairs") 4294967295 (codes "1" ∷ []) None
+    ∷ flag (codes "off") false
+    ∷ number (codes "refused") 100 (codes "0" ∷ []) None
+    ∷ flag (codes "cover") true
+    ∷ flag (codes "head") (is_head request.completion)
+    ∷ flag (codes "expect") request.expect
+    ∷ flag (codes "device-only-real") request.device_only
+    ∷ []
+
+has_options : (request : CoverRequest) → HasOptions (codes "schedules") shape (options request)
+has_options request = record { command = is_command; among = refl; distinct = refl; valid = λ h. refl }
+
+are_lawful : (request : CoverRequest) → AreLawful (options request)
+are_lawful request = (tt, (tt, (tt, (tt, (tt, (tt, (tt, (tt, (tt, (tt, (tt, tt)))))))))))
+
+words_are : (words : List Text) (request : CoverRequest) → SaysCover words request → words ≡ codes "schedules" ∷ all_words (options request)
+words_are words request says = says.words_are
+
+-- each has its value, and stands or doesn't
+abbrev IsRead : List Row → Given → Type 0
+IsRead rows g = HasValue rows g × (is_said (id_of g) rows ≡ stands g)
+
+each_read : HoldsOfEach IsRead
+each_read rules before behind g among first last = (given_value rules before behind g among first last, given_said rules before behind g among first last)
+
+-- ---- what clap makes of them
+
+pub cover_taken : (app : App) (words : List Text) (request : CoverRequest) → IsProgram app → SaysCover words request → takes app words ≡ true
+cover_taken app words request program says =
+    options_taken app words (codes "schedules") shape (options request) program (has_options request) (are_lawful request) (words_are words request says)
+
+pub cover_found : (app : App) (words : List Text) (request : CoverRequest) → IsProgram app → SaysCover words request
+    → (rows : List Row) × (subcommand_of app words ≡ Some (codes "schedules", rows)) × HasCover rows request
+cover_found app words request program says =
+    let found = options_hold IsRead each_read app words (codes "schedules") shape (options request) program (has_options request) (are_lawful request)
+    (words_are words request says) in
+    let none : Given = flag [] false in (
+      found.0,
+      found.1,
+      record {
+        cover = (found.2 7 none (omega arith)).0;
+        head = (found.2 8 none (omega arith)).0;
+        expect = (found.2 9 none (omega arith)).0;
+        device_only = (found.2 10 none (omega arith)).0;
+        undrawn = both-false _ _ (found.2 0 none (omega arith)).1 (both-false _ _ (found.2 1 none (omega arith)).1
+            (both-false _ _ (found.2 2 none (omega arith)).1 (both-false _ _ (found.2 3 none (omega arith)).1
+            (both-false _ _ (found.2 4 none (omega arith)).1 (both-false _ _ (found.2 5 none (omega arith)).1 (found.2 6 none (omega arith)).1)))));
+      },
+    )

@@ -1,0 +1,54 @@
+//! What is asked for in matches of `schedules` with `--cover`.
+ghost use Rattle.std.specs.Prelude.{◌≡◌, Some};
+ghost use Rattle.clap.specs.Words.{found_of, rows_of};
+ghost use Rattle.cover_command.specs.declared.request.CoverRequest.{CoverRequest as Covering};
+ghost use Rattle.command_line.specs.ScheduleWords.{HasCover, by_words, draws, is_said};
+
+use crate::command::completion_in;
+use clap::ArgMatches;
+use clap::parser::ValueSource;
+use cover_command::CoverRequest;
+
+/// The request in matches of `schedules` with `--cover`, if no option stands beside it that says how lists are drawn.
+pub(crate) fn cover_in<'a>(matches: &ArgMatches<'a>) -> Option<CoverRequest>
+    ensures { (request : Covering) → HasCover (rows_of (found_of matches.now)) request → result ≡ Some request }
+{
+    if draws(matches) {
+        return None;
+    }
+    let completion = completion_in(matches);
+    let expect = matches.get_flag("expect");
+    let device_only = matches.get_flag("device-only-real");
+    Some(CoverRequest {
+        completion,
+        expect,
+        device_only,
+    })
+}
+
+/// Whether an option stands that says how lists are drawn.
+fn draws<'a>(matches: &ArgMatches<'a>) -> bool
+    ensures { result ≡ draws (rows_of (found_of matches.now)) }
+{
+    is_said(matches, "seed")
+        || is_said(matches, "moves")
+        || is_said(matches, "count")
+        || is_said(matches, "ring")
+        || is_said(matches, "pairs")
+        || is_said(matches, "off")
+        || is_said(matches, "refused")
+}
+
+/// Whether an option stands among the words. One that is left out may have a value, which is its default.
+fn is_said<'a>(matches: &ArgMatches<'a>, id: &str) -> bool
+    ensures { result ≡ is_said id.now (rows_of (found_of matches.now)) }
+{
+    by_words(matches.value_source(id))
+}
+
+/// Whether a value came from the words.
+fn by_words(source: Option<ValueSource>) -> bool
+    ensures { result ≡ by_words source }
+{
+    matches!(source, Some(ValueSource::CommandLine))
+}
