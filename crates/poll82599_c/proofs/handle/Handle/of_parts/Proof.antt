@@ -25,11 +25,11 @@ use denote.Triple.Table.{entered}
 use denote.Triple.Walked.{says, Stays, stay_dropped, walk_of, ends_at, Goes-dropped, walk_Meets}
 use Rattle.std_alloc.proofs.BoxSteps.Form.{D, B, word, box_typed}
 use Rattle.std_alloc.proofs.BoxSteps.Steps.{box_out, box_in}
-use Rattle.poll82599_c.proofs.RxControllerHandleAsBox.{E, FromParts as From}
-use Rattle.poll82599_c.specs.contracts.rx_controller_handle.RxControllerHandle.of_parts as F
-use Rattle.poll82599_c.specs.contracts.rx_controller_handle.RxControllerHandle.of_parts.Key.{name as #self}
-use Rattle.poll82599_c.proofs.rx_controller_handle.RxControllerHandle.of_parts.Statement as stated
-use Rattle.poll82599_c.proofs.rx_controller_handle.RxControllerHandle.of_parts.Code as code
+use Rattle.poll82599_c.proofs.HandleAsBox.{E, FromParts as From}
+use Rattle.poll82599_c.specs.contracts.handle.Handle.of_parts as F
+use Rattle.poll82599_c.specs.contracts.handle.Handle.of_parts.Key.{name as #self}
+use Rattle.poll82599_c.proofs.handle.Handle.of_parts.Statement as stated
+use Rattle.poll82599_c.proofs.handle.Handle.of_parts.Code as code
 
 abbrev stayed : Stays (F.ended).signature.params (F.ended).kept
 stayed = (stay_dropped From yes, tt)

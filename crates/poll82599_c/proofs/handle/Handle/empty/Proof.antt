@@ -31,11 +31,11 @@ use denote.Triple.Walked.{says, Stays, stay_dropped, walk_of, ends_at, Goes-drop
 use Rattle.core.proofs.alloc.Calls.{α, handle_tells}
 use Rattle.std_alloc.proofs.BoxSteps.Form.{P, owning}
 use Rattle.std_alloc.proofs.ResultValues.{and_tt}
-use Rattle.poll82599_c.proofs.TxDriverHandleAsBox.{E, FromGlobal as From}
-use Rattle.poll82599_c.specs.contracts.tx_driver_handle.TxDriverHandle.empty as F
-use Rattle.poll82599_c.specs.contracts.tx_driver_handle.TxDriverHandle.empty.Key.{name as #self}
-use Rattle.poll82599_c.proofs.tx_driver_handle.TxDriverHandle.empty.Statement as stated
-use Rattle.poll82599_c.proofs.tx_driver_handle.TxDriverHandle.empty.Code as code
+use Rattle.poll82599_c.proofs.HandleAsBox.{E, FromGlobal as From}
+use Rattle.poll82599_c.specs.contracts.handle.Handle.empty as F
+use Rattle.poll82599_c.specs.contracts.handle.Handle.empty.Key.{name as #self}
+use Rattle.poll82599_c.proofs.handle.Handle.empty.Statement as stated
+use Rattle.poll82599_c.proofs.handle.Handle.empty.Code as code
 
 abbrev stayed : Stays (F.ended).signature.params (F.ended).kept
 stayed = (stay_dropped From yes, tt)
