@@ -1,0 +1,6 @@
+pub mod Packing
+pub mod PacketsHandleAsBox
+pub mod RxDeviceHandleAsBox
+pub mod RxQueueHandleAsBox
+pub mod Sendable
+pub mod Shaping
