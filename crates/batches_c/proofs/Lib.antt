@@ -4,3 +4,5 @@ pub mod RxDeviceHandleAsBox
 pub mod RxQueueHandleAsBox
 pub mod Sendable
 pub mod Shaping
+pub mod TxDeviceHandleAsBox
+pub mod TxQueueHandleAsBox

@@ -17,6 +17,8 @@ use Rattle.std_heap.proofs.Global.TheSendSync as heap
 use Rattle.batches_c.specs.contracts.packets.Packets as Packets
 use Rattle.batches_c.specs.contracts.rx_device.RxDevice as RxDevice
 use Rattle.batches_c.specs.contracts.rx_queue.RxQueue as RxQueue
+use Rattle.batches_c.specs.contracts.tx_device.TxDevice as TxDevice
+use Rattle.batches_c.specs.contracts.tx_queue.TxQueue as TxQueue
 
 ruleset parts = (sendable, crosses, cells.the_field_send, lease.the_send, lease.the_sync, seat.the_send, shared.the_send, shared.the_sync, send-Chain, sync-Chain, room.the_field_send, room.the_field_sync, tally.the_field_send, phantom.the_field_send, option.the_send, option.the_sync, completion.the_field_send, controller_places.the_field_send, driver_places.the_field_send, heap.the_send, heap.the_sync)
 
@@ -28,3 +30,9 @@ rx_queue = search parts depth 60
 
 pub rx_device : IsSend RxDevice.the_row
 rx_device = search parts depth 60
+
+pub tx_queue : IsSend TxQueue.the_row
+tx_queue = search parts depth 60
+
+pub tx_device : IsSend TxDevice.the_row
+tx_device = search parts depth 60

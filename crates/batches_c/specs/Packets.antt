@@ -105,3 +105,9 @@ pub record Released (i : ℕ) (old new : Worked) : Type 0 where
   pub there : IsAt old i packet
   pub list : new.packets ≡ remove old.packets i
   pub stash : new.stash ≡ reverse (numbers_of packet) ++ old.stash
+
+-- so many packets and empty buffers there are
+pub record Counted (packets buffers : ℕ) (old new : Worked) : Type 0 where
+  pub packets_are : packets ≡ length old.packets
+  pub buffers_are : buffers ≡ length old.stash
+  pub same : new ≡ old

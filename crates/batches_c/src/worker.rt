@@ -2,7 +2,7 @@
 ghost use Rattle.std.specs.Prelude.{◌≡◌, ◌≢◌, ◌<◌, ◌≤◌, ◌⊎◌, None, IsSome, pos};
 ghost use Rattle.ring_model.specs.shared.Frames.{HasFrameLength};
 ghost use Rattle.batches_c.specs.Handles.{Between, Of};
-ghost use Rattle.batches_c.specs.Packets.{CopiedOut, HadPackets, HasNoPlace, IsAbsent, IsMade, IsTooShort, PutFrame, ReadByte, Released, WroteByte};
+ghost use Rattle.batches_c.specs.Packets.{CopiedOut, Counted, HadPackets, HasNoPlace, IsAbsent, IsMade, IsTooShort, PutFrame, ReadByte, Released, WroteByte};
 
 use crate::call::{NO_OPERATION, Poll82599Packet};
 use crate::making::{crossing, stash_of};
@@ -56,8 +56,8 @@ pub extern "C" fn poll82599_packets_put(
     answer
 }
 
-/// Does something with one of a worker's packets: 0 copies it into `room`, 1 reads a byte, 2 replaces one in place, and 3 lets the
-/// packet go, so that its buffers are in the stash again.
+/// Does something with one of a worker's packets: 0 copies it into `room`, 1 reads a byte, 2 replaces one in place, 3 lets the
+/// packet go, so that its buffers are in the stash again, and 4 hands out how many packets there are, and as `len` how many empty buffers.
 #[unsafe(no_mangle)]
 pub extern "C" fn poll82599_packets_do(
     alloc: Global,
@@ -75,6 +75,7 @@ pub extern "C" fn poll82599_packets_do(
     ensures touched { (call.old.operation ≡ 2) → (call.new.answer ≡ 1)
         → Between (WroteByte call.old.packet call.old.at call.old.byte) packets.old.held packets.new.held }
     ensures released { (call.old.operation ≡ 3) → (call.new.answer ≡ 1) → Between (Released call.old.packet) packets.old.held packets.new.held }
+    ensures counted { (call.old.operation ≡ 4) → Between (Counted call.new.packet call.new.len) packets.old.held packets.new.held }
     ensures gone { (call.old.operation ≡ 3) → (call.new.answer ≡ 0) → Of (IsAbsent call.old.packet) packets.old.held }
     ensures room { (call.old.operation ≢ 0) → room.new ≡ room.old }
     ensures uncopied { (call.new.answer ≢ 1) → room.new ≡ room.old }
@@ -94,6 +95,11 @@ pub extern "C" fn poll82599_packets_do(
         }
         2 => held.touch(call.packet, call.at, call.byte),
         3 => held.release(call.packet),
+        4 => {
+            call.packet = held.list.len();
+            call.len = held.stash.len();
+            1
+        }
         _ => NO_OPERATION,
     };
     packets.put(held);
