@@ -1,0 +1,4 @@
+pub mod Handles
+pub mod Packets
+pub mod Receiving
+pub mod Transmitting

@@ -1,0 +1,91 @@
+//! The making of a receive queue with its driver and its device, and its closing.
+ghost use Rattle.std.specs.Prelude.{◌≡◌, ◌≢◌, ◌<◌, ◌⊎◌, IfErr, IfOk, length};
+ghost use Rattle.limits.specs.RingLength.{IsRingLength};
+ghost use Rattle.ring_model.specs.receive.Lawful.{IsLawfulRxLedger};
+ghost use Rattle.ring_model.specs.shared.Frames.{Bytes};
+ghost use Rattle.rx_ring.specs.Calls.{IsTold, told_left};
+ghost use Rattle.rx_ring.specs.Ends.{driver_size, taken};
+ghost use Rattle.rx_ring.specs.Meeting.{ledger_of, stored_now};
+ghost use Rattle.controller.specs.FillSize.{IsFillSize};
+ghost use Rattle.batches_c.specs.Receiving.{ArePair};
+
+use crate::making::{Unmade, crossing};
+use crate::rx_device::RxDevice;
+use crate::rx_queue::RxQueue;
+use controller::{RxController, is_fill_size};
+use driver::{MOST_BATCH, RxDriver};
+use rx_ring::{RingError, RxRing, close, meet_rx};
+use std::alloc::Global;
+use std::sync::Arc;
+
+/// A ring of so many descriptors, a driver that takes up to `batch` packets at once, and a device that fills buffers to `fill`
+/// bytes, and drops or holds a frame for which too few descriptors are free.
+pub(crate) fn make(
+    alloc: Global,
+    ring: u32,
+    batch: usize,
+    fill: usize,
+    drop_en: bool,
+) -> Result<(Box<RxQueue>, Box<RxDevice>), Unmade>
+    ensures made { IfOk result (λ r. ArePair ring batch fill drop_en r.0.value r.1.value) }
+    ensures length { IfErr result (λ e. e ≡ Unmade.Length → ¬ IsRingLength ring) }
+    ensures settings { IfErr result (λ e. e ≡ Unmade.Settings → ((batch ≡ 0) ⊎ (32 < batch)) ⊎ ¬ IsFillSize fill) }
+    ensures refusals { IfErr result (λ e. e ≢ Unmade.Buffers) }
+{
+    if batch == 0 || MOST_BATCH < batch || !is_fill_size(fill) {
+        return Err(Unmade::Settings);
+    }
+    let (ring, driver, controller) = match RxRing::new(alloc, ring) {
+        Ok(made) => made,
+        Err(RingError::RingLength) => return Err(Unmade::Length),
+        Err(RingError::Memory) => return Err(Unmade::Memory),
+    };
+    let Ok(ring) = Arc::new(alloc, ring) else {
+        return Err(Unmade::Memory);
+    };
+    let Ok(other) = Arc::try_clone(&ring) else {
+        return Err(Unmade::Memory);
+    };
+    let queue = RxQueue {
+        ring,
+        driver: RxDriver::new(driver, batch),
+    };
+    let device = RxDevice {
+        ring: other,
+        controller: RxController::new(controller, fill, drop_en),
+    };
+    let Ok(queue) = Box::new(alloc, crossing(queue)) else {
+        return Err(Unmade::Memory);
+    };
+    let Ok(device) = Box::new(alloc, crossing(device)) else {
+        return Err(Unmade::Memory);
+    };
+    Ok((queue, device))
+}
+
+/// Closes a receive queue: how many buffers lay in its ring, or -1 where another owner of the ring is left.
+pub(crate) fn unmake(queue: Box<RxQueue>, device: Box<RxDevice>) -> i64
+    requires { queue.value.end.table ≡ device.value.end.table }
+    ensures lawful { IsLawfulRxLedger Bytes (driver_size queue.value.end) (ledger_of queue.value.end device.value.end) }
+    ensures told { IsTold (told_left queue.value.end) (length (taken queue.value.end)) (length (stored_now queue.value.end device.value.end)) }
+{
+    let RxQueue { ring, driver } = Box::into_inner(queue);
+    let RxDevice {
+        ring: other,
+        controller,
+    } = Box::into_inner(device);
+    let (mut driver, _chain) = driver.into_end();
+    let mut controller = controller.into_end();
+    meet_rx(&other, &mut driver, &mut controller);
+    drop(other);
+    let Some(ring) = Arc::into_inner(ring) else {
+        return -1;
+    };
+    let mut left = 0u32;
+    for place in close(ring, driver, controller) {
+        if place.is_some() {
+            left = left.wrapping_add(1);
+        }
+    }
+    i64::from(left)
+}
