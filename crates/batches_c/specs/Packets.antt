@@ -1,8 +1,9 @@
 -- What the exports say of a worker's packets, and of what is done with them.
-use Rattle.std.specs.Prelude.{◌≡◌, ℕ, ◌*◌, ◌<◌, ◌≤◌, ◌⊎◌, Option, Some, List, [], ◌∷◌, ◌++◌, length, map, reverse, remove, drop, slice_get, slice_index, slice_set, IsPermutation}
+use Rattle.std.specs.Prelude.{◌≡◌, ℕ, ◌+◌, ◌*◌, ◌<◌, ◌≤◌, ◌⊎◌, Option, Some, List, [], ◌∷◌, ◌++◌, length, map, reverse, remove, drop, slice_get, slice_index, slice_set, IsPermutation}
 use Rattle.std.specs.List.{range_with_len}
 use Rattle.buffer_pool.specs.Buffer.{Buffer, buffer}
 use Rattle.buffer_pool.specs.Packed.{IsPacket, bytes_of, shape_of}
+use Rattle.buffer_pool.specs.declared.stash.TheConstants.{STASH_BUFFERS}
 use Rattle.driver.specs.declared.rx_driver.TheConstants.{MOST_BATCH}
 use Rattle.limits.specs.declared.profile.TheConstants.{BUFFER_BYTES}
 use Rattle.ring_model.specs.shared.Frames.{Bytes}
@@ -85,6 +86,10 @@ pub record ReadByte (i at byte : ℕ) (old new : Worked) : Type 0 where
   pub byte_is : byte ≡ slice_index (bytes_of packet) at
   pub same : new ≡ old
 
+-- in a list of packets there is none at this place, or it has no such byte
+abbrev pub HasNoByte : ℕ → ℕ → List (List Buffer) → Type 0
+HasNoByte i at list = (packet : List Buffer) → slice_get list i ≡ Some packet → length (bytes_of packet) ≤ at
+
 -- in a list of packets a byte of this one was replaced in place: each buffer keeps its number and how many bytes are in it
 pub record SetIn (i at byte : ℕ) (old new : List (List Buffer)) : Type 0 where
   pub before : List Buffer
@@ -105,6 +110,12 @@ pub record Released (i : ℕ) (old new : Worked) : Type 0 where
   pub there : IsAt old i packet
   pub list : new.packets ≡ remove old.packets i
   pub stash : new.stash ≡ reverse (numbers_of packet) ++ old.stash
+
+-- the packet at this place has more buffers than the stash has room for
+pub record IsCrowded (i : ℕ) (w : Worked) : Type 0 where
+  pub packet : List Buffer
+  pub there : IsAt w i packet
+  pub many : STASH_BUFFERS < length w.stash + length packet
 
 -- so many packets and empty buffers there are
 pub record Counted (packets buffers : ℕ) (old new : Worked) : Type 0 where

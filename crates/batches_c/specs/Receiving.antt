@@ -58,6 +58,10 @@ AreTold = Between (λ q d. IsTold (told_left q.end) (length (taken q.end)) (leng
 abbrev pub IsNotLive : Option Receiver → Type 0
 IsNotLive = Of (λ q. is_live (driver_state q.end) ≡ false)
 
+-- it was not seen on, or a disabling was asked
+abbrev pub IsNotOn : Option Receiver → Type 0
+IsNotOn = Of (λ q. is_on (driver_state q.end) ≡ false)
+
 -- the disabling was seen answered
 abbrev pub IsStopped : Option Receiver → Type 0
 IsStopped = Of (λ q. is_stopped (driver_state q.end) ≡ true)

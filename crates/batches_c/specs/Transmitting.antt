@@ -55,6 +55,10 @@ AreTold = Between (λ q d. IsTold (told_left q.end) (length (sent_now q.end d)) 
 abbrev pub IsNotLive : Option Transmitter → Type 0
 IsNotLive = Of (λ q. is_live (driver_state q.end) ≡ false)
 
+-- it was not seen on, or a disabling was asked
+abbrev pub IsNotOn : Option Transmitter → Type 0
+IsNotOn = Of (λ q. is_on (driver_state q.end) ≡ false)
+
 -- the disabling was seen answered
 abbrev pub IsStopped : Option Transmitter → Type 0
 IsStopped = Of (λ q. is_stopped (driver_state q.end) ≡ true)

@@ -3,7 +3,7 @@ ghost use Rattle.std.specs.Prelude.{◌≡◌, ◌≢◌, ◌+◌, ◌*◌, ◌<
 ghost use Rattle.buffer_pool.specs.declared.stash.TheConstants.{STASH_BUFFERS};
 ghost use Rattle.limits.specs.declared.profile.TheConstants.{BUFFER_BYTES, MOST_SEGMENTS};
 ghost use Rattle.ring_model.specs.shared.Frames.{HasFrameLength};
-ghost use Rattle.batches_c.specs.Packets.{CopiedOut, HasNoPlace, IsAbsent, IsTooShort, Packed, Pushed, PutFrame, ReadByte, Released, SetIn, WroteByte, numbers_of};
+ghost use Rattle.batches_c.specs.Packets.{CopiedOut, HasNoByte, HasNoPlace, IsAbsent, IsCrowded, IsTooShort, Packed, Pushed, PutFrame, ReadByte, Released, SetIn, WroteByte, numbers_of};
 
 use crate::found::Found;
 use arrayvec::ArrayVec;
@@ -89,6 +89,7 @@ impl Packets {
     /// Reads a byte of packet `i`: 1, and the byte; 0 where there is no such packet or byte.
     pub(crate) fn byte(&self, i: usize, at: usize) -> (u32, u8)
         ensures step { (result.0 ≡ 1) → ReadByte i at result.1 self.now self.now }
+        ensures absent { (result.0 ≢ 1) → HasNoByte i at self.now.packets }
     {
         match self.list.as_slice().get(i) {
             Some(packet) if at < packet.len() => (1, packet.byte(at)),
@@ -99,6 +100,7 @@ impl Packets {
     /// Puts a byte into packet `i`, in place of the one that stood there: 1; 0 where there is no such packet or byte.
     pub(crate) fn touch(&mut self, i: usize, at: usize, byte: u8) -> u32
         ensures step { (result ≡ 1) → WroteByte i at byte self.old self.new }
+        ensures absent { (result ≢ 1) → HasNoByte i at self.old.packets }
         ensures kept { (result ≢ 1) → self.new ≡ self.old }
     {
         if set_in(self.list.as_mut_slice(), i, at, byte) {
@@ -112,6 +114,8 @@ impl Packets {
     pub(crate) fn release(&mut self, i: usize) -> u32
         ensures step { (result ≡ 1) → Released i self.old self.new }
         ensures absent { (result ≡ 0) → IsAbsent i self.old }
+        ensures crowded { (result ≡ 2) → IsCrowded i self.old }
+        ensures answers { result ≤ 2 }
         ensures kept { (result ≢ 1) → self.new ≡ self.old }
     {
         if self.list.len() <= i {
@@ -161,6 +165,7 @@ fn push_piece(packet: &mut Packet, stash: &mut Stash, bytes: &[u8])
 /// Puts a byte into one of these packets, if there are such a packet and byte, and answers whether.
 fn set_in(packets: &mut [Packet], i: usize, at: usize, byte: u8) -> bool
     ensures step { result ≡ true → SetIn i at byte packets.old packets.new }
+    ensures absent { result ≡ false → HasNoByte i at packets.old }
     ensures kept { result ≡ false → packets.new ≡ packets.old }
 {
     if packets.len() <= i || packets[i].len() <= at {

@@ -5,7 +5,7 @@ ghost use Rattle.controller.specs.FillSize.{IsFillSize};
 ghost use Rattle.controller.specs.Receiving.{WasDropped, WasHeld, WasOff, WasOversize, WasRefused};
 ghost use Rattle.opaque.specs.Words.{is_set};
 ghost use Rattle.batches_c.specs.Handles.{Among, Between};
-ghost use Rattle.batches_c.specs.Receiving.{AllCame, AreCounts, AreLawful, AreMade, AreOfOne, AreTold, AskedDisable, FilledUp, FoundQuiet, IsNotEmptied, IsNotLive, IsNotStopped, IsStopped};
+ghost use Rattle.batches_c.specs.Receiving.{AllCame, AreCounts, AreLawful, AreMade, AreOfOne, AreTold, AskedDisable, FilledUp, FoundQuiet, IsNotEmptied, IsNotLive, IsNotOn, IsNotStopped, IsStopped};
 ghost use Rattle.batches_c.specs.Receiving.{Renewed, SameDevice, SameQueue, StoredWhole, TookBatch, TriedEnabling, TriedFinish, TriedQuiet, Turned};
 
 use crate::call::{NO_OPERATION, Poll82599Device, Poll82599Queue};
@@ -106,6 +106,7 @@ pub extern "C" fn poll82599_rx_queue_do(
     ensures stopped { (call.old.operation ≡ 0) → (call.new.answer ≡ 2) → IsStopped queue.old.held }
     ensures unrenewed { (call.old.operation ≡ 0) → (call.new.answer ≡ 2) → queue.new.held ≡ queue.old.held }
     ensures asked { (call.old.operation ≡ 1) → (call.new.answer ≡ 1) → Between AskedDisable queue.old.held queue.new.held }
+    ensures unasked { (call.old.operation ≡ 1) → (call.new.answer ≢ 1) → IsNotOn queue.old.held }
     ensures finished { (call.old.operation ≡ 2) → (call.new.answer ≡ 1) → Between (TriedFinish (Some call.new.count)) queue.old.held queue.new.held }
     ensures unfinished { (call.old.operation ≡ 2) → (call.new.answer ≢ 1) → Between (TriedFinish None) queue.old.held queue.new.held }
     ensures renewed { (call.old.operation ≡ 3) → (call.new.answer ≡ 1) → Between Renewed queue.old.held queue.new.held }

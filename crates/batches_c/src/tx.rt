@@ -4,7 +4,7 @@ ghost use Rattle.limits.specs.RingLength.{IsRingLength};
 ghost use Rattle.ring_model.specs.declared.states.Completion.TheVariants as by;
 ghost use Rattle.batches_c.specs.Handles.{Among, Between};
 ghost use Rattle.batches_c.specs.Transmitting.{AllCame, AreLawful, AreMade, AreOfOne, AreTold, AskedDisable, CleanedAlone, CleanedSome, FilledUp, FoundIdle, FoundNoMemory, FoundOff};
-ghost use Rattle.batches_c.specs.Transmitting.{IsNotEmptied, IsNotLive, IsNotStopped, IsStopped, PostedBatch, Renewed, SameDevice, SameQueue, SentBeyond, SentInto, TriedEnabling, TriedFinish, Turned};
+ghost use Rattle.batches_c.specs.Transmitting.{IsNotEmptied, IsNotLive, IsNotOn, IsNotStopped, IsStopped, PostedBatch, Renewed, SameDevice, SameQueue, SentBeyond, SentInto, TriedEnabling, TriedFinish, Turned};
 
 use crate::call::{NO_OPERATION, Poll82599Queue};
 use crate::found::Found;
@@ -108,6 +108,7 @@ pub extern "C" fn poll82599_tx_queue_do(
     ensures stopped { (call.old.operation ≡ 0) → (call.new.answer ≡ 2) → IsStopped queue.old.held }
     ensures unrenewed { (call.old.operation ≡ 0) → (call.new.answer ≡ 2) → queue.new.held ≡ queue.old.held }
     ensures asked { (call.old.operation ≡ 1) → (call.new.answer ≡ 1) → Between AskedDisable queue.old.held queue.new.held }
+    ensures unasked { (call.old.operation ≡ 1) → (call.new.answer ≢ 1) → IsNotOn queue.old.held }
     ensures finished { (call.old.operation ≡ 2) → (call.new.answer ≡ 1) → Between (TriedFinish (Some call.new.count)) queue.old.held queue.new.held }
     ensures unfinished { (call.old.operation ≡ 2) → (call.new.answer ≢ 1) → Between (TriedFinish None) queue.old.held queue.new.held }
     ensures renewed { (call.old.operation ≡ 3) → (call.new.answer ≡ 1) → Between Renewed queue.old.held queue.new.held }

@@ -2,7 +2,7 @@
 ghost use Rattle.std.specs.Prelude.{◌≡◌, ◌≢◌, ◌<◌, ◌≤◌, ◌⊎◌, None, IsSome, pos};
 ghost use Rattle.ring_model.specs.shared.Frames.{HasFrameLength};
 ghost use Rattle.batches_c.specs.Handles.{Between, Of};
-ghost use Rattle.batches_c.specs.Packets.{CopiedOut, Counted, HadPackets, HasNoPlace, IsAbsent, IsMade, IsTooShort, PutFrame, ReadByte, Released, WroteByte};
+ghost use Rattle.batches_c.specs.Packets.{CopiedOut, Counted, HadPackets, HasNoByte, HasNoPlace, IsAbsent, IsCrowded, IsMade, IsTooShort, PutFrame, ReadByte, Released, WroteByte};
 
 use crate::call::{NO_OPERATION, Poll82599Packet};
 use crate::making::{crossing, stash_of};
@@ -75,6 +75,9 @@ pub extern "C" fn poll82599_packets_do(
     ensures touched { (call.old.operation ≡ 2) → (call.new.answer ≡ 1)
         → Between (WroteByte call.old.packet call.old.at call.old.byte) packets.old.held packets.new.held }
     ensures released { (call.old.operation ≡ 3) → (call.new.answer ≡ 1) → Between (Released call.old.packet) packets.old.held packets.new.held }
+    ensures unread { (call.old.operation ≡ 1) → (call.new.answer ≢ 1) → Of (λ w. HasNoByte call.old.packet call.old.at w.packets) packets.old.held }
+    ensures untouched { (call.old.operation ≡ 2) → (call.new.answer ≢ 1) → Of (λ w. HasNoByte call.old.packet call.old.at w.packets) packets.old.held }
+    ensures crowded { (call.old.operation ≡ 3) → (call.new.answer ≢ 0) → (call.new.answer ≢ 1) → Of (IsCrowded call.old.packet) packets.old.held }
     ensures counted { (call.old.operation ≡ 4) → Between (Counted call.new.packet call.new.len) packets.old.held packets.new.held }
     ensures gone { (call.old.operation ≡ 3) → (call.new.answer ≡ 0) → Of (IsAbsent call.old.packet) packets.old.held }
     ensures room { (call.old.operation ≢ 0) → room.new ≡ room.old }
