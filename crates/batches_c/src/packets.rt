@@ -1,15 +1,17 @@
 //! A worker's buffers: those that are empty, and the packets that it has.
-ghost use Rattle.std.specs.Prelude.{◌≡◌, ◌≢◌, ◌+◌, ◌*◌, ◌<◌, ◌≤◌, ◌++◌, true, false, [], length, reverse};
+ghost use Rattle.std.specs.Prelude.{◌≡◌, ◌≢◌, ◌+◌, ◌*◌, ◌<◌, ◌≤◌, ◌++◌, ◌⊎◌, true, false, [], length, reverse, IfErr, IfOk};
 ghost use Rattle.buffer_pool.specs.declared.stash.TheConstants.{STASH_BUFFERS};
 ghost use Rattle.limits.specs.declared.profile.TheConstants.{BUFFER_BYTES, MOST_SEGMENTS};
 ghost use Rattle.ring_model.specs.shared.Frames.{HasFrameLength};
-ghost use Rattle.batches_c.specs.Packets.{CopiedOut, HasNoByte, HasNoPlace, IsAbsent, IsCrowded, IsTooShort, Packed, Pushed, PutFrame, ReadByte, Released, SetIn, WroteByte, numbers_of};
+ghost use Rattle.batches_c.specs.Packets.{CopiedOut, HasNoByte, HasNoPlace, IsAbsent, IsCrowded, IsFresh, IsTooShort, Packed, Pushed, PutFrame, ReadByte, Released, SetIn, WroteByte, numbers_of};
 
 use crate::found::Found;
+use crate::making::{Unmade, boxed, stash_of};
 use arrayvec::ArrayVec;
 use buffer_pool::{Packet, STASH_BUFFERS, Stash};
 use driver::MOST_BATCH;
 use limits::{BUFFER_BYTES, LEAST_FRAME, MOST_FRAME};
+use std::alloc::Global;
 use std::marker::Model;
 
 /// The empty buffers of a worker, and up to 32 packets.
@@ -128,6 +130,15 @@ impl Packets {
         emptied(packet, &mut self.stash);
         1
     }
+}
+
+/// A worker's packets: none, and so many empty buffers.
+pub(crate) fn make(alloc: Global, buffers: u32) -> Result<Box<Packets>, Unmade>
+    ensures made { IfOk result (λ p. IsFresh buffers p.value) }
+    ensures refusals { IfErr result (λ e. (e ≡ Unmade.Buffers) ⊎ (e ≡ Unmade.Memory)) }
+    ensures buffers { IfErr result (λ e. e ≡ Unmade.Buffers → (buffers < 16) ⊎ (256 < buffers)) }
+{
+    boxed(alloc, Packets::of(stash_of(alloc, buffers)?))
 }
 
 /// A packet of these bytes, in buffers of the stash.

@@ -9,7 +9,7 @@ ghost use Rattle.rx_ring.specs.Meeting.{ledger_of, stored_now};
 ghost use Rattle.controller.specs.FillSize.{IsFillSize};
 ghost use Rattle.batches_c.specs.Receiving.{ArePair};
 
-use crate::making::{Unmade, crossing};
+use crate::making::{Unmade, boxed, shared};
 use crate::rx_device::RxDevice;
 use crate::rx_queue::RxQueue;
 use controller::{RxController, is_fill_size};
@@ -40,12 +40,7 @@ pub(crate) fn make(
         Err(RingError::RingLength) => return Err(Unmade::Length),
         Err(RingError::Memory) => return Err(Unmade::Memory),
     };
-    let Ok(ring) = Arc::new(alloc, ring) else {
-        return Err(Unmade::Memory);
-    };
-    let Ok(other) = Arc::try_clone(&ring) else {
-        return Err(Unmade::Memory);
-    };
+    let (ring, other) = shared(alloc, ring)?;
     let queue = RxQueue {
         ring,
         driver: RxDriver::new(driver, batch),
@@ -54,12 +49,8 @@ pub(crate) fn make(
         ring: other,
         controller: RxController::new(controller, fill, drop_en),
     };
-    let Ok(queue) = Box::new(alloc, crossing(queue)) else {
-        return Err(Unmade::Memory);
-    };
-    let Ok(device) = Box::new(alloc, crossing(device)) else {
-        return Err(Unmade::Memory);
-    };
+    let queue = boxed(alloc, queue)?;
+    let device = boxed(alloc, device)?;
     Ok((queue, device))
 }
 

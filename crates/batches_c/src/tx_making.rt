@@ -7,7 +7,7 @@ ghost use Rattle.tx_ring.specs.Ends.{driver_size, posted};
 ghost use Rattle.tx_ring.specs.Meeting.{IsTold, ledger_of, sent_now, told_left};
 ghost use Rattle.batches_c.specs.Transmitting.{ArePair};
 
-use crate::making::{Unmade, crossing};
+use crate::making::{Unmade, boxed, shared};
 use crate::tx_device::TxDevice;
 use crate::tx_queue::TxQueue;
 use controller::TxController;
@@ -36,12 +36,7 @@ pub(crate) fn make(
         Err(RingError::RingLength) => return Err(Unmade::Length),
         Err(RingError::Memory) => return Err(Unmade::Memory),
     };
-    let Ok(ring) = Arc::new(alloc, ring) else {
-        return Err(Unmade::Memory);
-    };
-    let Ok(other) = Arc::try_clone(&ring) else {
-        return Err(Unmade::Memory);
-    };
+    let (ring, other) = shared(alloc, ring)?;
     let queue = TxQueue {
         ring,
         driver: TxDriver::new(driver, every),
@@ -50,12 +45,8 @@ pub(crate) fn make(
         ring: other,
         controller: TxController::new(controller),
     };
-    let Ok(queue) = Box::new(alloc, crossing(queue)) else {
-        return Err(Unmade::Memory);
-    };
-    let Ok(device) = Box::new(alloc, crossing(device)) else {
-        return Err(Unmade::Memory);
-    };
+    let queue = boxed(alloc, queue)?;
+    let device = boxed(alloc, device)?;
     Ok((queue, device))
 }
 

@@ -5,8 +5,7 @@ ghost use Rattle.batches_c.specs.Handles.{Between, Of};
 ghost use Rattle.batches_c.specs.Packets.{CopiedOut, Counted, HadPackets, HasNoByte, HasNoPlace, IsAbsent, IsCrowded, IsMade, IsTooShort, PutFrame, ReadByte, Released, WroteByte};
 
 use crate::call::{NO_OPERATION, Poll82599Packet};
-use crate::making::{crossing, stash_of};
-use crate::packets::Packets;
+use crate::packets::make;
 use crate::packets_handle::PacketsHandle;
 use std::alloc::Global;
 
@@ -22,16 +21,12 @@ pub extern "C" fn poll82599_packets_new(
     ensures buffers { (result ≡ pos 3) → (buffers < 16) ⊎ (256 < buffers) }
     ensures kept { (result ≢ pos 0) → packets.new ≡ packets.old }
 {
-    let stash = match stash_of(alloc, buffers) {
-        Ok(stash) => stash,
-        Err(why) => return why.number(),
-    };
-    match Box::new(alloc, crossing(Packets::of(stash))) {
+    match make(alloc, buffers) {
         Ok(made) => {
             packets.put(made);
             0
         }
-        Err(_) => 2,
+        Err(why) => why.number(),
     }
 }
 
