@@ -14,6 +14,7 @@ use Rattle.shared_ring.proofs.ends.ControllerPlaces.TheSendSync as controller_pl
 use Rattle.shared_ring.proofs.ends.DriverPlaces.TheSendSync as driver_places
 use Rattle.std.proofs.Crossing.{crosses}
 use Rattle.std_heap.proofs.Global.TheSendSync as heap
+use Rattle.batches_c.specs.contracts.end.End as End
 use Rattle.batches_c.specs.contracts.packets.Packets as Packets
 use Rattle.batches_c.specs.contracts.rx_device.RxDevice as RxDevice
 use Rattle.batches_c.specs.contracts.rx_queue.RxQueue as RxQueue
@@ -36,3 +37,6 @@ tx_queue = search parts depth 60
 
 pub tx_device : IsSend TxDevice.the_row
 tx_device = search parts depth 60
+
+pub end : IsSend End.the_row
+end = search (sendable, crosses, packets, rx_queue, rx_device, tx_queue, tx_device) depth 40

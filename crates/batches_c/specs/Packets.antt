@@ -1,12 +1,13 @@
 -- What the exports say of a worker's packets, and of what is done with them.
-use Rattle.std.specs.Prelude.{◌≡◌, ℕ, ◌*◌, ◌<◌, ◌≤◌, ◌⊎◌, Option, Some, List, [], ◌∷◌, ◌++◌, length, map, reverse, remove, drop, slice_get, slice_index, slice_set, IsPermutation}
+use Rattle.std.specs.Prelude.{◌≡◌, ℕ, ◌+◌, ◌*◌, ◌<◌, ◌≤◌, ◌⊎◌, Option, Some, List, [], ◌∷◌, ◌++◌, length, map, reverse, remove, drop, slice_get, slice_index, slice_set, IsPermutation}
 use Rattle.std.specs.List.{range_with_len}
 use Rattle.buffer_pool.specs.Buffer.{Buffer, buffer}
 use Rattle.buffer_pool.specs.Packed.{IsPacket, bytes_of, shape_of}
+use Rattle.buffer_pool.specs.declared.stash.TheConstants.{STASH_BUFFERS}
 use Rattle.driver.specs.declared.rx_driver.TheConstants.{MOST_BATCH}
 use Rattle.limits.specs.declared.profile.TheConstants.{BUFFER_BYTES}
 use Rattle.ring_model.specs.shared.Frames.{Bytes}
-use Rattle.batches_c.specs.Handles.{Of}
+use Rattle.batches_c.specs.Held.{Of, There}
 
 -- A worker's empty buffers, by their numbers, the next one to be taken first; and the packets that it has, the oldest first
 pub record Worked : Type 0 where
@@ -23,7 +24,7 @@ pub record IsFresh (count : ℕ) (w : Worked) : Type 0 where
   pub none : w.packets ≡ []
 
 abbrev pub IsMade : ℕ → Option Worked → Type 0
-IsMade count = Of (IsFresh count)
+IsMade count = There (IsFresh count)
 
 -- how many packets there were
 abbrev pub HadPackets : ℕ → Option Worked → Type 0
@@ -85,6 +86,10 @@ pub record ReadByte (i at byte : ℕ) (old new : Worked) : Type 0 where
   pub byte_is : byte ≡ slice_index (bytes_of packet) at
   pub same : new ≡ old
 
+-- in a list of packets there is none at this place, or it has no such byte
+abbrev pub HasNoByte : ℕ → ℕ → List (List Buffer) → Type 0
+HasNoByte i at list = (packet : List Buffer) → slice_get list i ≡ Some packet → length (bytes_of packet) ≤ at
+
 -- in a list of packets a byte of this one was replaced in place: each buffer keeps its number and how many bytes are in it
 pub record SetIn (i at byte : ℕ) (old new : List (List Buffer)) : Type 0 where
   pub before : List Buffer
@@ -105,6 +110,12 @@ pub record Released (i : ℕ) (old new : Worked) : Type 0 where
   pub there : IsAt old i packet
   pub list : new.packets ≡ remove old.packets i
   pub stash : new.stash ≡ reverse (numbers_of packet) ++ old.stash
+
+-- the packet at this place has more buffers than the stash has room for
+pub record IsCrowded (i : ℕ) (w : Worked) : Type 0 where
+  pub packet : List Buffer
+  pub there : IsAt w i packet
+  pub many : STASH_BUFFERS < length w.stash + length packet
 
 -- so many packets and empty buffers there are
 pub record Counted (packets buffers : ℕ) (old new : Worked) : Type 0 where

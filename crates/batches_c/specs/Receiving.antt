@@ -20,7 +20,7 @@ use Rattle.driver.specs.receive.Returns.{GaveBack, IsEmptied}
 use Rattle.controller.specs.Handshaking.{TurnedControl}
 use Rattle.controller.specs.Receiving.{Finished, Receiving, WasStored}
 use Rattle.controller.specs.Tallying.{nothing}
-use Rattle.batches_c.specs.Handles.{Between, Of}
+use Rattle.batches_c.specs.Held.{Between, Both, Of}
 use Rattle.batches_c.specs.Packets.{Worked}
 
 -- A driver and a device of one fresh ring of n descriptors: a batch has so many packets, buffers are filled to so many bytes, and a frame for which too few descriptors are free is dropped or held
@@ -33,11 +33,11 @@ pub record ArePair (n batch fill : ℕ) (drop_en : Bool) (q : Receiver) (d : Rec
   pub uncounted : d.tally ≡ nothing
 
 abbrev pub AreMade : ℕ → ℕ → ℕ → Bool → Option Receiver → Option Receiving → Type 0
-AreMade n batch fill drop_en = Between (ArePair n batch fill drop_en)
+AreMade n batch fill drop_en = Both (ArePair n batch fill drop_en)
 
 -- both are of one ring
 abbrev pub AreOfOne : Option Receiver → Option Receiving → Type 0
-AreOfOne = Between (λ q d. q.end.table ≡ d.end.table)
+AreOfOne = Both (λ q d. q.end.table ≡ d.end.table)
 
 -- it is there before and after, and of the same ring
 abbrev pub SameQueue : Option Receiver → Option Receiver → Type 0
@@ -48,15 +48,19 @@ SameDevice = Between (λ old new. new.end.table ≡ old.end.table)
 
 -- the records of both are those of one lawful ring: what is taken is a beginning of what is stored
 abbrev pub AreLawful : Option Receiver → Option Receiving → Type 0
-AreLawful = Between (λ q d. IsLawfulRxLedger Bytes (driver_size q.end) (ledger_of q.end d.end))
+AreLawful = Both (λ q d. IsLawfulRxLedger Bytes (driver_size q.end) (ledger_of q.end d.end))
 
 -- where the head was loaded, what was said to be left is what of the stored is not taken
 abbrev pub AreTold : Option Receiver → Option Receiving → Type 0
-AreTold = Between (λ q d. IsTold (told_left q.end) (length (taken q.end)) (length (stored_now q.end d.end)))
+AreTold = Both (λ q d. IsTold (told_left q.end) (length (taken q.end)) (length (stored_now q.end d.end)))
 
 -- it was not seen on, or was seen disabled
 abbrev pub IsNotLive : Option Receiver → Type 0
 IsNotLive = Of (λ q. is_live (driver_state q.end) ≡ false)
+
+-- it was not seen on, or a disabling was asked
+abbrev pub IsNotOn : Option Receiver → Type 0
+IsNotOn = Of (λ q. is_on (driver_state q.end) ≡ false)
 
 -- the disabling was seen answered
 abbrev pub IsStopped : Option Receiver → Type 0

@@ -20,7 +20,7 @@ use Rattle.driver.specs.transmit.Returns.{IsEmptied}
 use Rattle.driver.specs.transmit.Transmitter.{Transmitter, sending}
 use Rattle.controller.specs.Handshaking.{TurnedControl}
 use Rattle.controller.specs.Transmitting.{WasIdle, WasOff, WasRefused, WasSent}
-use Rattle.batches_c.specs.Handles.{Between, Of}
+use Rattle.batches_c.specs.Held.{Between, Both, Of}
 use Rattle.batches_c.specs.Packets.{Worked}
 
 -- A driver and a device of one fresh ring of n descriptors that reports so: of so many frames one asks for a report
@@ -30,11 +30,11 @@ pub record ArePair (n every : ℕ) (by : Completion) (q : Transmitter) (d : Cont
   pub uncounted : q.frames ≡ 0
 
 abbrev pub AreMade : ℕ → ℕ → Completion → Option Transmitter → Option ControllerSide → Type 0
-AreMade n every by = Between (ArePair n every by)
+AreMade n every by = Both (ArePair n every by)
 
 -- both are of one ring
 abbrev pub AreOfOne : Option Transmitter → Option ControllerSide → Type 0
-AreOfOne = Between (λ q d. q.end.table ≡ d.table)
+AreOfOne = Both (λ q d. q.end.table ≡ d.table)
 
 -- it is there before and after, and of the same ring
 abbrev pub SameQueue : Option Transmitter → Option Transmitter → Type 0
@@ -45,15 +45,19 @@ SameDevice = Between (λ old new. new.table ≡ old.table)
 
 -- the records of both are those of one lawful ring: what is sent is a beginning of what is posted
 abbrev pub AreLawful : Option Transmitter → Option ControllerSide → Type 0
-AreLawful = Between (λ q d. IsLawfulTxLedger Bytes (driver_size q.end) (ledger_of q.end d))
+AreLawful = Both (λ q d. IsLawfulTxLedger Bytes (driver_size q.end) (ledger_of q.end d))
 
 -- where the head was loaded, what was said to be left is what of the posted is not sent
 abbrev pub AreTold : Option Transmitter → Option ControllerSide → Type 0
-AreTold = Between (λ q d. IsTold (told_left q.end) (length (sent_now q.end d)) (length (posted q.end)))
+AreTold = Both (λ q d. IsTold (told_left q.end) (length (sent_now q.end d)) (length (posted q.end)))
 
 -- it was not seen on, or was seen disabled
 abbrev pub IsNotLive : Option Transmitter → Type 0
 IsNotLive = Of (λ q. is_live (driver_state q.end) ≡ false)
+
+-- it was not seen on, or a disabling was asked
+abbrev pub IsNotOn : Option Transmitter → Type 0
+IsNotOn = Of (λ q. is_on (driver_state q.end) ≡ false)
 
 -- the disabling was seen answered
 abbrev pub IsStopped : Option Transmitter → Type 0

@@ -7,20 +7,17 @@
 #![tactic(auto)]
 
 mod call;
+mod end;
 mod found;
+mod handle;
 mod making;
 mod packets;
-mod packets_handle;
 mod rx;
 mod rx_device;
-mod rx_device_handle;
 mod rx_making;
 mod rx_queue;
-mod rx_queue_handle;
 mod tx;
 mod tx_device;
-mod tx_device_handle;
 mod tx_making;
 mod tx_queue;
-mod tx_queue_handle;
 mod worker;

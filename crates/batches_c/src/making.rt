@@ -1,9 +1,11 @@
 //! What the makings share.
 ghost use Rattle.std.specs.Prelude.{◌≡◌, ◌≢◌, ◌<◌, ◌⊎◌, IfErr, IfOk, pos};
+ghost use Rattle.std.specs.Arc.{arc_value};
 ghost use Rattle.batches_c.specs.Packets.{AreBuffers};
 
 use buffer_pool::{Stash, Stock};
 use std::alloc::Global;
+use std::sync::Arc;
 
 /// Why nothing was made.
 #[derive(Drop)]
@@ -60,9 +62,31 @@ pub(crate) fn stash_of(alloc: Global, buffers: u32) -> Result<Stash, Unmade>
     Ok(stash)
 }
 
-/// What may go to another thread.
-pub(crate) fn crossing<T: Send>(value: T) -> T
-    ensures { result ≡ value }
+/// Two owners of a ring.
+pub(crate) fn shared<T: Drop>(
+    alloc: Global,
+    ring: T,
+) -> Result<(Arc<T, Global>, Arc<T, Global>), Unmade>
+    ensures one { IfOk result (λ r. arc_value r.0 ≡ ring) }
+    ensures other { IfOk result (λ r. arc_value r.1 ≡ ring) }
+    ensures refusal { IfErr result (λ e. e ≡ Unmade.Memory) }
 {
-    value
+    let Ok(one) = Arc::new(alloc, ring) else {
+        return Err(Unmade::Memory);
+    };
+    match Arc::try_clone(&one) {
+        Ok(other) => Ok((one, other)),
+        Err(_) => Err(Unmade::Memory),
+    }
+}
+
+/// An object behind a pointer.
+pub(crate) fn boxed<T: Drop>(alloc: Global, value: T) -> Result<Box<T>, Unmade>
+    ensures made { IfOk result (λ b. b.value ≡ value) }
+    ensures refusal { IfErr result (λ e. e ≡ Unmade.Memory) }
+{
+    match Box::new(alloc, value) {
+        Ok(made) => Ok(made),
+        Err(_) => Err(Unmade::Memory),
+    }
 }

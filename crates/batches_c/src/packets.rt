@@ -1,15 +1,19 @@
 //! A worker's buffers: those that are empty, and the packets that it has.
-ghost use Rattle.std.specs.Prelude.{◌≡◌, ◌≢◌, ◌+◌, ◌*◌, ◌<◌, ◌≤◌, ◌++◌, true, false, [], length, reverse};
+ghost use Rattle.std.specs.Prelude.{◌≡◌, ◌≢◌, ◌+◌, ◌*◌, ◌<◌, ◌≤◌, ◌++◌, ◌⊎◌, true, false, [], length, reverse, Some, IfErr, IfOk};
+ghost use Rattle.batches_c.specs.Handles.{as_packets};
 ghost use Rattle.buffer_pool.specs.declared.stash.TheConstants.{STASH_BUFFERS};
 ghost use Rattle.limits.specs.declared.profile.TheConstants.{BUFFER_BYTES, MOST_SEGMENTS};
 ghost use Rattle.ring_model.specs.shared.Frames.{HasFrameLength};
-ghost use Rattle.batches_c.specs.Packets.{CopiedOut, HasNoPlace, IsAbsent, IsTooShort, Packed, Pushed, PutFrame, ReadByte, Released, SetIn, WroteByte, numbers_of};
+ghost use Rattle.batches_c.specs.Packets.{CopiedOut, HasNoByte, HasNoPlace, IsAbsent, IsCrowded, IsMade, IsTooShort, Packed, Pushed, PutFrame, ReadByte, Released, SetIn, WroteByte, numbers_of};
 
+use crate::end::End;
 use crate::found::Found;
+use crate::making::{Unmade, boxed, stash_of};
 use arrayvec::ArrayVec;
 use buffer_pool::{Packet, STASH_BUFFERS, Stash};
 use driver::MOST_BATCH;
 use limits::{BUFFER_BYTES, LEAST_FRAME, MOST_FRAME};
+use std::alloc::Global;
 use std::marker::Model;
 
 /// The empty buffers of a worker, and up to 32 packets.
@@ -89,6 +93,7 @@ impl Packets {
     /// Reads a byte of packet `i`: 1, and the byte; 0 where there is no such packet or byte.
     pub(crate) fn byte(&self, i: usize, at: usize) -> (u32, u8)
         ensures step { (result.0 ≡ 1) → ReadByte i at result.1 self.now self.now }
+        ensures absent { (result.0 ≢ 1) → HasNoByte i at self.now.packets }
     {
         match self.list.as_slice().get(i) {
             Some(packet) if at < packet.len() => (1, packet.byte(at)),
@@ -99,6 +104,7 @@ impl Packets {
     /// Puts a byte into packet `i`, in place of the one that stood there: 1; 0 where there is no such packet or byte.
     pub(crate) fn touch(&mut self, i: usize, at: usize, byte: u8) -> u32
         ensures step { (result ≡ 1) → WroteByte i at byte self.old self.new }
+        ensures absent { (result ≢ 1) → HasNoByte i at self.old.packets }
         ensures kept { (result ≢ 1) → self.new ≡ self.old }
     {
         if set_in(self.list.as_mut_slice(), i, at, byte) {
@@ -112,6 +118,8 @@ impl Packets {
     pub(crate) fn release(&mut self, i: usize) -> u32
         ensures step { (result ≡ 1) → Released i self.old self.new }
         ensures absent { (result ≡ 0) → IsAbsent i self.old }
+        ensures crowded { (result ≡ 2) → IsCrowded i self.old }
+        ensures answers { result ≤ 2 }
         ensures kept { (result ≢ 1) → self.new ≡ self.old }
     {
         if self.list.len() <= i {
@@ -124,6 +132,15 @@ impl Packets {
         emptied(packet, &mut self.stash);
         1
     }
+}
+
+/// A worker's packets: none, and so many empty buffers.
+pub(crate) fn make(alloc: Global, buffers: u32) -> Result<Box<End>, Unmade>
+    ensures made { IfOk result (λ p. IsMade buffers (as_packets (Some p.value))) }
+    ensures refusals { IfErr result (λ e. (e ≡ Unmade.Buffers) ⊎ (e ≡ Unmade.Memory)) }
+    ensures buffers { IfErr result (λ e. e ≡ Unmade.Buffers → (buffers < 16) ⊎ (256 < buffers)) }
+{
+    boxed(alloc, End::Packets(Packets::of(stash_of(alloc, buffers)?)))
 }
 
 /// A packet of these bytes, in buffers of the stash.
@@ -161,6 +178,7 @@ fn push_piece(packet: &mut Packet, stash: &mut Stash, bytes: &[u8])
 /// Puts a byte into one of these packets, if there are such a packet and byte, and answers whether.
 fn set_in(packets: &mut [Packet], i: usize, at: usize, byte: u8) -> bool
     ensures step { result ≡ true → SetIn i at byte packets.old packets.new }
+    ensures absent { result ≡ false → HasNoByte i at packets.old }
     ensures kept { result ≡ false → packets.new ≡ packets.old }
 {
     if packets.len() <= i || packets[i].len() <= at {

@@ -1,5 +1,5 @@
 //! The making of a receive queue with its driver and its device, and its closing.
-ghost use Rattle.std.specs.Prelude.{◌≡◌, ◌≢◌, ◌<◌, ◌⊎◌, IfErr, IfOk, length};
+ghost use Rattle.std.specs.Prelude.{◌≡◌, ◌≢◌, ◌<◌, ◌⊎◌, Some, IfErr, IfOk, length};
 ghost use Rattle.limits.specs.RingLength.{IsRingLength};
 ghost use Rattle.ring_model.specs.receive.Lawful.{IsLawfulRxLedger};
 ghost use Rattle.ring_model.specs.shared.Frames.{Bytes};
@@ -7,9 +7,11 @@ ghost use Rattle.rx_ring.specs.Calls.{IsTold, told_left};
 ghost use Rattle.rx_ring.specs.Ends.{driver_size, taken};
 ghost use Rattle.rx_ring.specs.Meeting.{ledger_of, stored_now};
 ghost use Rattle.controller.specs.FillSize.{IsFillSize};
-ghost use Rattle.batches_c.specs.Receiving.{ArePair};
+ghost use Rattle.batches_c.specs.Receiving.{AreMade};
+ghost use Rattle.batches_c.specs.Handles.{as_rx_device, as_rx_queue};
 
-use crate::making::{Unmade, crossing};
+use crate::end::End;
+use crate::making::{Unmade, boxed, shared};
 use crate::rx_device::RxDevice;
 use crate::rx_queue::RxQueue;
 use controller::{RxController, is_fill_size};
@@ -26,8 +28,8 @@ pub(crate) fn make(
     batch: usize,
     fill: usize,
     drop_en: bool,
-) -> Result<(Box<RxQueue>, Box<RxDevice>), Unmade>
-    ensures made { IfOk result (λ r. ArePair ring batch fill drop_en r.0.value r.1.value) }
+) -> Result<(Box<End>, Box<End>), Unmade>
+    ensures made { IfOk result (λ r. AreMade ring batch fill drop_en (as_rx_queue (Some r.0.value)) (as_rx_device (Some r.1.value))) }
     ensures length { IfErr result (λ e. e ≡ Unmade.Length → ¬ IsRingLength ring) }
     ensures settings { IfErr result (λ e. e ≡ Unmade.Settings → ((batch ≡ 0) ⊎ (32 < batch)) ⊎ ¬ IsFillSize fill) }
     ensures refusals { IfErr result (λ e. e ≢ Unmade.Buffers) }
@@ -40,12 +42,7 @@ pub(crate) fn make(
         Err(RingError::RingLength) => return Err(Unmade::Length),
         Err(RingError::Memory) => return Err(Unmade::Memory),
     };
-    let Ok(ring) = Arc::new(alloc, ring) else {
-        return Err(Unmade::Memory);
-    };
-    let Ok(other) = Arc::try_clone(&ring) else {
-        return Err(Unmade::Memory);
-    };
+    let (ring, other) = shared(alloc, ring)?;
     let queue = RxQueue {
         ring,
         driver: RxDriver::new(driver, batch),
@@ -54,26 +51,22 @@ pub(crate) fn make(
         ring: other,
         controller: RxController::new(controller, fill, drop_en),
     };
-    let Ok(queue) = Box::new(alloc, crossing(queue)) else {
-        return Err(Unmade::Memory);
-    };
-    let Ok(device) = Box::new(alloc, crossing(device)) else {
-        return Err(Unmade::Memory);
-    };
+    let queue = boxed(alloc, End::RxQueue(queue))?;
+    let device = boxed(alloc, End::RxDevice(device))?;
     Ok((queue, device))
 }
 
 /// Closes a receive queue: how many buffers lay in its ring, or -1 where another owner of the ring is left.
-pub(crate) fn unmake(queue: Box<RxQueue>, device: Box<RxDevice>) -> i64
-    requires { queue.value.end.table ≡ device.value.end.table }
-    ensures lawful { IsLawfulRxLedger Bytes (driver_size queue.value.end) (ledger_of queue.value.end device.value.end) }
-    ensures told { IsTold (told_left queue.value.end) (length (taken queue.value.end)) (length (stored_now queue.value.end device.value.end)) }
+pub(crate) fn unmake(queue: RxQueue, device: RxDevice) -> i64
+    requires { queue.end.table ≡ device.end.table }
+    ensures lawful { IsLawfulRxLedger Bytes (driver_size queue.end) (ledger_of queue.end device.end) }
+    ensures told { IsTold (told_left queue.end) (length (taken queue.end)) (length (stored_now queue.end device.end)) }
 {
-    let RxQueue { ring, driver } = Box::into_inner(queue);
+    let RxQueue { ring, driver } = queue;
     let RxDevice {
         ring: other,
         controller,
-    } = Box::into_inner(device);
+    } = device;
     let (mut driver, _chain) = driver.into_end();
     let mut controller = controller.into_end();
     meet_rx(&other, &mut driver, &mut controller);

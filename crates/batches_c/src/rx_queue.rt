@@ -1,6 +1,6 @@
 //! The driver of a receive queue, and the ring that it shares.
 ghost use Rattle.std.specs.Prelude.{◌≡◌, ◌≢◌, ◌≤◌, true, false, Some, None};
-ghost use Rattle.ring_model.specs.shared.Handshakes.{is_live, is_stopped};
+ghost use Rattle.ring_model.specs.shared.Handshakes.{is_live, is_on, is_stopped};
 ghost use Rattle.rx_ring.specs.Ends.{driver_state};
 ghost use Rattle.driver.specs.receive.Returns.{IsEmptied};
 ghost use Rattle.batches_c.specs.Receiving.{AllCame, AskedDisable, FilledUp, FoundQuiet, Renewed, TookBatch, TriedEnabling, TriedFinish};
@@ -92,6 +92,7 @@ impl RxQueue {
     pub(crate) fn ask_disable(&mut self) -> u32
         ensures own { self.new.end.table ≡ self.old.end.table }
         ensures step { (result ≡ 1) → AskedDisable self.old self.new }
+        ensures refused { (result ≢ 1) → is_on (driver_state self.old.end) ≡ false }
         ensures kept { (result ≢ 1) → self.new ≡ self.old }
     {
         match self.driver.ask_disable(&self.ring) {

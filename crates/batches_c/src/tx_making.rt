@@ -1,13 +1,15 @@
 //! The making of a transmit queue with its driver and its device, and its closing.
-ghost use Rattle.std.specs.Prelude.{◌≡◌, ◌≢◌, ◌<◌, ◌⊎◌, IfErr, IfOk, length};
+ghost use Rattle.std.specs.Prelude.{◌≡◌, ◌≢◌, ◌<◌, ◌⊎◌, Some, IfErr, IfOk, length};
 ghost use Rattle.limits.specs.RingLength.{IsRingLength};
 ghost use Rattle.ring_model.specs.shared.Frames.{Bytes};
 ghost use Rattle.ring_model.specs.transmit.Lawful.{IsLawfulTxLedger};
 ghost use Rattle.tx_ring.specs.Ends.{driver_size, posted};
 ghost use Rattle.tx_ring.specs.Meeting.{IsTold, ledger_of, sent_now, told_left};
-ghost use Rattle.batches_c.specs.Transmitting.{ArePair};
+ghost use Rattle.batches_c.specs.Transmitting.{AreMade};
+ghost use Rattle.batches_c.specs.Handles.{as_tx_device, as_tx_queue};
 
-use crate::making::{Unmade, crossing};
+use crate::end::End;
+use crate::making::{Unmade, boxed, shared};
 use crate::tx_device::TxDevice;
 use crate::tx_queue::TxQueue;
 use controller::TxController;
@@ -22,8 +24,8 @@ pub(crate) fn make(
     ring: u32,
     every: u16,
     completion: Completion,
-) -> Result<(Box<TxQueue>, Box<TxDevice>), Unmade>
-    ensures made { IfOk result (λ r. ArePair ring every completion r.0.value r.1.value) }
+) -> Result<(Box<End>, Box<End>), Unmade>
+    ensures made { IfOk result (λ r. AreMade ring every completion (as_tx_queue (Some r.0.value)) (as_tx_device (Some r.1.value))) }
     ensures length { IfErr result (λ e. e ≡ Unmade.Length → ¬ IsRingLength ring) }
     ensures settings { IfErr result (λ e. e ≡ Unmade.Settings → (every ≡ 0) ⊎ (4096 < every)) }
     ensures refusals { IfErr result (λ e. e ≢ Unmade.Buffers) }
@@ -36,12 +38,7 @@ pub(crate) fn make(
         Err(RingError::RingLength) => return Err(Unmade::Length),
         Err(RingError::Memory) => return Err(Unmade::Memory),
     };
-    let Ok(ring) = Arc::new(alloc, ring) else {
-        return Err(Unmade::Memory);
-    };
-    let Ok(other) = Arc::try_clone(&ring) else {
-        return Err(Unmade::Memory);
-    };
+    let (ring, other) = shared(alloc, ring)?;
     let queue = TxQueue {
         ring,
         driver: TxDriver::new(driver, every),
@@ -50,26 +47,22 @@ pub(crate) fn make(
         ring: other,
         controller: TxController::new(controller),
     };
-    let Ok(queue) = Box::new(alloc, crossing(queue)) else {
-        return Err(Unmade::Memory);
-    };
-    let Ok(device) = Box::new(alloc, crossing(device)) else {
-        return Err(Unmade::Memory);
-    };
+    let queue = boxed(alloc, End::TxQueue(queue))?;
+    let device = boxed(alloc, End::TxDevice(device))?;
     Ok((queue, device))
 }
 
 /// Closes a transmit queue: how many buffers lay in its ring, or -1 where another owner of the ring is left.
-pub(crate) fn unmake(queue: Box<TxQueue>, device: Box<TxDevice>) -> i64
-    requires { queue.value.end.table ≡ device.value.table }
-    ensures lawful { IsLawfulTxLedger Bytes (driver_size queue.value.end) (ledger_of queue.value.end device.value) }
-    ensures told { IsTold (told_left queue.value.end) (length (sent_now queue.value.end device.value)) (length (posted queue.value.end)) }
+pub(crate) fn unmake(queue: TxQueue, device: TxDevice) -> i64
+    requires { queue.end.table ≡ device.table }
+    ensures lawful { IsLawfulTxLedger Bytes (driver_size queue.end) (ledger_of queue.end device) }
+    ensures told { IsTold (told_left queue.end) (length (sent_now queue.end device)) (length (posted queue.end)) }
 {
-    let TxQueue { ring, driver } = Box::into_inner(queue);
+    let TxQueue { ring, driver } = queue;
     let TxDevice {
         ring: other,
         controller,
-    } = Box::into_inner(device);
+    } = device;
     let mut driver = driver.into_end();
     let mut controller = controller.into_end();
     meet_tx(&other, &mut driver, &mut controller);

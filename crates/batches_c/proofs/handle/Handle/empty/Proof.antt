@@ -31,11 +31,11 @@ use denote.Triple.Walked.{says, Stays, stay_dropped, walk_of, ends_at, Goes-drop
 use Rattle.core.proofs.alloc.Calls.{α, handle_tells}
 use Rattle.std_alloc.proofs.BoxSteps.Form.{P, owning}
 use Rattle.std_alloc.proofs.ResultValues.{and_tt}
-use Rattle.batches_c.proofs.TxDeviceHandleAsBox.{E, FromGlobal as From}
-use Rattle.batches_c.specs.contracts.tx_device_handle.TxDeviceHandle.empty as F
-use Rattle.batches_c.specs.contracts.tx_device_handle.TxDeviceHandle.empty.Key.{name as #self}
-use Rattle.batches_c.proofs.tx_device_handle.TxDeviceHandle.empty.Statement as stated
-use Rattle.batches_c.proofs.tx_device_handle.TxDeviceHandle.empty.Code as code
+use Rattle.batches_c.proofs.HandleAsBox.{E, FromGlobal as From}
+use Rattle.batches_c.specs.contracts.handle.Handle.empty as F
+use Rattle.batches_c.specs.contracts.handle.Handle.empty.Key.{name as #self}
+use Rattle.batches_c.proofs.handle.Handle.empty.Statement as stated
+use Rattle.batches_c.proofs.handle.Handle.empty.Code as code
 
 abbrev stayed : Stays (F.ended).signature.params (F.ended).kept
 stayed = (stay_dropped From yes, tt)

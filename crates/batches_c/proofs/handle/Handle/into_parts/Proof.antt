@@ -28,11 +28,11 @@ use denote.Triple.Table.{entered}
 use denote.Triple.Walked.{says, Stays, stay_dropped, walk_of, ends_at, Goes-dropped, walk_Meets}
 use Rattle.std_alloc.proofs.BoxSteps.Form.{D, B, word, box_typed}
 use Rattle.std_alloc.proofs.BoxSteps.Steps.{box_out, box_in}
-use Rattle.batches_c.proofs.RxDeviceHandleAsBox.{E, FromHandle as From}
-use Rattle.batches_c.specs.contracts.rx_device_handle.RxDeviceHandle.into_parts as F
-use Rattle.batches_c.specs.contracts.rx_device_handle.RxDeviceHandle.into_parts.Key.{name as #self}
-use Rattle.batches_c.proofs.rx_device_handle.RxDeviceHandle.into_parts.Statement as stated
-use Rattle.batches_c.proofs.rx_device_handle.RxDeviceHandle.into_parts.Code as code
+use Rattle.batches_c.proofs.HandleAsBox.{E, FromHandle as From}
+use Rattle.batches_c.specs.contracts.handle.Handle.into_parts as F
+use Rattle.batches_c.specs.contracts.handle.Handle.into_parts.Key.{name as #self}
+use Rattle.batches_c.proofs.handle.Handle.into_parts.Statement as stated
+use Rattle.batches_c.proofs.handle.Handle.into_parts.Code as code
 
 abbrev stayed : Stays (F.ended).signature.params (F.ended).kept
 stayed = (stay_dropped From yes, tt)

@@ -6,10 +6,10 @@ use Rattle.std_alloc.proofs.BoxSteps.Form.{Bx}
 use Rattle.std_heap.specs.contracts.Global as Heap
 use Rattle.std_heap.specs.contracts.GlobalAllocator.TheImpl.{ghosts, dict}
 use Rattle.std_heap.proofs.Global.TheLaws as heap
-use Rattle.batches_c.specs.contracts.packets.Packets as Held
-use Rattle.batches_c.proofs.packets.Packets.TheLaws as held
+use Rattle.batches_c.specs.contracts.end.End as Held
+use Rattle.batches_c.proofs.end.End.TheLaws as held
 use Rattle.opaque.specs.contracts.Parts as Parts
-use Rattle.batches_c.specs.contracts.packets_handle.PacketsHandle as Handle
+use Rattle.batches_c.specs.contracts.handle.Handle as Handle
 
 abbrev pub E : Bx
 E = record { row = Held.the_row; laws = held.the_row_laws; al = record { row = Heap.the_row; laws = heap.the_row_laws; g = ghosts; d = dict; drops = impl [] tnil dnil } }
