@@ -270,6 +270,271 @@ static inline uint32_t poll82599_tx_send(struct poll82599_tx_controller *control
     return call.answer;
 }
 
+/* ---- Packets and batches, in the manner of ixy and of an ixgbe driver.
+ *
+ * A worker has packets: its empty buffers, and up to 32 packets in a list, the oldest first; a packet's place there, from 0, is its
+ * name. A queue is a driver's side of a ring in batches, a device the other side: it takes and sends whole frames, which the library
+ * cuts into segments and joins again. A queue, its device and a worker's packets are ends as above: they begin as {0}, are passed by
+ * their address, never copied, and are in one call at a time. */
+
+struct poll82599_packets { uint8_t *end; };
+struct poll82599_rx_queue { uint8_t *end; };
+struct poll82599_rx_device { uint8_t *end; };
+struct poll82599_tx_queue { uint8_t *end; };
+struct poll82599_tx_device { uint8_t *end; };
+
+enum {
+    POLL82599_MOST_BATCH = 32,      /* packets of a batch, and of a worker */
+    POLL82599_MOST_RS_EVERY = 4096 /* frames of which one asks for a report */
+};
+
+/* What a queue's call is to do, what it answers, and how many packets, buffers, segments or bytes that were. */
+struct poll82599_batch {
+    uint32_t operation;
+    uint32_t answer;
+    size_t count;
+};
+
+/* What a call is to do with one of a worker's packets. */
+struct poll82599_packet {
+    uint32_t operation;
+    uint32_t answer;
+    size_t packet; /* its place, from 0 */
+    size_t len;    /* of the packet, in bytes */
+    size_t at;     /* a byte's place in it, from 0, */
+    uint8_t byte;  /* and the byte */
+};
+
+/* What a receive device's call is to do, what it answers, and how many frames were offered, and what became of them. */
+struct poll82599_offered {
+    uint32_t operation;
+    uint32_t answer;
+    uint64_t offered;
+    uint64_t stored;
+    uint64_t dropped;
+    uint64_t oversize;
+};
+
+/* The exports. Below is a function for each operation. */
+int32_t poll82599_packets_new(uint32_t buffers, struct poll82599_packets *packets);
+uint32_t poll82599_packets_put(struct poll82599_packets *packets, const uint8_t *frame, size_t len);
+void poll82599_packets_do(struct poll82599_packets *packets, struct poll82599_packet *call, uint8_t *bytes, size_t room);
+size_t poll82599_packets_close(struct poll82599_packets *packets);
+int32_t poll82599_rx_queue_new(uint32_t descriptors, size_t batch, size_t fill, uint32_t drop_en, struct poll82599_rx_queue *queue, struct poll82599_rx_device *device);
+void poll82599_rx_queue_move(struct poll82599_rx_queue *queue, struct poll82599_packets *packets, struct poll82599_batch *call);
+void poll82599_rx_queue_do(struct poll82599_rx_queue *queue, struct poll82599_batch *call);
+void poll82599_rx_device_do(struct poll82599_rx_device *device, struct poll82599_offered *call, const uint8_t *frame, size_t len);
+int64_t poll82599_rx_queue_close(struct poll82599_rx_queue *queue, struct poll82599_rx_device *device);
+int32_t poll82599_tx_queue_new(uint32_t descriptors, uint16_t every, uint32_t by_head, struct poll82599_tx_queue *queue, struct poll82599_tx_device *device);
+void poll82599_tx_queue_move(struct poll82599_tx_queue *queue, struct poll82599_packets *packets, struct poll82599_batch *call);
+void poll82599_tx_queue_do(struct poll82599_tx_queue *queue, struct poll82599_batch *call);
+void poll82599_tx_device_do(struct poll82599_tx_device *device, struct poll82599_batch *call, uint8_t *bytes, size_t room);
+int64_t poll82599_tx_queue_close(struct poll82599_tx_queue *queue, struct poll82599_tx_device *device);
+
+/* poll82599_packets_new makes a worker's packets: none, and so many empty buffers: 0, or 2 where memory was refused, 3 where there are
+ * not 16 to 256 buffers. poll82599_packets_close gives them back, and answers how many packets there were.
+ *
+ * poll82599_rx_queue_new makes a receive queue of so many descriptors, whose driver takes up to `batch` packets at once, 1 to 32, and
+ * whose device fills buffers to `fill` bytes, 1,024 or 2,048, and where too few descriptors are free drops a frame with `drop_en`, and
+ * with 0 holds it (SRRCTL.Drop_En): 0; 1 where the length is not lawful, 2 where memory was refused, 4 where the others are not.
+ *
+ * poll82599_tx_queue_new makes a transmit queue, whose driver asks for a report with each `every`th frame, 1 to 4,096, and with the last of
+ * a batch. It answers as poll82599_rx_queue_new does, and reports as poll82599_tx_new says.
+ *
+ * poll82599_rx_queue_close and poll82599_tx_queue_close take a queue and its device, and answer as poll82599_rx_close does. */
+
+/* ---- A worker's packets.
+ *
+ * poll82599_packets_put makes a packet of a frame of 14 to 15,000 bytes, behind the others: 1; 0 where there are 32, or too few empty
+ * buffers; 2 where the length is another. The bytes are copied. */
+
+static inline uint32_t poll82599_packets_step(struct poll82599_packets *packets, struct poll82599_packet *call)
+{
+    uint8_t none = 0;
+    poll82599_packets_do(packets, call, &none, 0);
+    return call->answer;
+}
+
+/* Copies a packet to the beginning of `bytes`: 1; 0 where there is none at that place; 4 where `room` is too small. With 1 and 4 `len` is
+ * its length. */
+static inline uint32_t poll82599_packet_copy(struct poll82599_packets *packets, size_t packet, uint8_t *bytes, size_t room, size_t *len)
+{
+    struct poll82599_packet call = {0, 0, packet, 0, 0, 0};
+    poll82599_packets_do(packets, &call, bytes, room);
+    *len = call.len;
+    return call.answer;
+}
+
+/* Reads a byte of a packet: 1, or 0 where there is no such packet or byte. */
+static inline uint32_t poll82599_packet_byte(struct poll82599_packets *packets, size_t packet, size_t at, uint8_t *byte)
+{
+    struct poll82599_packet call = {1, 0, packet, 0, at, 0};
+    uint32_t answer = poll82599_packets_step(packets, &call);
+    *byte = call.byte;
+    return answer;
+}
+
+/* Replaces a byte of a packet in place: 1, or 0 where there is no such packet or byte. */
+static inline uint32_t poll82599_packet_touch(struct poll82599_packets *packets, size_t packet, size_t at, uint8_t byte)
+{
+    struct poll82599_packet call = {2, 0, packet, 0, at, byte};
+    return poll82599_packets_step(packets, &call);
+}
+
+/* Lets a packet go, whose buffers are empty ones of the worker again: 1; 0 where there is none at that place; 2 where the worker has no
+ * room for them, which has 256 at most. The packets behind it move up. */
+static inline uint32_t poll82599_packet_free(struct poll82599_packets *packets, size_t packet)
+{
+    struct poll82599_packet call = {3, 0, packet, 0, 0, 0};
+    return poll82599_packets_step(packets, &call);
+}
+
+/* How many packets the worker has, and with `empty`, where it is not null, how many empty buffers. */
+static inline size_t poll82599_packets_count(struct poll82599_packets *packets, size_t *empty)
+{
+    struct poll82599_packet call = {4, 0, 0, 0, 0, 0};
+    poll82599_packets_step(packets, &call);
+    if (empty)
+        *empty = call.len;
+    return call.packet;
+}
+
+/* ---- The driver's thread. */
+
+static inline uint32_t poll82599_rx_queue_step(struct poll82599_rx_queue *queue, uint32_t operation, size_t *count)
+{
+    struct poll82599_batch call = {operation, 0, 0};
+    poll82599_rx_queue_do(queue, &call);
+    if (count)
+        *count = call.count;
+    return call.answer;
+}
+
+/* Takes the packets that are done, up to a batch of them and as many as the worker has room for, and appends them to the worker's; posts
+ * empty buffers of the worker, as many as there is room for, and stores RDT once: 1, with `count` how many packets these were; 0 where
+ * the queue was not seen on, or was seen off. */
+static inline uint32_t poll82599_rx_batch(struct poll82599_rx_queue *queue, struct poll82599_packets *packets, size_t *count)
+{
+    struct poll82599_batch call = {0, 0, 0};
+    poll82599_rx_queue_move(queue, packets, &call);
+    *count = call.count;
+    return call.answer;
+}
+
+/* Asks for the queue to be enabled, if nothing was asked yet, and loads the control word: 1 where it is on, 0 where it isn't; 2 where it
+ * was seen disabled, and has to be renewed first. */
+static inline uint32_t poll82599_rx_queue_enable(struct poll82599_rx_queue *queue) { return poll82599_rx_queue_step(queue, 0, 0); }
+
+/* Asks for the queue to be disabled: 1, or 0 where it was not seen on. */
+static inline uint32_t poll82599_rx_queue_disable(struct poll82599_rx_queue *queue) { return poll82599_rx_queue_step(queue, 1, 0); }
+
+/* Loads the control word, and once the disabling is answered RDH: 1, once, with `left` how many segments were stored and not taken; else
+ * 0. */
+static inline uint32_t poll82599_rx_queue_finish(struct poll82599_rx_queue *queue, size_t *left) { return poll82599_rx_queue_step(queue, 2, left); }
+
+/* Has all buffers of a disabled queue back as empty ones of the worker: 1, with `count` how many; 0 where it has no room for all, and as
+ * many came as fit; 2 where no disabling was seen answered. */
+static inline uint32_t poll82599_rx_queue_reclaim(struct poll82599_rx_queue *queue, struct poll82599_packets *packets, size_t *count)
+{
+    struct poll82599_batch call = {1, 0, 0};
+    poll82599_rx_queue_move(queue, packets, &call);
+    *count = call.count;
+    return call.answer;
+}
+
+/* Clears the registers of a disabled queue, which can be enabled again: 1; or 0 where no disabling was seen answered, or a buffer is out. */
+static inline uint32_t poll82599_rx_queue_renew(struct poll82599_rx_queue *queue) { return poll82599_rx_queue_step(queue, 3, 0); }
+
+/* Loads whether the device said that it stores no more: 1 or 0. */
+static inline uint32_t poll82599_rx_queue_is_quiet(struct poll82599_rx_queue *queue) { return poll82599_rx_queue_step(queue, 4, 0); }
+
+static inline uint32_t poll82599_tx_queue_step(struct poll82599_tx_queue *queue, uint32_t operation, size_t *count)
+{
+    struct poll82599_batch call = {operation, 0, 0};
+    poll82599_tx_queue_do(queue, &call);
+    if (count)
+        *count = call.count;
+    return call.answer;
+}
+
+static inline uint32_t poll82599_tx_queue_with(struct poll82599_tx_queue *queue, struct poll82599_packets *packets, uint32_t operation, size_t *count)
+{
+    struct poll82599_batch call = {operation, 0, 0};
+    poll82599_tx_queue_move(queue, packets, &call);
+    *count = call.count;
+    return call.answer;
+}
+
+/* Has the buffers of reported frames back as empty ones of the worker, posts the worker's packets from the oldest on, as long as they fit,
+ * and stores TDT once: 1, with `count` how many packets these were, which are the worker's no more; 0 where the queue was not seen on, or
+ * was seen off; 3 where the oldest packet has as many segments as the ring has descriptors, and all stay. */
+static inline uint32_t poll82599_tx_batch(struct poll82599_tx_queue *queue, struct poll82599_packets *packets, size_t *count) { return poll82599_tx_queue_with(queue, packets, 0, count); }
+
+/* Has the buffers of reported frames back: 1, with `count` how many; 0 as above. */
+static inline uint32_t poll82599_tx_queue_clean(struct poll82599_tx_queue *queue, struct poll82599_packets *packets, size_t *count) { return poll82599_tx_queue_with(queue, packets, 1, count); }
+
+/* As those of a receive queue; `left` is how many segments were posted and not sent. */
+static inline uint32_t poll82599_tx_queue_enable(struct poll82599_tx_queue *queue) { return poll82599_tx_queue_step(queue, 0, 0); }
+static inline uint32_t poll82599_tx_queue_disable(struct poll82599_tx_queue *queue) { return poll82599_tx_queue_step(queue, 1, 0); }
+static inline uint32_t poll82599_tx_queue_finish(struct poll82599_tx_queue *queue, size_t *left) { return poll82599_tx_queue_step(queue, 2, left); }
+static inline uint32_t poll82599_tx_queue_reclaim(struct poll82599_tx_queue *queue, struct poll82599_packets *packets, size_t *count) { return poll82599_tx_queue_with(queue, packets, 2, count); }
+static inline uint32_t poll82599_tx_queue_renew(struct poll82599_tx_queue *queue) { return poll82599_tx_queue_step(queue, 3, 0); }
+
+/* ---- The device's thread. */
+
+static inline uint32_t poll82599_rx_device_step(struct poll82599_rx_device *device, uint32_t operation)
+{
+    static const uint8_t none = 0;
+    struct poll82599_offered call = {operation, 0, 0, 0, 0, 0};
+    poll82599_rx_device_do(device, &call, &none, 0);
+    return call.answer;
+}
+
+/* Offers a frame that came in: 1 where it is stored, cut into segments of `fill` bytes, and RDH after it; 0 where too few descriptors are
+ * free, and it is to be offered again; 2 where it has not 14 to 15,000 bytes; 3 where the queue is not served, or was said to be quiet; 4
+ * where it needs as many descriptors as the ring has; 5 where too few descriptors are free, and it is dropped. */
+static inline uint32_t poll82599_offer(struct poll82599_rx_device *device, const uint8_t *frame, size_t len)
+{
+    struct poll82599_offered call = {0, 0, 0, 0, 0, 0};
+    poll82599_rx_device_do(device, &call, frame, len);
+    return call.answer;
+}
+
+/* Loads what the driver asks, and answers it where it may: the control word that it stored, else the one that it loaded. */
+static inline uint32_t poll82599_rx_device_control(struct poll82599_rx_device *device) { return poll82599_rx_device_step(device, 1); }
+
+/* Says that no more is stored until the queue is enabled again: 1, or 0 where the queue is not served, or that was said. */
+static inline uint32_t poll82599_rx_device_finish(struct poll82599_rx_device *device) { return poll82599_rx_device_step(device, 2); }
+
+/* How many frames were offered, and what became of them: each was stored, dropped or too long for the ring. */
+static inline struct poll82599_offered poll82599_rx_device_counts(struct poll82599_rx_device *device)
+{
+    static const uint8_t none = 0;
+    struct poll82599_offered call = {3, 0, 0, 0, 0, 0};
+    poll82599_rx_device_do(device, &call, &none, 0);
+    return call;
+}
+
+/* Sends the next frame, in the order in which they were posted, and reports it: 1, with its bytes at the beginning of `bytes`, where `room` is
+ * at least 15,000, and its length in `len`; 0 where none is ready; 3 where the queue is not served; 4 where `room` is smaller and 5 where
+ * memory was refused, and then nothing is sent; 6 where the frame is longer than `room`, and its bytes are lost, which no ring's frame is. */
+static inline uint32_t poll82599_turn(struct poll82599_tx_device *device, uint8_t *bytes, size_t room, size_t *len)
+{
+    struct poll82599_batch call = {0, 0, 0};
+    poll82599_tx_device_do(device, &call, bytes, room);
+    *len = call.count;
+    return call.answer;
+}
+
+/* As that of a receive device. */
+static inline uint32_t poll82599_tx_device_control(struct poll82599_tx_device *device)
+{
+    uint8_t none = 0;
+    struct poll82599_batch call = {1, 0, 0};
+    poll82599_tx_device_do(device, &call, &none, 0);
+    return call.answer;
+}
+
 /* ---- Plain data. These calls keep nothing, and any thread may make them. */
 
 /* What a descriptor says: its buffer's number, how many bytes lie there, and EOP, RS and PAYLEN, in bytes. A word that is not 0

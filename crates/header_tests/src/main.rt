@@ -3,15 +3,17 @@
 #![tactic(auto)]
 
 use anyhow::Result;
+use driver::MOST_BATCH;
 use limits::{
-    BUFFER_BYTES, LEAST_FRAME, LEAST_RING, MOST_FRAME, MOST_PAIRS, MOST_RING, MOST_SEGMENTS,
+    BUFFER_BYTES, LEAST_FRAME, LEAST_RING, MOST_FRAME, MOST_PAIRS, MOST_RING, MOST_RS_EVERY,
+    MOST_SEGMENTS,
 };
 use shared_ring::Control;
 use std::fs;
 use std::rt::Files;
 
 /// The constants of the header that are the library's, with their values there.
-fn constants() -> [(&'static str, usize); 11] {
+fn constants() -> [(&'static str, usize); 13] {
     [
         ("LEAST_RING", LEAST_RING),
         ("MOST_RING", MOST_RING),
@@ -20,6 +22,8 @@ fn constants() -> [(&'static str, usize); 11] {
         ("MOST_FRAME", MOST_FRAME),
         ("MOST_SEGMENTS", MOST_SEGMENTS),
         ("MOST_PAIRS", MOST_PAIRS),
+        ("MOST_BATCH", MOST_BATCH),
+        ("MOST_RS_EVERY", usize::from(MOST_RS_EVERY)),
         ("OFF", usize::from(Control::Disabled.word())),
         ("ENABLE_ASKED", usize::from(Control::EnableAsked.word())),
         ("ON", usize::from(Control::Enabled.word())),

@@ -1,5 +1,5 @@
 -- A frame that is begun grows by a segment, and what the counts allow may follow.
-use Rattle.std.proofs.Common.{◌≡◌, ℕ, ◌+◌, ◌<◌, ◌≤◌, Bool, true, false, List, [], ◌∷◌, ◌++◌, length, Some, slice_get, refl, sym, ap, ◌∙◌, subst, arith, length-append, if◌then◌else◌, ⊎_elim}
+use Rattle.std.proofs.Common.{◌≡◌, ℕ, ◌+◌, Bool, true, false, List, [], ◌∷◌, ◌++◌, length, Some, slice_get, sym, ap, ◌∙◌, subst, arith, length-append, if◌then◌else◌, ⊎_elim}
 use Rattle.std.proofs.lemmas.Option.{none-some}
 use Rattle.ring_model.specs.shared.Frames.{Bytes, Piece, ends_frame, join, unfinished, Follows}
 use Rattle.ring_model.specs.transmit.Ring.{carried}

@@ -1,4 +1,4 @@
--- The objects behind the handles may go to another thread.
+-- What is behind a handle may go to another thread.
 use denote.Param.Send.{IsSend, sendable}
 use Rattle.arrayvec.proofs.cells.Cells.TheSendSync as cells
 use Rattle.atomic_table.proofs.send_lease.SendLease.TheSendSync as lease
@@ -14,6 +14,7 @@ use Rattle.shared_ring.proofs.ends.ControllerPlaces.TheSendSync as controller_pl
 use Rattle.shared_ring.proofs.ends.DriverPlaces.TheSendSync as driver_places
 use Rattle.std.proofs.Crossing.{crosses}
 use Rattle.std_heap.proofs.Global.TheSendSync as heap
+use Rattle.poll82599_c.specs.contracts.end.End as End
 use Rattle.poll82599_c.specs.contracts.rx_driving.RxDriving as RxDriving
 use Rattle.poll82599_c.specs.contracts.rx_serving.RxServing as RxServing
 use Rattle.poll82599_c.specs.contracts.tx_driving.TxDriving as TxDriving
@@ -32,3 +33,6 @@ tx_driving = search parts depth 60
 
 pub tx_serving : IsSend TxServing.the_row
 tx_serving = search parts depth 60
+
+pub end : IsSend End.the_row
+end = search (sendable, crosses, rx_driving, rx_serving, tx_driving, tx_serving) depth 40

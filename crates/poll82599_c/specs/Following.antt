@@ -1,5 +1,5 @@
 -- How far the frame is that an end has begun and not ended, and what may follow in it.
-use Rattle.std.specs.Prelude.{◌≡◌, ℕ, ◌+◌, ◌<◌, ◌≤◌, Bool, true, false, List, length, Some, slice_get}
+use Rattle.std.specs.Prelude.{◌≡◌, ℕ, ◌+◌, ◌<◌, ◌≤◌, Bool, true, List, length, Some, slice_get}
 use Rattle.limits.specs.declared.profile.TheConstants.{BUFFER_BYTES, LEAST_FRAME, MOST_FRAME, MOST_SEGMENTS}
 use Rattle.ring_model.specs.shared.Frames.{Piece, join, unfinished}
 use Rattle.ring_model.specs.transmit.Ring.{carried}

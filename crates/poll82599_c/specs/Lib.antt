@@ -1,3 +1,4 @@
 pub mod Following
+pub mod Held
 pub mod RxEnds
 pub mod TxEnds

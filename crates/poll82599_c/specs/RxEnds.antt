@@ -1,5 +1,5 @@
 -- What the exports of a receive ring say of the two ends that handles hold, and of their steps.
-use Rattle.std.specs.Prelude.{◌≡◌, ◌≢◌, ℕ, ◌⊎◌, Option, Some, Bool, true, false, if◌then◌else◌, ◌++◌, length, drop, [], ◌∷◌}
+use Rattle.std.specs.Prelude.{◌≡◌, ◌≢◌, ℕ, ◌⊎◌, ⊤, Option, Some, None, Bool, false, if◌then◌else◌, ◌++◌, length, drop, [], ◌∷◌}
 use Rattle.std.specs.Int.{from_bool}
 use Rattle.atomic_table.specs.Seated.{TableId}
 use Rattle.buffer_pool.specs.Buffer.{Buffer, buffer}
@@ -9,7 +9,7 @@ use Rattle.ring_model.specs.shared.Frames.{Bytes}
 use Rattle.ring_model.specs.shared.Segments.{piece_of}
 use Rattle.shared_ring.specs.declared.events.DriverEvent.TheVariants as driver
 use Rattle.shared_ring.specs.declared.events.ControllerEvent.TheVariants as controller
-use Rattle.rx_ring.specs.Calls.{Answered, FoundFree, FoundLeft, IsTold, SawNotDone, TookSegment, told_left}
+use Rattle.rx_ring.specs.Calls.{Answered, FoundFree, IsTold, SawNotDone, TookSegment, told_left}
 use Rattle.rx_ring.specs.declared.events.RxDriverOwn.TheVariants.{LoadedQuiet}
 use Rattle.rx_ring.specs.declared.events.RxControllerOwn.TheVariants.{SaidQuiet, WroteBack}
 use Rattle.rx_ring.specs.Ends.{DriverSide, ControllerSide, answered, appended, driver_size, fill_place, is_between, known_free, next_place, reclaimed, serve_place, stored, taken}
@@ -18,17 +18,23 @@ use Rattle.poll82599_c.specs.Following.{IsBegun}
 use Rattle.poll82599_c.specs.declared.begun.Begun.{Begun}
 
 -- both are there, and this holds of them
+abbrev pub Both : {A B : Type 0} → (A → B → Type 0) → Option A → Option B → Type 0
+Both Holds (Some a) (Some b) = Holds a b
+Both Holds _ _ = ⊥
+
+-- what was there before is there after, and this holds of them
 abbrev pub Between : {A B : Type 0} → (A → B → Type 0) → Option A → Option B → Type 0
-Between Holds (Some a) (Some b) = Holds a b
-Between Holds _ _ = ⊥
+Between Holds (Some old) (Some new) = Holds old new
+Between Holds (Some old) None = ⊥
+Between Holds None new = ⊤
 
 -- both are fresh ends of one ring of n descriptors
 abbrev pub AreMade : ℕ → Option DriverSide → Option ControllerSide → Type 0
-AreMade n = Between (λ d c. MadeSeats n d.table d c)
+AreMade n = Both (λ d c. MadeSeats n d.table d c)
 
 -- both are ends of one ring
 abbrev pub AreOfOne : Option DriverSide → Option ControllerSide → Type 0
-AreOfOne = Between (λ d c. d.table ≡ c.table)
+AreOfOne = Both (λ d c. d.table ≡ c.table)
 
 -- the end is there before and after, and of the same ring
 abbrev pub SameDriven : Option DriverSide → Option DriverSide → Type 0
@@ -39,11 +45,11 @@ SameServed = Between (λ old new. new.table ≡ old.table)
 
 -- the records of both are those of one lawful ring: what is taken is a beginning of what is stored
 abbrev pub AreLawful : Option DriverSide → Option ControllerSide → Type 0
-AreLawful = Between (λ d c. IsLawfulRxLedger Bytes (driver_size d) (ledger_of d c))
+AreLawful = Both (λ d c. IsLawfulRxLedger Bytes (driver_size d) (ledger_of d c))
 
 -- where the head was loaded, what was said to be left is what of the stored is not taken
 abbrev pub AreTold : Option DriverSide → Option ControllerSide → Type 0
-AreTold = Between (λ d c. IsTold (told_left d) (length (taken d)) (length (stored_now d c)))
+AreTold = Both (λ d c. IsTold (told_left d) (length (taken d)) (length (stored_now d c)))
 
 -- ---- a driver's steps
 

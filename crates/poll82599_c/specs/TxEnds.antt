@@ -15,16 +15,16 @@ use Rattle.tx_ring.specs.Ends.{DriverSide, ControllerSide, answered, appended, c
 use Rattle.tx_ring.specs.Meeting.{IsTold, MadeSeats, ledger_of, sent_now, told_left}
 use Rattle.tx_ring.specs.Records.{Posting}
 use Rattle.poll82599_c.specs.Following.{IsPosting}
-use Rattle.poll82599_c.specs.RxEnds.{Between}
+use Rattle.poll82599_c.specs.RxEnds.{Both, Between}
 use Rattle.poll82599_c.specs.declared.begun.Begun.{Begun}
 
 -- both are fresh ends of one ring of n descriptors that reports so
 abbrev pub AreMade : ℕ → Completion → Option DriverSide → Option ControllerSide → Type 0
-AreMade n by = Between (λ d c. MadeSeats n by d.table d c)
+AreMade n by = Both (λ d c. MadeSeats n by d.table d c)
 
 -- both are ends of one ring
 abbrev pub AreOfOne : Option DriverSide → Option ControllerSide → Type 0
-AreOfOne = Between (λ d c. d.table ≡ c.table)
+AreOfOne = Both (λ d c. d.table ≡ c.table)
 
 -- the end is there before and after, and of the same ring
 abbrev pub SameDriven : Option DriverSide → Option DriverSide → Type 0
@@ -35,11 +35,11 @@ SameServed = Between (λ old new. new.table ≡ old.table)
 
 -- the records of both are those of one lawful ring: what is sent is a beginning of what is posted
 abbrev pub AreLawful : Option DriverSide → Option ControllerSide → Type 0
-AreLawful = Between (λ d c. IsLawfulTxLedger Bytes (driver_size d) (ledger_of d c))
+AreLawful = Both (λ d c. IsLawfulTxLedger Bytes (driver_size d) (ledger_of d c))
 
 -- where the head was loaded, what was said to be left is what of the posted is not sent
 abbrev pub AreTold : Option DriverSide → Option ControllerSide → Type 0
-AreTold = Between (λ d c. IsTold (told_left d) (length (sent_now d c)) (length (posted d)))
+AreTold = Both (λ d c. IsTold (told_left d) (length (sent_now d c)) (length (posted d)))
 
 -- ---- a driver's steps
 

@@ -9,17 +9,15 @@
 
 mod begun;
 mod call;
+mod end;
+mod handle;
 mod making;
 mod room;
 mod rx;
-mod rx_controller_handle;
-mod rx_driver_handle;
 mod rx_driving;
 mod rx_making;
 mod rx_serving;
 mod tx;
-mod tx_controller_handle;
-mod tx_driver_handle;
 mod tx_driving;
 mod tx_making;
 mod tx_serving;

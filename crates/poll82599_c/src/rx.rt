@@ -3,12 +3,13 @@ ghost use Rattle.std.specs.Prelude.{◌≡◌, ◌≢◌, ◌<◌, ◌⊎◌, No
 ghost use Rattle.limits.specs.RingLength.{IsRingLength};
 ghost use Rattle.rx_ring.specs.Calls.{FoundLeft, GoneOver};
 ghost use Rattle.opaque.specs.Words.{is_set};
+ghost use Rattle.poll82599_c.specs.Held.{rx_driver, rx_controller};
 ghost use Rattle.poll82599_c.specs.RxEnds.{AnsweredAsked, AreLawful, AreMade, AreOfOne, AreTold, AskedDisable, AskedEnable, Between, FoundNoneFree, FoundQuiet, LoadedControl, LookedAsked};
 ghost use Rattle.poll82599_c.specs.RxEnds.{PostedOne, PublishedAll, ReclaimedOne, SaidNoMore, SameDriven, SameServed, StoredOne, TookNone, TookOne};
 
 use crate::call::{NO_OPERATION, Poll82599Call};
-use crate::rx_controller_handle::RxControllerHandle;
-use crate::rx_driver_handle::RxDriverHandle;
+use crate::end::End;
+use crate::handle::Handle;
 use crate::rx_making::{make, unmake};
 use opaque::is_set;
 use std::alloc::Global;
@@ -21,10 +22,10 @@ pub extern "C" fn poll82599_rx_new(
     alloc: Global,
     descriptors: u32,
     buffers: u32,
-    driver: &mut RxDriverHandle,
-    controller: &mut RxControllerHandle,
+    driver: &mut Handle,
+    controller: &mut Handle,
 ) -> i32
-    ensures made { (result ≡ pos 0) → AreMade descriptors driver.new.held controller.new.held }
+    ensures made { (result ≡ pos 0) → AreMade descriptors (rx_driver driver.new.held) (rx_controller controller.new.held) }
     ensures length { (result ≡ pos 1) → ¬ IsRingLength descriptors }
     ensures buffers { (result ≡ pos 3) → (buffers < 16) ⊎ (256 < buffers) }
     ensures driver { (result ≢ pos 0) → driver.new ≡ driver.old }
@@ -46,51 +47,55 @@ pub extern "C" fn poll82599_rx_new(
 #[unsafe(no_mangle)]
 pub extern "C" fn poll82599_rx_drive(
     alloc: Global,
-    driver: &mut RxDriverHandle,
+    driver: &mut Handle,
     call: &mut Poll82599Call,
     bytes: &mut [u8],
 )
     requires { IsSome driver.old.held }
-    ensures own { SameDriven driver.old.held driver.new.held }
-    ensures posted { (call.old.operation ≡ 0) → (call.new.answer ≡ 1) → Between PostedOne driver.old.held driver.new.held }
-    ensures published { (call.old.operation ≡ 1) → (call.new.answer ≡ 1) → Between PublishedAll driver.old.held driver.new.held }
+    ensures other { rx_driver driver.old.held ≡ None → (call.new.answer ≡ 4294967295) × (driver.new.held ≡ driver.old.held) }
+    ensures own { SameDriven (rx_driver driver.old.held) (rx_driver driver.new.held) }
+    ensures posted { (call.old.operation ≡ 0) → (call.new.answer ≡ 1) → Between PostedOne (rx_driver driver.old.held) (rx_driver driver.new.held) }
+    ensures published { (call.old.operation ≡ 1) → (call.new.answer ≡ 1) → Between PublishedAll (rx_driver driver.old.held) (rx_driver driver.new.held) }
     ensures taken { (call.old.operation ≡ 2) → (call.new.answer ≡ 1)
-        → Between (TookOne call.new.len call.new.eop bytes.old bytes.new) driver.old.held driver.new.held }
-    ensures none { (call.old.operation ≡ 2) → (call.new.answer ≢ 1) → Between (TookNone call.new.answer bytes.old bytes.new) driver.old.held driver.new.held }
+        → Between (TookOne call.new.len call.new.eop bytes.old bytes.new) (rx_driver driver.old.held) (rx_driver driver.new.held) }
+    ensures none { (call.old.operation ≡ 2) → (call.new.answer ≢ 1) → Between (TookNone call.new.answer bytes.old bytes.new) (rx_driver driver.old.held) (rx_driver driver.new.held) }
     ensures room { (call.old.operation ≢ 2) → bytes.new ≡ bytes.old }
-    ensures asked_enable { (call.old.operation ≡ 3) → (call.new.answer ≡ 1) → Between AskedEnable driver.old.held driver.new.held }
-    ensures loaded { (call.old.operation ≡ 4) → Between (LoadedControl call.new.answer) driver.old.held driver.new.held }
-    ensures asked_disable { (call.old.operation ≡ 5) → (call.new.answer ≡ 1) → Between AskedDisable driver.old.held driver.new.held }
-    ensures quiet { (call.old.operation ≡ 6) → Between (FoundQuiet call.new.answer) driver.old.held driver.new.held }
-    ensures reclaimed { (call.old.operation ≡ 7) → (call.new.answer ≡ 1) → Between ReclaimedOne driver.old.held driver.new.held }
-    ensures renewed { (call.old.operation ≡ 8) → (call.new.answer ≡ 1) → Between GoneOver driver.old.held driver.new.held }
-    ensures left { (call.old.operation ≡ 9) → (call.new.answer ≡ 1) → Between (λ old new. FoundLeft old call.new.len new) driver.old.held driver.new.held }
+    ensures asked_enable { (call.old.operation ≡ 3) → (call.new.answer ≡ 1) → Between AskedEnable (rx_driver driver.old.held) (rx_driver driver.new.held) }
+    ensures loaded { (call.old.operation ≡ 4) → Between (LoadedControl call.new.answer) (rx_driver driver.old.held) (rx_driver driver.new.held) }
+    ensures asked_disable { (call.old.operation ≡ 5) → (call.new.answer ≡ 1) → Between AskedDisable (rx_driver driver.old.held) (rx_driver driver.new.held) }
+    ensures quiet { (call.old.operation ≡ 6) → Between (FoundQuiet call.new.answer) (rx_driver driver.old.held) (rx_driver driver.new.held) }
+    ensures reclaimed { (call.old.operation ≡ 7) → (call.new.answer ≡ 1) → Between ReclaimedOne (rx_driver driver.old.held) (rx_driver driver.new.held) }
+    ensures renewed { (call.old.operation ≡ 8) → (call.new.answer ≡ 1) → Between GoneOver (rx_driver driver.old.held) (rx_driver driver.new.held) }
+    ensures left { (call.old.operation ≡ 9) → (call.new.answer ≡ 1) → Between (λ old new. FoundLeft old call.new.len new) (rx_driver driver.old.held) (rx_driver driver.new.held) }
     ensures kept { (call.old.operation ≢ 2) → (call.old.operation ≢ 4) → (call.old.operation ≢ 6) → (call.new.answer ≢ 1) → driver.new.held ≡ driver.old.held }
 {
-    let mut driving = driver.take(alloc);
-    call.answer = match call.operation {
-        0 => driving.post(),
-        1 => driving.publish(),
-        2 => {
-            let found = driving.poll(bytes);
-            call.len = found.len;
-            call.eop = found.eop;
-            found.answer
-        }
-        3 => driving.ask_enable(),
-        4 => driving.state(),
-        5 => driving.ask_disable(),
-        6 => driving.is_quiet(),
-        7 => driving.reclaim(),
-        8 => driving.renew(),
-        9 => {
-            let found = driving.left();
-            call.len = found.len;
-            found.answer
-        }
+    let mut held = driver.take(alloc);
+    call.answer = match &mut *held {
+        End::RxDriver(driving) => match call.operation {
+            0 => driving.post(),
+            1 => driving.publish(),
+            2 => {
+                let found = driving.poll(bytes);
+                call.len = found.len;
+                call.eop = found.eop;
+                found.answer
+            }
+            3 => driving.ask_enable(),
+            4 => driving.state(),
+            5 => driving.ask_disable(),
+            6 => driving.is_quiet(),
+            7 => driving.reclaim(),
+            8 => driving.renew(),
+            9 => {
+                let found = driving.left();
+                call.len = found.len;
+                found.answer
+            }
+            _ => NO_OPERATION,
+        },
         _ => NO_OPERATION,
     };
-    driver.put(driving);
+    driver.put(held);
 }
 
 /// Makes a controller's step: 0 loads what the driver asks and answers it where it may, 1 stores a segment, which ends its
@@ -98,42 +103,51 @@ pub extern "C" fn poll82599_rx_drive(
 #[unsafe(no_mangle)]
 pub extern "C" fn poll82599_rx_serve(
     alloc: Global,
-    controller: &mut RxControllerHandle,
+    controller: &mut Handle,
     call: &mut Poll82599Call,
     segment: &[u8],
 )
     requires { IsSome controller.old.held }
-    ensures own { SameServed controller.old.held controller.new.held }
-    ensures answered { (call.old.operation ≡ 0) → (call.new.answer ≡ 1) → Between AnsweredAsked controller.old.held controller.new.held }
-    ensures looked { (call.old.operation ≡ 0) → (call.new.answer ≢ 1) → Between LookedAsked controller.old.held controller.new.held }
-    ensures stored { (call.old.operation ≡ 1) → (call.new.answer ≡ 1) → Between (StoredOne segment.now (is_set call.old.eop)) controller.old.held controller.new.held }
-    ensures none { (call.old.operation ≡ 1) → (call.new.answer ≡ 0) → Between FoundNoneFree controller.old.held controller.new.held }
+    ensures other { rx_controller controller.old.held ≡ None → (call.new.answer ≡ 4294967295) × (controller.new.held ≡ controller.old.held) }
+    ensures own { SameServed (rx_controller controller.old.held) (rx_controller controller.new.held) }
+    ensures answered { (call.old.operation ≡ 0) → (call.new.answer ≡ 1) → Between AnsweredAsked (rx_controller controller.old.held) (rx_controller controller.new.held) }
+    ensures looked { (call.old.operation ≡ 0) → (call.new.answer ≢ 1) → Between LookedAsked (rx_controller controller.old.held) (rx_controller controller.new.held) }
+    ensures stored { (call.old.operation ≡ 1) → (call.new.answer ≡ 1) → Between (StoredOne segment.now (is_set call.old.eop)) (rx_controller controller.old.held) (rx_controller controller.new.held) }
+    ensures none { (call.old.operation ≡ 1) → (call.new.answer ≡ 0) → Between FoundNoneFree (rx_controller controller.old.held) (rx_controller controller.new.held) }
     ensures refused { (call.old.operation ≡ 1) → (call.new.answer ≢ 0) → (call.new.answer ≢ 1) → controller.new.held ≡ controller.old.held }
-    ensures quiet { (call.old.operation ≡ 2) → (call.new.answer ≡ 1) → Between SaidNoMore controller.old.held controller.new.held }
+    ensures quiet { (call.old.operation ≡ 2) → (call.new.answer ≡ 1) → Between SaidNoMore (rx_controller controller.old.held) (rx_controller controller.new.held) }
     ensures kept { (call.old.operation ≢ 0) → (call.old.operation ≢ 1) → (call.new.answer ≢ 1) → controller.new.held ≡ controller.old.held }
 {
-    let mut serving = controller.take(alloc);
-    call.answer = match call.operation {
-        0 => serving.answer(),
-        1 => serving.store(segment, is_set(call.eop)),
-        2 => serving.set_quiet(),
+    let mut held = controller.take(alloc);
+    call.answer = match &mut *held {
+        End::RxController(serving) => match call.operation {
+            0 => serving.answer(),
+            1 => serving.store(segment, is_set(call.eop)),
+            2 => serving.set_quiet(),
+            _ => NO_OPERATION,
+        },
         _ => NO_OPERATION,
     };
-    controller.put(serving);
+    controller.put(held);
 }
 
 /// Closes a receive ring by its two ends: how many buffers lay in it, or -1 where another owner of the ring is left.
 #[unsafe(no_mangle)]
 pub extern "C" fn poll82599_rx_close(
     alloc: Global,
-    driver: &mut RxDriverHandle,
-    controller: &mut RxControllerHandle,
+    driver: &mut Handle,
+    controller: &mut Handle,
 ) -> i64
-    requires { AreOfOne driver.old.held controller.old.held }
-    ensures lawful { AreLawful driver.old.held controller.old.held }
-    ensures told { AreTold driver.old.held controller.old.held }
+    requires { AreOfOne (rx_driver driver.old.held) (rx_controller controller.old.held) }
+    ensures lawful { AreLawful (rx_driver driver.old.held) (rx_controller controller.old.held) }
+    ensures told { AreTold (rx_driver driver.old.held) (rx_controller controller.old.held) }
     ensures driver { driver.new.held ≡ None }
     ensures controller { controller.new.held ≡ None }
 {
-    unmake(driver.take(alloc), controller.take(alloc))
+    let driver = Box::into_inner(driver.take(alloc));
+    let controller = Box::into_inner(controller.take(alloc));
+    match (driver, controller) {
+        (End::RxDriver(driving), End::RxController(serving)) => unmake(driving, serving),
+        _ => -1,
+    }
 }

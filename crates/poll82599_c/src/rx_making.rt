@@ -1,13 +1,16 @@
 //! The making of a receive ring with its two objects, and its closing.
-ghost use Rattle.std.specs.Prelude.{◌≡◌, ◌<◌, ◌⊎◌, IfErr, IfOk, length};
+ghost use Rattle.std.specs.Prelude.{◌≡◌, ◌<◌, ◌⊎◌, Some, IfErr, IfOk, length};
 ghost use Rattle.limits.specs.RingLength.{IsRingLength};
+ghost use Rattle.poll82599_c.specs.Held.{rx_driver, rx_controller};
+ghost use Rattle.poll82599_c.specs.RxEnds.{AreMade};
 ghost use Rattle.ring_model.specs.receive.Lawful.{IsLawfulRxLedger};
 ghost use Rattle.ring_model.specs.shared.Frames.{Bytes};
 ghost use Rattle.rx_ring.specs.Calls.{IsTold, told_left};
 ghost use Rattle.rx_ring.specs.Ends.{driver_size, taken};
-ghost use Rattle.rx_ring.specs.Meeting.{MadeSeats, ledger_of, stored_now};
+ghost use Rattle.rx_ring.specs.Meeting.{ledger_of, stored_now};
 
 use crate::begun::Begun;
+use crate::end::End;
 use crate::making::{Unmade, crossing, stash_of};
 use crate::rx_driving::RxDriving;
 use crate::rx_serving::RxServing;
@@ -16,12 +19,8 @@ use std::alloc::Global;
 use std::sync::Arc;
 
 /// A ring of so many descriptors, and its two objects. The driver has so many buffers.
-pub(crate) fn make(
-    alloc: Global,
-    ring: u32,
-    buffers: u32,
-) -> Result<(Box<RxDriving>, Box<RxServing>), Unmade>
-    ensures made { IfOk result (λ r. MadeSeats ring r.0.value.table r.0.value r.1.value) }
+pub(crate) fn make(alloc: Global, ring: u32, buffers: u32) -> Result<(Box<End>, Box<End>), Unmade>
+    ensures made { IfOk result (λ r. AreMade ring (rx_driver (Some r.0.value)) (rx_controller (Some r.1.value))) }
     ensures length { IfErr result (λ e. e ≡ Unmade.Length → ¬ IsRingLength ring) }
     ensures buffers { IfErr result (λ e. e ≡ Unmade.Buffers → (buffers < 16) ⊎ (256 < buffers)) }
 {
@@ -48,31 +47,31 @@ pub(crate) fn make(
         end: controller,
         begun: Begun::none(),
     };
-    let Ok(driving) = Box::new(alloc, crossing(driving)) else {
+    let Ok(driving) = Box::new(alloc, End::RxDriver(crossing(driving))) else {
         return Err(Unmade::Memory);
     };
-    let Ok(serving) = Box::new(alloc, crossing(serving)) else {
+    let Ok(serving) = Box::new(alloc, End::RxController(crossing(serving))) else {
         return Err(Unmade::Memory);
     };
     Ok((driving, serving))
 }
 
 /// Closes a ring: how many buffers lay in it, or -1 where another owner of the ring is left.
-pub(crate) fn unmake(driving: Box<RxDriving>, serving: Box<RxServing>) -> i64
-    requires { driving.value.table ≡ serving.value.table }
-    ensures lawful { IsLawfulRxLedger Bytes (driver_size driving.value) (ledger_of driving.value serving.value) }
-    ensures told { IsTold (told_left driving.value) (length (taken driving.value)) (length (stored_now driving.value serving.value)) }
+pub(crate) fn unmake(driving: RxDriving, serving: RxServing) -> i64
+    requires { driving.table ≡ serving.table }
+    ensures lawful { IsLawfulRxLedger Bytes (driver_size driving) (ledger_of driving serving) }
+    ensures told { IsTold (told_left driving) (length (taken driving)) (length (stored_now driving serving)) }
 {
     let RxDriving {
         ring,
         end: mut driver,
         ..
-    } = Box::into_inner(driving);
+    } = driving;
     let RxServing {
         ring: other,
         end: mut controller,
         ..
-    } = Box::into_inner(serving);
+    } = serving;
     meet_rx(&other, &mut driver, &mut controller);
     drop(other);
     let Some(ring) = Arc::into_inner(ring) else {

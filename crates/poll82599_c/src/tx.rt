@@ -4,14 +4,15 @@ ghost use Rattle.limits.specs.RingLength.{IsRingLength};
 ghost use Rattle.ring_model.specs.declared.states.Completion.TheVariants as by;
 ghost use Rattle.tx_ring.specs.Calls.{FoundLeft, GoneOver, SawReported};
 ghost use Rattle.opaque.specs.Words.{is_set};
+ghost use Rattle.poll82599_c.specs.Held.{tx_driver, tx_controller};
 ghost use Rattle.poll82599_c.specs.RxEnds.{Between};
 ghost use Rattle.poll82599_c.specs.TxEnds.{AnsweredAsked, AreLawful, AreMade, AreOfOne, AreTold, AskedDisable, AskedEnable, CleanedBuffer, LoadedControl, LookedAsked};
 ghost use Rattle.poll82599_c.specs.TxEnds.{PostedSegment, PublishedAll, ReclaimedOne, SameDriven, SameServed, SawNoReport, SentNone, SentOne};
 
 use crate::begun::Asking;
 use crate::call::{NO_OPERATION, Poll82599Call};
-use crate::tx_controller_handle::TxControllerHandle;
-use crate::tx_driver_handle::TxDriverHandle;
+use crate::end::End;
+use crate::handle::Handle;
 use crate::tx_making::{make, unmake};
 use opaque::is_set;
 use std::alloc::Global;
@@ -26,11 +27,11 @@ pub extern "C" fn poll82599_tx_new(
     descriptors: u32,
     buffers: u32,
     by_head: u32,
-    driver: &mut TxDriverHandle,
-    controller: &mut TxControllerHandle,
+    driver: &mut Handle,
+    controller: &mut Handle,
 ) -> i32
-    ensures status { (result ≡ pos 0) → (by_head ≡ 0) → AreMade descriptors by.Status driver.new.held controller.new.held }
-    ensures head { (result ≡ pos 0) → (by_head ≢ 0) → AreMade descriptors by.Head driver.new.held controller.new.held }
+    ensures status { (result ≡ pos 0) → (by_head ≡ 0) → AreMade descriptors by.Status (tx_driver driver.new.held) (tx_controller controller.new.held) }
+    ensures head { (result ≡ pos 0) → (by_head ≢ 0) → AreMade descriptors by.Head (tx_driver driver.new.held) (tx_controller controller.new.held) }
     ensures length { (result ≡ pos 1) → ¬ IsRingLength descriptors }
     ensures buffers { (result ≡ pos 3) → (buffers < 16) ⊎ (256 < buffers) }
     ensures driver { (result ≢ pos 0) → driver.new ≡ driver.old }
@@ -57,52 +58,56 @@ pub extern "C" fn poll82599_tx_new(
 #[unsafe(no_mangle)]
 pub extern "C" fn poll82599_tx_drive(
     alloc: Global,
-    driver: &mut TxDriverHandle,
+    driver: &mut Handle,
     call: &mut Poll82599Call,
     segment: &[u8],
 )
     requires { IsSome driver.old.held }
-    ensures own { SameDriven driver.old.held driver.new.held }
+    ensures other { tx_driver driver.old.held ≡ None → (call.new.answer ≡ 4294967295) × (driver.new.held ≡ driver.old.held) }
+    ensures own { SameDriven (tx_driver driver.old.held) (tx_driver driver.new.held) }
     ensures posted { (call.old.operation ≡ 0) → (call.new.answer ≡ 1)
-        → Between (PostedSegment segment.now (is_set call.old.eop) (is_set call.old.rs) call.old.paylen) driver.old.held driver.new.held }
-    ensures published { (call.old.operation ≡ 1) → (call.new.answer ≡ 1) → Between PublishedAll driver.old.held driver.new.held }
-    ensures reported { (call.old.operation ≡ 2) → (call.new.answer ≡ 1) → Between SawReported driver.old.held driver.new.held }
-    ensures unreported { (call.old.operation ≡ 2) → (call.new.answer ≢ 1) → Between SawNoReport driver.old.held driver.new.held }
-    ensures asked_enable { (call.old.operation ≡ 3) → (call.new.answer ≡ 1) → Between AskedEnable driver.old.held driver.new.held }
-    ensures loaded { (call.old.operation ≡ 4) → Between (LoadedControl call.new.answer) driver.old.held driver.new.held }
-    ensures asked_disable { (call.old.operation ≡ 5) → (call.new.answer ≡ 1) → Between AskedDisable driver.old.held driver.new.held }
-    ensures cleaned { (call.old.operation ≡ 6) → (call.new.answer ≡ 1) → Between CleanedBuffer driver.old.held driver.new.held }
-    ensures reclaimed { (call.old.operation ≡ 7) → (call.new.answer ≡ 1) → Between ReclaimedOne driver.old.held driver.new.held }
-    ensures renewed { (call.old.operation ≡ 8) → (call.new.answer ≡ 1) → Between GoneOver driver.old.held driver.new.held }
-    ensures left { (call.old.operation ≡ 9) → (call.new.answer ≡ 1) → Between (λ old new. FoundLeft old call.new.len new) driver.old.held driver.new.held }
+        → Between (PostedSegment segment.now (is_set call.old.eop) (is_set call.old.rs) call.old.paylen) (tx_driver driver.old.held) (tx_driver driver.new.held) }
+    ensures published { (call.old.operation ≡ 1) → (call.new.answer ≡ 1) → Between PublishedAll (tx_driver driver.old.held) (tx_driver driver.new.held) }
+    ensures reported { (call.old.operation ≡ 2) → (call.new.answer ≡ 1) → Between SawReported (tx_driver driver.old.held) (tx_driver driver.new.held) }
+    ensures unreported { (call.old.operation ≡ 2) → (call.new.answer ≢ 1) → Between SawNoReport (tx_driver driver.old.held) (tx_driver driver.new.held) }
+    ensures asked_enable { (call.old.operation ≡ 3) → (call.new.answer ≡ 1) → Between AskedEnable (tx_driver driver.old.held) (tx_driver driver.new.held) }
+    ensures loaded { (call.old.operation ≡ 4) → Between (LoadedControl call.new.answer) (tx_driver driver.old.held) (tx_driver driver.new.held) }
+    ensures asked_disable { (call.old.operation ≡ 5) → (call.new.answer ≡ 1) → Between AskedDisable (tx_driver driver.old.held) (tx_driver driver.new.held) }
+    ensures cleaned { (call.old.operation ≡ 6) → (call.new.answer ≡ 1) → Between CleanedBuffer (tx_driver driver.old.held) (tx_driver driver.new.held) }
+    ensures reclaimed { (call.old.operation ≡ 7) → (call.new.answer ≡ 1) → Between ReclaimedOne (tx_driver driver.old.held) (tx_driver driver.new.held) }
+    ensures renewed { (call.old.operation ≡ 8) → (call.new.answer ≡ 1) → Between GoneOver (tx_driver driver.old.held) (tx_driver driver.new.held) }
+    ensures left { (call.old.operation ≡ 9) → (call.new.answer ≡ 1) → Between (λ old new. FoundLeft old call.new.len new) (tx_driver driver.old.held) (tx_driver driver.new.held) }
     ensures kept { (call.old.operation ≢ 2) → (call.old.operation ≢ 4) → (call.new.answer ≢ 1) → driver.new.held ≡ driver.old.held }
 {
-    let mut driving = driver.take(alloc);
-    call.answer = match call.operation {
-        0 => {
-            let ask = Asking {
-                eop: is_set(call.eop),
-                rs: is_set(call.rs),
-                paylen: call.paylen,
-            };
-            driving.post(segment, &ask)
-        }
-        1 => driving.publish(),
-        2 => driving.poll_report(),
-        3 => driving.ask_enable(),
-        4 => driving.state(),
-        5 => driving.ask_disable(),
-        6 => driving.clean(),
-        7 => driving.reclaim(),
-        8 => driving.renew(),
-        9 => {
-            let found = driving.left();
-            call.len = found.len;
-            found.answer
-        }
+    let mut held = driver.take(alloc);
+    call.answer = match &mut *held {
+        End::TxDriver(driving) => match call.operation {
+            0 => {
+                let ask = Asking {
+                    eop: is_set(call.eop),
+                    rs: is_set(call.rs),
+                    paylen: call.paylen,
+                };
+                driving.post(segment, &ask)
+            }
+            1 => driving.publish(),
+            2 => driving.poll_report(),
+            3 => driving.ask_enable(),
+            4 => driving.state(),
+            5 => driving.ask_disable(),
+            6 => driving.clean(),
+            7 => driving.reclaim(),
+            8 => driving.renew(),
+            9 => {
+                let found = driving.left();
+                call.len = found.len;
+                found.answer
+            }
+            _ => NO_OPERATION,
+        },
         _ => NO_OPERATION,
     };
-    driver.put(driving);
+    driver.put(held);
 }
 
 /// Makes a controller's step: 0 loads what the driver asks and answers it where it may, and 1 sends the next segment into
@@ -110,46 +115,55 @@ pub extern "C" fn poll82599_tx_drive(
 #[unsafe(no_mangle)]
 pub extern "C" fn poll82599_tx_serve(
     alloc: Global,
-    controller: &mut TxControllerHandle,
+    controller: &mut Handle,
     call: &mut Poll82599Call,
     bytes: &mut [u8],
 )
     requires { IsSome controller.old.held }
-    ensures own { SameServed controller.old.held controller.new.held }
-    ensures answered { (call.old.operation ≡ 0) → (call.new.answer ≡ 1) → Between AnsweredAsked controller.old.held controller.new.held }
-    ensures looked { (call.old.operation ≡ 0) → (call.new.answer ≢ 1) → Between LookedAsked controller.old.held controller.new.held }
+    ensures other { tx_controller controller.old.held ≡ None → (call.new.answer ≡ 4294967295) × (controller.new.held ≡ controller.old.held) }
+    ensures own { SameServed (tx_controller controller.old.held) (tx_controller controller.new.held) }
+    ensures answered { (call.old.operation ≡ 0) → (call.new.answer ≡ 1) → Between AnsweredAsked (tx_controller controller.old.held) (tx_controller controller.new.held) }
+    ensures looked { (call.old.operation ≡ 0) → (call.new.answer ≢ 1) → Between LookedAsked (tx_controller controller.old.held) (tx_controller controller.new.held) }
     ensures sent { (call.old.operation ≡ 1) → (call.new.answer ≡ 1)
-        → Between (SentOne call.new.len call.new.eop bytes.old bytes.new) controller.old.held controller.new.held }
-    ensures none { (call.old.operation ≡ 1) → (call.new.answer ≢ 1) → Between (SentNone call.new.answer bytes.old bytes.new) controller.old.held controller.new.held }
+        → Between (SentOne call.new.len call.new.eop bytes.old bytes.new) (tx_controller controller.old.held) (tx_controller controller.new.held) }
+    ensures none { (call.old.operation ≡ 1) → (call.new.answer ≢ 1) → Between (SentNone call.new.answer bytes.old bytes.new) (tx_controller controller.old.held) (tx_controller controller.new.held) }
     ensures room { (call.old.operation ≢ 1) → bytes.new ≡ bytes.old }
     ensures kept { (call.old.operation ≢ 0) → (call.old.operation ≢ 1) → controller.new.held ≡ controller.old.held }
 {
-    let mut serving = controller.take(alloc);
-    call.answer = match call.operation {
-        0 => serving.answer(),
-        1 => {
-            let found = serving.send(bytes);
-            call.len = found.len;
-            call.eop = found.eop;
-            found.answer
-        }
+    let mut held = controller.take(alloc);
+    call.answer = match &mut *held {
+        End::TxController(serving) => match call.operation {
+            0 => serving.answer(),
+            1 => {
+                let found = serving.send(bytes);
+                call.len = found.len;
+                call.eop = found.eop;
+                found.answer
+            }
+            _ => NO_OPERATION,
+        },
         _ => NO_OPERATION,
     };
-    controller.put(serving);
+    controller.put(held);
 }
 
 /// Closes a transmit ring by its two ends: how many buffers lay in it, or -1 where another owner of the ring is left.
 #[unsafe(no_mangle)]
 pub extern "C" fn poll82599_tx_close(
     alloc: Global,
-    driver: &mut TxDriverHandle,
-    controller: &mut TxControllerHandle,
+    driver: &mut Handle,
+    controller: &mut Handle,
 ) -> i64
-    requires { AreOfOne driver.old.held controller.old.held }
-    ensures lawful { AreLawful driver.old.held controller.old.held }
-    ensures told { AreTold driver.old.held controller.old.held }
+    requires { AreOfOne (tx_driver driver.old.held) (tx_controller controller.old.held) }
+    ensures lawful { AreLawful (tx_driver driver.old.held) (tx_controller controller.old.held) }
+    ensures told { AreTold (tx_driver driver.old.held) (tx_controller controller.old.held) }
     ensures driver { driver.new.held ≡ None }
     ensures controller { controller.new.held ≡ None }
 {
-    unmake(driver.take(alloc), controller.take(alloc))
+    let driver = Box::into_inner(driver.take(alloc));
+    let controller = Box::into_inner(controller.take(alloc));
+    match (driver, controller) {
+        (End::TxDriver(driving), End::TxController(serving)) => unmake(driving, serving),
+        _ => -1,
+    }
 }

@@ -1,12 +1,15 @@
 //! The making of a transmit ring with its two objects, and its closing.
-ghost use Rattle.std.specs.Prelude.{◌≡◌, ◌<◌, ◌⊎◌, IfErr, IfOk, length};
+ghost use Rattle.std.specs.Prelude.{◌≡◌, ◌<◌, ◌⊎◌, Some, IfErr, IfOk, length};
 ghost use Rattle.limits.specs.RingLength.{IsRingLength};
+ghost use Rattle.poll82599_c.specs.Held.{tx_driver, tx_controller};
+ghost use Rattle.poll82599_c.specs.TxEnds.{AreMade};
 ghost use Rattle.ring_model.specs.transmit.Lawful.{IsLawfulTxLedger};
 ghost use Rattle.ring_model.specs.shared.Frames.{Bytes};
 ghost use Rattle.tx_ring.specs.Ends.{driver_size, posted};
-ghost use Rattle.tx_ring.specs.Meeting.{IsTold, MadeSeats, ledger_of, sent_now, told_left};
+ghost use Rattle.tx_ring.specs.Meeting.{IsTold, ledger_of, sent_now, told_left};
 
 use crate::begun::Begun;
+use crate::end::End;
 use crate::making::{Unmade, crossing, stash_of};
 use crate::tx_driving::TxDriving;
 use crate::tx_serving::TxServing;
@@ -20,8 +23,8 @@ pub(crate) fn make(
     ring: u32,
     buffers: u32,
     completion: Completion,
-) -> Result<(Box<TxDriving>, Box<TxServing>), Unmade>
-    ensures made { IfOk result (λ r. MadeSeats ring completion r.0.value.table r.0.value r.1.value) }
+) -> Result<(Box<End>, Box<End>), Unmade>
+    ensures made { IfOk result (λ r. AreMade ring completion (tx_driver (Some r.0.value)) (tx_controller (Some r.1.value))) }
     ensures length { IfErr result (λ e. e ≡ Unmade.Length → ¬ IsRingLength ring) }
     ensures buffers { IfErr result (λ e. e ≡ Unmade.Buffers → (buffers < 16) ⊎ (256 < buffers)) }
 {
@@ -48,30 +51,30 @@ pub(crate) fn make(
         ring: other,
         end: controller,
     };
-    let Ok(driving) = Box::new(alloc, crossing(driving)) else {
+    let Ok(driving) = Box::new(alloc, End::TxDriver(crossing(driving))) else {
         return Err(Unmade::Memory);
     };
-    let Ok(serving) = Box::new(alloc, crossing(serving)) else {
+    let Ok(serving) = Box::new(alloc, End::TxController(crossing(serving))) else {
         return Err(Unmade::Memory);
     };
     Ok((driving, serving))
 }
 
 /// Closes a ring: how many buffers lay in it, or -1 where another owner of the ring is left.
-pub(crate) fn unmake(driving: Box<TxDriving>, serving: Box<TxServing>) -> i64
-    requires { driving.value.table ≡ serving.value.table }
-    ensures lawful { IsLawfulTxLedger Bytes (driver_size driving.value) (ledger_of driving.value serving.value) }
-    ensures told { IsTold (told_left driving.value) (length (sent_now driving.value serving.value)) (length (posted driving.value)) }
+pub(crate) fn unmake(driving: TxDriving, serving: TxServing) -> i64
+    requires { driving.table ≡ serving.table }
+    ensures lawful { IsLawfulTxLedger Bytes (driver_size driving) (ledger_of driving serving) }
+    ensures told { IsTold (told_left driving) (length (sent_now driving serving)) (length (posted driving)) }
 {
     let TxDriving {
         ring,
         end: mut driver,
         ..
-    } = Box::into_inner(driving);
+    } = driving;
     let TxServing {
         ring: other,
         end: mut controller,
-    } = Box::into_inner(serving);
+    } = serving;
     meet_tx(&other, &mut driver, &mut controller);
     drop(other);
     let Some(ring) = Arc::into_inner(ring) else {

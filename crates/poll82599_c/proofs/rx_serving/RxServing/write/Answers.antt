@@ -1,4 +1,4 @@
-use Rattle.std.proofs.Common.{rules, ◌≡◌, ◌++◌, ◌∷◌, [], ap, subst, sym, ◌∙◌}
+use Rattle.std.proofs.Common.{rules, ◌++◌, ◌∷◌, [], ap, subst, sym, ◌∙◌}
 use Rattle.ring_model.specs.shared.Segments.{piece_of}
 use Rattle.rx_ring.specs.Calls.{segment}
 use Rattle.rx_ring.specs.Ends.{ControllerSide, stored}

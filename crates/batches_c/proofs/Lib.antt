@@ -1,0 +1,4 @@
+pub mod HandleAsBox
+pub mod Packing
+pub mod Sendable
+pub mod Shaping

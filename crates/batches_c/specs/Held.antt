@@ -1,0 +1,31 @@
+-- Words on what may be held.
+use Rattle.std.specs.Prelude.{⊤, Option, Some, None}
+
+-- both are there, and this holds of them
+abbrev pub Both : {A B : Type 0} → (A → B → Type 0) → Option A → Option B → Type 0
+Both Holds (Some a) (Some b) = Holds a b
+Both Holds _ _ = ⊥
+
+-- it is there, and this holds of it
+abbrev pub There : {A : Type 0} → (A → Type 0) → Option A → Type 0
+There Holds (Some a) = Holds a
+There Holds None = ⊥
+
+-- this holds of it, if it is there
+abbrev pub Of : {A : Type 0} → (A → Type 0) → Option A → Type 0
+Of Holds (Some a) = Holds a
+Of Holds None = ⊤
+
+-- what was there before a call is there after it, and this holds of them
+abbrev pub Between : {A B : Type 0} → (A → B → Type 0) → Option A → Option B → Type 0
+Between Holds (Some old) (Some new) = Holds old new
+Between Holds (Some old) None = ⊥
+Between Holds None new = ⊤
+
+-- two that were there before a call are there after it, and this holds of all four
+abbrev pub Among : {A B : Type 0} → (A → B → A → B → Type 0) → Option A → Option B → Option A → Option B → Type 0
+Among Holds (Some a) (Some b) (Some c) (Some d) = Holds a b c d
+Among Holds (Some a) (Some b) (Some c) None = ⊥
+Among Holds (Some a) (Some b) None new = ⊥
+Among Holds (Some a) None old new = ⊤
+Among Holds None b old new = ⊤

@@ -1,0 +1,172 @@
+/* A poll-mode forwarder in batches, with ixy's loop: one thread plays the device that is offered frames, one drives a receive and a
+ * transmit queue and adds 1 to byte 1 of each packet where it lies, and one plays the device that sends them, and compares. At the end
+ * the driver has both queues disabled and all buffers back.
+ *
+ *     batches [FRAMES [BYTES [BY_HEAD]]]     14 to 15,000 bytes, cut into segments by the library */
+#include <poll82599.h>
+
+#include <pthread.h>
+#include <sched.h>
+#include <stdio.h>
+#include <stdlib.h>
+#include <string.h>
+#include <time.h>
+
+enum { BATCH = 32, BUFFERS = 256 };
+
+static struct poll82599_rx_queue rx;
+static struct poll82599_rx_device rx_device;
+static struct poll82599_tx_queue tx;
+static struct poll82599_tx_device tx_device;
+static struct poll82599_packets packets;
+
+static uint64_t frames = 100000;
+static size_t bytes = 60;
+static size_t back;
+
+/* Frame k, as it is offered. */
+static void fill(uint8_t *frame, uint64_t k)
+{
+    for (size_t at = 0; at < bytes; at++)
+        frame[at] = (uint8_t)((k * 2654435761u >> (at & 15)) + at);
+}
+
+/* Passes the processor on, after some tries in vain. */
+static void wait(unsigned *tries)
+{
+    if (++*tries > 1000) {
+        sched_yield();
+        *tries = 0;
+    }
+}
+
+/* The device that frames come in at. */
+static void *offer(void *unused)
+{
+    static uint8_t frame[POLL82599_MOST_FRAME];
+    unsigned tries = 0;
+    (void)unused;
+    while (poll82599_rx_device_control(&rx_device) != POLL82599_ON)
+        wait(&tries);
+    for (uint64_t k = 0; k < frames;) {
+        fill(frame, k);
+        if (poll82599_offer(&rx_device, frame, bytes) == 1)
+            k++;
+        else
+            wait(&tries);
+    }
+    poll82599_rx_device_finish(&rx_device);
+    while (poll82599_rx_device_control(&rx_device) != POLL82599_OFF)
+        wait(&tries);
+    return 0;
+}
+
+/* The device that frames go out of. */
+static void *turn(void *unused)
+{
+    static uint8_t got[POLL82599_MOST_FRAME], wanted[POLL82599_MOST_FRAME];
+    uint64_t wrong = 0;
+    unsigned tries = 0;
+    (void)unused;
+    while (poll82599_tx_device_control(&tx_device) != POLL82599_ON)
+        wait(&tries);
+    for (uint64_t k = 0; k < frames;) {
+        size_t len;
+        if (poll82599_turn(&tx_device, got, sizeof got, &len) != 1) {
+            wait(&tries);
+            continue;
+        }
+        fill(wanted, k++);
+        wanted[1]++;
+        wrong += len != bytes || memcmp(got, wanted, bytes) != 0;
+    }
+    while (poll82599_tx_device_control(&tx_device) != POLL82599_OFF)
+        wait(&tries);
+    return (void *)(uintptr_t)wrong;
+}
+
+/* One turn of the forwarder: how many packets were posted. Those for which there was no room wait. */
+static size_t forward(void)
+{
+    static size_t waiting;
+    size_t taken, posted;
+    uint8_t byte;
+    if (poll82599_rx_batch(&rx, &packets, &taken) != 1)
+        return 0;
+    for (size_t packet = waiting; packet < waiting + taken; packet++) {
+        poll82599_packet_byte(&packets, packet, 1, &byte);
+        poll82599_packet_touch(&packets, packet, 1, (uint8_t)(byte + 1));
+    }
+    waiting += taken;
+    if (poll82599_tx_batch(&tx, &packets, &posted) != 1)
+        return 0;
+    waiting -= posted;
+    return posted;
+}
+
+/* Has both queues disabled, and all buffers back: how many segments were left in them. */
+static size_t stop(void)
+{
+    size_t untaken, unsent, count;
+    unsigned tries = 0;
+    poll82599_rx_queue_disable(&rx);
+    poll82599_tx_queue_disable(&tx);
+    while (poll82599_rx_queue_finish(&rx, &untaken) != 1)
+        wait(&tries);
+    while (poll82599_tx_queue_finish(&tx, &unsent) != 1)
+        wait(&tries);
+    if (poll82599_rx_queue_reclaim(&rx, &packets, &count) == 1)
+        back += count;
+    if (poll82599_tx_queue_reclaim(&tx, &packets, &count) == 1)
+        back += count;
+    return untaken + unsent;
+}
+
+static size_t drive(void)
+{
+    unsigned tries = 0;
+    while (poll82599_rx_queue_enable(&rx) != 1)
+        wait(&tries);
+    while (poll82599_tx_queue_enable(&tx) != 1)
+        wait(&tries);
+    for (uint64_t posted = 0; posted < frames;) {
+        size_t more = forward();
+        posted += more;
+        if (!more)
+            wait(&tries);
+    }
+    return stop();
+}
+
+int main(int count, char **words)
+{
+    struct timespec begun, ended;
+    pthread_t offering, turning;
+    uint32_t by_head = 0;
+    void *wrong;
+    if (count > 1)
+        frames = strtoull(words[1], 0, 10);
+    if (count > 2)
+        bytes = strtoull(words[2], 0, 10);
+    if (count > 3)
+        by_head = (uint32_t)strtoul(words[3], 0, 10);
+    if (bytes < POLL82599_LEAST_FRAME || bytes > POLL82599_MOST_FRAME)
+        return 2;
+    if (poll82599_rx_queue_new(128, BATCH, POLL82599_BUFFER_BYTES, 0, &rx, &rx_device) || poll82599_tx_queue_new(128, BATCH, by_head, &tx, &tx_device) ||
+        poll82599_packets_new(BUFFERS, &packets))
+        return 1;
+    clock_gettime(CLOCK_MONOTONIC, &begun);
+    pthread_create(&offering, 0, offer, 0);
+    pthread_create(&turning, 0, turn, 0);
+    size_t left = drive();
+    pthread_join(offering, 0);
+    pthread_join(turning, &wrong);
+    clock_gettime(CLOCK_MONOTONIC, &ended);
+    struct poll82599_offered counts = poll82599_rx_device_counts(&rx_device);
+    printf("%llu frames of %zu bytes, %llu wrong\n", (unsigned long long)counts.stored, bytes, (unsigned long long)(uintptr_t)wrong);
+    printf("segments left: %zu, buffers back from the rings: %zu\n", left, back);
+    printf("closed: %lld, %lld and %zu\n", (long long)poll82599_rx_queue_close(&rx, &rx_device), (long long)poll82599_tx_queue_close(&tx, &tx_device), poll82599_packets_close(&packets));
+    double took = (double)(ended.tv_sec - begun.tv_sec) * 1e9 + (double)(ended.tv_nsec - begun.tv_nsec);
+    fprintf(stderr, "%.0f ns a frame\n", frames ? took / (double)frames : 0);
+    return wrong != 0;
+}
