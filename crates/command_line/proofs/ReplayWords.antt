@@ -8,6 +8,7 @@ use Rattle.clap.proofs.OnLiterals.{clap_on_literals}
 use Rattle.ring_model.specs.declared.states.Completion.{Completion}
 use Rattle.ring_model.specs.declared.states.Completion.TheVariants.{Head, Status}
 use Rattle.commands.specs.declared.replay.QueuePlan.{QueuePlan}
+use Rattle.commands.specs.declared.replay.Shown.{Shown}
 use Rattle.command_line.specs.CommandLine.{Choices, HasReplay, IsProgram, SaysReplay, program_app}
 use Rattle.command_line.specs.OptionWords.{completion_of, is_head}
 use Rattle.command_line.proofs.Options.{Given, words_of}
@@ -26,7 +27,8 @@ options words plan says =
     ∷ number (codes "pairs") 4294967295 (codes "1" ∷ []) (said_of _ _ _ _ _ says.says_pairs)
     ∷ flag (codes "off") (not plan.enabled)
     ∷ flag (codes "head") (is_head plan.completion)
-    ∷ flag (codes "json") plan.json
+    ∷ flag (codes "json") plan.shown.json
+    ∷ flag (codes "registers") plan.shown.registers
     ∷ []
 
 is_command : (rings formats : Choices) → IsCommand rings formats (codes "replay") shape
@@ -47,12 +49,13 @@ unfolding digits
 is_pairs words plan says = is_said (codes "pairs") 4294967295 1 (codes "1") says.pairs plan.pairs (omega arith) (omega arith) refl says.says_pairs
 
 are_lawful : (words : List Text) (plan : QueuePlan) (says : SaysReplay words plan) → AreLawful (options words plan says)
-are_lawful words plan says = ((is_ring words plan says).lawful, ((is_pairs words plan says).lawful, (tt, (tt, (tt, tt)))))
+are_lawful words plan says = ((is_ring words plan says).lawful, ((is_pairs words plan says).lawful, (tt, (tt, (tt, (tt, tt))))))
 
 words_are : (words : List Text) (plan : QueuePlan) (says : SaysReplay words plan) → words ≡ codes "replay" ∷ all_words (options words plan says)
 words_are words plan says =
     let flags : List Text = words_of (flag (codes "off") (not plan.enabled))
-    ++ (words_of (flag (codes "head") (is_head plan.completion)) ++ words_of (flag (codes "json") plan.json)) in
+    ++ (words_of (flag (codes "head") (is_head plan.completion))
+    ++ (words_of (flag (codes "json") plan.shown.json) ++ words_of (flag (codes "registers") plan.shown.registers))) in
     says.words_are
     ∙ ap₂ (λ (a b : List Text). codes "replay" ∷ (a ++ (b ++ flags))) (is_ring words plan says).words_are (is_pairs words plan says).words_are
 
@@ -77,6 +80,7 @@ replay_found app words plan program says =
         off = found.2 2 none (omega arith);
         head = found.2 3 none (omega arith);
         json = found.2 4 none (omega arith);
+        registers = found.2 5 none (omega arith);
         ring_fits = ring.fits;
         pairs_fits = pairs.fits;
       },
@@ -91,7 +95,10 @@ pub completion_is : (c : Completion) → completion_of (is_head c) ≡ c
 completion_is Head = refl
 completion_is Status = refl
 
-pub plan_is : (plan : QueuePlan) (n k : ℕ) (b : Bool) (c : Completion) (j : Bool) → k ≡ plan.pairs → n ≡ plan.ring → b ≡ plan.enabled → c ≡ plan.completion → j ≡ plan.json
-    → ◌≡◌ {A = QueuePlan} (record { pairs = k; ring = n; enabled = b; completion = c; json = j }) plan
-plan_is plan n k b c j pairs_are ring_is enabled_is completion_is json_is =
-    rw (pairs_are, ring_is, enabled_is, completion_is, json_is) refl
+pub shown_is : (shown : Shown) (j r : Bool) → j ≡ shown.json → r ≡ shown.registers → ◌≡◌ {A = Shown} (record { json = j; registers = r }) shown
+shown_is shown j r json_is registers_is = rw (json_is, registers_is) refl
+
+pub plan_is : (plan : QueuePlan) (n k : ℕ) (b : Bool) (c : Completion) (s : Shown) → k ≡ plan.pairs → n ≡ plan.ring → b ≡ plan.enabled → c ≡ plan.completion → s ≡ plan.shown
+    → ◌≡◌ {A = QueuePlan} (record { pairs = k; ring = n; enabled = b; completion = c; shown = s }) plan
+plan_is plan n k b c s pairs_are ring_is enabled_is completion_is shown_are =
+    rw (pairs_are, ring_is, enabled_is, completion_is, shown_are) refl

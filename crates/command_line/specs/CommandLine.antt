@@ -55,7 +55,8 @@ abbrev pub replay_app : App
 replay_app =
     let with_ring = with_rule (new_app (codes "replay")) (number_rule (codes "ring") (codes "8")) in
     let with_pairs = with_rule with_ring (number_rule (codes "pairs") (codes "1")) in
-    with_rule (with_rule (with_rule with_pairs (flag_rule (codes "off"))) (flag_rule (codes "head"))) (flag_rule (codes "json"))
+    let with_head = with_rule (with_rule with_pairs (flag_rule (codes "off"))) (flag_rule (codes "head")) in
+    with_rule (with_rule with_head (flag_rule (codes "json"))) (flag_rule (codes "registers"))
 
 -- the options of `forward` for queues and buffers
 abbrev pub with_queue_rules : App → App
@@ -117,7 +118,7 @@ pub record SaysDecode (words : List Text) (form : Form) (digits : Text) : Type 0
   pub no_option : slice_index digits 0 ≢ 45
 
 -- the words are `replay` and its options in this order: `--off` stands where the queues begin disabled, `--head` where
--- they report by a head word, and `--json` where objects are printed
+-- they report by a head word, `--json` where objects are printed, and `--registers` where registers are shown
 pub record SaysReplay (words : List Text) (plan : QueuePlan) : Type 0 where
   pub ring : List Text
   pub pairs : List Text
@@ -125,7 +126,8 @@ pub record SaysReplay (words : List Text) (plan : QueuePlan) : Type 0 where
   pub says_pairs : SaysNumber (codes "--pairs") 1 pairs plan.pairs
   pub words_are : words ≡ codes "replay" ∷ (ring ++ (pairs
       ++ (flag_words (codes "--off") (not plan.enabled)
-      ++ (flag_words (codes "--head") (is_head plan.completion) ++ flag_words (codes "--json") plan.json))))
+      ++ (flag_words (codes "--head") (is_head plan.completion)
+      ++ (flag_words (codes "--json") plan.shown.json ++ flag_words (codes "--registers") plan.shown.registers)))))
 
 -- the words are `forward` and its options in this order: `--drop` stands where frames are dropped, `--no-retry` where
 -- packets are, `--head` where the transmit queues report by a head word, `--quiet` where no wire is printed, `--json`
@@ -170,7 +172,8 @@ pub record HasReplay (rows : List Row) (plan : QueuePlan) : Type 0 where
   pub pairs : one_of (codes "pairs") rows ≡ Some (decimal plan.pairs)
   pub off : one_of (codes "off") rows ≡ Some (bool_text (not plan.enabled))
   pub head : one_of (codes "head") rows ≡ Some (bool_text (is_head plan.completion))
-  pub json : one_of (codes "json") rows ≡ Some (bool_text plan.json)
+  pub json : one_of (codes "json") rows ≡ Some (bool_text plan.shown.json)
+  pub registers : one_of (codes "registers") rows ≡ Some (bool_text plan.shown.registers)
   pub ring_fits : plan.ring < 2 ^ 32
   pub pairs_fits : plan.pairs < 2 ^ 32
 

@@ -33,7 +33,7 @@ use crate::lists::{lists_in, schedules};
 use capture_command::CaptureRequest;
 use clap::error::ErrorKind;
 use clap::{ArgMatches, Command, Error};
-use commands::{Form, QueuePlan, Request};
+use commands::{Form, QueuePlan, Request, Shown};
 use cover_command::CoverRequest;
 use forward_command::Printing;
 use forwarder::Config;
@@ -198,14 +198,17 @@ fn replay_in<'a>(replay: &ArgMatches<'a>) -> Option<Request<'a>>
     let pairs = replay.get_one("pairs")?;
     let enabled = !replay.get_flag("off");
     let completion = completion_in(replay);
-    let json = replay.get_flag("json");
+    let shown = Shown {
+        json: replay.get_flag("json"),
+        registers: replay.get_flag("registers"),
+    };
     Some(Request::Replay {
         plan: QueuePlan {
             pairs,
             ring,
             enabled,
             completion,
-            json,
+            shown,
         },
     })
 }
@@ -357,6 +360,11 @@ fn replay<'a>(alloc: Global) -> Result<Command<'a>, AllocError>
         "json",
         "Prints what each move tells as a JSON object",
     );
+    let registers = flag(
+        alloc,
+        "registers",
+        "Prints after each move what head, tail and ENABLE of its queue hold",
+    );
     Command::new(alloc, "replay")
         .about("Makes the moves of standard input on queues, and prints what each of them tells")
         .after_help(REPLAY_EXAMPLE)
@@ -364,7 +372,8 @@ fn replay<'a>(alloc: Global) -> Result<Command<'a>, AllocError>
         .arg(pairs)?
         .arg(off)?
         .arg(head)?
-        .arg(json)
+        .arg(json)?
+        .arg(registers)
 }
 
 /// The command `forward`.

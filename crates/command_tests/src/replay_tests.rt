@@ -1,6 +1,7 @@
 //! The command `replay`, row after row.
 
 use crate::object_rows::OBJECTS;
+use crate::register_rows::REGISTERS;
 use crate::replay_rows::{ENDS, MIDDLE, ROWS};
 use crate::told::{comes_to, times};
 use program_kit::outcome_of;
@@ -115,6 +116,14 @@ fn lists_of_moves_are_answered(rt: HostRuntime) -> Result<(), Fail> {
 #[test]
 fn objects_tell_what_lines_tell(rt: HostRuntime) -> Result<(), Fail> {
     for row in OBJECTS {
+        comes_to(&rt, rt.alloc(), row.words, row.input, (0, row.output, ""))?;
+    }
+    Ok(())
+}
+
+#[test]
+fn registers_are_shown_after_each_move(rt: HostRuntime) -> Result<(), Fail> {
+    for row in REGISTERS {
         comes_to(&rt, rt.alloc(), row.words, row.input, (0, row.output, ""))?;
     }
     Ok(())

@@ -1,6 +1,6 @@
 //! Streams that fail, and want of memory.
 
-use commands::{QueuePlan, Request, perform};
+use commands::{NOTES, QueuePlan, Request, perform};
 use program_kit::{Broken, Narrow, Screen, Unflushed, refusal_of, status_of};
 use ring_machine::Completion;
 use std::alloc::Global;
@@ -108,7 +108,7 @@ fn want_of_memory(rt: HostRuntime) -> Result<(), Fail> {
         ring: 8,
         enabled: true,
         completion: Completion::Status,
-        json: false,
+        shown: NOTES,
     };
     let mut input = "r0 A1 5\nt0 B2\n".as_bytes();
     let mut output = Narrow::new(rt.alloc(), 100);

@@ -3,7 +3,7 @@ ghost use Rattle.std.specs.Prelude.{◌≡◌, ◌++◌, IfErr, IfOk, OnOk};
 ghost use Rattle.std.specs.String.{string_bytes};
 ghost use Rattle.cover_command.specs.Covers.{IsText, NotPrinted, list_text, move_lines, queues_of};
 
-use commands::{QueuePlan, Refusal, replay_text};
+use commands::{NOTES, QueuePlan, Refusal, replay_text};
 use coverage::{CoverList, Scope};
 use ring_machine::Move;
 use std::alloc::{AllocError, Global};
@@ -17,7 +17,7 @@ fn queues_of(scope: Scope) -> QueuePlan
         ring: 8,
         enabled: scope.device_only,
         completion: scope.side.completion(),
-        json: false,
+        shown: NOTES,
     }
 }
 

@@ -6,6 +6,7 @@ use Rattle.commands.specs.Refusals.{refusal_number, refused_line}
 use Rattle.commands.specs.Replay.{HasPage, RefusesReplay}
 use Rattle.commands.specs.declared.refusal.Refusal.{Refusal}
 use Rattle.commands.specs.declared.replay.QueuePlan.{QueuePlan}
+use Rattle.commands.specs.declared.replay.TheConstants.{NOTES}
 use Rattle.opaque.specs.Words.{is_set}
 use Rattle.plain_c.specs.declared.moves.Poll82599Plan.{Poll82599Plan}
 
@@ -14,7 +15,7 @@ completion_of true = Head
 completion_of false = Status
 
 abbrev pub plan_of : Poll82599Plan → QueuePlan
-plan_of p = record { pairs = p.pairs; ring = p.descriptors; enabled = is_set p.enabled; completion = completion_of (is_set p.by_head); json = is_set p.json }
+plan_of p = record { pairs = p.pairs; ring = p.descriptors; enabled = is_set p.enabled; completion = completion_of (is_set p.by_head); shown = record NOTES { json = is_set p.json } }
 
 -- what the moves print has so many bytes
 pub record Prints (plan : QueuePlan) (text : List ℕ) (needed : ℕ) : Type 0 where

@@ -3,7 +3,7 @@ ghost use Rattle.std.specs.Prelude.{◌≡◌, ◌≢◌, length};
 ghost use Rattle.commands.specs.Refusals.{refused_line};
 ghost use Rattle.plain_c.specs.Moves.{IsRefused, Printed, TooSmall, line_of, plan_of};
 
-use commands::{QueuePlan, Refusal, replay_text};
+use commands::{NOTES, QueuePlan, Refusal, Shown, replay_text};
 use opaque::{is_set, overwrite};
 use ring_machine::Completion;
 use std::alloc::Global;
@@ -77,7 +77,10 @@ fn plan_read(plan: &Poll82599Plan) -> QueuePlan
         ring: plan.descriptors,
         enabled: is_set(plan.enabled),
         completion,
-        json: is_set(plan.json),
+        shown: Shown {
+            json: is_set(plan.json),
+            ..NOTES
+        },
     }
 }
 

@@ -10,13 +10,14 @@ use Rattle.commands.specs.declared.answering.TheConstants.{DONE, REFUSED}
 use Rattle.commands.specs.declared.refusal.Refusal.{Refusal}
 use Rattle.commands.specs.declared.refusal.Refusal.TheVariants as refusal
 use Rattle.commands.specs.declared.replay.QueuePlan.{QueuePlan}
+use Rattle.commands.specs.declared.replay.TheConstants.{NOTES}
 use Rattle.schedules.specs.Drawing.{IsDrawn}
 use Rattle.schedules.specs.declared.drawing.Drawn.{Drawn}
 use Rattle.schedule_command.specs.declared.request.ScheduleRequest.{ScheduleRequest}
 
 -- the queues that the lists are drawn for, as `replay` makes them
 abbrev pub queues_of : ScheduleRequest → QueuePlan
-queues_of r = record { pairs = r.plan.pairs; ring = r.plan.ring; enabled = r.plan.enabled; completion = r.plan.completion; json = false }
+queues_of r = record { pairs = r.plan.pairs; ring = r.plan.ring; enabled = r.plan.enabled; completion = r.plan.completion; shown = NOTES }
 
 -- each move on a line of its own
 abbrev pub move_lines : List Drawn → List ℕ

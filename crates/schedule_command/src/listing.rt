@@ -5,7 +5,7 @@ ghost use Rattle.ring_machine.specs.Queues.{AreQueues};
 ghost use Rattle.schedule_command.specs.Lists.{IsPrinted, NotPrinted, list_text, move_lines, queues_of};
 
 use crate::request::ScheduleRequest;
-use commands::{QueuePlan, Refusal, replay_text};
+use commands::{NOTES, QueuePlan, Refusal, replay_text};
 use schedules::{Drawn, draw};
 use std::alloc::{AllocError, Global};
 
@@ -18,7 +18,7 @@ fn queues_of(request: &ScheduleRequest) -> QueuePlan
         ring: request.plan.ring,
         enabled: request.plan.enabled,
         completion: request.plan.completion,
-        json: false,
+        shown: NOTES,
     }
 }
 

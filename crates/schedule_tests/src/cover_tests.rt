@@ -1,7 +1,7 @@
 //! What is printed of lists that together meet all that a queue can do.
 
 use crate::narrow::Narrow;
-use commands::{QueuePlan, replay_text};
+use commands::{NOTES, QueuePlan, replay_text};
 use cover_command::{CoverRequest, answer};
 use ring_machine::Completion;
 use std::str;
@@ -20,7 +20,7 @@ const QUEUES: QueuePlan = QueuePlan {
     ring: 8,
     enabled: true,
     completion: Completion::Status,
-    json: false,
+    shown: NOTES,
 };
 
 /// How its output begins and ends.

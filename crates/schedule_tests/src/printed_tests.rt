@@ -1,7 +1,7 @@
 //! What is printed of lists.
 
 use crate::narrow::Narrow;
-use commands::{QueuePlan, replay_text};
+use commands::{NOTES, QueuePlan, replay_text};
 use ring_machine::Completion;
 use schedule_command::{ScheduleRequest, answer};
 use schedules::SchedulePlan;
@@ -34,7 +34,7 @@ const QUEUES: QueuePlan = QueuePlan {
     ring: 8,
     enabled: true,
     completion: Completion::Status,
-    json: false,
+    shown: NOTES,
 };
 
 /// What is printed, for a request that is done.

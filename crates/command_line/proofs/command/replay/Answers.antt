@@ -11,7 +11,8 @@ returns-clause-app c =
     let with_pairs = c.in_ok-arg-2.ensures.shape c.number-pairs.ensures.local ∙ ap₂ with_rule with_ring c.number-pairs.ensures.rule in
     let with_off = c.in_ok-arg-3.ensures.shape c.flag-off.ensures.local ∙ ap₂ with_rule with_pairs c.flag-off.ensures.rule in
     let with_head = c.in_ok-arg-4.ensures.shape c.flag-head.ensures.local ∙ ap₂ with_rule with_off c.flag-head.ensures.rule in
-    IfOk-weaker c.arg-5.result _ _ (λ r adds. adds.shape c.flag-json.ensures.local ∙ ap₂ with_rule with_head c.flag-json.ensures.rule) c.arg-5.ensures
+    let with_json = c.in_ok-arg-5.ensures.shape c.flag-json.ensures.local ∙ ap₂ with_rule with_head c.flag-json.ensures.rule in
+    IfOk-weaker c.arg-6.result _ _ (λ r adds. adds.shape c.flag-registers.ensures.local ∙ ap₂ with_rule with_json c.flag-registers.ensures.rule) c.arg-6.ensures
 
 pub returns-clause-local : goal.returns-clause-local
 returns-clause-local c =
@@ -20,4 +21,5 @@ returns-clause-local c =
     let with_pairs = c.in_ok-arg-2.ensures.globals ∙ ap₂ (λ x y. x || y) with_ring c.number-pairs.ensures.local in
     let with_off = c.in_ok-arg-3.ensures.globals ∙ ap₂ (λ x y. x || y) with_pairs c.flag-off.ensures.local in
     let with_head = c.in_ok-arg-4.ensures.globals ∙ ap₂ (λ x y. x || y) with_off c.flag-head.ensures.local in
-    IfOk-weaker c.arg-5.result _ _ (λ r adds. adds.globals ∙ ap₂ (λ x y. x || y) with_head c.flag-json.ensures.local) c.arg-5.ensures
+    let with_json = c.in_ok-arg-5.ensures.globals ∙ ap₂ (λ x y. x || y) with_head c.flag-json.ensures.local in
+    IfOk-weaker c.arg-6.result _ _ (λ r adds. adds.globals ∙ ap₂ (λ x y. x || y) with_json c.flag-registers.ensures.local) c.arg-6.ensures

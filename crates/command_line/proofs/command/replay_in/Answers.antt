@@ -3,7 +3,7 @@ use Rattle.std.specs.Prelude.{decimal, not}
 use Rattle.clap.specs.Words.{found_of}
 use Rattle.command_line.specs.OptionWords.{is_head}
 use Rattle.command_line.proofs.CommandLine.{reads_flag, reads_number, text_is}
-use Rattle.command_line.proofs.ReplayWords.{begins_as, completion_is, plan_is}
+use Rattle.command_line.proofs.ReplayWords.{begins_as, completion_is, plan_is, shown_is}
 use Rattle.command_line.proofs.command.replay_in.Goals as goal
 
 pub returns-in_err-ring : goal.returns-in_err-ring
@@ -27,8 +27,10 @@ returns c plan has =
     (text_is found (codes "off") _ has.off) in
     let completion : c.completion_in-completion.result ≡ plan.completion =
     c.completion_in-completion.ensures (is_head plan.completion) has.head ∙ completion_is plan.completion in
-    let json = reads_flag plan.json c.get_flag-json.result _ c.get_flag-json.ensures.value c.get_flag-json.ensures.other (text_is found (codes "json") _ has.json) in
-    plan_is plan c.in_ok-ring.ring c.in_ok-pairs.pairs (not c.get_flag-enabled.result) c.completion_in-completion.result c.get_flag-json.result
+    let json = reads_flag plan.shown.json c.get_flag.result _ c.get_flag.ensures.value c.get_flag.ensures.other (text_is found (codes "json") _ has.json) in
+    let registers = reads_flag plan.shown.registers c.get_flag-2.result _ c.get_flag-2.ensures.value c.get_flag-2.ensures.other
+    (text_is found (codes "registers") _ has.registers) in
+    plan_is plan c.in_ok-ring.ring c.in_ok-pairs.pairs (not c.get_flag-enabled.result) c.completion_in-completion.result (record { json = c.get_flag.result; registers = c.get_flag-2.result })
     (ap (λ (o : Option ℕ). unwrap_or o c.in_ok-pairs.pairs) pairs)
     (ap (λ (o : Option ℕ). unwrap_or o c.in_ok-ring.ring) ring)
-    (begins_as plan.enabled c.get_flag-enabled.result off) completion json
+    (begins_as plan.enabled c.get_flag-enabled.result off) completion (shown_is plan.shown c.get_flag.result c.get_flag-2.result json registers)
