@@ -1,0 +1,20 @@
+-- Each place is written behind those before it.
+use Rattle.std.proofs.Common.{◌≡◌, ℕ, suc, ◌+◌, ◌++◌, List, ap, ◌∙◌, arith, append_assoc}
+use Rattle.std.specs.String.{string_bytes}
+use Rattle.pictures.specs.declared.sight.Sight.{Sight}
+use Rattle.pictures.specs.Pictures.{heading, place_text, places_text}
+use Rattle.pictures.proofs.picture.write_picture.Goals as goal
+
+places-one_more : (s : Sight) (place : ℕ) → places_text s place ++ place_text s place ≡ places_text s (place + 1)
+places-one_more s place = let next : suc place ≡ place + 1 = omega arith in ap (places_text s) next
+
+pub loop-place-preserved : goal.loop-place-preserved
+loop-place-preserved c =
+    let s = c.args.sight.now in let l = c.loop-place in let before = string_bytes c.push_str.new.self in
+    c.in_ok-write_place.ensures ∙ (ap (λ (bytes : List ℕ). bytes ++ place_text s l.place) l.invariant ∙ (append_assoc before (places_text s l.place) (place_text s l.place) ∙ ap (λ (bytes : List ℕ). before ++ bytes) (places-one_more s l.place)))
+
+pub returns : goal.returns
+returns c =
+    let s = c.args.sight.now in let l = c.loop-place in let old = string_bytes c.args.text.now in
+    let all : l.place ≡ s.size = omega arith in
+    l.invariant ∙ (ap (λ (bytes : List ℕ). bytes ++ places_text s l.place) c.in_ok-push_str.ensures.bytes ∙ (append_assoc old heading (places_text s l.place) ∙ ap (λ (count : ℕ). old ++ (heading ++ places_text s count)) all))
