@@ -36,7 +36,7 @@ module _ {X : Type 0} where
   stored_is (z ∷ zs) (suc q) x y e = stored_is zs q x y e
 
   -- within the list something is found
-  found-within : (xs : List X) (q : ℕ) → q < length xs → slice_get xs q ≢ None
+  pub found-within : (xs : List X) (q : ℕ) → q < length xs → slice_get xs q ≢ None
   found-within [] q h e = absurd (omega arith)
   found-within (x ∷ xs) zero h e = none-some x (sym e)
   found-within (x ∷ xs) (suc q) h e = found-within xs q (omega arith) e

@@ -11,13 +11,15 @@ mod error;
 mod machine;
 mod moves;
 mod queues;
+mod registers;
 
 pub use error::MachineError;
 pub use limits::is_ring_length;
-pub use machine::{RxMachine, TxMachine};
+pub use machine::{QueueMachine, RxMachine, TxMachine};
 pub use moves::arguments::{SegmentDescriptor, SegmentLength};
 pub use moves::{Move, MoveName, QueueNumber};
 pub use queues::Queues;
+pub use registers::{Registers, Side};
 pub use ring_model::{
     Completion, ControlStep, ControllerState, DriverState, FetchedSegment, Note, Owner, RxStep,
     TakenSegment, TxStep,

@@ -5,5 +5,6 @@ mod receive;
 mod transmit;
 mod words;
 
+pub use queue::QueueMachine;
 pub use receive::RxMachine;
 pub use transmit::TxMachine;

@@ -11,12 +11,14 @@ ghost use Rattle.ring_model.specs.transmit.Ring.{tx_opening};
 ghost use Rattle.ring_machine.specs.receive.Machine.{RxAgrees};
 ghost use Rattle.ring_machine.specs.transmit.Machine.{TxAgrees};
 ghost use Rattle.ring_machine.specs.Queues.{AllAgree, AreQueues, QueuesAgree, QueuesFollow, QueuesRun};
+ghost use Rattle.ring_machine.specs.Registers.{QueuesRead};
 
 use crate::counting::count_of;
 use crate::error::MachineError;
 use crate::machine::{RxMachine, TxMachine};
 use crate::moves::arguments::{SegmentDescriptor, SegmentLength};
 use crate::moves::{Move, QueueNumber};
+use crate::registers::{Registers, Side};
 use limits::{MOST_PAIRS, is_ring_length};
 use ring_model::{Completion, Note, RxStep, TxStep};
 use std::alloc::Global;
@@ -118,6 +120,23 @@ impl Queues {
         ensures { option_map (λ m. m.now) result ≡ slice_get self.now.receive queue }
     {
         self.receive.get(usize::from(queue.number()))
+    }
+
+    /// What the registers of the queue that a move names hold now, if the queue is there.
+    #[tactic(auto, using(crate::proofs::Reading::read_at))]
+    pub fn registers(&self, action: &Move) -> Option<Registers>
+        ensures { QueuesRead self.now action.now result }
+    {
+        match *action {
+            Move::Receive(queue, _) => {
+                let machine = self.receive(queue)?;
+                Some(machine.queue().registers(Side::Receive))
+            }
+            Move::Transmit(queue, _) => {
+                let machine = self.transmit(queue)?;
+                Some(machine.queue().registers(Side::Transmit))
+            }
+        }
     }
 
     /// The transmit queue of this number, if it is there.

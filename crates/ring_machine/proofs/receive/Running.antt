@@ -15,7 +15,7 @@ use Rattle.ring_machine.specs.declared.error.MachineError.{MachineError}
 use Rattle.ring_machine.specs.declared.error.MachineError.TheVariants as refusal
 use Rattle.ring_machine.specs.shared.Following.{count_of}
 use Rattle.ring_machine.specs.code.Sound.{IsSound}
-use Rattle.ring_machine.specs.code.Shared.{told_owner}
+use Rattle.ring_machine.specs.shared.Machine.{told_owner}
 use Rattle.ring_machine.specs.receive.Machine.{RxAgrees, RxFollows, RxOwns, RxParts, RxRuns, lies_rx, says_rx}
 use Rattle.ring_machine.specs.code.Receive.{rx_begun, rx_may, rx_moved, rx_told}
 use Rattle.ring_machine.proofs.shared.Running.{did-made, did-refused, runs-append, runs-nil, runs-none, runs-one}

@@ -11,7 +11,7 @@ use Rattle.ring_model.specs.shared.Agreement.{Agrees, Wrapped}
 use Rattle.ring_laws.specs.Places.{ahead}
 use Rattle.ring_model.specs.kept.Queues.{IsKept}
 use Rattle.ring_laws.specs.Queues.{held_below, returned_served}
-use Rattle.ring_machine.specs.code.Shared.{told_owner}
+use Rattle.ring_machine.specs.shared.Machine.{told_owner}
 use Rattle.ring_machine.proofs.shared.PlaceTests.{and_same}
 use Rattle.ring_machine.proofs.shared.Telling.{AreNamed, held_serve_is, held_told, not_not}
 

@@ -15,8 +15,9 @@ use Rattle.ring_laws.specs.Rings.{tx_kept}
 use Rattle.ring_machine.specs.shared.Following.{count_of}
 use Rattle.ring_machine.specs.declared.error.MachineError.{MachineError}
 use Rattle.ring_machine.specs.declared.error.MachineError.TheVariants as refusal
-use Rattle.ring_machine.specs.code.Shared.{told_owner}
+use Rattle.ring_machine.specs.shared.Machine.{told_owner}
 use Rattle.ring_machine.specs.transmit.Machine.{TxAgrees, TxFollows, TxOwns, TxParts, TxRuns, lies_tx, says_tx}
+use Rattle.ring_machine.specs.code.Sound.{IsSound}
 use Rattle.ring_machine.specs.code.TxSound.{IsTxSound, StepFits}
 use Rattle.ring_machine.specs.code.Transmit.{tx_begun, tx_may, tx_moved, tx_told}
 use Rattle.ring_machine.proofs.shared.Running.{did-made, did-refused, runs-append, runs-nil, runs-none, runs-one}
@@ -65,18 +66,18 @@ pub tx_reached-size : (n : ℕ) (r : TxRing ℕ) → IsTxReachable ℕ n r → r
 tx_reached-size n r e = kept-reached tx_can tx_changed (λ (q : TxRing ℕ). q.size ≡ n) (λ q s same may. changed-size q s ∙ same) (tx_opening n) (λ b. refl) r e
 
 -- a ring that a schedule gave and that a machine agrees with is kept
-tx_meets : (p : TxParts) (n : ℕ) (r : TxRing ℕ) → IsTxSound p → IsTxReachable ℕ n r → TxAgrees p r → IsTxKept ℕ r.size r
-tx_meets p n r sound e a = let q = a.queue in let same = tx_reached-size n r e in let s = sound.queue in let some = s.some_places in let size = q.size_is in
+pub tx_meets : (p : TxParts) (n : ℕ) (r : TxRing ℕ) → IsSound p.queue → IsTxReachable ℕ n r → TxAgrees p r → IsTxKept ℕ r.size r
+tx_meets p n r sound e a = let q = a.queue in let same = tx_reached-size n r e in let some = sound.some_places in let size = q.size_is in
     subst (λ (m : ℕ). IsTxKept ℕ m r) (sym same) (tx_kept n r (omega arith) e)
 
 pub tx_moves-on : (p : TxParts) (s : TxStep (Posting ℕ)) → IsTxSound p → StepFits s → tx_may p s ≡ true → TxFollows p s (tx_told p s) (tx_moved p s)
 unfolding TxFollows
-tx_moves-on p s sound short may n r e a = let k = tx_meets p n r sound e a in let happens : tx_can r s ≡ true = sym (tx_may_is p r k a s) ∙ may in
+tx_moves-on p s sound short may n r e a = let k = tx_meets p n r sound.queue e a in let happens : tx_can r s ≡ true = sym (tx_may_is p r k a s) ∙ may in
     rw (tx_told_is p r k a s happens) (did-made TxAgrees (IsTxReachable ℕ) tx_can tx_changed tx_note_of p (tx_moved p s) r s happens (tx_fits-moved p r k a sound s short happens))
 
 pub tx_refuses : (p : TxParts) (s : TxStep (Posting ℕ)) → IsTxSound p → tx_may p s ≡ false → TxFollows p s (Err refusal.NotEnabled) p
 unfolding TxFollows
-tx_refuses p s sound may n r e a = let k = tx_meets p n r sound e a in did-refused TxAgrees (IsTxReachable ℕ) tx_can tx_changed tx_note_of p r s (sym (tx_may_is p r k a s) ∙ may) a
+tx_refuses p s sound may n r e a = let k = tx_meets p n r sound.queue e a in did-refused TxAgrees (IsTxReachable ℕ) tx_can tx_changed tx_note_of p r s (sym (tx_may_is p r k a s) ∙ may) a
 
 -- a machine as it is made agrees with the opening ring
 pub tx_begun-agrees : (n : ℕ) (b : TxBeginning) → 0 < n → TxAgrees (tx_begun n b) (tx_opening n b)
@@ -112,6 +113,6 @@ pub tx_runs-append : (a b c : TxParts) (ss more : List (TxStep (Posting ℕ))) (
 unfolding TxRuns
 tx_runs-append a b c ss more x y f g = runs-append TxAgrees (IsTxReachable ℕ) tx_can tx_changed tx_note_of (λ n r ss e. reached-more tx_can tx_changed (tx_opening n) r ss e) a b c ss more x y f g
 
-pub tx_owns : (p : TxParts) (place : ℕ) → IsTxSound p → place < p.queue.size → TxOwns p place (told_owner p.queue place)
+pub tx_owns : (p : TxParts) (place : ℕ) → IsSound p.queue → place < p.queue.size → TxOwns p place (told_owner p.queue place)
 unfolding TxOwns
 tx_owns p place sound below n r e a = let k = tx_meets p n r sound e a in owns ends_posting (says_tx (is_told r)) lies_tx number_of_posting p.queue r.queue k.queue a.queue (named p r k a) place below

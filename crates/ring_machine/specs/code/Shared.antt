@@ -1,13 +1,11 @@
 -- What a queue's machine computes of each step that both directions share, over its places and words.
-use Rattle.std.specs.Prelude.{ℕ, nat_lt, replicate, Bool, true, not, ◌&&◌, ◌==◌, List, Option, Some, None, Result, Ok, Err, is_none, slice_set, if◌then◌else◌}
+use Rattle.std.specs.Prelude.{ℕ, replicate, Bool, true, not, ◌&&◌, ◌==◌, List, Option, Some, None, Result, Ok, Err, is_none, slice_set, if◌then◌else◌}
 use Rattle.ring_model.specs.declared.states.DriverState.TheVariants.{New, Cleared, Tailed}
-use Rattle.ring_model.specs.declared.states.Owner.{Owner}
-use Rattle.ring_model.specs.declared.states.Owner.TheVariants.{Driver, Ring, Controller}
 use Rattle.ring_model.specs.declared.steps.ControlStep.{ControlStep}
 use Rattle.ring_model.specs.declared.notes.Note.{Note}
 use Rattle.ring_model.specs.shared.Handshakes.{is_open, is_serving, first_handshake, enables, shaken}
 use Rattle.ring_model.specs.shared.Agreement.{Wrapped}
-use Rattle.ring_model.specs.shared.Places.{place_next, between_places}
+use Rattle.ring_model.specs.shared.Places.{place_next}
 use Rattle.ring_machine.specs.declared.error.MachineError.{MachineError}
 use Rattle.ring_machine.specs.declared.error.MachineError.TheVariants as refusal
 
@@ -78,11 +76,6 @@ after_clear_tail w = record w { tail = 0; handshake = record w.handshake { drive
 
 abbrev pub after_renew : Wrapped ℕ → Wrapped ℕ
 after_renew w = record w { fill = 0; next = 0; handshake = record w.handshake { driver = New } }
-
--- who has a place, told from the places that lie between the next to take out and the next to post
-abbrev pub told_owner : Wrapped ℕ → ℕ → Owner
-told_owner w place = if not (is_none w.held) && (place == w.serve) then Controller else
-    (if nat_lt (between_places w.size w.next place) (between_places w.size w.next w.fill) then Ring else Driver)
 
 -- a machine as it is made
 abbrev pub begun : ℕ → Bool → Wrapped ℕ

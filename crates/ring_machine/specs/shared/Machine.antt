@@ -1,6 +1,9 @@
 -- What every machine's places, words and slots are.
-use Rattle.std.specs.Prelude.{ℕ}
+use Rattle.std.specs.Prelude.{ℕ, nat_lt, not, ◌&&◌, ◌==◌, is_none, if◌then◌else◌}
+use Rattle.ring_model.specs.declared.states.Owner.{Owner}
+use Rattle.ring_model.specs.declared.states.Owner.TheVariants.{Driver, Ring, Controller}
 use Rattle.ring_model.specs.shared.Agreement.{Wrapped}
+use Rattle.ring_model.specs.shared.Places.{between_places}
 use Rattle.ring_machine.specs.declared.machine.queue.QueueMachine.TheInside.{Inside}
 
 -- a buffer is its number
@@ -19,3 +22,8 @@ wrapped_of m = record {
   whole = m.whole;
   handshake = m.handshake;
 }
+
+-- who has a place, told from the places that lie between the next to take out and the next to post
+abbrev pub told_owner : Wrapped ℕ → ℕ → Owner
+told_owner w place = if not (is_none w.held) && (place == w.serve) then Controller else
+    (if nat_lt (between_places w.size w.next place) (between_places w.size w.next w.fill) then Ring else Driver)

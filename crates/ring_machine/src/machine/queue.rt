@@ -8,10 +8,13 @@ ghost use Rattle.ring_model.specs.shared.Handshakes.{control_value, enables};
 ghost use Rattle.ring_model.specs.shared.Lists.{slot_at};
 ghost use Rattle.ring_machine.specs.declared.error.MachineError.TheVariants.{Memory, RingLength};
 ghost use Rattle.ring_machine.specs.code.Sound.{IsSound};
+ghost use Rattle.ring_machine.specs.Registers.{registers_held};
+ghost use Rattle.ring_machine.specs.shared.Machine.{told_owner};
 ghost use Rattle.ring_model.specs.shared.Places.{between_places};
-ghost use Rattle.ring_machine.specs.code.Shared.{after_clear_head, after_clear_tail, after_fetch, after_head, after_look, after_out, after_post, after_publish, after_renew, after_serve, after_shake, are_all_back, begun, can_fetch, can_post, is_idle, looks_settled, told_owner, word_put};
+ghost use Rattle.ring_machine.specs.code.Shared.{after_clear_head, after_clear_tail, after_fetch, after_head, after_look, after_out, after_post, after_publish, after_renew, after_serve, after_shake, are_all_back, begun, can_fetch, can_post, is_idle, looks_settled, word_put};
 
 use crate::error::MachineError;
+use crate::registers::{Registers, Side};
 use limits::is_ring_length;
 use ring_model::{ControlStep, DriverState, Handshake, Owner, place_after, places_between};
 use std::alloc::Global;
@@ -20,7 +23,7 @@ use std::marker::Model;
 /// What a receive and a transmit queue's machine share. It has no lists of what was posted, served and given back: they
 /// are the ring's that it agrees with.
 #[derive(Drop)]
-pub(crate) struct QueueMachine {
+pub struct QueueMachine {
     size: u16,
     words: Vec<u64>,
     head: u16,
@@ -51,7 +54,7 @@ impl Model for QueueMachine {
 // What the queue is.
 impl QueueMachine {
     /// How many places it has.
-    pub(crate) fn size(&self) -> u16
+    pub fn size(&self) -> u16
         ensures value { result ≡ self.now.size }
         ensures sound { IsSound self.now }
     {
@@ -59,7 +62,7 @@ impl QueueMachine {
     }
 
     /// How far the two sides are with enabling and disabling it.
-    pub(crate) fn handshake(&self) -> Handshake
+    pub fn handshake(&self) -> Handshake
         ensures value { result ≡ self.now.handshake }
         ensures sound { IsSound self.now }
     {
@@ -67,7 +70,7 @@ impl QueueMachine {
     }
 
     /// The next place to post.
-    pub(crate) fn fill(&self) -> u16
+    pub fn fill(&self) -> u16
         ensures value { result ≡ self.now.fill }
         ensures below { result < self.now.size }
     {
@@ -75,7 +78,7 @@ impl QueueMachine {
     }
 
     /// The next place to take out.
-    pub(crate) fn next(&self) -> u16
+    pub fn next(&self) -> u16
         ensures value { result ≡ self.now.next }
         ensures below { result < self.now.size }
     {
@@ -83,11 +86,30 @@ impl QueueMachine {
     }
 
     /// The controller's next place to fetch.
-    pub(crate) fn serve_place(&self) -> u16
+    pub fn serve_place(&self) -> u16
         ensures value { result ≡ self.now.serve }
         ensures below { result < self.now.size }
     {
         self.serve
+    }
+
+    /// The tail that the controller loaded last.
+    pub fn known(&self) -> u16
+        ensures { result ≡ self.now.known }
+    {
+        self.known
+    }
+
+    /// What its registers hold, as those of a queue of this side.
+    pub fn registers(&self, side: Side) -> Registers
+        ensures { result ≡ registers_held side self.now }
+    {
+        Registers {
+            side,
+            head: self.head,
+            tail: self.tail,
+            enable: self.handshake.controller.is_serving(),
+        }
     }
 
     /// Whether the last that was served ends a frame, or nothing was served.
@@ -105,7 +127,7 @@ impl QueueMachine {
     }
 
     /// The word at a place.
-    pub(crate) fn word(&self, place: u16) -> u64
+    pub fn word(&self, place: u16) -> u64
         requires { place < self.now.size }
         ensures { result ≡ slice_index self.now.words place }
     {
@@ -162,8 +184,8 @@ impl QueueMachine {
         matches!(step, ControlStep::Answer) && self.handshake.can_enable()
     }
 
-    /// Who has this place.
-    pub(crate) fn owner(&self, place: u16) -> Owner
+    /// Who has this place, as its places tell.
+    pub fn owner(&self, place: u16) -> Owner
         requires { place < self.now.size }
         ensures told { result ≡ told_owner self.now place }
         ensures sound { IsSound self.now }
@@ -179,8 +201,8 @@ impl QueueMachine {
         }
     }
 
-    // What lies in the slot at a place.
-    fn slot(&self, place: u16) -> Option<u16>
+    /// The number of the buffer in the slot at a place, if one lies there.
+    pub fn slot(&self, place: u16) -> Option<u16>
         requires { place < self.now.size }
         ensures { result ≡ slot_at self.now.slots place }
     {

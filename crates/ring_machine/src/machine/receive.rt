@@ -7,7 +7,6 @@ ghost use Rattle.ring_model.specs.receive.Agreement.{rx_word};
 ghost use Rattle.ring_model.specs.receive.Ring.{rx_opening};
 ghost use Rattle.ring_machine.specs.declared.error.MachineError.TheVariants.{Memory, NotEnabled, RingLength};
 ghost use Rattle.ring_machine.specs.code.Sound.{IsSound};
-ghost use Rattle.ring_machine.specs.code.Shared.{told_owner};
 ghost use Rattle.ring_machine.specs.receive.Machine.{RxAgrees, RxFollows, RxOwns, RxRuns};
 ghost use Rattle.ring_machine.specs.code.Receive.{has_dd, has_eop, rx_begun, rx_may, rx_moved, rx_told};
 
@@ -192,6 +191,13 @@ impl RxMachine {
             RxStep::ClearTail => Ok(self.clear_tail()),
             RxStep::ClearQuiet => Ok(self.renew()),
         }
+    }
+
+    /// Its words, slots and places, as both directions have them.
+    pub fn queue(&self) -> &QueueMachine
+        ensures { result.now ≡ self.now.queue }
+    {
+        &self.queue
     }
 
     /// Who has this place, which is below the size.

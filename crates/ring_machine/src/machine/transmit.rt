@@ -6,7 +6,6 @@ ghost use Rattle.ring_model.specs.declared.states.Completion.TheVariants as by;
 ghost use Rattle.ring_model.specs.declared.steps.TxStep.TheVariants as step;
 ghost use Rattle.ring_model.specs.transmit.Ring.{tx_opening};
 ghost use Rattle.ring_machine.specs.declared.error.MachineError.TheVariants.{Memory, NotEnabled, RingLength};
-ghost use Rattle.ring_machine.specs.code.Shared.{told_owner};
 ghost use Rattle.ring_machine.specs.transmit.Machine.{TxAgrees, TxFollows, TxOwns, TxRuns};
 ghost use Rattle.ring_machine.specs.code.TxSound.{IsTxSound, StepFits};
 ghost use Rattle.ring_machine.specs.code.Transmit.{is_made, oldest_place, tx_after_renew, tx_may, tx_moved, tx_told};
@@ -103,6 +102,13 @@ impl TxMachine {
             TxStep::ClearTail => handshake.driver.is_cleared(),
             TxStep::ClearReport => self.completion.is_by_head() && handshake.driver.is_tailed(),
         }
+    }
+
+    /// Its words, slots and places, as both directions have them.
+    pub fn queue(&self) -> &QueueMachine
+        ensures { result.now ≡ self.now.queue }
+    {
+        &self.queue
     }
 
     /// Who has this place, which is below the size.

@@ -6,4 +6,4 @@ use Rattle.ring_machine.proofs.machine.transmit.TxMachine.owner.Goals as goal
 
 pub returns : goal.returns
 returns c = subst (λ (p : TxParts). TxOwns p c.args.place c.owner.result) c.self.view_is
-    (rw c.owner.ensures.told (tx_owns (tx_parts_of c.self.inside) c.args.place c.self.invariant (subst (λ (p : TxParts). c.args.place < p.queue.size) (sym c.self.view_is) c.requires)))
+    (rw c.owner.ensures.told (tx_owns (tx_parts_of c.self.inside) c.args.place c.self.invariant.queue (subst (λ (p : TxParts). c.args.place < p.queue.size) (sym c.self.view_is) c.requires)))
