@@ -1,10 +1,12 @@
 //! What is written of one place.
-ghost use Rattle.std.specs.Prelude.{◌≡◌, ◌++◌, ◌<◌, true, false, OnOk, Some};
+ghost use Rattle.std.specs.Prelude.{◌≡◌, ◌++◌, ◌<◌, OnOk, Some};
 ghost use Rattle.std.specs.String.{string_bytes};
-ghost use Rattle.pictures.specs.Pictures.{IsSight, columns, flag_words, item_of, line, mark, marks, number_or_dash, owner_word, says_done, says_eop, says_rs, word_words};
+ghost use Rattle.ring_machine.specs.declared.registers.Side.TheVariants.{Receive, Transmit};
+ghost use Rattle.ring_machine.specs.Registers.{registers_held};
+ghost use Rattle.pictures.specs.Pictures.{age_at, columns, flag_words, item_of, line, mark, marks, number_or_dash, owner_word, says_done, says_eop, says_rs, word_words};
 
-use crate::sight::Sight;
-use ring_model::Owner;
+use ring_machine::{QueueMachine, Registers, Side};
+use ring_model::{Owner, places_between};
 use std::alloc::AllocError;
 use std::fmt;
 
@@ -59,14 +61,14 @@ fn flag_words(done: bool, eop: bool, rs: bool) -> &'static str
 
 // DD, EOP and RS of a receive descriptor's word.
 fn receive_words(word: u64) -> &'static str
-    ensures { result.now ≡ flag_words (says_done false word) (says_eop false word) (says_rs false word) }
+    ensures { result.now ≡ flag_words (says_done Receive word) (says_eop Receive word) (says_rs Receive word) }
 {
     flag_words(word % 2 == 1, word / 2 % 2 == 1, false)
 }
 
 // DD, EOP and RS of a transmit descriptor's word.
 fn transmit_words(word: u64) -> &'static str
-    ensures { result.now ≡ flag_words (says_done true word) (says_eop true word) (says_rs true word) }
+    ensures { result.now ≡ flag_words (says_done Transmit word) (says_eop Transmit word) (says_rs Transmit word) }
 {
     flag_words(
         word / 0x1_0000_0000 % 2 == 1,
@@ -75,32 +77,38 @@ fn transmit_words(word: u64) -> &'static str
     )
 }
 
-fn word_words(transmits: bool, owner: Owner, word: u64) -> &'static str
-    ensures { result.now ≡ word_words transmits owner word }
+fn word_words(side: Side, owner: Owner, word: u64) -> &'static str
+    ensures { result.now ≡ word_words side owner word }
 {
-    match owner {
-        Owner::Driver => "any",
-        Owner::Ring | Owner::Controller => {
-            if transmits {
-                transmit_words(word)
-            } else {
-                receive_words(word)
-            }
-        }
+    match (owner, side) {
+        (Owner::Driver, _) => "any",
+        (_, Side::Receive) => receive_words(word),
+        (_, Side::Transmit) => transmit_words(word),
     }
 }
 
-// Writes a place's columns.
-fn write_columns(text: &mut String, sight: &Sight, place: u16) -> Result<(), AllocError>
-    requires sight { IsSight sight.now }
-    requires inside { place < sight.now.size }
-    ensures { OnOk result (string_bytes text.new ≡ string_bytes text.old ++ columns sight.now place) }
+// How many places lie from the oldest that is out up to this one.
+fn age_of(machine: &QueueMachine, place: u16) -> u16
+    requires { place < machine.now.size }
+    ensures { result ≡ age_at machine.now place }
 {
-    let at = usize::from(place);
-    let owner = sight.owner(place);
-    let item = OrDash(item_of(owner, sight.age(place)));
-    let word = word_words(sight.transmits, owner, sight.words[at]);
-    let buffer = OrDash(sight.slots[at]);
+    places_between(machine.next(), place, machine.size())
+}
+
+// Writes a place's columns.
+fn write_columns(
+    text: &mut String,
+    side: Side,
+    machine: &QueueMachine,
+    place: u16,
+) -> Result<(), AllocError>
+    requires { place < machine.now.size }
+    ensures { OnOk result (string_bytes text.new ≡ string_bytes text.old ++ columns side machine.now place) }
+{
+    let owner = machine.owner(place);
+    let item = OrDash(item_of(owner, age_of(machine, place)));
+    let word = word_words(side, owner, machine.word(place));
+    let buffer = OrDash(machine.slot(place));
     let owner = owner_word(owner);
     write!(text, "{place}\t{item}\t{owner}\t{word}\t{buffer}")
 }
@@ -117,24 +125,29 @@ fn write_mark(text: &mut String, at: u16, place: u16, name: &str) -> Result<(), 
 }
 
 // Writes what stands at a place.
-fn write_marks(text: &mut String, sight: &Sight, place: u16) -> Result<(), AllocError>
-    ensures { OnOk result (string_bytes text.new ≡ string_bytes text.old ++ marks sight.now place) }
+fn write_marks(text: &mut String, machine: &QueueMachine, place: u16) -> Result<(), AllocError>
+    ensures { OnOk result (string_bytes text.new ≡ string_bytes text.old ++ marks machine.now place) }
 {
-    write_mark(text, sight.head, place, "head")?;
-    write_mark(text, sight.tail, place, "tail")?;
-    write_mark(text, sight.fill, place, "fill")?;
-    write_mark(text, sight.next, place, "next")?;
-    write_mark(text, sight.serve, place, "use")?;
-    write_mark(text, sight.known, place, "known")
+    let Registers { head, tail, .. } = machine.registers(Side::Receive);
+    write_mark(text, head, place, "head")?;
+    write_mark(text, tail, place, "tail")?;
+    write_mark(text, machine.fill(), place, "fill")?;
+    write_mark(text, machine.next(), place, "next")?;
+    write_mark(text, machine.serve_place(), place, "use")?;
+    write_mark(text, machine.known(), place, "known")
 }
 
 /// Writes a place's line.
-pub(crate) fn write_line(text: &mut String, sight: &Sight, place: u16) -> Result<(), AllocError>
-    requires sight { IsSight sight.now }
-    requires inside { place < sight.now.size }
-    ensures { OnOk result (string_bytes text.new ≡ string_bytes text.old ++ line sight.now place) }
+pub(crate) fn write_line(
+    text: &mut String,
+    side: Side,
+    machine: &QueueMachine,
+    place: u16,
+) -> Result<(), AllocError>
+    requires { place < machine.now.size }
+    ensures { OnOk result (string_bytes text.new ≡ string_bytes text.old ++ line side machine.now place) }
 {
-    write_columns(text, sight, place)?;
-    write_marks(text, sight, place)?;
+    write_columns(text, side, machine, place)?;
+    write_marks(text, machine, place)?;
     text.push('\n')
 }
