@@ -19,12 +19,14 @@ use Rattle.ring_laws.specs.Schedules.{reached-opening}
 use Rattle.ring_laws.specs.Worlds.{reached_world}
 use Rattle.ring_machine.specs.shared.Following.{Did}
 use Rattle.ring_machine.specs.Queues.{AreQueues, QueueParts, QueuesAgree, queue_move}
+use Rattle.ring_machine.specs.declared.registers.Registers.{Registers}
 use Rattle.ring_machine.specs.text.Moves.{IsInRange, name_of, text_of}
 use Rattle.ring_machine.proofs.QueuesRunning.{did-made, did-refused}
 use Rattle.ring_machine.proofs.shared.Running.{joined}
 use Rattle.text_lines.specs.Parts.{lines_of, says_something}
 use Rattle.commands.specs.declared.replay.QueuePlan.{QueuePlan}
-use Rattle.commands.specs.Replay.{after_it, count_line, line_in, lines_in, told_line, world_of, HasPage, IsFaulty, IsMoveList, IsNoMove, IsPageOf, IsReplay, Reads, Says, WroteMove}
+use Rattle.commands.specs.declared.replay.Shown.{Shown}
+use Rattle.commands.specs.Replay.{after_it, count_line, line_in, lines_in, shown_registers, told_line, world_of, HasPage, IsFaulty, IsMoveList, IsNoMove, IsPageOf, IsReplay, Reads, Says, WroteMove}
 
 -- what reading a line answers, in words of lists
 pub read-line : (line : List ℕ) (result : Result Move MachineError) → ((m : Move) → (result ≡ Ok m) ↔ (IsInRange m × (line ≡ text_of m))) → is_ok result ≡ true → Reads line
@@ -59,19 +61,19 @@ says-more before line ms m e range text s = record {
     one_of h = rw h refl
 
 -- a move that was made: its line has its note
-pub wrote-made : (json : Bool) (w : World) (m : Move) (t : Note) (old new : List ℕ) (before later : QueueParts) → Did QueuesAgree (note_in w (queue_move m)) (after_it w m) (Ok t) before later
-    → new ≡ old ++ told_line json m (Some t) → WroteMove json w m true old new later
-wrote-made json w m t old new before later d e = let made = did-made w (queue_move m) t (after_it w m) before later d in record {
-  text = e ∙ ap (λ (told : Option Note). old ++ told_line json m told) (sym made.0);
+pub wrote-made : (shown : Shown) (w : World) (m : Move) (t : Note) (old new : List ℕ) (before later : QueueParts) → Did QueuesAgree (note_in w (queue_move m)) (after_it w m) (Ok t) before later
+    → (read : Option Registers) → ((w : World) → QueuesAgree later w → read ≡ shown_registers shown w m) → new ≡ old ++ told_line shown.json m (Some t) read → WroteMove shown w m true old new later
+wrote-made shown w m t old new before later d read shows e = let made = did-made w (queue_move m) t (after_it w m) before later d in record {
+  text = e ∙ ap₂ (λ (told : Option Note) (r : Option Registers). old ++ told_line shown.json m told r) (sym made.0) (shows (after_it w m) d.agrees);
   agrees = d.agrees;
   counted = sym made.1;
 }
 
 -- a move that was refused: its line says so
-pub wrote-refused : (json : Bool) (w : World) (m : Move) (why : MachineError) (old new : List ℕ) (before later : QueueParts) → Did QueuesAgree (note_in w (queue_move m)) (after_it w m) (Err why) before later
-    → new ≡ old ++ told_line json m None → WroteMove json w m false old new later
-wrote-refused json w m why old new before later d e = let refused = did-refused w (queue_move m) why (after_it w m) before later d in record {
-  text = e ∙ ap (λ (told : Option Note). old ++ told_line json m told) (sym refused.0);
+pub wrote-refused : (shown : Shown) (w : World) (m : Move) (why : MachineError) (old new : List ℕ) (before later : QueueParts) → Did QueuesAgree (note_in w (queue_move m)) (after_it w m) (Err why) before later
+    → (read : Option Registers) → ((w : World) → QueuesAgree later w → read ≡ shown_registers shown w m) → new ≡ old ++ told_line shown.json m None read → WroteMove shown w m false old new later
+wrote-refused shown w m why old new before later d read shows e = let refused = did-refused w (queue_move m) why (after_it w m) before later d in record {
+  text = e ∙ ap₂ (λ (told : Option Note) (r : Option Registers). old ++ told_line shown.json m told r) (sym refused.0) (shows (after_it w m) d.agrees);
   agrees = d.agrees;
   counted = sym refused.1;
 }
@@ -139,24 +141,24 @@ good-faulty text number line later none g = record {
 }
 
 -- so many moves are written, and these lines are left
-pub record Followed (json : Bool) (w : World) (moves : List Move) (page : List ℕ) (made : ℕ) (now : QueueParts) : Type 0 where
-  pub text : page ≡ lines_in json w moves
+pub record Followed (shown : Shown) (w : World) (moves : List Move) (page : List ℕ) (made : ℕ) (now : QueueParts) : Type 0 where
+  pub text : page ≡ lines_in shown w moves
   pub agrees : QueuesAgree now (after_moves w (map queue_move moves))
   pub counted : made ≡ moves_happened w (map queue_move moves)
 
-pub record PageSoFar (json : Bool) (text page : List ℕ) (made read : ℕ) (rest : List (List ℕ)) (first now : QueueParts) : Type 0 where
+pub record PageSoFar (shown : Shown) (text page : List ℕ) (made read : ℕ) (rest : List (List ℕ)) (first now : QueueParts) : Type 0 where
   pub before : List (List ℕ)
   pub split : before ++ rest ≡ lines_of text
   pub moves : List Move
   pub says : Says before moves
   pub count : read ≡ length moves
-  pub follows : (pairs n : ℕ) (w : World) → IsReachableWorld pairs n w → QueuesAgree first w → Followed json w moves page made now
+  pub follows : (pairs n : ℕ) (w : World) → IsReachableWorld pairs n w → QueuesAgree first w → Followed shown w moves page made now
 
-pub page-first : (json : Bool) (text page : List ℕ) (queues : QueueParts) → page ≡ [] → PageSoFar json text page 0 0 (lines_of text) queues queues
-page-first json text page queues e = record { before = []; split = refl; moves = []; says = says-none; count = refl; follows = λ pairs n w reached agrees. record { text = e; agrees = agrees; counted = refl } }
+pub page-first : (shown : Shown) (text page : List ℕ) (queues : QueueParts) → page ≡ [] → PageSoFar shown text page 0 0 (lines_of text) queues queues
+page-first shown text page queues e = record { before = []; split = refl; moves = []; says = says-none; count = refl; follows = λ pairs n w reached agrees. record { text = e; agrees = agrees; counted = refl } }
 
-pub page-skipped : (json : Bool) (text page : List ℕ) (made read : ℕ) (line : List ℕ) (later : List (List ℕ)) (first now : QueueParts) → says_something line ≡ false → PageSoFar json text page made read (line ∷ later) first now → PageSoFar json text page made read later first now
-page-skipped json text page made read line later first now e p = record {
+pub page-skipped : (shown : Shown) (text page : List ℕ) (made read : ℕ) (line : List ℕ) (later : List (List ℕ)) (first now : QueueParts) → says_something line ≡ false → PageSoFar shown text page made read (line ∷ later) first now → PageSoFar shown text page made read later first now
+page-skipped shown text page made read line later first now e p = record {
   before = p.before ++ line ∷ [];
   split = one-on p.before later (lines_of text) line p.split;
   moves = p.moves;
@@ -165,9 +167,9 @@ page-skipped json text page made read line later first now e p = record {
   follows = p.follows;
 }
 
-lines_in-more : (json : Bool) (w : World) (ms : List Move) (m : Move) → lines_in json w (ms ++ m ∷ []) ≡ lines_in json w ms ++ line_in json (after_moves w (map queue_move ms)) m
-lines_in-more json w [] m = append-nil (line_in json w m)
-lines_in-more json w (x ∷ ms) m = ap (λ (t : List ℕ). line_in json w x ++ t) (lines_in-more json (after_it w x) ms m) ∙ sym (append_assoc (line_in json w x) (lines_in json (after_it w x) ms) (line_in json (after_moves (after_it w x) (map queue_move ms)) m))
+lines_in-more : (shown : Shown) (w : World) (ms : List Move) (m : Move) → lines_in shown w (ms ++ m ∷ []) ≡ lines_in shown w ms ++ line_in shown (after_moves w (map queue_move ms)) m
+lines_in-more shown w [] m = append-nil (line_in shown w m)
+lines_in-more shown w (x ∷ ms) m = ap (λ (t : List ℕ). line_in shown w x ++ t) (lines_in-more shown (after_it w x) ms m) ∙ sym (append_assoc (line_in shown w x) (lines_in shown (after_it w x) ms) (line_in shown (after_moves (after_it w x) (map queue_move ms)) m))
 
 one_happened : (b : Bool) → (if b then suc 0 else 0) ≡ from_bool b
 one_happened true = refl
@@ -177,10 +179,10 @@ pub one-at_most : (b : Bool) (n : ℕ) → n ≡ from_bool b → n ≤ 1
 one-at_most true n e = omega (arith, e)
 one-at_most false n e = omega (arith, e)
 
-pub page-more : (json : Bool) (text page later_page : List ℕ) (made added read : ℕ) (more : Bool) (line : List ℕ) (later : List (List ℕ)) (first now after : QueueParts) (m : Move) → says_something line ≡ true → IsInRange m → line ≡ text_of m
-    → ((pairs n : ℕ) (w : World) → IsReachableWorld pairs n w → QueuesAgree now w → WroteMove json w m more page later_page after)
-    → added ≡ from_bool more → PageSoFar json text page made read (line ∷ later) first now → PageSoFar json text later_page (made + added) (read + 1) later first after
-page-more json text page later_page made added read more line later first now after m e range is wrote adds p = record {
+pub page-more : (shown : Shown) (text page later_page : List ℕ) (made added read : ℕ) (more : Bool) (line : List ℕ) (later : List (List ℕ)) (first now after : QueueParts) (m : Move) → says_something line ≡ true → IsInRange m → line ≡ text_of m
+    → ((pairs n : ℕ) (w : World) → IsReachableWorld pairs n w → QueuesAgree now w → WroteMove shown w m more page later_page after)
+    → added ≡ from_bool more → PageSoFar shown text page made read (line ∷ later) first now → PageSoFar shown text later_page (made + added) (read + 1) later first after
+page-more shown text page later_page made added read more line later first now after m e range is wrote adds p = record {
   before = p.before ++ line ∷ [];
   split = one-on p.before later (lines_of text) line p.split;
   moves = p.moves ++ m ∷ [];
@@ -189,7 +191,7 @@ page-more json text page later_page made added read more line later first now af
   follows = λ pairs n w reached agrees. let f = p.follows pairs n w reached agrees in let here = after_moves w (map queue_move p.moves) in let one = wrote pairs n here (reached_world pairs n w (map queue_move p.moves) reached) f.agrees in
       let both = joined can_move after_move QueuesAgree after w (map queue_move p.moves) (queue_move m ∷ []) made added f.counted (one.agrees, adds ∙ (ap from_bool one.counted ∙ sym (one_happened (can_move here (queue_move m))))) in
       let whole : map queue_move (p.moves ++ m ∷ []) ≡ map queue_move p.moves ++ queue_move m ∷ [] = map-append queue_move p.moves (m ∷ []) in record {
-        text = one.text ∙ ap (λ (t : List ℕ). t ++ line_in json here m) f.text ∙ sym (lines_in-more json w p.moves m);
+        text = one.text ∙ ap (λ (t : List ℕ). t ++ line_in shown here m) f.text ∙ sym (lines_in-more shown w p.moves m);
         agrees = subst (λ (ms : List QueueMove). QueuesAgree after (after_moves w ms)) (sym whole) both.0;
         counted = subst (λ (ms : List QueueMove). made + added ≡ moves_happened w ms) (sym whole) both.1;
       };
@@ -226,15 +228,15 @@ pub faulty-unsaid : (lines : List (List ℕ)) (k : ℕ) (ms : List Move) → IsF
 faulty-unsaid lines k ms f s = unsaid f.before f.later f.line ms f.no_move s.in_range (ap (filter says_something) f.split ∙ s.texts)
 
 -- so a line of a list of moves that is to be read is read
-pub read-said : (json : Bool) (text page : List ℕ) (made read : ℕ) (line : List ℕ) (later : List (List ℕ)) (first now : QueueParts) → IsMoveList text → IsNoMove line → PageSoFar json text page made read (line ∷ later) first now → ⊥
-read-said json text page made read line later first now (ms, says) none p = unsaid p.before later line ms none says.in_range (ap (filter says_something) p.split ∙ says.texts)
+pub read-said : (shown : Shown) (text page : List ℕ) (made read : ℕ) (line : List ℕ) (later : List (List ℕ)) (first now : QueueParts) → IsMoveList text → IsNoMove line → PageSoFar shown text page made read (line ∷ later) first now → ⊥
+read-said shown text page made read line later first now (ms, says) none p = unsaid p.before later line ms none says.in_range (ap (filter says_something) p.split ∙ says.texts)
 
 -- when no line is left, the page lacks the count alone
-pub page-last : (json : Bool) (w : World) (pairs n : ℕ) (text page whole : List ℕ) (made read : ℕ) (first now : QueueParts) → IsReachableWorld pairs n w → QueuesAgree first w → whole ≡ page ++ count_line json made read → PageSoFar json text page made read [] first now → IsPageOf json w text whole
-page-last json w pairs n text page whole made read first now reached agrees e p = let f = p.follows pairs n w reached agrees in record {
+pub page-last : (shown : Shown) (w : World) (pairs n : ℕ) (text page whole : List ℕ) (made read : ℕ) (first now : QueueParts) → IsReachableWorld pairs n w → QueuesAgree first w → whole ≡ page ++ count_line shown.json made read → PageSoFar shown text page made read [] first now → IsPageOf shown w text whole
+page-last shown w pairs n text page whole made read first now reached agrees e p = let f = p.follows pairs n w reached agrees in record {
   moves = p.moves;
   says = subst (λ (lines : List (List ℕ)). Says lines p.moves) (sym (append-nil p.before) ∙ p.split) p.says;
-  printed = e ∙ ap₂ (λ (x y : List ℕ). x ++ y) f.text (ap₂ (λ (x y : ℕ). count_line json x y) f.counted p.count);
+  printed = e ∙ ap₂ (λ (x y : List ℕ). x ++ y) f.text (ap₂ (λ (x y : ℕ). count_line shown.json x y) f.counted p.count);
 }
 
 stable-le : (a b : ℕ) → ((a ≤ b → ⊥) → ⊥) → a ≤ b
@@ -257,7 +259,7 @@ opening-reached pairs n b = reached-opening can_move after_move (opening_world p
 
 -- the page is that of the plan's queues as they are made
 pub has-page : (plan : QueuePlan) (text page : List ℕ) (queues : QueueParts) → ((AreQueues plan.pairs plan.ring → ⊥) → ⊥) → QueuesAgree queues (world_of plan)
-    → ((pairs n : ℕ) (w : World) → IsReachableWorld pairs n w → QueuesAgree queues w → IsPageOf plan.json w text page) → HasPage plan text page
+    → ((pairs n : ℕ) (w : World) → IsReachableWorld pairs n w → QueuesAgree queues w → IsPageOf plan.shown w text page) → HasPage plan text page
 has-page plan text page queues able agrees is_page = let p = is_page plan.pairs plan.ring (world_of plan) (opening-reached plan.pairs plan.ring (record { enabled = plan.enabled; completion = plan.completion })) agrees in record {
   moves = p.moves;
   replay = record { says = p.says; queues = are-queues plan.pairs plan.ring able };

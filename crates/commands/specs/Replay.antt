@@ -1,5 +1,5 @@
 -- What `replay` reads and prints: a list of moves, one a line, and what each of them tells.
-use Rattle.std.specs.Prelude.{◌≡◌, ◌≢◌, ◌⊎◌, ℕ, ◌+◌, Bool, true, false, List, [], ◌∷◌, ◌++◌, codes, decimal, length, map, Option, Some, None, IfSome, All}
+use Rattle.std.specs.Prelude.{◌≡◌, ◌≢◌, ◌⊎◌, ℕ, ◌+◌, Bool, true, false, List, [], ◌∷◌, ◌++◌, codes, decimal, length, map, Option, Some, None, IfSome, All, if◌then◌else◌}
 use Rattle.std.specs.List.{filter}
 use Rattle.std.specs.Io.KnownBytes.{Appends, Keeps}
 use Rattle.text_lines.specs.Parts.{lines_of, says_something}
@@ -11,8 +11,15 @@ use Rattle.note_objects.specs.NoteMembers.{note_members}
 use Rattle.ring_model.specs.NoteTexts.{note_text}
 use Rattle.ring_model.specs.Worlds.{World, opening_world, after_move, can_move, moves_happened, note_in}
 use Rattle.ring_machine.specs.Queues.{AreQueues, QueueParts, QueuesAgree, queue_move}
+use Rattle.ring_machine.specs.Registers.{registers_in}
+use Rattle.ring_machine.specs.declared.registers.Registers.{Registers}
+use Rattle.ring_machine.specs.declared.registers.Side.{Side}
+use Rattle.ring_machine.specs.declared.registers.Side.TheVariants as side
 use Rattle.ring_machine.specs.text.Moves.{IsInRange, name_of, text_of}
+use Rattle.ring_machine.specs.text.RegisterTexts.{registers_text}
+use Rattle.ring_model.specs.shared.Agreement.{bit}
 use Rattle.commands.specs.declared.replay.QueuePlan.{QueuePlan}
+use Rattle.commands.specs.declared.replay.Shown.{Shown}
 use Rattle.commands.specs.declared.answering.TheConstants.{DONE, REFUSED}
 use Rattle.commands.specs.declared.refusal.Refusal.{Refusal}
 use Rattle.commands.specs.declared.refusal.Refusal.TheVariants as refusal
@@ -58,31 +65,62 @@ abbrev pub told_members : Option Note → List ℕ
 told_members None = codes "false"
 told_members (Some note) = codes "true" ++ note_members note
 
--- what is printed of a move, its queue and kind and what it tells: a line of words, or an object
-abbrev pub told_line : Bool → Move → Option Note → List ℕ
-told_line false m told = name_of m ++ (codes " " ++ (told_text told ++ 10 ∷ []))
-told_line true m told = codes "{\"move\":\"" ++ (name_of m ++ (codes "\",\"made\":" ++ (told_members told ++ codes "}\n")))
+-- what is shown of the registers of a move's queue, if there is such a queue
+abbrev pub shown_registers : Shown → World → Move → Option Registers
+shown_registers shown w m = if shown.registers then registers_in w (queue_move m) else None
 
-abbrev pub line_in : Bool → World → Move → List ℕ
-line_in json w m = told_line json m (note_in w (queue_move m))
+abbrev pub registers_line : Option Registers → List ℕ
+registers_line None = []
+registers_line (Some r) = registers_text r ++ 10 ∷ []
 
-abbrev pub lines_in : Bool → World → List Move → List ℕ
-lines_in json w [] = []
-lines_in json w (m ∷ ms) = line_in json w m ++ lines_in json (after_it w m) ms
+-- the members of an object that say the same
+abbrev pub members_by : Side → ℕ → ℕ → Bool → List ℕ
+members_by side.Receive head tail enable = codes ",\"RDH\":" ++ (decimal head ++ (codes ",\"RDT\":" ++ (decimal tail ++ (codes ",\"RXDCTL.ENABLE\":" ++ decimal (bit enable)))))
+members_by side.Transmit head tail enable = codes ",\"TDH\":" ++ (decimal head ++ (codes ",\"TDT\":" ++ (decimal tail ++ (codes ",\"TXDCTL.ENABLE\":" ++ decimal (bit enable)))))
+
+abbrev pub members_of : Registers → List ℕ
+members_of r = members_by r.side r.head r.tail r.enable
+
+abbrev pub register_members : Option Registers → List ℕ
+register_members None = []
+register_members (Some r) = members_of r
+
+-- a move's queue and kind and what it tells
+abbrev pub words_line : Move → Option Note → List ℕ
+words_line m told = name_of m ++ (codes " " ++ (told_text told ++ 10 ∷ []))
+
+abbrev pub note_object : Move → Option Note → List ℕ
+note_object m told = codes "{\"move\":\"" ++ (name_of m ++ (codes "\",\"made\":" ++ told_members told))
+
+abbrev pub object_line : Move → Option Note → Option Registers → List ℕ
+object_line m told read = note_object m told ++ (register_members read ++ codes "}\n")
+
+-- what is printed of a move: lines of words, or an object
+abbrev pub told_line : Bool → Move → Option Note → Option Registers → List ℕ
+told_line false m told read = words_line m told ++ registers_line read
+told_line true m told read = object_line m told read
+
+-- the registers are shown as they are after the move
+abbrev pub line_in : Shown → World → Move → List ℕ
+line_in shown w m = told_line shown.json m (note_in w (queue_move m)) (shown_registers shown (after_it w m) m)
+
+abbrev pub lines_in : Shown → World → List Move → List ℕ
+lines_in shown w [] = []
+lines_in shown w (m ∷ ms) = line_in shown w m ++ lines_in shown (after_it w m) ms
 
 abbrev pub count_line : Bool → ℕ → ℕ → List ℕ
 count_line false made read = codes "moves " ++ (decimal made ++ (codes " of " ++ (decimal read ++ 10 ∷ [])))
 count_line true made read = codes "{\"made\":" ++ (decimal made ++ (codes ",\"read\":" ++ (decimal read ++ codes "}\n")))
 
--- one line or object a move, and at last how many of them happened
-abbrev pub replayed : Bool → World → List Move → List ℕ
-replayed json w ms = lines_in json w ms ++ count_line json (moves_happened w (map queue_move ms)) (length ms)
+-- what is printed of each move, and at last how many of them happened
+abbrev pub replayed : Shown → World → List Move → List ℕ
+replayed shown w ms = lines_in shown w ms ++ count_line shown.json (moves_happened w (map queue_move ms)) (length ms)
 
 -- the page is what the text's moves print
-pub record IsPageOf (json : Bool) (w : World) (text page : List ℕ) : Type 0 where
+pub record IsPageOf (shown : Shown) (w : World) (text page : List ℕ) : Type 0 where
   pub moves : List Move
   pub says : Says (lines_of text) moves
-  pub printed : page ≡ replayed json w moves
+  pub printed : page ≡ replayed shown w moves
 
 -- the queues of the plan, as they are made
 abbrev pub world_of : QueuePlan → World
@@ -97,13 +135,13 @@ pub record IsReplay (plan : QueuePlan) (text : List ℕ) (moves : List Move) : T
 pub record HasPage (plan : QueuePlan) (text page : List ℕ) : Type 0 where
   pub moves : List Move
   pub replay : IsReplay plan text moves
-  pub printed : page ≡ replayed plan.json (world_of plan) moves
+  pub printed : page ≡ replayed plan.shown (world_of plan) moves
 
 -- all moves were answered
 pub record HasReplayed (plan : QueuePlan) (text : List ℕ) (old new : Option (List ℕ)) : Type 0 where
   pub moves : List Move
   pub replay : IsReplay plan text moves
-  pub printed : Appends old new (replayed plan.json (world_of plan) moves)
+  pub printed : Appends old new (replayed plan.shown (world_of plan) moves)
 
 -- why a text that was read is refused, the first that applies: a faulty line comes before queues that there can't be, and
 -- both before want of memory
@@ -131,8 +169,8 @@ pub record EndsReplay (plan : QueuePlan) (text : List ℕ) (status : ℕ) (old n
   pub faulty : (k : ℕ) → IsFaulty (lines_of text) k → (status ≡ REFUSED) × Keeps old new
   pub no_queues : ¬ (AreQueues plan.pairs plan.ring) → (status ≡ REFUSED) × Keeps old new
 
--- one move's line was written, and the queues are those of the world after it
-pub record WroteMove (json : Bool) (w : World) (m : Move) (made : Bool) (old new : List ℕ) (queues : QueueParts) : Type 0 where
-  pub text : new ≡ old ++ line_in json w m
+-- what is printed of one move was written, and the queues are those of the world after it
+pub record WroteMove (shown : Shown) (w : World) (m : Move) (made : Bool) (old new : List ℕ) (queues : QueueParts) : Type 0 where
+  pub text : new ≡ old ++ line_in shown w m
   pub agrees : QueuesAgree queues (after_it w m)
   pub counted : made ≡ can_move w (queue_move m)

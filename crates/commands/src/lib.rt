@@ -19,10 +19,11 @@ mod passing;
 mod refusal;
 mod replay;
 mod request;
+mod telling;
 
 pub use answering::{DONE, REFUSED, answer, perform, print, put, refuse};
 pub use decode::Form;
 pub use input::read_text;
 pub use refusal::Refusal;
-pub use replay::{QueuePlan, replay_text};
+pub use replay::{NOTES, QueuePlan, Shown, replay_text};
 pub use request::Request;

@@ -1,30 +1,43 @@
 //! A list of moves, read whole and then answered whole.
 
-ghost use Rattle.std.specs.Prelude.{◌≡◌, ◌++◌, ℕ, true, false, IfErr, IfNone, IfOk, IfSome, IsTrue, OnOk};
+ghost use Rattle.std.specs.Prelude.{◌≡◌, ℕ, false, IfErr, IfNone, IfOk, IfSome, IsTrue};
 ghost use Rattle.std.specs.String.{string_bytes};
 ghost use Rattle.ring_model.specs.Worlds.{World, IsReachableWorld};
 ghost use Rattle.ring_machine.specs.Queues.{QueuesAgree};
 ghost use Rattle.text_lines.specs.Parts.{lines_of, says_something};
-ghost use Rattle.commands.specs.Replay.{HasPage, IsFaulty, IsMoveList, IsNoMove, IsPageOf, IsReplayed, Reads, RefusesReplay, ReplayRefused, WroteMove, count_line, told_line};
+ghost use Rattle.commands.specs.Replay.{HasPage, IsFaulty, IsMoveList, IsNoMove, IsPageOf, IsReplayed, Reads, RefusesReplay, ReplayRefused, WroteMove, shown_registers};
 
 use crate::input::read_text;
 use crate::refusal::Refusal;
-use note_objects::NoteMembers;
-use ring_machine::{Completion, Move, Queues};
-use ring_model::Note;
+use crate::telling::{write_count, write_told};
+use ring_machine::{Completion, Move, Queues, Registers};
 use std::alloc::{AllocError, Global};
 use std::io::Read;
 use text_lines::{cut, says_something};
 
+/// What is printed of each move: its note as a line of words or as a JSON object, and what the registers of its queue hold
+/// after it.
+#[derive(Clone, Copy)]
+pub struct Shown {
+    pub json: bool,
+    pub registers: bool,
+}
+
+/// The note alone, as a line of words.
+pub const NOTES: Shown = Shown {
+    json: false,
+    registers: false,
+};
+
 /// Which queues the moves are made on: how many pairs, of how many descriptors each, whether they begin enabled, and
-/// how the transmit queues report; and whether what the moves tell is printed as JSON objects.
+/// how the transmit queues report; and what is printed of each move.
 #[derive(Clone, Copy)]
 pub struct QueuePlan {
     pub pairs: u32,
     pub ring: u32,
     pub enabled: bool,
     pub completion: Completion,
-    pub json: bool,
+    pub shown: Shown,
 }
 
 /// Reads a list of moves to its end, makes them on queues of this plan, and answers one line for each and then how many
@@ -54,7 +67,7 @@ fn page_for(alloc: Global, plan: QueuePlan, text: &[u8]) -> Result<String, Refus
     }
     let (pairs, ring) = (plan.pairs as usize, plan.ring as usize);
     let mut queues = Queues::new_with(alloc, pairs, ring, plan.enabled, plan.completion)?;
-    Ok(page_of(alloc, plan.json, &mut queues, text)?)
+    Ok(page_of(alloc, plan.shown, &mut queues, text)?)
 }
 
 /// Whether a line is a move's text, or passed over.
@@ -86,13 +99,13 @@ fn faulty_line(text: &[u8]) -> Option<u64>
 /// Makes the moves of a text, and writes a line for each and one of how many were made.
 fn page_of(
     alloc: Global,
-    json: bool,
+    shown: Shown,
     queues: &mut Queues,
     text: &[u8],
 ) -> Result<String, AllocError>
     requires { IsMoveList text.now }
     ensures { IfOk result (λ page. (pairs n : ℕ) (w : World) → IsReachableWorld pairs n w → QueuesAgree queues.old w
-        → IsPageOf json w text.now (string_bytes page)) }
+        → IsPageOf shown w text.now (string_bytes page)) }
 {
     let mut page = String::new(alloc);
     let mut made: usize = 0;
@@ -106,84 +119,44 @@ fn page_of(
         }
         if let Ok(action) = Move::parse(line) {
             read += 1;
-            made += usize::from(write_move(&mut page, json, queues, &action)?);
+            made += usize::from(write_move(&mut page, shown, queues, &action)?);
         }
     }
-    write_count(&mut page, json, made, read)?;
+    write_count(&mut page, shown.json, made, read)?;
     Ok(page)
 }
 
-/// Makes a move and writes its line. It answers whether the move was made.
+/// What is shown of the registers of a move's queue.
+fn shown_registers(shown: Shown, queues: &Queues, action: &Move) -> Option<Registers>
+    ensures { (w : World) → QueuesAgree queues.now w → result ≡ shown_registers shown w action.now }
+{
+    if shown.registers {
+        queues.registers(action)
+    } else {
+        None
+    }
+}
+
+/// Makes a move, and writes its line with what is shown of the registers after it. It answers whether the move was made.
 fn write_move(
     page: &mut String,
-    json: bool,
+    shown: Shown,
     queues: &mut Queues,
     action: &Move,
 ) -> Result<bool, AllocError>
     ensures { IfOk result (λ made. (pairs n : ℕ) (w : World) → IsReachableWorld pairs n w → QueuesAgree queues.old w
-        → WroteMove json w action.now made (string_bytes page.old) (string_bytes page.new) queues.new) }
+        → WroteMove shown w action.now made (string_bytes page.old) (string_bytes page.new) queues.new) }
 {
     let told = queues.step(*action);
+    let read = shown_registers(shown, queues, action);
     match told {
         Ok(note) => {
-            write_told(page, json, action, Some(note))?;
+            write_told(page, shown.json, action, Some(note), read)?;
             Ok(true)
         }
         Err(_) => {
-            write_told(page, json, action, None)?;
+            write_told(page, shown.json, action, None, read)?;
             Ok(false)
         }
-    }
-}
-
-/// Writes what a move told, if it was made: a line of words, or an object.
-fn write_told(
-    page: &mut String,
-    json: bool,
-    action: &Move,
-    told: Option<Note>,
-) -> Result<(), AllocError>
-    ensures { OnOk result (string_bytes page.new ≡ string_bytes page.old ++ told_line json action.now told) }
-{
-    if json {
-        write_object(page, action, told)
-    } else {
-        write_words(page, action, told)
-    }
-}
-
-/// Writes what a move told as a line of words.
-fn write_words(page: &mut String, action: &Move, told: Option<Note>) -> Result<(), AllocError>
-    ensures { OnOk result (string_bytes page.new ≡ string_bytes page.old ++ told_line false action.now told) }
-{
-    let name = action.name();
-    match told {
-        Some(note) => writeln!(page, "{name} {note}"),
-        None => writeln!(page, "{name} not enabled"),
-    }
-}
-
-/// Writes what a move told as an object.
-fn write_object(page: &mut String, action: &Move, told: Option<Note>) -> Result<(), AllocError>
-    ensures { OnOk result (string_bytes page.new ≡ string_bytes page.old ++ told_line true action.now told) }
-{
-    let name = action.name();
-    match told {
-        Some(note) => {
-            let members = NoteMembers::new(note);
-            writeln!(page, "{{\"move\":\"{name}\",\"made\":true{members}}}")
-        }
-        None => writeln!(page, "{{\"move\":\"{name}\",\"made\":false}}"),
-    }
-}
-
-/// Writes how many moves were made of how many that were read.
-fn write_count(page: &mut String, json: bool, made: usize, read: usize) -> Result<(), AllocError>
-    ensures { OnOk result (string_bytes page.new ≡ string_bytes page.old ++ count_line json made read) }
-{
-    if json {
-        writeln!(page, "{{\"made\":{made},\"read\":{read}}}")
-    } else {
-        writeln!(page, "moves {made} of {read}")
     }
 }

@@ -1,0 +1,118 @@
+//! What is printed of a move, and of how many were made.
+
+ghost use Rattle.std.specs.Prelude.{◌≡◌, ◌++◌, OnOk};
+ghost use Rattle.std.specs.String.{string_bytes};
+ghost use Rattle.commands.specs.Replay.{count_line, members_of, note_object, object_line, registers_line, told_line, words_line};
+
+use note_objects::NoteMembers;
+use ring_machine::{Move, Registers, Side};
+use ring_model::Note;
+use std::alloc::AllocError;
+
+/// Writes what a move told, if it was made, and what is shown of the registers of its queue: lines of words, or an object.
+pub(crate) fn write_told(
+    page: &mut String,
+    json: bool,
+    action: &Move,
+    told: Option<Note>,
+    read: Option<Registers>,
+) -> Result<(), AllocError>
+    ensures { OnOk result (string_bytes page.new ≡ string_bytes page.old ++ told_line json action.now told read) }
+{
+    if json {
+        write_object(page, action, told, read)
+    } else {
+        write_words(page, action, told)?;
+        write_registers(page, read)
+    }
+}
+
+/// Writes what a move told as a line of words.
+fn write_words(page: &mut String, action: &Move, told: Option<Note>) -> Result<(), AllocError>
+    ensures { OnOk result (string_bytes page.new ≡ string_bytes page.old ++ words_line action.now told) }
+{
+    let name = action.name();
+    match told {
+        Some(note) => writeln!(page, "{name} {note}"),
+        None => writeln!(page, "{name} not enabled"),
+    }
+}
+
+/// Writes what registers hold, if they are shown, as a line of words.
+fn write_registers(page: &mut String, read: Option<Registers>) -> Result<(), AllocError>
+    ensures { OnOk result (string_bytes page.new ≡ string_bytes page.old ++ registers_line read) }
+{
+    match read {
+        Some(registers) => writeln!(page, "{registers}"),
+        None => Ok(()),
+    }
+}
+
+/// Writes what registers hold as members of an object, with a comma before each.
+fn write_members(page: &mut String, registers: Registers) -> Result<(), AllocError>
+    ensures { OnOk result (string_bytes page.new ≡ string_bytes page.old ++ members_of registers) }
+{
+    let Registers {
+        side,
+        head,
+        tail,
+        enable,
+    } = registers;
+    let enable = u8::from(enable);
+    match side {
+        Side::Receive => write!(
+            page,
+            ",\"RDH\":{head},\"RDT\":{tail},\"RXDCTL.ENABLE\":{enable}"
+        ),
+        Side::Transmit => write!(
+            page,
+            ",\"TDH\":{head},\"TDT\":{tail},\"TXDCTL.ENABLE\":{enable}"
+        ),
+    }
+}
+
+/// Writes what a move told as the first members of an object.
+fn write_note(page: &mut String, action: &Move, told: Option<Note>) -> Result<(), AllocError>
+    ensures { OnOk result (string_bytes page.new ≡ string_bytes page.old ++ note_object action.now told) }
+{
+    let name = action.name();
+    match told {
+        Some(note) => {
+            let members = NoteMembers::new(note);
+            write!(page, "{{\"move\":\"{name}\",\"made\":true{members}")
+        }
+        None => write!(page, "{{\"move\":\"{name}\",\"made\":false"),
+    }
+}
+
+/// Writes what a move told, and what registers hold, if they are shown, as an object.
+fn write_object(
+    page: &mut String,
+    action: &Move,
+    told: Option<Note>,
+    read: Option<Registers>,
+) -> Result<(), AllocError>
+    ensures { OnOk result (string_bytes page.new ≡ string_bytes page.old ++ object_line action.now told read) }
+{
+    write_note(page, action, told)?;
+    if let Some(registers) = read {
+        write_members(page, registers)?;
+    }
+    page.push_str("}\n")
+}
+
+/// Writes how many moves were made of how many that were read.
+pub(crate) fn write_count(
+    page: &mut String,
+    json: bool,
+    made: usize,
+    read: usize,
+) -> Result<(), AllocError>
+    ensures { OnOk result (string_bytes page.new ≡ string_bytes page.old ++ count_line json made read) }
+{
+    if json {
+        writeln!(page, "{{\"made\":{made},\"read\":{read}}}")
+    } else {
+        writeln!(page, "moves {made} of {read}")
+    }
+}
