@@ -1,0 +1,112 @@
+-- A queue as lines of text, one a place: which item lies there, who has it, what its descriptor says, the buffer in its slot,
+-- and what stands there. Columns are apart by a tab.
+use Rattle.std.specs.Prelude.{ℕ, zero, suc, ◌-◌, ◌/◌, ◌%◌, ◌<◌, Bool, true, false, ◌&&◌, ◌||◌, ◌==◌, nat_lt, List, [], ◌∷◌, ◌++◌, Option, Some, None, codes, decimal, length, slice_index, if◌then◌else◌}
+use Rattle.ring_model.specs.declared.states.Owner.{Owner}
+use Rattle.ring_model.specs.declared.states.Owner.TheVariants.{Driver, Ring, Controller}
+use Rattle.ring_model.specs.shared.Lists.{slot_at}
+use Rattle.ring_model.specs.shared.Places.{between_places, place_next}
+use Rattle.ring_model.specs.shared.Agreement.{Wrapped}
+use Rattle.ring_machine.specs.declared.registers.Side.{Side}
+use Rattle.ring_machine.specs.declared.registers.Side.TheVariants.{Receive, Transmit}
+use Rattle.ring_machine.specs.shared.Machine.{told_owner}
+
+-- how many places lie from the oldest item that is out up to this one
+abbrev pub age_at : Wrapped ℕ → ℕ → ℕ
+age_at w place = between_places w.size w.next place
+
+abbrev pub owner_word : Owner → List ℕ
+owner_word Driver = codes "drv"
+owner_word Ring = codes "ring"
+owner_word Controller = codes "ctl"
+
+-- the item at a place, counted from the oldest that is out. A driver's place has none
+abbrev pub item_of : Owner → ℕ → Option ℕ
+item_of Driver age = None
+item_of Ring age = Some age
+item_of Controller age = Some age
+
+abbrev pub number_or_dash : Option ℕ → List ℕ
+number_or_dash None = codes "-"
+number_or_dash (Some n) = decimal n
+
+-- whether a bit of a word is set, which is the word's part of that weight
+abbrev pub has_bit : ℕ → ℕ → Bool
+has_bit weight word = (word / weight) % 2 == 1
+
+-- DD, EOP and RS of a descriptor's second word, where a transmit queue's and a receive queue's have them
+abbrev pub says_done : Side → ℕ → Bool
+says_done Receive word = has_bit 1 word
+says_done Transmit word = has_bit 0x1_0000_0000 word
+
+abbrev pub says_eop : Side → ℕ → Bool
+says_eop Receive word = has_bit 2 word
+says_eop Transmit word = has_bit 0x100_0000 word
+
+abbrev pub says_rs : Side → ℕ → Bool
+says_rs Receive word = false
+says_rs Transmit word = has_bit 0x800_0000 word
+
+abbrev pub flag_words : Bool → Bool → Bool → List ℕ
+flag_words false false false = codes "-"
+flag_words false false true = codes "RS"
+flag_words false true false = codes "EOP"
+flag_words false true true = codes "EOP RS"
+flag_words true false false = codes "DD"
+flag_words true false true = codes "DD RS"
+flag_words true true false = codes "DD EOP"
+flag_words true true true = codes "DD EOP RS"
+
+-- what the descriptor at a place says. At a driver's place it may say anything
+abbrev pub word_words : Side → Owner → ℕ → List ℕ
+word_words side Driver word = codes "any"
+word_words side Ring word = flag_words (says_done side word) (says_eop side word) (says_rs side word)
+word_words side Controller word = flag_words (says_done side word) (says_eop side word) (says_rs side word)
+
+-- a name behind a tab, where this stands at the place
+abbrev pub mark : ℕ → ℕ → List ℕ → List ℕ
+mark at place name = if at == place then 9 ∷ name else []
+
+abbrev pub marks : Wrapped ℕ → ℕ → List ℕ
+marks w place = mark w.head place (codes "head") ++ (mark w.tail place (codes "tail") ++ (mark w.fill place (codes "fill")
+    ++ (mark w.next place (codes "next") ++ (mark w.serve place (codes "use") ++ mark w.known place (codes "known")))))
+
+-- a place's line up to what stands there
+abbrev pub columns : Side → Wrapped ℕ → ℕ → List ℕ
+columns side w place = let owner = told_owner w place in
+    decimal place ++ (9 ∷ (number_or_dash (item_of owner (age_at w place)) ++ (9 ∷ (owner_word owner
+    ++ (9 ∷ (word_words side owner (slice_index w.words place) ++ (9 ∷ number_or_dash (slot_at w.slots place))))))))
+
+abbrev pub line : Side → Wrapped ℕ → ℕ → List ℕ
+line side w place = columns side w place ++ (marks w place ++ 10 ∷ [])
+
+-- the place before this one, in a ring of n
+abbrev pub place_before : ℕ → ℕ → ℕ
+place_before n place = if place == 0 then n - 1 else (place - 1)
+
+-- what stands here, at the place behind or at the place before
+abbrev pub is_near : ℕ → ℕ → ℕ → Bool
+is_near n place at = (place == at) || ((place_next n place == at) || (place_before n place == at))
+
+-- all places of a ring of 8; of a longer one those at which something stands, with the place before and the place behind
+abbrev pub is_shown : Wrapped ℕ → ℕ → Bool
+is_shown w place = nat_lt w.size 9 || (is_near w.size place w.head || (is_near w.size place w.tail || (is_near w.size place w.fill
+    || (is_near w.size place w.next || (is_near w.size place w.serve || is_near w.size place w.known)))))
+
+-- the first of places that are not shown
+abbrev pub begins_fold : Wrapped ℕ → ℕ → Bool
+begins_fold w zero = true
+begins_fold w (suc before) = is_shown w before
+
+abbrev pub place_text : Side → Wrapped ℕ → ℕ → List ℕ
+place_text side w place = if is_shown w place then line side w place else (if begins_fold w place then codes "..\n" else [])
+
+-- the first so many places
+abbrev pub places_text : Side → Wrapped ℕ → ℕ → List ℕ
+places_text side w zero = []
+places_text side w (suc count) = places_text side w count ++ place_text side w count
+
+abbrev pub heading : List ℕ
+heading = codes "place\titem\towner\tword\tbuffer\n"
+
+abbrev pub picture : Side → Wrapped ℕ → List ℕ
+picture side w = heading ++ places_text side w w.size

@@ -1,0 +1,153 @@
+//! What is written of one place.
+ghost use Rattle.std.specs.Prelude.{◌≡◌, ◌++◌, ◌<◌, OnOk, Some};
+ghost use Rattle.std.specs.String.{string_bytes};
+ghost use Rattle.ring_machine.specs.declared.registers.Side.TheVariants.{Receive, Transmit};
+ghost use Rattle.ring_machine.specs.Registers.{registers_held};
+ghost use Rattle.pictures.specs.Pictures.{age_at, columns, flag_words, item_of, line, mark, marks, number_or_dash, owner_word, says_done, says_eop, says_rs, word_words};
+
+use ring_machine::{QueueMachine, Registers, Side};
+use ring_model::{Owner, places_between};
+use std::alloc::AllocError;
+use std::fmt;
+
+// A number, or a dash where there is none.
+#[derive(Clone, Copy)]
+struct OrDash(Option<u16>);
+
+impl fmt::Display for OrDash {
+    ghost output = { λ d. Some (number_or_dash d.0) };
+
+    fn fmt<W: fmt::Write>(&self, f: &mut fmt::Formatter<W>) -> fmt::Result {
+        match self.0 {
+            Some(number) => write!(f, "{number}"),
+            None => f.write_str("-"),
+        }
+    }
+}
+
+fn owner_word(owner: Owner) -> &'static str
+    ensures { result.now ≡ owner_word owner }
+{
+    match owner {
+        Owner::Driver => "drv",
+        Owner::Ring => "ring",
+        Owner::Controller => "ctl",
+    }
+}
+
+fn item_of(owner: Owner, age: u16) -> Option<u16>
+    ensures { result ≡ item_of owner age }
+{
+    match owner {
+        Owner::Driver => None,
+        Owner::Ring | Owner::Controller => Some(age),
+    }
+}
+
+fn flag_words(done: bool, eop: bool, rs: bool) -> &'static str
+    ensures { result.now ≡ flag_words done eop rs }
+{
+    match (done, eop, rs) {
+        (false, false, false) => "-",
+        (false, false, true) => "RS",
+        (false, true, false) => "EOP",
+        (false, true, true) => "EOP RS",
+        (true, false, false) => "DD",
+        (true, false, true) => "DD RS",
+        (true, true, false) => "DD EOP",
+        (true, true, true) => "DD EOP RS",
+    }
+}
+
+// DD, EOP and RS of a receive descriptor's word.
+fn receive_words(word: u64) -> &'static str
+    ensures { result.now ≡ flag_words (says_done Receive word) (says_eop Receive word) (says_rs Receive word) }
+{
+    flag_words(word % 2 == 1, word / 2 % 2 == 1, false)
+}
+
+// DD, EOP and RS of a transmit descriptor's word.
+fn transmit_words(word: u64) -> &'static str
+    ensures { result.now ≡ flag_words (says_done Transmit word) (says_eop Transmit word) (says_rs Transmit word) }
+{
+    flag_words(
+        word / 0x1_0000_0000 % 2 == 1,
+        word / 0x100_0000 % 2 == 1,
+        word / 0x800_0000 % 2 == 1,
+    )
+}
+
+fn word_words(side: Side, owner: Owner, word: u64) -> &'static str
+    ensures { result.now ≡ word_words side owner word }
+{
+    match (owner, side) {
+        (Owner::Driver, _) => "any",
+        (_, Side::Receive) => receive_words(word),
+        (_, Side::Transmit) => transmit_words(word),
+    }
+}
+
+// How many places lie from the oldest that is out up to this one.
+fn age_of(machine: &QueueMachine, place: u16) -> u16
+    requires { place < machine.now.size }
+    ensures { result ≡ age_at machine.now place }
+{
+    places_between(machine.next(), place, machine.size())
+}
+
+// Writes a place's columns.
+fn write_columns(
+    text: &mut String,
+    side: Side,
+    machine: &QueueMachine,
+    place: u16,
+) -> Result<(), AllocError>
+    requires { place < machine.now.size }
+    ensures { OnOk result (string_bytes text.new ≡ string_bytes text.old ++ columns side machine.now place) }
+{
+    let owner = machine.owner(place);
+    let item = OrDash(item_of(owner, age_of(machine, place)));
+    let word = word_words(side, owner, machine.word(place));
+    let buffer = OrDash(machine.slot(place));
+    let owner = owner_word(owner);
+    write!(text, "{place}\t{item}\t{owner}\t{word}\t{buffer}")
+}
+
+// Writes a name where this stands at the place.
+fn write_mark(text: &mut String, at: u16, place: u16, name: &str) -> Result<(), AllocError>
+    ensures { OnOk result (string_bytes text.new ≡ string_bytes text.old ++ mark at place name.now) }
+{
+    if at == place {
+        text.push('\t')?;
+        text.push_str(name)?;
+    }
+    Ok(())
+}
+
+// Writes what stands at a place.
+fn write_marks(text: &mut String, machine: &QueueMachine, place: u16) -> Result<(), AllocError>
+    ensures { OnOk result (string_bytes text.new ≡ string_bytes text.old ++ marks machine.now place) }
+{
+    let Registers { head, tail, .. } = machine.registers(Side::Receive);
+    write_mark(text, head, place, "head")?;
+    write_mark(text, tail, place, "tail")?;
+    write_mark(text, machine.fill(), place, "fill")?;
+    write_mark(text, machine.next(), place, "next")?;
+    write_mark(text, machine.serve_place(), place, "use")?;
+    write_mark(text, machine.known(), place, "known")
+}
+
+/// Writes a place's line.
+pub(crate) fn write_line(
+    text: &mut String,
+    side: Side,
+    machine: &QueueMachine,
+    place: u16,
+) -> Result<(), AllocError>
+    requires { place < machine.now.size }
+    ensures { OnOk result (string_bytes text.new ≡ string_bytes text.old ++ line side machine.now place) }
+{
+    write_columns(text, side, machine, place)?;
+    write_marks(text, machine, place)?;
+    text.push('\n')
+}

@@ -1,0 +1,7 @@
+//! A queue's machine as lines of text: what `docs/MODEL.md` draws, one line a place, with its owner as the machine tells it.
+#![tactic(auto)]
+
+mod columns;
+mod picture;
+
+pub use picture::write_picture;

@@ -1,0 +1,93 @@
+//! A queue's lines.
+ghost use Rattle.std.specs.Prelude.{◌≡◌, ◌++◌, ◌<◌, OnOk};
+ghost use Rattle.std.specs.String.{string_bytes};
+ghost use Rattle.pictures.specs.Pictures.{begins_fold, is_near, is_shown, picture, place_before, place_text, places_text};
+
+use crate::columns::write_line;
+use ring_machine::{QueueMachine, Registers, Side};
+use ring_model::place_after;
+use std::alloc::AllocError;
+
+const HEADING: &str = "place\titem\towner\tword\tbuffer\n";
+
+/// The longest ring of which each place is shown.
+const SHORT_RING: u16 = 8;
+
+fn place_before(size: u16, place: u16) -> u16
+    requires { place < size }
+    ensures { result ≡ place_before size place }
+{
+    if place == 0 { size - 1 } else { place - 1 }
+}
+
+// Whether this stands at the place, or beside it.
+fn is_near(size: u16, place: u16, at: u16) -> bool
+    requires { place < size }
+    ensures { result ≡ is_near size place at }
+{
+    place == at || place_after(place, size) == at || place_before(size, place) == at
+}
+
+// Whether a place has a line.
+fn is_shown(machine: &QueueMachine, place: u16) -> bool
+    requires { place < machine.now.size }
+    ensures { result ≡ is_shown machine.now place }
+{
+    let size = machine.size();
+    let Registers { head, tail, .. } = machine.registers(Side::Receive);
+    size <= SHORT_RING
+        || is_near(size, place, head)
+        || is_near(size, place, tail)
+        || is_near(size, place, machine.fill())
+        || is_near(size, place, machine.next())
+        || is_near(size, place, machine.serve_place())
+        || is_near(size, place, machine.known())
+}
+
+// Whether a place that is not shown is the first such.
+fn begins_fold(machine: &QueueMachine, place: u16) -> bool
+    requires { place < machine.now.size }
+    ensures { result ≡ begins_fold machine.now place }
+{
+    place == 0 || is_shown(machine, place - 1)
+}
+
+// Writes a place's line, or that places are passed over.
+fn write_place(
+    text: &mut String,
+    side: Side,
+    machine: &QueueMachine,
+    place: u16,
+) -> Result<(), AllocError>
+    requires { place < machine.now.size }
+    ensures { OnOk result (string_bytes text.new ≡ string_bytes text.old ++ place_text side machine.now place) }
+{
+    if is_shown(machine, place) {
+        return write_line(text, side, machine, place);
+    }
+    if begins_fold(machine, place) {
+        text.push_str("..\n")?;
+    }
+    Ok(())
+}
+
+/// Writes a queue behind a text: a heading, and then a line a place, of a ring of more than 8 only of those places at which
+/// something stands, with the place before and the place behind, and `..` for those between. Columns are apart by a tab:
+/// the place; the item there, counted from the oldest that is out; who has it (`drv`, `ring`, `ctl`); what its descriptor
+/// says of DD, EOP and RS (82599 datasheet, 7.1.6.2 and 7.2.3.2.4), or `any` at a driver's place; the buffer's number; and
+/// which of `head`, `tail`, `fill`, `next`, `use` and `known` stand there.
+///
+/// An `Err` says that memory was refused; the text may then have some of the lines.
+pub fn write_picture(
+    text: &mut String,
+    side: Side,
+    machine: &QueueMachine,
+) -> Result<(), AllocError>
+    ensures { OnOk result (string_bytes text.new ≡ string_bytes text.old ++ picture side machine.now) }
+{
+    text.push_str(HEADING)?;
+    for place in 0..machine.size() {
+        write_place(text, side, machine, place)?;
+    }
+    Ok(())
+}
