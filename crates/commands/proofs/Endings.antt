@@ -45,7 +45,7 @@ decode-withheld form digits e old new (inr is) kept = inl (Err e, is, (refl, kep
 
 replay-done : (plan : QueuePlan) (text page : List ℕ) (old new : Option (List ℕ)) → IsReplayed plan (Some text) page → Appends old new page → EndsReplay plan text DONE old new
 replay-done plan text page old new (read, same, has) printed = subst (λ (t : List ℕ). EndsReplay plan t DONE old new) same (record {
-  done = λ e. record { moves = has.moves; replay = has.replay; printed = subst (λ (t : List ℕ). Appends old new t) has.printed printed };
+  done = λ e. record { moves = has.moves; replay = has.replay; page = page; replayed = has.printed; printed = printed };
   either = inl refl;
   faulty = λ k f. absurd (faulty-unsaid (lines_of read) k has.moves f has.replay.says);
   no_queues = λ cannot. absurd (cannot has.replay.queues);

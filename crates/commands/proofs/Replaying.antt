@@ -1,18 +1,17 @@
 -- A list of moves, line after line.
 use Rattle.std.proofs.Common.{◌≡◌, ◌⊎◌, ⊎_elim, inl, inr, ℕ, suc, ◌+◌, ◌≤◌, Bool, true, false, List, [], ◌∷◌, ◌++◌, length, map, Option, Some, None, Result, Ok, Err, sym, refl, ap, ap₂, ◌∙◌, subst, arith, append_assoc, length-append, if◌then◌else◌}
-use Rattle.std.specs.Prelude.{◌↔◌, codes, All}
+use Rattle.std.specs.Prelude.{◌↔◌, All, is_some}
 use Rattle.std.specs.Int.{from_bool}
 use Rattle.std.specs.List.{filter}
 use Rattle.std.specs.Int.{is_power_of_two}
 use Rattle.std.proofs.lemmas.Bool.{cases_lt}
-use Rattle.std.specs.Result.{is_ok}
+use Rattle.std.specs.Result.{is_ok, result_ok}
 use Rattle.std.proofs.lemmas.List.{append-nil, map-append}
 use Rattle.std.proofs.lemmas.List.Elements.{All-append, All-cons, All-head, All-nil, All-tail, filter-append}
 use Rattle.ring_machine.specs.declared.moves.Move.{Move}
 use Rattle.ring_model.specs.declared.notes.Note.{Note}
 use Rattle.ring_machine.specs.declared.error.MachineError.{MachineError}
 use Rattle.limits.specs.declared.profile.TheConstants.{LEAST_RING, MOST_PAIRS, MOST_RING}
-use Rattle.ring_model.specs.NoteTexts.{note_text}
 use Rattle.ring_model.specs.transmit.Ring.{TxBeginning}
 use Rattle.ring_model.specs.Worlds.{QueueMove, World, opening_world, after_move, after_moves, can_move, moves_happened, note_in, IsReachableWorld}
 use Rattle.ring_laws.specs.Schedules.{reached-opening}
@@ -20,13 +19,13 @@ use Rattle.ring_laws.specs.Worlds.{reached_world}
 use Rattle.ring_machine.specs.shared.Following.{Did}
 use Rattle.ring_machine.specs.Queues.{AreQueues, QueueParts, QueuesAgree, queue_move}
 use Rattle.ring_machine.specs.declared.registers.Registers.{Registers}
-use Rattle.ring_machine.specs.text.Moves.{IsInRange, name_of, text_of}
+use Rattle.ring_machine.specs.text.Moves.{IsInRange, text_of}
 use Rattle.ring_machine.proofs.QueuesRunning.{did-made, did-refused}
 use Rattle.ring_machine.proofs.shared.Running.{joined}
 use Rattle.text_lines.specs.Parts.{lines_of, says_something}
 use Rattle.commands.specs.declared.replay.QueuePlan.{QueuePlan}
 use Rattle.commands.specs.declared.replay.Shown.{Shown}
-use Rattle.commands.specs.Replay.{after_it, count_line, line_in, lines_in, shown_registers, told_line, world_of, HasPage, IsFaulty, IsMoveList, IsNoMove, IsPageOf, IsReplay, Reads, Says, WroteMove}
+use Rattle.commands.specs.Replay.{after_it, count_line, drawn_at_last, drawn_at_once, drawn_of, last_from, line_in, shown_registers, told_line, world_of, HasPage, IsDrawn, IsFaulty, IsMoveList, IsNoMove, IsPageOf, IsReplay, Reads, Says, Tells, WroteMove}
 
 -- what reading a line answers, in words of lists
 pub read-line : (line : List ℕ) (result : Result Move MachineError) → ((m : Move) → (result ≡ Ok m) ↔ (IsInRange m × (line ≡ text_of m))) → is_ok result ≡ true → Reads line
@@ -60,20 +59,27 @@ says-more before line ms m e range text s = record {
     one_of : says_something line ≡ true → filter says_something (line ∷ []) ≡ line ∷ []
     one_of h = rw h refl
 
--- a move that was made: its line has its note
-pub wrote-made : (shown : Shown) (w : World) (m : Move) (t : Note) (old new : List ℕ) (before later : QueueParts) → Did QueuesAgree (note_in w (queue_move m)) (after_it w m) (Ok t) before later
-    → (read : Option Registers) → ((w : World) → QueuesAgree later w → read ≡ shown_registers shown w m) → new ≡ old ++ told_line shown.json m (Some t) read → WroteMove shown w m true old new later
-wrote-made shown w m t old new before later d read shows e = let made = did-made w (queue_move m) t (after_it w m) before later d in record {
-  text = e ∙ ap₂ (λ (told : Option Note) (r : Option Registers). old ++ told_line shown.json m told r) (sym made.0) (shows (after_it w m) d.agrees);
+-- a line, and what is drawn behind it
+drawn_behind : (old line new drawn told : List ℕ) → line ≡ old ++ told → new ≡ line ++ drawn → new ≡ old ++ (told ++ drawn)
+drawn_behind old line new drawn told is behind = behind ∙ ap (λ (t : List ℕ). t ++ drawn) is ∙ append_assoc old told drawn
+
+-- a move that was made has its note in its line, and one that was refused has none
+pub wrote : (shown : Shown) (w : World) (m : Move) (r : Result Note MachineError) (old line new : List ℕ) (before later : QueueParts) → Did QueuesAgree (note_in w (queue_move m)) (after_it w m) r before later
+    → (read : Option Registers) → ((w : World) → QueuesAgree later w → read ≡ shown_registers shown w m) → line ≡ old ++ told_line shown.json m (result_ok r) read
+    → new ≡ line ++ drawn_of later (drawn_at_once shown.pictures m) → WroteMove shown w m (is_some (result_ok r)) old new later
+wrote shown w m (Ok t) old line new before later d read shows e behind = let made = did-made w (queue_move m) t (after_it w m) before later d in record {
+  drawn = drawn_of later (drawn_at_once shown.pictures m);
+  is_drawn = record { queues = later; agrees = d.agrees; drawn_is = refl };
+  text = drawn_behind old line new (drawn_of later (drawn_at_once shown.pictures m)) (line_in shown w m)
+      (e ∙ ap₂ (λ (told : Option Note) (r : Option Registers). old ++ told_line shown.json m told r) (sym made.0) (shows (after_it w m) d.agrees)) behind;
   agrees = d.agrees;
   counted = sym made.1;
 }
-
--- a move that was refused: its line says so
-pub wrote-refused : (shown : Shown) (w : World) (m : Move) (why : MachineError) (old new : List ℕ) (before later : QueueParts) → Did QueuesAgree (note_in w (queue_move m)) (after_it w m) (Err why) before later
-    → (read : Option Registers) → ((w : World) → QueuesAgree later w → read ≡ shown_registers shown w m) → new ≡ old ++ told_line shown.json m None read → WroteMove shown w m false old new later
-wrote-refused shown w m why old new before later d read shows e = let refused = did-refused w (queue_move m) why (after_it w m) before later d in record {
-  text = e ∙ ap₂ (λ (told : Option Note) (r : Option Registers). old ++ told_line shown.json m told r) (sym refused.0) (shows (after_it w m) d.agrees);
+wrote shown w m (Err why) old line new before later d read shows e behind = let refused = did-refused w (queue_move m) why (after_it w m) before later d in record {
+  drawn = drawn_of later (drawn_at_once shown.pictures m);
+  is_drawn = record { queues = later; agrees = d.agrees; drawn_is = refl };
+  text = drawn_behind old line new (drawn_of later (drawn_at_once shown.pictures m)) (line_in shown w m)
+      (e ∙ ap₂ (λ (told : Option Note) (r : Option Registers). old ++ told_line shown.json m told r) (sym refused.0) (shows (after_it w m) d.agrees)) behind;
   agrees = d.agrees;
   counted = sym refused.1;
 }
@@ -142,34 +148,68 @@ good-faulty text number line later none g = record {
 
 -- so many moves are written, and these lines are left
 pub record Followed (shown : Shown) (w : World) (moves : List Move) (page : List ℕ) (made : ℕ) (now : QueueParts) : Type 0 where
-  pub text : page ≡ lines_in shown w moves
+  pub tells : Tells shown w moves page
   pub agrees : QueuesAgree now (after_moves w (map queue_move moves))
   pub counted : made ≡ moves_happened w (map queue_move moves)
 
-pub record PageSoFar (shown : Shown) (text page : List ℕ) (made read : ℕ) (rest : List (List ℕ)) (first now : QueueParts) : Type 0 where
+pub record PageSoFar (shown : Shown) (text page : List ℕ) (made read : ℕ) (last : Option Move) (rest : List (List ℕ)) (first now : QueueParts) : Type 0 where
   pub before : List (List ℕ)
   pub split : before ++ rest ≡ lines_of text
   pub moves : List Move
   pub says : Says before moves
   pub count : read ≡ length moves
+  pub last_is : last ≡ last_from None moves
   pub follows : (pairs n : ℕ) (w : World) → IsReachableWorld pairs n w → QueuesAgree first w → Followed shown w moves page made now
 
-pub page-first : (shown : Shown) (text page : List ℕ) (queues : QueueParts) → page ≡ [] → PageSoFar shown text page 0 0 (lines_of text) queues queues
-page-first shown text page queues e = record { before = []; split = refl; moves = []; says = says-none; count = refl; follows = λ pairs n w reached agrees. record { text = e; agrees = agrees; counted = refl } }
+pub page-first : (shown : Shown) (text page : List ℕ) (queues : QueueParts) → page ≡ [] → PageSoFar shown text page 0 0 None (lines_of text) queues queues
+page-first shown text page queues e = record {
+  before = [];
+  split = refl;
+  moves = [];
+  says = says-none;
+  count = refl;
+  last_is = refl;
+  follows = λ pairs n w reached agrees. record { tells = e; agrees = agrees; counted = refl };
+}
 
-pub page-skipped : (shown : Shown) (text page : List ℕ) (made read : ℕ) (line : List ℕ) (later : List (List ℕ)) (first now : QueueParts) → says_something line ≡ false → PageSoFar shown text page made read (line ∷ later) first now → PageSoFar shown text page made read later first now
-page-skipped shown text page made read line later first now e p = record {
+pub page-skipped : (shown : Shown) (text page : List ℕ) (made read : ℕ) (last : Option Move) (line : List ℕ) (later : List (List ℕ)) (first now : QueueParts) → says_something line ≡ false
+    → PageSoFar shown text page made read last (line ∷ later) first now → PageSoFar shown text page made read last later first now
+page-skipped shown text page made read last line later first now e p = record {
   before = p.before ++ line ∷ [];
   split = one-on p.before later (lines_of text) line p.split;
   moves = p.moves;
   says = says-skipped p.before line p.moves e p.says;
   count = p.count;
+  last_is = p.last_is;
   follows = p.follows;
 }
 
-lines_in-more : (shown : Shown) (w : World) (ms : List Move) (m : Move) → lines_in shown w (ms ++ m ∷ []) ≡ lines_in shown w ms ++ line_in shown (after_moves w (map queue_move ms)) m
-lines_in-more shown w [] m = append-nil (line_in shown w m)
-lines_in-more shown w (x ∷ ms) m = ap (λ (t : List ℕ). line_in shown w x ++ t) (lines_in-more shown (after_it w x) ms m) ∙ sym (append_assoc (line_in shown w x) (lines_in shown (after_it w x) ms) (line_in shown (after_moves (after_it w x) (map queue_move ms)) m))
+last_from-more : (o : Option Move) (ms : List Move) (m : Move) → last_from o (ms ++ m ∷ []) ≡ Some m
+last_from-more o [] m = refl
+last_from-more o (x ∷ ms) m = last_from-more (Some x) ms m
+
+-- one line more, and what is drawn behind it
+told-later : (line drawn later whole more : List ℕ) → whole ≡ line ++ (drawn ++ later) → whole ++ more ≡ line ++ (drawn ++ (later ++ more))
+told-later line drawn later whole more is =
+    ap (λ (t : List ℕ). t ++ more) is ∙ append_assoc line (drawn ++ later) more ∙ ap (λ (t : List ℕ). line ++ t) (append_assoc drawn later more)
+
+tells-more : (shown : Shown) (w : World) (ms : List Move) (m : Move) (lines drawn : List ℕ) → Tells shown w ms lines
+    → IsDrawn (after_it (after_moves w (map queue_move ms)) m) (drawn_at_once shown.pictures m) drawn
+    → Tells shown w (ms ++ m ∷ []) (lines ++ (line_in shown (after_moves w (map queue_move ms)) m ++ drawn))
+tells-more shown w [] m lines drawn is draws = (
+  drawn,
+  [],
+  draws,
+  refl,
+  ap (λ (t : List ℕ). t ++ (line_in shown w m ++ drawn)) is ∙ ap (λ (t : List ℕ). line_in shown w m ++ t) (sym (append-nil drawn)),
+)
+tells-more shown w (x ∷ ms) m lines drawn (behind, later, drawn_first, told, is) draws = let more = line_in shown (after_moves (after_it w x) (map queue_move ms)) m ++ drawn in (
+  behind,
+  later ++ more,
+  drawn_first,
+  tells-more shown (after_it w x) ms m later drawn told draws,
+  told-later (line_in shown w x) behind later lines more is,
+)
 
 one_happened : (b : Bool) → (if b then suc 0 else 0) ≡ from_bool b
 one_happened true = refl
@@ -179,19 +219,20 @@ pub one-at_most : (b : Bool) (n : ℕ) → n ≡ from_bool b → n ≤ 1
 one-at_most true n e = omega (arith, e)
 one-at_most false n e = omega (arith, e)
 
-pub page-more : (shown : Shown) (text page later_page : List ℕ) (made added read : ℕ) (more : Bool) (line : List ℕ) (later : List (List ℕ)) (first now after : QueueParts) (m : Move) → says_something line ≡ true → IsInRange m → line ≡ text_of m
+pub page-more : (shown : Shown) (text page later_page : List ℕ) (made added read : ℕ) (more : Bool) (last : Option Move) (line : List ℕ) (later : List (List ℕ)) (first now after : QueueParts) (m : Move) → says_something line ≡ true → IsInRange m → line ≡ text_of m
     → ((pairs n : ℕ) (w : World) → IsReachableWorld pairs n w → QueuesAgree now w → WroteMove shown w m more page later_page after)
-    → added ≡ from_bool more → PageSoFar shown text page made read (line ∷ later) first now → PageSoFar shown text later_page (made + added) (read + 1) later first after
-page-more shown text page later_page made added read more line later first now after m e range is wrote adds p = record {
+    → added ≡ from_bool more → PageSoFar shown text page made read last (line ∷ later) first now → PageSoFar shown text later_page (made + added) (read + 1) (Some m) later first after
+page-more shown text page later_page made added read more last line later first now after m e range is wrote adds p = record {
   before = p.before ++ line ∷ [];
   split = one-on p.before later (lines_of text) line p.split;
   moves = p.moves ++ m ∷ [];
   says = says-more p.before line p.moves m e range is p.says;
   count = ap (λ (k : ℕ). k + 1) p.count ∙ sym (length-append p.moves (m ∷ []));
+  last_is = sym (last_from-more None p.moves m);
   follows = λ pairs n w reached agrees. let f = p.follows pairs n w reached agrees in let here = after_moves w (map queue_move p.moves) in let one = wrote pairs n here (reached_world pairs n w (map queue_move p.moves) reached) f.agrees in
       let both = joined can_move after_move QueuesAgree after w (map queue_move p.moves) (queue_move m ∷ []) made added f.counted (one.agrees, adds ∙ (ap from_bool one.counted ∙ sym (one_happened (can_move here (queue_move m))))) in
       let whole : map queue_move (p.moves ++ m ∷ []) ≡ map queue_move p.moves ++ queue_move m ∷ [] = map-append queue_move p.moves (m ∷ []) in record {
-        text = one.text ∙ ap (λ (t : List ℕ). t ++ line_in shown here m) f.text ∙ sym (lines_in-more shown w p.moves m);
+        tells = subst (λ (t : List ℕ). Tells shown w (p.moves ++ m ∷ []) t) (sym one.text) (tells-more shown w p.moves m page one.drawn f.tells one.is_drawn);
         agrees = subst (λ (ms : List QueueMove). QueuesAgree after (after_moves w ms)) (sym whole) both.0;
         counted = subst (λ (ms : List QueueMove). made + added ≡ moves_happened w ms) (sym whole) both.1;
       };
@@ -228,15 +269,24 @@ pub faulty-unsaid : (lines : List (List ℕ)) (k : ℕ) (ms : List Move) → IsF
 faulty-unsaid lines k ms f s = unsaid f.before f.later f.line ms f.no_move s.in_range (ap (filter says_something) f.split ∙ s.texts)
 
 -- so a line of a list of moves that is to be read is read
-pub read-said : (shown : Shown) (text page : List ℕ) (made read : ℕ) (line : List ℕ) (later : List (List ℕ)) (first now : QueueParts) → IsMoveList text → IsNoMove line → PageSoFar shown text page made read (line ∷ later) first now → ⊥
-read-said shown text page made read line later first now (ms, says) none p = unsaid p.before later line ms none says.in_range (ap (filter says_something) p.split ∙ says.texts)
+pub read-said : (shown : Shown) (text page : List ℕ) (made read : ℕ) (last : Option Move) (line : List ℕ) (later : List (List ℕ)) (first now : QueueParts) → IsMoveList text → IsNoMove line
+    → PageSoFar shown text page made read last (line ∷ later) first now → ⊥
+read-said shown text page made read last line later first now (ms, says) none p = unsaid p.before later line ms none says.in_range (ap (filter says_something) p.split ∙ says.texts)
 
--- when no line is left, the page lacks the count alone
-pub page-last : (shown : Shown) (w : World) (pairs n : ℕ) (text page whole : List ℕ) (made read : ℕ) (first now : QueueParts) → IsReachableWorld pairs n w → QueuesAgree first w → whole ≡ page ++ count_line shown.json made read → PageSoFar shown text page made read [] first now → IsPageOf shown w text whole
-page-last shown w pairs n text page whole made read first now reached agrees e p = let f = p.follows pairs n w reached agrees in record {
+-- when no line is left, the page lacks what is drawn at last, and the count
+pub page-last : (shown : Shown) (w : World) (pairs n : ℕ) (text page drawn whole : List ℕ) (made read : ℕ) (last : Option Move) (first now : QueueParts) → IsReachableWorld pairs n w → QueuesAgree first w
+    → drawn ≡ page ++ drawn_of now (drawn_at_last shown.pictures last) → whole ≡ drawn ++ count_line shown.json made read → PageSoFar shown text page made read last [] first now → IsPageOf shown w text whole
+page-last shown w pairs n text page drawn whole made read last first now reached agrees behind e p = let f = p.follows pairs n w reached agrees in record {
   moves = p.moves;
   says = subst (λ (lines : List (List ℕ)). Says lines p.moves) (sym (append-nil p.before) ∙ p.split) p.says;
-  printed = e ∙ ap₂ (λ (x y : List ℕ). x ++ y) f.text (ap₂ (λ (x y : ℕ). count_line shown.json x y) f.counted p.count);
+  printed = record {
+    lines = page;
+    drawn = drawn_of now (drawn_at_last shown.pictures last);
+    tells = f.tells;
+    is_drawn = record { queues = now; agrees = f.agrees; drawn_is = ap (λ (o : Option Move). drawn_of now (drawn_at_last shown.pictures o)) p.last_is };
+    page_is = drawn_behind page drawn whole (count_line shown.json (moves_happened w (map queue_move p.moves)) (length p.moves)) (drawn_of now (drawn_at_last shown.pictures last)) behind
+        (e ∙ ap (λ (t : List ℕ). drawn ++ t) (ap₂ (λ (x y : ℕ). count_line shown.json x y) f.counted p.count));
+  };
 }
 
 stable-le : (a b : ℕ) → ((a ≤ b → ⊥) → ⊥) → a ≤ b

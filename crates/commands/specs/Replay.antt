@@ -9,15 +9,18 @@ use Rattle.ring_machine.specs.declared.error.MachineError.TheVariants.{RingLengt
 use Rattle.ring_model.specs.shared.Schedules.{next}
 use Rattle.note_objects.specs.NoteMembers.{note_members}
 use Rattle.ring_model.specs.NoteTexts.{note_text}
-use Rattle.ring_model.specs.Worlds.{World, opening_world, after_move, can_move, moves_happened, note_in}
+use Rattle.ring_model.specs.Worlds.{World, opening_world, after_move, after_moves, can_move, moves_happened, note_in}
 use Rattle.ring_machine.specs.Queues.{AreQueues, QueueParts, QueuesAgree, queue_move}
 use Rattle.ring_machine.specs.Registers.{registers_in}
+use Rattle.pictures.specs.Pictures.{queue_picture}
 use Rattle.ring_machine.specs.declared.registers.Registers.{Registers}
 use Rattle.ring_machine.specs.declared.registers.Side.{Side}
 use Rattle.ring_machine.specs.declared.registers.Side.TheVariants as side
 use Rattle.ring_machine.specs.text.Moves.{IsInRange, name_of, text_of}
 use Rattle.ring_machine.specs.text.RegisterTexts.{registers_text}
 use Rattle.ring_model.specs.shared.Agreement.{bit}
+use Rattle.commands.specs.declared.replay.Pictures.{Pictures}
+use Rattle.commands.specs.declared.replay.Pictures.TheVariants as pictures
 use Rattle.commands.specs.declared.replay.QueuePlan.{QueuePlan}
 use Rattle.commands.specs.declared.replay.Shown.{Shown}
 use Rattle.commands.specs.declared.answering.TheConstants.{DONE, REFUSED}
@@ -104,23 +107,55 @@ told_line true m told read = object_line m told read
 abbrev pub line_in : Shown → World → Move → List ℕ
 line_in shown w m = told_line shown.json m (note_in w (queue_move m)) (shown_registers shown (after_it w m) m)
 
-abbrev pub lines_in : Shown → World → List Move → List ℕ
-lines_in shown w [] = []
-lines_in shown w (m ∷ ms) = line_in shown w m ++ lines_in shown (after_it w m) ms
+-- the move whose queue is drawn at once, behind its line, and the one whose queue is drawn behind all lines
+abbrev pub drawn_at_once : Pictures → Move → Option Move
+drawn_at_once pictures.Never m = None
+drawn_at_once pictures.Each m = Some m
+drawn_at_once pictures.Last m = None
+
+abbrev pub drawn_at_last : Pictures → Option Move → Option Move
+drawn_at_last pictures.Never last = None
+drawn_at_last pictures.Each last = None
+drawn_at_last pictures.Last last = last
+
+abbrev pub drawn_of : QueueParts → Option Move → List ℕ
+drawn_of queues None = []
+drawn_of queues (Some m) = queue_picture queues m
+
+-- it is drawn of machines that agree with this world
+pub record IsDrawn (w : World) (action : Option Move) (drawn : List ℕ) : Type 0 where
+  pub queues : QueueParts
+  pub agrees : QueuesAgree queues w
+  pub drawn_is : drawn ≡ drawn_of queues action
+
+-- these lines tell of the moves: behind the line of each is what is drawn of its queue as it is after the move
+abbrev pub Tells : Shown → World → List Move → List ℕ → Type 0
+Tells shown w [] lines = lines ≡ []
+Tells shown w (m ∷ ms) lines = (drawn : List ℕ) × (later : List ℕ) × IsDrawn (after_it w m) (drawn_at_once shown.pictures m) drawn
+    × Tells shown (after_it w m) ms later × (lines ≡ line_in shown w m ++ (drawn ++ later))
+
+-- the last move, if there is one, of moves behind this one
+abbrev pub last_from : Option Move → List Move → Option Move
+last_from last [] = last
+last_from last (m ∷ ms) = last_from (Some m) ms
 
 abbrev pub count_line : Bool → ℕ → ℕ → List ℕ
 count_line false made read = codes "moves " ++ (decimal made ++ (codes " of " ++ (decimal read ++ 10 ∷ [])))
 count_line true made read = codes "{\"made\":" ++ (decimal made ++ (codes ",\"read\":" ++ (decimal read ++ codes "}\n")))
 
--- what is printed of each move, and at last how many of them happened
-abbrev pub replayed : Shown → World → List Move → List ℕ
-replayed shown w ms = lines_in shown w ms ++ count_line shown.json (moves_happened w (map queue_move ms)) (length ms)
+-- the page tells of each move, then draws the last one's queue, if that is asked for, and says how many of the moves happened
+pub record Replayed (shown : Shown) (w : World) (ms : List Move) (page : List ℕ) : Type 0 where
+  pub lines : List ℕ
+  pub drawn : List ℕ
+  pub tells : Tells shown w ms lines
+  pub is_drawn : IsDrawn (after_moves w (map queue_move ms)) (drawn_at_last shown.pictures (last_from None ms)) drawn
+  pub page_is : page ≡ lines ++ (drawn ++ count_line shown.json (moves_happened w (map queue_move ms)) (length ms))
 
 -- the page is what the text's moves print
 pub record IsPageOf (shown : Shown) (w : World) (text page : List ℕ) : Type 0 where
   pub moves : List Move
   pub says : Says (lines_of text) moves
-  pub printed : page ≡ replayed shown w moves
+  pub printed : Replayed shown w moves page
 
 -- the queues of the plan, as they are made
 abbrev pub world_of : QueuePlan → World
@@ -135,13 +170,15 @@ pub record IsReplay (plan : QueuePlan) (text : List ℕ) (moves : List Move) : T
 pub record HasPage (plan : QueuePlan) (text page : List ℕ) : Type 0 where
   pub moves : List Move
   pub replay : IsReplay plan text moves
-  pub printed : page ≡ replayed plan.shown (world_of plan) moves
+  pub printed : Replayed plan.shown (world_of plan) moves page
 
 -- all moves were answered
 pub record HasReplayed (plan : QueuePlan) (text : List ℕ) (old new : Option (List ℕ)) : Type 0 where
   pub moves : List Move
   pub replay : IsReplay plan text moves
-  pub printed : Appends old new (replayed plan.shown (world_of plan) moves)
+  pub page : List ℕ
+  pub replayed : Replayed plan.shown (world_of plan) moves page
+  pub printed : Appends old new page
 
 -- why a text that was read is refused, the first that applies: a faulty line comes before queues that there can't be, and
 -- both before want of memory
@@ -171,6 +208,8 @@ pub record EndsReplay (plan : QueuePlan) (text : List ℕ) (status : ℕ) (old n
 
 -- what is printed of one move was written, and the queues are those of the world after it
 pub record WroteMove (shown : Shown) (w : World) (m : Move) (made : Bool) (old new : List ℕ) (queues : QueueParts) : Type 0 where
-  pub text : new ≡ old ++ line_in shown w m
+  pub drawn : List ℕ
+  pub is_drawn : IsDrawn (after_it w m) (drawn_at_once shown.pictures m) drawn
+  pub text : new ≡ old ++ (line_in shown w m ++ drawn)
   pub agrees : QueuesAgree queues (after_it w m)
   pub counted : made ≡ can_move w (queue_move m)

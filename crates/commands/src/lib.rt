@@ -25,5 +25,5 @@ pub use answering::{DONE, REFUSED, answer, perform, print, put, refuse};
 pub use decode::Form;
 pub use input::read_text;
 pub use refusal::Refusal;
-pub use replay::{NOTES, QueuePlan, Shown, replay_text};
+pub use replay::{NOTES, Pictures, QueuePlan, Shown, replay_text};
 pub use request::Request;

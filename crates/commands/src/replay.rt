@@ -1,32 +1,66 @@
 //! A list of moves, read whole and then answered whole.
 
-ghost use Rattle.std.specs.Prelude.{◌≡◌, ℕ, false, IfErr, IfNone, IfOk, IfSome, IsTrue};
+ghost use Rattle.std.specs.Prelude.{◌≡◌, ◌++◌, ℕ, false, IfErr, IfNone, IfOk, IfSome, IsTrue, OnOk};
 ghost use Rattle.std.specs.String.{string_bytes};
 ghost use Rattle.ring_model.specs.Worlds.{World, IsReachableWorld};
 ghost use Rattle.ring_machine.specs.Queues.{QueuesAgree};
 ghost use Rattle.text_lines.specs.Parts.{lines_of, says_something};
-ghost use Rattle.commands.specs.Replay.{HasPage, IsFaulty, IsMoveList, IsNoMove, IsPageOf, IsReplayed, Reads, RefusesReplay, ReplayRefused, WroteMove, shown_registers};
+ghost use Rattle.commands.specs.Replay.{HasPage, IsFaulty, IsMoveList, IsNoMove, IsPageOf, IsReplayed, Reads, RefusesReplay, ReplayRefused, WroteMove, drawn_at_last, drawn_at_once, drawn_of, shown_registers};
 
 use crate::input::read_text;
 use crate::refusal::Refusal;
 use crate::telling::{write_count, write_told};
+use pictures::write_queue;
 use ring_machine::{Completion, Move, Queues, Registers};
 use std::alloc::{AllocError, Global};
 use std::io::Read;
 use text_lines::{cut, says_something};
 
-/// What is printed of each move: its note as a line of words or as a JSON object, and what the registers of its queue hold
-/// after it.
+/// Behind which moves' lines the queue is drawn that the move names, as it is after the move (`write_picture` of
+/// `pictures`).
+#[derive(Clone, Copy, PartialEq, Eq)]
+pub enum Pictures {
+    Never,
+    Each,
+    Last,
+}
+
+impl Pictures {
+    /// The move whose queue is drawn at once, behind its line.
+    fn at_once(self, action: Move) -> Option<Move>
+        ensures { result ≡ drawn_at_once self action }
+    {
+        match self {
+            Pictures::Each => Some(action),
+            Pictures::Never | Pictures::Last => None,
+        }
+    }
+
+    /// The move whose queue is drawn behind all lines.
+    fn at_last(self, last: Option<Move>) -> Option<Move>
+        ensures { result ≡ drawn_at_last self last }
+    {
+        match self {
+            Pictures::Last => last,
+            Pictures::Never | Pictures::Each => None,
+        }
+    }
+}
+
+/// What is printed of each move: its note as a line of words or as a JSON object, what the registers of its queue hold
+/// after it, and the queue itself.
 #[derive(Clone, Copy)]
 pub struct Shown {
     pub json: bool,
     pub registers: bool,
+    pub pictures: Pictures,
 }
 
 /// The note alone, as a line of words.
 pub const NOTES: Shown = Shown {
     json: false,
     registers: false,
+    pictures: Pictures::Never,
 };
 
 /// Which queues the moves are made on: how many pairs, of how many descriptors each, whether they begin enabled, and
@@ -110,6 +144,7 @@ fn page_of(
     let mut page = String::new(alloc);
     let mut made: usize = 0;
     let mut read: usize = 0;
+    let mut last = None;
     let mut rest = Some(text);
     while let Some(left) = rest {
         let (line, after) = cut(left, b'\n');
@@ -120,8 +155,10 @@ fn page_of(
         if let Ok(action) = Move::parse(line) {
             read += 1;
             made += usize::from(write_move(&mut page, shown, queues, &action)?);
+            last = Some(action);
         }
     }
+    draw(&mut page, queues, shown.pictures.at_last(last))?;
     write_count(&mut page, shown.json, made, read)?;
     Ok(page)
 }
@@ -137,7 +174,18 @@ fn shown_registers(shown: Shown, queues: &Queues, action: &Move) -> Option<Regis
     }
 }
 
-/// Makes a move, and writes its line with what is shown of the registers after it. It answers whether the move was made.
+/// Draws the queue of a move, if there is one to be drawn.
+fn draw(page: &mut String, queues: &Queues, action: Option<Move>) -> Result<(), AllocError>
+    ensures { OnOk result (string_bytes page.new ≡ string_bytes page.old ++ drawn_of queues.now action) }
+{
+    match action {
+        Some(action) => write_queue(page, queues, &action),
+        None => Ok(()),
+    }
+}
+
+/// Makes a move, and writes its line with what is shown of the registers after it, and of the queue. It answers whether
+/// the move was made.
 fn write_move(
     page: &mut String,
     shown: Shown,
@@ -147,16 +195,9 @@ fn write_move(
     ensures { IfOk result (λ made. (pairs n : ℕ) (w : World) → IsReachableWorld pairs n w → QueuesAgree queues.old w
         → WroteMove shown w action.now made (string_bytes page.old) (string_bytes page.new) queues.new) }
 {
-    let told = queues.step(*action);
+    let told = queues.step(*action).ok();
     let read = shown_registers(shown, queues, action);
-    match told {
-        Ok(note) => {
-            write_told(page, shown.json, action, Some(note), read)?;
-            Ok(true)
-        }
-        Err(_) => {
-            write_told(page, shown.json, action, None, read)?;
-            Ok(false)
-        }
-    }
+    write_told(page, shown.json, action, told, read)?;
+    draw(page, queues, shown.pictures.at_once(*action))?;
+    Ok(told.is_some())
 }

@@ -1,14 +1,17 @@
 -- A queue as lines of text, one a place: which item lies there, who has it, what its descriptor says, the buffer in its slot,
 -- and what stands there. Columns are apart by a tab.
-use Rattle.std.specs.Prelude.{ℕ, zero, suc, ◌-◌, ◌/◌, ◌%◌, ◌<◌, Bool, true, false, ◌&&◌, ◌||◌, ◌==◌, nat_lt, List, [], ◌∷◌, ◌++◌, Option, Some, None, codes, decimal, length, slice_index, if◌then◌else◌}
+use Rattle.std.specs.Prelude.{ℕ, zero, suc, ◌-◌, ◌/◌, ◌%◌, Bool, true, false, ◌||◌, ◌==◌, nat_lt, List, [], ◌∷◌, ◌++◌, Option, Some, None, codes, decimal, option_map, slice_get, slice_index, if◌then◌else◌}
 use Rattle.ring_model.specs.declared.states.Owner.{Owner}
 use Rattle.ring_model.specs.declared.states.Owner.TheVariants.{Driver, Ring, Controller}
 use Rattle.ring_model.specs.shared.Lists.{slot_at}
 use Rattle.ring_model.specs.shared.Places.{between_places, place_next}
 use Rattle.ring_model.specs.shared.Agreement.{Wrapped}
+use Rattle.ring_machine.specs.declared.moves.Move.{Move}
+use Rattle.ring_machine.specs.declared.moves.Move.TheVariants as move
 use Rattle.ring_machine.specs.declared.registers.Side.{Side}
 use Rattle.ring_machine.specs.declared.registers.Side.TheVariants.{Receive, Transmit}
 use Rattle.ring_machine.specs.shared.Machine.{told_owner}
+use Rattle.ring_machine.specs.Queues.{QueueParts}
 
 -- how many places lie from the oldest item that is out up to this one
 abbrev pub age_at : Wrapped ℕ → ℕ → ℕ
@@ -110,3 +113,12 @@ heading = codes "place\titem\towner\tword\tbuffer\n"
 
 abbrev pub picture : Side → Wrapped ℕ → List ℕ
 picture side w = heading ++ places_text side w w.size
+
+abbrev pub picture_if_there : Side → Option (Wrapped ℕ) → List ℕ
+picture_if_there side None = []
+picture_if_there side (Some w) = picture side w
+
+-- of the queue that a move names, if it is there
+abbrev pub queue_picture : QueueParts → Move → List ℕ
+queue_picture p (move.Receive q s) = picture_if_there Receive (option_map (λ m. m.queue) (slice_get p.receive q))
+queue_picture p (move.Transmit q s) = picture_if_there Transmit (option_map (λ m. m.queue) (slice_get p.transmit q))

@@ -3,5 +3,7 @@
 
 mod columns;
 mod picture;
+mod queues;
 
 pub use picture::write_picture;
+pub use queues::write_queue;

@@ -8,7 +8,7 @@ use Rattle.commands.proofs.replay.page_of.Given as goal
 
 abbrev pub invariant-loop-rest : goal.invariant-loop-rest
 invariant-loop-rest l = record {
-  page : PageSoFar l.shown l.text (string_bytes l.page) l.made l.read (later_parts 10 l.rest) l.initial.queues l.queues;
+  page : PageSoFar l.shown l.text (string_bytes l.page) l.made l.read l.last (later_parts 10 l.rest) l.initial.queues l.queues;
   few : l.made ≤ l.read;
   lines : l.read + left_len l.rest ≤ length l.text + 1;
 }

@@ -1,5 +1,4 @@
 -- They are those that the queues have.
-use Rattle.ring_machine.specs.Queues.{QueuesAgree}
 use Rattle.ring_machine.specs.Registers.{QueuesRead}
 use Rattle.commands.proofs.replay.shown_registers.Goals as goal
 

@@ -1,0 +1,26 @@
+//! One of several queues.
+ghost use Rattle.std.specs.Prelude.{◌≡◌, ◌++◌, OnOk};
+ghost use Rattle.std.specs.String.{string_bytes};
+ghost use Rattle.pictures.specs.Pictures.{picture_if_there, queue_picture};
+
+use crate::picture::write_picture;
+use ring_machine::{Move, Queues, Side};
+use std::alloc::AllocError;
+
+/// Writes the queue that a move names behind a text, as [`write_picture`] does, and nothing where it is not there.
+///
+/// An `Err` says that memory was refused; the text may then have some of the lines.
+pub fn write_queue(text: &mut String, queues: &Queues, action: &Move) -> Result<(), AllocError>
+    ensures { OnOk result (string_bytes text.new ≡ string_bytes text.old ++ queue_picture queues.now action.now) }
+{
+    match *action {
+        Move::Receive(queue, _) => match queues.receive(queue) {
+            Some(machine) => write_picture(text, Side::Receive, machine.queue()),
+            None => Ok(()),
+        },
+        Move::Transmit(queue, _) => match queues.transmit(queue) {
+            Some(machine) => write_picture(text, Side::Transmit, machine.queue()),
+            None => Ok(()),
+        },
+    }
+}
