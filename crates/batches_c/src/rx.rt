@@ -61,10 +61,10 @@ pub extern "C" fn poll82599_rx_queue_move(
     ensures other_queue { (as_rx_queue queue.old.held ≡ None) ⊎ (as_packets packets.old.held ≡ None) → queue.new.held ≡ queue.old.held }
     ensures other_packets { (as_rx_queue queue.old.held ≡ None) ⊎ (as_packets packets.old.held ≡ None) → packets.new.held ≡ packets.old.held }
     ensures own { SameQueue (as_rx_queue queue.old.held) (as_rx_queue queue.new.held) }
-    ensures answers { (call.old.operation ≡ 1) → (call.new.answer ≢ 4294967295) → call.new.answer ≤ 2 }
+    ensures answers { (call.old.operation ≡ 1) → IsSome (as_rx_queue queue.old.held) → IsSome (as_packets packets.old.held) → call.new.answer ≤ 2 }
     ensures batch { (call.old.operation ≡ 0) → (call.new.answer ≡ 1)
         → Among (TookBatch call.new.count) (as_rx_queue queue.old.held) (as_packets packets.old.held) (as_rx_queue queue.new.held) (as_packets packets.new.held) }
-    ensures off { (call.old.operation ≡ 0) → (call.new.answer ≢ 1) → (call.new.answer ≢ 4294967295) → IsNotLive (as_rx_queue queue.old.held) }
+    ensures off { (call.old.operation ≡ 0) → (call.new.answer ≢ 1) → IsSome (as_rx_queue queue.old.held) → IsSome (as_packets packets.old.held) → IsNotLive (as_rx_queue queue.old.held) }
     ensures back { (call.old.operation ≡ 1) → (call.new.answer ≡ 1)
         → Among (AllCame call.new.count) (as_rx_queue queue.old.held) (as_packets packets.old.held) (as_rx_queue queue.new.held) (as_packets packets.new.held) }
     ensures full { (call.old.operation ≡ 1) → (call.new.answer ≡ 0) → Among FilledUp (as_rx_queue queue.old.held) (as_packets packets.old.held) (as_rx_queue queue.new.held) (as_packets packets.new.held) }
@@ -107,7 +107,7 @@ pub extern "C" fn poll82599_rx_queue_do(
     requires { IsSome queue.old.held }
     ensures other { as_rx_queue queue.old.held ≡ None → (call.new.answer ≡ 4294967295) × (queue.new.held ≡ queue.old.held) }
     ensures own { SameQueue (as_rx_queue queue.old.held) (as_rx_queue queue.new.held) }
-    ensures answers { (call.old.operation ≡ 0) → (call.new.answer ≢ 4294967295) → call.new.answer ≤ 2 }
+    ensures answers { (call.old.operation ≡ 0) → IsSome (as_rx_queue queue.old.held) → call.new.answer ≤ 2 }
     ensures on { (call.old.operation ≡ 0) → (call.new.answer ≡ 1) → Between (TriedEnabling true) (as_rx_queue queue.old.held) (as_rx_queue queue.new.held) }
     ensures waits { (call.old.operation ≡ 0) → (call.new.answer ≡ 0) → Between (TriedEnabling false) (as_rx_queue queue.old.held) (as_rx_queue queue.new.held) }
     ensures stopped { (call.old.operation ≡ 0) → (call.new.answer ≡ 2) → IsStopped (as_rx_queue queue.old.held) }
@@ -152,7 +152,7 @@ pub extern "C" fn poll82599_rx_device_do(
     requires { IsSome device.old.held }
     ensures other { as_rx_device device.old.held ≡ None → (call.new.answer ≡ 4294967295) × (device.new.held ≡ device.old.held) }
     ensures own { SameDevice (as_rx_device device.old.held) (as_rx_device device.new.held) }
-    ensures answers { (call.old.operation ≡ 0) → (call.new.answer ≢ 4294967295) → call.new.answer ≤ 5 }
+    ensures answers { (call.old.operation ≡ 0) → IsSome (as_rx_device device.old.held) → call.new.answer ≤ 5 }
     ensures stored { (call.old.operation ≡ 0) → (call.new.answer ≡ 1) → Between (StoredWhole frame.now) (as_rx_device device.old.held) (as_rx_device device.new.held) }
     ensures held { (call.old.operation ≡ 0) → (call.new.answer ≡ 0) → Between (λ old new. WasHeld old frame.now new) (as_rx_device device.old.held) (as_rx_device device.new.held) }
     ensures length { (call.old.operation ≡ 0) → (call.new.answer ≡ 2) → Between (λ old new. WasRefused old frame.now new) (as_rx_device device.old.held) (as_rx_device device.new.held) }

@@ -71,11 +71,11 @@ pub extern "C" fn poll82599_tx_queue_move(
     ensures off { (call.old.operation ≡ 0) → (call.new.answer ≡ 0) → IsNotLive (as_tx_queue queue.old.held) }
     ensures cleaned { (call.old.operation ≡ 1) → (call.new.answer ≡ 1)
         → Among (CleanedSome call.new.count) (as_tx_queue queue.old.held) (as_packets packets.old.held) (as_tx_queue queue.new.held) (as_packets packets.new.held) }
-    ensures unclean { (call.old.operation ≡ 1) → (call.new.answer ≢ 1) → (call.new.answer ≢ 4294967295) → IsNotLive (as_tx_queue queue.old.held) }
+    ensures unclean { (call.old.operation ≡ 1) → (call.new.answer ≢ 1) → IsSome (as_tx_queue queue.old.held) → IsSome (as_packets packets.old.held) → IsNotLive (as_tx_queue queue.old.held) }
     ensures back { (call.old.operation ≡ 2) → (call.new.answer ≡ 1)
         → Among (AllCame call.new.count) (as_tx_queue queue.old.held) (as_packets packets.old.held) (as_tx_queue queue.new.held) (as_packets packets.new.held) }
     ensures full { (call.old.operation ≡ 2) → (call.new.answer ≡ 0) → Among FilledUp (as_tx_queue queue.old.held) (as_packets packets.old.held) (as_tx_queue queue.new.held) (as_packets packets.new.held) }
-    ensures waits { (call.old.operation ≡ 2) → (call.new.answer ≢ 0) → (call.new.answer ≢ 1) → (call.new.answer ≢ 4294967295) → IsNotStopped (as_tx_queue queue.old.held) }
+    ensures waits { (call.old.operation ≡ 2) → (call.new.answer ≢ 0) → (call.new.answer ≢ 1) → IsSome (as_tx_queue queue.old.held) → IsSome (as_packets packets.old.held) → IsNotStopped (as_tx_queue queue.old.held) }
     ensures queue_off { (call.old.operation ≢ 2) → (call.new.answer ≡ 0) → queue.new.held ≡ queue.old.held }
     ensures packets_off { (call.old.operation ≢ 2) → (call.new.answer ≡ 0) → packets.new.held ≡ packets.old.held }
     ensures queue { (call.old.operation ≢ 0) → (call.new.answer ≢ 0) → (call.new.answer ≢ 1) → queue.new.held ≡ queue.old.held }
@@ -109,7 +109,7 @@ pub extern "C" fn poll82599_tx_queue_do(
     requires { IsSome queue.old.held }
     ensures other { as_tx_queue queue.old.held ≡ None → (call.new.answer ≡ 4294967295) × (queue.new.held ≡ queue.old.held) }
     ensures own { SameQueue (as_tx_queue queue.old.held) (as_tx_queue queue.new.held) }
-    ensures answers { (call.old.operation ≡ 0) → (call.new.answer ≢ 4294967295) → call.new.answer ≤ 2 }
+    ensures answers { (call.old.operation ≡ 0) → IsSome (as_tx_queue queue.old.held) → call.new.answer ≤ 2 }
     ensures on { (call.old.operation ≡ 0) → (call.new.answer ≡ 1) → Between (TriedEnabling true) (as_tx_queue queue.old.held) (as_tx_queue queue.new.held) }
     ensures waits { (call.old.operation ≡ 0) → (call.new.answer ≡ 0) → Between (TriedEnabling false) (as_tx_queue queue.old.held) (as_tx_queue queue.new.held) }
     ensures stopped { (call.old.operation ≡ 0) → (call.new.answer ≡ 2) → IsStopped (as_tx_queue queue.old.held) }
@@ -151,7 +151,7 @@ pub extern "C" fn poll82599_tx_device_do(
     requires { IsSome device.old.held }
     ensures other { as_tx_device device.old.held ≡ None → (call.new.answer ≡ 4294967295) × (device.new.held ≡ device.old.held) }
     ensures own { SameDevice (as_tx_device device.old.held) (as_tx_device device.new.held) }
-    ensures answers { (call.old.operation ≡ 0) → (call.new.answer ≢ 4294967295) → call.new.answer ≤ 6 }
+    ensures answers { (call.old.operation ≡ 0) → IsSome (as_tx_device device.old.held) → call.new.answer ≤ 6 }
     ensures two { (call.old.operation ≡ 0) → call.new.answer ≢ 2 }
     ensures sent { (call.old.operation ≡ 0) → (call.new.answer ≡ 1)
         → Between (SentInto call.new.count room.old room.new) (as_tx_device device.old.held) (as_tx_device device.new.held) }

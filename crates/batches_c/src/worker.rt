@@ -37,7 +37,7 @@ pub extern "C" fn poll82599_packets_put(alloc: Global, packets: &mut Handle, fra
     ensures step { (result ≡ 1) → Between (PutFrame frame.now) (as_packets packets.old.held) (as_packets packets.new.held) }
     ensures refused { (result ≡ 2) → ¬ HasFrameLength frame.now }
     ensures full { (result ≡ 0) → Of (HasNoPlace frame.now) (as_packets packets.old.held) }
-    ensures answers { (result ≢ 4294967295) → result ≤ 2 }
+    ensures answers { IsSome (as_packets packets.old.held) → result ≤ 2 }
     ensures kept { (result ≢ 1) → packets.new.held ≡ packets.old.held }
 {
     let mut end = packets.take(alloc);
