@@ -1,5 +1,5 @@
 -- What clap makes of `replay` and its options.
-use Rattle.std.proofs.Common.{◌≡◌, ◌∙◌, ap, ap₂, refl, arith, ℕ, Bool, true, false, List, [], ◌∷◌, ◌++◌, codes, slice_index_or, Some}
+use Rattle.std.proofs.Common.{◌≡◌, ◌∙◌, ap, ap₂, refl, arith, ℕ, Bool, true, false, List, [], ◌∷◌, ◌++◌, codes, slice_index_or, Option, Some, None}
 use Rattle.std.specs.Prelude.{not}
 use Rattle.std.specs.Fmt.{digits}
 use Rattle.clap.specs.Simple.{Shape, new_shape}
@@ -7,28 +7,59 @@ use Rattle.clap.specs.Words.{App, Row, Text, built, subcommand_of, takes}
 use Rattle.clap.proofs.OnLiterals.{clap_on_literals}
 use Rattle.ring_model.specs.declared.states.Completion.{Completion}
 use Rattle.ring_model.specs.declared.states.Completion.TheVariants.{Head, Status}
+use Rattle.commands.specs.declared.replay.Pictures.{Pictures}
+use Rattle.commands.specs.declared.replay.Pictures.TheVariants.{Never, Each, Last}
 use Rattle.commands.specs.declared.replay.QueuePlan.{QueuePlan}
 use Rattle.commands.specs.declared.replay.Shown.{Shown}
 use Rattle.command_line.specs.CommandLine.{Choices, HasReplay, IsProgram, SaysReplay, program_app}
-use Rattle.command_line.specs.OptionWords.{completion_of, is_head}
-use Rattle.command_line.proofs.Options.{Given, words_of}
-use Rattle.command_line.proofs.Options.Given.{flag, number}
+use Rattle.command_line.specs.OptionWords.{completion_of, is_head, picture_value, picture_words}
+use Rattle.command_line.proofs.Options.{Given, IsLawful, Shown as ValueShown, optional_said, words_of}
+use Rattle.command_line.proofs.Options.Given.{flag, number, optional}
+use Rattle.command_line.proofs.Options.Shown.{alone, with_word}
 use Rattle.command_line.proofs.OptionLists.{AreLawful, HasOptions, IsSaid, IsCommand, all_words, is_said, options_found, options_taken, said_of}
 
 -- `replay` as clap builds it, which says nothing of the choices of `decode`
 abbrev shape : Shape
 shape = let none : Choices = record { ref_ptr = (0, 0); now = [] } in slice_index_or (built (program_app none none)).subs 2 (new_shape [])
 
+-- what the words say of pictures
+abbrev picture_said : Pictures → Option ValueShown
+picture_said Never = None
+picture_said Each = Some alone
+picture_said Last = Some (with_word (codes "last"))
+
+picture_lawful : (pictures : Pictures) → IsLawful (optional (codes "picture") (codes "each") (picture_said pictures))
+picture_lawful Never = tt
+picture_lawful Each = tt
+picture_lawful Last = record { dashes = refl; long = refl }
+
+picture_words_are : (pictures : Pictures) → picture_words pictures ≡ words_of (optional (codes "picture") (codes "each") (picture_said pictures))
+picture_words_are Never = refl
+picture_words_are Each = refl
+picture_words_are Last = refl
+
+picture_value_is : (pictures : Pictures) → optional_said (codes "each") (picture_said pictures) ≡ picture_value pictures
+picture_value_is Never = refl
+picture_value_is Each = refl
+picture_value_is Last = refl
+
 -- ---- its options, with what the words say
+
+abbrev ring_given : (words : List Text) (plan : QueuePlan) → SaysReplay words plan → Given
+ring_given words plan says = number (codes "ring") 4294967295 (codes "8" ∷ []) (said_of _ _ _ _ _ says.says_ring)
+
+abbrev pairs_given : (words : List Text) (plan : QueuePlan) → SaysReplay words plan → Given
+pairs_given words plan says = number (codes "pairs") 4294967295 (codes "1" ∷ []) (said_of _ _ _ _ _ says.says_pairs)
 
 abbrev options : (words : List Text) (plan : QueuePlan) → SaysReplay words plan → List Given
 options words plan says =
-    number (codes "ring") 4294967295 (codes "8" ∷ []) (said_of _ _ _ _ _ says.says_ring)
-    ∷ number (codes "pairs") 4294967295 (codes "1" ∷ []) (said_of _ _ _ _ _ says.says_pairs)
+    ring_given words plan says
+    ∷ pairs_given words plan says
     ∷ flag (codes "off") (not plan.enabled)
     ∷ flag (codes "head") (is_head plan.completion)
     ∷ flag (codes "json") plan.shown.json
     ∷ flag (codes "registers") plan.shown.registers
+    ∷ optional (codes "picture") (codes "each") (picture_said plan.shown.pictures)
     ∷ []
 
 is_command : (rings formats : Choices) → IsCommand rings formats (codes "replay") shape
@@ -49,15 +80,19 @@ unfolding digits
 is_pairs words plan says = is_said (codes "pairs") 4294967295 1 (codes "1") says.pairs plan.pairs (omega arith) (omega arith) refl says.says_pairs
 
 are_lawful : (words : List Text) (plan : QueuePlan) (says : SaysReplay words plan) → AreLawful (options words plan says)
-are_lawful words plan says = ((is_ring words plan says).lawful, ((is_pairs words plan says).lawful, (tt, (tt, (tt, (tt, tt))))))
+are_lawful words plan says = ((is_ring words plan says).lawful, ((is_pairs words plan says).lawful, (tt, (tt, (tt, (tt, (picture_lawful plan.shown.pictures, tt)))))))
 
 words_are : (words : List Text) (plan : QueuePlan) (says : SaysReplay words plan) → words ≡ codes "replay" ∷ all_words (options words plan says)
 words_are words plan says =
     let flags : List Text = words_of (flag (codes "off") (not plan.enabled))
     ++ (words_of (flag (codes "head") (is_head plan.completion))
-    ++ (words_of (flag (codes "json") plan.shown.json) ++ words_of (flag (codes "registers") plan.shown.registers))) in
+    ++ (words_of (flag (codes "json") plan.shown.json) ++ (words_of (flag (codes "registers") plan.shown.registers) ++ picture_words plan.shown.pictures))) in
+    let before : List Text → List Text = λ (drawn : List Text). words_of (flag (codes "off") (not plan.enabled))
+    ++ (words_of (flag (codes "head") (is_head plan.completion))
+    ++ (words_of (flag (codes "json") plan.shown.json) ++ (words_of (flag (codes "registers") plan.shown.registers) ++ drawn))) in
     says.words_are
-    ∙ ap₂ (λ (a b : List Text). codes "replay" ∷ (a ++ (b ++ flags))) (is_ring words plan says).words_are (is_pairs words plan says).words_are
+    ∙ (ap₂ (λ (a b : List Text). codes "replay" ∷ (a ++ (b ++ flags))) (is_ring words plan says).words_are (is_pairs words plan says).words_are
+    ∙ ap (λ (drawn : List Text). codes "replay" ∷ (words_of (ring_given words plan says) ++ (words_of (pairs_given words plan says) ++ before drawn))) (picture_words_are plan.shown.pictures))
 
 -- ---- what clap makes of them
 
@@ -81,6 +116,8 @@ replay_found app words plan program says =
         head = found.2 3 none (omega arith);
         json = found.2 4 none (omega arith);
         registers = found.2 5 none (omega arith);
+        picture = found.2 6 none (omega arith) ∙ picture_value_is plan.shown.pictures;
+        all_lines = says.all_lines;
         ring_fits = ring.fits;
         pairs_fits = pairs.fits;
       },
@@ -95,8 +132,9 @@ pub completion_is : (c : Completion) → completion_of (is_head c) ≡ c
 completion_is Head = refl
 completion_is Status = refl
 
-pub shown_is : (shown : Shown) (j r : Bool) → j ≡ shown.json → r ≡ shown.registers → ◌≡◌ {A = Shown} (record { json = j; registers = r }) shown
-shown_is shown j r json_is registers_is = rw (json_is, registers_is) refl
+pub shown_is : (shown : Shown) (j r : Bool) (p : Pictures) → j ≡ shown.json → r ≡ shown.registers → p ≡ shown.pictures
+    → ◌≡◌ {A = Shown} (record { json = j; registers = r; pictures = p }) shown
+shown_is shown j r p json_is registers_is pictures_are = rw (json_is, registers_is, pictures_are) refl
 
 pub plan_is : (plan : QueuePlan) (n k : ℕ) (b : Bool) (c : Completion) (s : Shown) → k ≡ plan.pairs → n ≡ plan.ring → b ≡ plan.enabled → c ≡ plan.completion → s ≡ plan.shown
     → ◌≡◌ {A = QueuePlan} (record { pairs = k; ring = n; enabled = b; completion = c; shown = s }) plan

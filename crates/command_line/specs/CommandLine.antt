@@ -1,5 +1,5 @@
 -- The program's command line, as clap reads it.
-use Rattle.std.specs.Prelude.{◌≡◌, ◌≢◌, ℕ, ◌^◌, ◌<◌, true, false, not, List, [], ◌∷◌, ◌++◌, codes, decimal, map, slice_index, Some, All}
+use Rattle.std.specs.Prelude.{◌≡◌, ◌≢◌, ℕ, ◌^◌, ◌<◌, true, false, not, ◌&&◌, List, [], ◌∷◌, ◌++◌, codes, decimal, map, slice_index, Some, All}
 use Rattle.std.specs.Borrow.{Bor}
 use Rattle.clap.specs.Words.{App, Kinds, Row, Rule, Text, fault_of, first_of, new_app, new_rule, one_of, with_rule, with_subcommand}
 use Rattle.clap.specs.Values.{bool_text}
@@ -15,7 +15,7 @@ use Rattle.forwarder.specs.declared.config.Config.{Config}
 use Rattle.forward_command.specs.declared.printing.Printing.{Printing}
 use Rattle.capture_command.specs.Requests.{IsPlaced}
 use Rattle.capture_command.specs.declared.request.CaptureRequest.{CaptureRequest}
-use Rattle.command_line.specs.OptionWords.{SaysNumber, flag_rule, flag_words, is_head, number_rule}
+use Rattle.command_line.specs.OptionWords.{SaysNumber, draws_any, flag_rule, flag_words, is_head, number_rule, optional_rule, picture_value, picture_words}
 use Rattle.command_line.specs.ScheduleWords.{SaysSchedules, schedules_app}
 use Rattle.schedule_command.specs.declared.request.ScheduleRequest.{ScheduleRequest}
 use Rattle.cover_command.specs.declared.request.CoverRequest.{CoverRequest}
@@ -56,7 +56,8 @@ replay_app =
     let with_ring = with_rule (new_app (codes "replay")) (number_rule (codes "ring") (codes "8")) in
     let with_pairs = with_rule with_ring (number_rule (codes "pairs") (codes "1")) in
     let with_head = with_rule (with_rule with_pairs (flag_rule (codes "off"))) (flag_rule (codes "head")) in
-    with_rule (with_rule with_head (flag_rule (codes "json"))) (flag_rule (codes "registers"))
+    let with_registers = with_rule (with_rule with_head (flag_rule (codes "json"))) (flag_rule (codes "registers")) in
+    with_rule with_registers (optional_rule (codes "picture") (codes "each"))
 
 -- the options of `forward` for queues and buffers
 abbrev pub with_queue_rules : App → App
@@ -118,7 +119,8 @@ pub record SaysDecode (words : List Text) (form : Form) (digits : Text) : Type 0
   pub no_option : slice_index digits 0 ≢ 45
 
 -- the words are `replay` and its options in this order: `--off` stands where the queues begin disabled, `--head` where
--- they report by a head word, `--json` where objects are printed, and `--registers` where registers are shown
+-- they report by a head word, `--json` where objects are printed, `--registers` where registers are shown, and `--picture` or
+-- `--picture=last` where queues are drawn, which are lines and stand with no objects
 pub record SaysReplay (words : List Text) (plan : QueuePlan) : Type 0 where
   pub ring : List Text
   pub pairs : List Text
@@ -127,7 +129,9 @@ pub record SaysReplay (words : List Text) (plan : QueuePlan) : Type 0 where
   pub words_are : words ≡ codes "replay" ∷ (ring ++ (pairs
       ++ (flag_words (codes "--off") (not plan.enabled)
       ++ (flag_words (codes "--head") (is_head plan.completion)
-      ++ (flag_words (codes "--json") plan.shown.json ++ flag_words (codes "--registers") plan.shown.registers)))))
+      ++ (flag_words (codes "--json") plan.shown.json
+      ++ (flag_words (codes "--registers") plan.shown.registers ++ picture_words plan.shown.pictures))))))
+  pub all_lines : (plan.shown.json && draws_any plan.shown.pictures) ≡ false
 
 -- the words are `forward` and its options in this order: `--drop` stands where frames are dropped, `--no-retry` where
 -- packets are, `--head` where the transmit queues report by a head word, `--quiet` where no wire is printed, `--json`
@@ -174,6 +178,8 @@ pub record HasReplay (rows : List Row) (plan : QueuePlan) : Type 0 where
   pub head : one_of (codes "head") rows ≡ Some (bool_text (is_head plan.completion))
   pub json : one_of (codes "json") rows ≡ Some (bool_text plan.shown.json)
   pub registers : one_of (codes "registers") rows ≡ Some (bool_text plan.shown.registers)
+  pub picture : first_of (codes "picture") rows ≡ picture_value plan.shown.pictures
+  pub all_lines : (plan.shown.json && draws_any plan.shown.pictures) ≡ false
   pub ring_fits : plan.ring < 2 ^ 32
   pub pairs_fits : plan.pairs < 2 ^ 32
 

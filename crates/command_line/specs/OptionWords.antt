@@ -1,10 +1,12 @@
 -- An option with a number, and one without a value: the argument that clap has for it, and its words.
-use Rattle.std.specs.Prelude.{◌≡◌, ◌⊎◌, ℕ, ◌^◌, ◌<◌, Bool, true, false, if◌then◌else◌, pos, List, [], ◌∷◌, decimal, Some}
+use Rattle.std.specs.Prelude.{◌≡◌, ◌⊎◌, ℕ, ◌^◌, ◌<◌, Bool, true, false, if◌then◌else◌, pos, List, [], ◌∷◌, codes, decimal, Option, Some, None}
 use Rattle.clap.specs.Words.{Rule, Text, new_rule}
 use Rattle.clap.specs.declared.builder.action.ArgAction.TheVariants.{SetTrue}
 use Rattle.clap.specs.declared.builder.value_parser.ValueParser.TheVariants.{Signed}
 use Rattle.ring_model.specs.declared.states.Completion.{Completion}
 use Rattle.ring_model.specs.declared.states.Completion.TheVariants.{Head, Status}
+use Rattle.commands.specs.declared.replay.Pictures.{Pictures}
+use Rattle.commands.specs.declared.replay.Pictures.TheVariants.{Never, Each, Last}
 
 -- an option with a number up to this one, which has these texts where it is left out
 abbrev pub bounded_rule : Text → ℕ → List Text → Rule
@@ -17,6 +19,15 @@ number_rule id default = bounded_rule id 4294967295 (default ∷ [])
 -- an option without a value
 abbrev pub flag_rule : Text → Rule
 flag_rule id = record (new_rule id) { long = Some id; action = Some SetTrue }
+
+-- an option whose value may be left out, where it has this one
+abbrev pub optional_rule : Text → Text → Rule
+optional_rule id value = record (new_rule id) {
+  long = Some id;
+  value_names = 1;
+  range = Some (record { start_inclusive = 0; end_inclusive = 1 });
+  missing = value ∷ [];
+}
 
 -- an option stands with a number below a bound, or is left out where the number is its default
 abbrev pub SaysNumberBelow : ℕ → Text → ℕ → List Text → ℕ → Type 0
@@ -36,3 +47,19 @@ is_head Status = false
 abbrev pub completion_of : Bool → Completion
 completion_of true = Head
 completion_of false = Status
+
+-- the words of pictures, and the option's value
+abbrev pub picture_words : Pictures → List Text
+picture_words Never = []
+picture_words Each = codes "--picture" ∷ []
+picture_words Last = codes "--picture=last" ∷ []
+
+abbrev pub picture_value : Pictures → Option Text
+picture_value Never = None
+picture_value Each = Some (codes "each")
+picture_value Last = Some (codes "last")
+
+abbrev pub draws_any : Pictures → Bool
+draws_any Never = false
+draws_any Each = true
+draws_any Last = true

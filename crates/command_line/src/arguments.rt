@@ -2,7 +2,7 @@
 ghost use Rattle.std.specs.Prelude.{◌≡◌, false};
 ghost use Rattle.clap.specs.Words.{rule_of};
 ghost use Rattle.command_line.specs.CommandLine.{choice_rule, hex_rule};
-ghost use Rattle.command_line.specs.OptionWords.{flag_rule, number_rule};
+ghost use Rattle.command_line.specs.OptionWords.{flag_rule, number_rule, optional_rule};
 ghost use Rattle.command_line.specs.ScheduleWords.{said_rule, share_rule};
 
 use clap::{Arg, ArgAction, value_parser};
@@ -43,6 +43,25 @@ pub(crate) fn share<'a>(alloc: Global, id: &'a str, help: &'a str) -> Arg<'a>
         .value_name("N")
         .value_parser(value_parser!(u32).range(0..=100))
         .default_value("0")
+        .help(help)
+}
+
+/// An option whose value may be left out, where it has this one.
+pub(crate) fn optional<'a>(
+    alloc: Global,
+    id: &'a str,
+    name: &'a str,
+    value: &'a str,
+    help: &'a str,
+) -> Arg<'a>
+    ensures rule { rule_of result ≡ optional_rule id.entry.now value.entry.now }
+    ensures local { result.global ≡ false }
+{
+    Arg::new(alloc, id)
+        .long(id)
+        .num_args(0..=1)
+        .value_name(name)
+        .default_missing_value(value)
         .help(help)
 }
 

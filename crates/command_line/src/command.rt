@@ -26,8 +26,9 @@ ghost use Rattle.command_line.specs.ScheduleWords.{HasCover, HasSchedules, SaysC
 ghost use Rattle.schedule_command.specs.declared.request.ScheduleRequest.{ScheduleRequest as Lists};
 ghost use Rattle.cover_command.specs.declared.request.CoverRequest.{CoverRequest as Covering};
 
-use crate::arguments::{choice, flag, hex, number};
+use crate::arguments::{choice, flag, hex, number, optional};
 use crate::captures::{from_capture, from_capture_in, to_capture, to_capture_in};
+use crate::drawings::{draws_any, pictures_in};
 use crate::files::with_files;
 use crate::lists::{lists_in, schedules};
 use capture_command::CaptureRequest;
@@ -46,6 +47,10 @@ const VERSION: &str = "0.1.0";
 
 /// What is told where words are missing that `clap` doesn't miss.
 const NOT_SAID: &str = "schedules takes --seed and --moves, or --cover";
+
+/// What is told where pictures can't be read, or stand beside objects.
+const NOT_SHOWN: &str =
+    "--picture stands alone or as --picture=last, and draws lines: it stands without --json";
 
 /// What is told where words stand beside `--cover` that say how lists are drawn.
 const NOT_DRAWN: &str =
@@ -127,6 +132,10 @@ fn fault_in<'a>(matches: &ArgMatches<'a>) -> (ErrorKind, &'static str) {
         Some(("schedules", found)) if found.get_flag("cover") => {
             (ErrorKind::ArgumentConflict, NOT_DRAWN)
         }
+        Some(("replay", found)) if found.get_flag("json") => {
+            (ErrorKind::ArgumentConflict, NOT_SHOWN)
+        }
+        Some(("replay", _)) => (ErrorKind::InvalidValue, NOT_SHOWN),
         _ => (ErrorKind::MissingRequiredArgument, NOT_SAID),
     }
 }
@@ -189,7 +198,7 @@ fn decode_in<'a>(decode: &ArgMatches<'a>) -> Option<Request<'a>>
     Some(Request::Decode { form, digits })
 }
 
-/// The request in matches of `replay`.
+/// The request in matches of `replay`, if its pictures can be read, and none is to be drawn among objects.
 fn replay_in<'a>(replay: &ArgMatches<'a>) -> Option<Request<'a>>
     ensures { (plan : QueuePlan) → HasReplay (rows_of (found_of replay.now)) plan
         → IsSomeAnd result (λ r. IsReplayOf r plan) }
@@ -198,9 +207,15 @@ fn replay_in<'a>(replay: &ArgMatches<'a>) -> Option<Request<'a>>
     let pairs = replay.get_one("pairs")?;
     let enabled = !replay.get_flag("off");
     let completion = completion_in(replay);
+    let pictures = pictures_in(replay)?;
+    let json = replay.get_flag("json");
+    if json && draws_any(pictures) {
+        return None;
+    }
     let shown = Shown {
-        json: replay.get_flag("json"),
+        json,
         registers: replay.get_flag("registers"),
+        pictures,
     };
     Some(Request::Replay {
         plan: QueuePlan {
@@ -365,6 +380,13 @@ fn replay<'a>(alloc: Global) -> Result<Command<'a>, AllocError>
         "registers",
         "Prints after each move what head, tail and ENABLE of its queue hold",
     );
+    let picture = optional(
+        alloc,
+        "picture",
+        "WHICH",
+        "each",
+        "Draws after each move its queue, a line a place; with =last after the last move alone",
+    );
     Command::new(alloc, "replay")
         .about("Makes the moves of standard input on queues, and prints what each of them tells")
         .after_help(REPLAY_EXAMPLE)
@@ -373,7 +395,8 @@ fn replay<'a>(alloc: Global) -> Result<Command<'a>, AllocError>
         .arg(off)?
         .arg(head)?
         .arg(json)?
-        .arg(registers)
+        .arg(registers)?
+        .arg(picture)
 }
 
 /// The command `forward`.

@@ -10,6 +10,7 @@ mod arguments;
 mod captures;
 mod command;
 mod covers;
+mod drawings;
 mod files;
 mod lists;
 mod running;

@@ -12,6 +12,8 @@ mod object_rows;
 #[cfg(test)]
 mod once_tests;
 #[cfg(test)]
+mod picture_rows;
+#[cfg(test)]
 mod register_rows;
 #[cfg(test)]
 mod replay_rows;

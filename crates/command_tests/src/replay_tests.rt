@@ -1,6 +1,7 @@
 //! The command `replay`, row after row.
 
 use crate::object_rows::OBJECTS;
+use crate::picture_rows::PICTURES;
 use crate::register_rows::REGISTERS;
 use crate::replay_rows::{ENDS, MIDDLE, ROWS};
 use crate::told::{comes_to, times};
@@ -124,6 +125,14 @@ fn objects_tell_what_lines_tell(rt: HostRuntime) -> Result<(), Fail> {
 #[test]
 fn registers_are_shown_after_each_move(rt: HostRuntime) -> Result<(), Fail> {
     for row in REGISTERS {
+        comes_to(&rt, rt.alloc(), row.words, row.input, (0, row.output, ""))?;
+    }
+    Ok(())
+}
+
+#[test]
+fn queues_are_drawn_behind_each_move_or_the_last(rt: HostRuntime) -> Result<(), Fail> {
+    for row in PICTURES {
         comes_to(&rt, rt.alloc(), row.words, row.input, (0, row.output, ""))?;
     }
     Ok(())

@@ -25,6 +25,9 @@ const COVER: &str = "poll82599 schedules --cover --device-only-real";
 /// What is told where an option for drawn lists stands beside `--cover`.
 const NOT_DRAWN: &str = "--cover draws no lists";
 
+/// What is told where pictures can't be read, or stand beside objects.
+const NOT_SHOWN: &str = "--picture stands alone or as --picture=last";
+
 /// Words that ask for help, and the example that it has to have.
 const HELPED: [(&[&str], &str); 20] = [
     (&["--help"], ONCE),
@@ -50,7 +53,7 @@ const HELPED: [(&[&str], &str); 20] = [
 ];
 
 /// Words that are wrong, and what has to be told of them.
-const WRONG: [(&[&str], &str); 30] = [
+const WRONG: [(&[&str], &str); 34] = [
     (&[], ""),
     (&["twice"], "twice"),
     (&["once"], "HEX"),
@@ -68,6 +71,10 @@ const WRONG: [(&[&str], &str); 30] = [
     (&["replay", "--ring", "4294967296"], "4294967296"),
     (&["replay", "--half"], "--half"),
     (&["replay", "moves"], "moves"),
+    (&["replay", "--picture=first"], NOT_SHOWN),
+    (&["replay", "--json", "--picture"], NOT_SHOWN),
+    (&["replay", "--picture=last", "--json"], NOT_SHOWN),
+    (&["replay", "--picture", "--picture"], "--picture"),
     (&["schedules"], "--seed"),
     (&["schedules", "--seed", "1"], "--moves"),
     (&["schedules", "--moves", "1"], "--seed"),

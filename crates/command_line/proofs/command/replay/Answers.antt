@@ -12,7 +12,8 @@ returns-clause-app c =
     let with_off = c.in_ok-arg-3.ensures.shape c.flag-off.ensures.local ∙ ap₂ with_rule with_pairs c.flag-off.ensures.rule in
     let with_head = c.in_ok-arg-4.ensures.shape c.flag-head.ensures.local ∙ ap₂ with_rule with_off c.flag-head.ensures.rule in
     let with_json = c.in_ok-arg-5.ensures.shape c.flag-json.ensures.local ∙ ap₂ with_rule with_head c.flag-json.ensures.rule in
-    IfOk-weaker c.arg-6.result _ _ (λ r adds. adds.shape c.flag-registers.ensures.local ∙ ap₂ with_rule with_json c.flag-registers.ensures.rule) c.arg-6.ensures
+    let with_registers = c.in_ok-arg-6.ensures.shape c.flag-registers.ensures.local ∙ ap₂ with_rule with_json c.flag-registers.ensures.rule in
+    IfOk-weaker c.arg-7.result _ _ (λ r adds. adds.shape c.optional-picture.ensures.local ∙ ap₂ with_rule with_registers c.optional-picture.ensures.rule) c.arg-7.ensures
 
 pub returns-clause-local : goal.returns-clause-local
 returns-clause-local c =
@@ -22,4 +23,5 @@ returns-clause-local c =
     let with_off = c.in_ok-arg-3.ensures.globals ∙ ap₂ (λ x y. x || y) with_pairs c.flag-off.ensures.local in
     let with_head = c.in_ok-arg-4.ensures.globals ∙ ap₂ (λ x y. x || y) with_off c.flag-head.ensures.local in
     let with_json = c.in_ok-arg-5.ensures.globals ∙ ap₂ (λ x y. x || y) with_head c.flag-json.ensures.local in
-    IfOk-weaker c.arg-6.result _ _ (λ r adds. adds.globals ∙ ap₂ (λ x y. x || y) with_json c.flag-registers.ensures.local) c.arg-6.ensures
+    let with_registers = c.in_ok-arg-6.ensures.globals ∙ ap₂ (λ x y. x || y) with_json c.flag-registers.ensures.local in
+    IfOk-weaker c.arg-7.result _ _ (λ r adds. adds.globals ∙ ap₂ (λ x y. x || y) with_registers c.optional-picture.ensures.local) c.arg-7.ensures

@@ -1,0 +1,98 @@
+//! Lists of moves with what `replay --picture` prints of them.
+
+use crate::told::Row;
+
+/// Each move's queue and the last move's alone, of both directions, a longer ring, no queue and no move.
+pub const PICTURES: [Row; 5] = [
+    // a buffer is posted and published; the third move has no queue
+    Row {
+        words: &["replay", "--picture"],
+        input: "r0 A1 5\n\
+         r0 A2\n\
+         r1 A2\n",
+        output: "r0 A1 place 0\n\
+         place\titem\towner\tword\tbuffer\n\
+         0\t0\tring\t-\t5\thead\ttail\tnext\tuse\tknown\n\
+         1\t-\tdrv\tany\t-\tfill\n\
+         2\t-\tdrv\tany\t-\n\
+         3\t-\tdrv\tany\t-\n\
+         4\t-\tdrv\tany\t-\n\
+         5\t-\tdrv\tany\t-\n\
+         6\t-\tdrv\tany\t-\n\
+         7\t-\tdrv\tany\t-\n\
+         r0 A2 tail 1\n\
+         place\titem\towner\tword\tbuffer\n\
+         0\t0\tring\t-\t5\thead\tnext\tuse\tknown\n\
+         1\t-\tdrv\tany\t-\ttail\tfill\n\
+         2\t-\tdrv\tany\t-\n\
+         3\t-\tdrv\tany\t-\n\
+         4\t-\tdrv\tany\t-\n\
+         5\t-\tdrv\tany\t-\n\
+         6\t-\tdrv\tany\t-\n\
+         7\t-\tdrv\tany\t-\n\
+         r1 A2 not enabled\n\
+         moves 2 of 3\n",
+    },
+    // a frame is stored, and the next buffer is with the controller
+    Row {
+        words: &["replay", "--picture=last"],
+        input: "r0 A1 5\n\
+         r0 A1 6\n\
+         r0 A2\n\
+         r0 A3\n\
+         r0 A4\n\
+         r0 A5 60 1\n\
+         r0 A7\n\
+         r0 A4\n",
+        output: "r0 A1 place 0\n\
+         r0 A1 place 1\n\
+         r0 A2 tail 2\n\
+         r0 A3 free 2\n\
+         r0 A4 place 0 buffer 5\n\
+         r0 A5 place 0\n\
+         r0 A7 head 1\n\
+         r0 A4 place 1 buffer 6\n\
+         place\titem\towner\tword\tbuffer\n\
+         0\t0\tring\tDD EOP\t5\tnext\n\
+         1\t1\tctl\t-\t-\thead\tuse\n\
+         2\t-\tdrv\tany\t-\ttail\tfill\tknown\n\
+         3\t-\tdrv\tany\t-\n\
+         4\t-\tdrv\tany\t-\n\
+         5\t-\tdrv\tany\t-\n\
+         6\t-\tdrv\tany\t-\n\
+         7\t-\tdrv\tany\t-\n\
+         moves 8 of 8\n",
+    },
+    // of a ring of 16 there are only the places where something stands, and those beside them
+    Row {
+        words: &["replay", "--ring", "16", "--registers", "--picture=last"],
+        input: "t0 B1 7 60 1 1 60\n\
+         t0 B2\n",
+        output: "t0 B1 place 0\n\
+         TDH 0 TDT 0 TXDCTL.ENABLE 1\n\
+         t0 B2 tail 1\n\
+         TDH 0 TDT 1 TXDCTL.ENABLE 1\n\
+         place\titem\towner\tword\tbuffer\n\
+         0\t0\tring\tEOP RS\t7\thead\tnext\tuse\tknown\n\
+         1\t-\tdrv\tany\t-\ttail\tfill\n\
+         2\t-\tdrv\tany\t-\n\
+         ..\n\
+         15\t-\tdrv\tany\t-\n\
+         moves 2 of 2\n",
+    },
+    // the last move's queue isn't there
+    Row {
+        words: &["replay", "--picture=last"],
+        input: "r0 A2\n\
+         t1 B2\n",
+        output: "r0 A2 tail 0\n\
+         t1 B2 not enabled\n\
+         moves 1 of 2\n",
+    },
+    // there is no last move
+    Row {
+        words: &["replay", "--picture=last"],
+        input: "# nothing\n",
+        output: "moves 0 of 0\n",
+    },
+];
