@@ -4,7 +4,7 @@ ghost use Rattle.moments.specs.Moments.{GoesOn, NoneFalls};
 ghost use Rattle.moments.specs.Viewed.{all_of, first_view, IsOfSame, with_moment, without_writing};
 
 use crate::Moment;
-use crate::rule::{Known, Reads, Tells, Watched, Writes};
+use crate::rule::{Known, Reads, Tells, Watched, Writes, may_open, may_read, may_tell, may_write};
 use crossbeam_utils::atomic::seq_cell::{Pass, RuledSeqCell};
 use std::alloc::{AllocError, Global};
 use std::marker::Model;
@@ -49,7 +49,9 @@ impl<T: Moment<N>, const N: usize> Numbers<T, N> {
         ensures zero { IfOk result (λ made. All (λ n. n ≡ 0) (T.words made.1.last)) }
         ensures first { IfOk result (λ made. made.1 ≡ first_view made.0 T.opening) }
     {
-        let (words, pass) = Ruled::<T, N>::ruled(alloc, T::opening())?;
+        let opening = T::opening();
+        may_open::<T, N>(opening);
+        let (words, pass) = Ruled::<T, N>::ruled(alloc, opening)?;
         Ok((Numbers { words }, View { pass }))
     }
 
@@ -61,6 +63,7 @@ impl<T: Moment<N>, const N: usize> Numbers<T, N> {
         requires none_falls { NoneFalls (T.words view.old.last) (T.words numbers) }
         ensures written { view.new ≡ with_moment numbers view.old }
     {
+        may_write::<T, N>(&view.pass, numbers);
         self.words
             .swap_as::<Writes<N>, R>(rt, &mut view.pass, numbers);
     }
@@ -74,6 +77,7 @@ impl<T: Moment<N>, const N: usize> Numbers<T, N> {
         ensures lawful { T.lawful result }
         ensures none_falls { NoneFalls (T.words view.old.last) (T.words result) }
     {
+        may_read::<T, N>(&view.pass);
         self.words.load_as::<Reads<N>, R>(rt, &mut view.pass)
     }
 
@@ -83,6 +87,7 @@ impl<T: Moment<N>, const N: usize> Numbers<T, N> {
         ensures same { view.new ≡ view.old }
         ensures told { result ≡ without_writing view.old }
     {
+        may_tell::<T, N>(&view.pass);
         View {
             pass: self.words.split_pass::<Tells>(&mut view.pass),
         }

@@ -1,6 +1,13 @@
-//! The rule of the words, and what each step tells.
+//! The rule of the words, what each step tells, and that each step keeps the rule.
+ghost use Rattle.std.specs.Prelude.{◌≡◌, true, [], ◌∷◌};
+ghost use Rattle.crossbeam_utils.specs.Register.{Forks, Turns};
+ghost use Rattle.crossbeam_utils.specs.Seq.{cell_view};
+ghost use Rattle.moments.specs.Moments.{NoneFalls};
+ghost use Rattle.moments.specs.Rule.{IsWatched, HasRead, HasWritten, opened, same, told};
+
 use crate::Moment;
 use atomic_table::Split;
+use crossbeam_utils::atomic::seq_cell::Pass;
 use crossbeam_utils::rule::{Outcome, Protocol};
 use std::collections::LinkedList;
 
@@ -53,3 +60,32 @@ impl<T> Split<Known<T>> for Tells {
 
     ghost right = { told };
 }
+
+// Each of these four does nothing: its clauses say that a step keeps the rule. The call that makes the
+// step has this as a known fact, and gets no answers of its own, which it would take the prover long to
+// state there.
+
+/// The rule holds of new words.
+pub(crate) fn may_open<T: Moment<N>, const N: usize>(now: T)
+    requires opening { now ≡ T.opening }
+    requires lawful { T.lawful now }
+    ensures { IsWatched T.words T.lawful now (opened T.opening ∷ []) }
+{}
+
+/// Any view may read.
+pub(crate) fn may_read<T: Moment<N>, const N: usize>(pass: &Pass<T, Known<T>>)
+    ensures { Turns (IsWatched T.words T.lawful) pass.now.id (cell_view pass.now) (λ x. x) (HasRead T.words T.lawful) }
+{}
+
+/// The view that writes may write lawful numbers, none of them below what it wrote last.
+pub(crate) fn may_write<T: Moment<N>, const N: usize>(pass: &Pass<T, Known<T>>, numbers: T)
+    requires writes { (cell_view pass.now).writes ≡ true }
+    requires lawful { T.lawful numbers }
+    requires none_falls { NoneFalls (T.words (cell_view pass.now).last) (T.words numbers) }
+    ensures { Turns (IsWatched T.words T.lawful) pass.now.id (cell_view pass.now) (λ _. numbers) (HasWritten T.words T.lawful) }
+{}
+
+/// Any view may tell another.
+pub(crate) fn may_tell<T: Moment<N>, const N: usize>(pass: &Pass<T, Known<T>>)
+    ensures { Forks (IsWatched T.words T.lawful) pass.now.id (cell_view pass.now) (same (cell_view pass.now)) (told (cell_view pass.now)) }
+{}
