@@ -2,9 +2,9 @@
 ghost use Rattle.std.specs.Prelude.{◌≡◌, ◌*◌, ◌≤◌};
 ghost use Rattle.counters.specs.Kinds.{none_offered};
 
-use counters::{Moment, Offered, StatCell, StatPass, StatPen};
+use crate::rows::shows;
+use counters::{CounterError, Moment, Offered, StatCell, StatPass, StatPen};
 use std::sync::Wait;
-use std::test::Fail;
 use std::thread;
 use std::thread::Threads;
 
@@ -72,7 +72,7 @@ fn read_in_two<R: Threads + Wait + Sync>(
 }
 
 #[test]
-fn no_number_falls_and_each_read_adds_up(rt: HostRuntime) -> Result<(), Fail> {
+fn no_number_falls_and_each_read_adds_up(rt: HostRuntime) -> Result<(), CounterError> {
     let (cell, mut pen, mut first) = StatCell::new(rt.alloc())?;
     let second = cell.split(&mut first);
     let mut told_before = pen.pass();
@@ -83,7 +83,7 @@ fn no_number_falls_and_each_read_adds_up(rt: HostRuntime) -> Result<(), Fail> {
     );
     assert!(rt; good);
     let mut told_after = pen.pass();
-    assert_eq!(rt; cell.read(&rt, &mut told_after), row(WRITES));
-    assert_eq!(rt; cell.read(&rt, &mut told_before), row(WRITES));
+    shows(&rt, &cell, &mut told_after, row(WRITES));
+    shows(&rt, &cell, &mut told_before, row(WRITES));
     Ok(())
 }
