@@ -6,7 +6,7 @@ ghost use Rattle.counters.specs.declared.error.CounterError.TheVariants.{Memory}
 
 use crate::CounterError;
 use moments::{Moment, Numbers, View};
-use std::alloc::{AllocError, Global};
+use std::alloc::Global;
 use std::marker::Model;
 use std::sync::{Arc, Wait};
 
@@ -69,8 +69,12 @@ impl<T: Moment<N>, const N: usize> MomentCell<T, N> {
     {
         let (numbers, mut pen) = Numbers::<T, N>::new(alloc)?;
         let view = numbers.tell(&mut pen);
-        let numbers = Arc::new(alloc, numbers).map_err(AllocError::from)?;
-        let theirs = Arc::try_clone(&numbers)?;
+        let Ok(numbers) = Arc::new(alloc, numbers) else {
+            return Err(CounterError::Memory);
+        };
+        let Ok(theirs) = Arc::try_clone(&numbers) else {
+            return Err(CounterError::Memory);
+        };
         Ok((
             MomentCell { numbers },
             MomentPen {
