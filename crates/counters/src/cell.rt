@@ -67,22 +67,29 @@ impl<T: Moment<N>, const N: usize> MomentCell<T, N> {
         ensures pen { IfOk result (λ made. made.1 ≡ fresh made.0 T.opening) }
         ensures pass { IfOk result (λ made. made.2 ≡ fresh made.0 T.opening) }
     {
-        let (numbers, mut pen) = Numbers::<T, N>::new(alloc)?;
-        let view = numbers.tell(&mut pen);
+        let (cell, mut pen) = Self::with_pen(alloc)?;
+        let pass = pen.pass();
+        Ok((cell, pen, pass))
+    }
+
+    /// The same with no pass, which the pen may give at any time.
+    pub(crate) fn with_pen(alloc: Global) -> Result<(Self, MomentPen<T, N>), CounterError>
+        ensures refused { IfErr result (λ e. e ≡ Memory) }
+        ensures zero { IfOk result (λ made. All (λ n. n ≡ 0) (T.words made.1.last)) }
+        ensures pen { IfOk result (λ made. made.1 ≡ fresh made.0 T.opening) }
+    {
+        let (numbers, view) = Numbers::<T, N>::new(alloc)?;
         let Ok(numbers) = Arc::new(alloc, numbers) else {
             return Err(CounterError::Memory);
         };
         let Ok(theirs) = Arc::try_clone(&numbers) else {
             return Err(CounterError::Memory);
         };
-        Ok((
-            MomentCell { numbers },
-            MomentPen {
-                numbers: theirs,
-                view: pen,
-            },
-            MomentPass { view },
-        ))
+        let pen = MomentPen {
+            numbers: theirs,
+            view,
+        };
+        Ok((MomentCell { numbers }, pen))
     }
 
     /// Writes the numbers, all at one moment. They are lawful, and none is below what the pen wrote last.

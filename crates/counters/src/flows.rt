@@ -44,8 +44,8 @@ fn flow(alloc: Global) -> Result<(FlowCells, FlowPens), CounterError>
     ensures refused { IfErr result (λ e. e ≡ Memory) }
     ensures pens { IfOk result (λ made. IsFresh made.0 made.1) }
 {
-    let (stat, stat_pen, _) = StatCell::new(alloc)?;
-    let (drive, drive_pen, _) = DriveCell::new(alloc)?;
+    let (stat, stat_pen) = StatCell::with_pen(alloc)?;
+    let (drive, drive_pen) = DriveCell::with_pen(alloc)?;
     let cells = FlowCells { stat, drive };
     let pens = FlowPens {
         stat: stat_pen,
