@@ -200,13 +200,10 @@ pub extern "C" fn poll82599_rx_queue_close(
     ensures queue { queue.new.held ≡ None }
     ensures device { device.new.held ≡ None }
 {
-    let queue = Box::into_inner(queue.take(alloc));
-    let device = Box::into_inner(device.take(alloc));
-    let End::RxQueue(driving) = queue else {
-        return -1;
-    };
-    let End::RxDevice(serving) = device else {
-        return -1;
-    };
-    unmake(driving, serving)
+    let queue = Box::into_inner(queue.take(alloc)).rx_queue();
+    let device = Box::into_inner(device.take(alloc)).rx_device();
+    match (queue, device) {
+        (Some(driving), Some(serving)) => unmake(driving, serving),
+        _ => -1,
+    }
 }

@@ -196,13 +196,10 @@ pub extern "C" fn poll82599_tx_queue_close(
     ensures queue { queue.new.held ≡ None }
     ensures device { device.new.held ≡ None }
 {
-    let queue = Box::into_inner(queue.take(alloc));
-    let device = Box::into_inner(device.take(alloc));
-    let End::TxQueue(driving) = queue else {
-        return -1;
-    };
-    let End::TxDevice(serving) = device else {
-        return -1;
-    };
-    unmake(driving, serving)
+    let queue = Box::into_inner(queue.take(alloc)).tx_queue();
+    let device = Box::into_inner(device.take(alloc)).tx_device();
+    match (queue, device) {
+        (Some(driving), Some(serving)) => unmake(driving, serving),
+        _ => -1,
+    }
 }
