@@ -8,6 +8,10 @@ use Rattle.ring_model.specs.declared.states.Completion.TheVariants.{Head, Status
 use Rattle.commands.specs.declared.replay.Pictures.{Pictures}
 use Rattle.commands.specs.declared.replay.Pictures.TheVariants.{Never, Each, Last}
 
+-- an option
+abbrev pub named_rule : Text → Rule
+named_rule id = record (new_rule id) { long = Some id }
+
 -- an option with a number up to this one, which has these texts where it is left out
 abbrev pub bounded_rule : Text → ℕ → List Text → Rule
 bounded_rule id most defaults = record (new_rule id) { long = Some id; value_names = 1; parser = Some (Signed (pos 0) (pos most)); defaults = defaults }

@@ -119,10 +119,16 @@ pub fn asked_of<'a>(alloc: Global, words: &'a [String]) -> Result<Asked<'a>, Err
     let matches = program.try_get_matches_from_mut(words)?;
     match asked_in(&matches) {
         Some(asked) => Ok(asked),
-        None => {
-            let (kind, text) = fault_in(&matches);
-            Err(program.error(kind, text)?)
-        }
+        None => Err(fault(&mut program, &matches)),
+    }
+}
+
+/// The error of matches that ask for nothing.
+fn fault<'a>(program: &mut Command<'a>, matches: &ArgMatches<'a>) -> Error {
+    let (kind, text) = fault_in(matches);
+    match program.error(kind, text) {
+        Ok(told) => told,
+        Err(memory) => Error::from(memory),
     }
 }
 
