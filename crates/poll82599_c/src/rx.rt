@@ -144,10 +144,10 @@ pub extern "C" fn poll82599_rx_close(
     ensures driver { driver.new.held ≡ None }
     ensures controller { controller.new.held ≡ None }
 {
-    let driver = Box::into_inner(driver.take(alloc));
-    let controller = Box::into_inner(controller.take(alloc));
+    let driver = Box::into_inner(driver.take(alloc)).rx_driver();
+    let controller = Box::into_inner(controller.take(alloc)).rx_controller();
     match (driver, controller) {
-        (End::RxDriver(driving), End::RxController(serving)) => unmake(driving, serving),
+        (Some(driving), Some(serving)) => unmake(driving, serving),
         _ => -1,
     }
 }

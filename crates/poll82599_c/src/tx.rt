@@ -160,10 +160,10 @@ pub extern "C" fn poll82599_tx_close(
     ensures driver { driver.new.held ≡ None }
     ensures controller { controller.new.held ≡ None }
 {
-    let driver = Box::into_inner(driver.take(alloc));
-    let controller = Box::into_inner(controller.take(alloc));
+    let driver = Box::into_inner(driver.take(alloc)).tx_driver();
+    let controller = Box::into_inner(controller.take(alloc)).tx_controller();
     match (driver, controller) {
-        (End::TxDriver(driving), End::TxController(serving)) => unmake(driving, serving),
+        (Some(driving), Some(serving)) => unmake(driving, serving),
         _ => -1,
     }
 }
