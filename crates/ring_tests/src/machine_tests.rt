@@ -7,46 +7,52 @@ use ring_machine::{
 use std::alloc::Global;
 use std::test::Fail;
 
-// Whether a receive machine and a transmit machine of this length are made, whichever way they begin.
-fn are_made(alloc: Global, n: usize) -> bool {
-    [true, false].iter().all(|enabled| {
-        RxMachine::new(alloc, n, *enabled).is_ok()
-            && TxMachine::new(alloc, n, *enabled).is_ok()
-            && TxMachine::new_with(alloc, n, *enabled, Completion::Status).is_ok()
-            && TxMachine::new_with(alloc, n, *enabled, Completion::Head).is_ok()
-    })
+// Whether a receive machine and a transmit machine of this length are made that begin so.
+fn are_made(alloc: Global, n: usize, enabled: bool) -> bool {
+    RxMachine::new(alloc, n, enabled).is_ok()
+        && TxMachine::new(alloc, n, enabled).is_ok()
+        && TxMachine::new_with(alloc, n, enabled, Completion::Status).is_ok()
+        && TxMachine::new_with(alloc, n, enabled, Completion::Head).is_ok()
 }
 
 #[test]
 fn each_lawful_length_is_made(rt: HostRuntime) {
+    let alloc = rt.alloc();
     for n in [8, 16, 32, 64, 128, 256, 512, 1_024, 2_048, 4_096] {
-        assert!(rt; are_made(rt.alloc(), n), "{n}");
+        assert!(rt;
+            are_made(alloc, n, true) && are_made(alloc, n, false),
+            "{n}"
+        );
     }
+}
+
+// Whether either machine of this length is refused for it.
+fn are_refused(alloc: Global, n: usize) -> bool {
+    let refused = Some(MachineError::RingLength);
+    RxMachine::new(alloc, n, true).err() == refused
+        && TxMachine::new(alloc, n, true).err() == refused
 }
 
 #[test]
 fn other_lengths_are_refused(rt: HostRuntime) {
-    let alloc = rt.alloc();
-    let refused = Some(MachineError::RingLength);
     for n in [0, 1, 4, 7, 9, 12, 4_095, 4_097, 8_192] {
-        assert_eq!(rt; RxMachine::new(alloc, n, true).err(), refused, "{n}");
-        assert_eq!(rt; TxMachine::new(alloc, n, true).err(), refused, "{n}");
+        assert!(rt; are_refused(rt.alloc(), n), "{n}");
     }
 }
 
 #[test]
 fn one_to_eight_pairs_are_made(rt: HostRuntime) {
-    let alloc = rt.alloc();
     for pairs in [1, 2, 3, 4, 5, 6, 7, 8] {
-        assert!(rt; Queues::new(alloc, pairs, 8, false).is_ok(), "{pairs}");
+        assert!(rt; Queues::new(rt.alloc(), pairs, 8, false).is_ok(), "{pairs}");
     }
+}
+
+#[test]
+fn other_pairs_are_refused(rt: HostRuntime) {
     let refused = Some(MachineError::RingLength);
     for (pairs, n) in [(0, 8), (9, 8), (1, 12), (8, 12)] {
-        assert_eq!(rt;
-            Queues::new(alloc, pairs, n, true).err(),
-            refused,
-            "{pairs} pairs of {n}"
-        );
+        let refusal = Queues::new(rt.alloc(), pairs, n, true).err();
+        assert!(rt; refusal == refused, "{pairs} pairs of {n}");
     }
 }
 
@@ -121,6 +127,17 @@ fn transmit_moves_print_their_notes(rt: HostRuntime) -> Result<(), Fail> {
     Ok(())
 }
 
+// How many of these moves a pair of queues makes, and then how many of none.
+fn run_twice(
+    alloc: Global,
+    completion: Completion,
+    moves: &[Move],
+) -> Result<(usize, usize), MachineError> {
+    let mut queues = Queues::new_with(alloc, 1, 8, true, completion)?;
+    let made = queues.run(moves);
+    Ok((made, queues.run(&[])))
+}
+
 // The moves of one frame each way, with one that can't be made at the end of each way, and one of a queue that is not
 // there.
 #[test]
@@ -154,9 +171,7 @@ fn run_answers_how_many_moves_it_made(rt: HostRuntime) -> Result<(), Fail> {
         Move::Transmit(first, TxStep::Clean),
     ];
     for completion in [Completion::Status, Completion::Head] {
-        let mut queues = Queues::new_with(rt.alloc(), 1, 8, true, completion)?;
-        assert_eq!(rt; queues.run(&moves), 14);
-        assert_eq!(rt; queues.run(&[]), 0);
+        assert!(rt; run_twice(rt.alloc(), completion, &moves)? == (14, 0));
     }
     Ok(())
 }
@@ -180,10 +195,21 @@ fn sides(queues: &Queues) -> Option<(Owner, Owner)> {
     Some((receive.owner(0), transmit.owner(0)))
 }
 
+// How many of these lines are moves that are made, after which the places are with whom stands beside them, before the
+// first that isn't.
+fn agreeing(queues: &mut Queues, rows: &[(&str, Owner, Owner)]) -> usize {
+    for k in 0..rows.len() {
+        let (line, receive, transmit) = rows[k];
+        if !is_made(queues, line) || sides(queues) != Some((receive, transmit)) {
+            return k;
+        }
+    }
+    rows.len()
+}
+
 #[test]
 fn a_place_is_with_one_side(rt: HostRuntime) -> Result<(), Fail> {
     let mut queues = Queues::new(rt.alloc(), 1, 8, true)?;
-    assert!(rt; sides(&queues) == Some((Owner::Driver, Owner::Driver)));
     let rows = [
         ("r0 A1 5", Owner::Ring, Owner::Driver),
         ("r0 A2", Owner::Ring, Owner::Driver),
@@ -200,13 +226,8 @@ fn a_place_is_with_one_side(rt: HostRuntime) -> Result<(), Fail> {
         ("t0 B7", Owner::Driver, Owner::Ring),
         ("t0 B8", Owner::Driver, Owner::Driver),
     ];
-    for (line, receive, transmit) in rows {
-        let made = is_made(&mut queues, line);
-        assert!(rt;
-            made && sides(&queues) == Some((receive, transmit)),
-            "after {line:?}"
-        );
-    }
+    assert!(rt; sides(&queues) == Some((Owner::Driver, Owner::Driver)));
+    assert_eq!(rt; agreeing(&mut queues, &rows), rows.len());
     if let Some(second) = QueueNumber::new(1) {
         assert!(rt; queues.receive(second).is_none() && queues.transmit(second).is_none());
     }

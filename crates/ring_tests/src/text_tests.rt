@@ -4,6 +4,7 @@ use ring_machine::{
     ControlStep, FetchedSegment, MachineError, Move, Note, QueueNumber, RxStep, SegmentDescriptor,
     SegmentLength, TakenSegment, TxStep,
 };
+use std::alloc::Global;
 use std::test::Fail;
 
 // A step of a receive queue of this number.
@@ -14,17 +15,6 @@ fn rx(queue: u8, step: RxStep<SegmentLength>) -> Option<Move> {
 // A step of a transmit queue of this number.
 fn tx(queue: u8, step: TxStep<SegmentDescriptor>) -> Option<Move> {
     Some(Move::Transmit(QueueNumber::new(queue)?, step))
-}
-
-fn stored(len: u16, eop: bool) -> Option<Move> {
-    rx(0, RxStep::Store(SegmentLength::new(len)?, eop))
-}
-
-fn posted(number: u16, len: u16, eop: bool, rs: bool, paylen: u16) -> Option<Move> {
-    tx(
-        0,
-        TxStep::Post(SegmentDescriptor::new(number, len, eop, rs, paylen)?),
-    )
 }
 
 // Whether the line is this move's, both ways, and begins with its name.
@@ -40,61 +30,67 @@ fn is_line_of(rt: HostRuntime, line: &str, wanted: Option<Move>) -> Result<bool,
 
 #[test]
 fn lines_of_receive_queues_are_read_and_printed(rt: HostRuntime) -> Result<(), Fail> {
+    let (Some(one), Some(most)) = (SegmentLength::new(1), SegmentLength::new(2_048)) else {
+        panic!(rt; "lengths")
+    };
     let table = [
-        ("r0 A1 0", rx(0, RxStep::Post(0))),
-        ("r7 A1 65535", rx(7, RxStep::Post(65_535))),
-        ("r1 A2", rx(1, RxStep::Publish)),
-        ("r2 A3", rx(2, RxStep::Look)),
-        ("r3 A4", rx(3, RxStep::Fetch)),
-        ("r0 A5 1 0", stored(1, false)),
-        ("r0 A5 2048 1", stored(2_048, true)),
-        ("r4 A6", rx(4, RxStep::Take)),
-        ("r5 A7", rx(5, RxStep::Head)),
-        ("r6 C1", rx(6, RxStep::Control(ControlStep::AskEnable))),
-        ("r7 C2", rx(7, RxStep::Control(ControlStep::LookAsked))),
-        ("r0 C3", rx(0, RxStep::Control(ControlStep::Answer))),
-        ("r1 C4", rx(1, RxStep::Control(ControlStep::LookAnswered))),
-        ("r2 C5", rx(2, RxStep::Control(ControlStep::AskDisable))),
-        ("r3 C6", rx(3, RxStep::Reclaim)),
-        ("r4 C7", rx(4, RxStep::StoreQuiet)),
-        ("r5 C8", rx(5, RxStep::LoadQuiet)),
-        ("r6 C9", rx(6, RxStep::ClearHead)),
-        ("r7 C10", rx(7, RxStep::ClearTail)),
-        ("r0 C11", rx(0, RxStep::ClearQuiet)),
+        ("r0 A1 0", 0, RxStep::Post(0)),
+        ("r7 A1 65535", 7, RxStep::Post(65_535)),
+        ("r1 A2", 1, RxStep::Publish),
+        ("r2 A3", 2, RxStep::Look),
+        ("r3 A4", 3, RxStep::Fetch),
+        ("r0 A5 1 0", 0, RxStep::Store(one, false)),
+        ("r0 A5 2048 1", 0, RxStep::Store(most, true)),
+        ("r4 A6", 4, RxStep::Take),
+        ("r5 A7", 5, RxStep::Head),
+        ("r6 C1", 6, RxStep::Control(ControlStep::AskEnable)),
+        ("r7 C2", 7, RxStep::Control(ControlStep::LookAsked)),
+        ("r0 C3", 0, RxStep::Control(ControlStep::Answer)),
+        ("r1 C4", 1, RxStep::Control(ControlStep::LookAnswered)),
+        ("r2 C5", 2, RxStep::Control(ControlStep::AskDisable)),
+        ("r3 C6", 3, RxStep::Reclaim),
+        ("r4 C7", 4, RxStep::StoreQuiet),
+        ("r5 C8", 5, RxStep::LoadQuiet),
+        ("r6 C9", 6, RxStep::ClearHead),
+        ("r7 C10", 7, RxStep::ClearTail),
+        ("r0 C11", 0, RxStep::ClearQuiet),
     ];
-    for (line, wanted) in table {
-        assert!(rt; is_line_of(rt, line, wanted)?, "at {line:?}");
+    for (line, queue, step) in table {
+        assert!(rt; is_line_of(rt, line, rx(queue, step))?, "at {line:?}");
     }
     Ok(())
 }
 
 #[test]
 fn lines_of_transmit_queues_are_read_and_printed(rt: HostRuntime) -> Result<(), Fail> {
+    let (Some(least), Some(most)) = (
+        SegmentDescriptor::new(0, 1, false, false, 14),
+        SegmentDescriptor::new(65_535, 2_048, true, true, 15_000),
+    ) else {
+        panic!(rt; "descriptors")
+    };
     let table = [
-        ("t0 B1 0 1 0 0 14", posted(0, 1, false, false, 14)),
-        (
-            "t0 B1 65535 2048 1 1 15000",
-            posted(65_535, 2_048, true, true, 15_000),
-        ),
-        ("t1 B2", tx(1, TxStep::Publish)),
-        ("t2 B3", tx(2, TxStep::Look)),
-        ("t3 B4", tx(3, TxStep::Fetch)),
-        ("t4 B5", tx(4, TxStep::Send)),
-        ("t5 B6", tx(5, TxStep::Report)),
-        ("t6 B7", tx(6, TxStep::LoadReport)),
-        ("t7 B8", tx(7, TxStep::Clean)),
-        ("t0 C1", tx(0, TxStep::Control(ControlStep::AskEnable))),
-        ("t1 C2", tx(1, TxStep::Control(ControlStep::LookAsked))),
-        ("t2 C3", tx(2, TxStep::Control(ControlStep::Answer))),
-        ("t3 C4", tx(3, TxStep::Control(ControlStep::LookAnswered))),
-        ("t4 C5", tx(4, TxStep::Control(ControlStep::AskDisable))),
-        ("t5 C6", tx(5, TxStep::Reclaim)),
-        ("t6 C9", tx(6, TxStep::ClearHead)),
-        ("t7 C10", tx(7, TxStep::ClearTail)),
-        ("t0 C12", tx(0, TxStep::ClearReport)),
+        ("t0 B1 0 1 0 0 14", 0, TxStep::Post(least)),
+        ("t0 B1 65535 2048 1 1 15000", 0, TxStep::Post(most)),
+        ("t1 B2", 1, TxStep::Publish),
+        ("t2 B3", 2, TxStep::Look),
+        ("t3 B4", 3, TxStep::Fetch),
+        ("t4 B5", 4, TxStep::Send),
+        ("t5 B6", 5, TxStep::Report),
+        ("t6 B7", 6, TxStep::LoadReport),
+        ("t7 B8", 7, TxStep::Clean),
+        ("t0 C1", 0, TxStep::Control(ControlStep::AskEnable)),
+        ("t1 C2", 1, TxStep::Control(ControlStep::LookAsked)),
+        ("t2 C3", 2, TxStep::Control(ControlStep::Answer)),
+        ("t3 C4", 3, TxStep::Control(ControlStep::LookAnswered)),
+        ("t4 C5", 4, TxStep::Control(ControlStep::AskDisable)),
+        ("t5 C6", 5, TxStep::Reclaim),
+        ("t6 C9", 6, TxStep::ClearHead),
+        ("t7 C10", 7, TxStep::ClearTail),
+        ("t0 C12", 0, TxStep::ClearReport),
     ];
-    for (line, wanted) in table {
-        assert!(rt; is_line_of(rt, line, wanted)?, "at {line:?}");
+    for (line, queue, step) in table {
+        assert!(rt; is_line_of(rt, line, tx(queue, step))?, "at {line:?}");
     }
     Ok(())
 }
@@ -181,41 +177,45 @@ fn lines_of_no_queue_are_refused(rt: HostRuntime) {
 }
 
 #[test]
-fn arguments_have_their_bounds(rt: HostRuntime) {
+fn lengths_have_their_bounds(rt: HostRuntime) {
     for (bytes, lawful) in [(0, false), (1, true), (2_048, true), (2_049, false)] {
-        assert_eq!(rt;
-            SegmentLength::new(bytes).is_some(),
-            lawful,
-            "{bytes} bytes"
-        );
-        assert_eq!(rt;
-            SegmentDescriptor::new(7, bytes, true, true, 60).is_some(),
-            lawful,
-            "{bytes} bytes"
-        );
+        let length = SegmentLength::new(bytes).is_some();
+        let posted = SegmentDescriptor::new(7, bytes, true, true, 60).is_some();
+        assert!(rt; length == lawful && posted == lawful, "{bytes} bytes");
     }
+}
+
+#[test]
+fn paylens_have_their_bounds(rt: HostRuntime) {
     for (paylen, lawful) in [(13, false), (14, true), (15_000, true), (15_001, false)] {
-        assert_eq!(rt;
-            SegmentDescriptor::new(7, 60, true, true, paylen).is_some(),
-            lawful,
-            "{paylen}"
-        );
+        let posted = SegmentDescriptor::new(7, 60, true, true, paylen);
+        assert!(rt; posted.is_some() == lawful, "{paylen}");
     }
+}
+
+#[test]
+fn a_middle_segment_asks_for_no_report(rt: HostRuntime) {
     for (eop, rs, lawful) in [
         (true, true, true),
         (true, false, true),
         (false, false, true),
         (false, true, false),
     ] {
-        assert_eq!(rt;
-            SegmentDescriptor::new(7, 60, eop, rs, 60).is_some(),
-            lawful,
-            "{eop} {rs}"
-        );
+        let posted = SegmentDescriptor::new(7, 60, eop, rs, 60);
+        assert!(rt; posted.is_some() == lawful, "{eop} {rs}");
     }
+}
+
+#[test]
+fn queues_are_numbered_from_0_to_7(rt: HostRuntime) {
     for (number, lawful) in [(0, true), (7, true), (8, false)] {
-        assert_eq!(rt; QueueNumber::new(number).is_some(), lawful, "{number}");
+        assert!(rt; QueueNumber::new(number).is_some() == lawful, "{number}");
     }
+}
+
+// Whether the note is printed so.
+fn is_printed(alloc: Global, note: Note, line: &str) -> Result<bool, Fail> {
+    Ok(format!(in alloc; "{note}")?.as_str() == line)
 }
 
 #[test]
@@ -261,9 +261,15 @@ fn notes_are_printed(rt: HostRuntime) -> Result<(), Fail> {
         (Note::Quiet(0), "quiet 0"),
     ];
     for (note, line) in table {
-        assert_eq!(rt; format!(in rt.alloc(); "{note}")?.as_str(), line);
+        assert!(rt; is_printed(rt.alloc(), note, line)?, "{line}");
     }
     Ok(())
+}
+
+// Whether the refusal is printed so, after its number.
+fn is_refused_with(alloc: Global, refusal: MachineError, words: &str) -> Result<bool, Fail> {
+    let number = refusal.number();
+    Ok(format!(in alloc; "{number} {refusal}")?.as_str() == words)
 }
 
 #[test]
@@ -275,8 +281,7 @@ fn refusals_are_printed(rt: HostRuntime) -> Result<(), Fail> {
         (MachineError::Text, "14 move"),
     ];
     for (refusal, words) in table {
-        let text = format!(in rt.alloc(); "{} {refusal}", refusal.number())?;
-        assert_eq!(rt; text.as_str(), words);
+        assert!(rt; is_refused_with(rt.alloc(), refusal, words)?, "{words}");
     }
     Ok(())
 }

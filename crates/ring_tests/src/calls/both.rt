@@ -12,7 +12,9 @@ use buffer_pool::{Buf, Stash};
 use limits::{LEAST_FRAME, MOST_FRAME, MOST_SEGMENTS};
 use ring_machine::{RxMachine, SegmentLength};
 use ring_model::{ControlStep, Note, Owner, RxStep, TakenSegment};
-use rx_ring::{ControllerEnd, DriverEnd, Poll, RxControllerEnd, RxDriverEnd, RxRing, close};
+use rx_ring::{
+    ControllerEnd, DriverEnd, Poll, RxControllerEnd, RxDriverEnd, RxRing, close, meet_rx,
+};
 use std::alloc::Global;
 use std::test::Fail;
 use test_kit::{
@@ -54,13 +56,15 @@ pub(crate) struct Both {
 impl Both {
     /// A ring of so many places that is not enabled, and all buffers at hand.
     pub(crate) fn new(alloc: Global, n: u32) -> Result<Both, Fail> {
+        let machine = RxMachine::new(alloc, n as usize, false)?;
+        let spare = full_stash(alloc, BUFFERS)?;
         let (ring, driver, controller) = RxRing::new(alloc, n)?;
         Ok(Both {
             ring,
             driver,
             controller,
-            machine: RxMachine::new(alloc, n as usize, false)?,
-            spare: full_stash(alloc, BUFFERS)?,
+            machine,
+            spare,
             posted: 0,
             stored_count: 0,
             taken_count: 0,
@@ -177,6 +181,41 @@ impl Both {
         Some(Note::Quiet(1))
     }
 
+    fn shake(&mut self, step: ControlStep) -> Option<Note> {
+        shake!(self, step)
+    }
+
+    fn publish(&mut self) -> Option<Note> {
+        if !self.driver.is_open() {
+            return None;
+        }
+        self.driver.publish(&self.ring);
+        Some(Note::Tail(0))
+    }
+
+    fn look(&mut self) -> Option<Note> {
+        if !self.controller.is_serving() {
+            return None;
+        }
+        let free = self.controller.look(&self.ring);
+        u16::try_from(free).ok().map(Note::Free)
+    }
+
+    fn set_head(&mut self) -> Option<Note> {
+        if !self.controller.is_serving() || self.controller.is_holding() {
+            return None;
+        }
+        self.controller.set_head(&self.ring);
+        Some(Note::Head(0))
+    }
+
+    /// Whether a poll says that the queue is disabled; then the ends meet.
+    pub(crate) fn is_off(&mut self) -> bool {
+        let is_off = matches!(self.driver.poll(&self.ring), Poll::Off);
+        meet_rx(&self.ring, &mut self.driver, &mut self.controller);
+        is_off
+    }
+
     fn renew(&mut self) -> Option<Note> {
         renewed!(self);
         self.untouched = true;
@@ -199,22 +238,13 @@ impl Beside for Both {
     fn call(&mut self, step: Step) -> Option<Note> {
         match step {
             RxStep::Post(_) => self.post(),
-            RxStep::Publish if self.driver.is_open() => {
-                self.driver.publish(&self.ring);
-                Some(Note::Tail(0))
-            }
-            RxStep::Look if self.controller.is_serving() => {
-                let free = self.controller.look(&self.ring);
-                u16::try_from(free).ok().map(Note::Free)
-            }
+            RxStep::Publish => self.publish(),
+            RxStep::Look => self.look(),
             RxStep::Fetch => self.fetch(),
             RxStep::Store(len, eop) => self.store(len, eop),
             RxStep::Take => self.take(),
-            RxStep::Head if self.controller.is_serving() && !self.controller.is_holding() => {
-                self.controller.set_head(&self.ring);
-                Some(Note::Head(0))
-            }
-            RxStep::Control(control) => shake!(self, control),
+            RxStep::Head => self.set_head(),
+            RxStep::Control(control) => self.shake(control),
             RxStep::Reclaim => self.reclaim(),
             RxStep::StoreQuiet => self.set_quiet(),
             RxStep::LoadQuiet => Some(Note::Quiet(u8::from(self.driver.is_quiet(&self.ring)))),

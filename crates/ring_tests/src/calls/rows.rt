@@ -1,9 +1,10 @@
 //! Worked rows of a receive ring, by calls.
 
 use crate::calls::both::{Both, Step};
+use buffer_pool::Buf;
 use ring_machine::SegmentLength;
 use ring_model::{ControlStep, Note, RxStep, TakenSegment};
-use rx_ring::{ControllerEnd, DriverEnd, Poll, RingError, RxRing, meet_rx};
+use rx_ring::{ControllerEnd, DriverEnd, RingError, RxDriverEnd, RxRing};
 use std::alloc::Global;
 use std::test::Fail;
 use test_kit::{Beside, disable, enable, makes};
@@ -19,17 +20,30 @@ fn stored_whole() -> [Step; 4] {
     ]
 }
 
-/// An enabled ring of 8, with 7 buffers posted and published.
-fn with_seven(alloc: Global) -> Result<Both, Fail> {
-    let mut both = Both::new(alloc, 8)?;
-    let is_ready = enable(&mut both)
-        && makes(&mut both, &[RxStep::Post(0); 7])
-        && makes(&mut both, &[RxStep::Publish]);
-    if is_ready {
-        Ok(both)
-    } else {
-        Err(Fail::new("seven posted"))
+/// Enables the queue, and posts and publishes 7 buffers: whether all that could be done.
+fn posts_seven(both: &mut Both) -> bool {
+    enable(both) && makes(both, &[RxStep::Post(0); 7]) && makes(both, &[RxStep::Publish])
+}
+
+/// Stores so many frames of 60 bytes: whether all could be stored.
+fn stores(both: &mut Both, frames: u32) -> bool {
+    for _ in 0..frames {
+        if !makes(both, &stored_whole()) {
+            return false;
+        }
     }
+    true
+}
+
+/// How many of these calls tell what stands beside them, before the first that tells something else.
+fn agreeing(both: &mut Both, rows: &[(Step, Option<Note>)]) -> usize {
+    for k in 0..rows.len() {
+        let (step, wanted) = rows[k];
+        if both.call(step) != wanted {
+            return k;
+        }
+    }
+    rows.len()
 }
 
 fn taken(buffer: u16) -> Option<Note> {
@@ -39,6 +53,31 @@ fn taken(buffer: u16) -> Option<Note> {
         len: 60,
         eop,
     })))
+}
+
+/// A step of the handshake, the word that it tells, and the state that the driver is in then, by its first letter: new,
+/// asked to be enabled, on, stopping or disabled.
+type Shaken = (ControlStep, Option<u8>, char);
+
+/// Whether the tests beside the conditions say that the driver is in this state.
+fn is_in(driver: &RxDriverEnd, state: char) -> bool {
+    driver.is_new() == (state == 'n')
+        && driver.is_on() == (state == 'o')
+        && driver.is_stopped() == (state == 'd')
+        && driver.is_live() == matches!(state, 'o' | 's')
+        && driver.is_open() == matches!(state, 'n' | 'a' | 'o')
+}
+
+/// How many steps of the handshake come out as their rows say, before the first that doesn't.
+fn shaken(both: &mut Both, rows: &[Shaken]) -> usize {
+    for k in 0..rows.len() {
+        let (step, control, state) = rows[k];
+        let told = both.call(RxStep::Control(step));
+        if told != control.map(Note::Control) || !is_in(&both.driver, state) {
+            return k;
+        }
+    }
+    rows.len()
 }
 
 #[test]
@@ -60,84 +99,96 @@ fn enabling_and_disabling_by_calls(rt: HostRuntime) -> Result<(), Fail> {
         (ControlStep::LookAnswered, Some(0), 'd'),
         (ControlStep::AskEnable, None, 'd'),
     ];
-    for (k, (step, control, state)) in rows.iter().enumerate() {
-        let told = both.call(RxStep::Control(*step));
-        assert!(rt; told == control.map(Note::Control), "row {k}");
-        let driver = &both.driver;
-        assert!(rt;
-            driver.is_new() == (*state == 'n') && driver.is_on() == (*state == 'o'),
-            "row {k}"
-        );
-        assert!(rt; driver.is_stopped() == (*state == 'd'), "row {k}");
-        assert!(rt; driver.is_live() == matches!(state, 'o' | 's'), "row {k}");
-        assert!(rt;
-            driver.is_open() == matches!(state, 'n' | 'a' | 'o'),
-            "row {k}"
-        );
-    }
+    assert_eq!(rt; shaken(&mut both, &rows), rows.len());
     Ok(())
+}
+
+/// Stores, takes and posts anew so many frames, one after another: how many went round.
+fn go_round(both: &mut Both, frames: u32) -> u32 {
+    for k in 0..frames {
+        let goes = stores(both, 1)
+            && makes(both, &[RxStep::Take, RxStep::Post(0), RxStep::Publish]);
+        if !goes {
+            return k;
+        }
+    }
+    frames
+}
+
+/// Whether of a closed ring's places this one alone is empty.
+fn is_empty_at(slots: &[Option<Buf>], place: usize) -> bool {
+    for k in 0..slots.len() {
+        if slots[k].is_none() != (k == place) {
+            return false;
+        }
+    }
+    true
 }
 
 #[test]
 fn frames_with_heads_go_round(rt: HostRuntime) -> Result<(), Fail> {
-    let mut both = with_seven(rt.alloc())?;
-    for k in 0..21 {
-        assert!(rt; makes(&mut both, &stored_whole()), "frame {k}");
-        assert!(rt;
-            makes(&mut both, &[RxStep::Take, RxStep::Post(0), RxStep::Publish]),
-            "frame {k}"
-        );
-    }
+    let mut both = Both::new(rt.alloc(), 8)?;
+    assert!(rt; posts_seven(&mut both));
+    assert_eq!(rt; go_round(&mut both, 21), 21);
     assert!(rt; both.stored_count == 21 && both.taken_count == 21);
     // the head is 5, as the place to take next
     assert!(rt; disable(&mut both) && both.left() == Some((0, 0)));
-    let closed = both.close();
-    for (place, slot) in closed.slots.iter().enumerate() {
-        assert!(rt; slot.is_none() == (place == 4), "place {place}");
-    }
+    assert!(rt; is_empty_at(&both.close().slots, 4));
     Ok(())
+}
+
+/// Of three stored frames takes the first, posts its buffer anew, and disables the queue: how many of the calls tell what
+/// they should, the disabling left out.
+fn take_one_of_three(both: &mut Both) -> usize {
+    let rows = [
+        (RxStep::Take, taken(31)),
+        (RxStep::Post(0), Some(Note::Place(0))),
+        (RxStep::Publish, Some(Note::Tail(0))),
+    ];
+    if stores(both, 3) {
+        agreeing(both, &rows)
+    } else {
+        0
+    }
 }
 
 #[test]
 fn disabled_with_two_left(rt: HostRuntime) -> Result<(), Fail> {
-    let mut both = with_seven(rt.alloc())?;
-    for _ in 0..3 {
-        assert!(rt; makes(&mut both, &stored_whole()));
-    }
-    assert!(rt; both.call(RxStep::Take) == taken(31));
-    assert!(rt; makes(&mut both, &[RxStep::Post(0), RxStep::Publish]));
+    let mut both = Both::new(rt.alloc(), 8)?;
+    assert!(rt; posts_seven(&mut both) && take_one_of_three(&mut both) == 3);
     assert!(rt; disable(&mut both) && both.left() == Some((2, 2)));
-    assert!(rt; both.call(RxStep::Take).is_none() && both.call(RxStep::Look).is_none());
+    assert_eq!(rt;
+        agreeing(&mut both, &[(RxStep::Take, None), (RxStep::Look, None)]),
+        2
+    );
     assert!(rt; makes(&mut both, &[RxStep::Reclaim; 7]) && both.call(RxStep::Reclaim).is_none());
-    let Both {
-        ring,
-        mut driver,
-        mut controller,
-        ..
-    } = both;
-    assert!(rt; matches!(driver.poll(&ring), Poll::Off));
-    meet_rx(&ring, &mut driver, &mut controller);
+    assert!(rt; both.is_off());
     Ok(())
+}
+
+/// Posts two buffers and stores one frame: whether all that could be done.
+fn stores_one_of_two(both: &mut Both) -> bool {
+    makes(both, &[RxStep::Post(0), RxStep::Post(0), RxStep::Publish]) && stores(both, 1)
 }
 
 #[test]
 fn quiet_by_calls(rt: HostRuntime) -> Result<(), Fail> {
     let mut both = Both::new(rt.alloc(), 8)?;
     assert!(rt; both.call(RxStep::StoreQuiet).is_none() && enable(&mut both));
-    assert!(rt;
-        makes(
-            &mut both,
-            &[RxStep::Post(0), RxStep::Post(0), RxStep::Publish]
-        )
-    );
-    assert!(rt; makes(&mut both, &stored_whole()));
-    assert!(rt; both.call(RxStep::LoadQuiet) == Some(Note::Quiet(0)));
-    assert!(rt; both.call(RxStep::StoreQuiet) == Some(Note::Quiet(1)));
-    assert!(rt; both.controller.has_finished() && both.call(RxStep::Look) == Some(Note::Free(1)));
-    assert!(rt; both.call(RxStep::Fetch).is_none());
-    assert!(rt; both.call(RxStep::LoadQuiet) == Some(Note::Quiet(1)));
-    assert!(rt; both.call(RxStep::Take) == taken(31));
-    assert!(rt; both.call(RxStep::Take) == Some(Note::Taken(None)));
+    assert!(rt; stores_one_of_two(&mut both));
+    let said = [
+        (RxStep::LoadQuiet, Some(Note::Quiet(0))),
+        (RxStep::StoreQuiet, Some(Note::Quiet(1))),
+    ];
+    assert!(rt; agreeing(&mut both, &said) == said.len() && both.controller.has_finished());
+    let after = [
+        (RxStep::Look, Some(Note::Free(1))),
+        (RxStep::Fetch, None),
+        (RxStep::LoadQuiet, Some(Note::Quiet(1))),
+        (RxStep::Take, taken(31)),
+        (RxStep::Take, Some(Note::Taken(None))),
+    ];
+    assert_eq!(rt; agreeing(&mut both, &after), after.len());
     Ok(())
 }
 
@@ -151,17 +202,28 @@ fn lawful_lengths_are_made(rt: HostRuntime) -> Result<(), Fail> {
     Ok(())
 }
 
+/// How a ring of this length is refused.
+fn refusal(alloc: Global, n: u32) -> Option<RingError> {
+    match RxRing::new(alloc, n) {
+        Ok(_) => None,
+        Err(refusal) => Some(refusal),
+    }
+}
+
 #[test]
-fn other_lengths_are_refused(rt: HostRuntime) -> Result<(), Fail> {
+fn other_lengths_are_refused(rt: HostRuntime) {
     for n in [0, 1, 4, 7, 9, 12, 4_095, 4_097, 8_192, u32::MAX] {
-        let Err(refusal) = RxRing::new(rt.alloc(), n) else {
-            panic!(rt; "a ring of {n}")
-        };
-        assert_eq!(rt; refusal, RingError::RingLength);
         assert!(rt;
-            refusal.number() == 21 && format!(in rt.alloc(); "{refusal}")?.as_str() == "ring length"
+            refusal(rt.alloc(), n) == Some(RingError::RingLength),
+            "a ring of {n}"
         );
     }
-    assert!(rt; RingError::Memory.number() == 22);
+}
+
+#[test]
+fn refusals_have_numbers_and_words(rt: HostRuntime) -> Result<(), Fail> {
+    let refusal = RingError::RingLength;
+    assert!(rt; refusal.number() == 21 && RingError::Memory.number() == 22);
+    assert!(rt; format!(in rt.alloc(); "{refusal}")?.as_str() == "ring length");
     Ok(())
 }
