@@ -195,21 +195,19 @@ fn sides(queues: &Queues) -> Option<(Owner, Owner)> {
     Some((receive.owner(0), transmit.owner(0)))
 }
 
-// How many of these lines are moves that are made, after which the places are with whom stands beside them, before the
-// first that isn't.
-fn agreeing(queues: &mut Queues, rows: &[(&str, Owner, Owner)]) -> usize {
+// The first of these lines that is no move that is made, or after which the places are not with whom stands beside it.
+fn first_other(queues: &mut Queues, rows: &[(&str, Owner, Owner)]) -> Option<usize> {
     for k in 0..rows.len() {
         let (line, receive, transmit) = rows[k];
         if !is_made(queues, line) || sides(queues) != Some((receive, transmit)) {
-            return k;
+            return Some(k);
         }
     }
-    rows.len()
+    None
 }
 
-#[test]
-fn a_place_is_with_one_side(rt: HostRuntime) -> Result<(), Fail> {
-    let mut queues = Queues::new(rt.alloc(), 1, 8, true)?;
+// Whether the places go from their drivers to a ring's two sides.
+fn are_given(queues: &mut Queues) -> bool {
     let rows = [
         ("r0 A1 5", Owner::Ring, Owner::Driver),
         ("r0 A2", Owner::Ring, Owner::Driver),
@@ -218,6 +216,13 @@ fn a_place_is_with_one_side(rt: HostRuntime) -> Result<(), Fail> {
         ("t0 B1 7 60 1 1 60", Owner::Controller, Owner::Ring),
         ("r0 A5 60 1", Owner::Ring, Owner::Ring),
         ("t0 B2", Owner::Ring, Owner::Ring),
+    ];
+    first_other(queues, &rows).is_none()
+}
+
+// Whether they come back from there.
+fn come_back(queues: &mut Queues) -> bool {
+    let rows = [
         ("t0 B3", Owner::Ring, Owner::Ring),
         ("t0 B4", Owner::Ring, Owner::Controller),
         ("r0 A6", Owner::Driver, Owner::Controller),
@@ -226,8 +231,14 @@ fn a_place_is_with_one_side(rt: HostRuntime) -> Result<(), Fail> {
         ("t0 B7", Owner::Driver, Owner::Ring),
         ("t0 B8", Owner::Driver, Owner::Driver),
     ];
+    first_other(queues, &rows).is_none()
+}
+
+#[test]
+fn a_place_is_with_one_side(rt: HostRuntime) -> Result<(), Fail> {
+    let mut queues = Queues::new(rt.alloc(), 1, 8, true)?;
     assert!(rt; sides(&queues) == Some((Owner::Driver, Owner::Driver)));
-    assert_eq!(rt; agreeing(&mut queues, &rows), rows.len());
+    assert!(rt; are_given(&mut queues) && come_back(&mut queues));
     if let Some(second) = QueueNumber::new(1) {
         assert!(rt; queues.receive(second).is_none() && queues.transmit(second).is_none());
     }

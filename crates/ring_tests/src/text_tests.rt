@@ -17,6 +17,19 @@ fn tx(queue: u8, step: TxStep<SegmentDescriptor>) -> Option<Move> {
     Some(Move::Transmit(QueueNumber::new(queue)?, step))
 }
 
+// A storing on the first receive queue.
+fn stored(len: u16, eop: bool) -> Option<Move> {
+    rx(0, RxStep::Store(SegmentLength::new(len)?, eop))
+}
+
+// A posting on the first transmit queue.
+fn posted(number: u16, len: u16, eop: bool, rs: bool, paylen: u16) -> Option<Move> {
+    tx(
+        0,
+        TxStep::Post(SegmentDescriptor::new(number, len, eop, rs, paylen)?),
+    )
+}
+
 // Whether the line is this move's, both ways, and begins with its name.
 fn is_line_of(rt: HostRuntime, line: &str, wanted: Option<Move>) -> Result<bool, Fail> {
     let alloc = rt.alloc();
@@ -28,70 +41,87 @@ fn is_line_of(rt: HostRuntime, line: &str, wanted: Option<Move>) -> Result<bool,
     Ok(Some(read) == wanted && text.as_str() == line && line.starts_with(name.as_str()))
 }
 
+// The first of these lines that is not the move beside it.
+fn first_other(rt: HostRuntime, table: &[(&str, Option<Move>)]) -> Result<Option<usize>, Fail> {
+    for k in 0..table.len() {
+        let (line, wanted) = table[k];
+        if !is_line_of(rt, line, wanted)? {
+            return Ok(Some(k));
+        }
+    }
+    Ok(None)
+}
+
 #[test]
 fn lines_of_receive_queues_are_read_and_printed(rt: HostRuntime) -> Result<(), Fail> {
-    let (Some(one), Some(most)) = (SegmentLength::new(1), SegmentLength::new(2_048)) else {
-        panic!(rt; "lengths")
-    };
     let table = [
-        ("r0 A1 0", 0, RxStep::Post(0)),
-        ("r7 A1 65535", 7, RxStep::Post(65_535)),
-        ("r1 A2", 1, RxStep::Publish),
-        ("r2 A3", 2, RxStep::Look),
-        ("r3 A4", 3, RxStep::Fetch),
-        ("r0 A5 1 0", 0, RxStep::Store(one, false)),
-        ("r0 A5 2048 1", 0, RxStep::Store(most, true)),
-        ("r4 A6", 4, RxStep::Take),
-        ("r5 A7", 5, RxStep::Head),
-        ("r6 C1", 6, RxStep::Control(ControlStep::AskEnable)),
-        ("r7 C2", 7, RxStep::Control(ControlStep::LookAsked)),
-        ("r0 C3", 0, RxStep::Control(ControlStep::Answer)),
-        ("r1 C4", 1, RxStep::Control(ControlStep::LookAnswered)),
-        ("r2 C5", 2, RxStep::Control(ControlStep::AskDisable)),
-        ("r3 C6", 3, RxStep::Reclaim),
-        ("r4 C7", 4, RxStep::StoreQuiet),
-        ("r5 C8", 5, RxStep::LoadQuiet),
-        ("r6 C9", 6, RxStep::ClearHead),
-        ("r7 C10", 7, RxStep::ClearTail),
-        ("r0 C11", 0, RxStep::ClearQuiet),
+        ("r0 A1 0", rx(0, RxStep::Post(0))),
+        ("r7 A1 65535", rx(7, RxStep::Post(65_535))),
+        ("r1 A2", rx(1, RxStep::Publish)),
+        ("r2 A3", rx(2, RxStep::Look)),
+        ("r3 A4", rx(3, RxStep::Fetch)),
+        ("r0 A5 1 0", stored(1, false)),
+        ("r0 A5 2048 1", stored(2_048, true)),
+        ("r4 A6", rx(4, RxStep::Take)),
+        ("r5 A7", rx(5, RxStep::Head)),
     ];
-    for (line, queue, step) in table {
-        assert!(rt; is_line_of(rt, line, rx(queue, step))?, "at {line:?}");
-    }
+    assert!(rt; first_other(rt, &table)?.is_none());
+    Ok(())
+}
+
+#[test]
+fn lines_of_receive_queues_controls_are_read_and_printed(rt: HostRuntime) -> Result<(), Fail> {
+    let table = [
+        ("r6 C1", rx(6, RxStep::Control(ControlStep::AskEnable))),
+        ("r7 C2", rx(7, RxStep::Control(ControlStep::LookAsked))),
+        ("r0 C3", rx(0, RxStep::Control(ControlStep::Answer))),
+        ("r1 C4", rx(1, RxStep::Control(ControlStep::LookAnswered))),
+        ("r2 C5", rx(2, RxStep::Control(ControlStep::AskDisable))),
+        ("r3 C6", rx(3, RxStep::Reclaim)),
+        ("r4 C7", rx(4, RxStep::StoreQuiet)),
+        ("r5 C8", rx(5, RxStep::LoadQuiet)),
+        ("r6 C9", rx(6, RxStep::ClearHead)),
+        ("r7 C10", rx(7, RxStep::ClearTail)),
+        ("r0 C11", rx(0, RxStep::ClearQuiet)),
+    ];
+    assert!(rt; first_other(rt, &table)?.is_none());
     Ok(())
 }
 
 #[test]
 fn lines_of_transmit_queues_are_read_and_printed(rt: HostRuntime) -> Result<(), Fail> {
-    let (Some(least), Some(most)) = (
-        SegmentDescriptor::new(0, 1, false, false, 14),
-        SegmentDescriptor::new(65_535, 2_048, true, true, 15_000),
-    ) else {
-        panic!(rt; "descriptors")
-    };
     let table = [
-        ("t0 B1 0 1 0 0 14", 0, TxStep::Post(least)),
-        ("t0 B1 65535 2048 1 1 15000", 0, TxStep::Post(most)),
-        ("t1 B2", 1, TxStep::Publish),
-        ("t2 B3", 2, TxStep::Look),
-        ("t3 B4", 3, TxStep::Fetch),
-        ("t4 B5", 4, TxStep::Send),
-        ("t5 B6", 5, TxStep::Report),
-        ("t6 B7", 6, TxStep::LoadReport),
-        ("t7 B8", 7, TxStep::Clean),
-        ("t0 C1", 0, TxStep::Control(ControlStep::AskEnable)),
-        ("t1 C2", 1, TxStep::Control(ControlStep::LookAsked)),
-        ("t2 C3", 2, TxStep::Control(ControlStep::Answer)),
-        ("t3 C4", 3, TxStep::Control(ControlStep::LookAnswered)),
-        ("t4 C5", 4, TxStep::Control(ControlStep::AskDisable)),
-        ("t5 C6", 5, TxStep::Reclaim),
-        ("t6 C9", 6, TxStep::ClearHead),
-        ("t7 C10", 7, TxStep::ClearTail),
-        ("t0 C12", 0, TxStep::ClearReport),
+        ("t0 B1 0 1 0 0 14", posted(0, 1, false, false, 14)),
+        (
+            "t0 B1 65535 2048 1 1 15000",
+            posted(65_535, 2_048, true, true, 15_000),
+        ),
+        ("t1 B2", tx(1, TxStep::Publish)),
+        ("t2 B3", tx(2, TxStep::Look)),
+        ("t3 B4", tx(3, TxStep::Fetch)),
+        ("t4 B5", tx(4, TxStep::Send)),
+        ("t5 B6", tx(5, TxStep::Report)),
+        ("t6 B7", tx(6, TxStep::LoadReport)),
+        ("t7 B8", tx(7, TxStep::Clean)),
     ];
-    for (line, queue, step) in table {
-        assert!(rt; is_line_of(rt, line, tx(queue, step))?, "at {line:?}");
-    }
+    assert!(rt; first_other(rt, &table)?.is_none());
+    Ok(())
+}
+
+#[test]
+fn lines_of_transmit_queues_controls_are_read_and_printed(rt: HostRuntime) -> Result<(), Fail> {
+    let table = [
+        ("t0 C1", tx(0, TxStep::Control(ControlStep::AskEnable))),
+        ("t1 C2", tx(1, TxStep::Control(ControlStep::LookAsked))),
+        ("t2 C3", tx(2, TxStep::Control(ControlStep::Answer))),
+        ("t3 C4", tx(3, TxStep::Control(ControlStep::LookAnswered))),
+        ("t4 C5", tx(4, TxStep::Control(ControlStep::AskDisable))),
+        ("t5 C6", tx(5, TxStep::Reclaim)),
+        ("t6 C9", tx(6, TxStep::ClearHead)),
+        ("t7 C10", tx(7, TxStep::ClearTail)),
+        ("t0 C12", tx(0, TxStep::ClearReport)),
+    ];
+    assert!(rt; first_other(rt, &table)?.is_none());
     Ok(())
 }
 
@@ -218,8 +248,37 @@ fn is_printed(alloc: Global, note: Note, line: &str) -> Result<bool, Fail> {
     Ok(format!(in alloc; "{note}")?.as_str() == line)
 }
 
+// The first of these notes that is printed otherwise.
+fn first_other_note(alloc: Global, table: &[(Note, &str)]) -> Result<Option<usize>, Fail> {
+    for k in 0..table.len() {
+        let (note, line) = table[k];
+        if !is_printed(alloc, note, line)? {
+            return Ok(Some(k));
+        }
+    }
+    Ok(None)
+}
+
 #[test]
-fn notes_are_printed(rt: HostRuntime) -> Result<(), Fail> {
+fn notes_of_a_number_are_printed(rt: HostRuntime) -> Result<(), Fail> {
+    let table = [
+        (Note::Place(3), "place 3"),
+        (Note::Tail(1), "tail 1"),
+        (Note::Free(2), "free 2"),
+        (Note::Ready(1), "ready 1"),
+        (Note::Reported(None), "none"),
+        (Note::Reported(Some(0)), "reported 0"),
+        (Note::Head(1), "head 1"),
+        (Note::Buffer(7), "buffer 7"),
+        (Note::Control(2), "control 2"),
+        (Note::Quiet(0), "quiet 0"),
+    ];
+    assert!(rt; first_other_note(rt.alloc(), &table)?.is_none());
+    Ok(())
+}
+
+#[test]
+fn notes_of_a_segment_are_printed(rt: HostRuntime) -> Result<(), Fail> {
     let taken = TakenSegment {
         buffer: 5,
         len: 60,
@@ -238,10 +297,6 @@ fn notes_are_printed(rt: HostRuntime) -> Result<(), Fail> {
         rs: false,
     };
     let table = [
-        (Note::Place(3), "place 3"),
-        (Note::Tail(1), "tail 1"),
-        (Note::Free(2), "free 2"),
-        (Note::Ready(1), "ready 1"),
         (Note::Fetched(0, 5), "place 0 buffer 5"),
         (
             Note::Sending(0, fetched),
@@ -253,16 +308,8 @@ fn notes_are_printed(rt: HostRuntime) -> Result<(), Fail> {
         ),
         (Note::Taken(None), "none"),
         (Note::Taken(Some(taken)), "buffer 5 length 60 eop 1"),
-        (Note::Reported(None), "none"),
-        (Note::Reported(Some(0)), "reported 0"),
-        (Note::Head(1), "head 1"),
-        (Note::Buffer(7), "buffer 7"),
-        (Note::Control(2), "control 2"),
-        (Note::Quiet(0), "quiet 0"),
     ];
-    for (note, line) in table {
-        assert!(rt; is_printed(rt.alloc(), note, line)?, "{line}");
-    }
+    assert!(rt; first_other_note(rt.alloc(), &table)?.is_none());
     Ok(())
 }
 

@@ -148,52 +148,18 @@ struct Ran {
     is_whole: bool,
 }
 
-/// Runs both ends in threads of their own, and joins them.
-fn run_ends<R: Threads + Wait + Sync>(
-    rt: &R,
-    ring: &RxRing,
-    driver: RxDriverEnd,
-    controller: RxControllerEnd,
-    told: Driven,
-    epochs: u32,
-) -> ((RxControllerEnd, u32), (RxDriverEnd, Driven))
-    requires driver { driver.table ≡ ring.now }
-    requires controller { controller.table ≡ ring.now }
-    requires fresh { reclaimed driver ≡ 0 }
-    ensures controller { result.0.0.table ≡ ring.now }
-    ensures driver { result.1.0.table ≡ ring.now }
-{
-    thread::join(
-        rt,
-        || control(rt, ring, controller, epochs),
-        || drive(rt, ring, driver, told, epochs),
-    )
-}
-
-/// Lets the ends meet, and closes the ring.
-fn close_all(
-    ring: RxRing,
-    mut driver: RxDriverEnd,
-    mut controller: RxControllerEnd,
-    spare: Stash,
-    held: Option<Buf>,
-) -> Closed
-    requires driver { driver.table ≡ ring }
-    requires controller { controller.table ≡ ring }
-{
-    meet_rx(&ring, &mut driver, &mut controller);
-    Closed::of(close(ring, driver, controller), spare, held)
-}
-
 /// Runs both ends, joins their threads, lets the ends meet, and closes the ring.
 fn run<R: Threads + Wait + Sync>(rt: &R, alloc: Global, epochs: u32) -> Result<Ran, Fail> {
     let told = Driven::new(full_stash(alloc, 16)?);
     let (ring, driver, controller) = RxRing::new(alloc, 8)?;
-    let ((controller, stored), (driver, mut told)) = run_ends(
-        rt, &ring, driver, controller, told, epochs,
+    let ((mut controller, stored), (mut driver, mut told)) = thread::join(
+        rt,
+        || control(rt, &ring, controller, epochs),
+        || drive(rt, &ring, driver, told, epochs),
     );
+    meet_rx(&ring, &mut driver, &mut controller);
     let spare = mem::take(&mut told.spare);
-    let closed = close_all(ring, driver, controller, spare, None);
+    let closed = Closed::of(close(ring, driver, controller), spare, None);
     Ok(Ran {
         told,
         stored,
@@ -218,32 +184,16 @@ fn three_epochs(rt: HostRuntime) -> Result<(), Fail> {
     Ok(())
 }
 
-/// Stores 45 frames and fetches one buffer more, takes 40 of them, each in a thread of its own, and joins them.
-fn run_on<R: Threads + Wait + Sync>(
-    rt: &R,
-    ring: &RxRing,
-    driver: RxDriverEnd,
-    controller: RxControllerEnd,
-    spare: Stash,
-) -> ((RxControllerEnd, Option<Buf>), (RxDriverEnd, Stash, u32))
-    requires driver { driver.table ≡ ring.now }
-    requires controller { controller.table ≡ ring.now }
-    ensures controller { result.0.0.table ≡ ring.now }
-    ensures driver { result.1.0.table ≡ ring.now }
-{
-    thread::join(
-        rt,
-        || control_on(rt, ring, controller, 45),
-        || drive_on(rt, ring, driver, spare, 40),
-    )
-}
-
 #[test]
 fn closed(rt: HostRuntime) -> Result<(), Fail> {
     let spare = full_stash(rt.alloc(), 16)?;
     let (ring, driver, controller) = RxRing::new(rt.alloc(), 8)?;
-    let ((controller, held), (driver, spare, good)) = run_on(&rt, &ring, driver, controller, spare);
-    let closed = close_all(ring, driver, controller, spare, held);
+    let ((controller, held), (driver, spare, good)) = thread::join(
+        &rt,
+        || control_on(&rt, &ring, controller, 45),
+        || drive_on(&rt, &ring, driver, spare, 40),
+    );
+    let closed = Closed::of(close(ring, driver, controller), spare, held);
     assert!(rt; good == 40 && closed.spare.len() == 9 && closed.held.is_some());
     assert!(rt; closed.lying() == 6 && closed.has_each_once(16));
     Ok(())

@@ -35,23 +35,23 @@ fn stores(both: &mut Both, frames: u32) -> bool {
     true
 }
 
-/// How many of these calls tell what stands beside them, before the first that tells something else.
-fn agreeing(both: &mut Both, rows: &[(Step, Option<Note>)]) -> usize {
+/// The first of these calls that tells something else than what stands beside it.
+fn first_other(both: &mut Both, rows: &[(Step, Option<Note>)]) -> Option<usize> {
     for k in 0..rows.len() {
         let (step, wanted) = rows[k];
         if both.call(step) != wanted {
-            return k;
+            return Some(k);
         }
     }
-    rows.len()
+    None
 }
 
-fn taken(buffer: u16) -> Option<Note> {
-    let eop = true;
+/// The first buffer that was posted is taken, with a whole frame of 60 bytes.
+fn taken() -> Option<Note> {
     Some(Note::Taken(Some(TakenSegment {
-        buffer,
+        buffer: 31,
         len: 60,
-        eop,
+        eop: true,
     })))
 }
 
@@ -68,21 +68,20 @@ fn is_in(driver: &RxDriverEnd, state: char) -> bool {
         && driver.is_open() == matches!(state, 'n' | 'a' | 'o')
 }
 
-/// How many steps of the handshake come out as their rows say, before the first that doesn't.
-fn shaken(both: &mut Both, rows: &[Shaken]) -> usize {
+/// The first step of the handshake that comes out otherwise than its row says.
+fn first_unshaken(both: &mut Both, rows: &[Shaken]) -> Option<usize> {
     for k in 0..rows.len() {
         let (step, control, state) = rows[k];
         let told = both.call(RxStep::Control(step));
         if told != control.map(Note::Control) || !is_in(&both.driver, state) {
-            return k;
+            return Some(k);
         }
     }
-    rows.len()
+    None
 }
 
-#[test]
-fn enabling_and_disabling_by_calls(rt: HostRuntime) -> Result<(), Fail> {
-    let mut both = Both::new(rt.alloc(), 8)?;
+/// Whether a new queue is enabled as it should be, and nothing else can be done.
+fn is_enabled_by_calls(both: &mut Both) -> bool {
     let rows = [
         (ControlStep::LookAnswered, Some(0), 'n'),
         (ControlStep::AskDisable, None, 'n'),
@@ -92,6 +91,13 @@ fn enabling_and_disabling_by_calls(rt: HostRuntime) -> Result<(), Fail> {
         (ControlStep::Answer, Some(2), 'a'),
         (ControlStep::Answer, None, 'a'),
         (ControlStep::LookAnswered, Some(2), 'o'),
+    ];
+    first_unshaken(both, &rows).is_none()
+}
+
+/// The same of an enabled queue's disabling.
+fn is_disabled_by_calls(both: &mut Both) -> bool {
+    let rows = [
         (ControlStep::AskDisable, Some(3), 's'),
         (ControlStep::LookAsked, Some(3), 's'),
         (ControlStep::LookAnswered, Some(3), 's'),
@@ -99,7 +105,13 @@ fn enabling_and_disabling_by_calls(rt: HostRuntime) -> Result<(), Fail> {
         (ControlStep::LookAnswered, Some(0), 'd'),
         (ControlStep::AskEnable, None, 'd'),
     ];
-    assert_eq!(rt; shaken(&mut both, &rows), rows.len());
+    first_unshaken(both, &rows).is_none()
+}
+
+#[test]
+fn enabling_and_disabling_by_calls(rt: HostRuntime) -> Result<(), Fail> {
+    let mut both = Both::new(rt.alloc(), 8)?;
+    assert!(rt; is_enabled_by_calls(&mut both) && is_disabled_by_calls(&mut both));
     Ok(())
 }
 
@@ -125,70 +137,91 @@ fn is_empty_at(slots: &[Option<Buf>], place: usize) -> bool {
     true
 }
 
+/// Stores, takes and posts anew 21 frames, and disables the queue: whether all went round, and none is left.
+fn all_go_round(both: &mut Both) -> bool {
+    posts_seven(both)
+        && go_round(both, 21) == 21
+        && both.stored_count == 21
+        && both.taken_count == 21
+        && disable(both)
+        && both.left() == Some((0, 0))
+}
+
 #[test]
 fn frames_with_heads_go_round(rt: HostRuntime) -> Result<(), Fail> {
     let mut both = Both::new(rt.alloc(), 8)?;
-    assert!(rt; posts_seven(&mut both));
-    assert_eq!(rt; go_round(&mut both, 21), 21);
-    assert!(rt; both.stored_count == 21 && both.taken_count == 21);
+    assert!(rt; all_go_round(&mut both));
     // the head is 5, as the place to take next
-    assert!(rt; disable(&mut both) && both.left() == Some((0, 0)));
     assert!(rt; is_empty_at(&both.close().slots, 4));
     Ok(())
 }
 
-/// Of three stored frames takes the first, posts its buffer anew, and disables the queue: how many of the calls tell what
-/// they should, the disabling left out.
-fn take_one_of_three(both: &mut Both) -> usize {
+/// Whether the first stored frame is taken, and its buffer posted anew.
+fn takes_one(both: &mut Both) -> bool {
     let rows = [
-        (RxStep::Take, taken(31)),
+        (RxStep::Take, taken()),
         (RxStep::Post(0), Some(Note::Place(0))),
         (RxStep::Publish, Some(Note::Tail(0))),
     ];
-    if stores(both, 3) {
-        agreeing(both, &rows)
-    } else {
-        0
-    }
+    first_other(both, &rows).is_none()
+}
+
+/// Stores three of seven frames, takes one, and disables the queue: whether two are left, and neither side gets more.
+fn two_are_left(both: &mut Both) -> bool {
+    posts_seven(both)
+        && stores(both, 3)
+        && takes_one(both)
+        && disable(both)
+        && both.left() == Some((2, 2))
+        && both.call(RxStep::Take).is_none()
+        && both.call(RxStep::Look).is_none()
+}
+
+/// Whether seven buffers can be reclaimed, and no eighth.
+fn reclaims_seven(both: &mut Both) -> bool {
+    makes(both, &[RxStep::Reclaim; 7]) && both.call(RxStep::Reclaim).is_none()
 }
 
 #[test]
 fn disabled_with_two_left(rt: HostRuntime) -> Result<(), Fail> {
     let mut both = Both::new(rt.alloc(), 8)?;
-    assert!(rt; posts_seven(&mut both) && take_one_of_three(&mut both) == 3);
-    assert!(rt; disable(&mut both) && both.left() == Some((2, 2)));
-    assert_eq!(rt;
-        agreeing(&mut both, &[(RxStep::Take, None), (RxStep::Look, None)]),
-        2
-    );
-    assert!(rt; makes(&mut both, &[RxStep::Reclaim; 7]) && both.call(RxStep::Reclaim).is_none());
-    assert!(rt; both.is_off());
+    assert!(rt; two_are_left(&mut both) && reclaims_seven(&mut both) && both.is_off());
     Ok(())
 }
 
-/// Posts two buffers and stores one frame: whether all that could be done.
+/// Posts two buffers on a queue that can't be said quiet before it is enabled, and stores one frame: whether that is so.
 fn stores_one_of_two(both: &mut Both) -> bool {
-    makes(both, &[RxStep::Post(0), RxStep::Post(0), RxStep::Publish]) && stores(both, 1)
+    both.call(RxStep::StoreQuiet).is_none()
+        && enable(both)
+        && makes(both, &[RxStep::Post(0), RxStep::Post(0), RxStep::Publish])
+        && stores(both, 1)
+}
+
+/// Whether the queue is said quiet.
+fn says_quiet(both: &mut Both) -> bool {
+    let rows = [
+        (RxStep::LoadQuiet, Some(Note::Quiet(0))),
+        (RxStep::StoreQuiet, Some(Note::Quiet(1))),
+    ];
+    first_other(both, &rows).is_none() && both.controller.has_finished()
+}
+
+/// Whether what is left of a quiet queue is still taken, and nothing more stored.
+fn stays_quiet(both: &mut Both) -> bool {
+    let rows = [
+        (RxStep::Look, Some(Note::Free(1))),
+        (RxStep::Fetch, None),
+        (RxStep::LoadQuiet, Some(Note::Quiet(1))),
+        (RxStep::Take, taken()),
+        (RxStep::Take, Some(Note::Taken(None))),
+    ];
+    first_other(both, &rows).is_none()
 }
 
 #[test]
 fn quiet_by_calls(rt: HostRuntime) -> Result<(), Fail> {
     let mut both = Both::new(rt.alloc(), 8)?;
-    assert!(rt; both.call(RxStep::StoreQuiet).is_none() && enable(&mut both));
-    assert!(rt; stores_one_of_two(&mut both));
-    let said = [
-        (RxStep::LoadQuiet, Some(Note::Quiet(0))),
-        (RxStep::StoreQuiet, Some(Note::Quiet(1))),
-    ];
-    assert!(rt; agreeing(&mut both, &said) == said.len() && both.controller.has_finished());
-    let after = [
-        (RxStep::Look, Some(Note::Free(1))),
-        (RxStep::Fetch, None),
-        (RxStep::LoadQuiet, Some(Note::Quiet(1))),
-        (RxStep::Take, taken(31)),
-        (RxStep::Take, Some(Note::Taken(None))),
-    ];
-    assert_eq!(rt; agreeing(&mut both, &after), after.len());
+    assert!(rt; stores_one_of_two(&mut both) && says_quiet(&mut both) && stays_quiet(&mut both));
     Ok(())
 }
 
