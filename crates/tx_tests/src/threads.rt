@@ -154,8 +154,8 @@ fn run<R: Threads + Wait + Sync>(
     completion: Completion,
     waits: &[u32],
 ) -> Result<Ran, Fail> {
-    let (ring, driver, controller) = TxRing::new_with(alloc, 8, completion)?;
     let told = Driven::new(full_stash(alloc, 16)?);
+    let (ring, driver, controller) = TxRing::new_with(alloc, 8, completion)?;
     let epochs = waits.len();
     let ((mut controller, sent), (mut driver, told)) = thread::join(
         rt,
@@ -205,8 +205,8 @@ fn run_on<R: Threads + Wait + Sync>(
     sends: u32,
     cleans: u32,
 ) -> Result<(Passed, Passed, Closed), Fail> {
-    let (ring, driver, controller) = TxRing::new_with(alloc, 8, completion)?;
     let spare = full_stash(alloc, 16)?;
+    let (ring, driver, controller) = TxRing::new_with(alloc, 8, completion)?;
     let ((mut controller, sent, held), (mut driver, spare, cleaned)) = thread::join(
         rt,
         || control_on(rt, &ring, controller, sends, sends < posts),

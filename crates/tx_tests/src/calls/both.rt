@@ -18,7 +18,9 @@ use test_kit::{
     BUFFERS, Beside, Closed, Random, filled, full_stash, is_filled, put_back, random_control,
     renewed, shake,
 };
-use tx_ring::{Completion, ControllerEnd, DriverEnd, TxControllerEnd, TxDriverEnd, TxRing, close};
+use tx_ring::{
+    Completion, ControllerEnd, DriverEnd, TxControllerEnd, TxDriverEnd, TxRing, close, meet_tx,
+};
 
 /// A step of a transmit ring.
 pub(crate) type Step = TxStep<SegmentDescriptor>;
@@ -71,9 +73,9 @@ pub(crate) struct Both {
 impl Both {
     /// A ring of so many places that is not enabled, and all buffers at hand.
     pub(crate) fn new(alloc: Global, n: u32, completion: Completion) -> Result<Both, Fail> {
-        let (ring, driver, controller) = TxRing::new_with(alloc, n, completion)?;
         let machine = TxMachine::new_with(alloc, n as usize, false, completion)?;
         let spare = full_stash(alloc, BUFFERS)?;
+        let (ring, driver, controller) = TxRing::new_with(alloc, n, completion)?;
         Ok(Both {
             begun: NONE,
             word: 0,
@@ -233,6 +235,15 @@ impl Both {
         is_next.then_some(note)
     }
 
+    fn shake(&mut self, step: ControlStep) -> Option<Note> {
+        shake!(self, step)
+    }
+
+    /// Lets the ends meet.
+    pub(crate) fn meet(&mut self) {
+        meet_tx(&self.ring, &mut self.driver, &mut self.controller);
+    }
+
     fn renew(&mut self) -> Option<Note> {
         renewed!(self);
         self.begun = NONE;
@@ -304,7 +315,7 @@ impl Beside for Both {
                 is_made.then_some(Note::Reported(Some(0)))
             }
             TxStep::Clean => self.clean(),
-            TxStep::Control(control) => shake!(self, control),
+            TxStep::Control(control) => self.shake(control),
             TxStep::Reclaim => self.reclaim(),
             TxStep::ClearHead => self.renew(),
             TxStep::ClearTail | TxStep::ClearReport => None,

@@ -6,7 +6,7 @@ use ring_model::{FetchedSegment, Note, TxStep};
 use std::alloc::Global;
 use std::test::Fail;
 use test_kit::{Beside, disable, enable, makes};
-use tx_ring::{Completion, ControllerEnd, DriverEnd, RingError, TxRing, meet_tx};
+use tx_ring::{Completion, ControllerEnd, DriverEnd, RingError, TxRing};
 
 const BOTH_WAYS: [Completion; 2] = [Completion::Status, Completion::Head];
 
@@ -14,6 +14,9 @@ const BOTH_WAYS: [Completion; 2] = [Completion::Status, Completion::Head];
 fn posting(len: u16, eop: bool, rs: bool, paylen: u16) -> Step {
     SegmentDescriptor::new(0, len, eop, rs, paylen).map_or(TxStep::ClearTail, TxStep::Post)
 }
+
+/// A step of an enabled ring of 8, and what it tells.
+type Row = (Step, Option<Note>);
 
 /// A frame of 60 bytes in the buffer of this number is to be sent.
 fn sending(buffer: u16, rs: bool) -> Option<Note> {
@@ -28,51 +31,62 @@ fn sending(buffer: u16, rs: bool) -> Option<Note> {
     ))
 }
 
-/// The first of these steps on an enabled ring of 8 that tells something else than what stands beside it.
-fn first_other(
-    alloc: Global,
-    completion: Completion,
-    rows: &[(Step, Option<Note>)],
-) -> Result<Option<usize>, Fail> {
-    let mut both = Both::new(alloc, 8, completion)?;
-    if !enable(&mut both) {
-        return Err(Fail::new("not enabled"));
-    }
-    for (k, (step, wanted)) in rows.iter().enumerate() {
-        if both.call(*step) != *wanted {
-            return Ok(Some(k));
+/// Whether a whole frame of 60 bytes is posted.
+fn posts_one(both: &mut Both, rs: bool) -> bool {
+    both.call(posting(60, true, rs, 60)) == Some(Note::Place(0))
+}
+
+/// Whether each step tells what stands beside it.
+fn tells(both: &mut Both, rows: &[Row]) -> bool {
+    for k in 0..rows.len() {
+        let (step, wanted) = rows[k];
+        if both.call(step) != wanted {
+            return false;
         }
     }
-    Ok(None)
+    true
 }
 
-/// What a report tells: a place, or a head.
-fn reported(completion: Completion) -> Option<Note> {
-    match completion {
-        Completion::Status => Some(Note::Place(0)),
-        Completion::Head => Some(Note::Head(0)),
-    }
+/// Whether a report tells what it should: a place, or a head.
+fn is_reported(both: &mut Both, completion: Completion) -> bool {
+    let wanted = match completion {
+        Completion::Status => Note::Place(0),
+        Completion::Head => Note::Head(0),
+    };
+    both.call(TxStep::Report) == Some(wanted)
 }
 
-#[test]
-fn reports(rt: HostRuntime) -> Result<(), Fail> {
-    for completion in BOTH_WAYS {
-        let of_one = [
-            (posting(60, true, true, 60), Some(Note::Place(0))),
+/// Whether one posted frame, which asks for a report, is sent, and nothing is reported yet.
+fn one_is_sent(both: &mut Both) -> bool {
+    tells(
+        both,
+        &[
             (TxStep::Publish, Some(Note::Tail(0))),
             (TxStep::LoadReport, None),
             (TxStep::Look, Some(Note::Ready(1))),
             (TxStep::Fetch, sending(31, true)),
             (TxStep::Send, Some(Note::Head(0))),
             (TxStep::LoadReport, None),
-            (TxStep::Report, reported(completion)),
+        ],
+    )
+}
+
+/// Whether it is cleaned, once its report is made.
+fn one_is_cleaned(both: &mut Both) -> bool {
+    tells(
+        both,
+        &[
             (TxStep::LoadReport, Some(Note::Reported(Some(0)))),
             (TxStep::Clean, Some(Note::Buffer(31))),
-        ];
-        // a descriptor that asks for no report is covered by the next
-        let of_two = [
-            (posting(60, true, false, 60), Some(Note::Place(0))),
-            (posting(60, true, true, 60), Some(Note::Place(0))),
+        ],
+    )
+}
+
+/// Whether two posted frames are sent, of which the first asks for no report, and nothing is reported yet.
+fn two_are_sent(both: &mut Both) -> bool {
+    tells(
+        both,
+        &[
             (TxStep::Publish, Some(Note::Tail(0))),
             (TxStep::Look, Some(Note::Ready(2))),
             (TxStep::Fetch, sending(31, false)),
@@ -81,15 +95,94 @@ fn reports(rt: HostRuntime) -> Result<(), Fail> {
             (TxStep::Fetch, sending(30, true)),
             (TxStep::Send, Some(Note::Head(0))),
             (TxStep::Clean, None),
-            (TxStep::Report, reported(completion)),
+        ],
+    )
+}
+
+/// Whether both are cleaned, once a report is made: that of the second covers the first.
+fn two_are_cleaned(both: &mut Both) -> bool {
+    tells(
+        both,
+        &[
             (TxStep::LoadReport, Some(Note::Reported(Some(0)))),
             (TxStep::LoadReport, None),
             (TxStep::Clean, Some(Note::Buffer(31))),
             (TxStep::Clean, Some(Note::Buffer(30))),
             (TxStep::Clean, None),
-        ];
-        assert!(rt; first_other(rt.alloc(), completion, &of_one)?.is_none());
-        assert!(rt; first_other(rt.alloc(), completion, &of_two)?.is_none());
+        ],
+    )
+}
+
+/// Posts, sends and cleans one frame on a new ring of 8: whether each step tells what it should.
+fn one_is_reported(both: &mut Both, completion: Completion) -> bool {
+    enable(both)
+        && posts_one(both, true)
+        && one_is_sent(both)
+        && is_reported(both, completion)
+        && one_is_cleaned(both)
+}
+
+/// The same of two frames.
+fn two_are_reported(both: &mut Both, completion: Completion) -> bool {
+    enable(both)
+        && posts_one(both, false)
+        && posts_one(both, true)
+        && two_are_sent(both)
+        && is_reported(both, completion)
+        && two_are_cleaned(both)
+}
+
+/// Posts three frames without RS, and sends the first: whether all that could be done.
+fn sends_one_of_three(both: &mut Both) -> bool {
+    makes(both, &[posting(60, true, false, 60); 3])
+        && makes(
+            both,
+            &[TxStep::Publish, TxStep::Look, TxStep::Fetch, TxStep::Send],
+        )
+}
+
+/// Whether three buffers are reclaimed, and nothing else can be done.
+fn reclaims_three(both: &mut Both) -> bool {
+    both.call(TxStep::LoadReport).is_none()
+        && both.call(TxStep::Look).is_none()
+        && makes(both, &[TxStep::Reclaim; 3])
+        && both.call(TxStep::Reclaim).is_none()
+}
+
+/// Whether two are left of three frames, and all buffers come back.
+fn leaves_two(both: &mut Both) -> bool {
+    enable(both)
+        && sends_one_of_three(both)
+        && disable(both)
+        && both.left() == Some((2, 2))
+        && reclaims_three(both)
+}
+
+/// What is done on a new ring of 8.
+#[derive(Clone, Copy)]
+enum Case {
+    OneReported,
+    TwoReported,
+    TwoLeft,
+}
+
+/// Whether it comes out as it should; then the ends meet.
+fn holds(alloc: Global, completion: Completion, case: Case) -> Result<bool, Fail> {
+    let mut both = Both::new(alloc, 8, completion)?;
+    let holds = match case {
+        Case::OneReported => one_is_reported(&mut both, completion),
+        Case::TwoReported => two_are_reported(&mut both, completion),
+        Case::TwoLeft => leaves_two(&mut both),
+    };
+    both.meet();
+    Ok(holds)
+}
+
+#[test]
+fn reports(rt: HostRuntime) -> Result<(), Fail> {
+    for completion in BOTH_WAYS {
+        assert!(rt; holds(rt.alloc(), completion, Case::OneReported)?);
+        assert!(rt; holds(rt.alloc(), completion, Case::TwoReported)?);
     }
     Ok(())
 }
@@ -97,99 +190,113 @@ fn reports(rt: HostRuntime) -> Result<(), Fail> {
 #[test]
 fn two_are_left_of_three(rt: HostRuntime) -> Result<(), Fail> {
     for completion in BOTH_WAYS {
-        let mut both = Both::new(rt.alloc(), 8, completion)?;
-        assert!(rt; enable(&mut both));
-        assert!(rt; makes(&mut both, &[posting(60, true, false, 60); 3]));
-        assert!(rt;
-            makes(
-                &mut both,
-                &[TxStep::Publish, TxStep::Look, TxStep::Fetch, TxStep::Send]
-            )
-        );
-        assert!(rt; disable(&mut both) && both.left() == Some((2, 2)));
-        assert!(rt; both.call(TxStep::LoadReport).is_none() && both.call(TxStep::Look).is_none());
-        assert!(rt;
-            makes(&mut both, &[TxStep::Reclaim; 3]) && both.call(TxStep::Reclaim).is_none()
-        );
-        let Both {
-            ring,
-            mut driver,
-            mut controller,
-            ..
-        } = both;
-        meet_tx(&ring, &mut driver, &mut controller);
+        assert!(rt; holds(rt.alloc(), completion, Case::TwoLeft)?);
     }
     Ok(())
 }
 
-/// The second words of a frame's descriptors as they are fetched: so many full ones of 1,024 bytes, and then a last one.
-fn are_words(
-    alloc: Global,
-    completion: Completion,
-    (paylen, full, word, len, last): (u16, u16, u64, u16, u64),
-) -> Result<bool, Fail> {
-    let mut both = Both::new(alloc, 16, completion)?;
-    if !enable(&mut both) {
-        return Ok(false);
-    }
-    for _ in 0..full {
-        both.call(posting(1_024, false, false, paylen));
+/// A frame, and the second words of its descriptors as they are fetched.
+#[derive(Clone, Copy)]
+struct Worded {
+    paylen: u16,
+    /// How many full segments of 1,024 bytes it begins with, and the word of each.
+    full: u16,
+    word: u64,
+    /// The bytes of its last segment, and the word of that.
+    len: u16,
+    last: u64,
+}
+
+/// Posts the frame on an enabled queue and publishes it, which can't be done before its last segment: whether that is so.
+fn posts(both: &mut Both, frame: &Worded) -> bool {
+    for _ in 0..frame.full {
+        both.call(posting(1_024, false, false, frame.paylen));
     }
     let is_begun = both.call(TxStep::Publish).is_none();
-    both.call(posting(len, true, true, paylen));
-    if !is_begun || !makes(&mut both, &[TxStep::Publish, TxStep::Look]) {
-        return Ok(false);
-    }
-    for _ in 0..full {
-        if !makes(&mut both, &[TxStep::Fetch, TxStep::Send]) || both.word != word {
-            return Ok(false);
+    both.call(posting(frame.len, true, true, frame.paylen));
+    is_begun && makes(both, &[TxStep::Publish, TxStep::Look])
+}
+
+/// Sends the frame: whether the words are these.
+fn sends_words(both: &mut Both, frame: &Worded) -> bool {
+    for _ in 0..frame.full {
+        if !makes(both, &[TxStep::Fetch, TxStep::Send]) || both.word != frame.word {
+            return false;
         }
     }
-    let is_sent = makes(&mut both, &[TxStep::Fetch, TxStep::Send, TxStep::Report]);
-    Ok(is_sent && both.word == last && both.controller.ready() == 0)
+    makes(both, &[TxStep::Fetch, TxStep::Send, TxStep::Report]) && both.word == frame.last
+}
+
+/// Whether the frame is posted and sent with these words, and none is ready then.
+fn are_words(alloc: Global, completion: Completion, frame: &Worded) -> Result<bool, Fail> {
+    let mut both = Both::new(alloc, 16, completion)?;
+    let is_sent = enable(&mut both) && posts(&mut both, frame) && sends_words(&mut both, frame);
+    Ok(is_sent && both.controller.ready() == 0)
 }
 
 #[test]
 fn second_words_are_those_of_the_datasheet(rt: HostRuntime) -> Result<(), Fail> {
-    let frames = [
-        (2_500, 2, 0x0271_0000_2230_0400, 452, 0x0271_0000_2b30_01c4),
-        (
-            15_000,
-            14,
-            0x0ea6_0000_2230_0400,
-            664,
-            0x0ea6_0000_2b30_0298,
-        ),
-    ];
-    for frame in frames {
-        assert!(rt; are_words(rt.alloc(), Completion::Status, frame)?);
-        assert!(rt; are_words(rt.alloc(), Completion::Head, frame)?);
+    let short = Worded {
+        paylen: 2_500,
+        full: 2,
+        word: 0x0271_0000_2230_0400,
+        len: 452,
+        last: 0x0271_0000_2b30_01c4,
+    };
+    let long = Worded {
+        paylen: 15_000,
+        full: 14,
+        word: 0x0ea6_0000_2230_0400,
+        len: 664,
+        last: 0x0ea6_0000_2b30_0298,
+    };
+    for completion in BOTH_WAYS {
+        assert!(rt; are_words(rt.alloc(), completion, &short)?);
+        assert!(rt; are_words(rt.alloc(), completion, &long)?);
     }
     Ok(())
+}
+
+/// Whether a ring of this length has ends of that size, and room for one descriptor less.
+fn is_made(alloc: Global, n: u32, completion: Completion) -> Result<bool, Fail> {
+    let (_ring, driver, controller) = TxRing::new_with(alloc, n, completion)?;
+    Ok(driver.size() == n && controller.size() == n && driver.room() == n - 1)
+}
+
+/// The same of a ring that is made without a word on how it reports.
+fn is_made_plainly(alloc: Global, n: u32) -> Result<bool, Fail> {
+    let (_ring, driver, controller) = TxRing::new(alloc, n)?;
+    Ok(driver.size() == n && controller.size() == n && driver.room() == n - 1)
 }
 
 #[test]
 fn lawful_lengths_are_made(rt: HostRuntime) -> Result<(), Fail> {
+    let alloc = rt.alloc();
     for n in [8, 16, 32, 64, 128, 256, 512, 1_024, 2_048, 4_096] {
-        for completion in BOTH_WAYS {
-            let (_ring, driver, controller) = TxRing::new_with(rt.alloc(), n, completion)?;
-            assert!(rt; driver.size() == n && controller.size() == n && driver.room() == n - 1);
-        }
-        let (_ring, driver, controller) = TxRing::new(rt.alloc(), n)?;
-        assert!(rt; driver.size() == n && controller.size() == n && driver.room() == n - 1);
+        assert!(rt; is_made(alloc, n, Completion::Status)?, "a ring of {n}");
+        assert!(rt; is_made(alloc, n, Completion::Head)?, "a ring of {n}");
+        assert!(rt; is_made_plainly(alloc, n)?, "a ring of {n}");
     }
     Ok(())
 }
 
+/// How a ring of this length is refused.
+fn refusal(alloc: Global, n: u32, completion: Completion) -> Option<RingError> {
+    match TxRing::new_with(alloc, n, completion) {
+        Ok(_) => None,
+        Err(refusal) => Some(refusal),
+    }
+}
+
 #[test]
-fn other_lengths_are_refused(rt: HostRuntime) -> Result<(), Fail> {
+fn other_lengths_are_refused(rt: HostRuntime) {
+    let refused = Some(RingError::RingLength);
     for n in [0, 4, 7, 9, 12, 4_097, 8_192, u32::MAX] {
         for completion in BOTH_WAYS {
-            let Err(refusal) = TxRing::new_with(rt.alloc(), n, completion) else {
-                panic!(rt; "a ring of {n}")
-            };
-            assert!(rt; refusal == RingError::RingLength);
+            assert!(rt;
+                refusal(rt.alloc(), n, completion) == refused,
+                "a ring of {n}"
+            );
         }
     }
-    Ok(())
 }
