@@ -108,13 +108,6 @@ fn is_disabled_by_calls(both: &mut Both) -> bool {
     first_unshaken(both, &rows).is_none()
 }
 
-#[test]
-fn enabling_and_disabling_by_calls(rt: HostRuntime) -> Result<(), Fail> {
-    let mut both = Both::new(rt.alloc(), 8)?;
-    assert!(rt; is_enabled_by_calls(&mut both) && is_disabled_by_calls(&mut both));
-    Ok(())
-}
-
 /// Stores, takes and posts anew so many frames, one after another: how many went round.
 fn go_round(both: &mut Both, frames: u32) -> u32 {
     for k in 0..frames {
@@ -182,13 +175,6 @@ fn reclaims_seven(both: &mut Both) -> bool {
     makes(both, &[RxStep::Reclaim; 7]) && both.call(RxStep::Reclaim).is_none()
 }
 
-#[test]
-fn disabled_with_two_left(rt: HostRuntime) -> Result<(), Fail> {
-    let mut both = Both::new(rt.alloc(), 8)?;
-    assert!(rt; two_are_left(&mut both) && reclaims_seven(&mut both) && both.is_off());
-    Ok(())
-}
-
 /// Posts two buffers on a queue that can't be said quiet before it is enabled, and stores one frame: whether that is so.
 fn stores_one_of_two(both: &mut Both) -> bool {
     both.call(RxStep::StoreQuiet).is_none()
@@ -218,10 +204,41 @@ fn stays_quiet(both: &mut Both) -> bool {
     first_other(both, &rows).is_none()
 }
 
+/// What is done on a new ring of 8.
+#[derive(Clone, Copy)]
+enum Case {
+    Handshake,
+    TwoLeft,
+    Quiet,
+}
+
+/// Whether it comes out as it should. The tests share one owner of a queue, which is dear to prove.
+fn holds(alloc: Global, case: Case) -> Result<bool, Fail> {
+    let mut both = Both::new(alloc, 8)?;
+    Ok(match case {
+        Case::Handshake => is_enabled_by_calls(&mut both) && is_disabled_by_calls(&mut both),
+        Case::TwoLeft => two_are_left(&mut both) && reclaims_seven(&mut both) && both.is_off(),
+        Case::Quiet => stores_one_of_two(&mut both)
+            && says_quiet(&mut both)
+            && stays_quiet(&mut both),
+    })
+}
+
+#[test]
+fn enabling_and_disabling_by_calls(rt: HostRuntime) -> Result<(), Fail> {
+    assert!(rt; holds(rt.alloc(), Case::Handshake)?);
+    Ok(())
+}
+
+#[test]
+fn disabled_with_two_left(rt: HostRuntime) -> Result<(), Fail> {
+    assert!(rt; holds(rt.alloc(), Case::TwoLeft)?);
+    Ok(())
+}
+
 #[test]
 fn quiet_by_calls(rt: HostRuntime) -> Result<(), Fail> {
-    let mut both = Both::new(rt.alloc(), 8)?;
-    assert!(rt; stores_one_of_two(&mut both) && says_quiet(&mut both) && stays_quiet(&mut both));
+    assert!(rt; holds(rt.alloc(), Case::Quiet)?);
     Ok(())
 }
 
