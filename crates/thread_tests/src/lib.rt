@@ -12,6 +12,8 @@ mod frames;
 #[cfg(test)]
 mod played;
 #[cfg(test)]
+mod rings;
+#[cfg(test)]
 mod side;
 #[cfg(test)]
 mod with_controllers;

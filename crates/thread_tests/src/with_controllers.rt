@@ -1,18 +1,22 @@
 //! Drivers beside a device with controllers.
-ghost use Rattle.std.specs.Prelude.{◌<◌, ◌≤◌, ◌⊎◌};
+ghost use Rattle.std.specs.Prelude.{◌≡◌, ◌<◌, ◌≤◌, ◌⊎◌};
+ghost use Rattle.controller.specs.Receiving.{IsIdle as IsIdleRx};
+ghost use Rattle.controller.specs.Transmitting.{IsIdle as IsIdleTx};
 
 use crate::device::{Device, Offering, Wiring};
 use crate::forwarder::{Ends, Forwarder, Plan};
 use crate::frames::{Frames, Lens};
+use crate::rings::Rings;
 use crate::side::{Shared, run_both};
+use buffer_pool::Stash;
 use controller::{RxController, Tally, TxController, Wire};
-use rx_ring::{ControllerEnd, RxRing};
+use rx_ring::{ControllerEnd, RxControllerEnd};
 use std::alloc::Global;
 use std::sync::Wait;
 use std::test::Fail;
 use std::thread::Threads;
 use test_kit::full_stash;
-use tx_ring::{Completion, TxRing};
+use tx_ring::{Completion, TxControllerEnd};
 
 /// How a run is to be.
 #[derive(Clone, Copy, Drop)]
@@ -59,29 +63,53 @@ fn seen(forwarder: &Forwarder, device: &Device, frames: &Frames) -> Option<Tally
     }
 }
 
+/// The device of a case, with these ends.
+fn device(alloc: Global, case: &Case, stores: RxControllerEnd, sends: TxControllerEnd) -> Device
+    requires stores { IsIdleRx stores }
+    requires sends { IsIdleTx sends }
+    ensures stores { result.offering.controller.end ≡ stores }
+    ensures sends { result.wiring.controller ≡ sends }
+{
+    let bsize = if case.large { 2_048 } else { 1_024 };
+    let controller = RxController::new(stores, bsize, case.drop_en);
+    let offering = Offering::new(alloc, controller, case.frames);
+    let wiring = Wiring::new(alloc, TxController::new(sends));
+    Device::new(offering, wiring, case.epochs)
+}
+
+/// Both sides of a case over these rings.
+fn sides(alloc: Global, case: &Case, rings: Rings, stash: Stash) -> (Shared, Forwarder, Device)
+    ensures forwarder { (result.1.taking.driver.end.table ≡ result.0.from) × (result.1.sending.driver.end.table ≡ result.0.to) }
+    ensures device { (result.2.offering.controller.end.table ≡ result.0.from) × (result.2.wiring.controller.table ≡ result.0.to) }
+{
+    let plan = Plan {
+        batch: 7,
+        ends: Ends::WhenQuiet,
+        epochs: case.epochs,
+    };
+    let Rings {
+        shared,
+        takes,
+        stores,
+        posts,
+        sends,
+        ..
+    } = rings;
+    let _size = stores.size();
+    let forwarder = Forwarder::new(takes, posts, stash, plan);
+    let device = device(alloc, case, stores, sends);
+    (shared, forwarder, device)
+}
+
 /// Runs both sides: what was counted, if all was as it should be.
 fn counted<R: Threads + Wait + Sync>(
     rt: &R,
     alloc: Global,
     case: Case,
 ) -> Result<Option<Tally>, Fail> {
-    let frames = Frames::new(alloc, case.lens)?;
     let stash = full_stash(alloc, 128)?;
-    let (from, takes, stores) = RxRing::new(alloc, case.n)?;
-    let (to, posts, sends) = TxRing::new_with(alloc, case.n, case.completion)?;
-    let plan = Plan {
-        batch: 7,
-        ends: Ends::WhenQuiet,
-        epochs: case.epochs,
-    };
-    let forwarder = Forwarder::new(takes, posts, stash, plan);
-    let bsize = if case.large { 2_048 } else { 1_024 };
-    let _size = stores.size();
-    let controller = RxController::new(stores, bsize, case.drop_en);
-    let offering = Offering::new(alloc, controller, case.frames);
-    let wiring = Wiring::new(alloc, TxController::new(sends));
-    let device = Device::new(offering, wiring, case.epochs);
-    let shared = Shared { from, to, frames };
+    let rings = Rings::new(alloc, case.n, case.completion, case.lens)?;
+    let (shared, forwarder, device) = sides(alloc, &case, rings, stash);
     let (forwarder, device) = run_both(rt, &shared, forwarder, device);
     Ok(seen(&forwarder, &device, &shared.frames))
 }

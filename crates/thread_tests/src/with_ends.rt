@@ -1,18 +1,18 @@
 //! Drivers beside a device that is played with the rings' own ends.
-ghost use Rattle.std.specs.Prelude.{◌<◌, ◌≤◌};
+ghost use Rattle.std.specs.Prelude.{◌≡◌, ◌<◌, ◌≤◌};
 
 use crate::forwarder::{Ends, Forwarder, Plan};
-use crate::frames::{Frames, Lens};
+use crate::frames::Lens;
 use crate::played::{Hearing, Played, Storing};
+use crate::rings::Rings;
 use crate::side::{Shared, run_both};
 use buffer_pool::Stash;
-use rx_ring::RxRing;
 use std::alloc::Global;
 use std::sync::Wait;
 use std::test::Fail;
 use std::thread::Threads;
 use test_kit::{Closed, Storer, full_stash};
-use tx_ring::{Completion, TxRing};
+use tx_ring::Completion;
 
 /// How many buffers there are.
 const BUFFERS: u32 = 128;
@@ -21,6 +21,65 @@ const BUFFERS: u32 = 128;
 const EPOCHS: u32 = 3;
 
 const FRAMES: usize = 3_334;
+
+/// Both sides over these rings, in batches of so many.
+fn sides(rings: Rings, stash: Stash, batch: usize) -> (Shared, Forwarder, Played)
+    requires some { 0 < batch }
+    requires few { batch ≤ 32 }
+    ensures forwarder { (result.1.taking.driver.end.table ≡ result.0.from) × (result.1.sending.driver.end.table ≡ result.0.to) }
+    ensures played { (result.2.storing.storer.controller.table ≡ result.0.from) × (result.2.hearing.end.table ≡ result.0.to) }
+{
+    let plan = Plan {
+        batch,
+        ends: Ends::After(FRAMES),
+        epochs: EPOCHS,
+    };
+    let Rings {
+        shared,
+        takes,
+        stores,
+        posts,
+        sends,
+        ..
+    } = rings;
+    let forwarder = Forwarder::new(takes, posts, stash, plan);
+    let storing = Storing::new(Storer::new(stores));
+    let played = Played::new(storing, Hearing::new(sends), EPOCHS);
+    (shared, forwarder, played)
+}
+
+/// Whether as many frames as there have to be were taken, sent on and heard, none of them otherwise than it was stored.
+fn is_good(forwarder: &Forwarder, played: &Played) -> bool {
+    forwarder.taken >= EPOCHS as usize * FRAMES
+        && forwarder.sent == forwarder.taken
+        && played.hearing.frames == forwarder.sent
+        && played.hearing.bad == 0
+}
+
+/// Closes both rings: whether nothing lies in their slots, and each buffer is back once.
+fn closes(shared: Shared, forwarder: Forwarder, played: Played) -> bool
+    requires forwarder { (forwarder.taking.driver.end.table ≡ shared.from) × (forwarder.sending.driver.end.table ≡ shared.to) }
+    requires played { (played.storing.storer.controller.table ≡ shared.from) × (played.hearing.end.table ≡ shared.to) }
+{
+    let Shared { from, to, .. } = shared;
+    let Forwarder {
+        taking,
+        sending,
+        load,
+        ..
+    } = forwarder;
+    let Played {
+        storing,
+        hearing,
+        ..
+    } = played;
+    let lying = tx_ring::close(to, sending.driver.into_end(), hearing.end);
+    let is_empty = Closed::of(lying, Stash::new(), None).lying() == 0;
+    let (end, _chain) = taking.driver.into_end();
+    let slots = rx_ring::close(from, end, storing.storer.controller);
+    let closed = Closed::of(slots, load.stash, None);
+    is_empty && closed.has_each_once(BUFFERS as usize)
+}
 
 /// Runs both sides over rings of so many places, and closes the rings: whether all was as it should be.
 fn passes<R: Threads + Wait + Sync>(
@@ -33,46 +92,13 @@ fn passes<R: Threads + Wait + Sync>(
     requires some { 0 < batch }
     requires few { batch ≤ 32 }
 {
-    // a ring of 8 has 7 descriptors
-    let frames = Frames::new(alloc, Lens::UpTo(if n == 8 { 14_336 } else { 15_000 }))?;
     let stash = full_stash(alloc, BUFFERS)?;
-    let (from, takes, stores) = RxRing::new(alloc, n)?;
-    let (to, posts, sends) = TxRing::new_with(alloc, n, completion)?;
-    let plan = Plan {
-        batch,
-        ends: Ends::After(FRAMES),
-        epochs: EPOCHS,
-    };
-    let forwarder = Forwarder::new(takes, posts, stash, plan);
-    let storing = Storing::new(Storer::new(stores));
-    let played = Played::new(storing, Hearing::new(sends), EPOCHS);
-    let shared = Shared { from, to, frames };
+    // a ring of 8 has 7 descriptors
+    let most = if n == 8 { 14_336 } else { 15_000 };
+    let rings = Rings::new(alloc, n, completion, Lens::UpTo(most))?;
+    let (shared, forwarder, played) = sides(rings, stash, batch);
     let (forwarder, played) = run_both(rt, &shared, forwarder, played);
-    let Forwarder {
-        taking,
-        sending,
-        load,
-        taken,
-        sent,
-        ..
-    } = forwarder;
-    let Played {
-        storing,
-        hearing,
-        ..
-    } = played;
-    let is_good = taken >= EPOCHS as usize * FRAMES
-        && sent == taken
-        && hearing.frames == sent
-        && hearing.bad == 0;
-    let Shared { from, to, .. } = shared;
-    let lying = tx_ring::close(to, sending.driver.into_end(), hearing.end);
-    let (end, _chain) = taking.driver.into_end();
-    let storer = storing.storer;
-    let slots = rx_ring::close(from, end, storer.controller);
-    let is_empty = Closed::of(lying, Stash::new(), None).lying() == 0;
-    let closed = Closed::of(slots, load.stash, None);
-    Ok(is_good && is_empty && closed.has_each_once(BUFFERS as usize))
+    Ok(is_good(&forwarder, &played) && closes(shared, forwarder, played))
 }
 
 /// The same over rings of 8 and 64, in batches of 1, 7 and 32.
