@@ -6,7 +6,7 @@ use crate::counted::{Counts, NONE, comes_to};
 use crate::gates::Shuts;
 use forwarder::{Config, forward};
 use forwarding::{ForwardError, Open};
-use std::alloc::Global;
+use std::alloc::{AllocError, Global};
 use std::sync::Wait;
 use std::test::Fail;
 use std::thread::Threads;
@@ -221,16 +221,23 @@ fn a_queue_that_is_not_there_is_refused(rt: HostRuntime) -> Result<(), Fail> {
     Ok(())
 }
 
+const REFUSALS: &[(ForwardError, &str)] = &[
+    (ForwardError::Memory, "61 memory"),
+    (ForwardError::Gate, "62 gate"),
+    (ForwardError::Thread, "63 thread"),
+    (ForwardError::Config, "64 config"),
+];
+
+/// Whether a refusal has this number and text.
+fn reads(alloc: Global, refusal: ForwardError, want: &str) -> Result<bool, AllocError> {
+    let text = format!(in alloc; "{} {refusal}", refusal.number())?;
+    Ok(text.as_str() == want)
+}
+
 #[test]
 fn refusals_have_a_number_and_a_text(rt: HostRuntime) -> Result<(), Fail> {
-    for (refusal, want) in [
-        (ForwardError::Memory, "61 memory"),
-        (ForwardError::Gate, "62 gate"),
-        (ForwardError::Thread, "63 thread"),
-        (ForwardError::Config, "64 config"),
-    ] {
-        let text = format!(in rt.alloc(); "{} {refusal}", refusal.number())?;
-        assert_eq!(rt; text.as_str(), want);
+    for row in REFUSALS {
+        assert!(rt; reads(rt.alloc(), row.0, row.1)?, "{}", row.1);
     }
     Ok(())
 }

@@ -3,7 +3,7 @@
 use crate::configs::DEFAULT;
 use crate::counted::counts_of;
 use controller::Wire;
-use flows::Ended;
+use flows::{Ended, FlowReport};
 use forwarder::{Config, forward};
 use forwarding::{ForwardError, Open};
 use std::alloc::Global;
@@ -73,6 +73,27 @@ fn wanted(script: &Script) -> [Sum; 16] {
     sums
 }
 
+/// Whether all that came to a flow went out as it should.
+fn has_gone(flow: &FlowReport, wanted: &Sum) -> bool {
+    let all = wanted.frames;
+    counts_of(flow) == [all, all, 0, 0, all, all, 0, all, 0]
+        && flow.ended == Ended::Drained
+        && Sum::of(&flow.wire) == *wanted
+}
+
+/// Whether it is so of each flow.
+fn all_have_gone(flows: &[FlowReport], wanted: &[Sum; 16]) -> bool {
+    if flows.len() != 16 {
+        return false;
+    }
+    for k in 0..16 {
+        if !has_gone(&flows[k], &wanted[k]) {
+            return false;
+        }
+    }
+    true
+}
+
 /// Whether so many frames of each flow go out by so many workers.
 fn all_go<R: Threads + Wait + Sync>(
     rt: &R,
@@ -88,16 +109,7 @@ fn all_go<R: Threads + Wait + Sync>(
         ..DEFAULT
     };
     let report = forward(rt, alloc, script, &config, &Open)?;
-    for (flow, sum) in report.flows.iter().zip(wanted) {
-        let all = sum.frames;
-        if counts_of(flow) != [all, all, 0, 0, all, all, 0, all, 0] {
-            return Ok(false);
-        }
-        if flow.ended != Ended::Drained || Sum::of(&flow.wire) != *sum {
-            return Ok(false);
-        }
-    }
-    Ok(report.flows.len() == 16)
+    Ok(all_have_gone(&report.flows, wanted))
 }
 
 #[test]

@@ -5,7 +5,7 @@ use crate::configs::SHORT;
 use crate::counted::{carries, comes_to};
 use flows::{Ended, FlowReport};
 use forwarder::{Config, forward};
-use forwarding::Open;
+use forwarding::{ForwardError, Open};
 use std::alloc::Global;
 use std::sync::Wait;
 use std::test::Fail;
@@ -20,6 +20,25 @@ fn adds_up(flow: &FlowReport) -> bool {
     flow.offered == flow.stored && came == went.saturating_add(flow.left)
 }
 
+/// Whether there are four flows, of which each adds up.
+fn all_add_up(flows: &[FlowReport]) -> bool {
+    let mut good = flows.len() == 4;
+    for flow in flows {
+        good &= adds_up(flow);
+    }
+    good
+}
+
+/// Whether what was taken was posted or dropped, or waits where packets are kept, and the wire has what it should.
+fn is_relayed(flow: &FlowReport, script: &Script, retry: bool) -> bool {
+    let gone = flow.posted.saturating_add(flow.tx_dropped);
+    if retry {
+        flow.tx_dropped == 0 && gone <= flow.taken && carries(&flow.wire, script, 0, 1)
+    } else {
+        gone == flow.taken
+    }
+}
+
 /// Whether flow 1 is cut, with up to 7 frames taken a turn, and all flows add up.
 fn is_cut<R: Threads + Wait + Sync>(
     rt: &R,
@@ -27,26 +46,29 @@ fn is_cut<R: Threads + Wait + Sync>(
     script: &Script,
     turns: u32,
     retry: bool,
-) -> Result<bool, Fail> {
+) -> Result<bool, ForwardError> {
     let config = Config {
         turns,
         retry,
         ..SHORT
     };
     let report = forward(rt, alloc, script, &config, &Open)?;
-    let mut good = report.flows.len() == 4;
-    for flow in &report.flows {
-        good &= adds_up(flow);
-    }
-    let flow = report.flows.get(1).ok_or("no flow 1")?;
-    let gone = flow.posted.saturating_add(flow.tx_dropped);
-    let relayed = if retry {
-        flow.tx_dropped == 0 && gone <= flow.taken && carries(&flow.wire, script, 0, 1)
-    } else {
-        gone == flow.taken
+    let Some(flow) = report.flows.get(1) else {
+        return Ok(false);
     };
     let few = flow.taken <= u64::from(turns).saturating_mul(7);
-    Ok(good && relayed && few && flow.ended == Ended::Cut)
+    let cut = few && flow.ended == Ended::Cut;
+    Ok(cut && is_relayed(flow, script, retry) && all_add_up(&report.flows))
+}
+
+/// Whether it is so where packets are kept, and where they are dropped.
+fn is_cut_either_way<R: Threads + Wait + Sync>(
+    rt: &R,
+    alloc: Global,
+    script: &Script,
+    turns: u32,
+) -> Result<bool, ForwardError> {
+    Ok(is_cut(rt, alloc, script, turns, true)? && is_cut(rt, alloc, script, turns, false)?)
 }
 
 // A turn takes what a ring of 8 has at most, 7 frames, so 5 turns are too few for 40.
@@ -54,22 +76,30 @@ fn is_cut<R: Threads + Wait + Sync>(
 fn a_flow_is_cut_after_its_turns(rt: HostRuntime) -> Result<(), Fail> {
     let script = script_of(rt.alloc(), FORTY)?;
     for turns in [1, 2, 5] {
-        for retry in [true, false] {
-            assert!(rt;
-                is_cut(&rt, rt.alloc(), &script, turns, retry)?,
-                "{turns} turns"
-            );
-        }
+        assert!(rt;
+            is_cut_either_way(&rt, rt.alloc(), &script, turns)?,
+            "{turns} turns"
+        );
     }
     Ok(())
+}
+
+/// Whether all 40 frames go out in so many turns.
+fn none_is_cut<R: Threads + Wait + Sync>(
+    rt: &R,
+    alloc: Global,
+    script: &Script,
+    turns: u32,
+) -> Result<bool, ForwardError> {
+    let config = Config { turns, ..SHORT };
+    comes_to(rt, alloc, script, &config, &Open, FORTY_COUNTS)
 }
 
 #[test]
 fn with_turns_enough_no_flow_is_cut(rt: HostRuntime) -> Result<(), Fail> {
     let script = script_of(rt.alloc(), FORTY)?;
     for turns in [0, 1_000_000_000] {
-        let config = Config { turns, ..SHORT };
-        assert!(rt; comes_to(&rt, rt.alloc(), &script, &config, &Open, FORTY_COUNTS)?);
+        assert!(rt; none_is_cut(&rt, rt.alloc(), &script, turns)?);
     }
     Ok(())
 }

@@ -6,7 +6,7 @@ use crate::counted::is_touched;
 use controller::Wire;
 use flows::{Ended, FlowReport};
 use forwarder::{Config, forward};
-use forwarding::Open;
+use forwarding::{ForwardError, Open};
 use std::alloc::Global;
 use std::sync::Wait;
 use std::test::Fail;
@@ -58,7 +58,7 @@ fn is_counted<R: Threads + Wait + Sync>(
     drop_en: bool,
     retry: bool,
     completion: Completion,
-) -> Result<bool, Fail> {
+) -> Result<bool, ForwardError> {
     let config = Config {
         drop_en,
         retry,
@@ -66,21 +66,40 @@ fn is_counted<R: Threads + Wait + Sync>(
         ..SHORT
     };
     let report = forward(rt, alloc, script, &config, &Open)?;
-    let flow = report.flows.first().ok_or("no flow 0")?;
+    let Some(flow) = report.flows.first() else {
+        return Ok(false);
+    };
     let allowed = (drop_en || flow.dropped == 0) && (!retry || flow.tx_dropped == 0);
     Ok(allowed && adds_up(flow) && follows(&flow.wire, script))
 }
 
+/// Whether it is so in both ways to report.
+fn is_counted_both_ways<R: Threads + Wait + Sync>(
+    rt: &R,
+    alloc: Global,
+    script: &Script,
+    drop_en: bool,
+    retry: bool,
+) -> Result<bool, ForwardError> {
+    Ok(
+        is_counted(rt, alloc, script, drop_en, retry, Completion::Status)?
+            && is_counted(rt, alloc, script, drop_en, retry, Completion::Head)?,
+    )
+}
+
+/// `drop_en` and `retry`.
+const WAYS: &[(bool, bool)] = &[(false, true), (false, false), (true, true), (true, false)];
+
 #[test]
 fn what_is_dropped_is_counted(rt: HostRuntime) -> Result<(), Fail> {
     let script = script_of(rt.alloc(), MANY)?;
-    for drop_en in [false, true] {
-        for retry in [true, false] {
-            for completion in [Completion::Status, Completion::Head] {
-                let good = is_counted(&rt, rt.alloc(), &script, drop_en, retry, completion)?;
-                assert!(rt; good, "drop_en {drop_en}, retry {retry}");
-            }
-        }
+    for way in WAYS {
+        assert!(rt;
+            is_counted_both_ways(&rt, rt.alloc(), &script, way.0, way.1)?,
+            "drop_en {}, retry {}",
+            way.0,
+            way.1
+        );
     }
     Ok(())
 }

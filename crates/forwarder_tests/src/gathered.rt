@@ -1,5 +1,8 @@
 //! After forwarding the pool has all its buffers again.
+ghost use Rattle.std.specs.Prelude.{◌≡◌};
+ghost use Rattle.forwarder.specs.Configs.{FitsIn};
 ghost use Rattle.pool.specs.Owned.{IsOf};
+ghost use Rattle.pool.specs.declared.hand.TheConstants.{WHOLE_SHARE};
 
 use crate::bursts::{Burst, FORTY, script_of};
 use crate::configs::DEFAULT;
@@ -39,7 +42,7 @@ impl Numbers {
 }
 
 /// What comes out of a pool until it is empty. It stays out.
-pub(crate) fn taken_out<R: Wait>(rt: &R, pool: &Pool, pass: &mut PoolPass) -> Numbers
+fn taken_out<R: Wait>(rt: &R, pool: &Pool, pass: &mut PoolPass) -> Numbers
     requires { IsOf pool.now pass.old }
 {
     let mut numbers = Numbers {
@@ -65,10 +68,27 @@ fn ended<R: Threads + Wait + Sync, G: Gate + Sync>(
     gate: &G,
 ) -> Result<(Option<ForwardError>, Numbers), Fail> {
     config.check(script)?;
-    let (pool, mut pass) = Pool::new(rt, alloc, BUFFERS)?;
-    let mut spare = pass.split(&pool, 1);
-    let refusal = forward_in(rt, alloc, script, config, gate, &pool, &mut pass).err();
-    Ok((refusal, taken_out(rt, &pool, &mut spare)))
+    let (pool, pass) = Pool::new(rt, alloc, BUFFERS)?;
+    Ok(ended_over(rt, alloc, script, config, gate, &pool, pass))
+}
+
+/// How forwarding over this pool ends, and what is in it then.
+pub(crate) fn ended_over<R: Threads + Wait + Sync, G: Gate + Sync>(
+    rt: &R,
+    alloc: Global,
+    script: &Script,
+    config: &Config,
+    gate: &G,
+    pool: &Pool,
+    mut pass: PoolPass,
+) -> (Option<ForwardError>, Numbers)
+    requires fits { FitsIn script.now config.now }
+    requires pool { IsOf pool.now pass }
+    requires share { pass.hand.share ≡ WHOLE_SHARE }
+{
+    let mut spare = pass.split(pool, 1);
+    let refusal = forward_in(rt, alloc, script, config, gate, pool, &mut pass).err();
+    (refusal, taken_out(rt, pool, &mut spare))
 }
 
 /// 40 frames of five segments each.
@@ -104,15 +124,30 @@ fn are_back<R: Threads + Wait + Sync>(
     Ok(refusal == Some(ForwardError::Gate) && numbers.came_once())
 }
 
+/// Whether it is so after each of these numbers of passes.
+fn all_are_back<R: Threads + Wait + Sync>(
+    rt: &R,
+    alloc: Global,
+    script: &Script,
+    workers: u32,
+) -> Result<bool, Fail> {
+    for passes in [0, 1, 3, 10, 40, 79] {
+        if !are_back(rt, alloc, script, workers, passes)? {
+            return Ok(false);
+        }
+    }
+    Ok(true)
+}
+
 #[test]
 fn all_back_after_a_refusal(rt: HostRuntime) -> Result<(), Fail> {
     for bursts in [FORTY, LONG] {
         let script = script_of(rt.alloc(), bursts)?;
         for workers in 1..=4 {
-            for passes in [0, 1, 3, 10, 40, 79] {
-                let good = are_back(&rt, rt.alloc(), &script, workers, passes)?;
-                assert!(rt; good, "{workers} workers, {passes} passes");
-            }
+            assert!(rt;
+                all_are_back(&rt, rt.alloc(), &script, workers)?,
+                "{workers} workers"
+            );
         }
     }
     Ok(())
@@ -136,15 +171,30 @@ fn are_back_at_the_end<R: Threads + Wait + Sync>(
     Ok(refusal.is_none() && numbers.came_once())
 }
 
+/// Whether it is so after each of these numbers of turns.
+fn all_are_back_at_the_end<R: Threads + Wait + Sync>(
+    rt: &R,
+    alloc: Global,
+    script: &Script,
+    workers: u32,
+) -> Result<bool, Fail> {
+    for turns in [0, 1, 5] {
+        if !are_back_at_the_end(rt, alloc, script, workers, turns)? {
+            return Ok(false);
+        }
+    }
+    Ok(true)
+}
+
 #[test]
 fn all_back_after_a_report(rt: HostRuntime) -> Result<(), Fail> {
     for bursts in [FORTY, LONG] {
         let script = script_of(rt.alloc(), bursts)?;
         for workers in 1..=4 {
-            for turns in [0, 1, 5] {
-                let good = are_back_at_the_end(&rt, rt.alloc(), &script, workers, turns)?;
-                assert!(rt; good, "{workers} workers, {turns} turns");
-            }
+            assert!(rt;
+                all_are_back_at_the_end(&rt, rt.alloc(), &script, workers)?,
+                "{workers} workers"
+            );
         }
     }
     Ok(())

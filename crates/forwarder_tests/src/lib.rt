@@ -20,6 +20,8 @@ mod gates;
 #[cfg(test)]
 mod gathered;
 #[cfg(test)]
+mod readers;
+#[cfg(test)]
 mod refusing;
 #[cfg(test)]
 mod rows;

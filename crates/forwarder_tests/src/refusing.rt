@@ -25,15 +25,30 @@ fn is_refused<R: Threads + Wait + Sync>(
     refusal == Some(ForwardError::Gate) && gate.left() == 0
 }
 
+/// Whether it is so after each of these numbers of passes.
+fn all_are_refused<R: Threads + Wait + Sync>(
+    rt: &R,
+    alloc: Global,
+    script: &Script,
+    workers: u32,
+) -> bool {
+    for passes in [0, 1, 2, 3, 10, 40, 79] {
+        if !is_refused(rt, alloc, script, workers, passes) {
+            return false;
+        }
+    }
+    true
+}
+
 // 40 offers and as many transmit turns at least are made, so each of these gates refuses.
 #[test]
 fn wherever_a_gate_refuses_that_is_answered(rt: HostRuntime) -> Result<(), Fail> {
     let script = script_of(rt.alloc(), FORTY)?;
     for workers in 1..=4 {
-        for passes in [0, 1, 2, 3, 10, 40, 79] {
-            let good = is_refused(&rt, rt.alloc(), &script, workers, passes);
-            assert!(rt; good, "{workers} workers, {passes} passes");
-        }
+        assert!(rt;
+            all_are_refused(&rt, rt.alloc(), &script, workers),
+            "{workers} workers"
+        );
     }
     Ok(())
 }

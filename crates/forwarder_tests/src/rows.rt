@@ -4,6 +4,7 @@ use crate::bursts::{Burst, FORTY, FORTY_COUNTS, script_of};
 use crate::configs::{DEFAULT, SHORT};
 use crate::counted::{Counts, NONE, comes_to};
 use controller::Wire;
+use flows::FlowReport;
 use forwarder::{Config, forward};
 use forwarding::{ForwardError, Open};
 use std::alloc::Global;
@@ -18,8 +19,6 @@ const EMPTY: Config = Config {
     pairs: 2,
     ..DEFAULT
 };
-
-const BOTH_WAYS: [Completion; 2] = [Completion::Status, Completion::Head];
 
 /// Whether the 40 frames go over rings of 8 by batches of 1, 7 and 32.
 fn forty_go<R: Threads + Wait + Sync>(
@@ -42,47 +41,61 @@ fn forty_go<R: Threads + Wait + Sync>(
     Ok(good)
 }
 
+/// Whether they do in both ways to report.
+fn forty_go_both_ways<R: Threads + Wait + Sync>(
+    rt: &R,
+    alloc: Global,
+    script: &Script,
+    workers: u32,
+) -> Result<bool, ForwardError> {
+    Ok(
+        forty_go(rt, alloc, script, workers, Completion::Status)?
+            && forty_go(rt, alloc, script, workers, Completion::Head)?,
+    )
+}
+
 #[test]
 fn forty_frames_over_a_short_ring(rt: HostRuntime) -> Result<(), Fail> {
     let script = script_of(rt.alloc(), FORTY)?;
-    for completion in BOTH_WAYS {
-        for workers in 1..=4 {
-            assert!(rt;
-                forty_go(&rt, rt.alloc(), &script, workers, completion)?,
-                "{workers} workers"
-            );
-        }
+    for workers in 1..=4 {
+        assert!(rt;
+            forty_go_both_ways(&rt, rt.alloc(), &script, workers)?,
+            "{workers} workers"
+        );
     }
     Ok(())
 }
 
-/// The first three bytes of a frame, and its last.
-fn edge(frame: &[u8]) -> Option<[u8; 4]> {
-    Some([
-        *frame.first()?,
-        *frame.get(1)?,
-        *frame.get(2)?,
-        *frame.last()?,
-    ])
-}
-
-/// What frame `i` of a wire begins and ends with.
-fn edge_of(wire: &Wire, i: usize) -> Option<[u8; 4]> {
-    if i < wire.len() {
-        edge(wire.frame(i))
-    } else {
-        None
+/// The first three bytes of frame `i` of a wire, and its last.
+fn edge(wire: &Wire, i: usize) -> Option<[u8; 4]> {
+    if i >= wire.len() {
+        return None;
+    }
+    match wire.frame(i) {
+        [first, second, third, .., last] => Some([*first, *second, *third, *last]),
+        _ => None,
     }
 }
+
+/// What frames 0, 39 and 40 of flow 1 begin and end with.
+fn edges_of_flow_1(flows: &[FlowReport]) -> [Option<[u8; 4]>; 3] {
+    match flows.get(1) {
+        Some(flow) => [
+            edge(&flow.wire, 0),
+            edge(&flow.wire, 39),
+            edge(&flow.wire, 40),
+        ],
+        None => [None; 3],
+    }
+}
+
+const TOUCHED: [Option<[u8; 4]>; 3] = [Some([0, 1, 0, 0]), Some([255, 0, 255, 255]), None];
 
 #[test]
 fn a_touch_grows_one_byte(rt: HostRuntime) -> Result<(), Fail> {
     let script = script_of(rt.alloc(), FORTY)?;
     let report = forward(&rt, rt.alloc(), &script, &SHORT, &Open)?;
-    let flow = report.flows.get(1).ok_or("no flow 1")?;
-    assert!(rt; edge_of(&flow.wire, 0) == Some([0, 1, 0, 0]));
-    assert!(rt; edge_of(&flow.wire, 39) == Some([255, 0, 255, 255]));
-    assert!(rt; edge_of(&flow.wire, 40) == None);
+    assert!(rt; edges_of_flow_1(&report.flows) == TOUCHED);
     Ok(())
 }
 

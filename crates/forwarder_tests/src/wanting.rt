@@ -3,8 +3,8 @@
 
 use crate::configs::SHORT;
 use crate::counted::{Counts, NONE, comes_to};
-use crate::gathered::{BUFFERS, taken_out};
-use forwarder::{Config, forward_in};
+use crate::gathered::{BUFFERS, ended_over};
+use forwarder::Config;
 use forwarding::{ForwardError, Open};
 use pool::Pool;
 use std::test::Fail;
@@ -21,6 +21,14 @@ const TWO_WORKERS: Config = Config {
     ..SHORT
 };
 
+/// Whether a refusal is one for want of memory or of threads, or there is none.
+fn is_want(refusal: Option<ForwardError>) -> bool {
+    matches!(
+        refusal,
+        None | Some(ForwardError::Memory | ForwardError::Thread)
+    )
+}
+
 #[test]
 fn without_memory_or_threads_that_is_answered(rt: HostRuntime) {
     let Ok(script) = parse(rt.alloc(), TWO) else {
@@ -29,7 +37,7 @@ fn without_memory_or_threads_that_is_answered(rt: HostRuntime) {
     match comes_to(&rt, rt.alloc(), &script, &TWO_WORKERS, &Open, TWO_COUNTS) {
         Ok(good) => assert!(rt; good),
         Err(refusal) => {
-            assert!(rt; matches!(refusal, ForwardError::Memory | ForwardError::Thread));
+            assert!(rt; is_want(Some(refusal)));
         }
     }
 }
@@ -40,26 +48,10 @@ fn without_memory_or_threads_no_buffer_is_lost(rt: HostRuntime) -> Result<(), Fa
         return Ok(());
     };
     TWO_WORKERS.check(&script)?;
-    let Ok((pool, mut pass)) = Pool::new(&rt, rt.alloc(), BUFFERS) else {
+    let Ok((pool, pass)) = Pool::new(&rt, rt.alloc(), BUFFERS) else {
         return Ok(());
     };
-    let mut spare = pass.split(&pool, 1);
-    let ended = forward_in(
-        &rt,
-        rt.alloc(),
-        &script,
-        &TWO_WORKERS,
-        &Open,
-        &pool,
-        &mut pass,
-    )
-    .err();
-    assert!(rt;
-        matches!(
-            ended,
-            None | Some(ForwardError::Memory | ForwardError::Thread)
-        )
-    );
-    assert!(rt; taken_out(&rt, &pool, &mut spare).came_once());
+    let (refusal, numbers) = ended_over(&rt, rt.alloc(), &script, &TWO_WORKERS, &Open, &pool, pass);
+    assert!(rt; is_want(refusal) && numbers.came_once());
     Ok(())
 }

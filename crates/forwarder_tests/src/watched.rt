@@ -1,15 +1,13 @@
 //! Cells show what flows count while they run.
-ghost use Rattle.std.specs.Prelude.{◌≡◌, ◌*◌, IfOk, length};
-ghost use Rattle.counters.specs.Paired.{ArePaired, IsFresh};
+ghost use Rattle.std.specs.Prelude.{◌≡◌, ◌*◌, length};
+ghost use Rattle.counters.specs.Paired.{ArePaired};
 
 use crate::bursts::{FORTY, FORTY_COUNTS, script_of};
 use crate::configs::SHORT;
 use crate::counted::is_drained;
 use crate::gates::Paced;
-use counters::{
-    CounterError, DriveCell, DrivePass, Driven, FlowCells, FlowPens, Moment, Offered, StatCell,
-    StatPass,
-};
+use crate::readers::{Reader, readers_of};
+use counters::{DriveCell, DrivePass, Driven, FlowCells, FlowPens, Moment, StatCell, StatPass};
 use flows::FlowReport;
 use forwarder::{Config, Report, forward_watched};
 use forwarding::{ForwardError, Open};
@@ -20,57 +18,14 @@ use std::thread;
 use std::thread::Threads;
 use wire_script::Script;
 
-/// The cells of a flow, their pens, and passes that know of no write.
-#[derive(Drop)]
-struct Opened {
-    cells: FlowCells,
-    pens: FlowPens,
-    stat: StatPass,
-    drive: DrivePass,
-}
-
-/// The cells of one flow.
-fn open_cells(alloc: Global) -> Result<Opened, CounterError>
-    ensures pens { IfOk result (λ f. IsFresh f.cells f.pens) }
-    ensures stat { IfOk result (λ f. f.stat.cell ≡ f.cells.stat) }
-    ensures drive { IfOk result (λ f. f.drive.cell ≡ f.cells.drive) }
-{
-    let (stat, stat_pen, stat_pass) = StatCell::new(alloc)?;
-    let (drive, drive_pen, drive_pass) = DriveCell::new(alloc)?;
-    Ok(Opened {
-        cells: FlowCells { stat, drive },
-        pens: FlowPens {
-            stat: stat_pen,
-            drive: drive_pen,
-        },
-        stat: stat_pass,
-        drive: drive_pass,
-    })
-}
-
-/// Whether both cells have the numbers of the report now, as a pass sees them that was told of no write.
-fn shows<R: Wait>(
-    rt: &R,
-    cells: &FlowCells,
-    stat: &mut StatPass,
-    drive: &mut DrivePass,
-    report: &FlowReport,
-) -> bool
-    requires stat { stat.old.cell ≡ cells.now.stat }
-    requires drive { drive.old.cell ≡ cells.now.drive }
-{
-    let offered = Offered {
-        offered: report.offered,
-        stored: report.stored,
-        dropped: report.dropped,
-        oversize: report.oversize,
-    };
-    let driven = Driven {
-        taken: report.taken,
-        posted: report.posted,
-        tx_dropped: report.tx_dropped,
-    };
-    cells.stat.read(rt, stat) == offered && cells.drive.read(rt, drive) == driven
+/// Whether each flow's cells have the numbers of its report now.
+fn all_see<R: Wait>(rt: &R, readers: &mut [Reader<'_>], flows: &[FlowReport]) -> bool {
+    for k in 0..readers.len() {
+        if k >= flows.len() || !readers[k].sees(rt, &flows[k]) {
+            return false;
+        }
+    }
+    readers.len() == flows.len()
 }
 
 /// Whether each cell has its flow's numbers once the 40 frames went over rings of 8.
@@ -81,33 +36,11 @@ fn are_shown<R: Threads + Wait + Sync>(
     workers: u32,
 ) -> Result<bool, Fail> {
     let config = Config { workers, ..SHORT };
-    let mut first = open_cells(alloc)?;
-    let mut second = open_cells(alloc)?;
-    let mut third = open_cells(alloc)?;
-    let mut fourth = open_cells(alloc)?;
-    let cells = vec![in alloc; first.cells, second.cells, third.cells, fourth.cells]?;
-    let pens = vec![in alloc; first.pens, second.pens, third.pens, fourth.pens]?;
+    let (cells, mut pens) = FlowCells::of(alloc, 4)?;
+    let mut readers = readers_of(alloc, &cells, &mut pens)?;
     let (report, _) = forward_watched(rt, alloc, script, &config, &Open, &cells, pens)?;
-    let flows = &report.flows;
-    Ok(
-        shows(rt, &cells[0], &mut first.stat, &mut first.drive, &flows[0])
-            && shows(
-                rt,
-                &cells[1],
-                &mut second.stat,
-                &mut second.drive,
-                &flows[1],
-            )
-            && shows(rt, &cells[2], &mut third.stat, &mut third.drive, &flows[2])
-            && shows(
-                rt,
-                &cells[3],
-                &mut fourth.stat,
-                &mut fourth.drive,
-                &flows[3],
-            )
-            && is_drained(&report, script, 2, FORTY_COUNTS),
-    )
+    let shown = all_see(rt, &mut readers, &report.flows);
+    Ok(shown && is_drained(&report, script, 2, FORTY_COUNTS))
 }
 
 #[test]
@@ -166,16 +99,8 @@ fn watch_driven<R: Wait>(rt: &R, cell: &DriveCell, mut pass: DrivePass) -> bool
 }
 
 /// Both cells of a flow are read by threads of their own.
-fn watch<R: Threads + Wait + Sync>(
-    rt: &R,
-    cells: &FlowCells,
-    stat: StatPass,
-    drive: DrivePass,
-    gate: &Paced,
-) -> bool
-    requires stat { stat.cell ≡ cells.now.stat }
-    requires drive { drive.cell ≡ cells.now.drive }
-{
+fn watch<R: Threads + Wait + Sync>(rt: &R, reader: Reader<'_>, gate: &Paced) -> bool {
+    let Reader { cells, stat, drive } = reader;
     let (offered, driven) = thread::join(
         rt,
         || watch_offered(rt, &cells.stat, stat, gate),
@@ -184,7 +109,7 @@ fn watch<R: Threads + Wait + Sync>(
     offered && driven
 }
 
-/// Whether both cells of a flow show how the forwarder gets on, of which this gate is passed.
+/// Whether the cells of flow 1 show how the forwarder gets on, of which this gate is passed.
 fn is_watched<R: Threads + Wait + Sync>(
     rt: &R,
     alloc: Global,
@@ -192,14 +117,10 @@ fn is_watched<R: Threads + Wait + Sync>(
     config: &Config,
     cells: &[FlowCells],
     pens: Vec<FlowPens>,
-    shown: &FlowCells,
-    stat: StatPass,
-    drive: DrivePass,
+    reader: Reader<'_>,
 ) -> Result<bool, Fail>
     requires cells { length cells.now ≡ 2 * config.now.pairs }
     requires pens { ArePaired cells.now pens.items }
-    requires stat { stat.cell ≡ shown.now.stat }
-    requires drive { drive.cell ≡ shown.now.drive }
 {
     let gate = Paced::new();
     let gate = &gate;
@@ -208,9 +129,7 @@ fn is_watched<R: Threads + Wait + Sync>(
         move || -> Result<(Report, Vec<FlowPens>), ForwardError>
             requires { (length cells.now ≡ 2 * config.now.pairs) × ArePaired cells.now pens.items }
         { forward_watched(rt, alloc, script, config, gate, cells, pens) },
-        move || -> bool
-            requires { (stat.cell ≡ shown.now.stat) × (drive.cell ≡ shown.now.drive) }
-        { watch(rt, shown, stat, drive, gate) },
+        move || watch(rt, reader, gate),
     );
     let (report, _) = ran?;
     Ok(good && is_drained(&report, script, 2, FORTY_COUNTS))
@@ -221,23 +140,10 @@ fn is_watched<R: Threads + Wait + Sync>(
 fn watch_while_workers_run(rt: HostRuntime) -> Result<(), Fail> {
     let script = script_of(rt.alloc(), FORTY)?;
     let config = Config { ring: 64, ..SHORT };
-    let first = open_cells(rt.alloc())?;
-    let second = open_cells(rt.alloc())?;
-    let third = open_cells(rt.alloc())?;
-    let fourth = open_cells(rt.alloc())?;
-    let cells = vec![in rt.alloc(); first.cells, second.cells, third.cells, fourth.cells]?;
-    let pens = vec![in rt.alloc(); first.pens, second.pens, third.pens, fourth.pens]?;
-    let good = is_watched(
-        &rt,
-        rt.alloc(),
-        &script,
-        &config,
-        &cells,
-        pens,
-        &cells[1],
-        second.stat,
-        second.drive,
-    )?;
-    assert!(rt; good);
+    let (cells, mut pens) = FlowCells::of(rt.alloc(), 4)?;
+    let mut readers = readers_of(rt.alloc(), &cells, &mut pens)?;
+    readers.truncate(2);
+    let reader = readers.pop().ok_or("no flow 1")?;
+    assert!(rt; is_watched(&rt, rt.alloc(), &script, &config, &cells, pens, reader)?);
     Ok(())
 }
