@@ -37,6 +37,15 @@ pub(crate) enum Step {
     Counted(u64, u64, u64, u64),
 }
 
+/// What a driver found, without the segment.
+#[derive(Clone, Copy, PartialEq)]
+enum Found {
+    Segment,
+    NotDone,
+    Empty,
+    Off,
+}
+
 /// A ring, its driver's end, the controller, and the buffers at hand.
 #[derive(Drop)]
 pub(crate) struct Receive {
@@ -69,7 +78,52 @@ impl Receive {
         })
     }
 
+    fn enable(&mut self) -> bool {
+        asked!(self, is_new, ask_enable, Control::Enabled, is_on)
+    }
+
+    fn disable(&mut self) -> bool {
+        asked!(self, is_on, ask_disable, Control::Disabled, is_stopped)
+    }
+
+    fn offer(&mut self, len: usize, from: usize) -> Told {
+        let frame = self.bytes.frame(from, len);
+        match self.controller.offer(&self.ring, frame) {
+            Ok(offer) => Told::Offered(offer),
+            Err(refusal) => Told::Refused(refusal),
+        }
+    }
+
+    /// What the driver finds. A segment is dropped with its buffer.
+    fn found(&mut self) -> Found {
+        match self.driver.poll(&self.ring) {
+            Poll::Segment { .. } => Found::Segment,
+            Poll::NotDone => Found::NotDone,
+            Poll::Empty => Found::Empty,
+            Poll::Off => Found::Off,
+        }
+    }
+
+    /// Whether so many frames were offered, stored, dropped and oversize.
+    fn has_counted(&self, counts: [u64; 4]) -> bool {
+        let [offered, stored, dropped, oversize] = counts;
+        let wanted = Tally {
+            offered,
+            stored,
+            dropped,
+            oversize,
+        };
+        self.controller.tally() == wanted
+    }
+
     fn renew(&mut self) -> Option<u32> {
+        let count = self.take_back()?;
+        renewed!(self);
+        Some(count)
+    }
+
+    /// How many buffers come back from a queue that is disabled.
+    fn take_back(&mut self) -> Option<u32> {
         let mut count = 0_u32;
         for _ in 0..32 {
             if !self.driver.is_stopped() {
@@ -81,7 +135,6 @@ impl Receive {
             put_back(&mut self.spare, buf);
             count = count.saturating_add(1);
         }
-        renewed!(self);
         Some(count)
     }
 
@@ -122,9 +175,14 @@ impl Receive {
 
     /// Whether the controller's end stands between two frames of an enabled queue.
     pub(crate) fn ends_between_frames(self) -> bool {
-        let end = self.controller.into_end();
-        end.is_serving() && end.is_between_frames() && !end.is_holding()
+        ends_between_frames(self.controller)
     }
+}
+
+/// Whether the controller's end stands between two frames of an enabled queue.
+fn ends_between_frames(controller: RxController) -> bool {
+    let end = controller.into_end();
+    end.is_serving() && end.is_between_frames() && !end.is_holding()
 }
 
 impl Tells for Receive {
@@ -134,44 +192,19 @@ impl Tells for Receive {
 
     fn make(&mut self, step: Step) -> Told {
         match step {
-            Step::Enable => {
-                Told::whether(asked!(self, is_new, ask_enable, Control::Enabled, is_on))
-            }
-            Step::Disable => {
-                Told::whether(asked!(self, is_on, ask_disable, Control::Disabled, is_stopped))
-            }
-            Step::Renew => match self.renew() {
-                Some(count) => Told::Count(count),
-                None => Told::No,
-            },
+            Step::Enable => Told::whether(self.enable()),
+            Step::Disable => Told::whether(self.disable()),
+            Step::Renew => Told::counted(self.renew()),
             Step::Fill => Told::Count(self.fill()),
-            Step::Offer(len, from) => {
-                match self
-                    .controller
-                    .offer(&self.ring, self.bytes.frame(from, len))
-                {
-                    Ok(offer) => Told::Offered(offer),
-                    Err(refusal) => Told::Refused(refusal),
-                }
-            }
+            Step::Offer(len, from) => self.offer(len, from),
             Step::Take(from, full, last) => Told::whether(self.take(from, full, last)),
-            Step::FindsNone => {
-                Told::whether(!matches!(self.driver.poll(&self.ring), Poll::Segment { .. }))
-            }
-            Step::IsNotDone => {
-                Told::whether(matches!(self.driver.poll(&self.ring), Poll::NotDone))
-            }
-            Step::IsOff => Told::whether(matches!(self.driver.poll(&self.ring), Poll::Off)),
+            Step::FindsNone => Told::whether(self.found() != Found::Segment),
+            Step::IsNotDone => Told::whether(self.found() == Found::NotDone),
+            Step::IsOff => Told::whether(self.found() == Found::Off),
             Step::Finish => Told::whether(self.controller.finish(&self.ring)),
             Step::IsQuiet => Told::whether(self.driver.is_quiet(&self.ring)),
             Step::Counted(offered, stored, dropped, oversize) => {
-                let wanted = Tally {
-                    offered,
-                    stored,
-                    dropped,
-                    oversize,
-                };
-                Told::whether(self.controller.tally() == wanted)
+                Told::whether(self.has_counted([offered, stored, dropped, oversize]))
             }
         }
     }

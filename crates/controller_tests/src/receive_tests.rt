@@ -3,9 +3,9 @@
 use crate::receive::{Receive, Step};
 use crate::told::Told;
 use controller::{CtlError, Offer, is_fill_size};
-use std::alloc::Global;
+use std::alloc::{AllocError, Global};
 use std::test::Fail;
-use test_kit::{all_told_so, told_so};
+use test_kit::told_so;
 
 const STORED: Told = Told::Offered(Offer::Stored);
 
@@ -22,28 +22,53 @@ const REFUSED: Told = Told::Refused(CtlError::FrameLength);
 /// A step, and what it has to tell.
 type Row = (Step, Told);
 
+/// How many rows told so, and whether the controller's end stood between two frames of an enabled queue afterwards.
+#[derive(Clone, Copy)]
+struct Walked {
+    told: usize,
+    ends_between_frames: bool,
+}
+
+/// Makes the rows' steps on a ring of so many places that is not enabled. No other function here owns a queue, since each
+/// that does is dear to prove.
+fn walk(alloc: Global, n: u32, large: bool, drop_en: bool, rows: &[Row]) -> Result<Walked, Fail> {
+    let mut receive = Receive::new(alloc, n, large, drop_en)?;
+    let told = told_so(&mut receive, rows);
+    let ends_between_frames = receive.ends_between_frames();
+    Ok(Walked {
+        told,
+        ends_between_frames,
+    })
+}
+
 /// How many of the rows tell so on a ring of so many places that is not enabled.
 fn told(alloc: Global, n: u32, large: bool, drop_en: bool, rows: &[Row]) -> Result<usize, Fail> {
-    let mut receive = Receive::new(alloc, n, large, drop_en)?;
-    Ok(told_so(&mut receive, rows))
+    Ok(walk(alloc, n, large, drop_en, rows)?.told)
 }
 
 /// The rows of a queue of 8 that is enabled and filled.
 const READY: &[Row] = &[(Step::Enable, Told::Yes), (Step::Fill, Told::Count(7))];
 
-#[test]
-fn frames_go_round(rt: HostRuntime) -> Result<(), Fail> {
-    let mut receive = Receive::new(rt.alloc(), 8, true, true)?;
-    assert!(rt; all_told_so(&mut receive, READY));
-    for k in 0..21 {
-        let rows = [
+/// The rows of so many frames of 60 bytes, each taken before the next is offered.
+fn going_round(alloc: Global, count: usize) -> Result<Vec<Row>, AllocError> {
+    let mut rows = Vec::new(alloc);
+    rows.extend_from_slice(READY)?;
+    for k in 0..count {
+        rows.extend_from_slice(&[
             (Step::Offer(60, k), STORED),
             (Step::Take(k, 0, 60), Told::Yes),
             (Step::Fill, Told::Count(1)),
-        ];
-        assert!(rt; all_told_so(&mut receive, &rows));
+        ])?;
     }
-    assert!(rt; all_told_so(&mut receive, &[(Step::Counted(21, 21, 0, 0), Told::Yes)]));
+    let all = count as u64;
+    rows.extend_from_slice(&[(Step::Counted(all, all, 0, 0), Told::Yes)])?;
+    Ok(rows)
+}
+
+#[test]
+fn frames_go_round(rt: HostRuntime) -> Result<(), Fail> {
+    let rows = going_round(rt.alloc(), 21)?;
+    assert_eq!(rt; told(rt.alloc(), 8, true, true, &rows)?, rows.len());
     Ok(())
 }
 
@@ -73,12 +98,11 @@ const HOLDING: &[Row] = &[
 
 /// Whether the rows tell so of a ready ring of 8 with seven frames.
 fn told_of_the_eighth(alloc: Global, drop_en: bool, rows: &[Row]) -> Result<bool, Fail> {
-    let mut receive = Receive::new(alloc, 8, true, drop_en)?;
-    Ok(
-        all_told_so(&mut receive, READY)
-            && all_told_so(&mut receive, SEVEN)
-            && all_told_so(&mut receive, rows),
-    )
+    let mut all = Vec::new(alloc);
+    all.extend_from_slice(READY)?;
+    all.extend_from_slice(SEVEN)?;
+    all.extend_from_slice(rows)?;
+    Ok(told(alloc, 8, true, drop_en, &all)? == all.len())
 }
 
 #[test]
@@ -88,11 +112,26 @@ fn the_eighth_is_dropped_or_held(rt: HostRuntime) -> Result<(), Fail> {
     Ok(())
 }
 
-/// Whether a frame of so many bytes is stored in a ready ring in so many full segments and a last one.
-fn is_cut(
-    alloc: Global,
-    (n, large, len, full, last): (u32, bool, usize, usize, usize),
-) -> Result<bool, Fail> {
+/// A ring of so many places, whose buffers are filled to 2,048 bytes or to 1,024, a frame of so many bytes, and in how many
+/// full segments and a last one of how many bytes it is stored.
+type Cut = (u32, bool, usize, usize, usize);
+
+const CUTS: &[Cut] = &[
+    (8, false, 14, 0, 14),
+    (8, false, 1_024, 0, 1_024),
+    (8, false, 1_025, 1, 1),
+    (8, false, 2_500, 2, 452),
+    (8, false, 2_048, 1, 1_024),
+    (8, true, 2_048, 0, 2_048),
+    (16, false, 9_000, 8, 808),
+    (16, false, 15_000, 14, 664),
+    (16, true, 15_000, 7, 664),
+    (8, true, 14_336, 6, 2_048),
+];
+
+/// Whether a frame is stored in a ready ring as the row says.
+fn is_cut(alloc: Global, row: Cut) -> Result<bool, Fail> {
+    let (n, large, len, full, last) = row;
     let rows = [
         (Step::Enable, Told::Yes),
         (Step::Fill, Told::Count(n.saturating_sub(1))),
@@ -105,39 +144,32 @@ fn is_cut(
 
 #[test]
 fn frames_are_cut(rt: HostRuntime) -> Result<(), Fail> {
-    let rows = [
-        (8, false, 14, 0, 14),
-        (8, false, 1_024, 0, 1_024),
-        (8, false, 1_025, 1, 1),
-        (8, false, 2_500, 2, 452),
-        (8, false, 2_048, 1, 1_024),
-        (8, true, 2_048, 0, 2_048),
-        (16, false, 9_000, 8, 808),
-        (16, false, 15_000, 14, 664),
-        (16, true, 15_000, 7, 664),
-        (8, true, 14_336, 6, 2_048),
-    ];
-    for row in rows {
-        assert!(rt; is_cut(rt.alloc(), row)?, "{} bytes", row.2);
+    for row in CUTS {
+        assert!(rt; is_cut(rt.alloc(), *row)?, "{} bytes", row.2);
     }
     Ok(())
 }
 
+const TOO_LONG: &[(bool, usize)] = &[(false, 9_000), (true, 15_000), (true, 14_337)];
+
+/// Whether frames of so many bytes are oversize in a ready ring of 8, and counted so.
+fn is_oversize(alloc: Global, large: bool, len: usize) -> Result<bool, Fail> {
+    let mut rows = Vec::new(alloc);
+    rows.extend_from_slice(READY)?;
+    for count in 1..=3 {
+        rows.extend_from_slice(&[
+            (Step::Offer(len, 0), OVERSIZE),
+            (Step::Counted(count, 0, 0, count), Told::Yes),
+        ])?;
+    }
+    rows.extend_from_slice(&[(Step::FindsNone, Told::Yes)])?;
+    Ok(told(alloc, 8, large, false, &rows)? == rows.len())
+}
+
 #[test]
 fn what_does_not_fit_is_oversize(rt: HostRuntime) -> Result<(), Fail> {
-    for (large, len) in [(false, 9_000), (true, 15_000), (true, 14_337)] {
-        let rows = [
-            (Step::Enable, Told::Yes),
-            (Step::Fill, Told::Count(7)),
-            (Step::Offer(len, 0), OVERSIZE),
-            (Step::Counted(1, 0, 0, 1), Told::Yes),
-            (Step::Offer(len, 0), OVERSIZE),
-            (Step::Counted(2, 0, 0, 2), Told::Yes),
-            (Step::Offer(len, 0), OVERSIZE),
-            (Step::Counted(3, 0, 0, 3), Told::Yes),
-            (Step::FindsNone, Told::Yes),
-        ];
-        assert_eq!(rt; told(rt.alloc(), 8, large, false, &rows)?, rows.len());
+    for row in TOO_LONG {
+        assert!(rt; is_oversize(rt.alloc(), row.0, row.1)?, "{} bytes", row.1);
     }
     Ok(())
 }
@@ -162,109 +194,132 @@ fn lengths_are_refused(rt: HostRuntime) -> Result<(), Fail> {
     Ok(())
 }
 
+/// Whether a refusal has this number and text.
+fn reads(alloc: Global, refusal: CtlError, want: &str) -> Result<bool, AllocError> {
+    let text = format!(in alloc; "{} {refusal}", refusal.number())?;
+    Ok(text.as_str() == want)
+}
+
 #[test]
 fn refusals_have_a_number_and_a_text(rt: HostRuntime) -> Result<(), Fail> {
-    for (refusal, want) in [
-        (CtlError::FrameLength, "41 frame length"),
-        (CtlError::Memory, "42 memory"),
-    ] {
-        let text = format!(in rt.alloc(); "{} {refusal}", refusal.number())?;
-        assert_eq!(rt; text.as_str(), want);
-    }
+    assert!(rt; reads(rt.alloc(), CtlError::FrameLength, "41 frame length")?);
+    assert!(rt; reads(rt.alloc(), CtlError::Memory, "42 memory")?);
     for bsize in [0, 1_023, 1_024, 1_025, 2_047, 2_048, 4_096] {
         assert!(rt; is_fill_size(bsize) == (bsize == 1_024 || bsize == 2_048));
     }
     Ok(())
 }
 
-/// Offers so many frames of 60 bytes, each after one that is oversize, from a place on: whether all is as it should be.
-fn alternates(receive: &mut Receive, first: usize, count: usize) -> bool {
+/// Adds rows of so many frames of 60 bytes, from a place on, each after one that is oversize.
+fn alternate(rows: &mut Vec<Row>, first: usize, count: usize) -> Result<(), AllocError> {
     for k in 0..count {
-        let rows = [
+        rows.extend_from_slice(&[
             (Step::Offer(9_000, 0), OVERSIZE),
             (Step::Offer(60, first.saturating_add(k)), STORED),
-        ];
-        if !all_told_so(receive, &rows) {
-            return false;
-        }
+        ])?;
     }
-    true
+    Ok(())
 }
 
-/// Takes so many frames of 60 bytes, from a place on, and posts as many buffers: whether all is as it should be.
-fn takes(receive: &mut Receive, first: usize, count: u32) -> bool {
+/// Adds rows by which so many frames of 60 bytes, from a place on, are taken, and as many buffers posted.
+fn take(rows: &mut Vec<Row>, first: usize, count: u32) -> Result<(), AllocError> {
     for k in 0..count as usize {
-        let row = (Step::Take(first.saturating_add(k), 0, 60), Told::Yes);
-        if !all_told_so(receive, &[row]) {
-            return false;
-        }
+        let place = first.saturating_add(k);
+        rows.extend_from_slice(&[(Step::Take(place, 0, 60), Told::Yes)])?;
     }
-    all_told_so(receive, &[(Step::Fill, Told::Count(count))])
+    rows.extend_from_slice(&[(Step::Fill, Told::Count(count))])
+}
+
+/// The rows of 100 frames, each after one that is oversize; each eighth is held until the seven before it are taken.
+fn alternating(alloc: Global) -> Result<Vec<Row>, AllocError> {
+    let mut rows = Vec::new(alloc);
+    rows.extend_from_slice(READY)?;
+    for round in 0..14 {
+        let first = round * 7;
+        alternate(&mut rows, first, 7)?;
+        rows.extend_from_slice(&[(Step::Offer(60, first + 7), HELD)])?;
+        take(&mut rows, first, 7)?;
+    }
+    alternate(&mut rows, 98, 2)?;
+    take(&mut rows, 98, 2)?;
+    rows.extend_from_slice(&[(Step::Counted(200, 100, 0, 100), Told::Yes)])?;
+    Ok(rows)
 }
 
 #[test]
 fn oversize_frames_between_others(rt: HostRuntime) -> Result<(), Fail> {
-    let mut receive = Receive::new(rt.alloc(), 8, false, false)?;
-    assert!(rt; all_told_so(&mut receive, READY));
-    for round in 0..14 {
-        let first = round * 7;
-        assert!(rt; alternates(&mut receive, first, 7));
-        assert!(rt; all_told_so(&mut receive, &[(Step::Offer(60, first + 7), HELD)]));
-        assert!(rt; takes(&mut receive, first, 7));
-    }
-    assert!(rt; alternates(&mut receive, 98, 2) && takes(&mut receive, 98, 2));
-    assert!(rt;
-        all_told_so(
-            &mut receive,
-            &[(Step::Counted(200, 100, 0, 100), Told::Yes)]
-        )
-    );
+    let rows = alternating(rt.alloc())?;
+    assert_eq!(rt; told(rt.alloc(), 8, false, false, &rows)?, rows.len());
     Ok(())
 }
 
-/// A queue that is quiet or disabled after so many of the calls, and then renewed: whether nothing more is stored before,
-/// and the tally goes on after it.
+/// The rows of a queue whose controller says that it is quiet, and of one that the driver disables: nothing more is stored.
+const QUIET: &[Row] = &[
+    (Step::Finish, Told::Yes),
+    (Step::IsQuiet, Told::Yes),
+    (Step::Offer(60, 9), OFF),
+    (Step::Finish, Told::No),
+];
+
+const DISABLED: &[Row] = &[
+    (Step::Disable, Told::Yes),
+    (Step::IsOff, Told::Yes),
+    (Step::Offer(60, 9), OFF),
+    (Step::Finish, Told::No),
+];
+
+/// The rows of a quiet queue whose frames are all taken.
+const TAKEN: &[Row] = &[(Step::IsNotDone, Told::Yes), (Step::Disable, Told::Yes)];
+
+/// The rows of a queue that is renewed.
+const ANEW: &[Row] = &[
+    (Step::Offer(60, 9), OFF),
+    (Step::Fill, Told::Count(7)),
+    (Step::Enable, Told::Yes),
+    (Step::Offer(60, 9), STORED),
+    (Step::Take(9, 0, 60), Told::Yes),
+];
+
+/// Adds a row so many times.
+fn repeat(rows: &mut Vec<Row>, row: Row, times: u32) -> Result<(), AllocError> {
+    for _ in 0..times {
+        rows.extend_from_slice(&[row])?;
+    }
+    Ok(())
+}
+
+/// Adds rows by which a queue with so many frames ends, quiet or disabled, and is renewed.
+fn end(rows: &mut Vec<Row>, before: u32, quiet: bool) -> Result<(), AllocError> {
+    let stored = u64::from(before);
+    let counted = (Step::Counted(stored, stored, 0, 0), Told::Yes);
+    if !quiet {
+        rows.extend_from_slice(DISABLED)?;
+        return rows.extend_from_slice(&[counted, (Step::Renew, Told::Count(7))]);
+    }
+    rows.extend_from_slice(QUIET)?;
+    rows.extend_from_slice(&[counted])?;
+    repeat(rows, (Step::Take(9, 0, 60), Told::Yes), before)?;
+    rows.extend_from_slice(TAKEN)?;
+    let left = 7u32.saturating_sub(before);
+    rows.extend_from_slice(&[(Step::Renew, Told::Count(left))])
+}
+
+/// The rows of a queue that is quiet or disabled after so many frames, and then renewed: nothing more is stored before, and
+/// the tally goes on after it.
+fn over_after(alloc: Global, before: u32, quiet: bool) -> Result<Vec<Row>, AllocError> {
+    let mut rows = Vec::new(alloc);
+    rows.extend_from_slice(READY)?;
+    repeat(&mut rows, (Step::Offer(60, 9), STORED), before)?;
+    end(&mut rows, before, quiet)?;
+    rows.extend_from_slice(ANEW)?;
+    let stored = u64::from(before).saturating_add(1);
+    rows.extend_from_slice(&[(Step::Counted(stored, stored, 0, 0), Told::Yes)])?;
+    Ok(rows)
+}
+
 fn is_over_after(alloc: Global, before: u32, quiet: bool) -> Result<bool, Fail> {
-    let mut receive = Receive::new(alloc, 8, true, true)?;
-    let mut good = all_told_so(&mut receive, READY);
-    for _ in 0..before {
-        good &= all_told_so(&mut receive, &[(Step::Offer(60, 9), STORED)]);
-    }
-    let counted = u64::from(before);
-    let ends = if quiet {
-        [(Step::Finish, Told::Yes), (Step::IsQuiet, Told::Yes)]
-    } else {
-        [(Step::Disable, Told::Yes), (Step::IsOff, Told::Yes)]
-    };
-    good &= all_told_so(&mut receive, &ends);
-    let over = [
-        (Step::Offer(60, 9), OFF),
-        (Step::Finish, Told::No),
-        (Step::Counted(counted, counted, 0, 0), Told::Yes),
-    ];
-    good &= all_told_so(&mut receive, &over);
-    for _ in 0..if quiet { before } else { 0 } {
-        good &= all_told_so(&mut receive, &[(Step::Take(9, 0, 60), Told::Yes)]);
-    }
-    if quiet {
-        let rows = [(Step::IsNotDone, Told::Yes), (Step::Disable, Told::Yes)];
-        good &= all_told_so(&mut receive, &rows);
-    }
-    let left = if quiet {
-        7u32.saturating_sub(before)
-    } else {
-        7
-    };
-    let anew = [
-        (Step::Renew, Told::Count(left)),
-        (Step::Offer(60, 9), OFF),
-        (Step::Fill, Told::Count(7)),
-        (Step::Enable, Told::Yes),
-        (Step::Offer(60, 9), STORED),
-        (Step::Take(9, 0, 60), Told::Yes),
-        (Step::Counted(counted + 1, counted + 1, 0, 0), Told::Yes),
-    ];
-    Ok(good && all_told_so(&mut receive, &anew))
+    let rows = over_after(alloc, before, quiet)?;
+    Ok(told(alloc, 8, true, true, &rows)? == rows.len())
 }
 
 #[test]
@@ -287,8 +342,8 @@ const BEFORE: &[Row] = &[
 
 #[test]
 fn nothing_is_done_before_the_enabling(rt: HostRuntime) -> Result<(), Fail> {
-    let mut receive = Receive::new(rt.alloc(), 8, true, true)?;
-    assert_eq!(rt; told_so(&mut receive, BEFORE), BEFORE.len());
-    assert!(rt; receive.ends_between_frames());
+    let walked = walk(rt.alloc(), 8, true, true, BEFORE)?;
+    assert_eq!(rt; walked.told, BEFORE.len());
+    assert!(rt; walked.ends_between_frames);
     Ok(())
 }

@@ -22,6 +22,21 @@ impl Told {
     pub(crate) fn whether(holds: bool) -> Told {
         if holds { Told::Yes } else { Told::No }
     }
+
+    pub(crate) fn turned(told: Result<Turn, CtlError>) -> Told {
+        match told {
+            Ok(turn) => Told::Turned(turn),
+            Err(refusal) => Told::Refused(refusal),
+        }
+    }
+
+    /// How many there are, or no.
+    pub(crate) fn counted(count: Option<u32>) -> Told {
+        match count {
+            Some(count) => Told::Count(count),
+            None => Told::No,
+        }
+    }
 }
 
 /// Random bytes, of which frames are parts.

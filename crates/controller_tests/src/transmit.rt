@@ -88,19 +88,35 @@ impl Transmit {
         })
     }
 
+    fn enable(&mut self) -> bool {
+        asked!(self, is_new, ask_enable, Control::Enabled, is_on)
+    }
+
+    fn disable(&mut self) -> bool {
+        asked!(self, is_on, ask_disable, Control::Disabled, is_stopped)
+    }
+
     fn renew(&mut self) -> Option<()> {
+        if !self.take_back() {
+            return None;
+        }
+        renewed!(self);
+        self.begun = NONE;
+        Some(())
+    }
+
+    /// Whether all buffers come back from a queue that is disabled.
+    fn take_back(&mut self) -> bool {
         for _ in 0..32 {
             if !self.driver.is_stopped() {
-                return None;
+                return false;
             }
             let Some(buf) = self.driver.reclaim(&self.ring) else {
                 break;
             };
             put_back(&mut self.spare, buf);
         }
-        renewed!(self);
-        self.begun = NONE;
-        Some(())
+        true
     }
 
     /// Posts a frame of so many bytes from a place on, in segments of `bsize` bytes and a last one, publishes it, and
@@ -183,6 +199,10 @@ impl Transmit {
         self.controller.turn(&self.ring, &mut self.wire)
     }
 
+    fn has_sent(&self, count: usize) -> bool {
+        self.wire.len() == count && self.wire.is_empty() == (count == 0)
+    }
+
     fn is_on_wire(&self, k: usize, len: usize, from: usize) -> bool {
         k < self.wire.len() && self.wire.frame(k) == self.bytes.frame(from, len)
     }
@@ -211,9 +231,14 @@ impl Transmit {
 
     /// Whether the controller's end stands between two frames of an enabled queue.
     pub(crate) fn ends_between_frames(self) -> bool {
-        let end = self.controller.into_end();
-        end.is_serving() && end.is_between_frames() && !end.owes_report()
+        ends_between_frames(self.controller)
     }
+}
+
+/// Whether the controller's end stands between two frames of an enabled queue.
+fn ends_between_frames(controller: TxController) -> bool {
+    let end = controller.into_end();
+    end.is_serving() && end.is_between_frames() && !end.owes_report()
 }
 
 impl Tells for Transmit {
@@ -223,23 +248,14 @@ impl Tells for Transmit {
 
     fn make(&mut self, step: Step) -> Told {
         match step {
-            Step::Enable => {
-                Told::whether(asked!(self, is_new, ask_enable, Control::Enabled, is_on))
-            }
-            Step::Disable => {
-                Told::whether(asked!(self, is_on, ask_disable, Control::Disabled, is_stopped))
-            }
+            Step::Enable => Told::whether(self.enable()),
+            Step::Disable => Told::whether(self.disable()),
             Step::Renew => Told::whether(self.renew().is_some()),
             Step::Post(len, from, bsize, rs) => Told::whether(self.post(len, from, bsize, rs)),
-            Step::Turn => match self.turn() {
-                Ok(turn) => Told::Turned(turn),
-                Err(refusal) => Told::Refused(refusal),
-            },
+            Step::Turn => Told::turned(self.turn()),
             Step::HasReport => Told::whether(self.driver.poll_report(&self.ring)),
             Step::Clean => Told::Count(self.clean()),
-            Step::HasSent(count) => {
-                Told::whether(self.sent() == count && self.wire.is_empty() == (count == 0))
-            }
+            Step::HasSent(count) => Told::whether(self.has_sent(count)),
             Step::IsOnWire(k, len, from) => Told::whether(self.is_on_wire(k, len, from)),
         }
     }
