@@ -1,5 +1,5 @@
 //! Frames through a receive ring, both drivers and a transmit ring, on one thread. The device's side are the rings' ends.
-ghost use Rattle.std.specs.Prelude.{◌<◌, ◌≤◌, length, replicate, IfOk};
+ghost use Rattle.std.specs.Prelude.{◌<◌, ◌≤◌, length, replicate, IfOk, OnOk};
 ghost use Rattle.limits.specs.RingLength.{IsRingLength};
 ghost use Rattle.bench.specs.Copies.{IsFrameLength};
 ghost use Rattle.bench.specs.Forwarding.{CanForward, HasRelayed, SentAtLeast};
@@ -7,20 +7,19 @@ ghost use Rattle.bench.specs.Passing as receive;
 ghost use Rattle.bench.specs.Passing.{CanStore, StoredOnly};
 ghost use Rattle.bench.specs.Sending as transmit;
 ghost use Rattle.bench.specs.Sending.{CanFetch};
-ghost use Rattle.ring_model.specs.shared.Frames.{Bytes};
 ghost use Rattle.bench.specs.declared.supply.TheConstants.{BYTE};
 
 use crate::fetching::send;
 use crate::forwarding::Forwarder;
 use crate::meeting::{Ends, meet};
+use crate::outcome::both;
 use crate::storing::store;
-use crate::supply::{frame_of, spare_for};
+use crate::supply::frame_of;
 use crate::tally::Tally;
+use crate::track::Track;
 use crate::words::BatchPlan;
 use crate::{fetching, storing};
 use anyhow::{Result, ensure};
-use buffer_pool::Stock;
-use driver::MOST_BATCH;
 use rx_ring::{ControllerEnd, RxControllerEnd, RxRing};
 use std::alloc::Global;
 use std::rt::Clock;
@@ -36,6 +35,22 @@ struct Device {
     tally: Tally,
 }
 
+/// Device and drivers.
+#[derive(Drop)]
+struct Sides {
+    device: Device,
+    forwarder: Forwarder,
+}
+
+/// What a run relays: from which ring to which, the frame that is stored, and how many of it.
+#[derive(Clone, Copy)]
+struct Run<'a> {
+    from: &'a RxRing,
+    to: &'a TxRing,
+    frame: &'a [u8],
+    plan: BatchPlan,
+}
+
 /// What was relayed, and how long it took.
 #[derive(Drop)]
 pub struct Relayed {
@@ -47,105 +62,131 @@ pub struct Relayed {
 pub fn relay<R: Wait + Clock>(rt: &R, alloc: Global, plan: BatchPlan) -> Result<Relayed>
     ensures { IfOk result (λ r. HasRelayed plan.load.frames (replicate plan.load.size BYTE) r.ends) }
 {
-    let batch = plan.batch as usize;
-    ensure!(1 <= batch && batch <= MOST_BATCH, "batch");
     let frame = frame_of(alloc, plan.load.size)?;
-    let stock = spare_for(alloc, plan.load.ring)?;
-    let (from, rx, rx_end) = RxRing::new(alloc, plan.load.ring)?;
-    let (to, tx, tx_end) = TxRing::new(alloc, plan.load.ring)?;
-    let forwarder = Forwarder::new(rx, tx, batch);
-    let device = Device {
-        rx: rx_end,
-        tx: tx_end,
-        tally: Tally::new(),
+    let track = Track::new(alloc, plan.load.ring, plan.batch)?;
+    let sides = Sides {
+        device: Device {
+            rx: track.rx,
+            tx: track.tx,
+            tally: Tally::new(),
+        },
+        forwarder: track.forwarder,
     };
-    let (device, forwarder) = begin(rt, &from, &to, device, forwarder, stock)?;
-    timed(rt, &from, &to, device, forwarder, frame.as_slice(), plan)
+    let run = Run {
+        from: &track.from,
+        to: &track.to,
+        frame: frame.as_slice(),
+        plan,
+    };
+    relay_run(rt, alloc, run, sides)
+}
+
+/// Relays the run's frames, and lets the ends meet.
+fn relay_run<R: Wait + Clock>(
+    rt: &R,
+    alloc: Global,
+    run: Run<'_>,
+    mut sides: Sides,
+) -> Result<Relayed>
+    requires size { IsRingLength run.from.now.slots }
+    requires stores { receive.CanServe run.from.now sides.device.rx }
+    requires sends { transmit.CanServe run.to.now sides.device.tx }
+    requires forwards { CanForward run.from.now run.to.now sides.forwarder }
+    requires frame { IsFrameLength (length run.frame.now) }
+    ensures { IfOk result (λ r. HasRelayed run.entry.plan.load.frames run.entry.frame.now r.ends) }
+{
+    let spent = timed(rt, alloc, run, &mut sides);
+    let (spent, sides) = both(spent, Ok(sides))?;
+    Ok(finish(run, sides, spent))
 }
 
 /// Has both queues enabled, and the receive ring filled.
-fn begin<R: Wait>(
-    rt: &R,
-    from: &RxRing,
-    to: &TxRing,
-    mut device: Device,
-    mut forwarder: Forwarder,
-    mut stock: Stock,
-) -> Result<(Device, Forwarder)>
-    requires stores { receive.CanServe from.now device.rx }
-    requires sends { transmit.CanServe to.now device.tx }
-    requires forwards { CanForward from.now to.now forwarder }
-    ensures stores { (frame : Bytes) → IfOk result (λ r. CanStore from.now frame r.0.rx) }
-    ensures sends { IfOk result (λ r. CanFetch to.now r.0.tx) }
-    ensures forwards { IfOk result (λ r. CanForward from.now to.now r.1) }
+fn begin<R: Wait>(rt: &R, alloc: Global, run: Run<'_>, sides: &mut Sides) -> Result<()>
+    requires stores { receive.CanServe run.from.now sides.old.device.rx }
+    requires sends { transmit.CanServe run.to.now sides.old.device.tx }
+    requires forwards { CanForward run.from.now run.to.now sides.old.forwarder }
+    ensures stores { OnOk result (CanStore run.entry.from.now run.entry.frame.now sides.new.device.rx) }
+    ensures sends { OnOk result (CanFetch run.entry.to.now sides.new.device.tx) }
+    ensures forwards { OnOk result (CanForward run.entry.from.now run.entry.to.now sides.new.forwarder) }
 {
-    forwarder.enable(from, to)?;
-    storing::serve(rt, from, &mut device.rx);
-    fetching::serve(rt, to, &mut device.tx);
-    ensure!(forwarder.enable(from, to)?, "the queues are not enabled");
-    forwarder.fill(from, to, &mut stock)?;
-    Ok((device, forwarder))
+    sides.forwarder.enable(run.from, run.to)?;
+    storing::serve(rt, run.from, &mut sides.device.rx);
+    fetching::serve(rt, run.to, &mut sides.device.tx);
+    sides.forwarder.see_enabled(run.from, run.to)?;
+    sides
+        .forwarder
+        .supply(alloc, run.from, run.to, run.plan.load.ring)
 }
 
-/// Relays all frames, takes the time, and lets the ends meet.
+/// Relays all frames, answers how long that took once the queues were enabled and the receive ring full, and sees that
+/// what was sent is what was stored.
 fn timed<R: Wait + Clock>(
     rt: &R,
-    from: &RxRing,
-    to: &TxRing,
-    device: Device,
-    forwarder: Forwarder,
-    frame: &[u8],
-    plan: BatchPlan,
-) -> Result<Relayed>
-    requires size { IsRingLength from.now.slots }
-    requires stores { CanStore from.now frame.now device.rx }
-    requires sends { CanFetch to.now device.tx }
-    requires forwards { CanForward from.now to.now forwarder }
-    requires frame { IsFrameLength (length frame.now) }
-    ensures { IfOk result (λ r. HasRelayed plan.load.frames frame.now r.ends) }
+    alloc: Global,
+    run: Run<'_>,
+    sides: &mut Sides,
+) -> Result<Duration>
+    requires size { IsRingLength run.from.now.slots }
+    requires stores { receive.CanServe run.from.now sides.old.device.rx }
+    requires sends { transmit.CanServe run.to.now sides.old.device.tx }
+    requires forwards { CanForward run.from.now run.to.now sides.old.forwarder }
+    requires frame { IsFrameLength (length run.frame.now) }
+    ensures stores { OnOk result (StoredOnly run.entry.from.now run.entry.frame.now sides.new.device.rx) }
+    ensures sends { OnOk result (CanFetch run.entry.to.now sides.new.device.tx) }
+    ensures forwards { OnOk result (CanForward run.entry.from.now run.entry.to.now sides.new.forwarder) }
+    ensures count { OnOk result (SentAtLeast run.entry.plan.load.frames sides.new.forwarder) }
 {
+    begin(rt, alloc, run, sides)?;
     let start = Instant::now(rt)?;
-    let (device, forwarder) = relay_all(rt, from, to, device, forwarder, frame, plan)?;
+    relay_all(rt, run, sides)?;
     let spent = start.elapsed(rt)?;
     ensure!(
-        device.tally == Tally::of(frame, plan.load.frames),
+        sides.device.tally == Tally::of(run.frame, run.plan.load.frames),
         "the frames that were sent are not those that were stored"
     );
-    Ok(Relayed {
-        ends: meet(from, to, forwarder, device.rx, device.tx),
-        spent,
-    })
+    Ok(spent)
+}
+
+/// Lets the ends meet.
+fn finish(run: Run<'_>, sides: Sides, spent: Duration) -> Relayed
+    requires stores { StoredOnly run.from.now run.frame.now sides.device.rx }
+    requires sends { CanFetch run.to.now sides.device.tx }
+    requires forwards { CanForward run.from.now run.to.now sides.forwarder }
+    requires count { SentAtLeast run.plan.load.frames sides.forwarder }
+    ensures { HasRelayed run.entry.plan.load.frames run.entry.frame.now result.ends }
+{
+    let Sides { device, forwarder } = sides;
+    let ends = meet(run.from, run.to, forwarder, device.rx, device.tx);
+    Relayed { ends, spent }
 }
 
 /// Stores, forwards and sends in turn, until so many frames as planned are sent.
-fn relay_all<R: Wait>(
-    rt: &R,
-    from: &RxRing,
-    to: &TxRing,
-    mut device: Device,
-    mut forwarder: Forwarder,
-    frame: &[u8],
-    plan: BatchPlan,
-) -> Result<(Device, Forwarder)>
-    requires size { IsRingLength from.now.slots }
-    requires stores { CanStore from.now frame.now device.rx }
-    requires sends { CanFetch to.now device.tx }
-    requires forwards { CanForward from.now to.now forwarder }
-    requires frame { IsFrameLength (length frame.now) }
-    ensures stores { IfOk result (λ r. StoredOnly from.now frame.now r.0.rx) }
-    ensures sends { IfOk result (λ r. CanFetch to.now r.0.tx) }
-    ensures forwards { IfOk result (λ r. CanForward from.now to.now r.1) }
-    ensures count { IfOk result (λ r. SentAtLeast plan.load.frames r.1) }
+fn relay_all<R: Wait>(rt: &R, run: Run<'_>, sides: &mut Sides) -> Result<()>
+    requires size { IsRingLength run.from.now.slots }
+    requires stores { CanStore run.from.now run.frame.now sides.old.device.rx }
+    requires sends { CanFetch run.to.now sides.old.device.tx }
+    requires forwards { CanForward run.from.now run.to.now sides.old.forwarder }
+    requires frame { IsFrameLength (length run.frame.now) }
+    ensures stores { OnOk result (StoredOnly run.entry.from.now run.entry.frame.now sides.new.device.rx) }
+    ensures sends { OnOk result (CanFetch run.entry.to.now sides.new.device.tx) }
+    ensures forwards { OnOk result (CanForward run.entry.from.now run.entry.to.now sides.new.forwarder) }
+    ensures count { OnOk result (SentAtLeast run.entry.plan.load.frames sides.new.forwarder) }
 {
+    let Run {
+        from,
+        to,
+        frame,
+        plan,
+    } = run;
     let mut to_store = plan.load.frames;
     let mut to_send = plan.load.frames as usize;
     for _ in rt.forever() {
         if to_send == 0 {
-            return Ok((device, forwarder));
+            return Ok(());
         }
-        to_store -= store_more(from, &mut device.rx, frame, plan.batch.min(to_store));
-        let moved = forwarder.forward(from, to)?;
-        send_ready(to, &mut device.tx, &mut device.tally);
+        to_store -= store_more(from, &mut sides.device.rx, frame, plan.batch.min(to_store));
+        let moved = sides.forwarder.forward(from, to)?;
+        send_ready(to, &mut sides.device.tx, &mut sides.device.tally);
         to_send = to_send.saturating_sub(moved.sent);
     }
     unreachable!()

@@ -7,11 +7,14 @@ ghost use Rattle.tx_ring.specs.Calls as transmit;
 ghost use Rattle.tx_ring.specs.Ends.{posted};
 ghost use Rattle.bench.specs.Forwarding.{CanForward};
 
+use crate::supply::spare_for;
+use anyhow::{Result, ensure};
 use arrayvec::ArrayVec;
 use buffer_pool::{Packet, STASH_BUFFERS, Stash, Stock};
 use driver::{DriverError, MOST_BATCH, RxDriver, TxDriver};
 use limits::MOST_RING;
 use rx_ring::{RxDriverEnd, RxRing};
+use std::alloc::Global;
 use tx_ring::{TxDriverEnd, TxRing};
 
 /// Of how many frames one asks for a report, beside the last of each batch.
@@ -60,8 +63,26 @@ impl Forwarder {
         Ok(receives && sends)
     }
 
+    /// Sees that both queues are enabled, after that was asked for and answered.
+    pub fn see_enabled(&mut self, from: &RxRing, to: &TxRing) -> Result<()>
+        requires can { CanForward from.now to.now self.old }
+        ensures can { OnOk result (CanForward from.now to.now self.new) }
+    {
+        ensure!(self.enable(from, to)?, "the queues are not enabled");
+        Ok(())
+    }
+
+    /// Fills the receive ring of so many descriptors, and the stash, with buffers of a new stock.
+    pub fn supply(&mut self, alloc: Global, from: &RxRing, to: &TxRing, ring: u32) -> Result<()>
+        requires can { CanForward from.now to.now self.old }
+        ensures can { OnOk result (CanForward from.now to.now self.new) }
+    {
+        let mut stock = spare_for(alloc, ring)?;
+        Ok(self.fill(from, to, &mut stock)?)
+    }
+
     /// Posts buffers of the stock at each place of the receive ring, and fills the stash, as far as the stock reaches.
-    pub fn fill(&mut self, from: &RxRing, to: &TxRing, stock: &mut Stock) -> Result<(), DriverError>
+    fn fill(&mut self, from: &RxRing, to: &TxRing, stock: &mut Stock) -> Result<(), DriverError>
         requires can { CanForward from.now to.now self.old }
         ensures can { OnOk result (CanForward from.now to.now self.new) }
     {

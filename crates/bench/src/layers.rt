@@ -1,20 +1,22 @@
 //! Frames through both layers: offered to a controller, received and sent on by the drivers, and put onto a wire.
-ghost use Rattle.std.specs.Prelude.{◌≡◌, replicate, IfOk};
+ghost use Rattle.std.specs.Prelude.{◌≡◌, true, length, replicate, IfOk, OnOk};
+ghost use Rattle.ring_model.specs.shared.Handshakes.{is_serving};
+ghost use Rattle.tx_ring.specs.Ends.{controller_state};
 ghost use Rattle.bench.specs.Forwarding.{CanForward};
 ghost use Rattle.bench.specs.Serving.{AreAtWork, HasGone, HasNothing, Serves};
 ghost use Rattle.bench.specs.declared.supply.TheConstants.{BYTE};
 
 use crate::forwarding::Forwarder;
 use crate::meeting::{Ends, meet};
+use crate::outcome::both;
 use crate::patience::Patience;
 use crate::serving::Device;
-use crate::supply::{frame_of, spare_for};
+use crate::supply::frame_of;
+use crate::track::Track;
 use crate::words::PassPlan;
-use anyhow::{Result, bail, ensure};
-use buffer_pool::Stock;
+use anyhow::{Result, bail};
 use controller::Wire;
-use driver::MOST_BATCH;
-use rx_ring::{ControllerEnd, RxRing};
+use rx_ring::RxRing;
 use std::alloc::Global;
 use std::rt::Clock;
 use std::sync::Wait;
@@ -32,12 +34,28 @@ pub struct Gone {
     pub spent: Duration,
 }
 
+/// What a run passes: from which ring to which, the frame that is offered, and how many of it.
+#[derive(Clone, Copy)]
+struct Run<'a> {
+    from: &'a RxRing,
+    to: &'a TxRing,
+    frame: &'a [u8],
+    plan: PassPlan,
+}
+
 /// The controllers serve these rings, and stored nothing but this frame.
 #[derive(Clone, Copy)]
 struct ServesOn<'a>(&'a RxRing, &'a TxRing, &'a [u8]);
 
 impl<'a> Promise<Result<Device>> for ServesOn<'a> {
     ghost kept_by = { λ p done. IfOk done (λ d. Serves p.0.now p.1.now p.2.now d) };
+}
+
+/// Controllers and drivers.
+#[derive(Drop)]
+struct Sides {
+    device: Device,
+    forwarder: Forwarder,
 }
 
 /// Passes the plan's frames through both layers, and answers how long that took.
@@ -48,144 +66,203 @@ pub fn pass_layers<R: Threads + Wait + Clock + Sync>(
 ) -> Result<Gone>
     ensures { IfOk result (λ p. HasGone plan.load.frames (replicate plan.load.size BYTE) p.ends p.wire) }
 {
-    let batch = plan.batch as usize;
-    ensure!(1 <= batch && batch <= MOST_BATCH, "batch");
     let frame = frame_of(alloc, plan.load.size)?;
-    let stock = spare_for(alloc, plan.load.ring)?;
-    let (from, rx, rx_end) = RxRing::new(alloc, plan.load.ring)?;
-    let (to, tx, tx_end) = TxRing::new(alloc, plan.load.ring)?;
-    let forwarder = Forwarder::new(rx, tx, batch);
-    let device = Device::new(alloc, rx_end, tx_end);
-    let (device, forwarder) = begin(&from, &to, device, forwarder, stock)?;
-    timed(rt, &from, &to, device, forwarder, frame.as_slice(), plan)
+    let track = Track::new(alloc, plan.load.ring, plan.batch)?;
+    let sides = Sides {
+        device: Device::new(alloc, track.rx, track.tx),
+        forwarder: track.forwarder,
+    };
+    let run = Run {
+        from: &track.from,
+        to: &track.to,
+        frame: frame.as_slice(),
+        plan,
+    };
+    pass_run(rt, alloc, run, sides)
 }
 
-/// Has both queues enabled, and the receive ring filled.
-fn begin(
-    from: &RxRing,
-    to: &TxRing,
-    mut device: Device,
-    mut forwarder: Forwarder,
-    mut stock: Stock,
-) -> Result<(Device, Forwarder)>
-    requires begun { HasNothing from.now to.now device }
-    requires forwards { CanForward from.now to.now forwarder }
-    ensures begun { IfOk result (λ ends. HasNothing from.now to.now ends.0) }
-    ensures forwards { IfOk result (λ ends. CanForward from.now to.now ends.1) }
-{
-    forwarder.enable(from, to)?;
-    device.answer(from, to);
-    ensure!(forwarder.enable(from, to)?, "the queues are not enabled");
-    forwarder.fill(from, to, &mut stock)?;
-    Ok((device, forwarder))
-}
-
-/// Passes all frames, takes the time, and lets the ends meet.
-fn timed<R: Threads + Wait + Clock + Sync>(
+/// Passes the run's frames, and answers how long that took once the queues were enabled and the receive ring full.
+fn pass_run<R: Threads + Wait + Clock + Sync>(
     rt: &R,
-    from: &RxRing,
-    to: &TxRing,
-    device: Device,
-    forwarder: Forwarder,
-    frame: &[u8],
-    plan: PassPlan,
+    alloc: Global,
+    run: Run<'_>,
+    mut sides: Sides,
 ) -> Result<Gone>
-    requires { AreAtWork from.now to.now frame.now device forwarder }
-    ensures { IfOk result (λ p. HasGone plan.load.frames frame.now p.ends p.wire) }
+    requires begun { HasNothing run.from.now run.to.now sides.device }
+    requires forwards { CanForward run.from.now run.to.now sides.forwarder }
+    ensures { IfOk result (λ p. HasGone run.entry.plan.load.frames run.entry.frame.now p.ends p.wire) }
 {
-    let start = Instant::now(rt)?;
-    let (device, forwarder) = pass_all(rt, from, to, device, forwarder, frame, plan)?;
-    let spent = start.elapsed(rt)?;
-    let Device { rx, tx, wire } = device;
-    if wire.len() != plan.load.frames as usize {
+    let start = begin(rt, alloc, run, &mut sides);
+    let (start, sides) = both(start, Ok(sides))?;
+    let passed = pass_all(rt, run, sides);
+    let (sides, spent) = both(passed, since(rt, start))?;
+    finish(run, sides, spent)
+}
+
+/// Has both queues enabled and the receive ring filled, and answers when that was.
+fn begin<R: Clock>(rt: &R, alloc: Global, run: Run<'_>, sides: &mut Sides) -> Result<Instant>
+    requires begun { HasNothing run.from.now run.to.now sides.old.device }
+    requires forwards { CanForward run.from.now run.to.now sides.old.forwarder }
+    ensures begun { OnOk result (HasNothing run.entry.from.now run.entry.to.now sides.new.device) }
+    ensures forwards { OnOk result (CanForward run.entry.from.now run.entry.to.now sides.new.forwarder) }
+{
+    let Run { from, to, plan, .. } = run;
+    sides.forwarder.enable(from, to)?;
+    sides.device.answer(from, to);
+    sides.forwarder.see_enabled(from, to)?;
+    sides.forwarder.supply(alloc, from, to, plan.load.ring)?;
+    Ok(Instant::now(rt)?)
+}
+
+/// How long it took from then on.
+fn since<R: Clock>(rt: &R, start: Instant) -> Result<Duration> {
+    Ok(start.elapsed(rt)?)
+}
+
+/// Sees that all frames are on the wire, and lets the ends meet.
+fn finish(run: Run<'_>, sides: Sides, spent: Duration) -> Result<Gone>
+    requires { AreAtWork run.from.now run.to.now run.frame.now sides.device sides.forwarder }
+    ensures { IfOk result (λ p. HasGone run.entry.plan.load.frames run.entry.frame.now p.ends p.wire) }
+{
+    let sent = see_all_sent(run.plan.load.frames, &sides.device);
+    let (_, sides) = both(sent, Ok(sides))?;
+    Ok(close(run, sides, spent))
+}
+
+/// Sees that so many frames are on the wire, and that the queue is enabled.
+fn see_all_sent(frames: u32, device: &Device) -> Result<()>
+    ensures sent { OnOk result (length device.now.wire ≡ frames) }
+    ensures serving { OnOk result (is_serving (controller_state device.now.tx) ≡ true) }
+{
+    if device.wire.len() != frames as usize {
         bail!("not all frames are on the wire");
     }
-    let tx_controller = tx.into_end();
-    if !tx_controller.is_serving() {
+    if !device.tx.is_serving() {
         bail!("the queue is not enabled");
     }
-    let ends = meet(from, to, forwarder, rx.into_end(), tx_controller);
-    Ok(Gone { ends, wire, spent })
+    Ok(())
+}
+
+/// Lets the ends meet.
+fn close(run: Run<'_>, sides: Sides, spent: Duration) -> Gone
+    requires work { AreAtWork run.from.now run.to.now run.frame.now sides.device sides.forwarder }
+    requires sent { length sides.device.wire ≡ run.plan.load.frames }
+    requires serving { is_serving (controller_state sides.device.tx) ≡ true }
+    ensures { HasGone run.entry.plan.load.frames run.entry.frame.now result.ends result.wire }
+{
+    let Sides { device, forwarder } = sides;
+    let Device { rx, tx, wire } = device;
+    let ends = meet(run.from, run.to, forwarder, rx.into_end(), tx.into_end());
+    Gone { ends, wire, spent }
 }
 
 /// Has both sides work until all frames are on the wire.
-fn pass_all<R: Threads + Wait + Sync>(
-    rt: &R,
-    from: &RxRing,
-    to: &TxRing,
-    device: Device,
-    forwarder: Forwarder,
-    frame: &[u8],
-    plan: PassPlan,
-) -> Result<(Device, Forwarder)>
-    requires { AreAtWork from.now to.now frame.now device forwarder }
-    ensures { IfOk result (λ ends. AreAtWork from.now to.now frame.now ends.0 ends.1) }
+fn pass_all<R: Threads + Wait + Sync>(rt: &R, run: Run<'_>, mut sides: Sides) -> Result<Sides>
+    requires { AreAtWork run.from.now run.to.now run.frame.now sides.device sides.forwarder }
+    ensures { IfOk result (λ s. AreAtWork run.entry.from.now run.entry.to.now run.entry.frame.now s.device s.forwarder) }
 {
-    if plan.in_threads {
-        in_threads(rt, from, to, device, forwarder, frame, plan)
-    } else {
-        alone(rt, from, to, device, forwarder, frame, plan)
+    if run.plan.in_threads {
+        return in_threads(rt, run, sides);
     }
+    let passed = alone(rt, run, &mut sides);
+    let (_, sides) = both(passed, Ok(sides))?;
+    Ok(sides)
 }
 
 /// Has both sides work in turn, until all frames are on the wire.
-fn alone<R: Wait>(
-    rt: &R,
-    from: &RxRing,
-    to: &TxRing,
-    mut device: Device,
-    mut forwarder: Forwarder,
-    frame: &[u8],
-    plan: PassPlan,
-) -> Result<(Device, Forwarder)>
-    requires { AreAtWork from.now to.now frame.now device forwarder }
-    ensures { IfOk result (λ ends. AreAtWork from.now to.now frame.now ends.0 ends.1) }
+fn alone<R: Wait>(rt: &R, run: Run<'_>, sides: &mut Sides) -> Result<()>
+    requires { AreAtWork run.from.now run.to.now run.frame.now sides.old.device sides.old.forwarder }
+    ensures { OnOk result (AreAtWork run.entry.from.now run.entry.to.now run.entry.frame.now sides.new.device sides.new.forwarder) }
 {
+    let Run {
+        from,
+        to,
+        frame,
+        plan,
+    } = run;
     let mut left = plan.load.frames;
     for _ in rt.forever() {
-        if device.wire.len() == plan.load.frames as usize {
-            return Ok((device, forwarder));
+        if sides.device.wire.len() == plan.load.frames as usize {
+            return Ok(());
         }
-        let served = device.serve(from, to, frame, plan.batch.min(left), plan.batch)?;
+        let served = sides
+            .device
+            .serve(from, to, frame, plan.batch.min(left), plan.batch)?;
         left -= served.stored;
-        forwarder.forward(from, to)?;
+        sides.forwarder.forward(from, to)?;
     }
     unreachable!()
 }
 
 /// Runs both sides, the controllers in a thread of their own, and joins it.
-fn in_threads<R: Threads + Wait + Sync>(
-    rt: &R,
-    from: &RxRing,
-    to: &TxRing,
-    device: Device,
-    forwarder: Forwarder,
-    frame: &[u8],
-    plan: PassPlan,
-) -> Result<(Device, Forwarder)>
-    requires { AreAtWork from.now to.now frame.now device forwarder }
-    ensures { IfOk result (λ ends. AreAtWork from.now to.now frame.now ends.0 ends.1) }
+fn in_threads<R: Threads + Wait + Sync>(rt: &R, run: Run<'_>, sides: Sides) -> Result<Sides>
+    requires { AreAtWork run.from.now run.to.now run.frame.now sides.device sides.forwarder }
+    ensures { IfOk result (λ s. AreAtWork run.entry.from.now run.entry.to.now run.entry.frame.now s.device s.forwarder) }
 {
+    let Run {
+        from,
+        to,
+        frame,
+        plan,
+    } = run;
     let stop = AtomicBool::new(false);
     let stop = &stop;
     thread::scope(
         thread::scope_env(),
         rt,
-        move |scope| -> Result<(Device, Forwarder)>
-            requires { AreAtWork from.now to.now frame.now device forwarder }
-            ensures { IfOk result (λ ends. AreAtWork from.entry.now to.entry.now frame.entry.now ends.0 ends.1) }
+        move |scope| -> Result<Sides>
+            requires { AreAtWork from.now to.now frame.now sides.device sides.forwarder }
+            ensures { IfOk result (λ s. AreAtWork from.entry.now to.entry.now frame.entry.now s.device s.forwarder) }
         {
+            let Sides { device, forwarder } = sides;
             let serving = scope.spawn_with(ServesOn(from, to, frame), move || {
-                failing(stop, serve_all(rt, from, to, device, frame, plan, stop))
+                let run = Run {
+                    from,
+                    to,
+                    frame,
+                    plan,
+                };
+                serve_all(rt, run, device, stop)
             });
             let Ok(serving) = serving else {
                 bail!("no thread could be made");
             };
-            let forwarded = failing(stop, forward_all(rt, from, to, forwarder, plan, stop));
-            let device = serving.join(rt)?;
-            Ok((device, forwarded?))
+            let run = Run {
+                from,
+                to,
+                frame,
+                plan,
+            };
+            let forwarded = forward_all(rt, run, forwarder, stop);
+            let (device, forwarder) = both(serving.join(rt), forwarded)?;
+            Ok(Sides { device, forwarder })
         },
     )
+}
+
+/// The controllers' side: serves, and tells the other side to stop where that fails.
+fn serve_all<R: Wait>(rt: &R, run: Run<'_>, mut device: Device, stop: &AtomicBool) -> Result<Device>
+    requires { Serves run.from.now run.to.now run.frame.now device }
+    ensures { IfOk result (λ d. Serves run.entry.from.now run.entry.to.now run.entry.frame.now d) }
+{
+    let served = failing(stop, serve_until(rt, run, &mut device, stop));
+    let (_, device) = both(served, Ok(device))?;
+    Ok(device)
+}
+
+/// The drivers' side: forwards, and tells the other side to stop where that fails.
+fn forward_all<R: Wait>(
+    rt: &R,
+    run: Run<'_>,
+    mut forwarder: Forwarder,
+    stop: &AtomicBool,
+) -> Result<Forwarder>
+    requires { CanForward run.from.now run.to.now forwarder }
+    ensures { IfOk result (λ f. CanForward run.entry.from.now run.entry.to.now f) }
+{
+    let forwarded = failing(stop, forward_until(rt, run, &mut forwarder, stop));
+    let (_, forwarder) = both(forwarded, Ok(forwarder))?;
+    Ok(forwarder)
 }
 
 /// Tells the other side to stop, where this one has failed.
@@ -198,20 +275,18 @@ fn failing<T>(stop: &AtomicBool, done: Result<T>) -> Result<T>
     done
 }
 
-/// The controllers' side: offers the frames and serves the wire, until all frames are on it. Where there was
-/// nothing to do for long it looks whether the other side has failed.
-fn serve_all<R: Wait>(
-    rt: &R,
-    from: &RxRing,
-    to: &TxRing,
-    mut device: Device,
-    frame: &[u8],
-    plan: PassPlan,
-    stop: &AtomicBool,
-) -> Result<Device>
-    requires serves { Serves from.now to.now frame.now device }
-    ensures serves { IfOk result (λ d. Serves from.now to.now frame.now d) }
+/// Offers the frames and serves the wire, until all frames are on it. Where there was nothing to do for long it looks
+/// whether the other side has failed.
+fn serve_until<R: Wait>(rt: &R, run: Run<'_>, device: &mut Device, stop: &AtomicBool) -> Result<()>
+    requires serves { Serves run.from.now run.to.now run.frame.now device.old }
+    ensures serves { OnOk result (Serves run.entry.from.now run.entry.to.now run.entry.frame.now device.new) }
 {
+    let Run {
+        from,
+        to,
+        frame,
+        plan,
+    } = run;
     let mut patience = Patience::new();
     let mut left = plan.load.frames;
     for _ in rt.forever() {
@@ -222,42 +297,41 @@ fn serve_all<R: Wait>(
             continue;
         }
         if device.wire.len() == plan.load.frames as usize {
-            return Ok(device);
+            return Ok(());
         }
         if patience.wait() && stop.load(Ordering::SeqCst) {
-            return Ok(device);
+            return Ok(());
         }
     }
     unreachable!()
 }
 
-/// The drivers' side: forwards until all frames are sent on. Where there was nothing to do for long it looks whether the
-/// other side has failed.
-fn forward_all<R: Wait>(
+/// Forwards until all frames are sent on. Where there was nothing to do for long it looks whether the other side has
+/// failed.
+fn forward_until<R: Wait>(
     rt: &R,
-    from: &RxRing,
-    to: &TxRing,
-    mut forwarder: Forwarder,
-    plan: PassPlan,
+    run: Run<'_>,
+    forwarder: &mut Forwarder,
     stop: &AtomicBool,
-) -> Result<Forwarder>
-    requires forwards { CanForward from.now to.now forwarder }
-    ensures forwards { IfOk result (λ f. CanForward from.now to.now f) }
+) -> Result<()>
+    requires forwards { CanForward run.from.now run.to.now forwarder.old }
+    ensures forwards { OnOk result (CanForward run.entry.from.now run.entry.to.now forwarder.new) }
 {
+    let Run { from, to, plan, .. } = run;
     let mut patience = Patience::new();
     let mut left = plan.load.frames as usize;
     for _ in rt.forever() {
         let moved = forwarder.forward(from, to)?;
         left = left.saturating_sub(moved.sent);
         if left == 0 {
-            return Ok(forwarder);
+            return Ok(());
         }
         if moved.received != 0 || moved.sent != 0 {
             patience.reset();
             continue;
         }
         if patience.wait() && stop.load(Ordering::SeqCst) {
-            return Ok(forwarder);
+            return Ok(());
         }
     }
     unreachable!()

@@ -15,6 +15,7 @@ mod fetching;
 mod forwarding;
 mod layers;
 mod meeting;
+mod outcome;
 mod passing;
 mod patience;
 mod posting;
@@ -24,6 +25,7 @@ mod storing;
 mod supply;
 mod taking;
 mod tally;
+mod track;
 mod words;
 
 use anyhow::Result;

@@ -9,8 +9,8 @@ use Rattle.bench.proofs.batching.relay_all.Given as goal
 
 abbrev pub invariant-loop : goal.invariant-loop
 invariant-loop g l = record {
-  stores : CanStore l.from l.frame l.device.rx;
-  sends : CanFetch l.to l.device.tx;
-  forwards : CanForward l.from l.to l.forwarder;
-  count : l.plan.load.frames ≤ l.to_send + length (frames carried (posted l.forwarder.tx.end));
+  stores : CanStore l.from l.frame l.sides.device.rx;
+  sends : CanFetch l.to l.sides.device.tx;
+  forwards : CanForward l.from l.to l.sides.forwarder;
+  count : l.plan.load.frames ≤ l.to_send + length (frames carried (posted l.sides.forwarder.tx.end));
 }
