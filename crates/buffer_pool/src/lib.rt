@@ -17,12 +17,8 @@ mod buf;
 mod chain;
 mod error;
 mod packet;
-#[cfg(test)]
-mod packet_tests;
 mod stash;
 mod stock;
-#[cfg(test)]
-mod tests;
 
 pub use buf::Buf;
 pub use chain::Segments;

@@ -17,8 +17,6 @@ mod error;
 mod form;
 mod rx_back;
 mod rx_read;
-#[cfg(test)]
-mod tests;
 mod tx_back;
 mod tx_read;
 mod words;

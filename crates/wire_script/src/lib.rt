@@ -28,6 +28,3 @@ pub use frame::WireFrame;
 pub use printing::{print, print_line};
 pub use reading::parse;
 pub use script::Script;
-
-#[cfg(test)]
-mod tests;

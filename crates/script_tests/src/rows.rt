@@ -1,6 +1,7 @@
 //! Rows of scripts, and what no clause says: the words of refusals, and that memory suffices.
 
-use super::*;
+use crate::told::{holds, same};
+use wire_script::{Script, ScriptError, WireFrame, parse, print};
 use std::alloc::{AllocError, Global};
 use std::test::Fail;
 
@@ -50,11 +51,7 @@ fn lines_are_refused(rt: HostRuntime) {
         ("\r", 71),
     ];
     for (text, number) in table {
-        assert_eq!(rt;
-            refusal(rt.alloc(), text),
-            Some((number, Some(1))),
-            "at {text:?}"
-        );
+        same(&rt, (text, refusal(rt.alloc(), text)), (text, Some((number, Some(1)))));
     }
 }
 
@@ -69,11 +66,7 @@ fn the_first_faulty_line_is_refused(rt: HostRuntime) {
         ("\r\n", 71, 1),
     ];
     for (text, number, line) in table {
-        assert_eq!(rt;
-            refusal(rt.alloc(), text),
-            Some((number, Some(line))),
-            "at {text:?}"
-        );
+        same(&rt, (text, refusal(rt.alloc(), text)), (text, Some((number, Some(line)))));
     }
 }
 
@@ -102,7 +95,7 @@ fn frames_are_read_and_printed(rt: HostRuntime) -> Result<(), Fail> {
     for (text, printed) in table {
         let script = parse(rt.alloc(), text.as_bytes())?;
         let again = print(rt.alloc(), script.frames())?;
-        assert_eq!(rt; again.as_str(), printed, "at {text:?}");
+        same(&rt, (text, again.as_str()), (text, printed));
     }
     Ok(())
 }
@@ -118,21 +111,21 @@ fn a_frame_has_14_to_15000_bytes(rt: HostRuntime) -> Result<(), Fail> {
     ] {
         let line = hex_line(rt.alloc(), "a5", times)?;
         let found = refusal(rt.alloc(), line.as_str()).map(|x| x.0);
-        assert_eq!(rt; found, number, "at {times} bytes");
+        same(&rt, (times, found), (times, number));
     }
     for times in [15_001, 15_002] {
         let line = hex_line(rt.alloc(), "a5-", times)?;
-        assert_eq!(rt; refusal(rt.alloc(), line.as_str()), Some((74, Some(1))));
+        same(&rt, refusal(rt.alloc(), line.as_str()), Some((74, Some(1))));
     }
     for (text, len) in [
         (b"1 7 fill 14 a5".as_slice(), 14),
         (b"1 7 fill 15000 a5", 15_000),
     ] {
         let script = parse(rt.alloc(), text)?;
-        assert_eq!(rt; script.frames().len(), 1);
+        same(&rt, script.frames().len(), 1);
         for frame in script.frames() {
-            assert_eq!(rt; (frame.port(), frame.queue()), (1, 7));
-            assert_eq!(rt; frame.bytes().len(), len);
+            same(&rt, (frame.port(), frame.queue()), (1, 7));
+            same(&rt, frame.bytes().len(), len);
         }
     }
     Ok(())
@@ -152,9 +145,9 @@ fn a_thousand_frames_are_read_and_printed(rt: HostRuntime) -> Result<(), Fail> {
     let line = "1 7 000102030405060708090a0b0c0d0e\n";
     let text = lines(rt.alloc(), line, 1_000)?;
     let script = parse(rt.alloc(), text.as_bytes())?;
-    assert_eq!(rt; script.frames().len(), 1_000);
+    same(&rt, script.frames().len(), 1_000);
     let printed = print(rt.alloc(), script.frames())?;
-    assert!(rt; printed.as_str() == text.as_str());
+    holds(&rt, printed.as_str() == text.as_str());
     Ok(())
 }
 
@@ -162,10 +155,10 @@ fn a_thousand_frames_are_read_and_printed(rt: HostRuntime) -> Result<(), Fail> {
 fn a_script_has_at_most_a_million_frames(rt: HostRuntime) -> Result<(), Fail> {
     let mut text = lines(rt.alloc(), "0 0 fill 14 00\n", 1_000_000)?;
     let script = parse(rt.alloc(), text.as_bytes())?;
-    assert_eq!(rt; script.frames().len(), 1_000_000);
+    same(&rt, script.frames().len(), 1_000_000);
     text.push_str("#\n0 0 fill 14 00\n")?;
     let refused = Some((76, Some(1_000_002)));
-    assert_eq!(rt; refusal(rt.alloc(), text.as_str()), refused);
+    same(&rt, refusal(rt.alloc(), text.as_str()), refused);
     Ok(())
 }
 
@@ -178,11 +171,11 @@ fn each_beginning_is_read_or_refused_at_its_last_line(rt: HostRuntime) -> Result
         match parse(rt.alloc(), front) {
             Ok(script) => {
                 let frames = script.frames().len();
-                assert!(rt; frames == whole || frames == whole + 1, "at {length}");
+                same(&rt, (length, frames == whole || frames == whole + 1), (length, true));
             }
             Err(refused) => {
-                assert!(rt; (71..=75).contains(&refused.number()), "at {length}");
-                assert_eq!(rt; refused.line(), Some(whole as u64 + 1), "at {length}");
+                same(&rt, (length, (71..=75).contains(&refused.number())), (length, true));
+                same(&rt, (length, refused.line()), (length, Some(whole as u64 + 1)));
             }
         }
     }
@@ -195,7 +188,7 @@ fn a_script_is_made_of_frames(rt: HostRuntime) -> Result<(), Fail> {
     frames.push(WireFrame::new(1, 6, Vec::from_elem(rt.alloc(), 7u8, 14)?))?;
     let script = Script::new(frames);
     let text = print(rt.alloc(), script.frames())?;
-    assert_eq!(rt; text.as_str(), "1 6 0707070707070707070707070707\n");
+    same(&rt, text.as_str(), "1 6 0707070707070707070707070707\n");
     Ok(())
 }
 
@@ -217,7 +210,7 @@ fn refusals_have_words(rt: HostRuntime) -> Result<(), Fail> {
         let number = refused.number();
         let line = refused.line();
         let text = format!(in rt.alloc(); "{number} {line:?} {refused}")?;
-        assert_eq!(rt; text.as_str(), words);
+        same(&rt, text.as_str(), words);
     }
     Ok(())
 }
@@ -231,14 +224,11 @@ fn want_of_memory_is_77_and_changes_no_answer(rt: HostRuntime) {
     );
     let Ok(script) = read else {
         let refused = read.err().map(|e| (e.number(), e.line()));
-        assert_eq!(rt; refused, Some((77, None)));
+        same(&rt, refused, Some((77, None)));
         return;
     };
     match print(rt.alloc(), script.frames()) {
-        Ok(text) => assert_eq!(rt;
-            text.as_str(),
-            "0 0 0101010101010101010101010101\n1 7 000102030405060708090a0b0c0d\n"
-        ),
-        Err(refused) => assert_eq!(rt; (refused.number(), refused.line()), (77, None)),
+        Ok(text) => same(&rt, text.as_str(), "0 0 0101010101010101010101010101\n1 7 000102030405060708090a0b0c0d\n"),
+        Err(refused) => same(&rt, (refused.number(), refused.line()), (77, None)),
     }
 }

@@ -1,20 +1,21 @@
-use crate::{Buf, PoolError, Stash, Stock};
+use crate::told::{holds, same};
+use buffer_pool::{Buf, PoolError, Stash, Stock};
 use std::test::Fail;
 
 #[test]
 fn a_buffer_has_the_bytes_of_the_last_fill(rt: HostRuntime) -> Result<(), Fail> {
     let mut stock = Stock::new(rt.alloc(), 100, 16)?;
     let mut buf = stock.take().ok_or("no buffer")?;
-    assert_eq!(rt; buf.number(), 100);
-    assert_eq!(rt; buf.capacity(), 2_048);
-    assert!(rt; buf.is_empty());
+    same(&rt, buf.number(), 100);
+    same(&rt, buf.capacity(), 2_048);
+    holds(&rt, buf.is_empty());
     buf.fill(&[0xab; 2_048]);
-    assert_eq!(rt; buf.bytes(), [0xab; 2_048].as_slice());
+    same(&rt, buf.bytes(), [0xab; 2_048].as_slice());
     buf.fill(&[1, 2, 3]);
-    assert_eq!(rt; buf.len(), 3);
-    assert_eq!(rt; buf.bytes(), [1, 2, 3].as_slice());
+    same(&rt, buf.len(), 3);
+    same(&rt, buf.bytes(), [1, 2, 3].as_slice());
     buf.clear();
-    assert_eq!(rt; buf.bytes(), [].as_slice());
+    same(&rt, buf.bytes(), [].as_slice());
     Ok(())
 }
 
@@ -22,11 +23,11 @@ fn a_buffer_has_the_bytes_of_the_last_fill(rt: HostRuntime) -> Result<(), Fail> 
 fn the_default_buffer_is_a_blank(rt: HostRuntime) -> Result<(), Fail> {
     let mut blanks = Buf::blanks(rt.alloc(), 4_095)?;
     blanks.push(Buf::default())?;
-    assert_eq!(rt; blanks.len(), 4_096);
+    same(&rt, blanks.len(), 4_096);
     for blank in &blanks {
-        assert_eq!(rt; blank.number(), 0);
-        assert_eq!(rt; blank.capacity(), 0);
-        assert_eq!(rt; blank.bytes(), [].as_slice());
+        same(&rt, blank.number(), 0);
+        same(&rt, blank.capacity(), 0);
+        same(&rt, blank.bytes(), [].as_slice());
     }
     Ok(())
 }
@@ -35,10 +36,10 @@ fn the_default_buffer_is_a_blank(rt: HostRuntime) -> Result<(), Fail> {
 fn a_stock_hands_out_each_number_once(rt: HostRuntime) -> Result<(), Fail> {
     let mut stock = Stock::new(rt.alloc(), 7, 16)?;
     for number in 7..23 {
-        assert_eq!(rt; stock.take().map(|buf| buf.number()), Some(number));
+        same(&rt, stock.take().map(|buf| buf.number()), Some(number));
     }
-    assert_eq!(rt; stock.len(), 0);
-    assert!(rt; stock.take().is_none());
+    same(&rt, stock.len(), 0);
+    holds(&rt, stock.take().is_none());
     Ok(())
 }
 
@@ -48,11 +49,11 @@ fn a_given_buffer_comes_out_first_and_empty(rt: HostRuntime) -> Result<(), Fail>
     let mut buf = stock.take().ok_or("no buffer")?;
     buf.fill(&[5; 60]);
     stock.give(buf);
-    assert_eq!(rt; stock.len(), 16);
+    same(&rt, stock.len(), 16);
     let again = stock.take().ok_or("no buffer")?;
-    assert_eq!(rt; again.number(), 0);
-    assert!(rt; again.is_empty());
-    assert!(rt; !stock.is_empty());
+    same(&rt, again.number(), 0);
+    holds(&rt, again.is_empty());
+    holds(&rt, !stock.is_empty());
     Ok(())
 }
 
@@ -74,7 +75,7 @@ fn only_lawful_counts_are_made(rt: HostRuntime) {
         (0, 65_536, None),
     ] {
         let refusal = Stock::new(rt.alloc(), first, count).err();
-        assert_eq!(rt; refusal.map(|e| e.number()), want, "{count} from {first}");
+        same(&rt, ((count, first), refusal.map(|e| e.number())), ((count, first), want));
     }
 }
 
@@ -82,7 +83,7 @@ fn only_lawful_counts_are_made(rt: HostRuntime) {
 #[test]
 fn without_memory_no_stock_is_made(rt: HostRuntime) {
     let refusal = Stock::new(rt.alloc(), 0, 16).err();
-    assert!(rt; matches!(refusal, None | Some(PoolError::Memory)));
+    holds(&rt, matches!(refusal, None | Some(PoolError::Memory)));
 }
 
 #[test]
@@ -94,7 +95,7 @@ fn refusals_have_a_number_and_a_text(rt: HostRuntime) -> Result<(), Fail> {
         (PoolError::Count, "34 count"),
     ] {
         let text = format!(in rt.alloc(); "{} {refusal}", refusal.number())?;
-        assert_eq!(rt; text.as_str(), want);
+        same(&rt, text.as_str(), want);
     }
     Ok(())
 }
@@ -103,30 +104,30 @@ fn refusals_have_a_number_and_a_text(rt: HostRuntime) -> Result<(), Fail> {
 fn a_stash_takes_256_empty_buffers(rt: HostRuntime) -> Result<(), Fail> {
     let mut stock = Stock::new(rt.alloc(), 0, 257)?;
     let mut stash = Stash::new();
-    assert!(rt; stash.take().is_none());
+    holds(&rt, stash.take().is_none());
     for number in 0..256 {
         let mut buf = stock.take().ok_or("no buffer")?;
         buf.fill(&[7; 60]);
-        assert!(rt; !stash.is_full());
-        assert!(rt; stash.put(buf).is_ok());
-        assert_eq!(rt; stash.len(), number + 1);
+        holds(&rt, !stash.is_full());
+        holds(&rt, stash.put(buf).is_ok());
+        same(&rt, stash.len(), number + 1);
     }
-    assert!(rt; stash.is_full());
+    holds(&rt, stash.is_full());
     let mut last = stock.take().ok_or("no buffer")?;
     last.fill(&[1, 2, 3]);
     match stash.put(last) {
         Ok(()) => return Err("a 257th buffer".into()),
         Err((refusal, back)) => {
-            assert_eq!(rt; refusal, PoolError::StashFull);
-            assert_eq!(rt; back.number(), 256);
-            assert_eq!(rt; back.bytes(), [1, 2, 3].as_slice());
+            same(&rt, refusal, PoolError::StashFull);
+            same(&rt, back.number(), 256);
+            same(&rt, back.bytes(), [1, 2, 3].as_slice());
         }
     }
     for number in (0..256).rev() {
         let buf = stash.take().ok_or("no buffer")?;
-        assert_eq!(rt; buf.number(), number);
-        assert!(rt; buf.is_empty());
+        same(&rt, buf.number(), number);
+        holds(&rt, buf.is_empty());
     }
-    assert!(rt; stash.is_empty());
+    holds(&rt, stash.is_empty());
     Ok(())
 }

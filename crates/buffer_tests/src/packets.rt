@@ -1,4 +1,5 @@
-use crate::{Packet, Stock};
+use crate::told::{holds, same};
+use buffer_pool::{Packet, Stock};
 use std::alloc::Global;
 use std::test::Fail;
 
@@ -72,11 +73,11 @@ fn fault(alloc: Global, lengths: &[usize], len: usize) -> Result<Option<&'static
 
 #[test]
 fn bytes_are_those_of_the_segments_in_order(rt: HostRuntime) -> Result<(), Fail> {
-    assert_eq!(rt; fault(rt.alloc(), &[14], 14)?, None);
-    assert_eq!(rt; fault(rt.alloc(), &[2_048], 2_048)?, None);
-    assert_eq!(rt; fault(rt.alloc(), &[1, 13], 14)?, None);
-    assert_eq!(rt; fault(rt.alloc(), &[1; 14], 14)?, None);
-    assert_eq!(rt; fault(rt.alloc(), &[1_000; 15], 15_000)?, None);
+    same(&rt, fault(rt.alloc(), &[14], 14)?, None);
+    same(&rt, fault(rt.alloc(), &[2_048], 2_048)?, None);
+    same(&rt, fault(rt.alloc(), &[1, 13], 14)?, None);
+    same(&rt, fault(rt.alloc(), &[1; 14], 14)?, None);
+    same(&rt, fault(rt.alloc(), &[1_000; 15], 15_000)?, None);
     Ok(())
 }
 
@@ -85,11 +86,7 @@ fn bytes_are_those_of_the_segments_in_order(rt: HostRuntime) -> Result<(), Fail>
 fn a_byte_at_each_edge_is_read_and_written(rt: HostRuntime) -> Result<(), Fail> {
     let mut packet = packet(rt.alloc(), &[2, 2_048, 1, 1_000])?;
     for i in [0, 1, 2, 2_049, 2_050, 2_051, 3_050] {
-        assert_eq!(rt;
-            overwrite(&mut packet, i),
-            Some((byte_at(i), 255)),
-            "byte {i}"
-        );
+        same(&rt, (i, overwrite(&mut packet, i)), (i, Some((byte_at(i), 255))));
     }
     let wanted = [
         (100, 2, 255, 255),
@@ -99,17 +96,14 @@ fn a_byte_at_each_edge_is_read_and_written(rt: HostRuntime) -> Result<(), Fail> 
     ];
     for (number, len, first, last) in wanted {
         let buf = packet.pop_front().ok_or("no buffer")?;
-        assert_eq!(rt; buf.number(), number);
-        assert_eq!(rt; buf.len(), len);
-        assert_eq!(rt; buf.bytes().first().copied(), Some(first));
-        assert_eq!(rt; buf.bytes().last().copied(), Some(last));
-        assert_eq!(rt;
-            buf.bytes().iter().filter(|b| **b == 255).count(),
-            len.min(2)
-        );
+        same(&rt, buf.number(), number);
+        same(&rt, buf.len(), len);
+        same(&rt, buf.bytes().first().copied(), Some(first));
+        same(&rt, buf.bytes().last().copied(), Some(last));
+        same(&rt, buf.bytes().iter().filter(|b| **b == 255).count(), len.min(2));
     }
-    assert!(rt; packet.pop_front().is_none());
-    assert!(rt; packet.is_empty());
+    holds(&rt, packet.pop_front().is_none());
+    holds(&rt, packet.is_empty());
     Ok(())
 }
 
@@ -120,12 +114,12 @@ fn only_lawful_packets_are_whole(rt: HostRuntime) -> Result<(), Fail> {
         let mut buf = stock.take().ok_or("no buffer")?;
         let bytes = Vec::from_elem(rt.alloc(), 1u8, len)?;
         let mut packet = Packet::default();
-        assert!(rt; !packet.is_whole());
+        holds(&rt, !packet.is_whole());
         if !bytes.is_empty() && bytes.len() <= buf.capacity() {
             buf.fill(&bytes);
             packet.push_back(buf);
         }
-        assert_eq!(rt; packet.is_whole(), want);
+        same(&rt, packet.is_whole(), want);
     }
     Ok(())
 }

@@ -1,6 +1,7 @@
 //! Rows of descriptors in bytes, and what no clause says: the printed text.
 
-use super::*;
+use crate::told::{holds, same};
+use descriptor::{DescError, Descriptor, RxBack, RxRead, TxBack, TxRead};
 use std::test::Fail;
 
 // 60 bytes that end their frame, written back.
@@ -32,24 +33,24 @@ fn flipped(mut bytes: [u8; 16], bit: usize) -> [u8; 16] {
 #[test]
 fn each_form_is_coded_both_ways(rt: HostRuntime) {
     let back = RxBack::new(60, true);
-    assert_eq!(rt; back.to_bytes(), RX_BACK);
-    assert_eq!(rt; RxBack::from_bytes(&RX_BACK), Ok(back));
+    same(&rt, back.to_bytes(), RX_BACK);
+    same(&rt, RxBack::from_bytes(&RX_BACK), Ok(back));
     let full = [0, 0, 0, 0, 0, 0, 0, 0, 1, 0, 0, 0, 0, 8, 0, 0];
-    assert_eq!(rt; RxBack::new(2_048, false).to_bytes(), full);
-    assert_eq!(rt; RxBack::from_bytes(&full), Ok(RxBack::new(2_048, false)));
+    same(&rt, RxBack::new(2_048, false).to_bytes(), full);
+    same(&rt, RxBack::from_bytes(&full), Ok(RxBack::new(2_048, false)));
     let posted = TxRead::new(5, 60, true, true, 60);
-    assert_eq!(rt; posted.to_bytes(), TX_READ);
-    assert_eq!(rt; TxRead::from_bytes(&TX_READ), Ok(posted));
+    same(&rt, posted.to_bytes(), TX_READ);
+    same(&rt, TxRead::from_bytes(&TX_READ), Ok(posted));
     let greatest = [
         0, 0xf8, 0xff, 7, 0, 0, 0, 0, 0, 8, 0x30, 0x2b, 0, 0, 0xa6, 0x0e,
     ];
     let posted = TxRead::new(65_535, 2_048, true, true, 15_000);
-    assert_eq!(rt; posted.to_bytes(), greatest);
-    assert_eq!(rt; TxRead::from_bytes(&greatest), Ok(posted));
-    assert_eq!(rt; RxRead { number: 65_535 }.to_bytes(), RX_READ);
-    assert_eq!(rt; RxRead::from_bytes(&RX_READ), Ok(RxRead { number: 65_535 }));
-    assert_eq!(rt; TxBack.to_bytes(), TX_BACK);
-    assert_eq!(rt; TxBack::from_bytes(&TX_BACK), Ok(TxBack));
+    same(&rt, posted.to_bytes(), greatest);
+    same(&rt, TxRead::from_bytes(&greatest), Ok(posted));
+    same(&rt, RxRead { number: 65_535 }.to_bytes(), RX_READ);
+    same(&rt, RxRead::from_bytes(&RX_READ), Ok(RxRead { number: 65_535 }));
+    same(&rt, TxBack.to_bytes(), TX_BACK);
+    same(&rt, TxBack::from_bytes(&TX_BACK), Ok(TxBack));
 }
 
 // How many of the 128 forms with one bit turned get this refusal, or 0 for none.
@@ -62,36 +63,24 @@ fn refused_alike<D: Descriptor + Drop>(bytes: [u8; 16], wanted: u8) -> usize {
 #[test]
 fn each_flipped_bit_is_judged(rt: HostRuntime) {
     for (wanted, times) in [(0, 12), (1, 0), (2, 111), (3, 0), (4, 5)] {
-        assert_eq!(rt;
-            refused_alike::<RxBack>(RX_BACK, wanted),
-            times,
-            "of {wanted}"
-        );
+        same(&rt, (wanted, refused_alike::<RxBack>(RX_BACK, wanted)), (wanted, times));
     }
     for (wanted, times) in [(0, 42), (1, 0), (2, 72), (3, 5), (4, 9)] {
-        assert_eq!(rt;
-            refused_alike::<TxRead>(TX_READ, wanted),
-            times,
-            "of {wanted}"
-        );
+        same(&rt, (wanted, refused_alike::<TxRead>(TX_READ, wanted)), (wanted, times));
     }
     for (wanted, times) in [(0, 16), (2, 112)] {
-        assert_eq!(rt;
-            refused_alike::<RxRead>(RX_READ, wanted),
-            times,
-            "of {wanted}"
-        );
+        same(&rt, (wanted, refused_alike::<RxRead>(RX_READ, wanted)), (wanted, times));
     }
-    assert_eq!(rt; refused_alike::<TxBack>(TX_BACK, 2), 128);
+    same(&rt, refused_alike::<TxBack>(TX_BACK, 2), 128);
 }
 
 #[test]
 fn other_lengths_are_refused(rt: HostRuntime) {
     for bytes in [[].as_slice(), &RX_BACK[..15], &[0; 17], &[0; 32]] {
-        assert_eq!(rt; refusal(RxRead::from_bytes(bytes)), 1);
-        assert_eq!(rt; refusal(RxBack::from_bytes(bytes)), 1);
-        assert_eq!(rt; refusal(TxRead::from_bytes(bytes)), 1);
-        assert_eq!(rt; refusal(TxBack::from_bytes(bytes)), 1);
+        same(&rt, refusal(RxRead::from_bytes(bytes)), 1);
+        same(&rt, refusal(RxBack::from_bytes(bytes)), 1);
+        same(&rt, refusal(TxRead::from_bytes(bytes)), 1);
+        same(&rt, refusal(TxBack::from_bytes(bytes)), 1);
     }
 }
 
@@ -100,17 +89,17 @@ fn the_lowest_refusal_is_answered(rt: HostRuntime) {
     // DTYP 2, then also a data length of 0, then also bit 26
     let mut bytes = TX_READ;
     bytes[10] = 0x20;
-    assert_eq!(rt; TxRead::from_bytes(&bytes), Err(DescError::Kind));
+    same(&rt, TxRead::from_bytes(&bytes), Err(DescError::Kind));
     bytes[8] = 0;
-    assert_eq!(rt; TxRead::from_bytes(&bytes), Err(DescError::Kind));
+    same(&rt, TxRead::from_bytes(&bytes), Err(DescError::Kind));
     bytes[11] = 0x2f;
-    assert_eq!(rt; TxRead::from_bytes(&bytes), Err(DescError::Reserved));
+    same(&rt, TxRead::from_bytes(&bytes), Err(DescError::Reserved));
     // no data, then also a VLAN tag
     let mut bytes = RX_BACK;
     bytes[12] = 0;
-    assert_eq!(rt; RxBack::from_bytes(&bytes), Err(DescError::Size));
+    same(&rt, RxBack::from_bytes(&bytes), Err(DescError::Size));
     bytes[14] = 1;
-    assert_eq!(rt; RxBack::from_bytes(&bytes), Err(DescError::Reserved));
+    same(&rt, RxBack::from_bytes(&bytes), Err(DescError::Reserved));
 }
 
 #[test]
@@ -128,51 +117,39 @@ fn lengths_are_judged_at_their_limits(rt: HostRuntime) {
     ] {
         let posted = 0x2b30_0000 + u64::from(len) + u64::from(paylen) * (1 << 46);
         let answer = TxRead::from_words(buffer, posted);
-        assert_eq!(rt; refusal(answer), wanted, "{len} of {paylen}");
+        same(&rt, ((len, paylen), refusal(answer)), ((len, paylen), wanted));
     }
     for (len, wanted) in [(0u16, 4), (1, 0), (2_048, 0), (2_049, 4)] {
         let back = 3 + u64::from(len) * (1 << 32);
         let answer = RxBack::from_second_word(back);
-        assert_eq!(rt; refusal(answer), wanted, "{len}");
+        same(&rt, (len, refusal(answer)), (len, wanted));
     }
 }
 
 #[test]
 fn status_words_are_read(rt: HostRuntime) {
     let word = RxBack::new(2_048, true).second_word();
-    assert_eq!(rt; word, 0x800_0000_0003);
-    assert!(rt; RxBack::is_done(word) && RxBack::ends_frame(word));
-    assert_eq!(rt; RxBack::data_len(word), 2_048);
-    assert_eq!(rt;
-        RxBack::from_second_word(word),
-        Ok(RxBack::new(2_048, true))
-    );
-    assert!(rt; !RxBack::ends_frame(RxBack::new(1, false).second_word()));
+    same(&rt, word, 0x800_0000_0003);
+    holds(&rt, RxBack::is_done(word) && RxBack::ends_frame(word));
+    same(&rt, RxBack::data_len(word), 2_048);
+    same(&rt, RxBack::from_second_word(word), Ok(RxBack::new(2_048, true)));
+    holds(&rt, !RxBack::ends_frame(RxBack::new(1, false).second_word()));
     let posted = RxRead { number: 9 };
-    assert!(rt; !RxBack::is_done(posted.second_word()));
-    assert_eq!(rt;
-        RxBack::from_second_word(posted.second_word()),
-        Err(DescError::Reserved)
-    );
-    assert!(rt; TxBack::is_done(TxBack.second_word()));
-    assert!(rt; !TxBack::is_done(TxRead::new(9, 2_048, true, true, 15_000).second_word()));
+    holds(&rt, !RxBack::is_done(posted.second_word()));
+    same(&rt, RxBack::from_second_word(posted.second_word()), Err(DescError::Reserved));
+    holds(&rt, TxBack::is_done(TxBack.second_word()));
+    holds(&rt, !TxBack::is_done(TxRead::new(9, 2_048, true, true, 15_000).second_word()));
 }
 
 #[test]
 fn descriptors_and_refusals_are_printed(rt: HostRuntime) -> Result<(), Fail> {
     let alloc = rt.alloc();
-    assert_eq!(rt;
-        format!(in alloc; "{}", RxRead { number: 65_535 })?.as_str(),
-        "buffer 65535"
-    );
-    assert_eq!(rt;
-        format!(in alloc; "{}", RxBack::new(60, true))?.as_str(),
-        "dd 1 eop 1 length 60"
-    );
+    same(&rt, format!(in alloc; "{}", RxRead { number: 65_535 })?.as_str(), "buffer 65535");
+    same(&rt, format!(in alloc; "{}", RxBack::new(60, true))?.as_str(), "dd 1 eop 1 length 60");
     let posted = TxRead::new(5, 60, true, false, 1_500);
     let line = "buffer 5 length 60 eop 1 rs 0 paylen 1500";
-    assert_eq!(rt; format!(in alloc; "{posted}")?.as_str(), line);
-    assert_eq!(rt; format!(in alloc; "{TxBack}")?.as_str(), "dd 1");
+    same(&rt, format!(in alloc; "{posted}")?.as_str(), line);
+    same(&rt, format!(in alloc; "{TxBack}")?.as_str(), "dd 1");
     let refusals = [
         (DescError::Length, "1 length"),
         (DescError::Reserved, "2 reserved"),
@@ -181,7 +158,7 @@ fn descriptors_and_refusals_are_printed(rt: HostRuntime) -> Result<(), Fail> {
     ];
     for (refusal, words) in refusals {
         let text = format!(in alloc; "{} {refusal}", refusal.number())?;
-        assert_eq!(rt; text.as_str(), words);
+        same(&rt, text.as_str(), words);
     }
     Ok(())
 }
