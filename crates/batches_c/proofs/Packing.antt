@@ -1,14 +1,10 @@
--- A packet as it is made of a frame's bytes, and a stash that gets one's buffers.
+-- A packet as it is made of a frame's bytes.
 use Rattle.std.proofs.Common.{◌≡◌, ◌∙◌, ℕ, ◌+◌, ◌*◌, ◌<◌, ◌≤◌, List, [], ◌∷◌, ◌++◌, length, take, drop, ap, sym, refl, subst, arith, append_assoc, append-nil, length-append}
 use Rattle.std.specs.Prelude.{All}
 use Rattle.std.proofs.lemmas.List.{map-append, length-map, take-append-drop}
 use Rattle.std.proofs.lemmas.List.Elements.{All-append, All-cons, All-nil}
 use Rattle.buffer_pool.specs.Buffer.{Buffer, buffer}
-use Rattle.std.specs.List.{range_with_len}
-use Rattle.std.proofs.lemmas.List.FromFn.{length-range_with_len}
-use Rattle.std.proofs.lemmas.List.Sorted.{length_permutation}
 use Rattle.buffer_pool.specs.Packed.{bytes_of}
-use Rattle.buffer_pool.specs.Stocked.{Shares, Stocked, with_number}
 use Rattle.limits.specs.declared.profile.TheConstants.{BUFFER_BYTES, MOST_SEGMENTS}
 use Rattle.ring_model.specs.shared.Frames.{HasFrameLength}
 use Rattle.batches_c.specs.Packets.{Packed, Pushed, numbers_of}
@@ -83,9 +79,3 @@ module _ (frame had : List ℕ) (lawful : HasFrameLength frame) where
 
 pub split_is : (n : ℕ) (rest front back : List ℕ) → front ≡ take n rest → back ≡ drop n rest → rest ≡ front ++ back
 split_is n rest front back f b = sym (take-append-drop n rest) ∙ (ap (λ l. l ++ drop n rest) (sym f) ∙ ap (λ l. front ++ l) (sym b))
-
--- while the stock has a buffer, the stash has not all of them
-pub room_left : (s left : Stocked) (number : ℕ) (stash : List ℕ) → s ≡ with_number left number → Shares s stash → s.count ≤ 256 → length stash < 256
-room_left s left number stash e shared few =
-    let whole = length_permutation (range_with_len s.first s.count) (s.numbers ++ stash) shared ∙ length-range_with_len s.first s.count in
-    let parts = length-append s.numbers stash in let one = ap (λ x. length x.numbers) e in omega (arith, whole, parts, one, few)

@@ -7,16 +7,13 @@ use Rattle.buffer_pool.specs.declared.stash.TheConstants.{STASH_BUFFERS}
 use Rattle.driver.specs.declared.rx_driver.TheConstants.{MOST_BATCH}
 use Rattle.limits.specs.declared.profile.TheConstants.{BUFFER_BYTES}
 use Rattle.ring_model.specs.shared.Frames.{Bytes}
+use Rattle.makings.specs.Stashes.{AreBuffers}
 use Rattle.batches_c.specs.Held.{Of, There}
 
 -- A worker's empty buffers, by their numbers, the next one to be taken first; and the packets that it has, the oldest first
 pub record Worked : Type 0 where
   pub stash : List ℕ
   pub packets : List (List Buffer)
-
--- a stash of the buffers 0 to count - 1, each once
-abbrev pub AreBuffers : ℕ → List ℕ → Type 0
-AreBuffers count stash = IsPermutation (range_with_len 0 count) stash
 
 -- so many buffers, and no packet
 pub record IsFresh (count : ℕ) (w : Worked) : Type 0 where

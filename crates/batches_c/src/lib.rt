@@ -10,7 +10,6 @@ mod call;
 mod end;
 mod found;
 mod handle;
-mod making;
 mod packets;
 mod rx;
 mod rx_device;

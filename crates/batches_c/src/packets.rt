@@ -8,11 +8,11 @@ ghost use Rattle.batches_c.specs.Packets.{CopiedOut, HasNoByte, HasNoPlace, IsAb
 
 use crate::end::End;
 use crate::found::Found;
-use crate::making::{Unmade, boxed, stash_of};
 use arrayvec::ArrayVec;
 use buffer_pool::{Packet, STASH_BUFFERS, Stash};
 use driver::MOST_BATCH;
 use limits::{BUFFER_BYTES, LEAST_FRAME, MOST_FRAME};
+use makings::{Unmade, boxed, stash_of};
 use std::alloc::Global;
 use std::marker::Model;
 

@@ -11,11 +11,11 @@ ghost use Rattle.batches_c.specs.Receiving.{AreMade};
 ghost use Rattle.batches_c.specs.Handles.{as_rx_device, as_rx_queue};
 
 use crate::end::End;
-use crate::making::{Unmade, boxed, shared};
 use crate::rx_device::RxDevice;
 use crate::rx_queue::RxQueue;
 use controller::{RxController, is_fill_size};
 use driver::{MOST_BATCH, RxDriver};
+use makings::{Unmade, boxed, shared};
 use rx_ring::{RingError, RxRing, close, meet_rx};
 use std::alloc::Global;
 use std::sync::Arc;

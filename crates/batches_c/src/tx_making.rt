@@ -9,11 +9,11 @@ ghost use Rattle.batches_c.specs.Transmitting.{AreMade};
 ghost use Rattle.batches_c.specs.Handles.{as_tx_device, as_tx_queue};
 
 use crate::end::End;
-use crate::making::{Unmade, boxed, shared};
 use crate::tx_device::TxDevice;
 use crate::tx_queue::TxQueue;
 use controller::TxController;
 use driver::{MOST_RS_EVERY, TxDriver};
+use makings::{Unmade, boxed, shared};
 use std::alloc::Global;
 use std::sync::Arc;
 use tx_ring::{Completion, RingError, TxRing, close, meet_tx};

@@ -1,8 +1,10 @@
 //! Captures that are refused, and which refusal comes first.
 
 use crate::told::told;
+use crate::wanted::same;
 use capture::{CaptureError, CaptureRecord, read, write};
 use std::alloc::{AllocError, Global};
+use std::process::Abort;
 use std::test::Fail;
 
 /// Headers of version 2.4 and Ethernet: of microseconds in each order, and of nanoseconds.
@@ -25,12 +27,10 @@ const CHECKED: &[u8] = b"\xd4\xc3\xb2\xa1\x02\x00\x04\x00\0\0\0\0\0\0\0\0\xff\xf
 
 const OLD_RAW: &[u8] = b"\xd4\xc3\xb2\xa1\x02\x00\x03\x00\0\0\0\0\0\0\0\0\xff\xff\0\0\x65\0\0\0";
 
-/// A frame of 14 bytes, one of 13, and nothing.
+/// A frame of 14 bytes, and one of 13.
 const FRAME: &[u8] = b"abcdefghijklmn";
 
 const FRAME_13: &[u8] = b"abcdefghijklm";
-
-const NONE: &[u8] = b"";
 
 /// Headers of records of 1 second and 2 parts of one: 14 bytes of 14, in each order.
 const WHOLE: &[u8] = b"\x01\0\0\0\x02\0\0\0\x0e\0\0\0\x0e\0\0\0";
@@ -68,83 +68,83 @@ const SECOND_LENGTH: &str = "record 2: refused 95 frame length\n";
 
 /// Parts of a file, and what is told of it.
 struct Row {
-    parts: [&'static [u8]; 5],
+    parts: &'static [&'static [u8]],
     wanted: &'static str,
 }
 
 /// Of a header's faults the lower number comes first, and so in a record; an earlier record comes before a later one.
 /// In another order of bytes lengths are too great.
-const ROWS: [Row; 18] = [
+const ROWS: &[Row] = &[
     Row {
-        parts: [NONE, NONE, NONE, NONE, NONE],
+        parts: &[],
         wanted: NOT_CAPTURE,
     },
     Row {
-        parts: [LITTLE, NONE, NONE, NONE, NONE],
+        parts: &[LITTLE],
         wanted: "",
     },
     Row {
-        parts: [BIG, NONE, NONE, NONE, NONE],
+        parts: &[BIG],
         wanted: "",
     },
     Row {
-        parts: [LITTLE, WHOLE, FRAME, NONE, NONE],
+        parts: &[LITTLE, WHOLE, FRAME],
         wanted: LINE,
     },
     Row {
-        parts: [BIG, WHOLE_BIG, FRAME, NONE, NONE],
+        parts: &[BIG, WHOLE_BIG, FRAME],
         wanted: LINE,
     },
     Row {
-        parts: [BIG_NANOS, WHOLE_BIG, FRAME, NONE, NONE],
+        parts: &[BIG_NANOS, WHOLE_BIG, FRAME],
         wanted: NANO_LINE,
     },
     Row {
-        parts: [NEXT, WHOLE, FRAME, NONE, NONE],
+        parts: &[NEXT, WHOLE, FRAME],
         wanted: NOT_CAPTURE,
     },
     Row {
-        parts: [OLD, NONE, NONE, NONE, NONE],
+        parts: &[OLD],
         wanted: NOT_CAPTURE,
     },
     Row {
-        parts: [RAW, NONE, NONE, NONE, NONE],
+        parts: &[RAW],
         wanted: LINK_TYPE,
     },
     Row {
-        parts: [CHECKED, NONE, NONE, NONE, NONE],
+        parts: &[CHECKED],
         wanted: LINK_TYPE,
     },
     Row {
-        parts: [OLD_RAW, NONE, NONE, NONE, NONE],
+        parts: &[OLD_RAW],
         wanted: NOT_CAPTURE,
     },
     Row {
-        parts: [BIG, WHOLE, FRAME, NONE, NONE],
+        parts: &[BIG, WHOLE, FRAME],
         wanted: CUT_SHORT,
     },
     Row {
-        parts: [LITTLE, SHORT, FRAME, NONE, NONE],
+        parts: &[LITTLE, SHORT, FRAME],
         wanted: CAPTURED_SHORT,
     },
     Row {
-        parts: [LITTLE, LESS_ON_WIRE, FRAME, NONE, NONE],
+        parts: &[LITTLE, LESS_ON_WIRE, FRAME],
         wanted: LESS_LINE,
     },
     Row {
-        parts: [LITTLE, WHOLE, FRAME, THIRTEEN, FRAME_13],
+        parts: &[LITTLE, WHOLE, FRAME, THIRTEEN, FRAME_13],
         wanted: SECOND_LENGTH,
     },
     Row {
-        parts: [LITTLE, THIRTEEN_SHORT, FRAME_13, NONE, NONE],
+        parts: &[LITTLE, THIRTEEN_SHORT, FRAME_13],
         wanted: CAPTURED_SHORT,
     },
     Row {
-        parts: [LITTLE, FIFTEEN_SHORT, FRAME, NONE, NONE],
+        parts: &[LITTLE, FIFTEEN_SHORT, FRAME],
         wanted: CUT_SHORT,
     },
     Row {
-        parts: [LITTLE, WHOLE, FRAME, SHORT, FRAME],
+        parts: &[LITTLE, WHOLE, FRAME, SHORT, FRAME],
         wanted: SECOND_SHORT,
     },
 ];
@@ -157,17 +157,23 @@ fn joined(alloc: Global, parts: &[&[u8]]) -> Result<Vec<u8>, AllocError> {
     Ok(bytes)
 }
 
+/// The file of a row is told so.
+fn is_told<R: Abort>(rt: &R, alloc: Global, row: &Row) -> Result<(), Fail> {
+    let bytes = joined(alloc, row.parts)?;
+    let text = told(alloc, bytes.as_slice())?;
+    same(rt, text.as_str(), row.wanted);
+    Ok(())
+}
+
 #[test]
 fn the_first_fault_is_named(rt: HostRuntime) -> Result<(), Fail> {
-    for row in &ROWS {
-        let bytes = joined(rt.alloc(), &row.parts)?;
-        let text = told(rt.alloc(), bytes.as_slice())?;
-        assert_eq!(rt; text.as_str(), row.wanted);
+    for row in ROWS {
+        is_told(&rt, rt.alloc(), row)?;
     }
     Ok(())
 }
 
-// A capture of three frames of 14, 60 and 15,000 bytes, and where each of its records ends.
+// A capture of three frames of 14, 60 and 15,000 bytes.
 fn three(alloc: Global) -> Result<Vec<u8>, CaptureError> {
     let Ok(bytes) = Vec::from_elem(alloc, 0xa5u8, 15_000) else {
         return Err(CaptureError::Memory);
@@ -183,50 +189,83 @@ fn three(alloc: Global) -> Result<Vec<u8>, CaptureError> {
     write(alloc, &records)
 }
 
-const ENDS: [usize; 4] = [24, 54, 130, 15_146];
+/// A refusal's number and that of its record, or 0 and how many records were read.
+type Answer = (u8, u64);
 
-#[test]
-fn each_beginning_is_read_or_named(rt: HostRuntime) -> Result<(), Fail> {
-    let bytes = three(rt.alloc())?;
-    assert_eq!(rt; bytes.len(), 15_146);
-    for length in 0..=bytes.len() {
-        let whole = ENDS.iter().filter(|end| **end <= length).count();
-        let told = match read(rt.alloc(), &bytes[..length]) {
-            Ok(capture) => (0, capture.records().len() as u64),
-            Err(refused) => (refused.number(), refused.record().unwrap_or(0)),
-        };
-        let wanted = if length < 24 {
-            (91, 0)
-        } else if ENDS.contains(&length) {
-            (0, whole.saturating_sub(1) as u64)
-        } else {
-            (93, whole as u64)
-        };
-        assert_eq!(rt; told, wanted, "at {length}");
+fn answer(alloc: Global, bytes: &[u8]) -> Answer {
+    match read(alloc, bytes) {
+        Ok(capture) => (0, capture.records().len() as u64),
+        Err(refused) => (refused.number(), refused.record().unwrap_or(0)),
+    }
+}
+
+/// Lengths from one to below another, and what is answered of beginnings so long.
+const BEGINNINGS: [(usize, usize, Answer); 8] = [
+    (0, 24, (91, 0)),
+    (24, 25, (0, 0)),
+    (25, 54, (93, 1)),
+    (54, 55, (0, 1)),
+    (55, 130, (93, 2)),
+    (130, 131, (0, 2)),
+    (131, 15_146, (93, 3)),
+    (15_146, 15_147, (0, 3)),
+];
+
+/// So is answered of its beginnings from one length to below another.
+fn are_answered<R: Abort>(
+    rt: &R,
+    alloc: Global,
+    bytes: &[u8],
+    (least, beyond, wanted): (usize, usize, Answer),
+) -> Result<(), Fail> {
+    for length in least..beyond {
+        let beginning = bytes.get(..length).ok_or("it is shorter")?;
+        same(rt, (length, answer(alloc, beginning)), (length, wanted));
     }
     Ok(())
 }
 
 #[test]
+fn each_beginning_is_read_or_named(rt: HostRuntime) -> Result<(), Fail> {
+    let bytes = three(rt.alloc())?;
+    same(&rt, bytes.len(), 15_146);
+    for lengths in BEGINNINGS {
+        are_answered(&rt, rt.alloc(), bytes.as_slice(), lengths)?;
+    }
+    Ok(())
+}
+
+/// Bytes of the header from one to below another, and what is answered where a bit of one is flipped.
+const PLACES: [(usize, usize, Answer); 3] = [(0, 8, (91, 0)), (8, 20, (0, 3)), (20, 24, (92, 0))];
+
+fn flip(bytes: &mut [u8], place: usize, bit: u8) {
+    if let Some(byte) = bytes.get_mut(place) {
+        *byte ^= 1 << (bit % 8);
+    }
+}
+
+/// So is answered with each bit of these bytes flipped. They are left as they were.
+fn flipped_are_answered<R: Abort>(
+    rt: &R,
+    alloc: Global,
+    bytes: &mut [u8],
+    (least, beyond, wanted): (usize, usize, Answer),
+) {
+    for place in least..beyond {
+        for bit in 0..8u8 {
+            flip(bytes, place, bit);
+            let told = answer(alloc, bytes);
+            same(rt, (place, bit, told), (place, bit, wanted));
+            flip(bytes, place, bit);
+        }
+    }
+}
+
+#[test]
 fn each_bit_of_the_header_flipped_is_read_or_named(rt: HostRuntime) -> Result<(), Fail> {
     let mut bytes = three(rt.alloc())?;
-    for place in 0..24usize {
-        for bit in 0..8u8 {
-            assert!(rt; place < bytes.len());
-            let kept = bytes[place];
-            bytes[place] = kept ^ (1 << bit);
-            let told = match read(rt.alloc(), bytes.as_slice()) {
-                Ok(capture) => capture.records().len(),
-                Err(refused) => usize::from(refused.number()),
-            };
-            let wanted = match place {
-                0..8 => 91,
-                8..20 => 3,
-                _ => 92,
-            };
-            assert_eq!(rt; told, wanted, "byte {place} bit {bit}");
-            bytes[place] = kept;
-        }
+    for places in PLACES {
+        flipped_are_answered(&rt, rt.alloc(), bytes.as_mut_slice(), places);
     }
     Ok(())
 }

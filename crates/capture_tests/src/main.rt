@@ -10,11 +10,14 @@
 mod faults;
 mod told;
 #[cfg(test)]
+mod wanted;
+#[cfg(test)]
 mod writing;
 
 use anyhow::{Result, bail};
-use capture::{CaptureRecord, TimeUnit, read, write};
+use capture::{CaptureError, CaptureRecord, TimeUnit, read, write};
 use std::alloc::{AllocError, Global};
+use std::env::Args;
 use std::rt::{Env, Files};
 use std::{env, fs};
 use told::told;
@@ -40,32 +43,55 @@ fn in_micros<'a>(
     Ok(made)
 }
 
+// What these bytes say as a capture, as a capture of microseconds.
+fn rewritten(alloc: Global, bytes: &[u8]) -> Result<Vec<u8>, CaptureError> {
+    let capture = read(alloc, bytes)?;
+    match capture.unit() {
+        TimeUnit::Micros => write(alloc, capture.records()),
+        TimeUnit::Nanos => {
+            let Ok(made) = in_micros(alloc, capture.records()) else {
+                return Err(CaptureError::Memory);
+            };
+            write(alloc, made.as_slice())
+        }
+    }
+}
+
 fn copy<R: Files + AllocGlobal>(rt: &R, from: &str, to: &str) -> Result<()> {
     let bytes = fs::read(rt, from)?;
-    let capture = read(rt.alloc(), bytes.as_slice())?;
-    let written = match capture.unit() {
-        TimeUnit::Micros => write(rt.alloc(), capture.records())?,
-        TimeUnit::Nanos => write(rt.alloc(), &in_micros(rt.alloc(), capture.records())?)?,
-    };
+    let written = rewritten(rt.alloc(), bytes.as_slice())?;
     fs::write(rt, to, written.as_slice())?;
     Ok(())
 }
 
-fn run<R: Env + Files + Print + AllocGlobal>(rt: &R) -> Result<()> {
-    let mut words = env::args(rt)?.skip(1);
-    let Some(command) = words.next() else {
-        bail!("usage: capture_tests read FILE.. | write FROM TO");
-    };
-    if command.as_str() == "read" {
-        for name in words {
-            tell(rt, name.as_str())?;
-        }
-        return Ok(());
+fn tell_each<R: Files + Print + AllocGlobal>(rt: &R, names: Args) -> Result<()> {
+    for name in names {
+        tell(rt, name.as_str())?;
     }
-    let (Some(from), Some(to)) = (words.next(), words.next()) else {
+    Ok(())
+}
+
+fn copy_named<R: Files + AllocGlobal>(rt: &R, mut names: Args) -> Result<()> {
+    let (Some(from), Some(to)) = (names.next(), names.next()) else {
         bail!("FROM or TO is missing");
     };
     copy(rt, from.as_str(), to.as_str())
+}
+
+// Whether the command behind the program's name is `read`, if there is one.
+fn asks_to_read(words: &mut Args) -> Option<bool> {
+    let _program = words.next()?;
+    let command = words.next()?;
+    Some(command.as_str() == "read")
+}
+
+fn run<R: Env + Files + Print + AllocGlobal>(rt: &R) -> Result<()> {
+    let mut words = env::args(rt)?;
+    match asks_to_read(&mut words) {
+        None => bail!("usage: capture_tests read FILE.. | write FROM TO"),
+        Some(true) => tell_each(rt, words),
+        Some(false) => copy_named(rt, words),
+    }
 }
 
 fn main(rt: HostRuntime) -> Result<()> {

@@ -1,7 +1,9 @@
 //! Captures that are written.
 
+use crate::wanted::same;
 use capture::{CaptureRecord, TimeUnit, read, write};
 use std::alloc::Global;
+use std::process::Abort;
 use std::test::Fail;
 
 #[test]
@@ -15,8 +17,19 @@ fn a_capture_is_written_as_the_format_says(rt: HostRuntime) -> Result<(), Fail> 
     let wanted = "d4c3b2a102000400000000000000000\
         0ffff0000010000\
         0000f153653f420f000e0000000e000000abababababababababababababab";
-    assert_eq!(rt; digits.as_str(), wanted);
+    same(&rt, digits.as_str(), wanted);
     Ok(())
+}
+
+// A capture that was written is read, or there is no memory.
+fn is_read<R: Abort>(rt: &R, alloc: Global, written: &[u8]) {
+    match read(alloc, written) {
+        Ok(capture) => {
+            same(rt, capture.unit(), TimeUnit::Micros);
+            same(rt, capture.records().len(), 2);
+        }
+        Err(refused) => same(rt, (refused.number(), refused.record()), (97, None)),
+    }
 }
 
 // With any one allocation refused, as `rt try --test --fail-alloc 1..` does, this passes too.
@@ -27,19 +40,11 @@ fn want_of_memory_is_97_and_changes_no_answer(rt: HostRuntime) {
         CaptureRecord::new(1, 2, &frame),
         CaptureRecord::new(3, 4, &frame[..14]),
     ];
-    let written = match write(rt.alloc(), &records) {
-        Ok(written) => written,
-        Err(refused) => {
-            assert_eq!(rt; (refused.number(), refused.record()), (97, None));
-            return;
+    match write(rt.alloc(), &records) {
+        Ok(written) => {
+            same(&rt, written.len(), 24 + 16 + 60 + 16 + 14);
+            is_read(&rt, rt.alloc(), written.as_slice());
         }
-    };
-    assert_eq!(rt; written.len(), 24 + 16 + 60 + 16 + 14);
-    match read(rt.alloc(), written.as_slice()) {
-        Ok(capture) => {
-            assert_eq!(rt; capture.unit(), TimeUnit::Micros);
-            assert_eq!(rt; capture.records().len(), 2);
-        }
-        Err(refused) => assert_eq!(rt; (refused.number(), refused.record()), (97, None)),
+        Err(refused) => same(&rt, (refused.number(), refused.record()), (97, None)),
     }
 }

@@ -11,7 +11,6 @@ mod begun;
 mod call;
 mod end;
 mod handle;
-mod making;
 mod room;
 mod rx;
 mod rx_driving;

@@ -1,5 +1,5 @@
 //! The making of a receive ring with its two objects, and its closing.
-ghost use Rattle.std.specs.Prelude.{◌≡◌, ◌<◌, ◌⊎◌, Some, IfErr, IfOk, length};
+ghost use Rattle.std.specs.Prelude.{◌≡◌, ◌≢◌, ◌<◌, ◌⊎◌, Some, IfErr, IfOk, length};
 ghost use Rattle.limits.specs.RingLength.{IsRingLength};
 ghost use Rattle.poll82599_c.specs.Held.{rx_driver, rx_controller};
 ghost use Rattle.poll82599_c.specs.RxEnds.{AreMade};
@@ -11,9 +11,10 @@ ghost use Rattle.rx_ring.specs.Meeting.{ledger_of, stored_now};
 
 use crate::begun::Begun;
 use crate::end::End;
-use crate::making::{Unmade, crossing, stash_of};
 use crate::rx_driving::RxDriving;
 use crate::rx_serving::RxServing;
+use buffer_pool::Stash;
+use makings::{Unmade, boxed, shared, stash_of};
 use rx_ring::{RingError, RxRing, close, meet_rx};
 use std::alloc::Global;
 use std::sync::Arc;
@@ -25,17 +26,24 @@ pub(crate) fn make(alloc: Global, ring: u32, buffers: u32) -> Result<(Box<End>, 
     ensures buffers { IfErr result (λ e. e ≡ Unmade.Buffers → (buffers < 16) ⊎ (256 < buffers)) }
 {
     let stash = stash_of(alloc, buffers)?;
+    let (driving, serving) = ends_of(alloc, ring, stash)?;
+    let driving = boxed(alloc, End::RxDriver(driving))?;
+    let serving = boxed(alloc, End::RxController(serving))?;
+    Ok((driving, serving))
+}
+
+/// The two objects of a new ring. The driver's has these buffers.
+fn ends_of(alloc: Global, ring: u32, stash: Stash) -> Result<(RxDriving, RxServing), Unmade>
+    ensures made { IfOk result (λ r. AreMade ring (Some r.0) (Some r.1)) }
+    ensures length { IfErr result (λ e. e ≡ Unmade.Length → ¬ IsRingLength ring) }
+    ensures refusals { IfErr result (λ e. e ≢ Unmade.Buffers) }
+{
     let (ring, driver, controller) = match RxRing::new(alloc, ring) {
         Ok(made) => made,
         Err(RingError::RingLength) => return Err(Unmade::Length),
         Err(RingError::Memory) => return Err(Unmade::Memory),
     };
-    let Ok(ring) = Arc::new(alloc, ring) else {
-        return Err(Unmade::Memory);
-    };
-    let Ok(other) = Arc::try_clone(&ring) else {
-        return Err(Unmade::Memory);
-    };
+    let (ring, other) = shared(alloc, ring)?;
     let driving = RxDriving {
         ring,
         end: driver,
@@ -46,12 +54,6 @@ pub(crate) fn make(alloc: Global, ring: u32, buffers: u32) -> Result<(Box<End>, 
         ring: other,
         end: controller,
         begun: Begun::none(),
-    };
-    let Ok(driving) = Box::new(alloc, End::RxDriver(crossing(driving))) else {
-        return Err(Unmade::Memory);
-    };
-    let Ok(serving) = Box::new(alloc, End::RxController(crossing(serving))) else {
-        return Err(Unmade::Memory);
     };
     Ok((driving, serving))
 }

@@ -1,5 +1,5 @@
 //! The making of a transmit ring with its two objects, and its closing.
-ghost use Rattle.std.specs.Prelude.{◌≡◌, ◌<◌, ◌⊎◌, Some, IfErr, IfOk, length};
+ghost use Rattle.std.specs.Prelude.{◌≡◌, ◌≢◌, ◌<◌, ◌⊎◌, Some, IfErr, IfOk, length};
 ghost use Rattle.limits.specs.RingLength.{IsRingLength};
 ghost use Rattle.poll82599_c.specs.Held.{tx_driver, tx_controller};
 ghost use Rattle.poll82599_c.specs.TxEnds.{AreMade};
@@ -10,9 +10,10 @@ ghost use Rattle.tx_ring.specs.Meeting.{IsTold, ledger_of, sent_now, told_left};
 
 use crate::begun::Begun;
 use crate::end::End;
-use crate::making::{Unmade, crossing, stash_of};
 use crate::tx_driving::TxDriving;
 use crate::tx_serving::TxServing;
+use buffer_pool::Stash;
+use makings::{Unmade, boxed, shared, stash_of};
 use std::alloc::Global;
 use std::sync::Arc;
 use tx_ring::{Completion, RingError, TxRing, close, meet_tx};
@@ -29,17 +30,29 @@ pub(crate) fn make(
     ensures buffers { IfErr result (λ e. e ≡ Unmade.Buffers → (buffers < 16) ⊎ (256 < buffers)) }
 {
     let stash = stash_of(alloc, buffers)?;
+    let (driving, serving) = ends_of(alloc, ring, stash, completion)?;
+    let driving = boxed(alloc, End::TxDriver(driving))?;
+    let serving = boxed(alloc, End::TxController(serving))?;
+    Ok((driving, serving))
+}
+
+/// The two objects of a new ring. The driver's has these buffers.
+fn ends_of(
+    alloc: Global,
+    ring: u32,
+    stash: Stash,
+    completion: Completion,
+) -> Result<(TxDriving, TxServing), Unmade>
+    ensures made { IfOk result (λ r. AreMade ring completion (Some r.0) (Some r.1)) }
+    ensures length { IfErr result (λ e. e ≡ Unmade.Length → ¬ IsRingLength ring) }
+    ensures refusals { IfErr result (λ e. e ≢ Unmade.Buffers) }
+{
     let (ring, driver, controller) = match TxRing::new_with(alloc, ring, completion) {
         Ok(made) => made,
         Err(RingError::RingLength) => return Err(Unmade::Length),
         Err(RingError::Memory) => return Err(Unmade::Memory),
     };
-    let Ok(ring) = Arc::new(alloc, ring) else {
-        return Err(Unmade::Memory);
-    };
-    let Ok(other) = Arc::try_clone(&ring) else {
-        return Err(Unmade::Memory);
-    };
+    let (ring, other) = shared(alloc, ring)?;
     let driving = TxDriving {
         ring,
         end: driver,
@@ -50,12 +63,6 @@ pub(crate) fn make(
     let serving = TxServing {
         ring: other,
         end: controller,
-    };
-    let Ok(driving) = Box::new(alloc, End::TxDriver(crossing(driving))) else {
-        return Err(Unmade::Memory);
-    };
-    let Ok(serving) = Box::new(alloc, End::TxController(crossing(serving))) else {
-        return Err(Unmade::Memory);
     };
     Ok((driving, serving))
 }

@@ -8,6 +8,8 @@
 mod sharing;
 #[cfg(test)]
 mod tests;
+#[cfg(test)]
+mod told;
 mod worker;
 
 pub use sharing::{in_two, share_out};

@@ -1,6 +1,6 @@
 use Rattle.std.proofs.Common.{arith}
-use Rattle.batches_c.proofs.Packing.{room_left}
-use Rattle.batches_c.proofs.making.stash_of.Goals as goal
+use Rattle.makings.proofs.Stashes.{room_left}
+use Rattle.makings.proofs.stash.stash_of.Goals as goal
 
 pub push-requires-clause-room : goal.push-requires-clause-room
 push-requires-clause-room c =

@@ -1,6 +1,6 @@
 use Rattle.std.proofs.Common.{reverse}
 use Rattle.pool_uses.proofs.Returned.{behind}
-use Rattle.pool_uses.proofs.tests.a_second_pass_takes_what_the_first_gives.Goals as goal
+use Rattle.pool_uses.proofs.tests.give_one.Goals as goal
 
 pub give-requires-clause-held : goal.give-requires-clause-held
 give-requires-clause-held g c = rw (c.refill-moved.ensures.moved.took.held, c.in_ok-third.ensures.taken.held)

@@ -1,6 +1,6 @@
 use Rattle.std.proofs.Common.{◌≡◌, length}
 use Rattle.buffer_pool.specs.Stocked.{Shares}
-use Rattle.batches_c.proofs.making.stash_of.Given as goal
+use Rattle.makings.proofs.stash.stash_of.Given as goal
 
 abbrev pub invariant-loop-buf : goal.invariant-loop-buf
 invariant-loop-buf l = record {
