@@ -7,6 +7,10 @@ mod calls;
 #[cfg(test)]
 mod machine_tests;
 #[cfg(test)]
+mod steps;
+#[cfg(test)]
 mod text_tests;
 #[cfg(test)]
 mod threads;
+#[cfg(test)]
+mod told;

@@ -1,49 +1,48 @@
 //! Rows of machines and queues: which are made, what each move prints, and who has a place after it.
 
+use crate::told::{holds, same};
 use ring_machine::{
-    Completion, MachineError, Move, Owner, QueueNumber, Queues, RxMachine, RxStep,
-    SegmentDescriptor, SegmentLength, TxMachine, TxStep,
+    Completion, MachineError, Move, Owner, QueueNumber, Queues, RxMachine, RxStep, TxMachine,
 };
 use std::alloc::Global;
 use std::test::Fail;
 
-// Whether a receive machine and a transmit machine of this length are made that begin so.
-fn are_made(alloc: Global, n: usize, enabled: bool) -> bool {
-    RxMachine::new(alloc, n, enabled).is_ok()
-        && TxMachine::new(alloc, n, enabled).is_ok()
-        && TxMachine::new_with(alloc, n, enabled, Completion::Status).is_ok()
-        && TxMachine::new_with(alloc, n, enabled, Completion::Head).is_ok()
+// How it is refused, if it is.
+fn refusal<T: Drop>(made: Result<T, MachineError>) -> Option<MachineError> {
+    made.err()
+}
+
+// How a receive machine and a transmit machine of this length that begin so are refused.
+fn refusals(alloc: Global, n: usize, enabled: bool) -> [Option<MachineError>; 4] {
+    [
+        refusal(RxMachine::new(alloc, n, enabled)),
+        refusal(TxMachine::new(alloc, n, enabled)),
+        refusal(TxMachine::new_with(alloc, n, enabled, Completion::Status)),
+        refusal(TxMachine::new_with(alloc, n, enabled, Completion::Head)),
+    ]
 }
 
 #[test]
 fn each_lawful_length_is_made(rt: HostRuntime) {
-    let alloc = rt.alloc();
     for n in [8, 16, 32, 64, 128, 256, 512, 1_024, 2_048, 4_096] {
-        assert!(rt;
-            are_made(alloc, n, true) && are_made(alloc, n, false),
-            "{n}"
-        );
+        same(&rt, (n, refusals(rt.alloc(), n, true)), (n, [None; 4]));
+        same(&rt, (n, refusals(rt.alloc(), n, false)), (n, [None; 4]));
     }
-}
-
-// Whether either machine of this length is refused for it.
-fn are_refused(alloc: Global, n: usize) -> bool {
-    let refused = Some(MachineError::RingLength);
-    RxMachine::new(alloc, n, true).err() == refused
-        && TxMachine::new(alloc, n, true).err() == refused
 }
 
 #[test]
 fn other_lengths_are_refused(rt: HostRuntime) {
+    let refused = [Some(MachineError::RingLength); 4];
     for n in [0, 1, 4, 7, 9, 12, 4_095, 4_097, 8_192] {
-        assert!(rt; are_refused(rt.alloc(), n), "{n}");
+        same(&rt, (n, refusals(rt.alloc(), n, true)), (n, refused));
     }
 }
 
 #[test]
 fn one_to_eight_pairs_are_made(rt: HostRuntime) {
     for pairs in [1, 2, 3, 4, 5, 6, 7, 8] {
-        assert!(rt; Queues::new(rt.alloc(), pairs, 8, false).is_ok(), "{pairs}");
+        let told = refusal(Queues::new(rt.alloc(), pairs, 8, false));
+        same(&rt, (pairs, told), (pairs, None));
     }
 }
 
@@ -51,8 +50,8 @@ fn one_to_eight_pairs_are_made(rt: HostRuntime) {
 fn other_pairs_are_refused(rt: HostRuntime) {
     let refused = Some(MachineError::RingLength);
     for (pairs, n) in [(0, 8), (9, 8), (1, 12), (8, 12)] {
-        let refusal = Queues::new(rt.alloc(), pairs, n, true).err();
-        assert!(rt; refusal == refused, "{pairs} pairs of {n}");
+        let told = refusal(Queues::new(rt.alloc(), pairs, n, true));
+        same(&rt, (pairs, n, told), (pairs, n, refused));
     }
 }
 
@@ -68,46 +67,65 @@ fn printed(alloc: Global, queues: &mut Queues, line: &str) -> Result<String, Fai
     }
 }
 
-// One pair of queues of 8, enabled, whose transmit queue reports as told: each line prints what stands beside it.
-fn run_rows(alloc: Global, completion: Completion, rows: &[(&str, &str)]) -> Result<(), Fail> {
-    let mut queues = Queues::new_with(alloc, 1, 8, true, completion)?;
-    for (line, wanted) in rows {
-        let text = printed(alloc, &mut queues, line)?;
-        if text.as_str() != *wanted {
-            return Err(Fail::new(format_args!("{text} at {line}")));
+// A line, and what its move prints.
+type Row = (&'static str, &'static str);
+
+// The first of these lines that prints something else than what stands beside it.
+fn first_misprint(
+    alloc: Global,
+    queues: &mut Queues,
+    rows: &[Row],
+) -> Result<Option<&'static str>, Fail> {
+    for k in 0..rows.len() {
+        let (line, wanted) = rows[k];
+        if printed(alloc, queues, line)?.as_str() != wanted {
+            return Ok(Some(line));
         }
     }
-    Ok(())
+    Ok(None)
 }
+
+// The same of one pair of queues of 8, enabled, whose transmit queue reports as told.
+fn misprint(
+    alloc: Global,
+    completion: Completion,
+    rows: &[Row],
+) -> Result<Option<&'static str>, Fail> {
+    let mut queues = Queues::new_with(alloc, 1, 8, true, completion)?;
+    first_misprint(alloc, &mut queues, rows)
+}
+
+const RECEIVED: &[Row] = &[
+    ("r0 A6", "r0 A6 not enabled"),
+    ("r0 A1 5", "r0 A1 place 0"),
+    ("r0 A2", "r0 A2 tail 1"),
+    ("r0 A3", "r0 A3 free 1"),
+    ("r0 A4", "r0 A4 place 0 buffer 5"),
+    ("r0 A6", "r0 A6 none"),
+    ("r0 A5 60 1", "r0 A5 place 0"),
+    ("r0 A6", "r0 A6 buffer 5 length 60 eop 1"),
+    ("r0 A7", "r0 A7 head 1"),
+    ("r1 A2", "r1 A2 not enabled"),
+    ("t1 B2", "t1 B2 not enabled"),
+    ("r0 C8", "r0 C8 quiet 0"),
+    ("r0 C5", "r0 C5 control 3"),
+    ("r0 A1 6", "r0 A1 not enabled"),
+];
 
 #[test]
 fn receive_moves_print_their_notes(rt: HostRuntime) -> Result<(), Fail> {
-    let rows = [
-        ("r0 A6", "r0 A6 not enabled"),
-        ("r0 A1 5", "r0 A1 place 0"),
-        ("r0 A2", "r0 A2 tail 1"),
-        ("r0 A3", "r0 A3 free 1"),
-        ("r0 A4", "r0 A4 place 0 buffer 5"),
-        ("r0 A6", "r0 A6 none"),
-        ("r0 A5 60 1", "r0 A5 place 0"),
-        ("r0 A6", "r0 A6 buffer 5 length 60 eop 1"),
-        ("r0 A7", "r0 A7 head 1"),
-        ("r1 A2", "r1 A2 not enabled"),
-        ("t1 B2", "t1 B2 not enabled"),
-        ("r0 C8", "r0 C8 quiet 0"),
-        ("r0 C5", "r0 C5 control 3"),
-        ("r0 A1 6", "r0 A1 not enabled"),
-    ];
-    run_rows(rt.alloc(), Completion::Status, &rows)
+    same(
+        &rt,
+        misprint(rt.alloc(), Completion::Status, RECEIVED)?,
+        None,
+    );
+    Ok(())
 }
 
-#[test]
-fn transmit_moves_print_their_notes(rt: HostRuntime) -> Result<(), Fail> {
-    for (completion, reported) in [
-        (Completion::Status, "t0 B6 place 1"),
-        (Completion::Head, "t0 B6 head 2"),
-    ] {
-        let rows = [
+// What is transmitted, where a report prints what stands here.
+macro_rules! transmitted {
+    ($reported:expr) => {
+        [
             ("t0 B1 1 60 1 0 60", "t0 B1 place 0"),
             ("t0 B1 2 60 1 1 60", "t0 B1 place 1"),
             ("t0 B2", "t0 B2 tail 2"),
@@ -116,14 +134,27 @@ fn transmit_moves_print_their_notes(rt: HostRuntime) -> Result<(), Fail> {
             ("t0 B5", "t0 B5 head 1"),
             ("t0 B4", "t0 B4 place 1 buffer 2 length 60 eop 1 rs 1"),
             ("t0 B5", "t0 B5 head 2"),
-            ("t0 B6", reported),
+            ("t0 B6", $reported),
             ("t0 B7", "t0 B7 reported 1"),
             ("t0 B8", "t0 B8 buffer 1"),
             ("t0 B8", "t0 B8 buffer 2"),
             ("t0 B8", "t0 B8 not enabled"),
-        ];
-        run_rows(rt.alloc(), completion, &rows)?;
-    }
+        ]
+    };
+}
+
+const BY_STATUS: &[Row] = &transmitted!("t0 B6 place 1");
+
+const BY_HEAD: &[Row] = &transmitted!("t0 B6 head 2");
+
+#[test]
+fn transmit_moves_print_their_notes(rt: HostRuntime) -> Result<(), Fail> {
+    same(
+        &rt,
+        misprint(rt.alloc(), Completion::Status, BY_STATUS)?,
+        None,
+    );
+    same(&rt, misprint(rt.alloc(), Completion::Head, BY_HEAD)?, None);
     Ok(())
 }
 
@@ -138,40 +169,45 @@ fn run_twice(
     Ok((made, queues.run(&[])))
 }
 
-// The moves of one frame each way, with one that can't be made at the end of each way, and one of a queue that is not
-// there.
+// One frame each way, with a move that can't be made at the end of each way, and one of a queue that is not there.
+const ONE_EACH_WAY: [&str; 17] = [
+    "r0 A1 5",
+    "r0 A2",
+    "r0 A3",
+    "r0 A4",
+    "r0 A5 60 1",
+    "r0 A6",
+    "r0 A6",
+    "r1 A2",
+    "t0 B1 7 60 1 1 60",
+    "t0 B2",
+    "t0 B3",
+    "t0 B4",
+    "t0 B5",
+    "t0 B6",
+    "t0 B7",
+    "t0 B8",
+    "t0 B8",
+];
+
+// The moves of these lines, if each has one.
+fn moves_of(lines: &[&str; 17]) -> Option<[Move; 17]> {
+    let none = Move::Receive(QueueNumber::new(0)?, RxStep::Look);
+    let mut moves = [none; 17];
+    for k in 0..17 {
+        match Move::parse(lines[k].as_bytes()) {
+            Ok(action) => moves[k] = action,
+            Err(_) => return None,
+        }
+    }
+    Some(moves)
+}
+
 #[test]
 fn run_answers_how_many_moves_it_made(rt: HostRuntime) -> Result<(), Fail> {
-    let (Some(first), Some(second)) = (QueueNumber::new(0), QueueNumber::new(1)) else {
-        panic!(rt; "a queue's number")
-    };
-    let (Some(len), Some(posted)) = (
-        SegmentLength::new(60),
-        SegmentDescriptor::new(7, 60, true, true, 60),
-    ) else {
-        panic!(rt; "what is posted")
-    };
-    let moves = [
-        Move::Receive(first, RxStep::Post(5)),
-        Move::Receive(first, RxStep::Publish),
-        Move::Receive(first, RxStep::Look),
-        Move::Receive(first, RxStep::Fetch),
-        Move::Receive(first, RxStep::Store(len, true)),
-        Move::Receive(first, RxStep::Take),
-        Move::Receive(first, RxStep::Take),
-        Move::Receive(second, RxStep::Publish),
-        Move::Transmit(first, TxStep::Post(posted)),
-        Move::Transmit(first, TxStep::Publish),
-        Move::Transmit(first, TxStep::Look),
-        Move::Transmit(first, TxStep::Fetch),
-        Move::Transmit(first, TxStep::Send),
-        Move::Transmit(first, TxStep::Report),
-        Move::Transmit(first, TxStep::LoadReport),
-        Move::Transmit(first, TxStep::Clean),
-        Move::Transmit(first, TxStep::Clean),
-    ];
+    let moves = moves_of(&ONE_EACH_WAY).ok_or("no move")?;
     for completion in [Completion::Status, Completion::Head] {
-        assert!(rt; run_twice(rt.alloc(), completion, &moves)? == (14, 0));
+        same(&rt, run_twice(rt.alloc(), completion, &moves), Ok((14, 0)));
     }
     Ok(())
 }
@@ -195,67 +231,75 @@ fn sides(queues: &Queues) -> Option<(Owner, Owner)> {
     Some((receive.owner(0), transmit.owner(0)))
 }
 
+// Whether there is no second pair of queues.
+fn are_one_pair(queues: &Queues) -> bool {
+    match QueueNumber::new(1) {
+        Some(second) => queues.receive(second).is_none() && queues.transmit(second).is_none(),
+        None => false,
+    }
+}
+
+// A line, and who has these places after its move.
+type Given = (&'static str, Owner, Owner);
+
 // The first of these lines that is no move that is made, or after which the places are not with whom stands beside it.
-fn first_other(queues: &mut Queues, rows: &[(&str, Owner, Owner)]) -> Option<usize> {
+fn first_other(queues: &mut Queues, rows: &[Given]) -> Option<&'static str> {
     for k in 0..rows.len() {
         let (line, receive, transmit) = rows[k];
         if !is_made(queues, line) || sides(queues) != Some((receive, transmit)) {
-            return Some(k);
+            return Some(line);
         }
     }
     None
 }
 
-// Whether the places go from their drivers to a ring's two sides.
-fn are_given(queues: &mut Queues) -> bool {
-    let rows = [
-        ("r0 A1 5", Owner::Ring, Owner::Driver),
-        ("r0 A2", Owner::Ring, Owner::Driver),
-        ("r0 A3", Owner::Ring, Owner::Driver),
-        ("r0 A4", Owner::Controller, Owner::Driver),
-        ("t0 B1 7 60 1 1 60", Owner::Controller, Owner::Ring),
-        ("r0 A5 60 1", Owner::Ring, Owner::Ring),
-        ("t0 B2", Owner::Ring, Owner::Ring),
-    ];
-    first_other(queues, &rows).is_none()
-}
-
-// Whether they come back from there.
-fn come_back(queues: &mut Queues) -> bool {
-    let rows = [
-        ("t0 B3", Owner::Ring, Owner::Ring),
-        ("t0 B4", Owner::Ring, Owner::Controller),
-        ("r0 A6", Owner::Driver, Owner::Controller),
-        ("t0 B5", Owner::Driver, Owner::Ring),
-        ("t0 B6", Owner::Driver, Owner::Ring),
-        ("t0 B7", Owner::Driver, Owner::Ring),
-        ("t0 B8", Owner::Driver, Owner::Driver),
-    ];
-    first_other(queues, &rows).is_none()
-}
+// From their drivers to a ring's two sides, and back.
+const GIVEN: &[Given] = &[
+    ("r0 A1 5", Owner::Ring, Owner::Driver),
+    ("r0 A2", Owner::Ring, Owner::Driver),
+    ("r0 A3", Owner::Ring, Owner::Driver),
+    ("r0 A4", Owner::Controller, Owner::Driver),
+    ("t0 B1 7 60 1 1 60", Owner::Controller, Owner::Ring),
+    ("r0 A5 60 1", Owner::Ring, Owner::Ring),
+    ("t0 B2", Owner::Ring, Owner::Ring),
+    ("t0 B3", Owner::Ring, Owner::Ring),
+    ("t0 B4", Owner::Ring, Owner::Controller),
+    ("r0 A6", Owner::Driver, Owner::Controller),
+    ("t0 B5", Owner::Driver, Owner::Ring),
+    ("t0 B6", Owner::Driver, Owner::Ring),
+    ("t0 B7", Owner::Driver, Owner::Ring),
+    ("t0 B8", Owner::Driver, Owner::Driver),
+];
 
 #[test]
 fn a_place_is_with_one_side(rt: HostRuntime) -> Result<(), Fail> {
     let mut queues = Queues::new(rt.alloc(), 1, 8, true)?;
-    assert!(rt; sides(&queues) == Some((Owner::Driver, Owner::Driver)));
-    assert!(rt; are_given(&mut queues) && come_back(&mut queues));
-    if let Some(second) = QueueNumber::new(1) {
-        assert!(rt; queues.receive(second).is_none() && queues.transmit(second).is_none());
-    }
+    holds(&rt, sides(&queues) == Some((Owner::Driver, Owner::Driver)));
+    same(&rt, first_other(&mut queues, GIVEN), None);
+    holds(&rt, are_one_pair(&queues));
     Ok(())
+}
+
+// The first of these lines that is no move that new queues make.
+fn first_unmade(
+    alloc: Global,
+    lines: &[&'static str],
+) -> Result<Option<&'static str>, MachineError> {
+    let mut queues = Queues::new(alloc, 2, 8, true)?;
+    for line in lines {
+        if !is_made(&mut queues, line) {
+            return Ok(Some(line));
+        }
+    }
+    Ok(None)
 }
 
 // With any one allocation refused, as `rt try --test --fail-alloc N` does, this passes too.
 #[test]
 fn want_of_memory_is_13_and_changes_no_answer(rt: HostRuntime) {
-    let mut queues = match Queues::new(rt.alloc(), 2, 8, true) {
-        Ok(queues) => queues,
-        Err(refused) => {
-            assert_eq!(rt; refused, MachineError::Memory);
-            return;
-        }
-    };
-    for line in ["r1 A1 5", "r1 A2", "r1 A3", "r1 A4", "r1 A5 60 1", "r1 A6"] {
-        assert!(rt; is_made(&mut queues, line), "at {line:?}");
+    let lines = ["r1 A1 5", "r1 A2", "r1 A3", "r1 A4", "r1 A5 60 1", "r1 A6"];
+    match first_unmade(rt.alloc(), &lines) {
+        Ok(unmade) => same(&rt, unmade, None),
+        Err(refused) => same(&rt, refused, MachineError::Memory),
     }
 }

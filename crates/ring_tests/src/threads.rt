@@ -4,23 +4,32 @@ ghost use Rattle.rx_ring.specs.Ends.{reclaimed};
 
 mod hands;
 
+use crate::told::{holds, same};
 use buffer_pool::{Buf, Stash};
 use hands::{ask_for, fetch, fill_ring, left, receive, reclaim_all, renew, serve};
 use rx_ring::{Control, RxControllerEnd, RxDriverEnd, RxRing, close, meet_rx};
 use std::alloc::Global;
 use std::sync::Wait;
 use std::test::Fail;
+use std::thread;
 use std::thread::Threads;
-use std::{mem, thread};
 use test_kit::{Closed, full_stash};
 
 /// How many frames go through in one epoch.
 const FRAMES: u32 = 300;
 
+/// What the two threads do.
+#[derive(Clone, Copy)]
+enum Plan {
+    /// So many epochs, the queue renewed after each, and the ends meet before the ring is closed.
+    Epochs(u32),
+    /// The queue is not disabled: so many frames are stored, one buffer more is fetched, and so many frames are taken.
+    On(u32, u32),
+}
+
 /// What a driver's thread has to tell.
-#[derive(Drop)]
+#[derive(Clone, Copy)]
 struct Driven {
-    spare: Stash,
     /// How many frames were as they should be.
     good: u32,
     /// How many segments were left to take in the last epoch.
@@ -32,169 +41,242 @@ struct Driven {
 }
 
 impl Driven {
-    fn new(spare: Stash) -> Driven {
-        Driven {
-            spare,
-            good: 0,
-            left: None,
-            back: 0,
-            epochs: 0,
-        }
-    }
+    const NOTHING: Driven = Driven {
+        good: 0,
+        left: None,
+        back: 0,
+        epochs: 0,
+    };
 }
 
 /// One epoch of a driver: the queue is enabled, used and disabled, and the buffers come back.
-fn epoch<R: Wait>(rt: &R, ring: &RxRing, driver: &mut RxDriverEnd, told: &mut Driven)
+fn epoch<R: Wait>(
+    rt: &R,
+    ring: &RxRing,
+    driver: &mut RxDriverEnd,
+    spare: &mut Stash,
+    told: &mut Driven,
+)
     requires own { driver.old.table ≡ ring.now }
     requires fresh { reclaimed driver.old ≡ 0 }
     ensures { driver.new.table ≡ ring.now }
 {
-    fill_ring(ring, driver, &mut told.spare);
+    fill_ring(ring, driver, spare);
     ask_for(rt, ring, driver, Control::Enabled);
     told.good = told.good.saturating_add(receive(rt, ring, driver, FRAMES));
     ask_for(rt, ring, driver, Control::Disabled);
     told.left = left(ring, driver);
-    told.back = told
-        .back
-        .saturating_add(reclaim_all(ring, driver, &mut told.spare));
+    told.back = told.back.saturating_add(reclaim_all(ring, driver, spare));
 }
 
-/// The driver's side of so many epochs, the queue renewed after each.
-fn drive<R: Wait>(
+/// The driver's side of so many epochs.
+fn drive_epochs<R: Wait>(
     rt: &R,
     ring: &RxRing,
-    mut driver: RxDriverEnd,
-    mut told: Driven,
+    driver: &mut RxDriverEnd,
+    spare: &mut Stash,
     epochs: u32,
-) -> (RxDriverEnd, Driven)
-    requires own { driver.table ≡ ring.now }
-    requires fresh { reclaimed driver ≡ 0 }
-    ensures { result.0.table ≡ ring.now }
+) -> Driven
+    requires own { driver.old.table ≡ ring.now }
+    requires fresh { reclaimed driver.old ≡ 0 }
+    ensures { driver.new.table ≡ ring.now }
 {
+    let mut told = Driven::NOTHING;
     for _ in 0..epochs {
-        epoch(rt, ring, &mut driver, &mut told);
-        if !renew(ring, &mut driver) {
+        epoch(rt, ring, driver, spare, &mut told);
+        if !renew(ring, driver) {
             break;
         }
         told.epochs = told.epochs.saturating_add(1);
     }
-    (driver, told)
-}
-
-/// The controller's side of so many epochs: how many frames it stored in the last.
-fn control<R: Wait>(
-    rt: &R,
-    ring: &RxRing,
-    mut controller: RxControllerEnd,
-    epochs: u32,
-) -> (RxControllerEnd, u32)
-    requires { controller.table ≡ ring.now }
-    ensures { result.0.table ≡ ring.now }
-{
-    let mut stored = 0;
-    for _ in 0..epochs {
-        stored = serve(rt, ring, &mut controller, u32::MAX);
-    }
-    (controller, stored)
+    told
 }
 
 /// The driver's side of a queue that nobody disables: it takes so many frames.
 fn drive_on<R: Wait>(
     rt: &R,
     ring: &RxRing,
-    mut driver: RxDriverEnd,
-    mut spare: Stash,
+    driver: &mut RxDriverEnd,
+    spare: &mut Stash,
     most: u32,
-) -> (RxDriverEnd, Stash, u32)
-    requires { driver.table ≡ ring.now }
-    ensures { result.0.table ≡ ring.now }
+) -> Driven
+    requires { driver.old.table ≡ ring.now }
+    ensures { driver.new.table ≡ ring.now }
 {
-    fill_ring(ring, &mut driver, &mut spare);
-    ask_for(rt, ring, &mut driver, Control::Enabled);
-    let good = receive(rt, ring, &mut driver, most);
-    (driver, spare, good)
+    fill_ring(ring, driver, spare);
+    ask_for(rt, ring, driver, Control::Enabled);
+    let mut told = Driven::NOTHING;
+    told.good = receive(rt, ring, driver, most);
+    told
 }
 
-/// The controller's side of it: it stores so many frames, and fetches one buffer more.
-fn control_on<R: Wait>(
+/// The driver's side of the plan.
+fn drive<R: Wait>(
     rt: &R,
     ring: &RxRing,
-    mut controller: RxControllerEnd,
-    most: u32,
-) -> (RxControllerEnd, Option<Buf>)
-    requires { controller.table ≡ ring.now }
+    mut driver: RxDriverEnd,
+    mut spare: Stash,
+    plan: Plan,
+) -> (RxDriverEnd, Stash, Driven)
+    requires own { driver.table ≡ ring.now }
+    requires fresh { reclaimed driver ≡ 0 }
     ensures { result.0.table ≡ ring.now }
 {
-    serve(rt, ring, &mut controller, most);
+    let told = match plan {
+        Plan::Epochs(epochs) => drive_epochs(rt, ring, &mut driver, &mut spare, epochs),
+        Plan::On(_, takes) => drive_on(rt, ring, &mut driver, &mut spare, takes),
+    };
+    (driver, spare, told)
+}
+
+/// The controller's side of so many epochs: how many frames it stored in the last.
+fn control_epochs<R: Wait>(
+    rt: &R,
+    ring: &RxRing,
+    controller: &mut RxControllerEnd,
+    epochs: u32,
+) -> u32
+    requires { controller.old.table ≡ ring.now }
+    ensures { controller.new.table ≡ ring.now }
+{
+    let mut stored = 0;
+    for _ in 0..epochs {
+        stored = serve(rt, ring, controller, u32::MAX);
+    }
+    stored
+}
+
+/// Fetches a buffer as soon as a descriptor is free.
+fn fetch_when_free<R: Wait>(rt: &R, ring: &RxRing, controller: &mut RxControllerEnd) -> Buf
+    requires { controller.old.table ≡ ring.now }
+    ensures { controller.new.table ≡ ring.now }
+{
     for _ in rt.forever() {
-        let held = fetch(ring, &mut controller);
-        if held.is_some() {
-            return (controller, held);
+        if let Some(held) = fetch(ring, controller) {
+            return held;
         }
         thread::yield_now();
     }
     unreachable!()
 }
 
-/// What so many epochs of both threads came to.
-#[derive(Drop)]
+/// The controller's side of the plan: how many frames it stored, and what it holds.
+fn control<R: Wait>(
+    rt: &R,
+    ring: &RxRing,
+    mut controller: RxControllerEnd,
+    plan: Plan,
+) -> (RxControllerEnd, u32, Option<Buf>)
+    requires { controller.table ≡ ring.now }
+    ensures { result.0.table ≡ ring.now }
+{
+    match plan {
+        Plan::Epochs(epochs) => {
+            let stored = control_epochs(rt, ring, &mut controller, epochs);
+            (controller, stored, None)
+        }
+        Plan::On(stores, _) => {
+            let stored = serve(rt, ring, &mut controller, stores);
+            let held = fetch_when_free(rt, ring, &mut controller);
+            (controller, stored, Some(held))
+        }
+    }
+}
+
+/// What the closed ring gave back.
+#[derive(Clone, Copy)]
+struct Back {
+    /// How many buffers lay in the ring.
+    lying: usize,
+    /// How many were at hand.
+    at_hand: usize,
+    /// Whether the controller held one.
+    held: bool,
+    /// Whether each came back once.
+    is_whole: bool,
+}
+
+impl Back {
+    fn of(closed: Closed) -> Back {
+        Back {
+            lying: closed.lying(),
+            at_hand: closed.spare.len(),
+            held: closed.held.is_some(),
+            is_whole: closed.has_each_once(16),
+        }
+    }
+}
+
+/// What both threads came to.
+#[derive(Clone, Copy)]
 struct Ran {
     told: Driven,
     /// How many frames the controller stored in the last epoch.
     stored: u32,
-    /// How many buffers lay in the ring when it was closed.
-    lying: usize,
-    /// Whether each buffer came back once.
-    is_whole: bool,
+    back: Back,
 }
 
-/// Runs both ends, joins their threads, lets the ends meet, and closes the ring.
-fn run<R: Threads + Wait + Sync>(rt: &R, alloc: Global, epochs: u32) -> Result<Ran, Fail> {
-    let told = Driven::new(full_stash(alloc, 16)?);
-    let (ring, driver, controller) = RxRing::new(alloc, 8)?;
-    let ((mut controller, stored), (mut driver, mut told)) = thread::join(
+/// Runs both ends, joins their threads, and closes the ring.
+fn run_ends<R: Threads + Wait + Sync>(
+    rt: &R,
+    ring: RxRing,
+    ends: (RxDriverEnd, RxControllerEnd),
+    spare: Stash,
+    plan: Plan,
+) -> Ran
+    requires drives { ends.0.table ≡ ring }
+    requires serves { ends.1.table ≡ ring }
+    requires fresh { reclaimed ends.0 ≡ 0 }
+{
+    let (driver, controller) = ends;
+    let ((mut controller, stored, held), (mut driver, spare, told)) = thread::join(
         rt,
-        || control(rt, &ring, controller, epochs),
-        || drive(rt, &ring, driver, told, epochs),
+        || control(rt, &ring, controller, plan),
+        || drive(rt, &ring, driver, spare, plan),
     );
-    meet_rx(&ring, &mut driver, &mut controller);
-    let spare = mem::take(&mut told.spare);
-    let closed = Closed::of(close(ring, driver, controller), spare, None);
-    Ok(Ran {
+    if let Plan::Epochs(_) = plan {
+        meet_rx(&ring, &mut driver, &mut controller);
+    }
+    let closed = Closed::of(close(ring, driver, controller), spare, held);
+    Ran {
         told,
         stored,
-        lying: closed.lying(),
-        is_whole: closed.has_each_once(16),
-    })
+        back: Back::of(closed),
+    }
+}
+
+/// The same of a new ring of 8 and 16 buffers.
+fn run<R: Threads + Wait + Sync>(rt: &R, alloc: Global, plan: Plan) -> Result<Ran, Fail> {
+    let spare = full_stash(alloc, 16)?;
+    let (ring, driver, controller) = RxRing::new(alloc, 8)?;
+    Ok(run_ends(rt, ring, (driver, controller), spare, plan))
 }
 
 #[test]
 fn stop_while_running(rt: HostRuntime) -> Result<(), Fail> {
-    let ran = run(&rt, rt.alloc(), 1)?;
-    assert!(rt; ran.told.good == FRAMES && ran.told.back == 7 && ran.stored >= FRAMES);
-    assert!(rt; ran.told.left == Some(ran.stored - FRAMES));
+    let Ran { told, stored, .. } = run(&rt, rt.alloc(), Plan::Epochs(1))?;
+    same(&rt, (told.good, told.back), (FRAMES, 7));
+    same(&rt, told.left, stored.checked_sub(FRAMES));
+    holds(&rt, told.left.is_some());
     Ok(())
 }
 
 #[test]
 fn three_epochs(rt: HostRuntime) -> Result<(), Fail> {
-    let ran = run(&rt, rt.alloc(), 3)?;
-    assert!(rt; ran.told.good == 3 * FRAMES && ran.told.back == 21);
-    assert!(rt; ran.told.epochs == 3 && ran.lying == 0 && ran.is_whole);
+    let Ran { told, back, .. } = run(&rt, rt.alloc(), Plan::Epochs(3))?;
+    same(
+        &rt,
+        (told.good, told.back, told.epochs),
+        (3 * FRAMES, 21, 3),
+    );
+    same(&rt, (back.lying, back.is_whole), (0, true));
     Ok(())
 }
 
 #[test]
 fn closed(rt: HostRuntime) -> Result<(), Fail> {
-    let spare = full_stash(rt.alloc(), 16)?;
-    let (ring, driver, controller) = RxRing::new(rt.alloc(), 8)?;
-    let ((controller, held), (driver, spare, good)) = thread::join(
-        &rt,
-        || control_on(&rt, &ring, controller, 45),
-        || drive_on(&rt, &ring, driver, spare, 40),
-    );
-    let closed = Closed::of(close(ring, driver, controller), spare, held);
-    assert!(rt; good == 40 && closed.spare.len() == 9 && closed.held.is_some());
-    assert!(rt; closed.lying() == 6 && closed.has_each_once(16));
+    let Ran { told, back, .. } = run(&rt, rt.alloc(), Plan::On(45, 40))?;
+    same(&rt, (told.good, back.at_hand, back.held), (40, 9, true));
+    same(&rt, (back.lying, back.is_whole), (6, true));
     Ok(())
 }

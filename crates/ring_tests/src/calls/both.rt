@@ -8,6 +8,7 @@ ghost use Rattle.ring_model.specs.shared.Frames.{join, unfinished};
 ghost use Rattle.rx_ring.specs.Ends.{controller_size, held as held_by, reclaimed, stored};
 ghost use Rattle.ring_tests.specs.Holding.{held_as};
 
+use crate::steps::{RxNamed, rx_step};
 use buffer_pool::{Buf, Stash};
 use limits::{LEAST_FRAME, MOST_FRAME, MOST_SEGMENTS};
 use ring_machine::{RxMachine, SegmentLength};
@@ -53,11 +54,16 @@ pub(crate) struct Both {
     ghost none_back: { untouched ≡ true → reclaimed driver ≡ 0 },
 }
 
+/// The machine of so many places, and all buffers.
+fn beside(alloc: Global, n: u32) -> Result<(RxMachine, Stash), Fail> {
+    let machine = RxMachine::new(alloc, n as usize, false)?;
+    Ok((machine, full_stash(alloc, BUFFERS)?))
+}
+
 impl Both {
     /// A ring of so many places that is not enabled, and all buffers at hand.
     pub(crate) fn new(alloc: Global, n: u32) -> Result<Both, Fail> {
-        let machine = RxMachine::new(alloc, n as usize, false)?;
-        let spare = full_stash(alloc, BUFFERS)?;
+        let (machine, spare) = beside(alloc, n)?;
         let (ring, driver, controller) = RxRing::new(alloc, n)?;
         Ok(Both {
             ring,
@@ -216,6 +222,13 @@ impl Both {
         is_off
     }
 
+    fn machine_renews(&mut self) -> Option<Note> {
+        let note = self.machine.step(RxStep::ClearHead).ok()?;
+        self.machine.step(RxStep::ClearTail).ok()?;
+        self.machine.step(RxStep::ClearQuiet).ok()?;
+        Some(note)
+    }
+
     fn renew(&mut self) -> Option<Note> {
         renewed!(self);
         self.untouched = true;
@@ -254,16 +267,11 @@ impl Beside for Both {
     }
 
     fn step(&mut self, step: Step) -> Option<Note> {
-        let machine = &mut self.machine;
-        let note = match step {
-            RxStep::Post(_) => machine.step(RxStep::Post(self.posted)).ok()?,
-            _ => machine.step(step).ok()?,
-        };
-        if step == RxStep::ClearHead {
-            machine.step(RxStep::ClearTail).ok()?;
-            machine.step(RxStep::ClearQuiet).ok()?;
+        match step {
+            RxStep::Post(_) => self.machine.step(RxStep::Post(self.posted)).ok(),
+            RxStep::ClearHead => self.machine_renews(),
+            _ => self.machine.step(step).ok(),
         }
-        Some(note)
     }
 
     fn posted(&self, step: Step) -> Option<u16> {
@@ -280,7 +288,11 @@ impl Beside for Both {
     }
 
     fn owner(&self, place: u16) -> Option<Owner> {
-        (place < self.machine.size()).then(|| self.machine.owner(place))
+        if place < self.machine.size() {
+            Some(self.machine.owner(place))
+        } else {
+            None
+        }
     }
 
     fn control(step: ControlStep) -> Step {
@@ -293,19 +305,8 @@ impl Beside for Both {
 
     fn random_step(&self, random: &mut Random) -> Step {
         match random.below(64) {
-            0..=6 => RxStep::Post(0),
-            7..=10 => RxStep::Publish,
-            11..=14 => RxStep::Look,
-            15..=19 => RxStep::Fetch,
             20..=24 => random_store(random),
-            25..=29 => RxStep::Take,
-            30..=34 => RxStep::Head,
-            35 => RxStep::StoreQuiet,
-            36 => RxStep::LoadQuiet,
-            37..=44 => RxStep::Reclaim,
-            45..=48 => RxStep::ClearHead,
-            49 => RxStep::ClearTail,
-            50 => RxStep::ClearQuiet,
+            at @ 0..=50 => step_at(at),
             _ => RxStep::Control(random_control(random)),
         }
     }
@@ -314,6 +315,31 @@ impl Beside for Both {
         let slots = close(self.ring, self.driver, self.controller);
         Closed::of(slots, self.spare, self.held)
     }
+}
+
+/// Of random numbers those below the first, and not below that of the row before, stand for the step.
+const STEPS: &[(u64, RxNamed)] = &[
+    (7, RxStep::Post(0)),
+    (11, RxStep::Publish),
+    (15, RxStep::Look),
+    (20, RxStep::Fetch),
+    (30, RxStep::Take),
+    (35, RxStep::Head),
+    (36, RxStep::StoreQuiet),
+    (37, RxStep::LoadQuiet),
+    (45, RxStep::Reclaim),
+    (49, RxStep::ClearHead),
+    (50, RxStep::ClearTail),
+    (51, RxStep::ClearQuiet),
+];
+
+fn step_at(at: u64) -> Step {
+    for (below, step) in STEPS {
+        if at < *below {
+            return rx_step(*step).unwrap_or(RxStep::Head);
+        }
+    }
+    RxStep::Head
 }
 
 fn random_store(random: &mut Random) -> Step {
@@ -326,5 +352,5 @@ fn random_store(random: &mut Random) -> Step {
         _ => 2_048,
     };
     let eop = random.below(8) != 0;
-    SegmentLength::new(len).map_or(RxStep::Head, |len| RxStep::Store(len, eop))
+    rx_step(RxStep::Store(len, eop)).unwrap_or(RxStep::Head)
 }

@@ -1,271 +1,357 @@
 //! Worked rows of a receive ring, by calls.
 
-use crate::calls::both::{Both, Step};
+use crate::calls::both::Both;
+use crate::steps::{RxNamed, rx_step};
+use crate::told::same;
 use buffer_pool::Buf;
-use ring_machine::SegmentLength;
 use ring_model::{ControlStep, Note, RxStep, TakenSegment};
 use rx_ring::{ControllerEnd, DriverEnd, RingError, RxDriverEnd, RxRing};
 use std::alloc::Global;
 use std::test::Fail;
-use test_kit::{Beside, disable, enable, makes};
+use test_kit::{Beside, Tells, disable, enable, told_so};
 
-/// Stores a frame of 60 bytes in one segment, and the head.
-fn stored_whole() -> [Step; 4] {
-    let len = SegmentLength::new(60);
-    [
-        RxStep::Look,
-        RxStep::Fetch,
-        len.map_or(RxStep::ClearTail, |len| RxStep::Store(len, true)),
-        RxStep::Head,
-    ]
+/// What a row does on a ring, or looks at.
+#[derive(Clone, Copy)]
+pub(crate) enum Act {
+    /// Makes a step.
+    Make(RxNamed),
+    /// Makes a step so many times, as long as it can be made.
+    Times(u32, RxNamed),
+    /// Makes a step of the handshake, after which the driver is in this state.
+    Shake(ControlStep, State),
+    Enable,
+    Disable,
+    /// Stores so many frames of 60 bytes in one segment, each with its head.
+    Stores(u32),
+    /// Stores, takes and posts anew so many frames, one after another.
+    GoRound(u32),
+    /// What is left to take.
+    Left,
+    /// How many segments were stored, and how many were taken.
+    Counts,
+    HasFinished,
+    IsOff,
 }
 
-/// Enables the queue, and posts and publishes 7 buffers: whether all that could be done.
-fn posts_seven(both: &mut Both) -> bool {
-    enable(both) && makes(both, &[RxStep::Post(0); 7]) && makes(both, &[RxStep::Publish])
+/// What it tells.
+#[derive(Clone, Copy, PartialEq)]
+pub(crate) enum Told {
+    Yes,
+    No,
+    Note(Option<Note>),
+    Count(u32),
+    Counts(Option<(u32, u32)>),
 }
 
-/// Stores so many frames of 60 bytes: whether all could be stored.
-fn stores(both: &mut Both, frames: u32) -> bool {
-    for _ in 0..frames {
-        if !makes(both, &stored_whole()) {
+impl Told {
+    fn whether(holds: bool) -> Told {
+        if holds { Told::Yes } else { Told::No }
+    }
+}
+
+/// The state of a driver.
+#[derive(Clone, Copy, PartialEq)]
+pub(crate) enum State {
+    New,
+    /// It asked to be enabled.
+    Asked,
+    On,
+    Stopping,
+    Disabled,
+}
+
+/// Whether the tests beside the conditions say that the driver is in this state.
+fn is_in(driver: &RxDriverEnd, state: State) -> bool {
+    driver.is_new() == (state == State::New)
+        && driver.is_on() == (state == State::On)
+        && driver.is_stopped() == (state == State::Disabled)
+        && driver.is_live() == matches!(state, State::On | State::Stopping)
+        && driver.is_open() == matches!(state, State::New | State::Asked | State::On)
+}
+
+/// What the step tells; nothing where it can't be made.
+fn make(both: &mut Both, named: RxNamed) -> Option<Note> {
+    both.call(rx_step(named)?)
+}
+
+/// How many of so many times the step could be made.
+fn times(both: &mut Both, count: u32, named: RxNamed) -> u32 {
+    for k in 0..count {
+        if make(both, named).is_none() {
+            return k;
+        }
+    }
+    count
+}
+
+/// Whether each of these steps could be made.
+fn makes(both: &mut Both, steps: &[RxNamed]) -> bool {
+    for step in steps {
+        if make(both, *step).is_none() {
             return false;
         }
     }
     true
 }
 
-/// The first of these calls that tells something else than what stands beside it.
-fn first_other(both: &mut Both, rows: &[(Step, Option<Note>)]) -> Option<usize> {
-    for k in 0..rows.len() {
-        let (step, wanted) = rows[k];
-        if both.call(step) != wanted {
-            return Some(k);
-        }
-    }
-    None
-}
+const STORING: &[RxNamed] = &[
+    RxStep::Look,
+    RxStep::Fetch,
+    RxStep::Store(60, true),
+    RxStep::Head,
+];
 
-/// The first buffer that was posted is taken, with a whole frame of 60 bytes.
-fn taken() -> Option<Note> {
-    Some(Note::Taken(Some(TakenSegment {
-        buffer: 31,
-        len: 60,
-        eop: true,
-    })))
-}
+const TAKING: &[RxNamed] = &[RxStep::Take, RxStep::Post(0), RxStep::Publish];
 
-/// A step of the handshake, the word that it tells, and the state that the driver is in then, by its first letter: new,
-/// asked to be enabled, on, stopping or disabled.
-type Shaken = (ControlStep, Option<u8>, char);
-
-/// Whether the tests beside the conditions say that the driver is in this state.
-fn is_in(driver: &RxDriverEnd, state: char) -> bool {
-    driver.is_new() == (state == 'n')
-        && driver.is_on() == (state == 'o')
-        && driver.is_stopped() == (state == 'd')
-        && driver.is_live() == matches!(state, 'o' | 's')
-        && driver.is_open() == matches!(state, 'n' | 'a' | 'o')
-}
-
-/// The first step of the handshake that comes out otherwise than its row says.
-fn first_unshaken(both: &mut Both, rows: &[Shaken]) -> Option<usize> {
-    for k in 0..rows.len() {
-        let (step, control, state) = rows[k];
-        let told = both.call(RxStep::Control(step));
-        if told != control.map(Note::Control) || !is_in(&both.driver, state) {
-            return Some(k);
-        }
-    }
-    None
-}
-
-/// Whether a new queue is enabled as it should be, and nothing else can be done.
-fn is_enabled_by_calls(both: &mut Both) -> bool {
-    let rows = [
-        (ControlStep::LookAnswered, Some(0), 'n'),
-        (ControlStep::AskDisable, None, 'n'),
-        (ControlStep::Answer, None, 'n'),
-        (ControlStep::AskEnable, Some(1), 'a'),
-        (ControlStep::LookAsked, Some(1), 'a'),
-        (ControlStep::Answer, Some(2), 'a'),
-        (ControlStep::Answer, None, 'a'),
-        (ControlStep::LookAnswered, Some(2), 'o'),
-    ];
-    first_unshaken(both, &rows).is_none()
-}
-
-/// The same of an enabled queue's disabling.
-fn is_disabled_by_calls(both: &mut Both) -> bool {
-    let rows = [
-        (ControlStep::AskDisable, Some(3), 's'),
-        (ControlStep::LookAsked, Some(3), 's'),
-        (ControlStep::LookAnswered, Some(3), 's'),
-        (ControlStep::Answer, Some(0), 's'),
-        (ControlStep::LookAnswered, Some(0), 'd'),
-        (ControlStep::AskEnable, None, 'd'),
-    ];
-    first_unshaken(both, &rows).is_none()
-}
-
-/// Stores, takes and posts anew so many frames, one after another: how many went round.
-fn go_round(both: &mut Both, frames: u32) -> u32 {
+/// Stores so many frames of 60 bytes: how many could be stored.
+fn stores(both: &mut Both, frames: u32) -> u32 {
     for k in 0..frames {
-        let goes = stores(both, 1)
-            && makes(both, &[RxStep::Take, RxStep::Post(0), RxStep::Publish]);
-        if !goes {
+        if !makes(both, STORING) {
             return k;
         }
     }
     frames
 }
 
-/// Whether of a closed ring's places this one alone is empty.
-fn is_empty_at(slots: &[Option<Buf>], place: usize) -> bool {
-    for k in 0..slots.len() {
-        if slots[k].is_none() != (k == place) {
-            return false;
+/// Stores, takes and posts anew so many frames, one after another: how many went round.
+fn go_round(both: &mut Both, frames: u32) -> u32 {
+    for k in 0..frames {
+        if !makes(both, STORING) || !makes(both, TAKING) {
+            return k;
         }
     }
-    true
+    frames
 }
 
-/// Stores, takes and posts anew 21 frames, and disables the queue: whether all went round, and none is left.
-fn all_go_round(both: &mut Both) -> bool {
-    posts_seven(both)
-        && go_round(both, 21) == 21
-        && both.stored_count == 21
-        && both.taken_count == 21
-        && disable(both)
-        && both.left() == Some((0, 0))
+impl Tells for Both {
+    type Step = Act;
+
+    type Told = Told;
+
+    fn make(&mut self, act: Act) -> Told {
+        match act {
+            Act::Make(step) => Told::Note(make(self, step)),
+            Act::Times(count, step) => Told::Count(times(self, count, step)),
+            Act::Shake(step, state) => {
+                let note = self.call(RxStep::Control(step));
+                if is_in(&self.driver, state) {
+                    Told::Note(note)
+                } else {
+                    Told::No
+                }
+            }
+            Act::Enable => Told::whether(enable(self)),
+            Act::Disable => Told::whether(disable(self)),
+            Act::Stores(frames) => Told::Count(stores(self, frames)),
+            Act::GoRound(frames) => Told::Count(go_round(self, frames)),
+            Act::Left => Told::Counts(self.left()),
+            Act::Counts => Told::Counts(Some((self.stored_count, self.taken_count))),
+            Act::HasFinished => Told::whether(self.controller.has_finished()),
+            Act::IsOff => Told::whether(self.is_off()),
+        }
+    }
 }
+
+/// What is done on a ring of 8, and what it has to tell.
+type Row = (Act, Told);
+
+/// The place of a closed ring that alone is empty.
+fn empty_place(slots: &[Option<Buf>]) -> Option<usize> {
+    let mut empty = None;
+    for k in 0..slots.len() {
+        if slots[k].is_none() {
+            if empty.is_some() {
+                return None;
+            }
+            empty = Some(k);
+        }
+    }
+    empty
+}
+
+/// How many rows told what they should before the first that didn't, and the place of the ring that alone was empty when
+/// it was closed then. It is generic, since an owner of a queue is dear to prove.
+fn walked<B: Beside + Drop + Tells<Step = Act, Told = Told>>(
+    mut both: B,
+    rows: &[Row],
+) -> (usize, Option<usize>) {
+    let told = told_so(&mut both, rows);
+    (told, empty_place(&both.close().slots))
+}
+
+/// The same of a new ring of 8.
+fn comes_to(alloc: Global, rows: &[Row]) -> Result<(usize, Option<usize>), Fail> {
+    Ok(walked(Both::new(alloc, 8)?, rows))
+}
+
+/// The head is 5 then, as the place to take next.
+const ROUND: &[Row] = &[
+    (Act::Enable, Told::Yes),
+    (Act::Times(7, RxStep::Post(0)), Told::Count(7)),
+    (Act::Make(RxStep::Publish), Told::Note(Some(Note::Tail(0)))),
+    (Act::GoRound(21), Told::Count(21)),
+    (Act::Counts, Told::Counts(Some((21, 21)))),
+    (Act::Disable, Told::Yes),
+    (Act::Left, Told::Counts(Some((0, 0)))),
+];
 
 #[test]
 fn frames_with_heads_go_round(rt: HostRuntime) -> Result<(), Fail> {
-    let mut both = Both::new(rt.alloc(), 8)?;
-    assert!(rt; all_go_round(&mut both));
-    // the head is 5, as the place to take next
-    assert!(rt; is_empty_at(&both.close().slots, 4));
+    same(&rt, comes_to(rt.alloc(), ROUND)?, (ROUND.len(), Some(4)));
     Ok(())
 }
 
-/// Whether the first stored frame is taken, and its buffer posted anew.
-fn takes_one(both: &mut Both) -> bool {
-    let rows = [
-        (RxStep::Take, taken()),
-        (RxStep::Post(0), Some(Note::Place(0))),
-        (RxStep::Publish, Some(Note::Tail(0))),
-    ];
-    first_other(both, &rows).is_none()
-}
+/// The step can't be made.
+const NOTHING: Told = Told::Note(None);
 
-/// Stores three of seven frames, takes one, and disables the queue: whether two are left, and neither side gets more.
-fn two_are_left(both: &mut Both) -> bool {
-    posts_seven(both)
-        && stores(both, 3)
-        && takes_one(both)
-        && disable(both)
-        && both.left() == Some((2, 2))
-        && both.call(RxStep::Take).is_none()
-        && both.call(RxStep::Look).is_none()
-}
-
-/// Whether seven buffers can be reclaimed, and no eighth.
-fn reclaims_seven(both: &mut Both) -> bool {
-    makes(both, &[RxStep::Reclaim; 7]) && both.call(RxStep::Reclaim).is_none()
-}
-
-/// Posts two buffers on a queue that can't be said quiet before it is enabled, and stores one frame: whether that is so.
-fn stores_one_of_two(both: &mut Both) -> bool {
-    both.call(RxStep::StoreQuiet).is_none()
-        && enable(both)
-        && makes(both, &[RxStep::Post(0), RxStep::Post(0), RxStep::Publish])
-        && stores(both, 1)
-}
-
-/// Whether the queue is said quiet.
-fn says_quiet(both: &mut Both) -> bool {
-    let rows = [
-        (RxStep::LoadQuiet, Some(Note::Quiet(0))),
-        (RxStep::StoreQuiet, Some(Note::Quiet(1))),
-    ];
-    first_other(both, &rows).is_none() && both.controller.has_finished()
-}
-
-/// Whether what is left of a quiet queue is still taken, and nothing more stored.
-fn stays_quiet(both: &mut Both) -> bool {
-    let rows = [
-        (RxStep::Look, Some(Note::Free(1))),
-        (RxStep::Fetch, None),
-        (RxStep::LoadQuiet, Some(Note::Quiet(1))),
-        (RxStep::Take, taken()),
-        (RxStep::Take, Some(Note::Taken(None))),
-    ];
-    first_other(both, &rows).is_none()
-}
-
-/// What is done on a new ring of 8.
-#[derive(Clone, Copy)]
-enum Case {
-    Handshake,
-    TwoLeft,
-    Quiet,
-}
-
-/// Whether it comes out as it should. The tests share one owner of a queue, which is dear to prove.
-fn holds(alloc: Global, case: Case) -> Result<bool, Fail> {
-    let mut both = Both::new(alloc, 8)?;
-    Ok(match case {
-        Case::Handshake => is_enabled_by_calls(&mut both) && is_disabled_by_calls(&mut both),
-        Case::TwoLeft => two_are_left(&mut both) && reclaims_seven(&mut both) && both.is_off(),
-        Case::Quiet => stores_one_of_two(&mut both)
-            && says_quiet(&mut both)
-            && stays_quiet(&mut both),
-    })
-}
+/// Enabled as it should be, and then disabled, and nothing else can be done.
+const SHAKEN: &[Row] = &[
+    (
+        Act::Shake(ControlStep::LookAnswered, State::New),
+        Told::Note(Some(Note::Control(0))),
+    ),
+    (Act::Shake(ControlStep::AskDisable, State::New), NOTHING),
+    (Act::Shake(ControlStep::Answer, State::New), NOTHING),
+    (
+        Act::Shake(ControlStep::AskEnable, State::Asked),
+        Told::Note(Some(Note::Control(1))),
+    ),
+    (
+        Act::Shake(ControlStep::LookAsked, State::Asked),
+        Told::Note(Some(Note::Control(1))),
+    ),
+    (
+        Act::Shake(ControlStep::Answer, State::Asked),
+        Told::Note(Some(Note::Control(2))),
+    ),
+    (Act::Shake(ControlStep::Answer, State::Asked), NOTHING),
+    (
+        Act::Shake(ControlStep::LookAnswered, State::On),
+        Told::Note(Some(Note::Control(2))),
+    ),
+    (
+        Act::Shake(ControlStep::AskDisable, State::Stopping),
+        Told::Note(Some(Note::Control(3))),
+    ),
+    (
+        Act::Shake(ControlStep::LookAsked, State::Stopping),
+        Told::Note(Some(Note::Control(3))),
+    ),
+    (
+        Act::Shake(ControlStep::LookAnswered, State::Stopping),
+        Told::Note(Some(Note::Control(3))),
+    ),
+    (
+        Act::Shake(ControlStep::Answer, State::Stopping),
+        Told::Note(Some(Note::Control(0))),
+    ),
+    (
+        Act::Shake(ControlStep::LookAnswered, State::Disabled),
+        Told::Note(Some(Note::Control(0))),
+    ),
+    (Act::Shake(ControlStep::AskEnable, State::Disabled), NOTHING),
+];
 
 #[test]
 fn enabling_and_disabling_by_calls(rt: HostRuntime) -> Result<(), Fail> {
-    assert!(rt; holds(rt.alloc(), Case::Handshake)?);
+    same(&rt, comes_to(rt.alloc(), SHAKEN)?.0, SHAKEN.len());
     Ok(())
 }
+
+/// The first buffer that was posted, with a whole frame of 60 bytes.
+const TAKEN: TakenSegment = TakenSegment {
+    buffer: 31,
+    len: 60,
+    eop: true,
+};
+
+/// Three of seven frames are stored, and one is taken: two are left, neither side gets more, and seven buffers come back.
+const TWO_LEFT: &[Row] = &[
+    (Act::Enable, Told::Yes),
+    (Act::Times(7, RxStep::Post(0)), Told::Count(7)),
+    (Act::Make(RxStep::Publish), Told::Note(Some(Note::Tail(0)))),
+    (Act::Stores(3), Told::Count(3)),
+    (
+        Act::Make(RxStep::Take),
+        Told::Note(Some(Note::Taken(Some(TAKEN)))),
+    ),
+    (Act::Make(RxStep::Post(0)), Told::Note(Some(Note::Place(0)))),
+    (Act::Make(RxStep::Publish), Told::Note(Some(Note::Tail(0)))),
+    (Act::Disable, Told::Yes),
+    (Act::Left, Told::Counts(Some((2, 2)))),
+    (Act::Make(RxStep::Take), NOTHING),
+    (Act::Make(RxStep::Look), NOTHING),
+    (Act::Times(7, RxStep::Reclaim), Told::Count(7)),
+    (Act::Make(RxStep::Reclaim), NOTHING),
+    (Act::IsOff, Told::Yes),
+];
 
 #[test]
 fn disabled_with_two_left(rt: HostRuntime) -> Result<(), Fail> {
-    assert!(rt; holds(rt.alloc(), Case::TwoLeft)?);
+    same(&rt, comes_to(rt.alloc(), TWO_LEFT)?.0, TWO_LEFT.len());
     Ok(())
 }
+
+/// A queue can't be said quiet before it is enabled. What is left of a quiet one is still taken, and nothing more stored.
+const QUIET: &[Row] = &[
+    (Act::Make(RxStep::StoreQuiet), NOTHING),
+    (Act::Enable, Told::Yes),
+    (Act::Times(2, RxStep::Post(0)), Told::Count(2)),
+    (Act::Make(RxStep::Publish), Told::Note(Some(Note::Tail(0)))),
+    (Act::Stores(1), Told::Count(1)),
+    (
+        Act::Make(RxStep::LoadQuiet),
+        Told::Note(Some(Note::Quiet(0))),
+    ),
+    (
+        Act::Make(RxStep::StoreQuiet),
+        Told::Note(Some(Note::Quiet(1))),
+    ),
+    (Act::HasFinished, Told::Yes),
+    (Act::Make(RxStep::Look), Told::Note(Some(Note::Free(1)))),
+    (Act::Make(RxStep::Fetch), NOTHING),
+    (
+        Act::Make(RxStep::LoadQuiet),
+        Told::Note(Some(Note::Quiet(1))),
+    ),
+    (
+        Act::Make(RxStep::Take),
+        Told::Note(Some(Note::Taken(Some(TAKEN)))),
+    ),
+    (Act::Make(RxStep::Take), Told::Note(Some(Note::Taken(None)))),
+];
 
 #[test]
 fn quiet_by_calls(rt: HostRuntime) -> Result<(), Fail> {
-    assert!(rt; holds(rt.alloc(), Case::Quiet)?);
+    same(&rt, comes_to(rt.alloc(), QUIET)?.0, QUIET.len());
     Ok(())
+}
+
+/// The sizes of a new ring's ends, the room in it, and how many descriptors are free.
+fn sizes(alloc: Global, n: u32) -> Result<[u32; 4], RingError> {
+    let (_ring, driver, controller) = RxRing::new(alloc, n)?;
+    Ok([
+        driver.size(),
+        controller.size(),
+        driver.room(),
+        controller.free(),
+    ])
 }
 
 #[test]
-fn lawful_lengths_are_made(rt: HostRuntime) -> Result<(), Fail> {
-    for n in [8, 16, 32, 64, 128, 256, 512, 1_024, 2_048, 4_096] {
-        let (_ring, driver, controller) = RxRing::new(rt.alloc(), n)?;
-        assert!(rt; driver.size() == n && controller.size() == n && driver.room() == n - 1);
-        assert!(rt; controller.free() == 0);
-    }
-    Ok(())
-}
-
-/// How a ring of this length is refused.
-fn refusal(alloc: Global, n: u32) -> Option<RingError> {
-    match RxRing::new(alloc, n) {
-        Ok(_) => None,
-        Err(refusal) => Some(refusal),
+fn lawful_lengths_are_made(rt: HostRuntime) {
+    for n in [8u32, 16, 32, 64, 128, 256, 512, 1_024, 2_048, 4_096] {
+        same(&rt, sizes(rt.alloc(), n), Ok([n, n, n.wrapping_sub(1), 0]));
     }
 }
 
 #[test]
 fn other_lengths_are_refused(rt: HostRuntime) {
     for n in [0, 1, 4, 7, 9, 12, 4_095, 4_097, 8_192, u32::MAX] {
-        assert!(rt;
-            refusal(rt.alloc(), n) == Some(RingError::RingLength),
-            "a ring of {n}"
+        same(
+            &rt,
+            (n, sizes(rt.alloc(), n)),
+            (n, Err(RingError::RingLength)),
         );
     }
 }
@@ -273,7 +359,15 @@ fn other_lengths_are_refused(rt: HostRuntime) {
 #[test]
 fn refusals_have_numbers_and_words(rt: HostRuntime) -> Result<(), Fail> {
     let refusal = RingError::RingLength;
-    assert!(rt; refusal.number() == 21 && RingError::Memory.number() == 22);
-    assert!(rt; format!(in rt.alloc(); "{refusal}")?.as_str() == "ring length");
+    same(
+        &rt,
+        (refusal.number(), RingError::Memory.number()),
+        (21, 22),
+    );
+    same(
+        &rt,
+        format!(in rt.alloc(); "{refusal}")?.as_str(),
+        "ring length",
+    );
     Ok(())
 }

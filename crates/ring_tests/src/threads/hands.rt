@@ -8,9 +8,8 @@ use std::sync::Wait;
 use std::thread;
 use test_kit::{frame, frame_len, is_frame, put_back};
 
-/// Asks for the queue to be enabled, if nothing was asked in this epoch, or disabled, if it was seen enabled, and waits
-/// until it is.
-pub(crate) fn ask_for<R: Wait>(rt: &R, ring: &RxRing, driver: &mut RxDriverEnd, wanted: Control)
+/// Asks for the queue to be enabled, if nothing was asked in this epoch, or disabled, if it was seen enabled.
+fn ask(ring: &RxRing, driver: &mut RxDriverEnd)
     requires { driver.old.table ≡ ring.now }
     ensures own { driver.new.table ≡ ring.now }
     ensures untouched { reclaimed driver.new ≡ reclaimed driver.old }
@@ -20,12 +19,37 @@ pub(crate) fn ask_for<R: Wait>(rt: &R, ring: &RxRing, driver: &mut RxDriverEnd, 
     } else if driver.is_on() {
         driver.ask_disable(ring);
     }
+}
+
+/// Asks for it, and waits until it is so.
+pub(crate) fn ask_for<R: Wait>(rt: &R, ring: &RxRing, driver: &mut RxDriverEnd, wanted: Control)
+    requires { driver.old.table ≡ ring.now }
+    ensures own { driver.new.table ≡ ring.now }
+    ensures untouched { reclaimed driver.new ≡ reclaimed driver.old }
+{
+    ask(ring, driver);
     for _ in rt.forever() {
         if driver.state(ring) == wanted {
             return;
         }
         thread::yield_now();
     }
+}
+
+/// Posts a buffer of the stash, if it has one and the ring has room.
+fn post_one(ring: &RxRing, driver: &mut RxDriverEnd, spare: &mut Stash) -> bool
+    requires { driver.old.table ≡ ring.now }
+    ensures own { driver.new.table ≡ ring.now }
+    ensures untouched { reclaimed driver.new ≡ reclaimed driver.old }
+{
+    if driver.room() == 0 || !driver.is_open() {
+        return false;
+    }
+    match spare.take() {
+        Some(buf) => driver.post(ring, buf),
+        None => return false,
+    }
+    true
 }
 
 /// Posts what the stash has and the ring has room for, and publishes it.
@@ -35,20 +59,34 @@ pub(crate) fn fill_ring(ring: &RxRing, driver: &mut RxDriverEnd, spare: &mut Sta
     ensures untouched { reclaimed driver.new ≡ reclaimed driver.old }
 {
     for _ in 0..driver.room() {
-        if driver.room() == 0 || !driver.is_open() {
-            return;
-        }
-        let Some(buf) = spare.take() else {
+        if !post_one(ring, driver, spare) {
             break;
-        };
-        driver.post(ring, buf);
+        }
     }
     if driver.is_open() {
         driver.publish(ring);
     }
 }
 
-/// Takes frames until so many were taken, posts each buffer again, and answers how many were as they should be.
+/// Takes frame `k` and posts its buffer again: whether it is as it should be, if it is there.
+fn receive_one(ring: &RxRing, driver: &mut RxDriverEnd, k: u32) -> Option<bool>
+    requires { driver.old.table ≡ ring.now }
+    ensures own { driver.new.table ≡ ring.now }
+    ensures untouched { reclaimed driver.new ≡ reclaimed driver.old }
+{
+    let Poll::Segment { mut buf, eop } = driver.poll(ring) else {
+        return None;
+    };
+    let is_good = eop && is_frame(k, buf.bytes());
+    buf.clear();
+    if driver.is_open() {
+        driver.post(ring, buf);
+        driver.publish(ring);
+    }
+    Some(is_good)
+}
+
+/// Takes frames until so many were taken, and answers how many were as they should be.
 pub(crate) fn receive<R: Wait>(rt: &R, ring: &RxRing, driver: &mut RxDriverEnd, most: u32) -> u32
     requires { driver.old.table ≡ ring.now }
     ensures own { driver.new.table ≡ ring.now }
@@ -60,21 +98,29 @@ pub(crate) fn receive<R: Wait>(rt: &R, ring: &RxRing, driver: &mut RxDriverEnd, 
         if k >= most {
             break;
         }
-        if let Poll::Segment { mut buf, eop } = driver.poll(ring) {
-            if eop && is_frame(k, buf.bytes()) {
-                good = good.saturating_add(1);
-            }
+        if let Some(is_good) = receive_one(ring, driver, k) {
+            good = good.saturating_add(u32::from(is_good));
             k = k.saturating_add(1);
-            buf.clear();
-            if driver.is_open() {
-                driver.post(ring, buf);
-                driver.publish(ring);
-            }
         } else {
             thread::yield_now();
         }
     }
     good
+}
+
+/// Takes one buffer of a disabled queue back, if any is left.
+fn reclaim(ring: &RxRing, driver: &mut RxDriverEnd, spare: &mut Stash) -> bool
+    requires { driver.old.table ≡ ring.now }
+    ensures { driver.new.table ≡ ring.now }
+{
+    if !driver.is_stopped() {
+        return false;
+    }
+    match driver.reclaim(ring) {
+        Some(buf) => put_back(spare, buf),
+        None => return false,
+    }
+    true
 }
 
 /// Takes all that is left back, and answers how many buffers that was.
@@ -84,13 +130,9 @@ pub(crate) fn reclaim_all(ring: &RxRing, driver: &mut RxDriverEnd, spare: &mut S
 {
     let mut count = 0u32;
     for _ in 0..driver.size() {
-        if !driver.is_stopped() {
+        if !reclaim(ring, driver, spare) {
             break;
         }
-        let Some(buf) = driver.reclaim(ring) else {
-            break;
-        };
-        put_back(spare, buf);
         count = count.saturating_add(1);
     }
     count
@@ -120,17 +162,6 @@ pub(crate) fn renew(ring: &RxRing, driver: &mut RxDriverEnd) -> bool
     }
     driver.renew(ring);
     true
-}
-
-/// Loads what is asked, and answers it if that can be done now.
-fn answer(ring: &RxRing, controller: &mut RxControllerEnd)
-    requires { controller.old.table ≡ ring.now }
-    ensures { controller.new.table ≡ ring.now }
-{
-    controller.asked(ring);
-    if controller.can_answer() {
-        controller.answer(ring);
-    }
 }
 
 /// Fetches the next buffer, if a descriptor is free and none is held.
@@ -171,22 +202,32 @@ fn store_frame(ring: &RxRing, controller: &mut RxControllerEnd, frame: &[u8]) ->
     true
 }
 
+/// Answers what is asked: whether that disabled the queue.
+fn answers_disabling(ring: &RxRing, controller: &mut RxControllerEnd) -> bool
+    requires { controller.old.table ≡ ring.now }
+    ensures { controller.new.table ≡ ring.now }
+{
+    let was_on = controller.is_serving();
+    controller.asked(ring);
+    if controller.can_answer() {
+        controller.answer(ring);
+    }
+    was_on && !controller.is_serving()
+}
+
 /// Stores frame `k` as soon as a descriptor is free, and answers what is asked; false where the queue is disabled.
 fn store_when_free<R: Wait>(rt: &R, ring: &RxRing, controller: &mut RxControllerEnd, k: u32) -> bool
     requires { controller.old.table ≡ ring.now }
     ensures { controller.new.table ≡ ring.now }
 {
     let bytes = frame(k);
-    let mut was_on = controller.is_serving();
     for _ in rt.forever() {
         if store_frame(ring, controller, &bytes[..frame_len(k)]) {
             return true;
         }
-        answer(ring, controller);
-        if was_on && !controller.is_serving() {
+        if answers_disabling(ring, controller) {
             return false;
         }
-        was_on = controller.is_serving();
         thread::yield_now();
     }
     unreachable!()
