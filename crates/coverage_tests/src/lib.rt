@@ -5,3 +5,5 @@
 mod search_tests;
 #[cfg(test)]
 mod second;
+#[cfg(test)]
+mod told;

@@ -1,6 +1,7 @@
 //! A search ends, leaves nothing out, and its lists meet all that it has met.
 use crate::second::{meet_along, second_search};
-use coverage::{Scope, Search, Side, is_data};
+use crate::told::{holds, same};
+use coverage::{CoverList, Pair, Scope, Search, Side, is_data};
 use ring_machine::Completion;
 use std::alloc::{AllocError, Global};
 use std::collections::HashSet;
@@ -33,6 +34,46 @@ fn whole_search(alloc: Global, scope: Scope) -> Result<Search, AllocError> {
     Ok(search)
 }
 
+// What the search's lists meet, by numbers.
+fn met_by_lists(
+    alloc: Global,
+    scope: Scope,
+    search: &Search,
+) -> Result<HashSet<usize>, AllocError> {
+    let lists = search.lists(alloc)?;
+    let mut along = HashSet::new(alloc);
+    for list in lists.as_slice() {
+        meet_along(scope, list.moves.as_slice(), &mut along)?;
+    }
+    Ok(along)
+}
+
+// The search meets what the second one met, and so do its lists.
+fn has_met_all<A: Abort>(rt: &A, search: &Search, along: &HashSet<usize>, pairs: &[Pair]) {
+    same(rt, search.pairs(), pairs.len());
+    same(rt, along.len(), pairs.len());
+    for pair in pairs {
+        holds(rt, search.has_met(pair));
+        holds(rt, along.contains(&pair.number()));
+    }
+}
+
+// A second search that is written differently reaches as many states and meets just the same pairs.
+fn is_searched_alike<A: Abort>(
+    rt: &A,
+    alloc: Global,
+    scope: Scope,
+    search: &Search,
+    pairs: usize,
+) -> Result<(), AllocError> {
+    let along = met_by_lists(alloc, scope, search)?;
+    let second = second_search(alloc, scope)?;
+    same(rt, second.states, search.states());
+    same(rt, second.pairs.len(), pairs);
+    has_met_all(rt, search, &along, second.pairs.as_slice());
+    Ok(())
+}
+
 // The search meets just what a second one meets that is written differently, and its lists meet all of it.
 fn leaves_nothing_out<A: Abort>(
     rt: &A,
@@ -41,22 +82,10 @@ fn leaves_nothing_out<A: Abort>(
     pairs: usize,
 ) -> Result<(), AllocError> {
     let search = whole_search(alloc, scope)?;
-    assert!(rt; search.is_whole());
-    assert_eq!(rt; search.gone_over(), search.states());
-    assert_eq!(rt; search.pairs(), pairs);
-    let second = second_search(alloc, scope)?;
-    assert_eq!(rt; second.states, search.states());
-    assert_eq!(rt; second.pairs.len(), pairs);
-    let mut along = HashSet::new(alloc);
-    for list in search.lists(alloc)?.as_slice().iter() {
-        meet_along(scope, list.moves.as_slice(), &mut along)?;
-    }
-    assert_eq!(rt; along.len(), pairs);
-    for pair in second.pairs.as_slice().iter() {
-        assert!(rt; search.has_met(pair));
-        assert!(rt; along.contains(&pair.number()));
-    }
-    Ok(())
+    holds(rt, search.is_whole());
+    same(rt, search.gone_over(), search.states());
+    same(rt, search.pairs(), pairs);
+    is_searched_alike(rt, alloc, scope, &search, pairs)
 }
 
 #[test]
@@ -87,6 +116,15 @@ fn a_transmit_queue_with_a_head_word_is_gone_over(rt: HostRuntime) -> Result<(),
     Ok(())
 }
 
+// These lists have silicon's moves alone.
+fn are_data<A: Abort>(rt: &A, lists: &[CoverList]) {
+    for list in lists {
+        for action in list.moves.as_slice() {
+            holds(rt, is_data(*action));
+        }
+    }
+}
+
 // Of silicon's moves alone, in each direction and either way to report.
 #[test]
 fn queues_of_silicon_are_gone_over(rt: HostRuntime) -> Result<(), Fail> {
@@ -95,12 +133,19 @@ fn queues_of_silicon_are_gone_over(rt: HostRuntime) -> Result<(), Fail> {
     leaves_nothing_out(&rt, alloc, data_of(Side::Transmit(Completion::Status)), 16)?;
     leaves_nothing_out(&rt, alloc, data_of(Side::Transmit(Completion::Head)), 16)?;
     let search = whole_search(alloc, data_of(Side::Transmit(Completion::Head)))?;
-    for list in search.lists(alloc)?.as_slice() {
-        for action in list.moves.as_slice() {
-            assert!(&rt; is_data(*action));
-        }
-    }
+    let lists = search.lists(alloc)?;
+    are_data(&rt, lists.as_slice());
     Ok(())
+}
+
+// None of these lists is shorter than the one before it, and the last is so long.
+fn grow_to<A: Abort>(rt: &A, lists: &[CoverList], last: usize) {
+    let mut before: usize = 0;
+    for list in lists {
+        holds(rt, before <= list.moves.len());
+        before = list.moves.len();
+    }
+    same(rt, before, last);
 }
 
 // Each pair is met first by as few moves as the search needs, and the lists stand by their lengths.
@@ -109,13 +154,8 @@ fn lists_stand_by_length(rt: HostRuntime) -> Result<(), Fail> {
     let alloc = rt.alloc();
     let search = whole_search(alloc, all_of(Side::Receive))?;
     let lists = search.lists(alloc)?;
-    assert_eq!(&rt; lists.len(), 207);
-    let mut before: usize = 0;
-    for list in lists.as_slice().iter() {
-        assert!(&rt; before <= list.moves.len());
-        before = list.moves.len();
-    }
-    assert_eq!(&rt; before, 20);
+    same(&rt, lists.len(), 207);
+    grow_to(&rt, lists.as_slice(), 20);
     Ok(())
 }
 
@@ -123,11 +163,9 @@ fn lists_stand_by_length(rt: HostRuntime) -> Result<(), Fail> {
 #[test]
 fn a_new_search_has_no_list(rt: HostRuntime) -> Result<(), Fail> {
     let search = Search::new(rt.alloc(), all_of(Side::Receive))?;
-    assert!(&rt; !search.is_whole());
-    assert_eq!(&rt;
-        (search.states(), search.gone_over(), search.pairs()),
-        (1, 0, 0)
-    );
-    assert_eq!(&rt; search.lists(rt.alloc())?.len(), 0);
+    holds(&rt, !search.is_whole());
+    let counts = (search.states(), search.gone_over(), search.pairs());
+    same(&rt, counts, (1, 0, 0));
+    same(&rt, search.lists(rt.alloc())?.len(), 0);
     Ok(())
 }
