@@ -3,3 +3,5 @@
 
 #[cfg(test)]
 mod shown_tests;
+#[cfg(test)]
+mod told;

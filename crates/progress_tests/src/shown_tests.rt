@@ -1,6 +1,7 @@
 //! What is shown of a short run.
 
-use forwarder::Config;
+use crate::told::{holds, same};
+use forwarder::{Config, Report};
 use forwarding::Open;
 use progress::{Form, forward, forward_shown};
 use std::alloc::Global;
@@ -29,6 +30,25 @@ impl Write for Full {
     }
 }
 
+/// What is shown of the script in this form, and how many frames went out of flow 0.
+fn shown_of<R: Threads + Wait + Clock + Sync>(
+    rt: &R,
+    alloc: Global,
+    form: Form,
+) -> Result<(String, Option<usize>), Fail> {
+    let script = parse(alloc, SCRIPT)?;
+    let mut screen = Vec::new(alloc);
+    let config = Config::default();
+    let report = forward_shown(rt, alloc, &script, &config, &Open, &mut screen, form)?;
+    let sent = frames_sent(&report);
+    Ok((String::from_utf8(screen)?, sent))
+}
+
+fn frames_sent(report: &Report) -> Option<usize> {
+    let flow = report.flows.first()?;
+    Some(flow.wire.len())
+}
+
 /// What is shown of the script in this form has the numbers, before the rate, and its end.
 fn shows<R: Abort + Threads + Wait + Clock + Sync>(
     rt: &R,
@@ -37,14 +57,11 @@ fn shows<R: Abort + Threads + Wait + Clock + Sync>(
     numbers: &str,
     end: &str,
 ) -> Result<(), Fail> {
-    let script = parse(alloc, SCRIPT)?;
-    let mut screen = Vec::new(alloc);
-    let config = Config::default();
-    let report = forward_shown(rt, alloc, &script, &config, &Open, &mut screen, form)?;
-    let shown = String::from_utf8(screen)?;
-    assert!(rt; shown.contains(numbers), "{shown}");
-    assert!(rt; shown.ends_with(end), "{shown}");
-    assert_eq!(rt; report.flows.first().map(|flow| flow.wire.len()), Some(2));
+    let (shown, sent) = shown_of(rt, alloc, form)?;
+    let text = shown.as_str();
+    same(rt, (text, text.contains(numbers)), (text, true));
+    same(rt, (text, text.ends_with(end)), (text, true));
+    same(rt, sent, Some(2));
     Ok(())
 }
 
@@ -58,33 +75,30 @@ fn each_form_is_shown_at_last(rt: HostRuntime) -> Result<(), Fail> {
     shows(&rt, rt.alloc(), Form::Objects, object, "}\n")
 }
 
-#[test]
-fn a_screen_that_fails_changes_nothing(rt: HostRuntime) -> Result<(), Fail> {
-    let alloc = rt.alloc();
+/// How many flows a run has whose form is shown on this screen, or that shows nothing.
+fn flows_on<R: Threads + Wait + Clock + Sync, W: Write + Send>(
+    rt: &R,
+    alloc: Global,
+    screen: &mut W,
+    form: Option<Form>,
+) -> Result<usize, Fail> {
     let script = parse(alloc, SCRIPT)?;
     let config = Config::default();
-    let mut full = Full;
-    let report = forward(
-        &rt,
-        alloc,
-        &script,
-        &config,
-        &Open,
-        &mut full,
-        Some(Form::Lines),
-    )?;
-    assert_eq!(rt; report.flows.len(), 2);
+    let report = forward(rt, alloc, &script, &config, &Open, screen, form)?;
+    Ok(report.flows.len())
+}
+
+#[test]
+fn a_screen_that_fails_changes_nothing(rt: HostRuntime) -> Result<(), Fail> {
+    let flows = flows_on(&rt, rt.alloc(), &mut Full, Some(Form::Lines))?;
+    same(&rt, flows, 2);
     Ok(())
 }
 
 #[test]
 fn without_a_form_nothing_is_shown(rt: HostRuntime) -> Result<(), Fail> {
-    let alloc = rt.alloc();
-    let script = parse(alloc, SCRIPT)?;
-    let mut screen = Vec::new(alloc);
-    let config = Config::default();
-    let report = forward(&rt, alloc, &script, &config, &Open, &mut screen, None)?;
-    assert_eq!(rt; report.flows.len(), 2);
-    assert!(rt; screen.is_empty());
+    let mut screen = Vec::new(rt.alloc());
+    same(&rt, flows_on(&rt, rt.alloc(), &mut screen, None)?, 2);
+    holds(&rt, screen.is_empty());
     Ok(())
 }
