@@ -5,3 +5,5 @@
 mod calls;
 #[cfg(test)]
 mod threads;
+#[cfg(test)]
+mod told;

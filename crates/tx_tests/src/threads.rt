@@ -3,6 +3,7 @@ ghost use Rattle.std.specs.Prelude.{◌≡◌};
 
 mod hands;
 
+use crate::told::{holds, same};
 use buffer_pool::{Buf, Stash};
 use hands::{Passed, ask_for, drain, fetch, left, renew, serve, transmit};
 use std::alloc::Global;
@@ -156,6 +157,21 @@ fn run<R: Threads + Wait + Sync>(
 ) -> Result<Ran, Fail> {
     let told = Driven::new(full_stash(alloc, 16)?);
     let (ring, driver, controller) = TxRing::new_with(alloc, 8, completion)?;
+    Ok(run_ends(rt, ring, (driver, controller), told, waits))
+}
+
+/// The same of ends that are made.
+fn run_ends<R: Threads + Wait + Sync>(
+    rt: &R,
+    ring: TxRing,
+    ends: (TxDriverEnd, TxControllerEnd),
+    told: Driven,
+    waits: &[u32],
+) -> Ran
+    requires drives { ends.0.table ≡ ring }
+    requires serves { ends.1.table ≡ ring }
+{
+    let (driver, controller) = ends;
     let epochs = waits.len();
     let ((mut controller, sent), (mut driver, told)) = thread::join(
         rt,
@@ -166,21 +182,23 @@ fn run<R: Threads + Wait + Sync>(
     let slots = close(ring, driver, controller);
     let Driven { spare, back, left } = told;
     let closed = Closed::of(slots, spare, None);
-    Ok(Ran {
+    Ran {
         sent,
         left,
         back,
         closed,
-    })
+    }
 }
 
 #[test]
 fn stop_while_running(rt: HostRuntime) -> Result<(), Fail> {
     for completion in [Completion::Status, Completion::Head] {
         let ran = run(&rt, rt.alloc(), completion, &[0; 10])?;
-        assert!(rt; ran.sent.good == ran.sent.count && ran.sent.count <= 10 * FRAMES);
-        assert!(rt; ran.left == Some(10 * FRAMES - ran.sent.count));
-        assert!(rt; ran.back.good == 10 * FRAMES && ran.closed.lying() == 0);
+        let Passed { count, good } = ran.sent;
+        same(&rt, good, count);
+        same(&rt, ran.left, (10 * FRAMES).checked_sub(count));
+        holds(&rt, ran.left.is_some());
+        same(&rt, (ran.back.good, ran.closed.lying()), (10 * FRAMES, 0));
     }
     Ok(())
 }
@@ -189,8 +207,13 @@ fn stop_while_running(rt: HostRuntime) -> Result<(), Fail> {
 fn three_epochs(rt: HostRuntime) -> Result<(), Fail> {
     for completion in [Completion::Status, Completion::Head] {
         let ran = run(&rt, rt.alloc(), completion, &[FRAMES; 3])?;
-        assert!(rt; ran.sent.good == 3 * FRAMES && ran.back.good == 3 * FRAMES);
-        assert!(rt; ran.left == Some(0) && ran.closed.has_each_once(16));
+        same(
+            &rt,
+            (ran.sent.good, ran.back.good),
+            (3 * FRAMES, 3 * FRAMES),
+        );
+        same(&rt, ran.left, Some(0));
+        holds(&rt, ran.closed.has_each_once(16));
     }
     Ok(())
 }
@@ -222,7 +245,11 @@ fn two_threads_tx(rt: HostRuntime) -> Result<(), Fail> {
     for completion in [Completion::Status, Completion::Head] {
         // the last frame asks for no report
         let (sent, cleaned, closed) = run_on(&rt, rt.alloc(), completion, 1_000, 1_000, 999)?;
-        assert!(rt; sent.good == 1_000 && cleaned.good == 999 && closed.lying() == 1);
+        same(
+            &rt,
+            (sent.good, cleaned.good, closed.lying()),
+            (1_000, 999, 1),
+        );
     }
     Ok(())
 }
@@ -231,9 +258,13 @@ fn two_threads_tx(rt: HostRuntime) -> Result<(), Fail> {
 fn closed(rt: HostRuntime) -> Result<(), Fail> {
     for completion in [Completion::Status, Completion::Head] {
         let (sent, cleaned, closed) = run_on(&rt, rt.alloc(), completion, 40, 37, 36)?;
-        assert!(rt; sent.good == 37 && cleaned.good == 36);
-        assert!(rt; closed.spare.len() == 12 && closed.lying() == 3 && closed.held.is_some());
-        assert!(rt; closed.has_each_once(16));
+        same(&rt, (sent.good, cleaned.good), (37, 36));
+        same(
+            &rt,
+            (closed.spare.len(), closed.lying(), closed.held.is_some()),
+            (12, 3, true),
+        );
+        holds(&rt, closed.has_each_once(16));
     }
     Ok(())
 }

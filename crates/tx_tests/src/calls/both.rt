@@ -70,11 +70,16 @@ pub(crate) struct Both {
     ghost of_frame: { AreOfFrame begun.paylen (unfinished carried (posted driver)) },
 }
 
+/// The machine of so many places, and all buffers.
+fn beside(alloc: Global, n: u32, completion: Completion) -> Result<(TxMachine, Stash), Fail> {
+    let machine = TxMachine::new_with(alloc, n as usize, false, completion)?;
+    Ok((machine, full_stash(alloc, BUFFERS)?))
+}
+
 impl Both {
     /// A ring of so many places that is not enabled, and all buffers at hand.
     pub(crate) fn new(alloc: Global, n: u32, completion: Completion) -> Result<Both, Fail> {
-        let machine = TxMachine::new_with(alloc, n as usize, false, completion)?;
-        let spare = full_stash(alloc, BUFFERS)?;
+        let (machine, spare) = beside(alloc, n, completion)?;
         let (ring, driver, controller) = TxRing::new_with(alloc, n, completion)?;
         Ok(Both {
             begun: NONE,
@@ -244,6 +249,28 @@ impl Both {
         meet_tx(&self.ring, &mut self.driver, &mut self.controller);
     }
 
+    fn machine_posts(&mut self, next: SegmentDescriptor) -> Option<Note> {
+        let (eop, rs) = (next.eop(), next.rs());
+        let next = SegmentDescriptor::new(self.number, next.len(), eop, rs, next.paylen())?;
+        self.machine.step(TxStep::Post(next)).ok()
+    }
+
+    fn machine_loads(&mut self) -> Option<Note> {
+        match self.machine.step(TxStep::LoadReport) {
+            Ok(Note::Reported(Some(place))) => Some(Note::Reported(Some(place))),
+            _ => None,
+        }
+    }
+
+    fn machine_renews(&mut self) -> Option<Note> {
+        let note = self.machine.step(TxStep::ClearHead).ok()?;
+        self.machine.step(TxStep::ClearTail).ok()?;
+        if self.completion == Completion::Head {
+            self.machine.step(TxStep::ClearReport).ok()?;
+        }
+        Some(note)
+    }
+
     fn renew(&mut self) -> Option<Note> {
         renewed!(self);
         self.begun = NONE;
@@ -286,17 +313,7 @@ impl Beside for Both {
     fn random_step(&self, random: &mut Random) -> Step {
         match random.below(64) {
             0..=7 => self.random_posting(random),
-            8..=12 => TxStep::Publish,
-            13..=16 => TxStep::Look,
-            17..=22 => TxStep::Fetch,
-            23..=28 => TxStep::Send,
-            29..=32 => TxStep::Report,
-            33..=36 => TxStep::LoadReport,
-            37..=41 => TxStep::Clean,
-            42..=47 => TxStep::Reclaim,
-            48..=50 => TxStep::ClearHead,
-            51 => TxStep::ClearTail,
-            52 => TxStep::ClearReport,
+            at @ 8..=52 => step_at(at),
             _ => TxStep::Control(random_control(random)),
         }
     }
@@ -323,26 +340,11 @@ impl Beside for Both {
     }
 
     fn step(&mut self, step: Step) -> Option<Note> {
-        let machine = &mut self.machine;
         match step {
-            TxStep::Post(next) => {
-                let (eop, rs) = (next.eop(), next.rs());
-                let next = SegmentDescriptor::new(self.number, next.len(), eop, rs, next.paylen())?;
-                machine.step(TxStep::Post(next)).ok()
-            }
-            TxStep::LoadReport => match machine.step(step) {
-                Ok(Note::Reported(Some(place))) => Some(Note::Reported(Some(place))),
-                _ => None,
-            },
-            TxStep::ClearHead => {
-                let note = machine.step(step).ok()?;
-                machine.step(TxStep::ClearTail).ok()?;
-                if self.completion == Completion::Head {
-                    machine.step(TxStep::ClearReport).ok()?;
-                }
-                Some(note)
-            }
-            _ => machine.step(step).ok(),
+            TxStep::Post(next) => self.machine_posts(next),
+            TxStep::LoadReport => self.machine_loads(),
+            TxStep::ClearHead => self.machine_renews(),
+            _ => self.machine.step(step).ok(),
         }
     }
 
@@ -362,7 +364,11 @@ impl Beside for Both {
     }
 
     fn owner(&self, place: u16) -> Option<Owner> {
-        (place < self.machine.size()).then(|| self.machine.owner(place))
+        if place < self.machine.size() {
+            Some(self.machine.owner(place))
+        } else {
+            None
+        }
     }
 
     fn left(&mut self) -> Option<(u32, u32)> {
@@ -380,5 +386,48 @@ impl Beside for Both {
     fn close(self) -> Closed {
         let slots = close(self.ring, self.driver, self.controller);
         Closed::of(slots, self.spare, self.held_buf)
+    }
+}
+
+/// Of random numbers those below the first, and not below that of the row before, stand for the step.
+const STEPS: &[(u64, TxStep<()>)] = &[
+    (13, TxStep::Publish),
+    (17, TxStep::Look),
+    (23, TxStep::Fetch),
+    (29, TxStep::Send),
+    (33, TxStep::Report),
+    (37, TxStep::LoadReport),
+    (42, TxStep::Clean),
+    (48, TxStep::Reclaim),
+    (51, TxStep::ClearHead),
+    (52, TxStep::ClearTail),
+    (53, TxStep::ClearReport),
+];
+
+fn step_at(at: u64) -> Step {
+    for (below, step) in STEPS {
+        if at < *below {
+            return unposting(*step);
+        }
+    }
+    TxStep::ClearReport
+}
+
+/// A step as rows name it: where it posts, it is none that can be made. A row of a step that has a segment in it would be
+/// made by statements, and proved one by one.
+pub(crate) fn unposting(named: TxStep<()>) -> Step {
+    match named {
+        TxStep::Publish => TxStep::Publish,
+        TxStep::Look => TxStep::Look,
+        TxStep::Fetch => TxStep::Fetch,
+        TxStep::Send => TxStep::Send,
+        TxStep::Report => TxStep::Report,
+        TxStep::LoadReport => TxStep::LoadReport,
+        TxStep::Clean => TxStep::Clean,
+        TxStep::Control(step) => TxStep::Control(step),
+        TxStep::Reclaim => TxStep::Reclaim,
+        TxStep::ClearHead => TxStep::ClearHead,
+        TxStep::ClearTail => TxStep::ClearTail,
+        TxStep::Post(()) | TxStep::ClearReport => TxStep::ClearReport,
     }
 }

@@ -1,6 +1,7 @@
 //! Rows by calls, on one thread, in both completions.
 
 use crate::calls::both::{Both, Step};
+use crate::told::same;
 use ring_machine::SegmentDescriptor;
 use ring_model::{FetchedSegment, Note, TxStep};
 use std::alloc::Global;
@@ -167,22 +168,34 @@ enum Case {
 }
 
 /// Whether it comes out as it should; then the ends meet.
-fn holds(alloc: Global, completion: Completion, case: Case) -> Result<bool, Fail> {
-    let mut both = Both::new(alloc, 8, completion)?;
-    let holds = match case {
+fn passes(mut both: Both, completion: Completion, case: Case) -> bool {
+    let passes = match case {
         Case::OneReported => one_is_reported(&mut both, completion),
         Case::TwoReported => two_are_reported(&mut both, completion),
         Case::TwoLeft => leaves_two(&mut both),
     };
     both.meet();
-    Ok(holds)
+    passes
+}
+
+/// The same of a new ring of 8.
+fn comes_out(alloc: Global, completion: Completion, case: Case) -> Result<bool, Fail> {
+    Ok(passes(Both::new(alloc, 8, completion)?, completion, case))
 }
 
 #[test]
 fn reports(rt: HostRuntime) -> Result<(), Fail> {
     for completion in BOTH_WAYS {
-        assert!(rt; holds(rt.alloc(), completion, Case::OneReported)?);
-        assert!(rt; holds(rt.alloc(), completion, Case::TwoReported)?);
+        same(
+            &rt,
+            comes_out(rt.alloc(), completion, Case::OneReported)?,
+            true,
+        );
+        same(
+            &rt,
+            comes_out(rt.alloc(), completion, Case::TwoReported)?,
+            true,
+        );
     }
     Ok(())
 }
@@ -190,7 +203,7 @@ fn reports(rt: HostRuntime) -> Result<(), Fail> {
 #[test]
 fn two_are_left_of_three(rt: HostRuntime) -> Result<(), Fail> {
     for completion in BOTH_WAYS {
-        assert!(rt; holds(rt.alloc(), completion, Case::TwoLeft)?);
+        same(&rt, comes_out(rt.alloc(), completion, Case::TwoLeft)?, true);
     }
     Ok(())
 }
@@ -228,75 +241,69 @@ fn sends_words(both: &mut Both, frame: &Worded) -> bool {
 }
 
 /// Whether the frame is posted and sent with these words, and none is ready then.
+fn has_words(both: &mut Both, frame: &Worded) -> bool {
+    enable(both) && posts(both, frame) && sends_words(both, frame) && both.controller.ready() == 0
+}
+
+/// The same on a new ring of 16.
 fn are_words(alloc: Global, completion: Completion, frame: &Worded) -> Result<bool, Fail> {
     let mut both = Both::new(alloc, 16, completion)?;
-    let is_sent = enable(&mut both) && posts(&mut both, frame) && sends_words(&mut both, frame);
-    Ok(is_sent && both.controller.ready() == 0)
+    Ok(has_words(&mut both, frame))
 }
+
+const SHORT: Worded = Worded {
+    paylen: 2_500,
+    full: 2,
+    word: 0x0271_0000_2230_0400,
+    len: 452,
+    last: 0x0271_0000_2b30_01c4,
+};
+
+const LONG: Worded = Worded {
+    paylen: 15_000,
+    full: 14,
+    word: 0x0ea6_0000_2230_0400,
+    len: 664,
+    last: 0x0ea6_0000_2b30_0298,
+};
 
 #[test]
 fn second_words_are_those_of_the_datasheet(rt: HostRuntime) -> Result<(), Fail> {
-    let short = Worded {
-        paylen: 2_500,
-        full: 2,
-        word: 0x0271_0000_2230_0400,
-        len: 452,
-        last: 0x0271_0000_2b30_01c4,
-    };
-    let long = Worded {
-        paylen: 15_000,
-        full: 14,
-        word: 0x0ea6_0000_2230_0400,
-        len: 664,
-        last: 0x0ea6_0000_2b30_0298,
-    };
     for completion in BOTH_WAYS {
-        assert!(rt; are_words(rt.alloc(), completion, &short)?);
-        assert!(rt; are_words(rt.alloc(), completion, &long)?);
+        same(&rt, are_words(rt.alloc(), completion, &SHORT)?, true);
+        same(&rt, are_words(rt.alloc(), completion, &LONG)?, true);
     }
     Ok(())
 }
 
-/// Whether a ring of this length has ends of that size, and room for one descriptor less.
-fn is_made(alloc: Global, n: u32, completion: Completion) -> Result<bool, Fail> {
+/// The sizes of a new ring's ends, and the room in it.
+fn sizes(alloc: Global, n: u32, completion: Completion) -> Result<[u32; 3], RingError> {
     let (_ring, driver, controller) = TxRing::new_with(alloc, n, completion)?;
-    Ok(driver.size() == n && controller.size() == n && driver.room() == n - 1)
+    Ok([driver.size(), controller.size(), driver.room()])
 }
 
 /// The same of a ring that is made without a word on how it reports.
-fn is_made_plainly(alloc: Global, n: u32) -> Result<bool, Fail> {
+fn plain_sizes(alloc: Global, n: u32) -> Result<[u32; 3], RingError> {
     let (_ring, driver, controller) = TxRing::new(alloc, n)?;
-    Ok(driver.size() == n && controller.size() == n && driver.room() == n - 1)
+    Ok([driver.size(), controller.size(), driver.room()])
 }
 
 #[test]
-fn lawful_lengths_are_made(rt: HostRuntime) -> Result<(), Fail> {
-    let alloc = rt.alloc();
-    for n in [8, 16, 32, 64, 128, 256, 512, 1_024, 2_048, 4_096] {
-        assert!(rt; is_made(alloc, n, Completion::Status)?, "a ring of {n}");
-        assert!(rt; is_made(alloc, n, Completion::Head)?, "a ring of {n}");
-        assert!(rt; is_made_plainly(alloc, n)?, "a ring of {n}");
-    }
-    Ok(())
-}
-
-/// How a ring of this length is refused.
-fn refusal(alloc: Global, n: u32, completion: Completion) -> Option<RingError> {
-    match TxRing::new_with(alloc, n, completion) {
-        Ok(_) => None,
-        Err(refusal) => Some(refusal),
+fn lawful_lengths_are_made(rt: HostRuntime) {
+    for n in [8u32, 16, 32, 64, 128, 256, 512, 1_024, 2_048, 4_096] {
+        let wanted = Ok([n, n, n.wrapping_sub(1)]);
+        same(&rt, sizes(rt.alloc(), n, Completion::Status), wanted);
+        same(&rt, sizes(rt.alloc(), n, Completion::Head), wanted);
+        same(&rt, plain_sizes(rt.alloc(), n), wanted);
     }
 }
 
 #[test]
 fn other_lengths_are_refused(rt: HostRuntime) {
-    let refused = Some(RingError::RingLength);
     for n in [0, 4, 7, 9, 12, 4_097, 8_192, u32::MAX] {
         for completion in BOTH_WAYS {
-            assert!(rt;
-                refusal(rt.alloc(), n, completion) == refused,
-                "a ring of {n}"
-            );
+            let told = sizes(rt.alloc(), n, completion);
+            same(&rt, (n, told), (n, Err(RingError::RingLength)));
         }
     }
 }

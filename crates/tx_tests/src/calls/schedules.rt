@@ -1,6 +1,7 @@
 //! Random schedules of a running ring by calls in one thread, beside the pure machine that makes the same moves.
 
 use crate::calls::both::Both;
+use crate::told::{holds, same};
 use std::alloc::Global;
 use std::test::Fail;
 use test_kit::{Random, Survey};
@@ -26,7 +27,8 @@ fn random_schedules(rt: HostRuntime) -> Result<(), Fail> {
     for completion in [Completion::Status, Completion::Head] {
         let mut survey = Survey::new(Random::new(15_000));
         let differing = first_differing(rt.alloc(), &mut survey, completion)?;
-        assert!(rt; differing.is_none() && survey.is_rich(1_000));
+        same(&rt, differing, None);
+        holds(&rt, survey.is_rich(1_000));
     }
     Ok(())
 }
