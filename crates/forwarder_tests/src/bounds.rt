@@ -4,9 +4,11 @@ use crate::bursts::{Burst, script_of};
 use crate::configs::DEFAULT;
 use crate::counted::{Counts, NONE, comes_to};
 use crate::gates::Shuts;
+use crate::told::{holds, same};
 use forwarder::{Config, forward};
 use forwarding::{ForwardError, Open};
-use std::alloc::{AllocError, Global};
+use std::alloc::Global;
+use std::process::Abort;
 use std::sync::Wait;
 use std::test::Fail;
 use std::thread::Threads;
@@ -134,7 +136,7 @@ fn refused<R: Threads + Wait + Sync>(
 #[test]
 fn a_broken_limit_is_refused_before_anything_is_done(rt: HostRuntime) -> Result<(), Fail> {
     let script = script_of(rt.alloc(), &[])?;
-    assert_eq!(rt; refused(&rt, rt.alloc(), &script, BROKEN), BROKEN.len());
+    same(&rt, refused(&rt, rt.alloc(), &script, BROKEN), BROKEN.len());
     Ok(())
 }
 
@@ -155,8 +157,8 @@ const EDGES: &[Config] = &[LEAST, DEFAULT, GREATEST];
 #[test]
 fn the_edges_are_lawful(rt: HostRuntime) -> Result<(), Fail> {
     let script = script_of(rt.alloc(), &[])?;
-    assert!(rt; Config::default() == DEFAULT);
-    assert_eq!(rt; fitting(&script, EDGES), 3);
+    holds(&rt, Config::default() == DEFAULT);
+    same(&rt, fitting(&script, EDGES), 3);
     Ok(())
 }
 
@@ -181,8 +183,14 @@ const OF_SIXTEEN: &[Counts] = &[
 fn the_edges_are_run(rt: HostRuntime) -> Result<(), Fail> {
     let script = script_of(rt.alloc(), TEN)?;
     let least = [NONE, ALL_TEN];
-    assert!(rt; comes_to(&rt, rt.alloc(), &script, &LEAST, &Open, &least)?);
-    assert!(rt; comes_to(&rt, rt.alloc(), &script, &GREATEST, &Open, OF_SIXTEEN)?);
+    holds(
+        &rt,
+        comes_to(&rt, rt.alloc(), &script, &LEAST, &Open, &least)?,
+    );
+    holds(
+        &rt,
+        comes_to(&rt, rt.alloc(), &script, &GREATEST, &Open, OF_SIXTEEN)?,
+    );
     Ok(())
 }
 
@@ -213,10 +221,8 @@ fn has_just<R: Threads + Wait + Sync>(
 #[test]
 fn a_queue_that_is_not_there_is_refused(rt: HostRuntime) -> Result<(), Fail> {
     for (port, queue, pairs) in [(0, 1, 1), (1, 1, 1), (1, 7, 7)] {
-        assert!(rt;
-            has_just(&rt, rt.alloc(), port, queue, pairs)?,
-            "{pairs} pairs"
-        );
+        let just = has_just(&rt, rt.alloc(), port, queue, pairs)?;
+        same(&rt, (pairs, just), (pairs, true));
     }
     Ok(())
 }
@@ -228,16 +234,17 @@ const REFUSALS: &[(ForwardError, &str)] = &[
     (ForwardError::Config, "64 config"),
 ];
 
-/// Whether a refusal has this number and text.
-fn reads(alloc: Global, refusal: ForwardError, want: &str) -> Result<bool, AllocError> {
+/// A refusal has this number and text.
+fn reads<R: Abort>(rt: &R, alloc: Global, refusal: ForwardError, want: &str) -> Result<(), Fail> {
     let text = format!(in alloc; "{} {refusal}", refusal.number())?;
-    Ok(text.as_str() == want)
+    same(rt, text.as_str(), want);
+    Ok(())
 }
 
 #[test]
 fn refusals_have_a_number_and_a_text(rt: HostRuntime) -> Result<(), Fail> {
     for row in REFUSALS {
-        assert!(rt; reads(rt.alloc(), row.0, row.1)?, "{}", row.1);
+        reads(&rt, rt.alloc(), row.0, row.1)?;
     }
     Ok(())
 }

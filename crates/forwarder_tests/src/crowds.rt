@@ -2,6 +2,7 @@
 
 use crate::configs::DEFAULT;
 use crate::counted::counts_of;
+use crate::told::same;
 use controller::Wire;
 use flows::{Ended, FlowReport};
 use forwarder::{Config, forward};
@@ -119,10 +120,8 @@ fn fifty_thousand_frames_over_sixteen_flows_by_each_number_of_workers(
     let script = crowd(rt.alloc(), 50_000)?;
     let wanted = wanted(&script);
     for workers in 1..=16 {
-        assert!(rt;
-            all_go(&rt, rt.alloc(), &script, &wanted, workers)?,
-            "{workers} workers"
-        );
+        let good = all_go(&rt, rt.alloc(), &script, &wanted, workers)?;
+        same(&rt, (workers, good), (workers, true));
     }
     Ok(())
 }

@@ -3,6 +3,7 @@
 use crate::bursts::{FORTY, FORTY_COUNTS, script_of};
 use crate::configs::SHORT;
 use crate::counted::{carries, comes_to};
+use crate::told::{holds, same};
 use flows::{Ended, FlowReport};
 use forwarder::{Config, forward};
 use forwarding::{ForwardError, Open};
@@ -76,10 +77,8 @@ fn is_cut_either_way<R: Threads + Wait + Sync>(
 fn a_flow_is_cut_after_its_turns(rt: HostRuntime) -> Result<(), Fail> {
     let script = script_of(rt.alloc(), FORTY)?;
     for turns in [1, 2, 5] {
-        assert!(rt;
-            is_cut_either_way(&rt, rt.alloc(), &script, turns)?,
-            "{turns} turns"
-        );
+        let good = is_cut_either_way(&rt, rt.alloc(), &script, turns)?;
+        same(&rt, (turns, good), (turns, true));
     }
     Ok(())
 }
@@ -99,7 +98,7 @@ fn none_is_cut<R: Threads + Wait + Sync>(
 fn with_turns_enough_no_flow_is_cut(rt: HostRuntime) -> Result<(), Fail> {
     let script = script_of(rt.alloc(), FORTY)?;
     for turns in [0, 1_000_000_000] {
-        assert!(rt; none_is_cut(&rt, rt.alloc(), &script, turns)?);
+        holds(&rt, none_is_cut(&rt, rt.alloc(), &script, turns)?);
     }
     Ok(())
 }

@@ -3,6 +3,7 @@
 use crate::bursts::{Burst, script_of};
 use crate::configs::SHORT;
 use crate::counted::is_touched;
+use crate::told::same;
 use controller::Wire;
 use flows::{Ended, FlowReport};
 use forwarder::{Config, forward};
@@ -94,12 +95,8 @@ const WAYS: &[(bool, bool)] = &[(false, true), (false, false), (true, true), (tr
 fn what_is_dropped_is_counted(rt: HostRuntime) -> Result<(), Fail> {
     let script = script_of(rt.alloc(), MANY)?;
     for way in WAYS {
-        assert!(rt;
-            is_counted_both_ways(&rt, rt.alloc(), &script, way.0, way.1)?,
-            "drop_en {}, retry {}",
-            way.0,
-            way.1
-        );
+        let counted = is_counted_both_ways(&rt, rt.alloc(), &script, way.0, way.1)?;
+        same(&rt, (*way, counted), (*way, true));
     }
     Ok(())
 }

@@ -7,6 +7,7 @@ ghost use Rattle.pool.specs.declared.hand.TheConstants.{WHOLE_SHARE};
 use crate::bursts::{Burst, FORTY, script_of};
 use crate::configs::DEFAULT;
 use crate::gates::{Midway, Shuts, Stops};
+use crate::told::{holds, same};
 use buffer_pool::Stash;
 use forwarder::{Config, forward_in};
 use forwarding::{ForwardError, Gate, Open};
@@ -144,10 +145,8 @@ fn all_back_after_a_refusal(rt: HostRuntime) -> Result<(), Fail> {
     for bursts in [FORTY, LONG] {
         let script = script_of(rt.alloc(), bursts)?;
         for workers in 1..=4 {
-            assert!(rt;
-                all_are_back(&rt, rt.alloc(), &script, workers)?,
-                "{workers} workers"
-            );
+            let good = all_are_back(&rt, rt.alloc(), &script, workers)?;
+            same(&rt, (workers, good), (workers, true));
         }
     }
     Ok(())
@@ -191,10 +190,8 @@ fn all_back_after_a_report(rt: HostRuntime) -> Result<(), Fail> {
     for bursts in [FORTY, LONG] {
         let script = script_of(rt.alloc(), bursts)?;
         for workers in 1..=4 {
-            assert!(rt;
-                all_are_back_at_the_end(&rt, rt.alloc(), &script, workers)?,
-                "{workers} workers"
-            );
+            let good = all_are_back_at_the_end(&rt, rt.alloc(), &script, workers)?;
+            same(&rt, (workers, good), (workers, true));
         }
     }
     Ok(())
@@ -235,10 +232,8 @@ fn packets_that_wait_come_back(rt: HostRuntime) -> Result<(), Fail> {
     let script = script_of(rt.alloc(), ZERO)?;
     for passes in 0..8 {
         let gate = Stops::after(passes);
-        assert!(rt;
-            are_back_after(&rt, rt.alloc(), &script, &gate)?,
-            "{passes} passes"
-        );
+        let good = are_back_after(&rt, rt.alloc(), &script, &gate)?;
+        same(&rt, (passes, good), (passes, true));
     }
     Ok(())
 }
@@ -248,7 +243,7 @@ fn a_frame_that_is_taken_in_part_comes_back(rt: HostRuntime) -> Result<(), Fail>
     let script = script_of(rt.alloc(), LONGEST)?;
     for _ in 0..20 {
         let gate = Midway::new();
-        assert!(rt; are_back_after(&rt, rt.alloc(), &script, &gate)?);
+        holds(&rt, are_back_after(&rt, rt.alloc(), &script, &gate)?);
     }
     Ok(())
 }

@@ -28,6 +28,8 @@ mod rows;
 #[cfg(test)]
 mod side_by_side;
 #[cfg(test)]
+mod told;
+#[cfg(test)]
 mod wanting;
 #[cfg(test)]
 mod watched;

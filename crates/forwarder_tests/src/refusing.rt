@@ -3,6 +3,7 @@
 use crate::bursts::{Burst, FORTY, script_of};
 use crate::configs::SHORT;
 use crate::gates::{Leaving, Shuts};
+use crate::told::same;
 use forwarder::{Config, forward};
 use forwarding::ForwardError;
 use std::alloc::Global;
@@ -45,10 +46,8 @@ fn all_are_refused<R: Threads + Wait + Sync>(
 fn wherever_a_gate_refuses_that_is_answered(rt: HostRuntime) -> Result<(), Fail> {
     let script = script_of(rt.alloc(), FORTY)?;
     for workers in 1..=4 {
-        assert!(rt;
-            all_are_refused(&rt, rt.alloc(), &script, workers),
-            "{workers} workers"
-        );
+        let good = all_are_refused(&rt, rt.alloc(), &script, workers);
+        same(&rt, (workers, good), (workers, true));
     }
     Ok(())
 }
@@ -74,10 +73,8 @@ fn is_left<R: Threads + Wait + Sync>(rt: &R, alloc: Global, script: &Script, wor
 fn all_workers_are_joined_before_a_refusal_is_answered(rt: HostRuntime) -> Result<(), Fail> {
     let script = script_of(rt.alloc(), ONE)?;
     for workers in 1..=4 {
-        assert!(rt;
-            is_left(&rt, rt.alloc(), &script, workers),
-            "{workers} workers"
-        );
+        let good = is_left(&rt, rt.alloc(), &script, workers);
+        same(&rt, (workers, good), (workers, true));
     }
     Ok(())
 }

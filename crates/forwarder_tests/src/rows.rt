@@ -3,6 +3,7 @@
 use crate::bursts::{Burst, FORTY, FORTY_COUNTS, script_of};
 use crate::configs::{DEFAULT, SHORT};
 use crate::counted::{Counts, NONE, comes_to};
+use crate::told::{holds, same};
 use controller::Wire;
 use flows::FlowReport;
 use forwarder::{Config, forward};
@@ -58,10 +59,8 @@ fn forty_go_both_ways<R: Threads + Wait + Sync>(
 fn forty_frames_over_a_short_ring(rt: HostRuntime) -> Result<(), Fail> {
     let script = script_of(rt.alloc(), FORTY)?;
     for workers in 1..=4 {
-        assert!(rt;
-            forty_go_both_ways(&rt, rt.alloc(), &script, workers)?,
-            "{workers} workers"
-        );
+        let good = forty_go_both_ways(&rt, rt.alloc(), &script, workers)?;
+        same(&rt, (workers, good), (workers, true));
     }
     Ok(())
 }
@@ -95,14 +94,17 @@ const TOUCHED: [Option<[u8; 4]>; 3] = [Some([0, 1, 0, 0]), Some([255, 0, 255, 25
 fn a_touch_grows_one_byte(rt: HostRuntime) -> Result<(), Fail> {
     let script = script_of(rt.alloc(), FORTY)?;
     let report = forward(&rt, rt.alloc(), &script, &SHORT, &Open)?;
-    assert!(rt; edges_of_flow_1(&report.flows) == TOUCHED);
+    same(&rt, edges_of_flow_1(&report.flows), TOUCHED);
     Ok(())
 }
 
 #[test]
 fn an_empty_script(rt: HostRuntime) -> Result<(), Fail> {
     let script = script_of(rt.alloc(), &[])?;
-    assert!(rt; comes_to(&rt, rt.alloc(), &script, &EMPTY, &Open, &[NONE; 4])?);
+    holds(
+        &rt,
+        comes_to(&rt, rt.alloc(), &script, &EMPTY, &Open, &[NONE; 4])?,
+    );
     Ok(())
 }
 
@@ -172,12 +174,8 @@ fn goes<R: Threads + Wait + Sync>(rt: &R, alloc: Global, row: &Long) -> Result<b
 #[test]
 fn long_frames_go_out_or_are_oversize(rt: HostRuntime) -> Result<(), Fail> {
     for row in LONG {
-        assert!(rt;
-            goes(&rt, rt.alloc(), row)?,
-            "{} bytes, a ring of {}",
-            row.len,
-            row.ring
-        );
+        let gone = goes(&rt, rt.alloc(), row)?;
+        same(&rt, (row.len, row.ring, gone), (row.len, row.ring, true));
     }
     Ok(())
 }

@@ -4,6 +4,7 @@ use crate::bursts::{Burst, script_of};
 use crate::configs::DEFAULT;
 use crate::counted::{Counts, NONE, comes_to};
 use crate::gates::{After, Meeting};
+use crate::told::holds;
 use forwarder::Config;
 use std::alloc::Global;
 use std::sync::Wait;
@@ -25,8 +26,11 @@ const ONE_COUNTS: &[Counts] = &[[1, 1, 0, 0, 1, 1, 0, 1, 0], NONE];
 fn a_driver_and_its_controller_wait_for_each_other(rt: HostRuntime) -> Result<(), Fail> {
     let script = script_of(rt.alloc(), ONE)?;
     let gate = Meeting::new();
-    assert!(rt; comes_to(&rt, rt.alloc(), &script, &DEFAULT, &gate, ONE_COUNTS)?);
-    assert!(rt; gate.took_place());
+    holds(
+        &rt,
+        comes_to(&rt, rt.alloc(), &script, &DEFAULT, &gate, ONE_COUNTS)?,
+    );
+    holds(&rt, gate.took_place());
     Ok(())
 }
 
@@ -66,8 +70,8 @@ fn is_full<R: Threads + Wait + Sync>(
 #[test]
 fn a_full_ring_drops_what_comes(rt: HostRuntime) -> Result<(), Fail> {
     let script = script_of(rt.alloc(), FORTY)?;
-    assert!(rt; is_full(&rt, rt.alloc(), &script, 8, 4_096, SEVEN)?);
-    assert!(rt; is_full(&rt, rt.alloc(), &script, 16, 4_096, FIFTEEN)?);
+    holds(&rt, is_full(&rt, rt.alloc(), &script, 8, 4_096, SEVEN)?);
+    holds(&rt, is_full(&rt, rt.alloc(), &script, 16, 4_096, FIFTEEN)?);
     Ok(())
 }
 
@@ -75,6 +79,6 @@ fn a_full_ring_drops_what_comes(rt: HostRuntime) -> Result<(), Fail> {
 #[test]
 fn a_flow_has_its_share_of_the_buffers(rt: HostRuntime) -> Result<(), Fail> {
     let script = script_of(rt.alloc(), FORTY)?;
-    assert!(rt; is_full(&rt, rt.alloc(), &script, 64, 32, SIXTEEN)?);
+    holds(&rt, is_full(&rt, rt.alloc(), &script, 64, 32, SIXTEEN)?);
     Ok(())
 }

@@ -4,6 +4,7 @@
 use crate::configs::SHORT;
 use crate::counted::{Counts, NONE, comes_to};
 use crate::gathered::{BUFFERS, ended_over};
+use crate::told::holds;
 use forwarder::Config;
 use forwarding::{ForwardError, Open};
 use pool::Pool;
@@ -35,10 +36,8 @@ fn without_memory_or_threads_that_is_answered(rt: HostRuntime) {
         return;
     };
     match comes_to(&rt, rt.alloc(), &script, &TWO_WORKERS, &Open, TWO_COUNTS) {
-        Ok(good) => assert!(rt; good),
-        Err(refusal) => {
-            assert!(rt; is_want(Some(refusal)));
-        }
+        Ok(good) => holds(&rt, good),
+        Err(refusal) => holds(&rt, is_want(Some(refusal))),
     }
 }
 
@@ -52,6 +51,6 @@ fn without_memory_or_threads_no_buffer_is_lost(rt: HostRuntime) -> Result<(), Fa
         return Ok(());
     };
     let (refusal, numbers) = ended_over(&rt, rt.alloc(), &script, &TWO_WORKERS, &Open, &pool, pass);
-    assert!(rt; is_want(refusal) && numbers.came_once());
+    holds(&rt, is_want(refusal) && numbers.came_once());
     Ok(())
 }

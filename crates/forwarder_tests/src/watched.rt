@@ -7,6 +7,7 @@ use crate::configs::SHORT;
 use crate::counted::is_drained;
 use crate::gates::Paced;
 use crate::readers::{Reader, readers_of};
+use crate::told::{holds, same};
 use counters::{DriveCell, DrivePass, Driven, FlowCells, FlowPens, Moment, StatCell, StatPass};
 use flows::FlowReport;
 use forwarder::{Config, Report, forward_watched};
@@ -48,7 +49,7 @@ fn each_cell_shows_its_report(rt: HostRuntime) -> Result<(), Fail> {
     let script = script_of(rt.alloc(), FORTY)?;
     for workers in 1..=4 {
         let good = are_shown(&rt, rt.alloc(), &script, workers)?;
-        assert!(rt; good, "{workers} workers");
+        same(&rt, (workers, good), (workers, true));
     }
     Ok(())
 }
@@ -144,6 +145,9 @@ fn watch_while_workers_run(rt: HostRuntime) -> Result<(), Fail> {
     let mut readers = readers_of(rt.alloc(), &cells, &mut pens)?;
     readers.truncate(2);
     let reader = readers.pop().ok_or("no flow 1")?;
-    assert!(rt; is_watched(&rt, rt.alloc(), &script, &config, &cells, pens, reader)?);
+    holds(
+        &rt,
+        is_watched(&rt, rt.alloc(), &script, &config, &cells, pens, reader)?,
+    );
     Ok(())
 }

@@ -1,6 +1,7 @@
 //! What is printed of lists that together meet all that a queue can do.
 
 use crate::narrow::Narrow;
+use crate::told::{holds, same};
 use commands::{NOTES, QueuePlan, replay_text};
 use cover_command::{CoverRequest, answer};
 use ring_machine::Completion;
@@ -41,17 +42,18 @@ fn lists_of_both_queues_are_printed(rt: HostRuntime) -> Result<(), Fail> {
     let (mut output, mut faults) = (Vec::new(alloc), Vec::new(alloc));
     let mut shown = Vec::new(alloc);
     let status = answer(alloc, &REQUEST, &mut output, &mut faults, &mut shown);
-    assert_eq!(&rt; (status, faults.len()), (0, 0));
+    same(&rt, (status, faults.len()), (0, 0));
     let (text, told) = (String::from_utf8(output)?, String::from_utf8(shown)?);
     let first = format!(in alloc; "{FIRST}r0 A4 not enabled\nmoves 0 of 1\n")?;
-    assert!(&rt; text.as_str().starts_with(first.as_str()));
+    holds(&rt, text.as_str().starts_with(first.as_str()));
     let page = replay_text(alloc, QUEUES, &mut LAST.as_bytes())?;
     let last = format!(in alloc; "{LAST}{page}")?;
-    assert!(&rt; text.as_str().ends_with(last.as_str()));
-    assert_eq!(&rt; lists_in(text.as_str()), 17);
-    assert!(&rt;
+    holds(&rt, text.as_str().ends_with(last.as_str()));
+    same(&rt, lists_in(text.as_str()), 17);
+    holds(
+        &rt,
         told.as_str()
-            .starts_with("r0 states 1000 of 1568 steps 7890 pairs 13\n")
+            .starts_with("r0 states 1000 of 1568 steps 7890 pairs 13\n"),
     );
     Ok(())
 }
@@ -65,9 +67,13 @@ fn an_output_that_fails_has_a_beginning(rt: HostRuntime) -> Result<(), Fail> {
     };
     let (mut faults, mut shown) = (Vec::new(alloc), Vec::new(alloc));
     let status = answer(alloc, &REQUEST, &mut output, &mut faults, &mut shown);
-    assert_eq!(&rt; status, 1);
-    assert!(&rt; output.taken.as_slice().starts_with(FIRST.as_bytes()));
-    assert_eq!(&rt; output.taken.len(), FIRST.len() + 3);
-    assert_eq!(&rt; str::from_utf8(faults.as_slice())?, "refused 84 output\n");
+    same(&rt, status, 1);
+    holds(&rt, output.taken.as_slice().starts_with(FIRST.as_bytes()));
+    same(&rt, output.taken.len(), FIRST.len() + 3);
+    same(
+        &rt,
+        str::from_utf8(faults.as_slice())?,
+        "refused 84 output\n",
+    );
     Ok(())
 }

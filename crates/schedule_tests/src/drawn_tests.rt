@@ -1,5 +1,6 @@
 //! What a list of moves has.
 
+use crate::told::{holds, same};
 use ring_machine::{Completion, ControlStep, Move, RxStep, TxStep};
 use schedules::{Drawn, SchedulePlan, draw};
 use std::alloc::{AllocError, Global};
@@ -105,12 +106,12 @@ fn text_of(alloc: Global, drawn: &[Drawn]) -> Result<String, AllocError> {
 fn a_seed_and_a_number_give_one_list(rt: HostRuntime) -> Result<(), Fail> {
     let alloc = rt.alloc();
     let one = text_of(alloc, draw(alloc, &PLAN, 7, 3)?.as_slice())?;
-    let same = text_of(alloc, draw(alloc, &PLAN, 7, 3)?.as_slice())?;
+    let again = text_of(alloc, draw(alloc, &PLAN, 7, 3)?.as_slice())?;
     let next = text_of(alloc, draw(alloc, &PLAN, 7, 4)?.as_slice())?;
     let other = text_of(alloc, draw(alloc, &PLAN, 8, 3)?.as_slice())?;
-    assert_eq!(&rt; one.as_str(), same.as_str());
-    assert!(&rt; one.as_str() != next.as_str());
-    assert!(&rt; one.as_str() != other.as_str());
+    same(&rt, one.as_str(), again.as_str());
+    holds(&rt, one.as_str() != next.as_str());
+    holds(&rt, one.as_str() != other.as_str());
     Ok(())
 }
 
@@ -127,9 +128,9 @@ fn each_move_happens(rt: HostRuntime) -> Result<(), Fail> {
                     ..PLAN
                 };
                 let drawn = draw(rt.alloc(), &plan, 1, 0)?;
-                assert_eq!(&rt; drawn.len(), 1000);
+                same(&rt, drawn.len(), 1000);
                 for d in drawn.as_slice() {
-                    assert!(&rt; d.happens);
+                    holds(&rt, d.happens);
                 }
             }
         }
@@ -143,7 +144,7 @@ fn as_many_are_refused_as_may_be(rt: HostRuntime) -> Result<(), Fail> {
         let plan = SchedulePlan { refused, ..PLAN };
         let mut counts = [0; KINDS];
         count(&mut counts, draw(rt.alloc(), &plan, 2, 0)?.as_slice());
-        assert!(&rt; counts[REFUSED] >= least && counts[REFUSED] <= most);
+        holds(&rt, counts[REFUSED] >= least && counts[REFUSED] <= most);
     }
     Ok(())
 }
@@ -156,13 +157,13 @@ fn queues_go_through_their_states(rt: HostRuntime) -> Result<(), Fail> {
         for list in 0..10 {
             count(&mut counts, draw(rt.alloc(), &plan, 3, list)?.as_slice());
         }
-        assert!(&rt; counts[INNER] > 100);
-        assert!(&rt; counts[TAKEN] > 500);
-        assert!(&rt; counts[CLEANED] > 100);
-        assert!(&rt; counts[QUIET] > 5);
-        assert!(&rt; counts[DISABLED] > 20);
-        assert!(&rt; counts[RECLAIMED] > 50);
-        assert!(&rt; counts[RENEWED] > 10);
+        holds(&rt, counts[INNER] > 100);
+        holds(&rt, counts[TAKEN] > 500);
+        holds(&rt, counts[CLEANED] > 100);
+        holds(&rt, counts[QUIET] > 5);
+        holds(&rt, counts[DISABLED] > 20);
+        holds(&rt, counts[RECLAIMED] > 50);
+        holds(&rt, counts[RENEWED] > 10);
     }
     Ok(())
 }
@@ -177,7 +178,7 @@ fn a_device_of_silicon_has_only_data(rt: HostRuntime) -> Result<(), Fail> {
     };
     for list in 0..10 {
         for d in draw(rt.alloc(), &plan, 4, list)?.as_slice() {
-            assert!(&rt; is_data(d.action));
+            holds(&rt, is_data(d.action));
         }
     }
     Ok(())
@@ -192,8 +193,8 @@ fn queues_that_cannot_be_are_refused(rt: HostRuntime) -> Result<(), Fail> {
             ..PLAN
         };
         match draw(rt.alloc(), &plan, 0, 0) {
-            Ok(_) => assert!(&rt; false, "{pairs} {ring}"),
-            Err(error) => assert_eq!(&rt; error.number(), 12),
+            Ok(_) => same(&rt, (pairs, ring, 0), (pairs, ring, 12)),
+            Err(error) => same(&rt, error.number(), 12),
         }
     }
     Ok(())
@@ -203,8 +204,8 @@ fn queues_that_cannot_be_are_refused(rt: HostRuntime) -> Result<(), Fail> {
 #[test]
 fn want_of_memory(rt: HostRuntime) -> Result<(), Fail> {
     match draw(rt.alloc(), &PLAN, 0, 0) {
-        Ok(drawn) => assert_eq!(&rt; drawn.len(), 1000),
-        Err(error) => assert_eq!(&rt; error.number(), 13),
+        Ok(drawn) => same(&rt, drawn.len(), 1000),
+        Err(error) => same(&rt, error.number(), 13),
     }
     Ok(())
 }

@@ -9,3 +9,5 @@ mod drawn_tests;
 mod narrow;
 #[cfg(test)]
 mod printed_tests;
+#[cfg(test)]
+mod told;

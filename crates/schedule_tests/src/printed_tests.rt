@@ -1,6 +1,7 @@
 //! What is printed of lists.
 
 use crate::narrow::Narrow;
+use crate::told::{holds, same};
 use commands::{NOTES, QueuePlan, replay_text};
 use ring_machine::Completion;
 use schedule_command::{ScheduleRequest, answer};
@@ -41,15 +42,15 @@ const QUEUES: QueuePlan = QueuePlan {
 fn printed<A: Abort>(rt: &A, alloc: Global, request: &ScheduleRequest) -> Result<String, Fail> {
     let (mut output, mut faults) = (Vec::new(alloc), Vec::new(alloc));
     let status = answer(alloc, request, &mut output, &mut faults);
-    assert!(rt; faults.is_empty());
-    assert_eq!(rt; status, 0);
+    holds(&rt, faults.is_empty());
+    same(&rt, status, 0);
     Ok(String::from_utf8(output)?)
 }
 
 #[test]
 fn lists_stand_one_behind_another(rt: HostRuntime) -> Result<(), Fail> {
     let text = printed(&rt, rt.alloc(), &REQUEST)?;
-    assert_eq!(&rt; text.as_str(), LISTS);
+    same(&rt, text.as_str(), LISTS);
     Ok(())
 }
 
@@ -70,11 +71,12 @@ fn what_is_expected_is_what_replay_prints(rt: HostRuntime) -> Result<(), Fail> {
         },
     )?;
     let expected = replay_text(alloc, QUEUES, &mut list.as_bytes())?;
-    assert_eq!(&rt;
+    same(
+        &rt,
         whole.as_str(),
-        format!(in alloc; "{list}{expected}")?.as_str()
+        format!(in alloc; "{list}{expected}")?.as_str(),
     );
-    assert!(&rt; whole.as_str().ends_with("moves 4 of 4\n"));
+    holds(&rt, whole.as_str().ends_with("moves 4 of 4\n"));
     Ok(())
 }
 
@@ -85,7 +87,7 @@ fn no_list_is_nothing(rt: HostRuntime) -> Result<(), Fail> {
         ..REQUEST
     };
     let text = printed(&rt, rt.alloc(), &request)?;
-    assert_eq!(&rt; text.as_str(), "");
+    same(&rt, text.as_str(), "");
     Ok(())
 }
 
@@ -103,8 +105,8 @@ fn is_refused<A: Abort>(
     };
     let mut faults = Vec::new(alloc);
     let status = answer(alloc, request, &mut output, &mut faults);
-    assert_eq!(rt; String::from_utf8(faults)?.as_str(), line);
-    assert_eq!(rt; status, 1);
+    same(&rt, String::from_utf8(faults)?.as_str(), line);
+    same(&rt, status, 1);
     Ok(output.taken)
 }
 
@@ -113,7 +115,7 @@ fn an_output_that_fails_has_a_beginning(rt: HostRuntime) -> Result<(), Fail> {
     let whole = printed(&rt, rt.alloc(), &REQUEST)?;
     for room in 0..whole.len() {
         let taken = is_refused(&rt, rt.alloc(), &REQUEST, room, "refused 84 output\n")?;
-        assert_eq!(&rt; taken.as_slice(), &whole.as_bytes()[..room]);
+        same(&rt, taken.as_slice(), &whole.as_bytes()[..room]);
     }
     Ok(())
 }
@@ -128,6 +130,6 @@ fn queues_that_cannot_be_are_refused(rt: HostRuntime) -> Result<(), Fail> {
         ..REQUEST
     };
     let taken = is_refused(&rt, rt.alloc(), &request, 100, "refused 12 ring length\n")?;
-    assert!(&rt; taken.is_empty());
+    holds(&rt, taken.is_empty());
     Ok(())
 }
