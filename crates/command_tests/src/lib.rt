@@ -26,4 +26,6 @@ mod stream_tests;
 #[cfg(test)]
 mod told;
 #[cfg(test)]
+mod wanted;
+#[cfg(test)]
 mod words_tests;

@@ -5,6 +5,7 @@ use crate::picture_rows::PICTURES;
 use crate::register_rows::REGISTERS;
 use crate::replay_rows::{ENDS, MIDDLE, ROWS};
 use crate::told::{comes_to, times};
+use crate::wanted::same;
 use program_kit::outcome_of;
 use std::alloc::{AllocError, Global};
 use std::process::Abort;
@@ -187,8 +188,8 @@ fn a_disabling_at_every_step_makes_as_many_moves(rt: HostRuntime) -> Result<(), 
     for (at, end) in ENDS {
         let text = asked_at(rt.alloc(), at)?;
         let told = outcome_of(&rt, rt.alloc(), &["replay"], text.as_bytes())?;
-        assert!(rt; told.text()?.ends_with(end), "with C5 at {at}");
-        assert_eq!(rt; told.status, 0, "with C5 at {at}");
+        same(&rt, (at, told.text()?.ends_with(end)), (at, true));
+        same(&rt, (at, told.status), (at, 0));
     }
     Ok(())
 }
@@ -203,9 +204,13 @@ fn are_made<R: Abort + Threads + Wait + Clock + Sync + Files>(
     let words = ["replay", "--pairs", pairs, "--ring", ring];
     let text = times(alloc, post, posts, "")?;
     let posted = outcome_of(rt, alloc, words.as_slice(), text.as_bytes())?;
-    assert!(rt; posted.text()?.ends_with(end), "{pairs} of {ring}");
+    same(
+        rt,
+        (pairs, ring, posted.text()?.ends_with(end)),
+        (pairs, ring, true),
+    );
     let next = outcome_of(rt, alloc, words.as_slice(), beyond.as_bytes())?;
-    assert!(rt; next.text()? == told, "{pairs} of {ring}");
+    same(rt, (pairs, ring, next.text()? == told), (pairs, ring, true));
     Ok(())
 }
 

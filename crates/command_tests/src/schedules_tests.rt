@@ -1,6 +1,7 @@
 //! The command `schedules`, from its words to its lists.
 
 use crate::told::comes_to;
+use crate::wanted::{holds, same};
 use program_kit::outcome_of;
 use std::test::Fail;
 
@@ -37,11 +38,12 @@ fn what_is_expected_is_what_replay_prints(rt: HostRuntime) -> Result<(), Fail> {
     let page = outcome_of(&rt, alloc, ["replay"].as_slice(), list.output.as_slice())?;
     let words = ["schedules", "--seed", "1", "--moves", "4", "--expect"];
     let whole = outcome_of(&rt, alloc, words.as_slice(), b"")?;
-    assert_eq!(&rt;
+    same(
+        &rt,
         whole.text()?,
-        format!(in alloc; "{}{}", list.text()?, page.text()?)?.as_str()
+        format!(in alloc; "{}{}", list.text()?, page.text()?)?.as_str(),
     );
-    assert!(&rt; whole.text()?.ends_with("moves 4 of 4\n"));
+    holds(&rt, whole.text()?.ends_with("moves 4 of 4\n"));
     Ok(())
 }
 
@@ -52,13 +54,14 @@ const FIRST: &str = "# r0 A4 driver On controller serving: not enabled\nr0 A4\n#
 fn lists_that_cover_are_printed(rt: HostRuntime) -> Result<(), Fail> {
     let words = ["schedules", "--cover", "--device-only-real"];
     let told = outcome_of(&rt, rt.alloc(), words.as_slice(), b"")?;
-    assert_eq!(&rt; (told.status, told.faults.as_str()), (0, ""));
-    assert!(&rt; told.text()?.starts_with(FIRST));
-    assert!(&rt; told.text()?.ends_with("t0 B8\n# end\n"));
-    assert!(&rt;
+    same(&rt, (told.status, told.faults.as_str()), (0, ""));
+    holds(&rt, told.text()?.starts_with(FIRST));
+    holds(&rt, told.text()?.ends_with("t0 B8\n# end\n"));
+    holds(
+        &rt,
         told.shown
             .as_str()
-            .ends_with("t0 states 3445 of 3445 steps 25819 pairs 16\n")
+            .ends_with("t0 states 3445 of 3445 steps 25819 pairs 16\n"),
     );
     Ok(())
 }

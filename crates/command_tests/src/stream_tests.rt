@@ -1,5 +1,6 @@
 //! Streams that fail, and want of memory.
 
+use crate::wanted::{holds, same};
 use commands::{NOTES, QueuePlan, Request, perform};
 use program_kit::{Broken, Narrow, Screen, Unflushed, refusal_of, status_of};
 use ring_machine::Completion;
@@ -46,8 +47,8 @@ fn is_refused<R: Abort + Threads + Wait + Clock + Sync + Files, W: Write>(
 ) -> Result<(), Fail> {
     let mut input = "r0 A2\nr0 A2\nr0 A2\n".as_bytes();
     let (status, faults) = refusal_of(rt, alloc, words, &mut input, output)?;
-    assert_eq!(rt; faults.as_str(), "refused 84 output\n", "at {words:?}");
-    assert_eq!(rt; status, 1, "at {words:?}");
+    same(rt, (words, faults.as_str()), (words, "refused 84 output\n"));
+    same(rt, (words, status), (words, 1));
     Ok(())
 }
 
@@ -57,7 +58,7 @@ fn an_output_that_fails_is_refused(rt: HostRuntime) -> Result<(), Fail> {
         for room in [0, 1, 27, 28] {
             let mut output = Narrow::new(rt.alloc(), room);
             is_refused(&rt, rt.alloc(), words, &mut output)?;
-            assert_eq!(rt; output.taken.len(), room, "at {words:?}");
+            same(&rt, (words, output.taken.len()), (words, room));
         }
         is_refused(&rt, rt.alloc(), words, &mut Unflushed)?;
     }
@@ -81,7 +82,7 @@ fn faults_that_fail_change_no_status(rt: HostRuntime) -> Result<(), Fail> {
                 &mut faults,
                 &mut screen,
             )?;
-            assert_eq!(rt; told, status, "at {words:?}");
+            same(&rt, (words, told), (words, status));
         }
     }
     Ok(())
@@ -95,9 +96,9 @@ fn an_input_that_fails_in_mid_stream_is_refused(rt: HostRuntime) -> Result<(), F
     };
     let words = ["replay"].as_slice();
     let (status, faults) = refusal_of(&rt, rt.alloc(), words, &mut input, &mut output)?;
-    assert_eq!(rt; status, 1);
-    assert!(rt; output.is_empty());
-    assert_eq!(rt; faults.as_str(), "refused 82 input\n");
+    same(&rt, status, 1);
+    holds(&rt, output.is_empty());
+    same(&rt, faults.as_str(), "refused 82 input\n");
     Ok(())
 }
 
@@ -119,11 +120,11 @@ fn want_of_memory(rt: HostRuntime) -> Result<(), Fail> {
         &mut input,
         &mut output,
     ) {
-        Ok(()) => assert_eq!(rt; output.taken.len(), 40),
+        Ok(()) => same(&rt, output.taken.len(), 40),
         Err(refusal) => {
             let number = refusal.number();
-            assert!(rt; number == 13 || number == 83 || number == 84);
-            assert!(rt; output.taken.is_empty());
+            holds(&rt, number == 13 || number == 83 || number == 84);
+            holds(&rt, output.taken.is_empty());
         }
     }
     Ok(())

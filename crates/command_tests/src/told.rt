@@ -1,5 +1,6 @@
 //! What runs of the program on words and an input have to come to.
 
+use crate::wanted::same;
 use program_kit::{is_page, outcome_of};
 use std::alloc::{AllocError, Global};
 use std::process::Abort;
@@ -26,10 +27,14 @@ pub fn comes_to<R: Abort + Threads + Wait + Clock + Sync + Files>(
     (status, output, faults): (u8, &str, &str),
 ) -> Result<(), Fail> {
     let told = outcome_of(rt, alloc, words, input.as_bytes())?;
-    assert_eq!(rt; told.text()?, output, "at {words:?} {input:?}");
-    assert_eq!(rt; told.faults.as_str(), faults, "at {words:?} {input:?}");
-    assert_eq!(rt; told.status, status, "at {words:?} {input:?}");
-    assert_eq!(rt; told.shown.as_str(), "", "at {words:?} {input:?}");
+    same(rt, (words, input, told.text()?), (words, input, output));
+    same(
+        rt,
+        (words, input, told.faults.as_str()),
+        (words, input, faults),
+    );
+    same(rt, (words, input, told.status), (words, input, status));
+    same(rt, (words, input, told.shown.as_str()), (words, input, ""));
     Ok(())
 }
 
@@ -41,11 +46,12 @@ pub fn is_mistaken<R: Abort + Threads + Wait + Clock + Sync + Files>(
     text: &str,
 ) -> Result<(), Fail> {
     let told = outcome_of(rt, alloc, words, b"r0 A2\n")?;
-    assert_eq!(rt; told.status, 2, "at {words:?}");
-    assert!(rt; told.output.is_empty(), "at {words:?}");
-    assert!(rt;
-        is_page(told.faults.as_str(), "error: ", text),
-        "at {words:?}"
+    same(rt, (words, told.status), (words, 2));
+    same(rt, (words, told.output.is_empty()), (words, true));
+    same(
+        rt,
+        (words, is_page(told.faults.as_str(), "error: ", text)),
+        (words, true),
     );
     Ok(())
 }
@@ -58,8 +64,12 @@ pub fn is_helped<R: Abort + Threads + Wait + Clock + Sync + Files>(
     text: &str,
 ) -> Result<(), Fail> {
     let told = outcome_of(rt, alloc, words, b"")?;
-    assert!(rt; told.status == 0 && told.faults.is_empty(), "at {words:?}");
-    assert!(rt; is_page(told.text()?, "", text), "at {words:?}");
+    same(
+        rt,
+        (words, told.status == 0 && told.faults.is_empty()),
+        (words, true),
+    );
+    same(rt, (words, is_page(told.text()?, "", text)), (words, true));
     Ok(())
 }
 

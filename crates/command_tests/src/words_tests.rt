@@ -1,6 +1,7 @@
 //! Words that ask for help, and words that are wrong.
 
 use crate::told::{comes_to, is_helped, is_mistaken};
+use crate::wanted::same;
 use buffer_pool::PoolError;
 use commands::{REFUSED, Refusal, refuse};
 use descriptor::DescError;
@@ -175,8 +176,8 @@ fn wrong_words_are_told_with_status_2(rt: HostRuntime) -> Result<(), Fail> {
 fn refusals_have_their_words(rt: HostRuntime) -> Result<(), Fail> {
     for (refusal, line) in LINES {
         let mut faults = Vec::new(rt.alloc());
-        assert_eq!(rt; refuse(&mut faults, refusal), REFUSED);
-        assert_eq!(rt; faults.as_slice(), line.as_bytes());
+        same(&rt, refuse(&mut faults, refusal), REFUSED);
+        same(&rt, faults.as_slice(), line.as_bytes());
     }
     Ok(())
 }

@@ -4,6 +4,7 @@ use crate::crowd::{FLOWS, crowd, crowd_forwarded};
 use crate::forty::{FORTY_WORDS, forty, forty_forwarded};
 use crate::forward_rows::ROWS;
 use crate::told::comes_to;
+use crate::wanted::{holds, same};
 use program_kit::outcome_of;
 use std::alloc::Global;
 use std::process::Abort;
@@ -67,11 +68,12 @@ fn a_flow_that_is_cut_says_so(rt: HostRuntime) -> Result<(), Fail> {
         "forward", "--pairs", "2", "--ring", "8", "--batch", "1", "--turns", "3",
     ];
     let told = outcome_of(&rt, rt.alloc(), words.as_slice(), script.as_bytes())?;
-    assert_eq!(rt; told.status, 0);
-    assert!(rt;
-        told.text()?.contains(" ended cut\nflow 1 0 "),
-        "{}",
-        told.text()?
+    same(&rt, told.status, 0);
+    let text = told.text()?;
+    same(
+        &rt,
+        (text, text.contains(" ended cut\nflow 1 0 ")),
+        (text, true),
     );
     Ok(())
 }
@@ -84,11 +86,12 @@ fn ten_frames_of_15_000_bytes_go_out(rt: HostRuntime) -> Result<(), Fail> {
     }
     let words = ["forward", "--ring", "16", "--bsize", "1024"];
     let told = outcome_of(&rt, rt.alloc(), words.as_slice(), script.as_bytes())?;
-    assert_eq!(rt; told.status, 0);
-    assert!(rt;
+    same(&rt, told.status, 0);
+    holds(
+        &rt,
         told.text()?.contains(
-            "\nflow 0 0 offered 10 stored 10 dropped 0 oversize 0 taken 10 posted 10 tx-dropped 0 wire 10 left 0 ended drained\n"
-        )
+            "\nflow 0 0 offered 10 stored 10 dropped 0 oversize 0 taken 10 posted 10 tx-dropped 0 wire 10 left 0 ended drained\n",
+        ),
     );
     Ok(())
 }
@@ -101,11 +104,12 @@ fn sixteen_flows_are_printed_alike_by_each_number_of_workers(rt: HostRuntime) ->
         let count = format!(in rt.alloc(); "{workers}")?;
         let words = ["forward", "--pairs", "8", "--workers", count.as_str()];
         let told = outcome_of(&rt, rt.alloc(), words.as_slice(), script.as_bytes())?;
-        assert!(rt;
-            told.output.as_slice() == printed.as_bytes(),
-            "with {workers} workers"
+        same(
+            &rt,
+            (workers, told.output.as_slice() == printed.as_bytes()),
+            (workers, true),
         );
-        assert_eq!(rt; told.status, 0);
+        same(&rt, told.status, 0);
     }
     Ok(())
 }

@@ -1,5 +1,6 @@
 //! The help of `forward`, words that are wrong, and refusals.
 
+use crate::wanted::{holds, same};
 use commands::{REFUSED, Refusal, refuse};
 use forwarding::ForwardError;
 use program_kit::outcome_of;
@@ -91,8 +92,8 @@ const REFUSALS: [(Refusal, &str); 11] = [
 fn refusals_have_their_words(rt: HostRuntime) -> Result<(), Fail> {
     for (refusal, line) in REFUSALS {
         let mut faults = Vec::new(rt.alloc());
-        assert_eq!(rt; refuse(&mut faults, refusal), REFUSED);
-        assert_eq!(rt; faults.as_slice(), line.as_bytes());
+        same(&rt, refuse(&mut faults, refusal), REFUSED);
+        same(&rt, faults.as_slice(), line.as_bytes());
     }
     Ok(())
 }
@@ -100,9 +101,10 @@ fn refusals_have_their_words(rt: HostRuntime) -> Result<(), Fail> {
 #[test]
 fn the_program_s_help_has_an_example(rt: HostRuntime) -> Result<(), Fail> {
     let told = outcome_of(&rt, rt.alloc(), ["--help"].as_slice(), b"")?;
-    assert!(rt;
+    holds(
+        &rt,
         told.text()?
-            .contains("echo '0 0 fill 60 01' | poll82599 forward\n")
+            .contains("echo '0 0 fill 60 01' | poll82599 forward\n"),
     );
     Ok(())
 }
@@ -110,9 +112,9 @@ fn the_program_s_help_has_an_example(rt: HostRuntime) -> Result<(), Fail> {
 #[test]
 fn help_has_each_option(rt: HostRuntime) -> Result<(), Fail> {
     let told = outcome_of(&rt, rt.alloc(), ["forward", "--help"].as_slice(), b"")?;
-    assert_eq!(rt; told.status, 0);
+    same(&rt, told.status, 0);
     for text in LINES {
-        assert!(rt; told.text()?.contains(text), "{text}");
+        same(&rt, (text, told.text()?.contains(text)), (text, true));
     }
     Ok(())
 }
@@ -121,9 +123,9 @@ fn help_has_each_option(rt: HostRuntime) -> Result<(), Fail> {
 fn wrong_words_are_told_with_status_2(rt: HostRuntime) -> Result<(), Fail> {
     for (words, text) in WRONG {
         let told = outcome_of(&rt, rt.alloc(), words, b"2 0 00\n")?;
-        assert_eq!(rt; told.status, 2, "at {words:?}");
-        assert!(rt; told.output.is_empty(), "at {words:?}");
-        assert!(rt; told.faults.contains(text), "at {words:?}");
+        same(&rt, (words, told.status), (words, 2));
+        same(&rt, (words, told.output.is_empty()), (words, true));
+        same(&rt, (words, told.faults.contains(text)), (words, true));
     }
     Ok(())
 }

@@ -21,3 +21,5 @@ mod shown_tests;
 mod stream_tests;
 #[cfg(test)]
 mod told;
+#[cfg(test)]
+mod wanted;

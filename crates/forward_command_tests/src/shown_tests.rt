@@ -1,6 +1,7 @@
 //! With `--progress` it is shown how far it is, and the output is the same.
 
 use crate::forty::{FORTY_WORDS, forty};
+use crate::wanted::same;
 use program_kit::{Screen, outcome_of, outcome_on};
 use std::alloc::Global;
 use std::process::Abort;
@@ -40,13 +41,17 @@ fn shows<R: Abort + Threads + Wait + Clock + Sync + Files>(
     let screen = Screen::new(alloc, is_terminal);
     let mut input = script.as_bytes();
     let told = outcome_on(rt, alloc, words.as_slice(), &mut input, screen)?;
-    assert!(rt; dark.shown.is_empty(), "{}", dark.shown);
-    assert_eq!(rt; told.output.as_slice(), dark.output.as_slice());
-    assert_eq!(rt; told.faults.as_str(), "");
-    assert_eq!(rt; told.status, 0);
+    same(rt, dark.shown.as_str(), "");
+    same(rt, told.output.as_slice(), dark.output.as_slice());
+    same(rt, told.faults.as_str(), "");
+    same(rt, told.status, 0);
     let rate = behind(told.shown.as_str(), last).and_then(|rate| rate.strip_suffix(end));
     let is_rate = rate.is_some_and(|rate| rate.parse::<u64>().is_ok());
-    assert!(rt; is_rate, "{}", told.shown);
+    same(
+        rt,
+        (told.shown.as_str(), is_rate),
+        (told.shown.as_str(), true),
+    );
     Ok(())
 }
 
@@ -68,9 +73,9 @@ const REFUSED: [(&[&str], &str); 2] = [
 fn what_is_refused_is_not_shown(rt: HostRuntime) -> Result<(), Fail> {
     for (words, end) in REFUSED {
         let told = outcome_of(&rt, rt.alloc(), words, b"0 0")?;
-        assert!(rt; told.status > 0, "at {words:?}");
-        assert!(rt; told.shown.is_empty(), "at {words:?}");
-        assert!(rt; told.faults.ends_with(end), "at {words:?}");
+        same(&rt, (words, told.status > 0), (words, true));
+        same(&rt, (words, told.shown.is_empty()), (words, true));
+        same(&rt, (words, told.faults.ends_with(end)), (words, true));
     }
     Ok(())
 }

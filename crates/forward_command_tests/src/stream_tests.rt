@@ -1,6 +1,7 @@
 //! Streams that fail, and want of memory.
 
 use crate::forty::{FORTY_WORDS, forty, forty_forwarded};
+use crate::wanted::{holds, same};
 use forward_command::{Printing, perform};
 use forwarder::Config;
 use program_kit::{Broken, Halting, Narrow, PIECE, Piecemeal, Screen, Unflushed, refusal_of};
@@ -31,8 +32,8 @@ fn is_refused<R: Abort + Threads + Wait + Clock + Sync + Files, I: Read, W: Writ
     line: &str,
 ) -> Result<(), Fail> {
     let (status, faults) = refusal_of(rt, alloc, words, input, output)?;
-    assert_eq!(rt; faults.as_str(), line);
-    assert_eq!(rt; status, 1);
+    same(rt, faults.as_str(), line);
+    same(rt, status, 1);
     Ok(())
 }
 
@@ -49,7 +50,7 @@ fn an_output_that_fails_has_a_beginning(rt: HostRuntime) -> Result<(), Fail> {
             &mut output,
             "refused 84 output\n",
         )?;
-        assert_eq!(rt; output.taken.as_slice(), &PRINTED.as_bytes()[..room]);
+        same(&rt, output.taken.as_slice(), &PRINTED.as_bytes()[..room]);
     }
     let mut input = SCRIPT.as_bytes();
     is_refused(
@@ -77,7 +78,7 @@ fn an_input_that_fails_in_mid_stream_is_refused(rt: HostRuntime) -> Result<(), F
             &mut output,
             "refused 82 input\n",
         )?;
-        assert!(rt; output.is_empty());
+        holds(&rt, output.is_empty());
     }
     Ok(())
 }
@@ -91,9 +92,10 @@ fn each_write_that_fails_leaves_a_beginning(rt: HostRuntime) -> Result<(), Fail>
         let mut output = Piecemeal::new(rt.alloc(), pieces);
         let line = "refused 84 output\n";
         is_refused(&rt, rt.alloc(), FORTY_WORDS, &mut input, &mut output, line)?;
-        assert_eq!(rt;
+        same(
+            &rt,
             output.taken.as_slice(),
-            &printed.as_bytes()[..pieces * PIECE]
+            &printed.as_bytes()[..pieces * PIECE],
         );
     }
     Ok(())
@@ -110,7 +112,7 @@ fn each_read_that_fails_is_refused(rt: HostRuntime) -> Result<(), Fail> {
         let mut output = Vec::new(rt.alloc());
         let line = "refused 82 input\n";
         is_refused(&rt, rt.alloc(), FORTY_WORDS, &mut input, &mut output, line)?;
-        assert!(rt; output.is_empty());
+        holds(&rt, output.is_empty());
     }
     Ok(())
 }
@@ -130,11 +132,11 @@ fn want_of_memory(rt: HostRuntime) -> Result<(), Fail> {
         &mut output,
         &mut screen,
     ) {
-        Ok(()) => assert_eq!(rt; output.taken.as_slice(), PRINTED.as_bytes()),
+        Ok(()) => same(&rt, output.taken.as_slice(), PRINTED.as_bytes()),
         Err(refusal) => {
             let number = refusal.number();
-            assert!(rt; [61, 63, 77, 83, 84].contains(&number));
-            assert!(rt; output.taken.is_empty());
+            holds(&rt, [61, 63, 77, 83, 84].contains(&number));
+            holds(&rt, output.taken.is_empty());
         }
     }
     Ok(())

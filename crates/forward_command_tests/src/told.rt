@@ -1,5 +1,6 @@
 //! What runs of the program on a script have to come to.
 
+use crate::wanted::same;
 use program_kit::outcome_of;
 use std::alloc::Global;
 use std::process::Abort;
@@ -28,9 +29,13 @@ pub fn comes_to<R: Abort + Threads + Wait + Clock + Sync + Files>(
     (status, output, faults): (u8, &str, &str),
 ) -> Result<(), Fail> {
     let told = outcome_of(rt, alloc, words, input.as_bytes())?;
-    assert_eq!(rt; told.text()?, output, "at {words:?} {input:?}");
-    assert_eq!(rt; told.faults.as_str(), faults, "at {words:?} {input:?}");
-    assert_eq!(rt; told.status, status, "at {words:?} {input:?}");
-    assert_eq!(rt; told.shown.as_str(), "", "at {words:?} {input:?}");
+    same(rt, (words, input, told.text()?), (words, input, output));
+    same(
+        rt,
+        (words, input, told.faults.as_str()),
+        (words, input, faults),
+    );
+    same(rt, (words, input, told.status), (words, input, status));
+    same(rt, (words, input, told.shown.as_str()), (words, input, ""));
     Ok(())
 }

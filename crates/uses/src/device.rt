@@ -114,31 +114,65 @@ pub fn serve(
     Ok(next)
 }
 
-/// Has two frames come in where one buffer is posted, and one frame go out: how many were stored, and how many went out.
-pub fn served(alloc: Global, frame: &Frame) -> Result<(usize, usize)> {
-    let (from, mut receiving, storing) = RxRing::new(alloc, 8)?;
-    let (to, mut sending, transmitting) = TxRing::new(alloc, 8)?;
-    let mut incoming = Incoming {
-        controller: RxController::new(storing, BUFFER_BYTES, true),
+/// A receive queue with one buffer posted and an enabling asked for, and its device.
+#[derive(Drop)]
+struct Receiving {
+    ring: RxRing,
+    device: Incoming,
+    ghost own: { device.controller.end.table ≡ ring },
+}
+
+/// A new one, with a buffer of the stock.
+fn begin_receiving(alloc: Global, stock: &mut Stock) -> Result<Receiving> {
+    let (ring, mut driver, controller) = RxRing::new(alloc, 8)?;
+    if let Some(buf) = stock.take() {
+        driver.post(&ring, buf);
+        driver.publish(&ring);
+    }
+    driver.ask_enable(&ring);
+    let device = Incoming {
+        controller: RxController::new(controller, BUFFER_BYTES, true),
         listed: Vec::new(alloc),
     };
-    let mut outgoing = Outgoing {
-        controller: TxController::new(transmitting),
+    Ok(Receiving { ring, device })
+}
+
+/// A transmit queue with one frame posted and an enabling asked for, and its device.
+#[derive(Drop)]
+struct Sending {
+    ring: TxRing,
+    device: Outgoing,
+    ghost own: { device.controller.table ≡ ring },
+}
+
+/// A new one, with a buffer of the stock.
+fn begin_sending(alloc: Global, stock: &mut Stock, frame: &Frame) -> Result<Sending> {
+    let (ring, mut driver, controller) = TxRing::new(alloc, 8)?;
+    if let Some(mut buf) = stock.take() {
+        buf.fill(frame);
+        driver.post(&ring, buf, true, true, 60);
+        driver.publish(&ring);
+    }
+    driver.ask_enable(&ring);
+    let device = Outgoing {
+        controller: TxController::new(controller),
         wire: Wire::new(alloc),
         alloc,
     };
+    Ok(Sending { ring, device })
+}
+
+/// Has two frames come in where one buffer is posted, and one frame go out: how many were stored, and how many went out.
+pub fn served(alloc: Global, frame: &Frame) -> Result<(usize, usize)> {
     let mut stock = Stock::new(alloc, 0, 16)?;
-    if let Some(buf) = stock.take() {
-        receiving.post(&from, buf);
-        receiving.publish(&from);
-    }
-    if let Some(mut buf) = stock.take() {
-        buf.fill(frame);
-        sending.post(&to, buf, true, true, 60);
-        sending.publish(&to);
-    }
-    receiving.ask_enable(&from);
-    sending.ask_enable(&to);
+    let Receiving {
+        ring: from,
+        device: mut incoming,
+    } = begin_receiving(alloc, &mut stock)?;
+    let Sending {
+        ring: to,
+        device: mut outgoing,
+    } = begin_sending(alloc, &mut stock, frame)?;
     serve(
         &from,
         &mut incoming,
