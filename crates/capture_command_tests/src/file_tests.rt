@@ -1,6 +1,7 @@
 //! Forwarding from captures and to captures, with files.
 
 use crate::captured::{AT_0, AT_1, AT_2, BYTES, FIVES, HEADER, LETTERS, RAW, SHORT, joined};
+use crate::wanted::{holds, same};
 use program_kit::{Broken, outcome_of, told_by};
 use std::alloc::Global;
 use std::process::Abort;
@@ -38,13 +39,13 @@ fn writes_unread<R: Abort + Threads + Wait + Clock + Sync + Files>(
     text: &str,
 ) -> Result<(), Fail> {
     let told = told_by(rt, alloc, words, &mut Broken { left: b"" })?;
-    assert_eq!(rt; told.faults.as_str(), "", "at {words:?}");
-    assert_eq!(rt;
-        String::from_utf8(told.output)?.as_str(),
-        text,
-        "at {words:?}"
+    same(rt, (words, told.faults.as_str()), (words, ""));
+    same(
+        rt,
+        (words, String::from_utf8(told.output)?.as_str()),
+        (words, text),
     );
-    assert_eq!(rt; told.status, 0, "at {words:?}");
+    same(rt, (words, told.status), (words, 0));
     Ok(())
 }
 
@@ -56,9 +57,9 @@ fn is_refused_unread<R: Abort + Threads + Wait + Clock + Sync + Files>(
     line: &str,
 ) -> Result<(), Fail> {
     let told = told_by(rt, alloc, words, &mut Broken { left: b"" })?;
-    assert_eq!(rt; told.faults.as_str(), line, "at {words:?}");
-    assert!(rt; told.output.is_empty(), "at {words:?}");
-    assert_eq!(rt; told.status, 1, "at {words:?}");
+    same(rt, (words, told.faults.as_str()), (words, line));
+    same(rt, (words, told.output.is_empty()), (words, true));
+    same(rt, (words, told.status), (words, 1));
     Ok(())
 }
 
@@ -117,8 +118,8 @@ fn what_leaves_a_port_is_the_capture_of_its_lines(rt: HostRuntime) -> Result<(),
         &["forward", "--pairs", "2"],
         script.as_bytes(),
     )?;
-    assert_eq!(rt; told.status, 0);
-    assert_eq!(rt; told.output.as_slice(), plain.output.as_slice());
+    same(&rt, told.status, 0);
+    same(&rt, told.output.as_slice(), plain.output.as_slice());
     for (port, file) in [("0", "lines_0.pcap"), ("1", "lines_1.pcap")] {
         let lines = outcome_of(
             &rt,
@@ -127,8 +128,8 @@ fn what_leaves_a_port_is_the_capture_of_its_lines(rt: HostRuntime) -> Result<(),
             told.output.as_slice(),
         )?;
         let held = fs::read(&rt, file)?;
-        assert_eq!(rt; held.as_slice(), lines.output.as_slice());
-        assert!(rt; held.len() > HEADER.len());
+        same(&rt, held.as_slice(), lines.output.as_slice());
+        holds(&rt, held.len() > HEADER.len());
     }
     Ok(())
 }
@@ -212,8 +213,8 @@ fn a_wire_file_that_cannot_be_written_leaves_the_others(rt: HostRuntime) -> Resu
     let line = "no such folder/kept.pcap: refused 86 file not written\n";
     is_refused_unread(&rt, rt.alloc(), words.as_slice(), line)?;
     let held = fs::read(&rt, "kept_old.pcap")?;
-    assert_eq!(rt; held.as_slice(), b"what stood there".as_slice());
-    assert!(rt; fs::read(&rt, "kept_old.pcap.0.part").is_err());
+    same(&rt, held.as_slice(), b"what stood there".as_slice());
+    holds(&rt, fs::read(&rt, "kept_old.pcap.0.part").is_err());
     Ok(())
 }
 
@@ -232,12 +233,16 @@ fn a_word_that_is_no_file_is_misuse(rt: HostRuntime) -> Result<(), Fail> {
     for (option, word) in rows {
         let words = ["forward", option, word];
         let told = told_by(&rt, rt.alloc(), words.as_slice(), &mut Broken { left: b"" })?;
-        assert!(rt;
-            told.faults.as_str().contains("a source is PORT:QUEUE=FILE"),
-            "at {words:?}"
+        same(
+            &rt,
+            (
+                words,
+                told.faults.as_str().contains("a source is PORT:QUEUE=FILE"),
+            ),
+            (words, true),
         );
-        assert!(rt; told.output.is_empty(), "at {words:?}");
-        assert_eq!(rt; told.status, 2, "at {words:?}");
+        same(&rt, (words, told.output.is_empty()), (words, true));
+        same(&rt, (words, told.status), (words, 2));
     }
     Ok(())
 }
@@ -248,6 +253,6 @@ fn a_script_that_cannot_be_read_leaves_the_wire_files(rt: HostRuntime) -> Result
     let words = ["forward", "--wire-capture", "1=unread_old.pcap"];
     is_refused_unread(&rt, rt.alloc(), words.as_slice(), "refused 82 input\n")?;
     let held = fs::read(&rt, "unread_old.pcap")?;
-    assert_eq!(rt; held.as_slice(), b"what stood there".as_slice());
+    same(&rt, held.as_slice(), b"what stood there".as_slice());
     Ok(())
 }

@@ -1,5 +1,6 @@
 //! The help of both commands, and words that are wrong.
 
+use crate::wanted::same;
 use program_kit::outcome_of;
 use std::test::Fail;
 
@@ -36,8 +37,12 @@ fn help_goes_to_the_output(rt: HostRuntime) -> Result<(), Fail> {
     for (words, text) in HELPED {
         let told = outcome_of(&rt, rt.alloc(), words, b"")?;
         let page = String::from_utf8(told.output)?;
-        assert!(rt; page.as_str().contains(text), "at {words:?}");
-        assert!(rt; told.status == 0 && told.faults.is_empty(), "at {words:?}");
+        same(&rt, (words, page.as_str().contains(text)), (words, true));
+        same(
+            &rt,
+            (words, told.status == 0 && told.faults.is_empty()),
+            (words, true),
+        );
     }
     Ok(())
 }
@@ -46,9 +51,13 @@ fn help_goes_to_the_output(rt: HostRuntime) -> Result<(), Fail> {
 fn wrong_words_are_told_with_status_2(rt: HostRuntime) -> Result<(), Fail> {
     for (words, text) in WRONG {
         let told = outcome_of(&rt, rt.alloc(), words, b"")?;
-        assert_eq!(rt; told.status, 2, "at {words:?}");
-        assert!(rt; told.output.is_empty(), "at {words:?}");
-        assert!(rt; told.faults.as_str().contains(text), "at {words:?}");
+        same(&rt, (words, told.status), (words, 2));
+        same(&rt, (words, told.output.is_empty()), (words, true));
+        same(
+            &rt,
+            (words, told.faults.as_str().contains(text)),
+            (words, true),
+        );
     }
     Ok(())
 }

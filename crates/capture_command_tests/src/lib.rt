@@ -19,3 +19,5 @@ mod stream_tests;
 mod to_tests;
 #[cfg(test)]
 mod told;
+#[cfg(test)]
+mod wanted;

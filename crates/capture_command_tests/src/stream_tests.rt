@@ -1,6 +1,7 @@
 //! Streams that fail, and want of memory.
 
 use crate::captured::{CAPTURE, HEADER};
+use crate::wanted::{holds, same};
 use capture_command::{CaptureRequest, perform};
 use program_kit::{Broken, Narrow, Unflushed, refusal_of};
 use std::alloc::Global;
@@ -26,8 +27,8 @@ fn is_refused<R: Abort + Threads + Wait + Clock + Sync + Files, I: Read, W: Writ
     line: &str,
 ) -> Result<(), Fail> {
     let (status, faults) = refusal_of(rt, alloc, words, input, output)?;
-    assert_eq!(rt; faults.as_str(), line);
-    assert_eq!(rt; status, 1);
+    same(rt, faults.as_str(), line);
+    same(rt, status, 1);
     Ok(())
 }
 
@@ -38,7 +39,7 @@ fn an_output_that_fails_has_a_beginning(rt: HostRuntime) -> Result<(), Fail> {
         let mut output = Narrow::new(rt.alloc(), room);
         let mut input = SCRIPT.as_bytes();
         is_refused(&rt, rt.alloc(), WORDS, &mut input, &mut output, line)?;
-        assert_eq!(rt; output.taken.as_slice(), &CAPTURE[..room]);
+        same(&rt, output.taken.as_slice(), &CAPTURE[..room]);
     }
     let mut input = SCRIPT.as_bytes();
     is_refused(&rt, rt.alloc(), WORDS, &mut input, &mut Unflushed, line)
@@ -52,7 +53,7 @@ fn an_input_that_fails_in_mid_stream_is_refused(rt: HostRuntime) -> Result<(), F
             let mut input = Broken { left };
             let line = "refused 82 input\n";
             is_refused(&rt, rt.alloc(), words, &mut input, &mut output, line)?;
-            assert!(rt; output.is_empty());
+            holds(&rt, output.is_empty());
         }
     }
     Ok(())
@@ -65,20 +66,20 @@ fn want_of_memory(rt: HostRuntime) -> Result<(), Fail> {
     let mut input = SCRIPT.as_bytes();
     let request = CaptureRequest::ToCapture { port: 1 };
     match perform(rt.alloc(), request, &mut input, &mut capture) {
-        Ok(()) => assert_eq!(rt; capture.taken.len(), 54),
+        Ok(()) => same(&rt, capture.taken.len(), 54),
         Err(refusal) => {
-            assert!(rt; [77, 83, 84].contains(&refusal.number()));
-            assert!(rt; capture.taken.is_empty());
+            holds(&rt, [77, 83, 84].contains(&refusal.number()));
+            holds(&rt, capture.taken.is_empty());
         }
     }
     let mut lines = Narrow::new(rt.alloc(), 400);
     let mut input = capture.taken.as_slice();
     let request = CaptureRequest::FromCapture { port: 1, queue: 0 };
     match perform(rt.alloc(), request, &mut input, &mut lines) {
-        Ok(()) => assert_eq!(rt; lines.taken.as_slice(), SCRIPT.as_bytes()),
+        Ok(()) => same(&rt, lines.taken.as_slice(), SCRIPT.as_bytes()),
         Err(refusal) => {
-            assert!(rt; [83, 84, 91, 97].contains(&refusal.number()));
-            assert!(rt; lines.taken.is_empty());
+            holds(&rt, [83, 84, 91, 97].contains(&refusal.number()));
+            holds(&rt, lines.taken.is_empty());
         }
     }
     Ok(())

@@ -1,5 +1,6 @@
 //! What runs of the program on bytes have to come to.
 
+use crate::wanted::same;
 use program_kit::outcome_of;
 use std::alloc::Global;
 use std::process::Abort;
@@ -18,9 +19,13 @@ pub fn writes<R: Abort + Threads + Wait + Clock + Sync + Files>(
     output: &[u8],
 ) -> Result<(), Fail> {
     let told = outcome_of(rt, alloc, words, input)?;
-    assert_eq!(rt; told.faults.as_str(), "", "at {words:?} {input:?}");
-    assert_eq!(rt; told.output.as_slice(), output, "at {words:?} {input:?}");
-    assert_eq!(rt; told.status, 0, "at {words:?} {input:?}");
+    same(rt, (words, input, told.faults.as_str()), (words, input, ""));
+    same(
+        rt,
+        (words, input, told.output.as_slice()),
+        (words, input, output),
+    );
+    same(rt, (words, input, told.status), (words, input, 0));
     Ok(())
 }
 
@@ -33,8 +38,16 @@ pub fn is_refused<R: Abort + Threads + Wait + Clock + Sync + Files>(
     line: &str,
 ) -> Result<(), Fail> {
     let told = outcome_of(rt, alloc, words, input)?;
-    assert_eq!(rt; told.faults.as_str(), line, "at {words:?} {input:?}");
-    assert!(rt; told.output.is_empty(), "at {words:?} {input:?}");
-    assert_eq!(rt; told.status, 1, "at {words:?} {input:?}");
+    same(
+        rt,
+        (words, input, told.faults.as_str()),
+        (words, input, line),
+    );
+    same(
+        rt,
+        (words, input, told.output.is_empty()),
+        (words, input, true),
+    );
+    same(rt, (words, input, told.status), (words, input, 1));
     Ok(())
 }
