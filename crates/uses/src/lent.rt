@@ -234,14 +234,24 @@ pub fn lent_and_returned<R: Wait>(
     let (to, sending, transmitting) = TxRing::new(alloc, 8)?;
     let rx = RxDriver::new(receiving, 32);
     let tx = TxDriver::new(sending, 32);
-    let mut worker = Worker::new(pool, pass, &from, rx, &to, tx);
-    let mut device = Device {
+    let worker = Worker::new(pool, pass, &from, rx, &to, tx);
+    let device = Device {
         from: &from,
         port_in: RxController::new(storing, BUFFER_BYTES, false),
         to: &to,
         port_out: TxController::new(transmitting),
         wire: Wire::new(alloc),
     };
+    forwarded(rt, worker, device, frame)
+}
+
+/// The same of a worker and a device that are made.
+fn forwarded<R: Wait>(
+    rt: &R,
+    mut worker: Worker<'_>,
+    mut device: Device<'_>,
+    frame: &[u8],
+) -> Answer<usize> {
     forward(rt, &mut worker, &mut device, frame)?;
     if stop(&mut worker, &mut device) {
         let pass = worker.give_back(rt); // it holds no buffer
