@@ -86,7 +86,11 @@ fn bytes_are_those_of_the_segments_in_order(rt: HostRuntime) -> Result<(), Fail>
 fn a_byte_at_each_edge_is_read_and_written(rt: HostRuntime) -> Result<(), Fail> {
     let mut packet = packet(rt.alloc(), &[2, 2_048, 1, 1_000])?;
     for i in [0, 1, 2, 2_049, 2_050, 2_051, 3_050] {
-        same(&rt, (i, overwrite(&mut packet, i)), (i, Some((byte_at(i), 255))));
+        same(
+            &rt,
+            (i, overwrite(&mut packet, i)),
+            (i, Some((byte_at(i), 255))),
+        );
     }
     let wanted = [
         (100, 2, 255, 255),
@@ -100,7 +104,11 @@ fn a_byte_at_each_edge_is_read_and_written(rt: HostRuntime) -> Result<(), Fail> 
         same(&rt, buf.len(), len);
         same(&rt, buf.bytes().first().copied(), Some(first));
         same(&rt, buf.bytes().last().copied(), Some(last));
-        same(&rt, buf.bytes().iter().filter(|b| **b == 255).count(), len.min(2));
+        same(
+            &rt,
+            buf.bytes().iter().filter(|b| **b == 255).count(),
+            len.min(2),
+        );
     }
     holds(&rt, packet.pop_front().is_none());
     holds(&rt, packet.is_empty());

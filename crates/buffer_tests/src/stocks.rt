@@ -75,7 +75,11 @@ fn only_lawful_counts_are_made(rt: HostRuntime) {
         (0, 65_536, None),
     ] {
         let refusal = Stock::new(rt.alloc(), first, count).err();
-        same(&rt, ((count, first), refusal.map(|e| e.number())), ((count, first), want));
+        same(
+            &rt,
+            ((count, first), refusal.map(|e| e.number())),
+            ((count, first), want),
+        );
     }
 }
 

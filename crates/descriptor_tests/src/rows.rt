@@ -37,7 +37,11 @@ fn each_form_is_coded_both_ways(rt: HostRuntime) {
     same(&rt, RxBack::from_bytes(&RX_BACK), Ok(back));
     let full = [0, 0, 0, 0, 0, 0, 0, 0, 1, 0, 0, 0, 0, 8, 0, 0];
     same(&rt, RxBack::new(2_048, false).to_bytes(), full);
-    same(&rt, RxBack::from_bytes(&full), Ok(RxBack::new(2_048, false)));
+    same(
+        &rt,
+        RxBack::from_bytes(&full),
+        Ok(RxBack::new(2_048, false)),
+    );
     let posted = TxRead::new(5, 60, true, true, 60);
     same(&rt, posted.to_bytes(), TX_READ);
     same(&rt, TxRead::from_bytes(&TX_READ), Ok(posted));
@@ -48,7 +52,11 @@ fn each_form_is_coded_both_ways(rt: HostRuntime) {
     same(&rt, posted.to_bytes(), greatest);
     same(&rt, TxRead::from_bytes(&greatest), Ok(posted));
     same(&rt, RxRead { number: 65_535 }.to_bytes(), RX_READ);
-    same(&rt, RxRead::from_bytes(&RX_READ), Ok(RxRead { number: 65_535 }));
+    same(
+        &rt,
+        RxRead::from_bytes(&RX_READ),
+        Ok(RxRead { number: 65_535 }),
+    );
     same(&rt, TxBack.to_bytes(), TX_BACK);
     same(&rt, TxBack::from_bytes(&TX_BACK), Ok(TxBack));
 }
@@ -63,13 +71,25 @@ fn refused_alike<D: Descriptor + Drop>(bytes: [u8; 16], wanted: u8) -> usize {
 #[test]
 fn each_flipped_bit_is_judged(rt: HostRuntime) {
     for (wanted, times) in [(0, 12), (1, 0), (2, 111), (3, 0), (4, 5)] {
-        same(&rt, (wanted, refused_alike::<RxBack>(RX_BACK, wanted)), (wanted, times));
+        same(
+            &rt,
+            (wanted, refused_alike::<RxBack>(RX_BACK, wanted)),
+            (wanted, times),
+        );
     }
     for (wanted, times) in [(0, 42), (1, 0), (2, 72), (3, 5), (4, 9)] {
-        same(&rt, (wanted, refused_alike::<TxRead>(TX_READ, wanted)), (wanted, times));
+        same(
+            &rt,
+            (wanted, refused_alike::<TxRead>(TX_READ, wanted)),
+            (wanted, times),
+        );
     }
     for (wanted, times) in [(0, 16), (2, 112)] {
-        same(&rt, (wanted, refused_alike::<RxRead>(RX_READ, wanted)), (wanted, times));
+        same(
+            &rt,
+            (wanted, refused_alike::<RxRead>(RX_READ, wanted)),
+            (wanted, times),
+        );
     }
     same(&rt, refused_alike::<TxBack>(TX_BACK, 2), 128);
 }
@@ -117,7 +137,11 @@ fn lengths_are_judged_at_their_limits(rt: HostRuntime) {
     ] {
         let posted = 0x2b30_0000 + u64::from(len) + u64::from(paylen) * (1 << 46);
         let answer = TxRead::from_words(buffer, posted);
-        same(&rt, ((len, paylen), refusal(answer)), ((len, paylen), wanted));
+        same(
+            &rt,
+            ((len, paylen), refusal(answer)),
+            ((len, paylen), wanted),
+        );
     }
     for (len, wanted) in [(0u16, 4), (1, 0), (2_048, 0), (2_049, 4)] {
         let back = 3 + u64::from(len) * (1 << 32);
@@ -132,20 +156,42 @@ fn status_words_are_read(rt: HostRuntime) {
     same(&rt, word, 0x800_0000_0003);
     holds(&rt, RxBack::is_done(word) && RxBack::ends_frame(word));
     same(&rt, RxBack::data_len(word), 2_048);
-    same(&rt, RxBack::from_second_word(word), Ok(RxBack::new(2_048, true)));
-    holds(&rt, !RxBack::ends_frame(RxBack::new(1, false).second_word()));
+    same(
+        &rt,
+        RxBack::from_second_word(word),
+        Ok(RxBack::new(2_048, true)),
+    );
+    holds(
+        &rt,
+        !RxBack::ends_frame(RxBack::new(1, false).second_word()),
+    );
     let posted = RxRead { number: 9 };
     holds(&rt, !RxBack::is_done(posted.second_word()));
-    same(&rt, RxBack::from_second_word(posted.second_word()), Err(DescError::Reserved));
+    same(
+        &rt,
+        RxBack::from_second_word(posted.second_word()),
+        Err(DescError::Reserved),
+    );
     holds(&rt, TxBack::is_done(TxBack.second_word()));
-    holds(&rt, !TxBack::is_done(TxRead::new(9, 2_048, true, true, 15_000).second_word()));
+    holds(
+        &rt,
+        !TxBack::is_done(TxRead::new(9, 2_048, true, true, 15_000).second_word()),
+    );
 }
 
 #[test]
 fn descriptors_and_refusals_are_printed(rt: HostRuntime) -> Result<(), Fail> {
     let alloc = rt.alloc();
-    same(&rt, format!(in alloc; "{}", RxRead { number: 65_535 })?.as_str(), "buffer 65535");
-    same(&rt, format!(in alloc; "{}", RxBack::new(60, true))?.as_str(), "dd 1 eop 1 length 60");
+    same(
+        &rt,
+        format!(in alloc; "{}", RxRead { number: 65_535 })?.as_str(),
+        "buffer 65535",
+    );
+    same(
+        &rt,
+        format!(in alloc; "{}", RxBack::new(60, true))?.as_str(),
+        "dd 1 eop 1 length 60",
+    );
     let posted = TxRead::new(5, 60, true, false, 1_500);
     let line = "buffer 5 length 60 eop 1 rs 0 paylen 1500";
     same(&rt, format!(in alloc; "{posted}")?.as_str(), line);

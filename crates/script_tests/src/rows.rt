@@ -1,9 +1,9 @@
 //! Rows of scripts, and what no clause says: the words of refusals, and that memory suffices.
 
 use crate::told::{holds, same};
-use wire_script::{Script, ScriptError, WireFrame, parse, print};
 use std::alloc::{AllocError, Global};
 use std::test::Fail;
+use wire_script::{Script, ScriptError, WireFrame, parse, print};
 
 // The number and the line of a refusal.
 fn refusal(alloc: Global, text: &str) -> Option<(u8, Option<u64>)> {
@@ -51,7 +51,11 @@ fn lines_are_refused(rt: HostRuntime) {
         ("\r", 71),
     ];
     for (text, number) in table {
-        same(&rt, (text, refusal(rt.alloc(), text)), (text, Some((number, Some(1)))));
+        same(
+            &rt,
+            (text, refusal(rt.alloc(), text)),
+            (text, Some((number, Some(1)))),
+        );
     }
 }
 
@@ -66,7 +70,11 @@ fn the_first_faulty_line_is_refused(rt: HostRuntime) {
         ("\r\n", 71, 1),
     ];
     for (text, number, line) in table {
-        same(&rt, (text, refusal(rt.alloc(), text)), (text, Some((number, Some(line)))));
+        same(
+            &rt,
+            (text, refusal(rt.alloc(), text)),
+            (text, Some((number, Some(line)))),
+        );
     }
 }
 
@@ -171,11 +179,23 @@ fn each_beginning_is_read_or_refused_at_its_last_line(rt: HostRuntime) -> Result
         match parse(rt.alloc(), front) {
             Ok(script) => {
                 let frames = script.frames().len();
-                same(&rt, (length, frames == whole || frames == whole + 1), (length, true));
+                same(
+                    &rt,
+                    (length, frames == whole || frames == whole + 1),
+                    (length, true),
+                );
             }
             Err(refused) => {
-                same(&rt, (length, (71..=75).contains(&refused.number())), (length, true));
-                same(&rt, (length, refused.line()), (length, Some(whole as u64 + 1)));
+                same(
+                    &rt,
+                    (length, (71..=75).contains(&refused.number())),
+                    (length, true),
+                );
+                same(
+                    &rt,
+                    (length, refused.line()),
+                    (length, Some(whole as u64 + 1)),
+                );
             }
         }
     }
@@ -228,7 +248,11 @@ fn want_of_memory_is_77_and_changes_no_answer(rt: HostRuntime) {
         return;
     };
     match print(rt.alloc(), script.frames()) {
-        Ok(text) => same(&rt, text.as_str(), "0 0 0101010101010101010101010101\n1 7 000102030405060708090a0b0c0d\n"),
+        Ok(text) => same(
+            &rt,
+            text.as_str(),
+            "0 0 0101010101010101010101010101\n1 7 000102030405060708090a0b0c0d\n",
+        ),
         Err(refused) => same(&rt, (refused.number(), refused.line()), (77, None)),
     }
 }
