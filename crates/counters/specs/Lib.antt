@@ -1,4 +1,2 @@
 pub mod Kinds
 pub mod Paired
-pub mod Refusal
-pub mod Watching

@@ -1,9 +1,10 @@
 //! The cells of flows.
 ghost use Rattle.std.specs.Prelude.{◌≡◌, vec_len, IfOk, IfErr};
 ghost use Rattle.counters.specs.Paired.{ArePaired, IsFresh};
-ghost use Rattle.counters.specs.declared.error.CounterError.TheVariants.{Memory};
+ghost use Rattle.cells.specs.declared.error.CounterError.TheVariants.{Memory};
 
-use crate::{CounterError, DriveCell, DrivePen, StatCell, StatPen};
+use crate::{DriveCell, DrivePen, StatCell, StatPen};
+use cells::CounterError;
 use std::alloc::Global;
 
 /// The cells of a flow: its controller's and its driver's. Threads share them.

@@ -1,7 +1,7 @@
 //! The kinds of cells: their numbers, what these owe one another, and the names of their cells.
 ghost use Rattle.std.specs.Prelude.{◌≡◌};
 
-use crate::{MomentCell, MomentPass, MomentPen};
+use cells::{MomentCell, MomentPass, MomentPen};
 use crossbeam_utils::atomic::seq_cell::Words;
 use limits::{LEAST_FRAME, MOST_FRAME};
 use moments::Moment;

@@ -1,31 +1,18 @@
 //! Counters that others read while workers run.
 //!
-//! A [`MomentCell`] holds a few numbers. One [`MomentPen`] writes them, all at one moment, and any number
-//! of [`MomentPass`]es read them, each from a thread of its own. A read shows the numbers of one moment
-//! that was written, or of the opening, in which all are 0: what the numbers of a moment owe one another
-//! ([`Moment`]) holds between them, and none is below what this pass has read, nor below what the pen had
-//! written when it gave that pass. That is the rule of the cell, which each step of any thread keeps; the
-//! crate `moments` has it, and the words under it.
-//!
 //! [`StatCell`] has what was offered to a queue, [`DriveCell`] what a driver did with what it took, and
-//! [`ByteCell`] frames and bytes. Another kind of cell is its numbers, what they owe one another, and
-//! its names. [`FlowCells`] has one cell of either side of a flow, and [`FlowPens`] their pens.
-//!
-//! Making a cell takes memory, and no other call does. A call that reads or writes may wait, and nothing
-//! is said of how long: a write waits for other writes and for readers that found one in their way, and
-//! a read that finds a write in its way waits likewise.
+//! [`ByteCell`] frames and bytes. Each is a [`MomentCell`]: one pen writes its numbers, all at one moment,
+//! and passes read them from other threads. What a read shows stands in the crate `cells`. Another kind of
+//! cell is its numbers, what they owe one another ([`Moment`]), and its names. [`FlowCells`] has one cell
+//! of either side of a flow, and [`FlowPens`] their pens.
 #![tactic(auto)]
 
-mod cell;
-mod error;
 mod flows;
 mod kinds;
 
-pub use cell::{MomentCell, MomentPass, MomentPen};
-pub use error::CounterError;
+pub use cells::{CounterError, Moment, MomentCell, MomentPass, MomentPen};
 pub use flows::{FlowCells, FlowPens};
 pub use kinds::{
     ByteCell, BytePass, BytePen, Bytes, DriveCell, DrivePass, DrivePen, Driven, Offered, StatCell,
     StatPass, StatPen,
 };
-pub use moments::Moment;

@@ -1,5 +1,6 @@
 //! The numbers, and the views that write and read them.
 ghost use Rattle.std.specs.Prelude.{◌≡◌, true, All, IfOk};
+ghost use Rattle.std.specs.Arc.{arc_value};
 ghost use Rattle.moments.specs.Moments.{GoesOn, NoneFalls};
 ghost use Rattle.moments.specs.Viewed.{all_of, first_view, IsOfSame, with_moment, without_writing};
 
@@ -8,7 +9,7 @@ use crate::rule::{Known, Reads, Tells, Watched, Writes, may_open, may_read, may_
 use crossbeam_utils::atomic::seq_cell::{Pass, RuledSeqCell};
 use std::alloc::{AllocError, Global};
 use std::marker::Model;
-use std::sync::Wait;
+use std::sync::{Arc, Wait};
 
 /// The words, under their rule.
 type Ruled<T, const N: usize> = RuledSeqCell<T, Known<T>, Watched<N>, N>;
@@ -43,8 +44,22 @@ impl<T> Model for View<T> {
 }
 
 impl<T: Moment<N>, const N: usize> Numbers<T, N> {
-    /// The numbers of the opening, which are all 0, and the one view that writes. It is refused only where
-    /// memory was.
+    /// The numbers of the opening, which are all 0, for two owners in threads of their own, and the one view
+    /// that writes. It is refused only where memory was.
+    pub fn shared(
+        alloc: Global,
+    ) -> Result<(Arc<Self, Global>, Arc<Self, Global>, View<T>), AllocError>
+        ensures zero { IfOk result (λ made. All (λ n. n ≡ 0) (T.words made.2.last)) }
+        ensures first { IfOk result (λ made. made.2 ≡ first_view (arc_value made.0) T.opening) }
+        ensures same { IfOk result (λ made. arc_value made.1 ≡ arc_value made.0) }
+    {
+        let (numbers, view) = Self::new(alloc)?;
+        let ours = Arc::new(alloc, numbers)?;
+        let theirs = Arc::try_clone(&ours)?;
+        Ok((ours, theirs, view))
+    }
+
+    /// The same for one owner.
     pub fn new(alloc: Global) -> Result<(Self, View<T>), AllocError>
         ensures zero { IfOk result (λ made. All (λ n. n ≡ 0) (T.words made.1.last)) }
         ensures first { IfOk result (λ made. made.1 ≡ first_view made.0 T.opening) }

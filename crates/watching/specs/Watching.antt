@@ -1,6 +1,6 @@
 -- What contracts see of flows that others watch.
 use Rattle.std.specs.Prelude.{◌≡◌, ℕ, List, [], ◌∷◌, map}
-use Rattle.counters.specs.Watching.{Knowing}
+use Rattle.cells.specs.Watching.{Knowing}
 use Rattle.counters.specs.declared.flows.FlowCells.{FlowCells}
 use Rattle.counters.specs.declared.flows.FlowPens.{FlowPens}
 

@@ -1,8 +1,8 @@
 //! A cell, the pen that writes its numbers, and the passes that read them.
 ghost use Rattle.std.specs.Prelude.{◌≡◌, All, IfOk, IfErr};
 ghost use Rattle.moments.specs.Moments.{GoesOn, NoneFalls};
-ghost use Rattle.counters.specs.Watching.{fresh, with_moment, all_of};
-ghost use Rattle.counters.specs.declared.error.CounterError.TheVariants.{Memory};
+ghost use Rattle.cells.specs.Watching.{fresh, with_moment, all_of};
+ghost use Rattle.cells.specs.declared.error.CounterError.TheVariants.{Memory};
 
 use crate::CounterError;
 use moments::{Moment, Numbers, View};
@@ -41,7 +41,7 @@ impl<T: Moment<N>, const N: usize> Model for MomentCell<T, N> {
 impl<T: Moment<N>, const N: usize> Model for MomentPen<T, N> {
     ghost use Rattle.std.specs.Prelude.{◌≡◌, true};
     ghost use Rattle.std.specs.Arc.{arc_value};
-    ghost use Rattle.counters.specs.Watching.{Knowing, knowing};
+    ghost use Rattle.cells.specs.Watching.{Knowing, knowing};
 
     ghost Value = { Knowing T };
 
@@ -51,7 +51,7 @@ impl<T: Moment<N>, const N: usize> Model for MomentPen<T, N> {
 }
 
 impl<T> Model for MomentPass<T> {
-    ghost use Rattle.counters.specs.Watching.{Knowing, knowing};
+    ghost use Rattle.cells.specs.Watching.{Knowing, knowing};
 
     ghost Value = { Knowing T };
 
@@ -72,19 +72,14 @@ impl<T: Moment<N>, const N: usize> MomentCell<T, N> {
         Ok((cell, pen, pass))
     }
 
-    /// The same with no pass, which the pen may give at any time.
-    pub(crate) fn with_pen(alloc: Global) -> Result<(Self, MomentPen<T, N>), CounterError>
+    /// The same with no pass, which the pen may give at any time. `CounterError::Memory` is answered only where
+    /// memory was refused.
+    pub fn with_pen(alloc: Global) -> Result<(Self, MomentPen<T, N>), CounterError>
         ensures refused { IfErr result (λ e. e ≡ Memory) }
         ensures zero { IfOk result (λ made. All (λ n. n ≡ 0) (T.words made.1.last)) }
         ensures pen { IfOk result (λ made. made.1 ≡ fresh made.0 T.opening) }
     {
-        let (numbers, view) = Numbers::<T, N>::new(alloc)?;
-        let Ok(numbers) = Arc::new(alloc, numbers) else {
-            return Err(CounterError::Memory);
-        };
-        let Ok(theirs) = Arc::try_clone(&numbers) else {
-            return Err(CounterError::Memory);
-        };
+        let (numbers, theirs, view) = Numbers::<T, N>::shared(alloc)?;
         let pen = MomentPen {
             numbers: theirs,
             view,

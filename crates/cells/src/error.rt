@@ -1,7 +1,7 @@
 //! The refusals of this crate.
 ghost use Rattle.std.specs.Prelude.{◌≡◌};
-ghost use Rattle.counters.specs.Refusal.{refusal_number};
-ghost use Rattle.counters.specs.declared.error.CounterError.TheVariants.{Memory};
+ghost use Rattle.cells.specs.Refusal.{refusal_number};
+ghost use Rattle.cells.specs.declared.error.CounterError.TheVariants.{Memory};
 
 use std::alloc::AllocError;
 use thiserror::Error;
