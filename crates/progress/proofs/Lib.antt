@@ -1,1 +1,2 @@
 mod Pairs
+mod Sums

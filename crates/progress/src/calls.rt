@@ -9,7 +9,8 @@ ghost use Rattle.limits.specs.declared.profile.TheConstants.{PORTS};
 ghost use Rattle.teams.specs.Refusals.{Halted};
 
 use crate::line::Form;
-use crate::reading::{Reader, readers_of};
+use crate::reader::Reader;
+use crate::reading::readers_of;
 use crate::showing::watch;
 use counters::{FlowCells, FlowPens};
 use forwarder::{Config, Report, forward_watched};

@@ -8,6 +8,7 @@
 
 mod calls;
 mod line;
+mod reader;
 mod reading;
 mod showing;
 

@@ -1,20 +1,12 @@
 //! The cells of all flows, read by a thread that doesn't write them.
-ghost use Rattle.std.specs.Prelude.{◌≡◌, IfOk, IfErr, length};
-ghost use Rattle.counters.specs.Paired.{ArePaired, IsFresh};
+ghost use Rattle.std.specs.Prelude.{◌≡◌, IfOk, map};
+ghost use Rattle.counters.specs.Paired.{ArePaired};
+ghost use Rattle.progress.specs.Sums.{nothing_seen, read_by, sum_from, with_flow};
 
-use counters::{DrivePass, FlowCells, FlowPens, StatPass};
+use crate::reader::Reader;
+use counters::{FlowCells, FlowPens};
 use std::alloc::{AllocError, Global};
 use std::sync::Wait;
-
-/// A flow's cells with passes of their own.
-#[derive(Drop)]
-pub(crate) struct Reader<'c> {
-    cells: &'c FlowCells,
-    stat: StatPass,
-    drive: DrivePass,
-    ghost offered: { stat.cell ≡ cells.now.stat },
-    ghost driven: { drive.cell ≡ cells.now.drive },
-}
 
 /// What was read of all flows.
 #[derive(Clone, Copy)]
@@ -24,19 +16,11 @@ pub(crate) struct Seen {
     pub posted: u64,
 }
 
-impl<'c> Reader<'c> {
-    /// A reader of a flow's cells. The pens have written nothing, and stay as they are.
-    fn new(cells: &'c FlowCells, pens: &mut FlowPens) -> Reader<'c>
-        requires pens { IsFresh cells.now pens.old }
-        ensures same { pens.new ≡ pens.old }
-    {
-        let stat = pens.stat.pass();
-        let drive = pens.drive.pass();
-        Reader { cells, stat, drive }
-    }
-
+impl Reader<'_> {
     /// The numbers of the flow added to these.
-    fn add<R: Wait>(&mut self, rt: &R, seen: Seen) -> Seen {
+    fn add<R: Wait>(&mut self, rt: &R, seen: Seen) -> Seen
+        ensures sum { result ≡ with_flow seen self.new }
+    {
         let offered = self.cells.stat.read(rt, &mut self.stat);
         let driven = self.cells.drive.read(rt, &mut self.drive);
         Seen {
@@ -55,6 +39,7 @@ pub(crate) fn readers_of<'c>(
 ) -> Result<Vec<Reader<'c>>, AllocError>
     requires pens { ArePaired cells.now pens.old }
     ensures same { pens.new ≡ pens.old }
+    ensures cells { IfOk result (λ readers. map read_by readers.items ≡ cells.now) }
 {
     let mut readers = Vec::with_capacity(alloc, cells.len())?;
     for k in 0..cells.len() {
@@ -63,8 +48,10 @@ pub(crate) fn readers_of<'c>(
     Ok(readers)
 }
 
-/// The numbers of all flows together.
-pub(crate) fn read_all<R: Wait>(rt: &R, readers: &mut [Reader<'_>]) -> Seen {
+/// The numbers of all flows together, each of which was read now.
+pub(crate) fn read_all<R: Wait>(rt: &R, readers: &mut [Reader<'_>]) -> Seen
+    ensures sum { result ≡ sum_from nothing_seen readers.new }
+{
     let mut seen = Seen {
         offered: 0,
         taken: 0,

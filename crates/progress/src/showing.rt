@@ -1,7 +1,10 @@
 //! The thread that shows how far a run is.
+ghost use Rattle.std.specs.Prelude.{◌≡◌};
+ghost use Rattle.progress.specs.Sums.{Shows};
 
 use crate::line::{Form, Line, Shown};
-use crate::reading::{Reader, Seen, read_all};
+use crate::reader::Reader;
+use crate::reading::{Seen, read_all};
 use std::io::Write;
 use std::sync::Wait;
 use std::sync::atomic::{AtomicBool, Ordering};
@@ -43,7 +46,10 @@ fn millis_between(earlier: Option<Instant>, later: Option<Instant>) -> u64 {
 
 impl Last {
     /// What is to be shown of these numbers, which are the last from then on.
-    fn shown<C: Clock>(&mut self, clock: &C, seen: Seen, frames: u64) -> Shown {
+    fn shown<C: Clock>(&mut self, clock: &C, seen: Seen, frames: u64) -> Shown
+        ensures shows { Shows seen frames result }
+        ensures last { self.new.posted ≡ seen.posted }
+    {
         let now = Instant::now(clock).ok();
         let more = seen.posted.saturating_sub(self.posted).saturating_mul(1000);
         let millis = millis_between(self.at, now);

@@ -1,5 +1,10 @@
-use Rattle.std.proofs.Common.{◌≡◌}
+use Rattle.std.proofs.Common.{◌≡◌, map, take}
+use Rattle.progress.specs.Sums.{read_by}
 use Rattle.progress.proofs.reading.readers_of.Given as goal
 
+-- the pens stay, and the cells so far have readers
 abbrev pub invariant-loop-k : goal.invariant-loop-k
-invariant-loop-k l = l.pens ≡ l.initial.pens
+invariant-loop-k l = record {
+  same : l.pens ≡ l.initial.pens;
+  cells : map read_by l.readers.items ≡ take l.k l.cells;
+}

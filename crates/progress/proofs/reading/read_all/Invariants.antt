@@ -1,0 +1,7 @@
+use Rattle.std.proofs.Common.{◌≡◌, take}
+use Rattle.progress.specs.Sums.{nothing_seen, sum_from}
+use Rattle.progress.proofs.reading.read_all.Given as goal
+
+-- the flows so far are added up
+abbrev pub invariant-loop-reader : goal.invariant-loop-reader
+invariant-loop-reader g l = l.seen ≡ sum_from nothing_seen (take l.reader-index l.readers)

@@ -1,0 +1,37 @@
+-- What is read of all flows.
+use Rattle.std.specs.Prelude.{◌≡◌, ℕ, ◌+◌, ◌-◌, ◌^◌, min, List, [], ◌∷◌}
+use Rattle.counters.specs.declared.flows.FlowCells.{FlowCells}
+use Rattle.progress.specs.declared.reader.Reader.{Reader}
+use Rattle.progress.specs.declared.reading.Seen.{Seen}
+use Rattle.progress.specs.declared.line.Shown.{Shown}
+
+-- the cells that a reader reads
+abbrev pub read_by : Reader → FlowCells
+read_by r = r.cells.now
+
+-- a sum of two counts, or the greatest count where that is less
+abbrev pub added : ℕ → ℕ → ℕ
+added m n = min (m + n) (2 ^ 64 - 1)
+
+-- what a flow's passes read last, added to these numbers
+abbrev pub with_flow : Seen → Reader → Seen
+with_flow seen r = record {
+  offered = added seen.offered r.stat.last.offered;
+  taken = added seen.taken r.drive.last.taken;
+  posted = added seen.posted r.drive.last.posted;
+}
+
+-- what the passes of these flows read last, added to these numbers
+abbrev pub sum_from : Seen → List Reader → Seen
+sum_from seen [] = seen
+sum_from seen (r ∷ rs) = sum_from (with_flow seen r) rs
+
+abbrev pub nothing_seen : Seen
+nothing_seen = record { offered = 0; taken = 0; posted = 0 }
+
+-- what was seen of so many frames is shown; how many a second is the clock's to say
+pub record Shows (seen : Seen) (all : ℕ) (s : Shown) : Type 0 where
+  pub offered : s.offered ≡ seen.offered
+  pub frames : s.frames ≡ all
+  pub taken : s.taken ≡ seen.taken
+  pub posted : s.posted ≡ seen.posted
