@@ -1,8 +1,0 @@
-use Rattle.bench.proofs.Through.{has_relayed}
-use Rattle.bench.proofs.batching.finish.Goals as goal
-
-pub returns : goal.returns
-returns c =
-    let met = c.meet-ends.ensures in
-    has_relayed c.args.run.from.now c.args.run.plan.load.frames c.args.run.frame.now c.args.sides.forwarder c.args.sides.device.rx c.meet-ends.result met.met met.tx met.rx_controller
-    c.requires.count c.requires.stores

@@ -1,5 +1,0 @@
-use Rattle.bench.specs.Forwarding.{CanForward}
-use Rattle.bench.proofs.layers.forward_until.Given as goal
-
-abbrev pub invariant-loop : goal.invariant-loop
-invariant-loop g l = CanForward l.from l.to l.forwarder

@@ -1,5 +1,0 @@
-use Rattle.bench.specs.Serving.{Serves}
-use Rattle.bench.proofs.layers.serve_until.Given as goal
-
-abbrev pub invariant-loop : goal.invariant-loop
-invariant-loop g l = Serves l.from l.to l.frame l.device

@@ -1,5 +1,0 @@
-use Rattle.bench.specs.Serving.{StoresCopies}
-use Rattle.bench.proofs.serving.offer.Given as goal
-
-abbrev pub invariant-loop-stored : goal.invariant-loop-stored
-invariant-loop-stored l = StoresCopies l.ring l.frame l.controller

@@ -1,5 +1,0 @@
-use Rattle.bench.specs.Passing.{CanStore}
-use Rattle.bench.proofs.storing.store_all.Given as goal
-
-abbrev pub invariant-loop : goal.invariant-loop
-invariant-loop g l = CanStore l.ring l.frame l.controller

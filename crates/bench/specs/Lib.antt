@@ -1,5 +1,0 @@
-pub mod Copies
-pub mod Forwarding
-pub mod Passing
-pub mod Sending
-pub mod Serving

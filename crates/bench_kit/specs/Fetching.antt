@@ -1,0 +1,24 @@
+-- What a transmit ring's controller keeps while it sends.
+use Rattle.std.specs.Prelude.{◌≡◌, true, false, None}
+use Rattle.atomic_table.specs.Seated.{TableId}
+use Rattle.ring_model.specs.declared.states.Completion.{Completion}
+use Rattle.ring_model.specs.shared.Handshakes.{is_serving}
+use Rattle.tx_ring.specs.Ends.{ControllerSide, held, controller_state, is_owed}
+
+-- the controller does not serve the ring, and holds no buffer
+pub record CanServe (ring : TableId) (controller : ControllerSide) : Type 0 where
+  pub own : controller.table ≡ ring
+  pub idle : is_serving (controller_state controller) ≡ false
+  pub none_held : held controller ≡ None
+
+-- the controller serves the ring, holds no buffer and owes no report
+pub record CanFetch (ring : TableId) (controller : ControllerSide) : Type 0 where
+  pub own : controller.table ≡ ring
+  pub serving : is_serving (controller_state controller) ≡ true
+  pub none_held : held controller ≡ None
+  pub paid : is_owed controller ≡ false
+
+-- what is left of an end that reports like this, after it was served
+pub record HasServed (ring : TableId) (way : Completion) (controller : ControllerSide) : Type 0 where
+  pub can : CanFetch ring controller
+  pub reports : controller.completion ≡ way

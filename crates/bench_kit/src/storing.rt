@@ -1,0 +1,41 @@
+//! The steps of a receive ring's controller.
+ghost use Rattle.std.specs.Prelude.{◌<◌, length};
+ghost use Rattle.limits.specs.RingLength.{IsRingLength};
+ghost use Rattle.rx_ring.specs.Ends.{known_free};
+ghost use Rattle.bench_kit.specs.Copies.{IsFrameLength};
+ghost use Rattle.bench_kit.specs.Storing.{CanServe, CanStore, HasBegun};
+
+use crate::patience::Patience;
+use rx_ring::{ControllerEnd, RxControllerEnd, RxRing};
+use std::sync::Wait;
+
+/// Waits until the enabling is asked, and answers it.
+pub fn serve_rx<R: Wait>(rt: &R, ring: &RxRing, controller: &mut RxControllerEnd)
+    requires can { CanServe ring.now controller.old }
+    ensures { HasBegun ring.now controller.new }
+{
+    let mut patience = Patience::new();
+    for _ in rt.forever() {
+        controller.asked(ring);
+        if controller.can_answer() {
+            controller.answer(ring);
+            return;
+        }
+        patience.wait();
+    }
+    unreachable!()
+}
+
+/// Stores the frame in the next descriptor.
+#[inline]
+pub fn store(ring: &RxRing, controller: &mut RxControllerEnd, frame: &[u8])
+    requires size { IsRingLength ring.now.slots }
+    requires can { CanStore ring.now frame.now controller.old }
+    requires free { 0 < known_free controller.old }
+    requires frame { IsFrameLength (length frame.now) }
+    ensures { CanStore ring.now frame.now controller.new }
+{
+    let mut buf = controller.fetch(ring);
+    buf.fill(frame);
+    controller.write_back(ring, buf, true);
+}

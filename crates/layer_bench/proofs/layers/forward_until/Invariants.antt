@@ -1,0 +1,5 @@
+use Rattle.layer_bench.specs.Forwarding.{CanForward}
+use Rattle.layer_bench.proofs.layers.forward_until.Given as goal
+
+abbrev pub invariant-loop : goal.invariant-loop
+invariant-loop g l = CanForward l.from l.to l.forwarder

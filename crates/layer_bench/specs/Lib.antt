@@ -1,0 +1,2 @@
+pub mod Forwarding
+pub mod Serving

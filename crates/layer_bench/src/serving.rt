@@ -1,0 +1,111 @@
+//! The device's side of both layers: frames that come in are offered, and those that go out are put onto a wire.
+ghost use Rattle.std.specs.Prelude.{◌≤◌, OnOk, IfOk};
+ghost use Rattle.rx_ring.specs.Calls as receive;
+ghost use Rattle.tx_ring.specs.Calls as transmit;
+ghost use Rattle.layer_bench.specs.Serving.{HasNothing, PutsOn, Serves, StoresCopies};
+
+use controller::{CtlError, Offer, RxController, Turn, TxController, Wire};
+use rx_ring::{ControllerEnd, RxControllerEnd, RxRing};
+use std::alloc::Global;
+use tx_ring::{TxControllerEnd, TxRing};
+
+/// To how many bytes buffers are filled.
+const FILL: usize = 2_048;
+
+/// How many frames were stored, and how many put onto the wire.
+#[derive(Clone, Copy)]
+pub struct Served {
+    pub stored: u32,
+    pub sent: u32,
+}
+
+/// A controller of either direction, and the wire.
+#[derive(Drop)]
+pub struct Device {
+    pub rx: RxController,
+    pub tx: TxController,
+    pub wire: Wire,
+}
+
+impl Device {
+    /// Controllers of two ends that have done nothing yet. Where descriptors are scarce a frame is held.
+    pub fn new(alloc: Global, rx: RxControllerEnd, tx: TxControllerEnd) -> Device
+        requires stores { receive.IsFreshController rx }
+        requires sends { transmit.IsFreshController tx }
+        ensures { HasNothing rx.table tx.table result }
+    {
+        let (_rx_size, _tx_size) = (rx.size(), tx.size());
+        Device {
+            rx: RxController::new(rx, FILL, false),
+            tx: TxController::new(tx),
+            wire: Wire::new(alloc),
+        }
+    }
+
+    /// Answers what is asked of both queues.
+    pub fn answer(&mut self, from: &RxRing, to: &TxRing)
+        requires { HasNothing from.now to.now self.old }
+        ensures { HasNothing from.now to.now self.new }
+    {
+        self.rx.turn_control(from);
+        self.tx.turn_control(to);
+    }
+
+    /// Offers the frame up to so many times, until it is not stored, and then puts up to so many frames onto the wire.
+    #[inline]
+    pub fn serve(
+        &mut self,
+        from: &RxRing,
+        to: &TxRing,
+        frame: &[u8],
+        offers: u32,
+        turns: u32,
+    ) -> Result<Served, CtlError>
+        requires serves { Serves from.now to.now frame.now self.old }
+        ensures serves { OnOk result (Serves from.now to.now frame.now self.new) }
+        ensures few { IfOk result (λ s. s.stored ≤ offers) }
+    {
+        let stored = offer(from, &mut self.rx, frame, offers)?;
+        let sent = turn(to, &mut self.tx, &mut self.wire, turns)?;
+        Ok(Served { stored, sent })
+    }
+}
+
+/// Offers the frame up to so many times, until it is not stored, and answers how often it was.
+#[inline]
+fn offer(
+    ring: &RxRing,
+    controller: &mut RxController,
+    frame: &[u8],
+    most: u32,
+) -> Result<u32, CtlError>
+    requires stores { StoresCopies ring.now frame.now controller.old }
+    ensures stores { OnOk result (StoresCopies ring.now frame.now controller.new) }
+    ensures few { IfOk result (λ stored. stored ≤ most) }
+{
+    for stored in 0..most {
+        if controller.offer(ring, frame)? != Offer::Stored {
+            return Ok(stored);
+        }
+    }
+    Ok(most)
+}
+
+/// Puts up to so many frames onto the wire, until none is ready, and answers how many.
+#[inline]
+fn turn(
+    ring: &TxRing,
+    controller: &mut TxController,
+    wire: &mut Wire,
+    most: u32,
+) -> Result<u32, CtlError>
+    requires sends { PutsOn ring.now controller.old wire.old }
+    ensures sends { OnOk result (PutsOn ring.now controller.new wire.new) }
+{
+    for sent in 0..most {
+        if controller.turn(ring, wire)? != Turn::Sent {
+            return Ok(sent);
+        }
+    }
+    Ok(most)
+}

@@ -1,0 +1,32 @@
+-- What the driver's thread of a receive ring keeps while frames are passed, and what was passed at the end.
+use Rattle.std.specs.Prelude.{◌≡◌, ℕ, true, [], length, replicate}
+use Rattle.atomic_table.specs.Seated.{TableId}
+use Rattle.ring_model.specs.declared.states.DriverState.TheVariants.{On}
+use Rattle.ring_model.specs.shared.Segments.{piece_of}
+use Rattle.ring_model.specs.shared.Handshakes.{is_new}
+use Rattle.ring_model.specs.shared.Frames.{Bytes, frames}
+use Rattle.ring_model.specs.receive.Lawful.{IsLawfulRxLedger}
+use Rattle.rx_ring.specs.Ends.{DriverSide, ControllerSide, driver_size, taken, driver_state}
+use Rattle.rx_ring.specs.Meeting.{ledger_of}
+
+-- the driver took nothing, and may ask for its queue to be enabled
+pub record CanAsk (ring : TableId) (driver : DriverSide) : Type 0 where
+  pub own : driver.table ≡ ring
+  pub new : is_new (driver_state driver) ≡ true
+  pub none_taken : taken driver ≡ []
+
+-- the driver saw its queue enabled
+pub record CanTake (ring : TableId) (driver : DriverSide) : Type 0 where
+  pub own : driver.table ≡ ring
+  pub on : driver_state driver ≡ On
+
+-- the driver took so many segments at the ring
+pub record TookAll (ring : TableId) (count : ℕ) (driver : DriverSide) : Type 0 where
+  pub own : driver.table ≡ ring
+  pub count_is : length (taken driver) ≡ count
+
+-- So many copies of the frame went through one ring: they are the frames that the driver took, and the ledger of the two ends is lawful
+pub record HasPassed (count : ℕ) (frame : Bytes) (driver : DriverSide) (controller : ControllerSide) : Type 0 where
+  pub one_ring : controller.table ≡ driver.table
+  pub lawful : IsLawfulRxLedger Bytes (driver_size driver) (ledger_of driver controller)
+  pub copies : frames piece_of (taken driver) ≡ replicate count frame

@@ -1,0 +1,43 @@
+//! The controller's thread of a transmit ring.
+ghost use Rattle.bench_kit.specs.Fetching.{CanServe, HasServed};
+
+use bench_kit::{Patience, Tally, send, serve_tx};
+use std::sync::Wait;
+use tx_ring::{ControllerEnd, TxControllerEnd, TxRing};
+
+/// What the controller's thread gives back, with what it read in the frames that it sent.
+#[derive(Drop)]
+pub struct Transmission {
+    pub controller: TxControllerEnd,
+    pub tally: Tally,
+}
+
+/// Answers the enabling, and sends so many frames, each as soon as it is ready. It looks at the tail only where it knows
+/// of none that is ready.
+pub fn send_all<R: Wait>(
+    rt: &R,
+    ring: &TxRing,
+    mut controller: TxControllerEnd,
+    frames: u32,
+) -> Transmission
+    requires can { CanServe ring.now controller }
+    ensures { HasServed ring.now controller.completion result.controller }
+{
+    serve_tx(rt, ring, &mut controller);
+    let mut patience = Patience::new();
+    let mut tally = Tally::new();
+    let mut left = frames;
+    for _ in rt.forever() {
+        if left == 0 {
+            return Transmission { controller, tally };
+        }
+        if controller.ready() == 0 && controller.look(ring) == 0 {
+            patience.wait();
+            continue;
+        }
+        patience.reset();
+        send(ring, &mut controller, &mut tally);
+        left -= 1;
+    }
+    unreachable!()
+}

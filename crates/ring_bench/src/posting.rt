@@ -1,0 +1,140 @@
+//! The driver's thread of a transmit ring.
+ghost use Rattle.std.specs.Prelude.{◌≡◌, ◌+◌, ◌<◌, ◌≤◌, [], length};
+ghost use Rattle.buffer_pool.specs.Stocked.{Shares};
+ghost use Rattle.tx_ring.specs.Ends.{driver_size, driver_record, posted, cleaned};
+ghost use Rattle.bench_kit.specs.Copies.{IsFrameLength};
+ghost use Rattle.ring_bench.specs.Sending.{CanEnable, HasBegun, IsUnderWay, OnlyCleaned, PostedAll, Supplies};
+
+use crate::asking::Course;
+use crate::words::TxPlan;
+use bench_kit::Patience;
+use buffer_pool::Stock;
+use std::sync::Wait;
+use tx_ring::{DriverEnd, TxDriverEnd, TxRing};
+
+/// What the driver's thread gives back: all buffers are in the stock again.
+#[derive(Drop)]
+pub struct Posted {
+    pub driver: TxDriverEnd,
+    pub stock: Stock,
+}
+
+/// Has the queue enabled, posts the frames of the plan as there is room for them, and cleans up after what is reported,
+/// until all is cleaned.
+pub fn post_all<R: Wait>(
+    rt: &R,
+    ring: &TxRing,
+    mut driver: TxDriverEnd,
+    mut stock: Stock,
+    frame: &[u8],
+    plan: TxPlan,
+) -> Posted
+    requires can { CanEnable ring.now driver }
+    requires way { driver.completion ≡ plan.completion }
+    requires full { Shares stock [] }
+    requires enough { ring.now.slots ≤ length stock.numbers }
+    requires frame { IsFrameLength (length frame.now) }
+    requires some { 0 < plan.report }
+    ensures { PostedAll ring.now plan frame.now result.driver }
+{
+    await_on(rt, ring, &mut driver);
+    let mut course = Course::new(plan);
+    let mut patience = Patience::new();
+    for _ in rt.forever() {
+        post_more(ring, &mut driver, &mut stock, frame, &mut course);
+        if clean(ring, &mut driver, &mut stock) {
+            patience.reset();
+        } else {
+            patience.wait();
+        }
+        if course.left() == 0 && driver.room() == driver.size() - 1 {
+            return Posted { driver, stock };
+        }
+    }
+    unreachable!()
+}
+
+/// Asks for the queue to be enabled, and waits until it is seen enabled.
+fn await_on<R: Wait>(rt: &R, ring: &TxRing, driver: &mut TxDriverEnd)
+    requires can { CanEnable ring.now driver.old }
+    ensures begun { HasBegun ring.now driver.new }
+    ensures way { driver.new.completion ≡ driver.old.completion }
+{
+    driver.ask_enable(ring);
+    let mut patience = Patience::new();
+    for _ in rt.forever() {
+        driver.state(ring);
+        if driver.is_on() {
+            return;
+        }
+        patience.wait();
+    }
+    unreachable!()
+}
+
+/// Posts as many frames as there is room for, and publishes them.
+#[inline]
+fn post_more(
+    ring: &TxRing,
+    driver: &mut TxDriverEnd,
+    stock: &mut Stock,
+    frame: &[u8],
+    course: &mut Course,
+)
+    requires run { IsUnderWay ring.now frame.now driver.old stock.old course.old }
+    requires frame { IsFrameLength (length frame.now) }
+    ensures run { IsUnderWay ring.now frame.now driver.new stock.new course.new }
+    ensures plan { course.new.plan ≡ course.old.plan }
+{
+    let more = driver.room().min(course.left());
+    if more == 0 {
+        return;
+    }
+    for _ in 0..more {
+        post(ring, driver, stock, frame, course);
+    }
+    driver.publish(ring);
+}
+
+/// Posts the frame once more, in a buffer of the stock.
+#[inline]
+fn post(
+    ring: &TxRing,
+    driver: &mut TxDriverEnd,
+    stock: &mut Stock,
+    frame: &[u8],
+    course: &mut Course,
+)
+    requires run { IsUnderWay ring.now frame.now driver.old stock.old course.old }
+    requires frame { IsFrameLength (length frame.now) }
+    requires left { course.old.posted < course.old.plan.load.frames }
+    requires room { length (posted driver.old) + 1 < driver_size driver.old + length (cleaned driver.old) }
+    ensures run { IsUnderWay ring.now frame.now driver.new stock.new course.new }
+    ensures one { course.new ≡ record course.old { posted = course.old.posted + 1 } }
+    ensures cleaned { cleaned driver.new ≡ cleaned driver.old }
+{
+    let _size = driver.size();
+    let Some(mut buf) = stock.take() else {
+        unreachable!()
+    };
+    buf.fill(frame);
+    let asks = course.next();
+    driver.post(ring, buf, true, asks, frame.len() as u16);
+}
+
+/// Looks for the oldest report that is outstanding, and answers whether it is made: then takes back all that it covers.
+#[inline]
+fn clean(ring: &TxRing, driver: &mut TxDriverEnd, stock: &mut Stock) -> bool
+    requires own { driver.old.table ≡ ring.now }
+    requires stock { Supplies stock.old (driver_size driver.old) (driver_record driver.old) }
+    ensures only { OnlyCleaned driver.old driver.new }
+    ensures stock { Supplies stock.new (driver_size driver.new) (driver_record driver.new) }
+{
+    if !driver.poll_report(ring) {
+        return false;
+    }
+    for _ in 0..driver.reported() {
+        stock.give(driver.clean(ring));
+    }
+    true
+}
