@@ -2,9 +2,10 @@
 ghost use Rattle.std.specs.Prelude.{◌≡◌, All};
 ghost use Rattle.driver.specs.receive.Chains.{IsTaken};
 
+use crate::rings::{both, new_rx, new_tx};
 use anyhow::Result;
 use arrayvec::ArrayVec;
-use buffer_pool::{Packet, PoolError, Stash, Stock};
+use buffer_pool::{Packet, Stash, Stock};
 use controller::{CtlError, RxController, TxController, Wire};
 use driver::{DriverError, MOST_BATCH, RxDriver, TxDriver};
 use forwarding::{Event, ForwardError, Gate, Turned, Who, drive};
@@ -69,8 +70,8 @@ pub struct Flow {
 impl Flow {
     /// Two rings of 8 descriptors, whose queues are not enabled yet, and 32 buffers.
     pub fn new(alloc: Global) -> Result<Flow> {
-        let (from, receiving, storing) = RxRing::new(alloc, 8)?;
-        let (to, sending, transmitting) = TxRing::new(alloc, 8)?;
+        let (rings, stash) = both(both(new_rx(alloc), new_tx(alloc)), filled(alloc, 32))?;
+        let ((from, receiving, storing), (to, sending, transmitting)) = rings;
         Ok(Flow {
             from,
             port_in: RxController::new(storing, BUFFER_BYTES, false),
@@ -78,7 +79,7 @@ impl Flow {
             to,
             port_out: TxController::new(transmitting),
             tx: TxDriver::new(sending, 32),
-            stash: filled(alloc, 32)?,
+            stash,
             packets: ArrayVec::new(),
             wire: Wire::new(alloc),
         })
@@ -122,7 +123,7 @@ impl Flow {
 }
 
 /// A stash with so many empty buffers.
-fn filled(alloc: Global, count: u32) -> Result<Stash, PoolError> {
+fn filled(alloc: Global, count: u32) -> Result<Stash> {
     let mut stock = Stock::new(alloc, 0, count)?;
     let mut stash = Stash::new();
     for _ in 0..count {
@@ -138,6 +139,15 @@ fn filled(alloc: Global, count: u32) -> Result<Stash, PoolError> {
 /// Has a frame come in ten times, and answers how many frames went out.
 pub fn forwarded<G: Gate>(alloc: Global, frame: &[u8], gate: &G) -> Result<usize> {
     let mut flow = Flow::new(alloc)?;
+    let went = forward_ten(&mut flow, frame, gate);
+    let count = flow.wire.len();
+    drop(flow);
+    went?;
+    Ok(count)
+}
+
+/// Has a frame come in ten times.
+fn forward_ten<G: Gate>(flow: &mut Flow, frame: &[u8], gate: &G) -> Result<()> {
     for _ in 0..2 {
         flow.enable()?; // asked, and then seen
     }
@@ -145,5 +155,5 @@ pub fn forwarded<G: Gate>(alloc: Global, frame: &[u8], gate: &G) -> Result<usize
         flow.turn(gate)?; // empty buffers are posted, and what came in is sent on
         flow.serve(frame)?;
     }
-    Ok(flow.wire.len())
+    Ok(())
 }

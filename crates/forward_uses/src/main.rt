@@ -2,6 +2,7 @@
 #![tactic(auto)]
 
 mod gated;
+mod rings;
 mod watched;
 
 use anyhow::Result;

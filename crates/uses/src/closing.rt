@@ -1,6 +1,8 @@
 //! A ring that is closed with buffers in it, each of which goes back to its stock.
 ghost use Rattle.std.specs.Prelude.{◌≡◌, [], None, IfOk};
 ghost use Rattle.buffer_pool.specs.Stocked.{Shares};
+ghost use Rattle.limits.specs.RingLength.{IsRingLength};
+ghost use Rattle.rx_ring.specs.Calls.{IsFreshDriver};
 ghost use Rattle.rx_ring.specs.Ends.{held};
 ghost use Rattle.rx_ring.specs.Meeting.{out_of};
 
@@ -14,13 +16,25 @@ use std::alloc::Global;
 pub fn closed(alloc: Global) -> Result<Stock>
     ensures { IfOk result (λ stock. Shares stock []) }
 {
-    let (ring, mut driver, controller) = RxRing::new(alloc, 8)?;
     let mut stock = Stock::new(alloc, 0, 16)?;
-    if let Some(buf) = stock.take() {
-        driver.post(&ring, buf);
-        give_back(ring, driver, controller, &mut stock);
-    }
+    let (ring, mut driver, controller) = RxRing::new(alloc, 8)?;
+    post_one(&ring, &mut driver, &mut stock);
+    give_back(ring, driver, controller, &mut stock);
     Ok(stock)
+}
+
+/// Posts the stock's next buffer.
+fn post_one(ring: &RxRing, driver: &mut RxDriverEnd, stock: &mut Stock)
+    requires own { driver.old.table ≡ ring.now }
+    requires fresh { IsFreshDriver driver.old }
+    requires size { IsRingLength ring.now.slots }
+    requires full { Shares stock.old [] }
+    ensures own { driver.new.table ≡ ring.now }
+    ensures shared { Shares stock.new (out_of driver.new) }
+{
+    if let Some(buf) = stock.take() {
+        driver.post(ring, buf);
+    }
 }
 
 /// Closes a ring whose controller holds no buffer, and gives each buffer that is out back to the stock.

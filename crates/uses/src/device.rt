@@ -6,6 +6,7 @@ ghost use Rattle.ring_model.specs.transmit.Ring.{carried};
 ghost use Rattle.rx_ring.specs.Ends.{stored};
 ghost use Rattle.tx_ring.specs.Ends.{sent};
 
+use crate::outcome::both;
 use anyhow::Result;
 use buffer_pool::Stock;
 use controller::{CtlError, Offer, RxController, TxController, Wire};
@@ -165,21 +166,28 @@ fn begin_sending(alloc: Global, stock: &mut Stock, frame: &Frame) -> Result<Send
 /// Has two frames come in where one buffer is posted, and one frame go out: how many were stored, and how many went out.
 pub fn served(alloc: Global, frame: &Frame) -> Result<(usize, usize)> {
     let mut stock = Stock::new(alloc, 0, 16)?;
-    let Receiving {
-        ring: from,
-        device: mut incoming,
-    } = begin_receiving(alloc, &mut stock)?;
-    let Sending {
-        ring: to,
-        device: mut outgoing,
-    } = begin_sending(alloc, &mut stock, frame)?;
+    let receiving = begin_receiving(alloc, &mut stock);
+    let sending = begin_sending(alloc, &mut stock, frame);
+    drop(stock);
+    let (mut receiving, mut sending) = both(receiving, sending)?;
+    let counts = serve_twice(&mut receiving, &mut sending, frame);
+    drop((receiving, sending));
+    Ok(counts?)
+}
+
+/// Serves both queues twice while this frame comes in, and again: how many were stored, and how many went out.
+fn serve_twice(
+    receiving: &mut Receiving,
+    sending: &mut Sending,
+    frame: &Frame,
+) -> Result<(usize, usize), CtlError> {
     serve(
-        &from,
-        &mut incoming,
-        &to,
-        &mut outgoing,
+        &receiving.ring,
+        &mut receiving.device,
+        &sending.ring,
+        &mut sending.device,
         &[*frame, *frame],
         2,
     )?;
-    Ok((incoming.listed.len(), outgoing.wire.len()))
+    Ok((receiving.device.listed.len(), sending.device.wire.len()))
 }

@@ -9,6 +9,8 @@ ghost use Rattle.lending.specs.Lent.{lent, SameNumbers};
 ghost use Rattle.driver.specs.receive.Receiver.{Receiver};
 ghost use Rattle.driver.specs.transmit.Transmitter.{Transmitter};
 
+use crate::outcome::both;
+use crate::rings::{new_rx, new_tx};
 use anyhow::Result as Answer;
 use arrayvec::ArrayVec;
 use buffer_pool::{Packet, Stash};
@@ -126,6 +128,7 @@ impl<'a> Worker<'a> {
         give_received(rt, pool, &mut pass, &mut rx, from, &mut stash);
         give_sent(rt, pool, &mut pass, &mut tx, to, &mut stash);
         give_packets(rt, pool, &mut pass, &mut packets);
+        drop((rx, tx, stash, packets));
         pass
     }
 }
@@ -197,14 +200,20 @@ fn forward<R: Wait>(
     frame: &[u8],
 ) -> Answer<()> {
     for _ in 0..2 {
-        worker.enable_receive()?; // asked, and then seen
-        worker.enable_send()?;
-        device.answer();
+        begin(worker, device)?; // asked, and then seen
     }
     for _ in 0..11 {
         worker.turn(rt)?;
         device.turn(frame)?;
     }
+    Ok(())
+}
+
+/// The worker asks for both queues to be enabled, and the device answers.
+fn begin(worker: &mut Worker<'_>, device: &mut Device<'_>) -> Result<(), DriverError> {
+    worker.enable_receive()?;
+    worker.enable_send()?;
+    device.answer();
     Ok(())
 }
 
@@ -230,8 +239,9 @@ pub fn lent_and_returned<R: Wait>(
     requires shares { IsOf pool.now pass }
     requires none { pass.hand.held ≡ [] }
 {
-    let (from, receiving, storing) = RxRing::new(alloc, 8)?;
-    let (to, sending, transmitting) = TxRing::new(alloc, 8)?;
+    let (receives, sends) = both(new_rx(alloc), new_tx(alloc))?;
+    let (from, receiving, storing) = receives;
+    let (to, sending, transmitting) = sends;
     let rx = RxDriver::new(receiving, 32);
     let tx = TxDriver::new(sending, 32);
     let worker = Worker::new(pool, pass, &from, rx, &to, tx);
@@ -242,7 +252,9 @@ pub fn lent_and_returned<R: Wait>(
         port_out: TxController::new(transmitting),
         wire: Wire::new(alloc),
     };
-    forwarded(rt, worker, device, frame)
+    let count = forwarded(rt, worker, device, frame);
+    drop((from, to));
+    count
 }
 
 /// The same of a worker and a device that are made.
@@ -252,10 +264,21 @@ fn forwarded<R: Wait>(
     mut device: Device<'_>,
     frame: &[u8],
 ) -> Answer<usize> {
-    forward(rt, &mut worker, &mut device, frame)?;
-    if stop(&mut worker, &mut device) {
+    let went = forward(rt, &mut worker, &mut device, frame);
+    let (_, (worker, device)) = both(went, Ok((worker, device)))?;
+    Ok(returned(rt, worker, device))
+}
+
+/// Has both queues disabled, and the worker's buffers go back, and answers how many frames went out.
+fn returned<R: Wait>(rt: &R, mut worker: Worker<'_>, mut device: Device<'_>) -> usize {
+    let stopped = stop(&mut worker, &mut device);
+    let count = device.wire.len();
+    drop(device);
+    if stopped {
         let pass = worker.give_back(rt); // it holds no buffer
         pass.accounts();
+    } else {
+        drop(worker);
     }
-    Ok(device.wire.len())
+    count
 }

@@ -3,9 +3,11 @@ ghost use Rattle.std.specs.Prelude.{◌≡◌, All};
 ghost use Rattle.buffer_pool.specs.Packed.{IsPacket};
 
 use crate::forwarder::forward;
+use crate::outcome::both;
+use crate::rings::{new_rx, new_tx};
 use anyhow::Result;
 use arrayvec::ArrayVec;
-use buffer_pool::{Packet, PoolError, Stash, Stock};
+use buffer_pool::{Packet, Stash, Stock};
 use controller::{CtlError, RxController, TxController, Wire};
 use driver::{DriverError, MOST_BATCH, RxDriver, TxDriver};
 use limits::BUFFER_BYTES;
@@ -35,8 +37,8 @@ pub struct QueuePair {
 impl QueuePair {
     /// Two queues of 8 descriptors that are not enabled yet, and 32 buffers.
     pub fn new(alloc: Global) -> Result<QueuePair> {
-        let (from, receiving, storing) = RxRing::new(alloc, 8)?;
-        let (to, sending, transmitting) = TxRing::new(alloc, 8)?;
+        let (rings, stash) = both(both(new_rx(alloc), new_tx(alloc)), filled(alloc, 32))?;
+        let ((from, receiving, storing), (to, sending, transmitting)) = rings;
         Ok(QueuePair {
             from,
             port_in: RxController::new(storing, BUFFER_BYTES, false),
@@ -44,7 +46,7 @@ impl QueuePair {
             to,
             port_out: TxController::new(transmitting),
             tx: TxDriver::new(sending, 32),
-            stash: filled(alloc, 32)?,
+            stash,
             packets: ArrayVec::new(),
             wire: Wire::new(alloc),
         })
@@ -81,7 +83,7 @@ impl QueuePair {
 }
 
 /// A stash with so many empty buffers.
-fn filled(alloc: Global, count: u32) -> Result<Stash, PoolError> {
+fn filled(alloc: Global, count: u32) -> Result<Stash> {
     let mut stock = Stock::new(alloc, 0, count)?;
     let mut stash = Stash::new();
     for _ in 0..count {
@@ -97,6 +99,15 @@ fn filled(alloc: Global, count: u32) -> Result<Stash, PoolError> {
 /// Has a frame come in ten times, and answers how many frames went out.
 pub fn forwarded(alloc: Global, frame: &[u8]) -> Result<usize> {
     let mut pair = QueuePair::new(alloc)?;
+    let went = forward_ten(&mut pair, frame);
+    let count = pair.wire.len();
+    drop(pair);
+    went?;
+    Ok(count)
+}
+
+/// Has a frame come in ten times.
+fn forward_ten(pair: &mut QueuePair, frame: &[u8]) -> Result<()> {
     for _ in 0..2 {
         pair.enable()?; // asked, and then seen
     }
@@ -106,5 +117,5 @@ pub fn forwarded(alloc: Global, frame: &[u8]) -> Result<usize> {
     }
     pair.forward()?;
     pair.turn(frame)?;
-    Ok(pair.wire.len())
+    Ok(())
 }

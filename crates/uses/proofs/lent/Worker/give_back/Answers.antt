@@ -1,5 +1,4 @@
 -- What the pass holds goes back part by part, until nothing is held.
-use Rattle.std.proofs.Common.{◌++◌}
 use Rattle.driver.specs.transmit.Frames.{numbers_in}
 use Rattle.lending.specs.Lent.{with_receiver, with_transmitter}
 use Rattle.uses.proofs.Moving.{received-held, sent-held, waiting-held, none-held}

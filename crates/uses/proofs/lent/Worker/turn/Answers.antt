@@ -1,7 +1,5 @@
 -- Each of the three calls leaves what the pass holds just what the worker has.
-use Rattle.std.proofs.Common.{◌≡◌, ◌∙◌, ℕ, List, rules}
-use Rattle.buffer_pool.specs.Buffer.{Buffer}
-use Rattle.lending.specs.Lent.{lent, SameNumbers}
+use Rattle.lending.specs.Lent.{lent}
 use Rattle.lending.proofs.Giving.{lent-refilled}
 use Rattle.uses.proofs.Moving.{same-trans}
 use Rattle.uses.proofs.lent.Worker.turn.Goals as goal
