@@ -1,6 +1,5 @@
 -- What the exports say of a worker's packets, and of what is done with them.
-use Rattle.std.specs.Prelude.{◌≡◌, ℕ, ◌+◌, ◌*◌, ◌<◌, ◌≤◌, ◌⊎◌, Option, Some, List, [], ◌∷◌, ◌++◌, length, map, reverse, remove, drop, slice_get, slice_index, slice_set, IsPermutation}
-use Rattle.std.specs.List.{range_with_len}
+use Rattle.std.specs.Prelude.{◌≡◌, ℕ, ◌+◌, ◌*◌, ◌<◌, ◌≤◌, ◌⊎◌, Option, Some, List, [], ◌∷◌, ◌++◌, length, map, reverse, remove, drop, slice_get, slice_index, slice_set}
 use Rattle.buffer_pool.specs.Buffer.{Buffer, buffer}
 use Rattle.buffer_pool.specs.Packed.{IsPacket, bytes_of, shape_of}
 use Rattle.buffer_pool.specs.declared.stash.TheConstants.{STASH_BUFFERS}

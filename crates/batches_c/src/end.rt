@@ -31,7 +31,10 @@ impl End {
     {
         match self {
             End::RxQueue(held) => Some(held),
-            _ => None,
+            other => {
+                drop(other);
+                None
+            }
         }
     }
 
@@ -41,7 +44,10 @@ impl End {
     {
         match self {
             End::RxDevice(held) => Some(held),
-            _ => None,
+            other => {
+                drop(other);
+                None
+            }
         }
     }
 
@@ -51,7 +57,10 @@ impl End {
     {
         match self {
             End::TxQueue(held) => Some(held),
-            _ => None,
+            other => {
+                drop(other);
+                None
+            }
         }
     }
 
@@ -61,7 +70,10 @@ impl End {
     {
         match self {
             End::TxDevice(held) => Some(held),
-            _ => None,
+            other => {
+                drop(other);
+                None
+            }
         }
     }
 
@@ -71,7 +83,10 @@ impl End {
     {
         match self {
             End::Packets(held) => Some(held),
-            _ => None,
+            other => {
+                drop(other);
+                None
+            }
         }
     }
 }

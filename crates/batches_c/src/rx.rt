@@ -33,6 +33,7 @@ pub extern "C" fn poll82599_rx_queue_new(
     ensures made { (result ≡ pos 0) → AreMade descriptors batch fill (is_set drop_en) (as_rx_queue queue.new.held) (as_rx_device device.new.held) }
     ensures length { (result ≡ pos 1) → ¬ IsRingLength descriptors }
     ensures settings { (result ≡ pos 4) → ((batch ≡ 0) ⊎ (32 < batch)) ⊎ ¬ IsFillSize fill }
+    ensures buffers { result ≢ pos 3 }
     ensures queue { (result ≢ pos 0) → queue.new ≡ queue.old }
     ensures device { (result ≢ pos 0) → device.new ≡ device.old }
 {

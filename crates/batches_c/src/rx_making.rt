@@ -15,10 +15,8 @@ use crate::rx_device::RxDevice;
 use crate::rx_queue::RxQueue;
 use controller::{RxController, is_fill_size};
 use driver::{MOST_BATCH, RxDriver};
-use makings::{Unmade, boxed, shared};
-use rx_ring::{RingError, RxRing, close, meet_rx};
+use makings::{Unmade, both_boxed, rx_close, rx_halves};
 use std::alloc::Global;
-use std::sync::Arc;
 
 /// A ring of so many descriptors, a driver that takes up to `batch` packets at once, and a device that fills buffers to `fill`
 /// bytes, and drops or holds a frame for which too few descriptors are free.
@@ -37,12 +35,7 @@ pub(crate) fn make(
     if batch == 0 || MOST_BATCH < batch || !is_fill_size(fill) {
         return Err(Unmade::Settings);
     }
-    let (ring, driver, controller) = match RxRing::new(alloc, ring) {
-        Ok(made) => made,
-        Err(RingError::RingLength) => return Err(Unmade::Length),
-        Err(RingError::Memory) => return Err(Unmade::Memory),
-    };
-    let (ring, other) = shared(alloc, ring)?;
+    let ((ring, driver), (other, controller)) = rx_halves(alloc, ring)?;
     let queue = RxQueue {
         ring,
         driver: RxDriver::new(driver, batch),
@@ -51,9 +44,7 @@ pub(crate) fn make(
         ring: other,
         controller: RxController::new(controller, fill, drop_en),
     };
-    let queue = boxed(alloc, End::RxQueue(queue))?;
-    let device = boxed(alloc, End::RxDevice(device))?;
-    Ok((queue, device))
+    both_boxed(alloc, End::RxQueue(queue), End::RxDevice(device))
 }
 
 /// Closes a receive queue: how many buffers lay in its ring, or -1 where another owner of the ring is left.
@@ -62,23 +53,10 @@ pub(crate) fn unmake(queue: RxQueue, device: RxDevice) -> i64
     ensures lawful { IsLawfulRxLedger Bytes (driver_size queue.end) (ledger_of queue.end device.end) }
     ensures told { IsTold (told_left queue.end) (length (taken queue.end)) (length (stored_now queue.end device.end)) }
 {
-    let RxQueue { ring, driver } = queue;
-    let RxDevice {
-        ring: other,
-        controller,
-    } = device;
-    let (mut driver, _chain) = driver.into_end();
-    let mut controller = controller.into_end();
-    meet_rx(&other, &mut driver, &mut controller);
-    drop(other);
-    let Some(ring) = Arc::into_inner(ring) else {
-        return -1;
-    };
-    let mut left = 0u32;
-    for place in close(ring, driver, controller) {
-        if place.is_some() {
-            left = left.wrapping_add(1);
-        }
-    }
-    i64::from(left)
+    let (end, chain) = queue.driver.into_end();
+    drop(chain);
+    rx_close(
+        (queue.ring, end),
+        (device.ring, device.controller.into_end()),
+    )
 }

@@ -31,6 +31,7 @@ pub extern "C" fn poll82599_tx_queue_new(
     ensures head { (result ≡ pos 0) → (by_head ≢ 0) → AreMade descriptors every by.Head (as_tx_queue queue.new.held) (as_tx_device device.new.held) }
     ensures length { (result ≡ pos 1) → ¬ IsRingLength descriptors }
     ensures settings { (result ≡ pos 4) → (every ≡ 0) ⊎ (4096 < every) }
+    ensures buffers { result ≢ pos 3 }
     ensures queue { (result ≢ pos 0) → queue.new ≡ queue.old }
     ensures device { (result ≢ pos 0) → device.new ≡ device.old }
 {

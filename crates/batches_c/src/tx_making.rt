@@ -13,10 +13,9 @@ use crate::tx_device::TxDevice;
 use crate::tx_queue::TxQueue;
 use controller::TxController;
 use driver::{MOST_RS_EVERY, TxDriver};
-use makings::{Unmade, boxed, shared};
+use makings::{Unmade, both_boxed, tx_close, tx_halves};
 use std::alloc::Global;
-use std::sync::Arc;
-use tx_ring::{Completion, RingError, TxRing, close, meet_tx};
+use tx_ring::Completion;
 
 /// A ring of so many descriptors that reports so, a driver that asks for a report with each `every`th frame, and a device.
 pub(crate) fn make(
@@ -33,12 +32,7 @@ pub(crate) fn make(
     if every == 0 || MOST_RS_EVERY < every {
         return Err(Unmade::Settings);
     }
-    let (ring, driver, controller) = match TxRing::new_with(alloc, ring, completion) {
-        Ok(made) => made,
-        Err(RingError::RingLength) => return Err(Unmade::Length),
-        Err(RingError::Memory) => return Err(Unmade::Memory),
-    };
-    let (ring, other) = shared(alloc, ring)?;
+    let ((ring, driver), (other, controller)) = tx_halves(alloc, ring, completion)?;
     let queue = TxQueue {
         ring,
         driver: TxDriver::new(driver, every),
@@ -47,9 +41,7 @@ pub(crate) fn make(
         ring: other,
         controller: TxController::new(controller),
     };
-    let queue = boxed(alloc, End::TxQueue(queue))?;
-    let device = boxed(alloc, End::TxDevice(device))?;
-    Ok((queue, device))
+    both_boxed(alloc, End::TxQueue(queue), End::TxDevice(device))
 }
 
 /// Closes a transmit queue: how many buffers lay in its ring, or -1 where another owner of the ring is left.
@@ -58,23 +50,8 @@ pub(crate) fn unmake(queue: TxQueue, device: TxDevice) -> i64
     ensures lawful { IsLawfulTxLedger Bytes (driver_size queue.end) (ledger_of queue.end device) }
     ensures told { IsTold (told_left queue.end) (length (sent_now queue.end device)) (length (posted queue.end)) }
 {
-    let TxQueue { ring, driver } = queue;
-    let TxDevice {
-        ring: other,
-        controller,
-    } = device;
-    let mut driver = driver.into_end();
-    let mut controller = controller.into_end();
-    meet_tx(&other, &mut driver, &mut controller);
-    drop(other);
-    let Some(ring) = Arc::into_inner(ring) else {
-        return -1;
-    };
-    let mut left = 0u32;
-    for place in close(ring, driver, controller) {
-        if place.is_some() {
-            left = left.wrapping_add(1);
-        }
-    }
-    i64::from(left)
+    tx_close(
+        (queue.ring, queue.driver.into_end()),
+        (device.ring, device.controller.into_end()),
+    )
 }

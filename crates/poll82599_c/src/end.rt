@@ -28,7 +28,10 @@ impl End {
     {
         match self {
             End::RxDriver(held) => Some(held),
-            _ => None,
+            other => {
+                drop(other);
+                None
+            }
         }
     }
 
@@ -38,7 +41,10 @@ impl End {
     {
         match self {
             End::RxController(held) => Some(held),
-            _ => None,
+            other => {
+                drop(other);
+                None
+            }
         }
     }
 
@@ -48,7 +54,10 @@ impl End {
     {
         match self {
             End::TxDriver(held) => Some(held),
-            _ => None,
+            other => {
+                drop(other);
+                None
+            }
         }
     }
 
@@ -58,7 +67,10 @@ impl End {
     {
         match self {
             End::TxController(held) => Some(held),
-            _ => None,
+            other => {
+                drop(other);
+                None
+            }
         }
     }
 }

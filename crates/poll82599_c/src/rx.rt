@@ -28,6 +28,7 @@ pub extern "C" fn poll82599_rx_new(
     ensures made { (result ≡ pos 0) → AreMade descriptors (rx_driver driver.new.held) (rx_controller controller.new.held) }
     ensures length { (result ≡ pos 1) → ¬ IsRingLength descriptors }
     ensures buffers { (result ≡ pos 3) → (buffers < 16) ⊎ (256 < buffers) }
+    ensures settings { result ≢ pos 4 }
     ensures driver { (result ≢ pos 0) → driver.new ≡ driver.old }
     ensures controller { (result ≢ pos 0) → controller.new ≡ controller.old }
 {

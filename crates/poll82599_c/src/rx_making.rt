@@ -14,48 +14,46 @@ use crate::end::End;
 use crate::rx_driving::RxDriving;
 use crate::rx_serving::RxServing;
 use buffer_pool::Stash;
-use makings::{Unmade, boxed, shared, stash_of};
-use rx_ring::{RingError, RxRing, close, meet_rx};
+use makings::{Unmade, both_boxed, rx_close, rx_halves, stash_of};
 use std::alloc::Global;
-use std::sync::Arc;
 
 /// A ring of so many descriptors, and its two objects. The driver has so many buffers.
 pub(crate) fn make(alloc: Global, ring: u32, buffers: u32) -> Result<(Box<End>, Box<End>), Unmade>
     ensures made { IfOk result (λ r. AreMade ring (rx_driver (Some r.0.value)) (rx_controller (Some r.1.value))) }
     ensures length { IfErr result (λ e. e ≡ Unmade.Length → ¬ IsRingLength ring) }
     ensures buffers { IfErr result (λ e. e ≡ Unmade.Buffers → (buffers < 16) ⊎ (256 < buffers)) }
+    ensures refusals { IfErr result (λ e. e ≢ Unmade.Settings) }
 {
     let stash = stash_of(alloc, buffers)?;
     let (driving, serving) = ends_of(alloc, ring, stash)?;
-    let driving = boxed(alloc, End::RxDriver(driving))?;
-    let serving = boxed(alloc, End::RxController(serving))?;
-    Ok((driving, serving))
+    both_boxed(alloc, End::RxDriver(driving), End::RxController(serving))
 }
 
 /// The two objects of a new ring. The driver's has these buffers.
 fn ends_of(alloc: Global, ring: u32, stash: Stash) -> Result<(RxDriving, RxServing), Unmade>
     ensures made { IfOk result (λ r. AreMade ring (Some r.0) (Some r.1)) }
     ensures length { IfErr result (λ e. e ≡ Unmade.Length → ¬ IsRingLength ring) }
-    ensures refusals { IfErr result (λ e. e ≢ Unmade.Buffers) }
+    ensures refusals { IfErr result (λ e. (e ≡ Unmade.Length) ⊎ (e ≡ Unmade.Memory)) }
 {
-    let (ring, driver, controller) = match RxRing::new(alloc, ring) {
-        Ok(made) => made,
-        Err(RingError::RingLength) => return Err(Unmade::Length),
-        Err(RingError::Memory) => return Err(Unmade::Memory),
-    };
-    let (ring, other) = shared(alloc, ring)?;
-    let driving = RxDriving {
-        ring,
-        end: driver,
-        stash,
-        reclaiming: false,
-    };
-    let serving = RxServing {
-        ring: other,
-        end: controller,
-        begun: Begun::none(),
-    };
-    Ok((driving, serving))
+    match rx_halves(alloc, ring) {
+        Ok(((ring, driver), (other, controller))) => Ok((
+            RxDriving {
+                ring,
+                end: driver,
+                stash,
+                reclaiming: false,
+            },
+            RxServing {
+                ring: other,
+                end: controller,
+                begun: Begun::none(),
+            },
+        )),
+        Err(why) => {
+            drop(stash);
+            Err(why)
+        }
+    }
 }
 
 /// Closes a ring: how many buffers lay in it, or -1 where another owner of the ring is left.
@@ -66,24 +64,10 @@ pub(crate) fn unmake(driving: RxDriving, serving: RxServing) -> i64
 {
     let RxDriving {
         ring,
-        end: mut driver,
+        end,
+        stash,
         ..
     } = driving;
-    let RxServing {
-        ring: other,
-        end: mut controller,
-        ..
-    } = serving;
-    meet_rx(&other, &mut driver, &mut controller);
-    drop(other);
-    let Some(ring) = Arc::into_inner(ring) else {
-        return -1;
-    };
-    let mut left = 0u32;
-    for place in close(ring, driver, controller) {
-        if place.is_some() {
-            left = left.wrapping_add(1);
-        }
-    }
-    i64::from(left)
+    drop(stash);
+    rx_close((ring, end), (serving.ring, serving.end))
 }

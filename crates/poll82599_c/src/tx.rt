@@ -34,6 +34,7 @@ pub extern "C" fn poll82599_tx_new(
     ensures head { (result ≡ pos 0) → (by_head ≢ 0) → AreMade descriptors by.Head (tx_driver driver.new.held) (tx_controller controller.new.held) }
     ensures length { (result ≡ pos 1) → ¬ IsRingLength descriptors }
     ensures buffers { (result ≡ pos 3) → (buffers < 16) ⊎ (256 < buffers) }
+    ensures settings { result ≢ pos 4 }
     ensures driver { (result ≢ pos 0) → driver.new ≡ driver.old }
     ensures controller { (result ≢ pos 0) → controller.new ≡ controller.old }
 {

@@ -13,10 +13,9 @@ use crate::end::End;
 use crate::tx_driving::TxDriving;
 use crate::tx_serving::TxServing;
 use buffer_pool::Stash;
-use makings::{Unmade, boxed, shared, stash_of};
+use makings::{Unmade, both_boxed, stash_of, tx_close, tx_halves};
 use std::alloc::Global;
-use std::sync::Arc;
-use tx_ring::{Completion, RingError, TxRing, close, meet_tx};
+use tx_ring::Completion;
 
 /// A ring of so many descriptors that reports so, and its two objects. The driver has so many buffers.
 pub(crate) fn make(
@@ -28,12 +27,11 @@ pub(crate) fn make(
     ensures made { IfOk result (λ r. AreMade ring completion (tx_driver (Some r.0.value)) (tx_controller (Some r.1.value))) }
     ensures length { IfErr result (λ e. e ≡ Unmade.Length → ¬ IsRingLength ring) }
     ensures buffers { IfErr result (λ e. e ≡ Unmade.Buffers → (buffers < 16) ⊎ (256 < buffers)) }
+    ensures refusals { IfErr result (λ e. e ≢ Unmade.Settings) }
 {
     let stash = stash_of(alloc, buffers)?;
     let (driving, serving) = ends_of(alloc, ring, stash, completion)?;
-    let driving = boxed(alloc, End::TxDriver(driving))?;
-    let serving = boxed(alloc, End::TxController(serving))?;
-    Ok((driving, serving))
+    both_boxed(alloc, End::TxDriver(driving), End::TxController(serving))
 }
 
 /// The two objects of a new ring. The driver's has these buffers.
@@ -45,26 +43,27 @@ fn ends_of(
 ) -> Result<(TxDriving, TxServing), Unmade>
     ensures made { IfOk result (λ r. AreMade ring completion (Some r.0) (Some r.1)) }
     ensures length { IfErr result (λ e. e ≡ Unmade.Length → ¬ IsRingLength ring) }
-    ensures refusals { IfErr result (λ e. e ≢ Unmade.Buffers) }
+    ensures refusals { IfErr result (λ e. (e ≡ Unmade.Length) ⊎ (e ≡ Unmade.Memory)) }
 {
-    let (ring, driver, controller) = match TxRing::new_with(alloc, ring, completion) {
-        Ok(made) => made,
-        Err(RingError::RingLength) => return Err(Unmade::Length),
-        Err(RingError::Memory) => return Err(Unmade::Memory),
-    };
-    let (ring, other) = shared(alloc, ring)?;
-    let driving = TxDriving {
-        ring,
-        end: driver,
-        stash,
-        begun: Begun::none(),
-        paylen: 0,
-    };
-    let serving = TxServing {
-        ring: other,
-        end: controller,
-    };
-    Ok((driving, serving))
+    match tx_halves(alloc, ring, completion) {
+        Ok(((ring, driver), (other, controller))) => Ok((
+            TxDriving {
+                ring,
+                end: driver,
+                stash,
+                begun: Begun::none(),
+                paylen: 0,
+            },
+            TxServing {
+                ring: other,
+                end: controller,
+            },
+        )),
+        Err(why) => {
+            drop(stash);
+            Err(why)
+        }
+    }
 }
 
 /// Closes a ring: how many buffers lay in it, or -1 where another owner of the ring is left.
@@ -75,23 +74,10 @@ pub(crate) fn unmake(driving: TxDriving, serving: TxServing) -> i64
 {
     let TxDriving {
         ring,
-        end: mut driver,
+        end,
+        stash,
         ..
     } = driving;
-    let TxServing {
-        ring: other,
-        end: mut controller,
-    } = serving;
-    meet_tx(&other, &mut driver, &mut controller);
-    drop(other);
-    let Some(ring) = Arc::into_inner(ring) else {
-        return -1;
-    };
-    let mut left = 0u32;
-    for place in close(ring, driver, controller) {
-        if place.is_some() {
-            left = left.wrapping_add(1);
-        }
-    }
-    i64::from(left)
+    drop(stash);
+    tx_close((ring, end), (serving.ring, serving.end))
 }
