@@ -1,19 +1,15 @@
 //! The words of the command line, as `clap` reads them, to a request.
-ghost use Rattle.std.specs.Prelude.{◌≡◌, ◌⊎◌, ℕ, Bool, List, Some, false, codes, map};
+ghost use Rattle.std.specs.Prelude.{◌≡◌, ◌⊎◌, ℕ, List, Some, codes, map};
 ghost use Rattle.std.specs.Prelude.{IfOk, IfSome, IsErrAnd, IsSomeAnd, MatchResult};
 ghost use Rattle.std.specs.String.{string_bytes};
-ghost use Rattle.clap.specs.Words.{Row, Text, app_of, kind_of, found_of, one_of, rows_of, subcommand_rows_of};
-ghost use Rattle.clap.specs.Values.{bool_text};
-ghost use Rattle.clap.specs.declared.builder.command.Command.TheViews.{out-Command};
+ghost use Rattle.clap.specs.Words.{Row, Text, app_of, kind_of, subcommand_rows_of};
 ghost use Rattle.clap.specs.declared.error.kind.ErrorKind.TheVariants.{OutOfMemory};
 ghost use Rattle.commands.specs.declared.decode.Form.{Form};
-ghost use Rattle.command_line.specs.CommandLine.{IsDecodeApp, IsProgram, bare_app, once_app};
-ghost use Rattle.command_line.specs.CommandLine.{forward_app, replay_app, with_printing_rules, with_queue_rules, with_work_rules};
 ghost use Rattle.commands.specs.declared.replay.QueuePlan.{QueuePlan};
+ghost use Rattle.command_line.specs.CommandLine.{IsProgram, bare_app};
 ghost use Rattle.command_line.specs.CommandLine.{HasDecode, IsDecode, SaysDecode};
 ghost use Rattle.command_line.specs.CommandLine.{HasReplay, IsReplayOf, SaysReplay};
 ghost use Rattle.command_line.specs.CommandLine.{HasForward, HasPrinting, IsForward, IsRequest, SaysForward};
-ghost use Rattle.command_line.specs.OptionWords.{completion_of};
 ghost use Rattle.forwarder.specs.declared.config.Config.{Config as ForwardConfig};
 ghost use Rattle.forward_command.specs.declared.printing.Printing.{Printing as Printed};
 ghost use Rattle.command_line.specs.CommandLine.{HasOnce, IsMistake, IsMisuse, IsOnce, SaysOnce};
@@ -26,19 +22,19 @@ ghost use Rattle.command_line.specs.ScheduleWords.{HasCover, HasSchedules, SaysC
 ghost use Rattle.schedule_command.specs.declared.request.ScheduleRequest.{ScheduleRequest as Lists};
 ghost use Rattle.cover_command.specs.declared.request.CoverRequest.{CoverRequest as Covering};
 
-use crate::arguments::{choice, flag, hex, number, optional};
 use crate::captures::{from_capture, from_capture_in, to_capture, to_capture_in};
-use crate::drawings::{draws_any, pictures_in};
-use crate::files::with_files;
+use crate::descriptors::{decode, decode_in};
+use crate::forwards::{config_in, forward, printing_in};
+use crate::frames::{once, once_in};
 use crate::lists::{lists_in, schedules};
+use crate::replays::{replay, replay_in};
 use capture_command::CaptureRequest;
 use clap::error::ErrorKind;
 use clap::{ArgMatches, Command, Error};
-use commands::{Form, QueuePlan, Request, Shown};
+use commands::Request;
 use cover_command::CoverRequest;
 use forward_command::Printing;
 use forwarder::Config;
-use ring_machine::Completion;
 use schedule_command::ScheduleRequest;
 use std::alloc::{AllocError, Global};
 
@@ -56,25 +52,9 @@ const NOT_SHOWN: &str =
 const NOT_DRAWN: &str =
     "--cover draws no lists: it stands without --seed, --moves, --count, --ring, --pairs, --off and --refused";
 
-const ONCE_EXAMPLE: &str =
-    "Example:\n  poll82599 once 000102030405060708090a0b0c0d\n  prints 000102030405060708090a0b0c0d";
-
-const DECODE_EXAMPLE: &str =
-    "Example:\n  poll82599 decode rx back 0000000000000000030000003c000000\n  prints dd 1 eop 1 length 60";
-
-const REPLAY_EXAMPLE: &str =
-    "Example:\n  echo 'r0 A1 5' | poll82599 replay --ring 16\n  prints r0 A1 place 0\n  and moves 1 of 1";
-
-const FORWARD_EXAMPLES: &str =
-    "Examples:\n  echo '0 0 fill 14 05' | poll82599 forward\n  prints 1 0 0506050505050505050505050505\n  and flow 0 0 offered 1 stored 1 dropped 0 oversize 0 taken 1 posted 1 tx-dropped 0 wire 1 left 0 ended drained\n  and flow 1 0 offered 0 stored 0 dropped 0 oversize 0 taken 0 posted 0 tx-dropped 0 wire 0 left 0 ended drained\n\n  echo '1 0 fill 9000 00' | poll82599 forward --ring 8 --bsize 1024\n  prints flow 0 0 offered 0 stored 0 dropped 0 oversize 0 taken 0 posted 0 tx-dropped 0 wire 0 left 0 ended drained\n  and flow 1 0 offered 1 stored 0 dropped 0 oversize 1 taken 0 posted 0 tx-dropped 0 wire 0 left 0 ended drained";
-
 /// One example of each command.
 const EXAMPLES: &str =
     "Examples:\n  poll82599 once 000102030405060708090a0b0c0d\n  poll82599 decode rx back 0000000000000000030000003c000000\n  echo 'r0 A1 5' | poll82599 replay --ring 16\n  echo '0 0 fill 60 01' | poll82599 forward\n  poll82599 from-capture 0 0 < x.pcap | poll82599 forward | poll82599 to-capture 1 > y.pcap\n  poll82599 schedules --seed 1 --moves 4\n  poll82599 schedules --cover --device-only-real --expect";
-
-static RINGS: [&str; 2] = ["rx", "tx"];
-
-static FORMATS: [&str; 2] = ["read", "back"];
 
 /// What the words ask for.
 #[derive(Clone, Copy)]
@@ -185,111 +165,6 @@ fn asked_in<'a>(matches: &ArgMatches<'a>) -> Option<Asked<'a>>
     }
 }
 
-/// The request in matches of `once`.
-fn once_in<'a>(once: &ArgMatches<'a>) -> Option<Request<'a>>
-    ensures { (digits : Text) → HasOnce (rows_of (found_of once.now)) digits
-        → IsSomeAnd result (λ r. IsOnce r digits) }
-{
-    let digits = once.get_str("hex")?;
-    Some(Request::Once { digits })
-}
-
-/// The request in matches of `decode`.
-fn decode_in<'a>(decode: &ArgMatches<'a>) -> Option<Request<'a>>
-    ensures { (form : Form) (digits : Text) → HasDecode (rows_of (found_of decode.now)) form digits
-        → IsSomeAnd result (λ r. IsDecode r form digits) }
-{
-    let form = Form::named(decode.get_str("ring")?, decode.get_str("format")?)?;
-    let digits = decode.get_str("hex")?;
-    Some(Request::Decode { form, digits })
-}
-
-/// The request in matches of `replay`, if its pictures can be read, and none is to be drawn among objects.
-fn replay_in<'a>(replay: &ArgMatches<'a>) -> Option<Request<'a>>
-    ensures { (plan : QueuePlan) → HasReplay (rows_of (found_of replay.now)) plan
-        → IsSomeAnd result (λ r. IsReplayOf r plan) }
-{
-    let ring = replay.get_one("ring")?;
-    let pairs = replay.get_one("pairs")?;
-    let enabled = !replay.get_flag("off");
-    let completion = completion_in(replay);
-    let pictures = pictures_in(replay)?;
-    let json = replay.get_flag("json");
-    if json && draws_any(pictures) {
-        return None;
-    }
-    let shown = Shown {
-        json,
-        registers: replay.get_flag("registers"),
-        pictures,
-    };
-    Some(Request::Replay {
-        plan: QueuePlan {
-            pairs,
-            ring,
-            enabled,
-            completion,
-            shown,
-        },
-    })
-}
-
-/// The configuration in matches of `forward`.
-fn config_in<'a>(forward: &ArgMatches<'a>) -> Option<Config>
-    ensures { (config : ForwardConfig) → HasForward (rows_of (found_of forward.now)) config → result ≡ Some config }
-{
-    let pairs = forward.get_one("pairs")?;
-    let ring = forward.get_one("ring")?;
-    let buffers = forward.get_one("buffers")?;
-    let bsize = forward.get_one("bsize")?;
-    let batch = forward.get_one("batch")?;
-    let rs_every = forward.get_one("rs-every")?;
-    let workers = forward.get_one("workers")?;
-    let turns = forward.get_one("turns")?;
-    let drop_en = forward.get_flag("drop");
-    let retry = !forward.get_flag("no-retry");
-    let completion = completion_in(forward);
-    Some(Config {
-        pairs,
-        ring,
-        batch,
-        buffers,
-        bsize,
-        rs_every,
-        drop_en,
-        retry,
-        workers,
-        turns,
-        completion,
-    })
-}
-
-/// What is to be printed, in matches of `forward`.
-fn printing_in<'a>(forward: &ArgMatches<'a>) -> Printing
-    ensures { (printing : Printed) → HasPrinting (rows_of (found_of forward.now)) printing → result ≡ printing }
-{
-    let quiet = forward.get_flag("quiet");
-    let json = forward.get_flag("json");
-    let progress = forward.get_flag("progress");
-    Printing {
-        quiet,
-        json,
-        progress,
-    }
-}
-
-/// How transmit queues report, in matches of a command with the flag `head`.
-pub(crate) fn completion_in<'a>(matches: &ArgMatches<'a>) -> Completion
-    ensures { (by_head : Bool) → one_of (codes "head") (rows_of (found_of matches.now)) ≡ Some (bool_text by_head)
-        → result ≡ completion_of by_head }
-{
-    if matches.get_flag("head") {
-        Completion::Head
-    } else {
-        Completion::Status
-    }
-}
-
 /// The program's commands and their arguments.
 pub(crate) fn program<'a>(alloc: Global) -> Result<Command<'a>, AllocError>
     ensures { IfOk result (λ c. IsProgram (app_of c)) }
@@ -317,204 +192,4 @@ fn bare<'a>(alloc: Global) -> Result<Command<'a>, AllocError>
             .no_binary_name(true)
             .subcommand_required(true),
     )
-}
-
-/// The command `once`.
-fn once<'a>(alloc: Global) -> Result<Command<'a>, AllocError>
-    ensures app { IfOk result (λ c. app_of c ≡ once_app) }
-    ensures local { IfOk result (λ c. (out-Command c).has_globals ≡ false) }
-{
-    let hex = hex(
-        alloc,
-        "A frame of 14 to 14,336 bytes, two hex digits for each byte",
-    );
-    Command::new(alloc, "once")
-        .about("Passes one frame through a receive ring of 8 and prints it")
-        .after_help(ONCE_EXAMPLE)
-        .arg(hex)
-}
-
-/// The command `decode`.
-fn decode<'a>(alloc: Global) -> Result<Command<'a>, AllocError>
-    ensures app { IfOk result (λ c. IsDecodeApp (app_of c)) }
-    ensures local { IfOk result (λ c. (out-Command c).has_globals ≡ false) }
-{
-    let ring = choice(alloc, "ring", "RING", RINGS.as_slice()).help(
-        "The ring that the descriptor is on: to receive or to transmit",
-    );
-    let format = choice(alloc, "format", "FORMAT", FORMATS.as_slice()).help(
-        "As the driver posts it, or as the controller writes it back",
-    );
-    let hex = hex(
-        alloc,
-        "The 16 bytes of a descriptor, two hex digits for each byte",
-    );
-    Command::new(alloc, "decode")
-        .about("Reads the bytes of a descriptor and prints what they say")
-        .after_help(DECODE_EXAMPLE)
-        .arg(ring)?
-        .arg(format)?
-        .arg(hex)
-}
-
-/// The command `replay`.
-fn replay<'a>(alloc: Global) -> Result<Command<'a>, AllocError>
-    ensures app { IfOk result (λ c. app_of c ≡ replay_app) }
-    ensures local { IfOk result (λ c. (out-Command c).has_globals ≡ false) }
-{
-    let ring = number(
-        alloc,
-        "ring",
-        "8",
-        "How many descriptors each queue has, a power of two from 8 to 4,096",
-    );
-    let pairs = number(
-        alloc,
-        "pairs",
-        "1",
-        "How many pairs of a receive and a transmit queue there are, 1 to 8",
-    );
-    let off = flag(alloc, "off", "Begins with disabled queues");
-    let head = flag(alloc, "head", "Reports what was sent by a head word");
-    let json = flag(
-        alloc,
-        "json",
-        "Prints what each move tells as a JSON object",
-    );
-    let registers = flag(
-        alloc,
-        "registers",
-        "Prints after each move what head, tail and ENABLE of its queue hold",
-    );
-    let picture = optional(
-        alloc,
-        "picture",
-        "WHICH",
-        "each",
-        "Draws after each move its queue, a line a place; with =last after the last move alone",
-    );
-    Command::new(alloc, "replay")
-        .about("Makes the moves of standard input on queues, and prints what each of them tells")
-        .after_help(REPLAY_EXAMPLE)
-        .arg(ring)?
-        .arg(pairs)?
-        .arg(off)?
-        .arg(head)?
-        .arg(json)?
-        .arg(registers)?
-        .arg(picture)
-}
-
-/// The command `forward`.
-fn forward<'a>(alloc: Global) -> Result<Command<'a>, AllocError>
-    ensures app { IfOk result (λ c. app_of c ≡ forward_app) }
-    ensures local { IfOk result (λ c. (out-Command c).has_globals ≡ false) }
-{
-    let drop = flag(
-        alloc,
-        "drop",
-        "Drops a frame for which a receive ring has too few free descriptors (default: holds it)",
-    );
-    let no_retry = flag(
-        alloc,
-        "no-retry",
-        "Drops packets for which a transmit ring has no room (default: keeps them)",
-    );
-    let head = flag(
-        alloc,
-        "head",
-        "Reports what was sent by a head word (default: in the descriptors)",
-    );
-    let command = with_work(alloc, with_queues(alloc, Command::new(alloc, "forward"))?)?
-        .about(
-            "Forwards the frames of standard input, one a line, between two ports, and prints the wires and the flows",
-        )
-        .after_help(FORWARD_EXAMPLES)
-        .arg(drop)?
-        .arg(no_retry)?
-        .arg(head)?;
-    with_files(alloc, with_printing(alloc, command)?)
-}
-
-/// A command with the options of `forward` for queues and buffers.
-fn with_queues<'a>(alloc: Global, command: Command<'a>) -> Result<Command<'a>, AllocError>
-    ensures app { IfOk result (λ c. app_of c ≡ with_queue_rules (app_of command.entry)) }
-    ensures local { IfOk result (λ c. (out-Command c).has_globals ≡ (out-Command command.entry).has_globals) }
-{
-    let pairs = number(
-        alloc,
-        "pairs",
-        "1",
-        "How many queue pairs each port has, 1 to 8",
-    );
-    let ring = number(
-        alloc,
-        "ring",
-        "512",
-        "How many descriptors each ring has, a power of two from 8 to 4,096",
-    );
-    let buffers = number(
-        alloc,
-        "buffers",
-        "4096",
-        "How many buffers there are, 16 to 65,536, and at least 32 for each queue pair",
-    );
-    let bsize = number(
-        alloc,
-        "bsize",
-        "2048",
-        "To how many bytes a receive buffer is filled, 1,024 or 2,048",
-    );
-    command.arg(pairs)?.arg(ring)?.arg(buffers)?.arg(bsize)
-}
-
-/// A command with the options of `forward` for its workers.
-fn with_work<'a>(alloc: Global, command: Command<'a>) -> Result<Command<'a>, AllocError>
-    ensures app { IfOk result (λ c. app_of c ≡ with_work_rules (app_of command.entry)) }
-    ensures local { IfOk result (λ c. (out-Command c).has_globals ≡ (out-Command command.entry).has_globals) }
-{
-    let batch = number(
-        alloc,
-        "batch",
-        "32",
-        "The most packets that a driver takes at once, 1 to 32",
-    );
-    let rs_every = number(
-        alloc,
-        "rs-every",
-        "32",
-        "After how many frames a driver asks for a report, 1 to 4,096",
-    );
-    let workers = number(
-        alloc,
-        "workers",
-        "1",
-        "How many threads of drivers and of controllers there are each, 1 to two a queue pair",
-    );
-    let turns = number(
-        alloc,
-        "turns",
-        "0",
-        "After how many turns of its driver a flow is cut, 0 to 4,294,967,295; 0 is never",
-    );
-    command.arg(batch)?.arg(rs_every)?.arg(workers)?.arg(turns)
-}
-
-/// A command with the options of `forward` for what it prints.
-fn with_printing<'a>(alloc: Global, command: Command<'a>) -> Result<Command<'a>, AllocError>
-    ensures app { IfOk result (λ c. app_of c ≡ with_printing_rules (app_of command.entry)) }
-    ensures local { IfOk result (λ c. (out-Command c).has_globals ≡ (out-Command command.entry).has_globals) }
-{
-    let quiet = flag(alloc, "quiet", "Leaves the frames of the wires out");
-    let json = flag(
-        alloc,
-        "json",
-        "Prints the counts of each flow as a JSON object",
-    );
-    let progress = flag(
-        alloc,
-        "progress",
-        "Shows on standard error once a second how far it is, with --json as a JSON object",
-    );
-    command.arg(quiet)?.arg(json)?.arg(progress)
 }

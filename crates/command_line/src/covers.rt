@@ -4,7 +4,7 @@ ghost use Rattle.clap.specs.Words.{found_of, rows_of};
 ghost use Rattle.cover_command.specs.declared.request.CoverRequest.{CoverRequest as Covering};
 ghost use Rattle.command_line.specs.ScheduleWords.{HasCover, by_words, draws, is_said};
 
-use crate::command::completion_in;
+use crate::completions::completion_in;
 use clap::ArgMatches;
 use clap::parser::ValueSource;
 use cover_command::CoverRequest;

@@ -9,10 +9,15 @@
 mod arguments;
 mod captures;
 mod command;
+mod completions;
 mod covers;
+mod descriptors;
 mod drawings;
 mod files;
+mod forwards;
+mod frames;
 mod lists;
+mod replays;
 mod running;
 
 pub use command::{Asked, asked_of};

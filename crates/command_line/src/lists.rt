@@ -8,7 +8,8 @@ ghost use Rattle.command_line.specs.CommandLine.{CanBeDone, IsCover, IsSchedules
 ghost use Rattle.command_line.specs.ScheduleWords.{HasCover, HasSchedules, schedules_app, with_drawing_rules, with_list_rules};
 
 use crate::arguments::{flag, number, said, share};
-use crate::command::{Asked, completion_in};
+use crate::command::Asked;
+use crate::completions::completion_in;
 use crate::covers::cover_in;
 use clap::{ArgMatches, Command};
 use schedule_command::ScheduleRequest;

@@ -2,7 +2,7 @@ use Rattle.std.proofs.Common.{◌∙◌, ap, sym, codes}
 use Rattle.clap.specs.Words.{found_of}
 use Rattle.command_line.specs.OptionWords.{completion_of}
 use Rattle.command_line.proofs.CommandLine.{reads_flag, text_is}
-use Rattle.command_line.proofs.command.completion_in.Goals as goal
+use Rattle.command_line.proofs.completions.completion_in.Goals as goal
 
 pub returns-then-get_flag : goal.returns-then-get_flag
 returns-then-get_flag c by_head is =

@@ -4,7 +4,7 @@ use Rattle.clap.specs.Words.{app_of, new_app, rule_of, with_rule}
 use Rattle.clap.specs.declared.builder.arg.Arg.{Arg}
 use Rattle.clap.specs.declared.builder.command.Command.TheViews.{out-Command}
 use Rattle.command_line.specs.CommandLine.{choice_rule}
-use Rattle.command_line.proofs.command.decode.Goals as goal
+use Rattle.command_line.proofs.descriptors.decode.Goals as goal
 
 pub returns-clause-app : goal.returns-clause-app
 returns-clause-app c =

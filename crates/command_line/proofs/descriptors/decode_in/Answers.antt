@@ -3,7 +3,7 @@ use Rattle.clap.specs.Words.{found_of}
 use Rattle.commands.specs.declared.decode.Form.{Form}
 use Rattle.commands.specs.Decoding.{ring_word, format_word}
 use Rattle.command_line.proofs.CommandLine.{none_is_none, texts_equal, value_is}
-use Rattle.command_line.proofs.command.decode_in.Goals as goal
+use Rattle.command_line.proofs.descriptors.decode_in.Goals as goal
 
 pub returns-in_err-get_str : goal.returns-in_err-get_str
 returns-in_err-get_str c form digits has =

@@ -7,7 +7,7 @@ use Rattle.command_line.specs.OptionWords.{is_head}
 use Rattle.command_line.proofs.CommandLine.{reads_flag, reads_number, text_is}
 use Rattle.command_line.proofs.ForwardWords.{config_is}
 use Rattle.command_line.proofs.ReplayWords.{begins_as, completion_is}
-use Rattle.command_line.proofs.command.config_in.Goals as goal
+use Rattle.command_line.proofs.forwards.config_in.Goals as goal
 
 pub returns-in_err-pairs : goal.returns-in_err-pairs
 returns-in_err-pairs c config has =

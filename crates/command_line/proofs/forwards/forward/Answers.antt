@@ -4,7 +4,7 @@ use Rattle.clap.specs.Words.{app_of, new_app, with_rule}
 use Rattle.clap.specs.declared.builder.command.Command.TheViews.{out-Command}
 use Rattle.command_line.specs.CommandLine.{with_printing_rules, with_queue_rules, with_work_rules}
 use Rattle.command_line.specs.FileWords.{with_file_rules}
-use Rattle.command_line.proofs.command.forward.Goals as goal
+use Rattle.command_line.proofs.forwards.forward.Goals as goal
 
 pub returns-clause-app : goal.returns-clause-app
 returns-clause-app c =

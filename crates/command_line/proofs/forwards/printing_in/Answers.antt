@@ -3,7 +3,7 @@ use Rattle.std.proofs.Common.{◌≡◌, refl, Bool, codes}
 use Rattle.clap.specs.Words.{found_of}
 use Rattle.forward_command.specs.declared.printing.Printing.{Printing}
 use Rattle.command_line.proofs.CommandLine.{reads_flag, text_is}
-use Rattle.command_line.proofs.command.printing_in.Goals as goal
+use Rattle.command_line.proofs.forwards.printing_in.Goals as goal
 
 printing_is : (printing : Printing) (q j p : Bool) → q ≡ printing.quiet → j ≡ printing.json → p ≡ printing.progress
     → ◌≡◌ {A = Printing} (record { quiet = q; json = j; progress = p }) printing

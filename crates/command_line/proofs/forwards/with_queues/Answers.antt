@@ -2,7 +2,7 @@ use Rattle.std.proofs.Common.{◌∙◌, ap, ap₂}
 use Rattle.std.proofs.lemmas.Result.{IfOk-weaker}
 use Rattle.clap.specs.Words.{app_of, with_rule}
 use Rattle.command_line.proofs.CommandLine.{or_false}
-use Rattle.command_line.proofs.command.with_queues.Goals as goal
+use Rattle.command_line.proofs.forwards.with_queues.Goals as goal
 
 pub returns-clause-app : goal.returns-clause-app
 returns-clause-app c =

@@ -2,7 +2,7 @@ use Rattle.std.proofs.Common.{rules, ◌≡◌, ◌∙◌, ap₂, false, ◌||�
 use Rattle.std.proofs.lemmas.Result.{IfOk-weaker}
 use Rattle.clap.specs.Words.{app_of, new_app, with_rule}
 use Rattle.clap.specs.declared.builder.command.Command.TheViews.{out-Command}
-use Rattle.command_line.proofs.command.replay.Goals as goal
+use Rattle.command_line.proofs.replays.replay.Goals as goal
 
 pub returns-clause-app : goal.returns-clause-app
 returns-clause-app c =

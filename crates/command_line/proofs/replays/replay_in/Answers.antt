@@ -5,7 +5,7 @@ use Rattle.commands.specs.declared.replay.Pictures.{Pictures}
 use Rattle.command_line.specs.OptionWords.{draws_any, is_head}
 use Rattle.command_line.proofs.CommandLine.{reads_flag, reads_number, text_is}
 use Rattle.command_line.proofs.ReplayWords.{begins_as, completion_is, plan_is, shown_is}
-use Rattle.command_line.proofs.command.replay_in.Goals as goal
+use Rattle.command_line.proofs.replays.replay_in.Goals as goal
 
 pub returns-in_err-ring : goal.returns-in_err-ring
 returns-in_err-ring c plan has =
