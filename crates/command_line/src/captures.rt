@@ -53,15 +53,13 @@ pub(crate) fn from_capture<'a>(alloc: Global) -> Result<Command<'a>, AllocError>
     ensures app { IfOk result (λ c. app_of c ≡ from_capture_app) }
     ensures local { IfOk result (λ c. (out-Command c).has_globals ≡ false) }
 {
-    let port = port(alloc, "The port at which the frames come in, 0 or 1");
-    let queue = queue(alloc, "The queue of that port, 0 to 7");
     Command::new(alloc, "from-capture")
         .about(
             "Prints the frames of the capture on standard input as lines of a script. A capture is classic pcap of Ethernet",
         )
         .after_help(FROM_EXAMPLE)
-        .arg(port)?
-        .arg(queue)
+        .arg(port(alloc, "The port at which the frames come in, 0 or 1"))?
+        .arg(queue(alloc, "The queue of that port, 0 to 7"))
 }
 
 /// The command `to-capture`.
@@ -69,13 +67,12 @@ pub(crate) fn to_capture<'a>(alloc: Global) -> Result<Command<'a>, AllocError>
     ensures app { IfOk result (λ c. app_of c ≡ to_capture_app) }
     ensures local { IfOk result (λ c. (out-Command c).has_globals ≡ false) }
 {
-    let port = port(alloc, "The port whose frames are written, 0 or 1");
     Command::new(alloc, "to-capture")
         .about(
             "Writes the frames of a port, of a script or of what forward prints on standard input, as a capture. Frame k has k microseconds",
         )
         .after_help(TO_EXAMPLE)
-        .arg(port)
+        .arg(port(alloc, "The port whose frames are written, 0 or 1"))
 }
 
 /// An argument that is a port.

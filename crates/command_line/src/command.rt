@@ -362,47 +362,40 @@ fn replay<'a>(alloc: Global) -> Result<Command<'a>, AllocError>
     ensures app { IfOk result (λ c. app_of c ≡ replay_app) }
     ensures local { IfOk result (λ c. (out-Command c).has_globals ≡ false) }
 {
-    let ring = number(
-        alloc,
-        "ring",
-        "8",
-        "How many descriptors each queue has, a power of two from 8 to 4,096",
-    );
-    let pairs = number(
-        alloc,
-        "pairs",
-        "1",
-        "How many pairs of a receive and a transmit queue there are, 1 to 8",
-    );
-    let off = flag(alloc, "off", "Begins with disabled queues");
-    let head = flag(alloc, "head", "Reports what was sent by a head word");
-    let json = flag(
-        alloc,
-        "json",
-        "Prints what each move tells as a JSON object",
-    );
-    let registers = flag(
-        alloc,
-        "registers",
-        "Prints after each move what head, tail and ENABLE of its queue hold",
-    );
-    let picture = optional(
-        alloc,
-        "picture",
-        "WHICH",
-        "each",
-        "Draws after each move its queue, a line a place; with =last after the last move alone",
-    );
     Command::new(alloc, "replay")
         .about("Makes the moves of standard input on queues, and prints what each of them tells")
         .after_help(REPLAY_EXAMPLE)
-        .arg(ring)?
-        .arg(pairs)?
-        .arg(off)?
-        .arg(head)?
-        .arg(json)?
-        .arg(registers)?
-        .arg(picture)
+        .arg(number(
+            alloc,
+            "ring",
+            "8",
+            "How many descriptors each queue has, a power of two from 8 to 4,096",
+        ))?
+        .arg(number(
+            alloc,
+            "pairs",
+            "1",
+            "How many pairs of a receive and a transmit queue there are, 1 to 8",
+        ))?
+        .arg(flag(alloc, "off", "Begins with disabled queues"))?
+        .arg(flag(alloc, "head", "Reports what was sent by a head word"))?
+        .arg(flag(
+            alloc,
+            "json",
+            "Prints what each move tells as a JSON object",
+        ))?
+        .arg(flag(
+            alloc,
+            "registers",
+            "Prints after each move what head, tail and ENABLE of its queue hold",
+        ))?
+        .arg(optional(
+            alloc,
+            "picture",
+            "WHICH",
+            "each",
+            "Draws after each move its queue, a line a place; with =last after the last move alone",
+        ))
 }
 
 /// The command `forward`.
@@ -410,29 +403,26 @@ fn forward<'a>(alloc: Global) -> Result<Command<'a>, AllocError>
     ensures app { IfOk result (λ c. app_of c ≡ forward_app) }
     ensures local { IfOk result (λ c. (out-Command c).has_globals ≡ false) }
 {
-    let drop = flag(
-        alloc,
-        "drop",
-        "Drops a frame for which a receive ring has too few free descriptors (default: holds it)",
-    );
-    let no_retry = flag(
-        alloc,
-        "no-retry",
-        "Drops packets for which a transmit ring has no room (default: keeps them)",
-    );
-    let head = flag(
-        alloc,
-        "head",
-        "Reports what was sent by a head word (default: in the descriptors)",
-    );
     let command = with_work(alloc, with_queues(alloc, Command::new(alloc, "forward"))?)?
         .about(
             "Forwards the frames of standard input, one a line, between two ports, and prints the wires and the flows",
         )
         .after_help(FORWARD_EXAMPLES)
-        .arg(drop)?
-        .arg(no_retry)?
-        .arg(head)?;
+        .arg(flag(
+            alloc,
+            "drop",
+            "Drops a frame for which a receive ring has too few free descriptors (default: holds it)",
+        ))?
+        .arg(flag(
+            alloc,
+            "no-retry",
+            "Drops packets for which a transmit ring has no room (default: keeps them)",
+        ))?
+        .arg(flag(
+            alloc,
+            "head",
+            "Reports what was sent by a head word (default: in the descriptors)",
+        ))?;
     with_files(alloc, with_printing(alloc, command)?)
 }
 
@@ -441,31 +431,31 @@ fn with_queues<'a>(alloc: Global, command: Command<'a>) -> Result<Command<'a>, A
     ensures app { IfOk result (λ c. app_of c ≡ with_queue_rules (app_of command.entry)) }
     ensures local { IfOk result (λ c. (out-Command c).has_globals ≡ (out-Command command.entry).has_globals) }
 {
-    let pairs = number(
-        alloc,
-        "pairs",
-        "1",
-        "How many queue pairs each port has, 1 to 8",
-    );
-    let ring = number(
-        alloc,
-        "ring",
-        "512",
-        "How many descriptors each ring has, a power of two from 8 to 4,096",
-    );
-    let buffers = number(
-        alloc,
-        "buffers",
-        "4096",
-        "How many buffers there are, 16 to 65,536, and at least 32 for each queue pair",
-    );
-    let bsize = number(
-        alloc,
-        "bsize",
-        "2048",
-        "To how many bytes a receive buffer is filled, 1,024 or 2,048",
-    );
-    command.arg(pairs)?.arg(ring)?.arg(buffers)?.arg(bsize)
+    command
+        .arg(number(
+            alloc,
+            "pairs",
+            "1",
+            "How many queue pairs each port has, 1 to 8",
+        ))?
+        .arg(number(
+            alloc,
+            "ring",
+            "512",
+            "How many descriptors each ring has, a power of two from 8 to 4,096",
+        ))?
+        .arg(number(
+            alloc,
+            "buffers",
+            "4096",
+            "How many buffers there are, 16 to 65,536, and at least 32 for each queue pair",
+        ))?
+        .arg(number(
+            alloc,
+            "bsize",
+            "2048",
+            "To how many bytes a receive buffer is filled, 1,024 or 2,048",
+        ))
 }
 
 /// A command with the options of `forward` for its workers.
@@ -473,31 +463,31 @@ fn with_work<'a>(alloc: Global, command: Command<'a>) -> Result<Command<'a>, All
     ensures app { IfOk result (λ c. app_of c ≡ with_work_rules (app_of command.entry)) }
     ensures local { IfOk result (λ c. (out-Command c).has_globals ≡ (out-Command command.entry).has_globals) }
 {
-    let batch = number(
-        alloc,
-        "batch",
-        "32",
-        "The most packets that a driver takes at once, 1 to 32",
-    );
-    let rs_every = number(
-        alloc,
-        "rs-every",
-        "32",
-        "After how many frames a driver asks for a report, 1 to 4,096",
-    );
-    let workers = number(
-        alloc,
-        "workers",
-        "1",
-        "How many threads of drivers and of controllers there are each, 1 to two a queue pair",
-    );
-    let turns = number(
-        alloc,
-        "turns",
-        "0",
-        "After how many turns of its driver a flow is cut, 0 to 4,294,967,295; 0 is never",
-    );
-    command.arg(batch)?.arg(rs_every)?.arg(workers)?.arg(turns)
+    command
+        .arg(number(
+            alloc,
+            "batch",
+            "32",
+            "The most packets that a driver takes at once, 1 to 32",
+        ))?
+        .arg(number(
+            alloc,
+            "rs-every",
+            "32",
+            "After how many frames a driver asks for a report, 1 to 4,096",
+        ))?
+        .arg(number(
+            alloc,
+            "workers",
+            "1",
+            "How many threads of drivers and of controllers there are each, 1 to two a queue pair",
+        ))?
+        .arg(number(
+            alloc,
+            "turns",
+            "0",
+            "After how many turns of its driver a flow is cut, 0 to 4,294,967,295; 0 is never",
+        ))
 }
 
 /// A command with the options of `forward` for what it prints.
@@ -505,16 +495,16 @@ fn with_printing<'a>(alloc: Global, command: Command<'a>) -> Result<Command<'a>,
     ensures app { IfOk result (λ c. app_of c ≡ with_printing_rules (app_of command.entry)) }
     ensures local { IfOk result (λ c. (out-Command c).has_globals ≡ (out-Command command.entry).has_globals) }
 {
-    let quiet = flag(alloc, "quiet", "Leaves the frames of the wires out");
-    let json = flag(
-        alloc,
-        "json",
-        "Prints the counts of each flow as a JSON object",
-    );
-    let progress = flag(
-        alloc,
-        "progress",
-        "Shows on standard error once a second how far it is, with --json as a JSON object",
-    );
-    command.arg(quiet)?.arg(json)?.arg(progress)
+    command
+        .arg(flag(alloc, "quiet", "Leaves the frames of the wires out"))?
+        .arg(flag(
+            alloc,
+            "json",
+            "Prints the counts of each flow as a JSON object",
+        ))?
+        .arg(flag(
+            alloc,
+            "progress",
+            "Shows on standard error once a second how far it is, with --json as a JSON object",
+        ))
 }

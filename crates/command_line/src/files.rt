@@ -135,19 +135,19 @@ pub(crate) fn with_files<'a>(alloc: Global, command: Command<'a>) -> Result<Comm
     ensures app { IfOk result (λ c. app_of c ≡ with_file_rules (app_of command.entry)) }
     ensures local { IfOk result (λ c. (out-Command c).has_globals ≡ (out-Command command.entry).has_globals) }
 {
-    let capture = file(
-        alloc,
-        "capture",
-        "P:Q=FILE",
-        "Takes the frames of a capture, which come in at port P, queue Q, in place of standard input; may be repeated",
-    );
-    let wire = file(
-        alloc,
-        "wire-capture",
-        "P=FILE",
-        "Writes what leaves port P as a capture, by queue, frame k at k microseconds; may be repeated",
-    );
-    command.arg(capture)?.arg(wire)
+    command
+        .arg(file(
+            alloc,
+            "capture",
+            "P:Q=FILE",
+            "Takes the frames of a capture, which come in at port P, queue Q, in place of standard input; may be repeated",
+        ))?
+        .arg(file(
+            alloc,
+            "wire-capture",
+            "P=FILE",
+            "Writes what leaves port P as a capture, by queue, frame k at k microseconds; may be repeated",
+        ))
 }
 
 /// An option with a file, which may be repeated.

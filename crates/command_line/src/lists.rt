@@ -90,40 +90,35 @@ fn with_lists<'a>(alloc: Global, command: Command<'a>) -> Result<Command<'a>, Al
     ensures app { IfOk result (λ c. app_of c ≡ with_list_rules (app_of command.entry)) }
     ensures local { IfOk result (λ c. (out-Command c).has_globals ≡ (out-Command command.entry).has_globals) }
 {
-    let seed = said(
-        alloc,
-        "seed",
-        "Which lists are drawn, 0 to 4,294,967,295; has to be said without --cover",
-    );
-    let moves = said(
-        alloc,
-        "moves",
-        "How many moves each list has, 0 to 4,294,967,295; has to be said without --cover",
-    );
-    let count = number(
-        alloc,
-        "count",
-        "1",
-        "How many lists there are, 0 to 4,294,967,295",
-    );
-    let ring = number(
-        alloc,
-        "ring",
-        "8",
-        "How many descriptors each queue has, a power of two from 8 to 4,096",
-    );
-    let pairs = number(
-        alloc,
-        "pairs",
-        "1",
-        "How many pairs of a receive and a transmit queue there are, 1 to 8",
-    );
     command
-        .arg(seed)?
-        .arg(moves)?
-        .arg(count)?
-        .arg(ring)?
-        .arg(pairs)
+        .arg(said(
+            alloc,
+            "seed",
+            "Which lists are drawn, 0 to 4,294,967,295; has to be said without --cover",
+        ))?
+        .arg(said(
+            alloc,
+            "moves",
+            "How many moves each list has, 0 to 4,294,967,295; has to be said without --cover",
+        ))?
+        .arg(number(
+            alloc,
+            "count",
+            "1",
+            "How many lists there are, 0 to 4,294,967,295",
+        ))?
+        .arg(number(
+            alloc,
+            "ring",
+            "8",
+            "How many descriptors each queue has, a power of two from 8 to 4,096",
+        ))?
+        .arg(number(
+            alloc,
+            "pairs",
+            "1",
+            "How many pairs of a receive and a transmit queue there are, 1 to 8",
+        ))
 }
 
 /// A command with the options of `schedules` for how a list is drawn and what follows it.
@@ -131,33 +126,27 @@ fn with_drawing<'a>(alloc: Global, command: Command<'a>) -> Result<Command<'a>, 
     ensures app { IfOk result (λ c. app_of c ≡ with_drawing_rules (app_of command.entry)) }
     ensures local { IfOk result (λ c. (out-Command c).has_globals ≡ (out-Command command.entry).has_globals) }
 {
-    let off = flag(alloc, "off", "Begins with disabled queues");
-    let head = flag(alloc, "head", "Reports what was sent by a head word");
-    let refused = share(
-        alloc,
-        "refused",
-        "How many of a hundred moves at most don't happen, 0 to 100",
-    );
-    let expect = flag(
-        alloc,
-        "expect",
-        "Prints below each list what replay prints of it",
-    );
-    let device_only = flag(
-        alloc,
-        "device-only-real",
-        "Only moves that silicon and its driver make too",
-    );
-    let cover = flag(
-        alloc,
-        "cover",
-        "Prints no drawn lists, but lists that together meet all that a queue of 8 can do, each below what it meets; beside it stand --head, --expect and --device-only-real alone. How far it is goes to standard error",
-    );
     command
-        .arg(off)?
-        .arg(head)?
-        .arg(refused)?
-        .arg(expect)?
-        .arg(device_only)?
-        .arg(cover)
+        .arg(flag(alloc, "off", "Begins with disabled queues"))?
+        .arg(flag(alloc, "head", "Reports what was sent by a head word"))?
+        .arg(share(
+            alloc,
+            "refused",
+            "How many of a hundred moves at most don't happen, 0 to 100",
+        ))?
+        .arg(flag(
+            alloc,
+            "expect",
+            "Prints below each list what replay prints of it",
+        ))?
+        .arg(flag(
+            alloc,
+            "device-only-real",
+            "Only moves that silicon and its driver make too",
+        ))?
+        .arg(flag(
+            alloc,
+            "cover",
+            "Prints no drawn lists, but lists that together meet all that a queue of 8 can do, each below what it meets; beside it stand --head, --expect and --device-only-real alone. How far it is goes to standard error",
+        ))
 }

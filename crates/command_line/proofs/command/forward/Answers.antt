@@ -12,9 +12,9 @@ returns-clause-app c =
     let with_queues = c.in_ok-with_queues.ensures.app ∙ ap with_queue_rules new_is in
     let with_work = c.in_ok-with_work.ensures.app ∙ ap with_work_rules with_queues in
     let shown : app_of c.after_help.result ≡ app_of c.in_ok-with_work.field-0 = search rules in
-    let with_drop = c.in_ok-arg.ensures.shape c.flag-drop.ensures.local ∙ ap₂ with_rule (shown ∙ with_work) c.flag-drop.ensures.rule in
-    let with_no_retry = c.in_ok-arg-2.ensures.shape c.flag-no_retry.ensures.local ∙ ap₂ with_rule with_drop c.flag-no_retry.ensures.rule in
-    let with_head = c.in_ok-command.ensures.shape c.flag-head.ensures.local ∙ ap₂ with_rule with_no_retry c.flag-head.ensures.rule in
+    let with_drop = c.in_ok-arg.ensures.shape c.flag.ensures.local ∙ ap₂ with_rule (shown ∙ with_work) c.flag.ensures.rule in
+    let with_no_retry = c.in_ok-arg-2.ensures.shape c.flag-2.ensures.local ∙ ap₂ with_rule with_drop c.flag-2.ensures.rule in
+    let with_head = c.in_ok-command.ensures.shape c.flag-3.ensures.local ∙ ap₂ with_rule with_no_retry c.flag-3.ensures.rule in
     let with_printing = c.in_ok-with_printing.ensures.app ∙ ap with_printing_rules with_head in
     IfOk-weaker c.with_files.result _ _ (λ r app. app ∙ ap with_file_rules with_printing) c.with_files.ensures.app
 
@@ -23,8 +23,8 @@ returns-clause-local c =
     let new : (out-Command c.new.result).has_globals ≡ false = search rules in
     let with_work = c.in_ok-with_work.ensures.local ∙ (c.in_ok-with_queues.ensures.local ∙ new) in
     let shown : (out-Command c.after_help.result).has_globals ≡ false = search rules in
-    let with_drop = c.in_ok-arg.ensures.globals ∙ ap₂ (λ x y. x || y) shown c.flag-drop.ensures.local in
-    let with_no_retry = c.in_ok-arg-2.ensures.globals ∙ ap₂ (λ x y. x || y) with_drop c.flag-no_retry.ensures.local in
-    let with_head = c.in_ok-command.ensures.globals ∙ ap₂ (λ x y. x || y) with_no_retry c.flag-head.ensures.local in
+    let with_drop = c.in_ok-arg.ensures.globals ∙ ap₂ (λ x y. x || y) shown c.flag.ensures.local in
+    let with_no_retry = c.in_ok-arg-2.ensures.globals ∙ ap₂ (λ x y. x || y) with_drop c.flag-2.ensures.local in
+    let with_head = c.in_ok-command.ensures.globals ∙ ap₂ (λ x y. x || y) with_no_retry c.flag-3.ensures.local in
     let with_printing = c.in_ok-with_printing.ensures.local ∙ with_head in
     IfOk-weaker c.with_files.result _ _ (λ r local. local ∙ with_printing) c.with_files.ensures.local
