@@ -1,8 +1,6 @@
 -- Lists to which an item is added at the end.
 use Rattle.std.proofs.Common.{◌≡◌, ◌∙◌, ◌<◌, ℕ, zero, get_or, List, [], ◌∷◌, ◌++◌, refl, ap, sym, subst, map, All, suc, arith, rules, length}
-use Rattle.std.proofs.lemmas.List.{map-append, length-append, length-map, append-nil}
 use Rattle.std.proofs.lemmas.List.Elements.{All-append}
-use Rattle.std.proofs.lemmas.Simd.{map-map}
 
 pub length-zero : {A : Type 0} (xs : List A) → length xs ≡ 0 → xs ≡ []
 length-zero [] e = refl

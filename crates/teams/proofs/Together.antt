@@ -1,5 +1,5 @@
 -- How work ended together.
-use Rattle.std.proofs.Common.{◌≡◌, Bool, None, refl, rules}
+use Rattle.std.proofs.Common.{Bool}
 use Rattle.forwarding.specs.declared.gate.Who.{Who}
 use Rattle.forwarding.specs.declared.gate.Event.{Event}
 use Rattle.teams.specs.declared.ending.Ending.{Ending}
@@ -8,7 +8,7 @@ use Rattle.forwarding.specs.declared.error.ForwardError.{ForwardError}
 use Rattle.forwarding.specs.declared.error.ForwardError.TheVariants.{Memory, Gate, Thread, Config}
 use Rattle.forwarding.specs.Gates.{Met}
 use Rattle.teams.specs.Refusals.{Halted}
-use Rattle.teams.specs.Endings.{IsSo, worse, refusal_of}
+use Rattle.teams.specs.Endings.{IsSo, worse}
 
 pub so-worse : {G : Type 0} (answers : G → Who → Event → Bool → Type 0) (gate : G) (A B C : Type 0) → (A → B → C) → (x y : Ending)
     → IsSo A answers gate x → IsSo B answers gate y → IsSo C answers gate (worse x y)

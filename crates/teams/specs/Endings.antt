@@ -1,11 +1,10 @@
 -- How work ends.
-use Rattle.std.specs.Prelude.{Bool, Option, Some, None}
+use Rattle.std.specs.Prelude.{◌≡◌, ◌<◌, ℕ, Bool, true}
+use Rattle.atomic_table.specs.Seated.{TableId}
 use Rattle.forwarding.specs.declared.gate.Who.{Who}
 use Rattle.forwarding.specs.declared.gate.Event.{Event}
 use Rattle.teams.specs.declared.ending.Ending.{Ending}
 use Rattle.teams.specs.declared.ending.Ending.TheVariants.{Done, Refused, Stopped}
-use Rattle.forwarding.specs.declared.error.ForwardError.{ForwardError}
-use Rattle.forwarding.specs.declared.error.ForwardError.TheVariants.{Thread}
 use Rattle.teams.specs.Refusals.{Halted}
 
 -- how two pieces of work ended together: a refusal comes before all else, and Stopped before Done
@@ -16,11 +15,20 @@ worse Stopped Done = Stopped
 worse Stopped (Refused e) = Refused e
 worse Stopped Stopped = Stopped
 
--- the refusal that is answered
-abbrev pub refusal_of : Ending → Option ForwardError
-refusal_of Done = None
-refusal_of (Refused e) = Some e
-refusal_of Stopped = Some Thread
+-- what a stop word's pass knows of work that ended so: how often it was the first to set the word, and whether it saw it set
+abbrev pub Tells : ℕ → Bool → Ending → Type 0
+Tells firsts seen Done = firsts ≡ 0
+Tells firsts seen (Refused e) = 0 < firsts
+Tells firsts seen Stopped = (firsts ≡ 0) × (seen ≡ true)
+
+-- how a piece of work stands: its stop word, its share of that, and how it ended
+pub record Stood : Type 0 where
+  pub word : TableId
+  pub share : ℕ
+  pub ending : Ending
+
+abbrev pub stood : TableId → ℕ → Ending → Stood
+stood word share ending = record { word = word; share = share; ending = ending }
 
 module _ {G : Type 0} where
   -- what an ending says is so: where all is done this holds, and a refusal is one that there may be
@@ -28,3 +36,7 @@ module _ {G : Type 0} where
   IsSo all answers gate Done = all
   IsSo all answers gate (Refused e) = Halted answers gate e
   IsSo all answers gate Stopped = Unit {0}
+
+  -- work with a share of 1 of the stop word, whose ending says what is so
+  abbrev pub IsEnded : Type 0 → (G → Who → Event → Bool → Type 0) → G → TableId → Stood → Type 0
+  IsEnded all answers gate word s = IsSo all answers gate s.ending × (s.word ≡ word) × (s.share ≡ 1)

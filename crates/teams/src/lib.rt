@@ -12,6 +12,7 @@ mod dealing;
 mod ending;
 mod running;
 mod serving;
+mod standing;
 mod team;
 
 pub use dealing::{deal, empty_hands, gather};

@@ -1,15 +1,17 @@
 //! Both sides' workers at once.
 ghost use Rattle.std.specs.Prelude.{◌≡◌, ◌≤◌, [], None, IfOk, IfSome, vec_capacity};
+ghost use Rattle.stop_word.specs.Passes.{first_pass};
 ghost use Rattle.teams.specs.Hands.{hand_keys, AllOver};
 ghost use Rattle.teams.specs.Refusals.{Halted};
 
+use crate::standing::Standing;
 use crate::team::{Begun, join_each, start};
 use forwarding::{Flow, ForwardError, Gate};
 use std::alloc::{AllocError, Global};
 use std::sync::Wait;
-use std::sync::atomic::AtomicBool;
 use std::thread;
 use std::thread::{Scope, Threads};
+use stop_word::{StopPass, StopWord};
 
 /// The flows of both sides, hand by hand, and why they ended before all were over, if they did.
 #[derive(Drop)]
@@ -35,17 +37,24 @@ pub fn run_teams<D: Flow, C: Flow, R: Threads + Wait + Sync, G: Gate + Sync>(
     ensures over { result.refusal ≡ None → AllOver D.over result.drivers.items × AllOver C.over result.controllers.items }
     ensures refused { IfSome result.refusal (λ e. Halted G.answers gate.now e) }
 {
-    let stop = AtomicBool::new(false);
+    let Ok((stop, pass)) = StopWord::new(alloc) else {
+        return Ran {
+            drivers,
+            controllers,
+            refusal: Some(ForwardError::Memory),
+        };
+    };
     let shared = &stop;
     thread::scope(
         thread::scope_env(),
         rt,
         |scope| -> Ran<D, C>
+            requires first { pass ≡ first_pass shared.now }
             ensures drivers { hand_keys D.key result.drivers.items ≡ hand_keys D.key drivers.items }
             ensures controllers { hand_keys C.key result.controllers.items ≡ hand_keys C.key controllers.items }
             ensures over { result.refusal ≡ None → AllOver D.over result.drivers.items × AllOver C.over result.controllers.items }
             ensures refused { IfSome result.refusal (λ e. Halted G.answers gate.entry.now e) }
-        { run_in(scope, rt, alloc, shared, gate, drivers, controllers) },
+        { run_in(scope, rt, alloc, shared, pass, gate, drivers, controllers) },
     )
 }
 
@@ -54,11 +63,13 @@ fn run_in<'s, 'e: 's, D: Flow + 's, C: Flow + 's, R: Threads + Wait + Sync, G: G
     scope: &'s Scope<'s, &'e ()>,
     rt: &'e R,
     alloc: Global,
-    stop: &'e AtomicBool,
+    stop: &'e StopWord,
+    pass: StopPass,
     gate: &'e G,
     drivers: Vec<Vec<D>>,
     controllers: Vec<Vec<C>>,
 ) -> Ran<D, C>
+    requires first { pass ≡ first_pass stop.now }
     ensures drivers { hand_keys D.key result.drivers.items ≡ hand_keys D.key drivers.items }
     ensures controllers { hand_keys C.key result.controllers.items ≡ hand_keys C.key controllers.items }
     ensures over { result.refusal ≡ None → AllOver D.over result.drivers.items × AllOver C.over result.controllers.items }
@@ -74,14 +85,17 @@ fn run_in<'s, 'e: 's, D: Flow + 's, C: Flow + 's, R: Threads + Wait + Sync, G: G
             refusal: Some(ForwardError::Memory),
         };
     };
-    let drivers = start(scope, rt, stop, gate, drivers, driven.team);
-    let controllers = start(scope, rt, stop, gate, controllers, served.team);
-    let drivers = join_each(rt, gate, drivers, driven.hands);
-    let controllers = join_each(rt, gate, controllers, served.hands);
+    let mut all = Standing::new(pass);
+    let drivers = start(scope, rt, stop, gate, drivers, driven.team, &mut all);
+    let controllers = start(scope, rt, stop, gate, controllers, served.team, &mut all);
+    let drivers = join_each(rt, stop, gate, drivers, driven.hands, all.split(stop));
+    let controllers = join_each(rt, stop, gate, controllers, served.hands, all.split(stop));
+    all.join(stop, drivers.standing);
+    all.join(stop, controllers.standing);
     Ran {
         drivers: drivers.hands,
         controllers: controllers.hands,
-        refusal: drivers.ending.and(controllers.ending).refusal(),
+        refusal: all.refusal(rt, stop),
     }
 }
 

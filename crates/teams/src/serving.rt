@@ -1,13 +1,14 @@
 //! What a worker does with its flows.
-ghost use Rattle.std.specs.Prelude.{◌≡◌, true, All, map};
-ghost use Rattle.teams.specs.declared.serving.Round.TheVariants.{Ended};
+ghost use Rattle.std.specs.Prelude.{◌≡◌, ◌<◌, ◌⊎◌, true, All, map};
+ghost use Rattle.teams.specs.declared.ending.Ending.TheVariants.{Done};
+ghost use Rattle.teams.specs.declared.serving.Round.TheVariants.{Busy, Idle, Ended};
 ghost use Rattle.teams.specs.Endings.{IsSo};
 
-use crate::ending::Ending;
+use crate::standing::Standing;
 use forwarding::{Flow, Gate, Progress};
 use std::sync::Wait;
-use std::sync::atomic::{AtomicBool, Ordering};
 use std::{hint, thread};
+use stop_word::StopWord;
 
 /// Through how many rounds in which it found nothing to do a worker spins before it yields. On a
 /// processor of its own the other side has mostly gone on by then.
@@ -17,7 +18,7 @@ const SPINS: u32 = 64;
 #[derive(Drop)]
 pub(crate) struct Served<F: Drop> {
     pub flows: Vec<F>,
-    pub ending: Ending,
+    pub standing: Standing,
 }
 
 /// What came of one round.
@@ -28,19 +29,26 @@ enum Round {
     /// None did.
     Idle,
     /// The worker is at its end.
-    Ended(Ending),
+    Ended,
 }
 
 /// A turn of each flow that isn't over. The stop word is loaded before each of them.
 #[tactic(auto, using(crate::proofs::Together::met_halted))]
 fn serve_round<F: Flow, R: Wait, G: Gate>(
     rt: &R,
-    stop: &AtomicBool,
+    stop: &StopWord,
     gate: &G,
     flows: &mut [F],
+    standing: &mut Standing,
 ) -> Round
+    requires own { standing.old.word ≡ stop.now }
+    requires share { 0 < standing.old.share }
+    requires going { standing.old.ending ≡ Done }
     ensures keys { map F.key flows.new ≡ map F.key flows.old }
-    ensures ending { (ending : _) → result ≡ Ended ending → IsSo (All (λ f. F.over f ≡ true) flows.new) G.answers gate.now ending }
+    ensures word { standing.new.word ≡ standing.old.word }
+    ensures share { standing.new.share ≡ standing.old.share }
+    ensures going { (result ≡ Busy) ⊎ (result ≡ Idle) → standing.new.ending ≡ Done }
+    ensures ending { result ≡ Ended → IsSo (All (λ f. F.over f ≡ true) flows.new) G.answers gate.now standing.new.ending }
 {
     let mut all_over = true;
     let mut busy = false;
@@ -49,17 +57,20 @@ fn serve_round<F: Flow, R: Wait, G: Gate>(
             continue;
         }
         all_over = false;
-        if stop.load(Ordering::SeqCst) {
-            return Round::Ended(Ending::Stopped);
+        if standing.is_stopped(rt, stop) {
+            return Round::Ended;
         }
         match flows[i].turn(rt, gate) {
             Ok(Progress::Idle) => {}
             Ok(_) => busy = true,
-            Err(refusal) => return Round::Ended(Ending::at(stop, refusal)),
+            Err(refusal) => {
+                standing.refuse(rt, stop, refusal);
+                return Round::Ended;
+            }
         }
     }
     if all_over {
-        Round::Ended(Ending::Done)
+        Round::Ended
     } else if busy {
         Round::Busy
     } else {
@@ -71,19 +82,25 @@ fn serve_round<F: Flow, R: Wait, G: Gate>(
 /// worker spins a little, and then lets other threads run.
 pub(crate) fn serve<F: Flow, R: Wait, G: Gate>(
     rt: &R,
-    stop: &AtomicBool,
+    stop: &StopWord,
     gate: &G,
     mut flows: Vec<F>,
+    mut standing: Standing,
 ) -> Served<F>
+    requires own { standing.word ≡ stop.now }
+    requires share { 0 < standing.share }
+    requires going { standing.ending ≡ Done }
     ensures keys { map F.key result.flows.items ≡ map F.key flows.items }
-    ensures ending { IsSo (All (λ f. F.over f ≡ true) result.flows.items) G.answers gate.now result.ending }
+    ensures word { result.standing.word ≡ standing.word }
+    ensures share { result.standing.share ≡ standing.share }
+    ensures ending { IsSo (All (λ f. F.over f ≡ true) result.flows.items) G.answers gate.now result.standing.ending }
 {
     let mut idle = 0;
     for _ in rt.forever() {
-        match serve_round(rt, stop, gate, flows.as_mut_slice()) {
+        match serve_round(rt, stop, gate, flows.as_mut_slice(), &mut standing) {
             Round::Busy => idle = 0,
             Round::Idle => idle = rest(idle),
-            Round::Ended(ending) => return Served { flows, ending },
+            Round::Ended => return Served { flows, standing },
         }
     }
     unreachable!()

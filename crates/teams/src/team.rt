@@ -1,28 +1,30 @@
 //! One side's workers: started in a scope, and joined.
-ghost use Rattle.std.specs.Prelude.{◌≡◌, ◌≤◌, [], true, All, MatchResult, map, vec_len, vec_capacity};
+ghost use Rattle.std.specs.Prelude.{◌≡◌, ◌<◌, ◌≤◌, ◌+◌, [], true, All, MatchResult, map, vec_len, vec_capacity};
+ghost use Rattle.teams.specs.declared.ending.Ending.TheVariants.{Done};
 ghost use Rattle.teams.specs.Hands.{given_by, hand_keys, AllOver};
-ghost use Rattle.teams.specs.Endings.{IsSo};
+ghost use Rattle.teams.specs.Endings.{IsEnded, IsSo};
 
-use crate::ending::Ending;
 use crate::serving::{Served, serve};
+use crate::standing::Standing;
 use forwarding::{Flow, ForwardError, Gate};
 use std::snapshot::Snapshot;
 use std::sync::Wait;
-use std::sync::atomic::{AtomicBool, Ordering};
 use std::thread::{Promise, PromisedHandle, Scope, Threads};
+use stop_word::StopWord;
 
 /// What a worker promises: its flows come back, and what it says of how it ended is so.
 #[derive(Drop)]
 pub(crate) struct Serves<'g, F: Drop, G> {
     given: Snapshot<Vec<F>>,
     gate: &'g G,
+    stop: &'g StopWord,
 }
 
 impl<'g, F: Flow, G: Gate> Promise<Served<F>> for Serves<'g, F, G> {
     ghost use Rattle.std.specs.Prelude.{◌≡◌, true, All, map};
-    ghost use Rattle.teams.specs.Endings.{IsSo};
+    ghost use Rattle.teams.specs.Endings.{IsEnded};
 
-    ghost kept_by = { λ p r. (map F.key r.flows.items ≡ map F.key p.given.value.items) × IsSo (All (λ f. F.over f ≡ true) r.flows.items) G.answers p.gate.now r.ending };
+    ghost kept_by = { λ p r. (map F.key r.flows.items ≡ map F.key p.given.value.items) × IsEnded (All (λ f. F.over f ≡ true) r.flows.items) G.answers p.gate.now p.stop.now r.standing };
 }
 
 /// A worker that was started.
@@ -36,33 +38,43 @@ pub(crate) type Begun<'g, F, G> = Result<Worker<'g, F, G>, Served<F>>;
 fn begin<'s, 'e: 's, F: Flow + 's, R: Threads + Wait + Sync, G: Gate + Sync>(
     scope: &'s Scope<'s, &'e ()>,
     rt: &'e R,
-    stop: &'e AtomicBool,
+    stop: &'e StopWord,
     gate: &'e G,
     hand: Vec<F>,
+    starting: &mut Standing,
 ) -> Begun<'e, F, G>
+    requires own { starting.old.word ≡ stop.now }
+    requires share { 1 < starting.old.share }
+    requires so { IsSo (Unit {0}) G.answers gate.now starting.old.ending }
     ensures given { given_by (λ w. map F.key w.promise.given.value.items) (λ s. map F.key s.flows.items) result ≡ map F.key hand.items }
-    ensures so { MatchResult result (λ w. w.promise.gate.now ≡ gate.now) (λ s. IsSo (All (λ f. F.over f ≡ true) s.flows.items) G.answers gate.now s.ending) }
+    ensures so { MatchResult result (λ w. (w.promise.gate.now ≡ gate.now) × (w.promise.stop.now ≡ stop.now)) (λ s. IsEnded (All (λ f. F.over f ≡ true) s.flows.items) G.answers gate.now stop.now s.standing) }
+    ensures word { starting.new.word ≡ starting.old.word }
+    ensures share { starting.new.share + 1 ≡ starting.old.share }
+    ensures starting { IsSo (Unit {0}) G.answers gate.now starting.new.ending }
 {
-    if stop.load(Ordering::SeqCst) {
+    let mut standing = starting.split(stop);
+    if standing.is_stopped(rt, stop) {
         return Err(Served {
             flows: hand,
-            ending: Ending::Stopped,
+            standing,
         });
     }
     let promise = Serves {
         given: Snapshot::of(&hand),
         gate,
+        stop,
     };
-    match scope.spawn_with(promise, move || serve(rt, stop, gate, hand)) {
+    let work = move ||
+        requires own { standing.word ≡ stop.now }
+        requires share { standing.share ≡ 1 }
+        requires going { standing.ending ≡ Done }
+    { serve(rt, stop, gate, hand, standing) };
+    match scope.spawn_with(promise, work) {
         Ok(worker) => Ok(worker),
         Err(refused) => {
-            let ending = Ending::at(stop, ForwardError::Thread);
+            starting.refuse(rt, stop, ForwardError::Thread);
             // the stop word is set, so that no flow has a turn
-            let served = (refused.value)();
-            Err(Served {
-                flows: served.flows,
-                ending,
-            })
+            Err((refused.value)())
         }
     }
 }
@@ -71,36 +83,49 @@ fn begin<'s, 'e: 's, F: Flow + 's, R: Threads + Wait + Sync, G: Gate + Sync>(
 pub(crate) fn start<'s, 'e: 's, F: Flow + 's, R: Threads + Wait + Sync, G: Gate + Sync>(
     scope: &'s Scope<'s, &'e ()>,
     rt: &'e R,
-    stop: &'e AtomicBool,
+    stop: &'e StopWord,
     gate: &'e G,
     hands: Vec<Vec<F>>,
     mut team: Vec<Begun<'e, F, G>>,
+    starting: &mut Standing,
 ) -> Vec<Begun<'e, F, G>>
     requires none { team.items ≡ [] }
     requires room { vec_len hands ≤ vec_capacity team }
+    requires own { starting.old.word ≡ stop.now }
+    requires share { vec_len hands < starting.old.share }
+    requires so { IsSo (Unit {0}) G.answers gate.now starting.old.ending }
     ensures given { map (given_by (λ w. map F.key w.promise.given.value.items) (λ s. map F.key s.flows.items)) result.items ≡ hand_keys F.key hands.items }
-    ensures so { All (λ b. MatchResult b (λ w. w.promise.gate.now ≡ gate.now) (λ s. IsSo (All (λ f. F.over f ≡ true) s.flows.items) G.answers gate.now s.ending)) result.items }
+    ensures so { All (λ b. MatchResult b (λ w. (w.promise.gate.now ≡ gate.now) × (w.promise.stop.now ≡ stop.now)) (λ s. IsEnded (All (λ f. F.over f ≡ true) s.flows.items) G.answers gate.now stop.now s.standing)) result.items }
     ensures count { vec_len result ≡ vec_len hands }
+    ensures word { starting.new.word ≡ starting.old.word }
+    ensures share { starting.new.share + vec_len result ≡ starting.old.share }
+    ensures starting { IsSo (Unit {0}) G.answers gate.now starting.new.ending }
 {
     for hand in hands {
-        team.push_reserved(begin(scope, rt, stop, gate, hand));
+        team.push_reserved(begin(scope, rt, stop, gate, hand, starting));
     }
     team
 }
 
-/// What a team gave back, hand by hand.
+/// What a team gave back, hand by hand, and how its work stands.
 #[derive(Drop)]
 pub(crate) struct Joined<F: Drop> {
     pub hands: Vec<Vec<F>>,
-    pub ending: Ending,
+    pub standing: Standing,
 }
 
 /// What a hand's worker gave back, once it is at its end.
-fn join_one<R: Threads, F: Flow, G: Gate>(rt: &R, gate: &G, begun: Begun<'_, F, G>) -> Served<F>
-    requires so { MatchResult begun (λ w. w.promise.gate.now ≡ gate.now) (λ s. IsSo (All (λ f. F.over f ≡ true) s.flows.items) G.answers gate.now s.ending) }
+fn join_one<R: Threads, F: Flow, G: Gate>(
+    rt: &R,
+    stop: &StopWord,
+    gate: &G,
+    begun: Begun<'_, F, G>,
+) -> Served<F>
+    requires so { MatchResult begun (λ w. (w.promise.gate.now ≡ gate.now) × (w.promise.stop.now ≡ stop.now)) (λ s. IsEnded (All (λ f. F.over f ≡ true) s.flows.items) G.answers gate.now stop.now s.standing) }
     ensures keys { map F.key result.flows.items ≡ given_by (λ w. map F.key w.promise.given.value.items) (λ s. map F.key s.flows.items) begun.entry }
-    ensures ending { IsSo (All (λ f. F.over f ≡ true) result.flows.items) G.answers gate.now result.ending }
+    ensures ended { IsEnded (All (λ f. F.over f ≡ true) result.flows.items) G.answers gate.now stop.now result.standing }
 {
+    let _stop = stop;
     match begun {
         Ok(worker) => worker.join(rt),
         Err(served) => served,
@@ -111,21 +136,26 @@ fn join_one<R: Threads, F: Flow, G: Gate>(rt: &R, gate: &G, begun: Begun<'_, F, 
 /// can be refused now.
 pub(crate) fn join_each<R: Threads, F: Flow, G: Gate>(
     rt: &R,
+    stop: &StopWord,
     gate: &G,
     team: Vec<Begun<'_, F, G>>,
     mut hands: Vec<Vec<F>>,
+    mut standing: Standing,
 ) -> Joined<F>
     requires none { hands.items ≡ [] }
     requires room { vec_len team ≤ vec_capacity hands }
-    requires so { All (λ b. MatchResult b (λ w. w.promise.gate.now ≡ gate.now) (λ s. IsSo (All (λ f. F.over f ≡ true) s.flows.items) G.answers gate.now s.ending)) team.items }
+    requires so { All (λ b. MatchResult b (λ w. (w.promise.gate.now ≡ gate.now) × (w.promise.stop.now ≡ stop.now)) (λ s. IsEnded (All (λ f. F.over f ≡ true) s.flows.items) G.answers gate.now stop.now s.standing)) team.items }
+    requires own { standing.word ≡ stop.now }
+    requires done { standing.ending ≡ Done }
     ensures keys { hand_keys F.key result.hands.items ≡ map (given_by (λ w. map F.key w.promise.given.value.items) (λ s. map F.key s.flows.items)) team.entry.items }
-    ensures ending { IsSo (AllOver F.over result.hands.items) G.answers gate.now result.ending }
+    ensures word { result.standing.word ≡ stop.now }
+    ensures share { result.standing.share ≡ standing.share + vec_len team.entry }
+    ensures ending { IsSo (AllOver F.over result.hands.items) G.answers gate.now result.standing.ending }
 {
-    let mut ending = Ending::Done;
     for begun in team {
-        let served = join_one(rt, gate, begun);
-        ending = ending.and(served.ending);
+        let served = join_one(rt, stop, gate, begun);
+        standing.join(stop, served.standing);
         hands.push_reserved(served.flows);
     }
-    Joined { hands, ending }
+    Joined { hands, standing }
 }

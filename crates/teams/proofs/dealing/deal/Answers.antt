@@ -1,9 +1,8 @@
-use Rattle.std.proofs.Common.{rules, arith, ◌≡◌, ◌∙◌, ◌≤◌, ◌<◌, ◌++◌, [], ◌∷◌, ap, sym, subst, map, length, refl, vec_items, vec_len, vec_capacity}
+use Rattle.std.proofs.Common.{rules, arith, ◌≡◌, ◌∙◌, ◌<◌, ◌++◌, [], ◌∷◌, ap, sym, subst, map, length, refl, vec_items, vec_len}
 use Rattle.std.proofs.lemmas.List.{map-set, length-map, get_or_read_under}
-use Rattle.std.proofs.lemmas.List.Elements.{All-set}
 use Rattle.std.specs.Vec.Iter.{into_iter_len}
 use Rattle.teams.specs.Dealing.{IsDealt, Passes}
-use Rattle.teams.proofs.Dealt.{HasRoom, dealt-more, gaps-more, gaps-first, none-dealt, rooms-first, rooms-less}
+use Rattle.teams.proofs.Dealt.{dealt-more, gaps-more, gaps-first, none-dealt, rooms-first, rooms-less}
 use Rattle.teams.proofs.Lists.{append-one, mapped-at}
 use Rattle.teams.proofs.dealing.deal.Goals as goal
 

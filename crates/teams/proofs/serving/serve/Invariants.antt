@@ -1,5 +1,12 @@
 use Rattle.std.proofs.Common.{◌≡◌, map}
+use Rattle.teams.specs.declared.ending.Ending.TheVariants.{Done}
 use Rattle.teams.proofs.serving.serve.Given as goal
 
 abbrev pub invariant-loop : goal.invariant-loop
-invariant-loop g l = map g.F.Flow.key l.flows.items ≡ map g.F.Flow.key l.fn.flows.items
+invariant-loop g l =
+    record {
+      keys : map g.F.Flow.key l.flows.items ≡ map g.F.Flow.key l.fn.flows.items;
+      word : l.standing.word ≡ l.fn.standing.word;
+      share : l.standing.share ≡ l.fn.standing.share;
+      going : l.standing.ending ≡ Done;
+    }

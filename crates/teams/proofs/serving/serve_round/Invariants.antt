@@ -1,4 +1,5 @@
 use Rattle.std.proofs.Common.{◌≡◌, ℕ, ◌<◌, true, map, get_or}
+use Rattle.teams.specs.declared.ending.Ending.TheVariants.{Done}
 use Rattle.teams.proofs.serving.serve_round.Given as goal
 
 abbrev pub invariant-loop-i : goal.invariant-loop-i
@@ -6,4 +7,7 @@ invariant-loop-i g l =
     record {
       keys : map g.F.Flow.key l.flows ≡ map g.F.Flow.key l.fn.flows;
       over : l.all_over ≡ true → (k : ℕ) (d : _) → k < l.i → g.F.Flow.over (get_or l.flows k d) ≡ true;
+      word : l.standing.word ≡ l.fn.standing.word;
+      share : l.standing.share ≡ l.fn.standing.share;
+      going : l.standing.ending ≡ Done;
     }

@@ -1,6 +1,6 @@
 use Rattle.std.proofs.Common.{◌≡◌, ◌+◌, ◌≤◌, ◌++◌, true, All, MatchResult, map, vec_items, vec_len, vec_capacity}
 use Rattle.std.specs.Vec.Iter.{into_iter_items, into_iter_len}
-use Rattle.teams.specs.Endings.{IsSo}
+use Rattle.teams.specs.Endings.{IsEnded, IsSo}
 use Rattle.teams.specs.Hands.{given_by, hand_keys, AllOver}
 use Rattle.teams.proofs.team.join_each.Given as goal
 
@@ -10,6 +10,8 @@ invariant-loop-begun g l =
     record {
       keys : hand_keys g.F.Flow.key (vec_items l.hands) ++ map (given_by (λ w. map g.F.Flow.key w.promise.given.value.items) (λ s. map g.F.Flow.key s.flows.items)) (into_iter_items rest) ≡ map (given_by (λ w. map g.F.Flow.key w.promise.given.value.items) (λ s. map g.F.Flow.key s.flows.items)) l.fn.team.items;
       room : vec_len l.hands + into_iter_len rest ≤ vec_capacity l.hands;
-      so : All (λ b. MatchResult b (λ w. w.promise.gate.now ≡ l.gate) (λ s. IsSo (All (λ f. g.F.Flow.over f ≡ true) s.flows.items) g.G.Gate.answers l.gate s.ending)) (into_iter_items rest);
-      ending : IsSo (AllOver g.F.Flow.over (vec_items l.hands)) g.G.Gate.answers l.gate l.ending;
+      so : All (λ b. MatchResult b (λ w. (w.promise.gate.now ≡ l.gate) × (w.promise.stop.now ≡ l.stop)) (λ s. IsEnded (All (λ f. g.F.Flow.over f ≡ true) s.flows.items) g.G.Gate.answers l.gate l.stop s.standing)) (into_iter_items rest);
+      ending : IsSo (AllOver g.F.Flow.over (vec_items l.hands)) g.G.Gate.answers l.gate l.standing.ending;
+      word : l.standing.word ≡ l.stop;
+      share : l.standing.share + into_iter_len rest ≡ l.fn.standing.share + vec_len l.fn.team;
     }

@@ -1,0 +1,137 @@
+//! The rule of the word, what each step tells, and that each step keeps the rule.
+ghost use Rattle.std.specs.Prelude.{◌≡◌, ◌<◌, true, false, [], ◌∷◌};
+ghost use Rattle.crossbeam_utils.specs.Register.{Forks, Merges, Turns};
+ghost use Rattle.crossbeam_utils.specs.Seq.{cell_view};
+ghost use Rattle.stop_word.specs.Rule.{both, cut, given, IsSettled, HasLooked, HasSet, opened, same, spent};
+
+use atomic_table::{Join, Split};
+use crossbeam_utils::atomic::seq_cell::{Pass, Words};
+use crossbeam_utils::rule::{Outcome, Protocol};
+
+/// Whether the word is set.
+#[derive(Clone, Copy)]
+pub struct Flag {
+    pub set: bool,
+}
+
+impl Words<1> for Flag {
+    ghost use Rattle.std.specs.Prelude.{[], ◌∷◌};
+    ghost use Rattle.stop_word.specs.Rule.{worth};
+
+    ghost words = { λ f. worth f.set ∷ [] };
+
+    fn to_words(self) -> [u64; 1] {
+        [if self.set { 1 } else { 0 }]
+    }
+
+    fn from_words(bits: &[u64; 1]) -> Self {
+        Flag { set: bits[0] == 1 }
+    }
+}
+
+/// What a pass has, for contracts alone: its share, how often it was the first to set the word, and
+/// whether it saw the word set. No value of it is made.
+pub struct Known {
+    pub share: u64,
+    pub firsts: u64,
+    pub seen: bool,
+}
+
+/// The rule of the word: all passes together have the whole share, and were the first to set the word once
+/// if it is set and never if it isn't; a pass with no share never was, and one that saw the word set was right.
+pub(crate) struct Once;
+
+impl Protocol<Flag, Known> for Once {
+    ghost use Rattle.stop_word.specs.Rule.{IsSettled, opened};
+
+    ghost holds = { IsSettled };
+
+    ghost first = { opened };
+}
+
+/// A pass looks at the word.
+pub(crate) struct Looks;
+
+impl Outcome<Flag, Known> for Looks {
+    ghost use Rattle.stop_word.specs.Rule.{HasLooked};
+
+    ghost then = { HasLooked };
+}
+
+/// A pass sets the word.
+pub(crate) struct Sets;
+
+impl Outcome<Flag, Known> for Sets {
+    ghost use Rattle.stop_word.specs.Rule.{HasSet};
+
+    ghost then = { HasSet };
+}
+
+/// A pass gives a share of 1 away.
+pub(crate) struct Parts;
+
+impl Split<Known> for Parts {
+    ghost use Rattle.stop_word.specs.Rule.{cut, given};
+
+    ghost left = { cut };
+
+    ghost right = { given };
+}
+
+/// A pass gives all that it has to another one, which is new.
+pub(crate) struct Leaves;
+
+impl Split<Known> for Leaves {
+    ghost use Rattle.stop_word.specs.Rule.{same, spent};
+
+    ghost left = { λ _. spent };
+
+    ghost right = { same };
+}
+
+/// Two passes become one.
+pub(crate) struct Meets;
+
+impl Join<Known> for Meets {
+    ghost use Rattle.stop_word.specs.Rule.{both, spent};
+
+    ghost both = { both };
+
+    ghost spent = { spent };
+}
+
+// Each of these does nothing: its clauses say that a step keeps the rule.
+
+/// The rule holds of a new word.
+pub(crate) fn may_open(now: Flag)
+    requires { now.set ≡ false }
+    ensures { IsSettled now (opened ∷ []) }
+{}
+
+/// Any pass may look.
+pub(crate) fn may_look(pass: &Pass<Flag, Known>)
+    ensures { Turns IsSettled pass.now.id (cell_view pass.now) (λ x. x) HasLooked }
+{}
+
+/// A pass with a share may set the word.
+pub(crate) fn may_set(pass: &Pass<Flag, Known>, now: Flag)
+    requires set { now.set ≡ true }
+    requires share { 0 < (cell_view pass.now).share }
+    ensures { Turns IsSettled pass.now.id (cell_view pass.now) (λ _. now) HasSet }
+{}
+
+/// A pass with a share of more than 1 may give 1 away.
+pub(crate) fn may_part(pass: &Pass<Flag, Known>)
+    requires { 1 < (cell_view pass.now).share }
+    ensures { Forks IsSettled pass.now.id (cell_view pass.now) (cut (cell_view pass.now)) (given (cell_view pass.now)) }
+{}
+
+/// A pass may leave all that it has to a new one.
+pub(crate) fn may_leave(pass: &Pass<Flag, Known>)
+    ensures { Forks IsSettled pass.now.id (cell_view pass.now) spent (same (cell_view pass.now)) }
+{}
+
+/// Two passes may become one.
+pub(crate) fn may_meet(pass: &Pass<Flag, Known>, other: &Pass<Flag, Known>)
+    ensures { Merges IsSettled pass.now.id (cell_view pass.now) other.now.id (cell_view other.now) (both (cell_view pass.now) (cell_view other.now)) spent }
+{}

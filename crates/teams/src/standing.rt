@@ -1,0 +1,109 @@
+//! How work stands, and the pass of the stop word that tells so.
+ghost use Rattle.std.specs.Prelude.{◌≡◌, ◌⊎◌, ◌<◌, ◌+◌, ◌-◌, true, false, None, Some};
+ghost use Rattle.stop_word.specs.Rule.{whole_share};
+ghost use Rattle.teams.specs.declared.ending.Ending.TheVariants.{Done, Refused, Stopped};
+ghost use Rattle.teams.specs.Endings.{stood, worse};
+
+use crate::ending::Ending;
+use forwarding::ForwardError;
+use std::marker::Model;
+use std::sync::Wait;
+use stop_word::{StopPass, StopWord};
+
+/// How a piece of work stands: `Done` as long as no refusal ended it. Its pass was the first to set the stop
+/// word just where it was refused, and has seen the word set where it was stopped.
+#[derive(Drop)]
+pub(crate) struct Standing {
+    pass: StopPass,
+    ending: Ending,
+}
+
+impl Model for Standing {
+    ghost use Rattle.teams.specs.Endings.{Stood, stood, Tells};
+
+    ghost Value = { Stood };
+
+    ghost view = { λ s. stood s.pass.word s.pass.share s.ending };
+
+    ghost invariant = { λ s. Tells s.pass.firsts s.pass.seen s.ending };
+}
+
+impl Standing {
+    /// Work that no refusal ended, with a pass that was never the first to set the stop word.
+    pub(crate) fn new(pass: StopPass) -> Standing
+        requires { pass.firsts ≡ 0 }
+        ensures { result ≡ stood pass.word pass.share Done }
+    {
+        Standing {
+            pass,
+            ending: Ending::Done,
+        }
+    }
+
+    /// A piece of work for another thread, with a share of 1 of this one's.
+    pub(crate) fn split(&mut self, stop: &StopWord) -> Standing
+        requires own { self.old.word ≡ stop.now }
+        requires share { 1 < self.old.share }
+        ensures kept { self.new ≡ stood self.old.word (self.old.share - 1) self.old.ending }
+        ensures part { result ≡ stood self.old.word 1 Done }
+    {
+        Standing {
+            pass: stop.split(&mut self.pass),
+            ending: Ending::Done,
+        }
+    }
+
+    /// Takes in how other work stands.
+    pub(crate) fn join(&mut self, stop: &StopWord, other: Standing)
+        requires own { self.old.word ≡ stop.now }
+        requires other { other.word ≡ stop.now }
+        ensures { self.new ≡ stood self.old.word (self.old.share + other.share) (worse self.old.ending other.ending) }
+    {
+        let Standing { pass, ending } = other;
+        stop.join(&mut self.pass, pass);
+        self.ending = self.ending.and(ending);
+    }
+
+    /// Whether the stop word is set. Where it is, this work is stopped.
+    pub(crate) fn is_stopped<R: Wait>(&mut self, rt: &R, stop: &StopWord) -> bool
+        requires own { self.old.word ≡ stop.now }
+        ensures stopped { result ≡ true → self.new ≡ stood self.old.word self.old.share (worse self.old.ending Stopped) }
+        ensures goes_on { result ≡ false → self.new ≡ self.old }
+    {
+        let set = stop.is_set(rt, &mut self.pass);
+        if set {
+            self.ending = self.ending.and(Ending::Stopped);
+        }
+        set
+    }
+
+    /// Sets the stop word. This work ends with the refusal if it is the first to do so, and is stopped if not.
+    pub(crate) fn refuse<R: Wait>(&mut self, rt: &R, stop: &StopWord, refusal: ForwardError)
+        requires own { self.old.word ≡ stop.now }
+        requires share { 0 < self.old.share }
+        ensures { (self.new ≡ stood self.old.word self.old.share (worse self.old.ending (Refused refusal))) ⊎ (self.new ≡ stood self.old.word self.old.share (worse self.old.ending Stopped)) }
+    {
+        let ending = if stop.set(rt, &mut self.pass) {
+            Ending::Refused(refusal)
+        } else {
+            Ending::Stopped
+        };
+        self.ending = self.ending.and(ending);
+    }
+
+    /// The refusal that all work together ended with, if it did: that of the work which was the first to set
+    /// the stop word. Where all of the word's passes are back, no work was stopped by one that isn't known.
+    pub(crate) fn refusal<R: Wait>(mut self, rt: &R, stop: &StopWord) -> Option<ForwardError>
+        requires own { self.word ≡ stop.now }
+        requires whole { self.share ≡ whole_share }
+        ensures done { result ≡ None → self.ending ≡ Done }
+        ensures refused { (e : _) → result ≡ Some e → self.ending ≡ Refused e }
+    {
+        let _set = stop.is_set(rt, &mut self.pass);
+        match self.ending {
+            Ending::Done => None,
+            Ending::Refused(refusal) => Some(refusal),
+            Ending::Stopped => unreachable!(),
+        }
+    }
+}
