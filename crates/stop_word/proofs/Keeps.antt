@@ -84,6 +84,10 @@ opens now clear = record {
   each = fit-more now [] opened (λ p v e. absurd (some-ne-none v (sym e))) (record { idle = λ none. refl; seen = λ saw. absurd (false≢true saw) });
 }
 
+unseen : (a b : Bool) → (a ≡ true → b ≡ true) → b ≡ false → a ≡ false
+unseen true b was not = sym (was refl) ∙ not
+unseen false b was not = refl
+
 pub looks : (pass : ℕ) (old : Known) → Turns IsSettled pass old (λ x. x) HasLooked
 looks pass old x all h at =
     let new : Known = known old.share old.firsts x.set in (
@@ -94,7 +98,8 @@ looks pass old x all h at =
         each = fit-set x all pass new h.each (record { idle = (h.each pass old at).idle; seen = λ saw. saw });
       },
       record {
-        now = refl;
+        set = λ is. ap (λ (b : Bool). known old.share old.firsts b) is;
+        unset = λ not. ap (λ (b : Bool). known old.share old.firsts b) (not ∙ sym (unseen old.seen x.set (h.each pass old at).seen not));
         stays = (h.each pass old at).seen;
         whole = λ all_of. sym (alone all pass old at (idle-of x all h.each) (h.shares ∙ sym all_of)) ∙ h.once;
       },

@@ -57,7 +57,8 @@ pub record IsSettled (now : Flag) (all : List Known) : Type 0 where
 
 -- a look at the word
 pub record HasLooked (old : Known) (x y : Flag) (new : Known) : Type 0 where
-  pub now : new ≡ known old.share old.firsts x.set
+  pub set : x.set ≡ true → new ≡ known old.share old.firsts true
+  pub unset : x.set ≡ false → new ≡ old
   pub stays : old.seen ≡ true → x.set ≡ true
   pub whole : old.share ≡ whole_share → old.firsts ≡ worth x.set
 

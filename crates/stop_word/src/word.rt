@@ -11,6 +11,7 @@ use crossbeam_utils::atomic::seq_cell::{Pass, RuledSeqCell};
 use std::alloc::{AllocError, Global};
 use std::marker::Model;
 use std::sync::Wait;
+use std::sync::atomic::{AtomicBool, Ordering};
 
 /// The word, under its rule.
 type Ruled = RuledSeqCell<Flag, Known, Once, 1>;
@@ -19,6 +20,9 @@ type Ruled = RuledSeqCell<Flag, Known, Once, 1>;
 #[derive(Drop)]
 pub struct StopWord {
     word: Ruled,
+    /// Set right after the word. As long as it isn't, `is_set` need not go to the word, which lies in
+    /// memory of its own, perhaps in a cache line that others write.
+    hint: AtomicBool,
 }
 
 /// A part in a stop word: with it the word is looked at and set. It has no bytes.
@@ -53,14 +57,26 @@ impl StopWord {
         let clear = Flag { set: false };
         may_open(clear);
         let (word, pass) = Ruled::ruled(alloc, clear)?;
-        Ok((StopWord { word }, StopPass { pass }))
+        let hint = AtomicBool::new(false);
+        Ok((StopWord { word, hint }, StopPass { pass }))
+    }
+
+    /// Whether the word was found set. It is one load where it isn't, and may miss a setting that is being
+    /// made by another thread.
+    pub fn is_set<R: Wait>(&self, rt: &R, pass: &mut StopPass) -> bool
+        requires own { pass.old.word ≡ self.now }
+        ensures set { result ≡ true → pass.new ≡ record pass.old { seen = true } }
+        ensures unset { result ≡ false → pass.new ≡ pass.old }
+    {
+        self.hint.load(Ordering::SeqCst) && self.look(rt, pass)
     }
 
     /// Whether the word is set. Once a pass has seen it set it stays so; and with the whole share, the word is
     /// set just where one of the passes that this one was joined from was the first to set it.
-    pub fn is_set<R: Wait>(&self, rt: &R, pass: &mut StopPass) -> bool
+    pub fn look<R: Wait>(&self, rt: &R, pass: &mut StopPass) -> bool
         requires own { pass.old.word ≡ self.now }
-        ensures looked { pass.new ≡ record pass.old { seen = result } }
+        ensures set { result ≡ true → pass.new ≡ record pass.old { seen = true } }
+        ensures unset { result ≡ false → pass.new ≡ pass.old }
         ensures stays { pass.old.seen ≡ true → result ≡ true }
         ensures whole { pass.old.share ≡ whole_share → pass.old.firsts ≡ worth result }
     {
@@ -77,7 +93,9 @@ impl StopWord {
     {
         let now = Flag { set: true };
         may_set(&pass.pass, now);
-        !self.word.swap_as::<Sets, R>(rt, &mut pass.pass, now).set
+        let was = self.word.swap_as::<Sets, R>(rt, &mut pass.pass, now);
+        self.hint.store(true, Ordering::SeqCst);
+        !was.set
     }
 
     /// Another pass, with a share of 1 of this one's. It has seen what this one has, and was never the first.

@@ -99,7 +99,7 @@ impl Standing {
         ensures done { result ≡ None → self.ending ≡ Done }
         ensures refused { (e : _) → result ≡ Some e → self.ending ≡ Refused e }
     {
-        let _set = stop.is_set(rt, &mut self.pass);
+        let _set = stop.look(rt, &mut self.pass);
         match self.ending {
             Ending::Done => None,
             Ending::Refused(refusal) => Some(refusal),
