@@ -1,5 +1,5 @@
-/* Frames of several segments on both kinds of rings, on one thread; what a disabling leaves; a descriptor in bytes; and a list of
- * moves. It prints a line of each, and ends with status 1 where one is not as it should be. */
+/* Frames of several segments on both kinds of rings, on one thread, and what a disabling leaves. It prints a line of each, and ends
+ * with status 1 where one is not as it should be. */
 #include <poll82599.h>
 
 #include <stdio.h>
@@ -84,23 +84,6 @@ static void transmit(const uint8_t *frame)
     check(poll82599_tx_close(&driver, &controller) == 1, "its buffer lay in the ring");
 }
 
-static void plain(void)
-{
-    static const char text[] = "r0 A1 5\nr0 A2\nr0 A6\n", faulty[] = "r0 A1 5\nr0 A9\n";
-    static const char page[] = "r0 A1 place 0\nr0 A2 tail 1\nr0 A6 none\nmoves 3 of 3\n";
-    struct poll82599_descriptor said = {5, 60, 1, 1, 60}, read = {0};
-    struct poll82599_plan plan = {1, 8, 1, 0, 0};
-    struct poll82599_moved moved = {0};
-    uint8_t bytes[POLL82599_DESCRIPTOR_BYTES], room[128];
-    check(poll82599_encode(POLL82599_TX_READ, &said, bytes, sizeof bytes) == 0, "a transmit descriptor is written");
-    check(memcmp(bytes, "\0\x28\0\0\0\0\0\0\x3c\0\x30\x2b\0\0\x0f\0", 16) == 0, "its bytes are those of the README");
-    check(poll82599_decode(POLL82599_TX_READ, bytes, sizeof bytes, &read) == 0 && memcmp(&said, &read, sizeof said) == 0, "it is read back");
-    check(poll82599_decode(POLL82599_RX_READ, bytes, sizeof bytes, &read) == 2, "it is no receive descriptor");
-    check(poll82599_moves(&plan, (const uint8_t *)text, sizeof text - 1, room, 3, &moved) == 1 && moved.needed == sizeof page - 1, "the moves print so many bytes");
-    check(poll82599_moves(&plan, (const uint8_t *)text, sizeof text - 1, room, sizeof room, &moved) == 0 && memcmp(room, page, sizeof page - 1) == 0, "and these");
-    check(poll82599_moves(&plan, (const uint8_t *)faulty, sizeof faulty - 1, room, sizeof room, &moved) == 14 && moved.line == 2, "line 2 is no move");
-}
-
 int main(void)
 {
     uint8_t frame[FRAME];
@@ -108,6 +91,5 @@ int main(void)
         frame[at] = (uint8_t)(at * 7 + at / 256);
     receive(frame);
     transmit(frame);
-    plain();
     return failed;
 }

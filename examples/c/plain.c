@@ -1,0 +1,51 @@
+/* Plain data, for whoever keeps rings of their own: a descriptor between its 16 bytes and numbers, and a list of moves answered by
+ * the machines of queues, as an oracle for a driver or a device in C. It prints a line of each call, and ends with status 1 where one
+ * is not as it should be. */
+#include <poll82599.h>
+
+#include <stdio.h>
+#include <string.h>
+
+static int failed;
+
+static void check(int good, const char *what)
+{
+    printf("%s: %s\n", what, good ? "as it should be" : "WRONG");
+    failed |= !good;
+}
+
+static void descriptors(void)
+{
+    static const uint8_t posted[] = {0, 0x28, 0, 0, 0, 0, 0, 0, 0x3c, 0, 0x30, 0x2b, 0, 0, 0x0f, 0};
+    static const uint8_t back[] = {0, 0, 0, 0, 0, 0, 0, 0, 0x03, 0, 0, 0, 0x3c, 0, 0, 0};
+    struct poll82599_descriptor said = {.number = 5, .len = 60, .eop = 1, .rs = 1, .paylen = 60}, read = {0};
+    uint8_t bytes[POLL82599_DESCRIPTOR_BYTES] = {0};
+    check(poll82599_encode(POLL82599_TX_READ, &said, bytes, sizeof bytes) == 0, "a transmit descriptor is written");
+    check(memcmp(bytes, posted, sizeof posted) == 0, "its bytes are those of the README");
+    check(poll82599_decode(POLL82599_TX_READ, bytes, sizeof bytes, &read) == 0 && memcmp(&said, &read, sizeof said) == 0, "it is read back");
+    check(poll82599_decode(POLL82599_RX_READ, bytes, sizeof bytes, &read) == 2, "it is no receive descriptor");
+    check(memcmp(&said, &read, sizeof said) == 0, "what is refused says nothing new");
+    check(poll82599_decode(POLL82599_RX_BACK, back, sizeof back, &read) == 0 && read.len == 60 && read.eop == 1, "a frame of 60 bytes was written back");
+    said.paylen = 13;
+    check(poll82599_encode(POLL82599_TX_READ, &said, bytes, sizeof bytes) == 2, "PAYLEN is 14 at least");
+    check(memcmp(bytes, posted, sizeof posted) == 0, "and the bytes are as they were");
+}
+
+static void moves(void)
+{
+    static const char text[] = "r0 A1 5\nr0 A2\nr0 A6\n", faulty[] = "r0 A1 5\nr0 A9\n";
+    static const char page[] = "r0 A1 place 0\nr0 A2 tail 1\nr0 A6 none\nmoves 3 of 3\n";
+    struct poll82599_plan plan = {.pairs = 1, .descriptors = 8, .enabled = 1};
+    struct poll82599_moved moved = {0};
+    uint8_t room[128];
+    check(poll82599_moves(&plan, (const uint8_t *)text, sizeof text - 1, room, 3, &moved) == 1 && moved.needed == sizeof page - 1, "the moves print so many bytes");
+    check(poll82599_moves(&plan, (const uint8_t *)text, sizeof text - 1, room, sizeof room, &moved) == 0 && memcmp(room, page, sizeof page - 1) == 0, "and these");
+    check(poll82599_moves(&plan, (const uint8_t *)faulty, sizeof faulty - 1, room, sizeof room, &moved) == 14 && moved.line == 2, "line 2 is no move");
+}
+
+int main(void)
+{
+    descriptors();
+    moves();
+    return failed;
+}
