@@ -26,7 +26,9 @@ struct c_driver {
 
 struct c_controller {
     struct ring *ring;
-    uint32_t size, serve, ahead, serving, asked;
+    uint32_t size, serve, ahead, serving;
+    /* how far the frame is that is begun */
+    uint32_t segments, bytes;
 };
 
 int32_t poll82599_rx_new(uint32_t descriptors, uint32_t buffers, struct poll82599_rx_driver *driver, struct poll82599_rx_controller *controller)
@@ -126,12 +128,22 @@ uint32_t poll82599_rx_answer(struct poll82599_rx_controller *controller)
     return 1;
 }
 
-uint32_t poll82599_rx_store(struct poll82599_rx_controller *controller, const uint8_t *frame, size_t len)
+/* Whether so many more bytes may follow in the frame that is begun, and end it where `eop` says so. */
+static int may_follow(const struct c_controller *c, size_t len, uint32_t eop)
+{
+    if (len == 0 || len > POLL82599_BUFFER_BYTES)
+        return 0;
+    if (c->segments >= POLL82599_MOST_SEGMENTS || c->segments + 1 >= c->size || len > POLL82599_MOST_FRAME - c->bytes)
+        return 0;
+    return !eop || c->bytes + len >= POLL82599_LEAST_FRAME;
+}
+
+uint32_t poll82599_rx_store_segment(struct poll82599_rx_controller *controller, const uint8_t *bytes, size_t len, uint32_t eop)
 {
     struct c_controller *c = controller->end;
     if (!c->serving)
         return 3;
-    if (len < 14 || len > POLL82599_BUFFER_BYTES)
+    if (!may_follow(c, len, eop))
         return 2;
     if (c->ahead == 0) {
         uint64_t tail = atomic_load(&c->ring->tail); /* A3 */
@@ -143,11 +155,17 @@ uint32_t poll82599_rx_store(struct poll82599_rx_controller *controller, const ui
     struct buffer *buffer = c->ring->slots[c->serve];
     if (word & 1)
         return 3;
-    memcpy(buffer->bytes, frame, len);
+    memcpy(buffer->bytes, bytes, len);
     buffer->len = (uint16_t)len;
-    atomic_store(&c->ring->words[c->serve], 1 | 2 | (uint64_t)len << 32); /* A5 */
+    atomic_store(&c->ring->words[c->serve], 1 | (eop ? 2 : 0) | (uint64_t)len << 32); /* A5 */
     c->serve = c->serve + 1 == c->size ? 0 : c->serve + 1;
     c->ahead--;
+    if (!eop) {
+        c->segments++;
+        c->bytes += (uint32_t)len;
+        return 1;
+    }
+    c->segments = c->bytes = 0;
     atomic_store(&c->ring->head, c->serve); /* A7 */
     return 1;
 }

@@ -1,13 +1,13 @@
 /* A receive ring in C with the steps of the library's: each is one sequentially consistent load or store of a word that both
- * ends share, and a buffer goes from end to end through its slot. It has the library's calls, by other names, and none of its
- * proofs. */
+ * ends share, and a buffer goes from end to end through its slot. It has the library's calls that passing frames needs, frames
+ * of several segments among them, with the same refusals, and none of its proofs. */
 #ifndef C_RING_H
 #define C_RING_H
 
 #include <stddef.h>
 #include <stdint.h>
 
-enum { POLL82599_BUFFER_BYTES = 2048 };
+enum { POLL82599_BUFFER_BYTES = 2048, POLL82599_LEAST_FRAME = 14, POLL82599_MOST_FRAME = 15000, POLL82599_MOST_SEGMENTS = 15 };
 enum { POLL82599_OFF = 0, POLL82599_ENABLE_ASKED = 1, POLL82599_ON = 2, POLL82599_DISABLE_ASKED = 3 };
 
 struct poll82599_rx_driver { struct c_driver *end; };
@@ -20,7 +20,12 @@ uint32_t poll82599_rx_poll(struct poll82599_rx_driver *driver, uint8_t *bytes, s
 uint32_t poll82599_rx_ask_enable(struct poll82599_rx_driver *driver);
 uint32_t poll82599_rx_state(struct poll82599_rx_driver *driver);
 uint32_t poll82599_rx_answer(struct poll82599_rx_controller *controller);
-uint32_t poll82599_rx_store(struct poll82599_rx_controller *controller, const uint8_t *frame, size_t len);
+uint32_t poll82599_rx_store_segment(struct poll82599_rx_controller *controller, const uint8_t *bytes, size_t len, uint32_t eop);
 int64_t poll82599_rx_close(struct poll82599_rx_driver *driver, struct poll82599_rx_controller *controller);
+
+static inline uint32_t poll82599_rx_store(struct poll82599_rx_controller *controller, const uint8_t *frame, size_t len)
+{
+    return poll82599_rx_store_segment(controller, frame, len, 1);
+}
 
 #endif
