@@ -203,8 +203,8 @@ pub extern "C" fn poll82599_rx_queue_close(
 {
     let queue = Box::into_inner(queue.take(alloc)).rx_queue();
     let device = Box::into_inner(device.take(alloc)).rx_device();
-    match (queue, device) {
-        (Some(driving), Some(serving)) => unmake(driving, serving),
-        _ => -1,
+    match queue.zip(device) {
+        Some((driving, serving)) => unmake(driving, serving),
+        None => -1,
     }
 }

@@ -199,8 +199,8 @@ pub extern "C" fn poll82599_tx_queue_close(
 {
     let queue = Box::into_inner(queue.take(alloc)).tx_queue();
     let device = Box::into_inner(device.take(alloc)).tx_device();
-    match (queue, device) {
-        (Some(driving), Some(serving)) => unmake(driving, serving),
-        _ => -1,
+    match queue.zip(device) {
+        Some((driving, serving)) => unmake(driving, serving),
+        None => -1,
     }
 }

@@ -149,8 +149,8 @@ pub extern "C" fn poll82599_rx_close(
 {
     let driver = Box::into_inner(driver.take(alloc)).rx_driver();
     let controller = Box::into_inner(controller.take(alloc)).rx_controller();
-    match (driver, controller) {
-        (Some(driving), Some(serving)) => unmake(driving, serving),
-        _ => -1,
+    match driver.zip(controller) {
+        Some((driving, serving)) => unmake(driving, serving),
+        None => -1,
     }
 }

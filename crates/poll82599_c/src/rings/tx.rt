@@ -164,8 +164,8 @@ pub extern "C" fn poll82599_tx_close(
 {
     let driver = Box::into_inner(driver.take(alloc)).tx_driver();
     let controller = Box::into_inner(controller.take(alloc)).tx_controller();
-    match (driver, controller) {
-        (Some(driving), Some(serving)) => unmake(driving, serving),
-        _ => -1,
+    match driver.zip(controller) {
+        Some((driving, serving)) => unmake(driving, serving),
+        None => -1,
     }
 }
