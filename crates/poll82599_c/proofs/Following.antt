@@ -7,8 +7,8 @@ use Rattle.ring_model.specs.transmit.Frames.{MayFollow}
 use Rattle.ring_laws.specs.Frames.{length-join-snoc, unfinished-snoc, unfinished-whole}
 use Rattle.ring_laws.specs.Lists.{slice_get-snoc}
 use Rattle.tx_ring.specs.Records.{Posting}
-use Rattle.poll82599_c.specs.Following.{IsBegun, CanFollow, CanPost, IsPosting}
-use Rattle.poll82599_c.specs.declared.begun.Begun.{Begun}
+use Rattle.poll82599_c.specs.rings.Following.{IsBegun, CanFollow, CanPost, IsPosting}
+use Rattle.poll82599_c.specs.declared.rings.begun.Begun.{Begun}
 
 module _ {X : Type 0} (carries : X → Piece) where
   -- nothing is begun

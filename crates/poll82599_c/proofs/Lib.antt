@@ -1,5 +1,8 @@
 pub mod Following
 pub mod HandleAsBox
-pub mod Storing
+pub mod Packing
 pub mod Posting
 pub mod Sendable
+pub mod Shaping
+pub mod Stashes
+pub mod Storing

@@ -5,9 +5,9 @@ use Rattle.atomic_table.specs.Seated.{TableId}
 use Rattle.ring_model.specs.transmit.Ring.{are_whole, carried}
 use Rattle.tx_ring.specs.Ends.{DriverSide, posted}
 use Rattle.tx_ring.specs.Records.{Posting}
-use Rattle.poll82599_c.specs.Following.{IsPosting}
-use Rattle.poll82599_c.specs.TxEnds.{IsDriving}
-use Rattle.poll82599_c.specs.declared.begun.Begun.{Begun}
+use Rattle.poll82599_c.specs.rings.Following.{IsPosting}
+use Rattle.poll82599_c.specs.rings.TxEnds.{IsDriving}
+use Rattle.poll82599_c.specs.declared.rings.begun.Begun.{Begun}
 use Rattle.poll82599_c.proofs.Following.{ended_whole, posting_more}
 
 pub driving_posted : (ring : TableId) (old new : DriverSide) (p : Posting) (begun after : Begun) (paylen : ℕ) → new.table ≡ ring → posted new ≡ posted old ++ p ∷ [] → p.paylen ≡ paylen

@@ -7,9 +7,9 @@ use Rattle.ring_model.specs.shared.Segments.{Segment, piece_of}
 use Rattle.rx_ring.specs.Calls.{FoundFree}
 use Rattle.rx_ring.specs.Ends.{ControllerSide, stored}
 use Rattle.rx_ring.specs.Records.{RxControlled}
-use Rattle.poll82599_c.specs.Following.{IsBegun}
-use Rattle.poll82599_c.specs.RxEnds.{IsServing, StoredOne, WroteOne}
-use Rattle.poll82599_c.specs.declared.begun.Begun.{Begun}
+use Rattle.poll82599_c.specs.rings.Following.{IsBegun}
+use Rattle.poll82599_c.specs.rings.RxEnds.{IsServing, StoredOne, WroteOne}
+use Rattle.poll82599_c.specs.declared.rings.begun.Begun.{Begun}
 use Rattle.poll82599_c.proofs.Following.{begun_more, ended_whole}
 
 -- a frame is ended

@@ -1,22 +1,31 @@
--- Which end a handle holds.
-use Rattle.std.specs.Prelude.{Option, Some, None}
-use Rattle.rx_ring.specs.Ends.{DriverSide as RxDriverSide, ControllerSide as RxControllerSide}
-use Rattle.tx_ring.specs.Ends.{DriverSide as TxDriverSide, ControllerSide as TxControllerSide}
-use Rattle.poll82599_c.specs.declared.end.End.{End}
-use Rattle.poll82599_c.specs.declared.end.End.TheVariants.{RxDriver, RxController, TxDriver, TxController}
+-- Words on what may be held.
+use Rattle.std.specs.Prelude.{⊤, Option, Some, None}
 
-abbrev pub rx_driver : Option End → Option RxDriverSide
-rx_driver (Some (RxDriver d)) = Some d
-rx_driver _ = None
+-- both are there, and this holds of them
+abbrev pub Both : {A B : Type 0} → (A → B → Type 0) → Option A → Option B → Type 0
+Both Holds (Some a) (Some b) = Holds a b
+Both Holds _ _ = ⊥
 
-abbrev pub rx_controller : Option End → Option RxControllerSide
-rx_controller (Some (RxController c)) = Some c
-rx_controller _ = None
+-- it is there, and this holds of it
+abbrev pub There : {A : Type 0} → (A → Type 0) → Option A → Type 0
+There Holds (Some a) = Holds a
+There Holds None = ⊥
 
-abbrev pub tx_driver : Option End → Option TxDriverSide
-tx_driver (Some (TxDriver d)) = Some d
-tx_driver _ = None
+-- this holds of it, if it is there
+abbrev pub Of : {A : Type 0} → (A → Type 0) → Option A → Type 0
+Of Holds (Some a) = Holds a
+Of Holds None = ⊤
 
-abbrev pub tx_controller : Option End → Option TxControllerSide
-tx_controller (Some (TxController c)) = Some c
-tx_controller _ = None
+-- what was there before a call is there after it, and this holds of them
+abbrev pub Between : {A B : Type 0} → (A → B → Type 0) → Option A → Option B → Type 0
+Between Holds (Some old) (Some new) = Holds old new
+Between Holds (Some old) None = ⊥
+Between Holds None new = ⊤
+
+-- two that were there before a call are there after it, and this holds of all four
+abbrev pub Among : {A B : Type 0} → (A → B → A → B → Type 0) → Option A → Option B → Option A → Option B → Type 0
+Among Holds (Some a) (Some b) (Some c) (Some d) = Holds a b c d
+Among Holds (Some a) (Some b) (Some c) None = ⊥
+Among Holds (Some a) (Some b) None new = ⊥
+Among Holds (Some a) None old new = ⊤
+Among Holds None b old new = ⊤

@@ -1,4 +1,5 @@
-pub mod Following
+pub mod Handles
 pub mod Held
-pub mod RxEnds
-pub mod TxEnds
+pub mod Stashes
+pub mod batches
+pub mod rings

@@ -1,13 +1,11 @@
 //! What is behind a handle.
 ghost use Rattle.std.specs.Prelude.{◌≡◌, Some};
-ghost use Rattle.poll82599_c.specs.Held.{rx_controller, rx_driver, tx_controller, tx_driver};
+ghost use Rattle.poll82599_c.specs.Handles.{as_packets, as_rx_controller, as_rx_device, as_rx_driver, as_rx_queue, as_tx_controller, as_tx_device, as_tx_driver, as_tx_queue};
 
-use crate::rx_driving::RxDriving;
-use crate::rx_serving::RxServing;
-use crate::tx_driving::TxDriving;
-use crate::tx_serving::TxServing;
+use crate::batches::{Packets, RxDevice, RxQueue, TxDevice, TxQueue};
+use crate::rings::{RxDriving, RxServing, TxDriving, TxServing};
 
-/// One end of a ring.
+/// One end of a ring, step by step or in batches, or a worker's packets.
 #[derive(Drop)]
 pub enum End {
     /// A receive ring's driver.
@@ -18,13 +16,23 @@ pub enum End {
     TxDriver(TxDriving),
     /// Its controller.
     TxController(TxServing),
+    /// A receive queue's driver.
+    RxQueue(RxQueue),
+    /// Its device.
+    RxDevice(RxDevice),
+    /// A transmit queue's driver.
+    TxQueue(TxQueue),
+    /// Its device.
+    TxDevice(TxDevice),
+    /// A worker's packets.
+    Packets(Packets),
 }
 
 // Which of them it is.
 impl End {
     /// A receive ring's driver.
     pub(crate) fn rx_driver(self) -> Option<RxDriving>
-        ensures { result ≡ rx_driver (Some self) }
+        ensures { result ≡ as_rx_driver (Some self) }
     {
         match self {
             End::RxDriver(held) => Some(held),
@@ -37,7 +45,7 @@ impl End {
 
     /// Its controller.
     pub(crate) fn rx_controller(self) -> Option<RxServing>
-        ensures { result ≡ rx_controller (Some self) }
+        ensures { result ≡ as_rx_controller (Some self) }
     {
         match self {
             End::RxController(held) => Some(held),
@@ -50,7 +58,7 @@ impl End {
 
     /// A transmit ring's driver.
     pub(crate) fn tx_driver(self) -> Option<TxDriving>
-        ensures { result ≡ tx_driver (Some self) }
+        ensures { result ≡ as_tx_driver (Some self) }
     {
         match self {
             End::TxDriver(held) => Some(held),
@@ -63,10 +71,75 @@ impl End {
 
     /// Its controller.
     pub(crate) fn tx_controller(self) -> Option<TxServing>
-        ensures { result ≡ tx_controller (Some self) }
+        ensures { result ≡ as_tx_controller (Some self) }
     {
         match self {
             End::TxController(held) => Some(held),
+            other => {
+                drop(other);
+                None
+            }
+        }
+    }
+
+    /// A receive queue's driver.
+    pub(crate) fn rx_queue(self) -> Option<RxQueue>
+        ensures { result ≡ as_rx_queue (Some self) }
+    {
+        match self {
+            End::RxQueue(held) => Some(held),
+            other => {
+                drop(other);
+                None
+            }
+        }
+    }
+
+    /// Its device.
+    pub(crate) fn rx_device(self) -> Option<RxDevice>
+        ensures { result ≡ as_rx_device (Some self) }
+    {
+        match self {
+            End::RxDevice(held) => Some(held),
+            other => {
+                drop(other);
+                None
+            }
+        }
+    }
+
+    /// A transmit queue's driver.
+    pub(crate) fn tx_queue(self) -> Option<TxQueue>
+        ensures { result ≡ as_tx_queue (Some self) }
+    {
+        match self {
+            End::TxQueue(held) => Some(held),
+            other => {
+                drop(other);
+                None
+            }
+        }
+    }
+
+    /// Its device.
+    pub(crate) fn tx_device(self) -> Option<TxDevice>
+        ensures { result ≡ as_tx_device (Some self) }
+    {
+        match self {
+            End::TxDevice(held) => Some(held),
+            other => {
+                drop(other);
+                None
+            }
+        }
+    }
+
+    /// A worker's packets.
+    pub(crate) fn packets(self) -> Option<Packets>
+        ensures { result ≡ as_packets (Some self) }
+    {
+        match self {
+            End::Packets(held) => Some(held),
             other => {
                 drop(other);
                 None

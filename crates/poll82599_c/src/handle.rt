@@ -1,4 +1,4 @@
-//! What C has of an end: a pointer.
+//! What C has of an end or of a worker's packets: a pointer.
 ghost use Rattle.std.specs.Prelude.{◌≡◌, Option, Some, None, IsSome};
 ghost use Rattle.poll82599_c.specs.declared.end.End.{End as Held};
 
@@ -9,7 +9,7 @@ use std::marker::Model;
 use std::mem::replace;
 use std::ptr::null_mut;
 
-/// A pointer that owns an end, or null and none. C begins one as null, passes its address, and copies none.
+/// A pointer that owns one of these, or null and none. C begins one as null, passes its address, and copies none.
 #[repr(C)]
 #[derive(Drop)]
 pub struct Handle {
@@ -57,7 +57,7 @@ impl Handle {
         }
     }
 
-    /// Takes the end, and leaves none.
+    /// Takes the object, and leaves none.
     pub(crate) fn take(&mut self, alloc: Global) -> Box<End>
         requires { IsSome self.old.held }
         ensures value { self.old.held ≡ Some result.value }
@@ -66,7 +66,7 @@ impl Handle {
         replace(self, Handle::empty(alloc)).into_parts().into_box()
     }
 
-    /// Puts an end in.
+    /// Puts an object in.
     pub(crate) fn put(&mut self, made: Box<End>)
         ensures { self.new.held ≡ Some made.value }
     {
@@ -74,5 +74,5 @@ impl Handle {
     }
 }
 
-// What it owns is in one thread at a time, as the end behind it.
+// What it owns is in one thread at a time, as the object behind it.
 unsafe impl Send for Handle {}

@@ -1,22 +1,15 @@
-//! A running receive or transmit ring for programs in C and plain Rust: a static library whose two ends are in two threads of
-//! theirs.
+//! Running receive and transmit rings for programs in C and plain Rust: a static library whose two ends are in two threads of
+//! theirs, step by step (`rings`) or in batches, in ixy's manner (`batches`).
 //!
-//! Each end is behind a handle of one pointer, and has one export, with an operation's number. The header `poll82599.h` has a
-//! function for each operation. What an export promises is said over the ends that the handles hold: what its step was, and,
-//! at closing, that what the driver took is a beginning of what the controller stored, and what was sent of what was posted,
-//! byte for byte. What C owes stands as `requires`, and in the header.
+//! Each end is behind a handle of one pointer, and so is what a worker has. An export takes an operation's number, and the header
+//! `poll82599.h` has a function for each operation. What an export promises is said over what the handles hold: what its step was, by
+//! how much the records grew, what each packet's bytes are, and, at closing, that what the driver took is a beginning of what the
+//! controller stored, and what was sent of what was posted, byte for byte. What C owes stands as `requires`, and in the header.
 #![tactic(auto)]
 
-mod begun;
+mod batches;
 mod call;
 mod end;
 mod handle;
-mod room;
-mod rx;
-mod rx_driving;
-mod rx_making;
-mod rx_serving;
-mod tx;
-mod tx_driving;
-mod tx_making;
-mod tx_serving;
+mod makings;
+mod rings;

@@ -1,4 +1,0 @@
-pub mod HandleAsBox
-pub mod Packing
-pub mod Sendable
-pub mod Shaping

@@ -1,0 +1,17 @@
+use Rattle.std.proofs.Common.{rules, refl, ap, subst, sym, ◌∙◌}
+use Rattle.tx_ring.specs.Calls.{item_of}
+use Rattle.tx_ring.specs.Ends.{DriverSide, posted}
+use Rattle.poll82599_c.specs.rings.Following.{IsPosting}
+use Rattle.tx_ring.specs.Records.{TxDriven}
+use Rattle.poll82599_c.proofs.Posting.{driving_posted}
+use Rattle.poll82599_c.proofs.rings.tx_driving.TxDriving.post.Goals as goal
+
+pub invariant_of-self-in-Some-take : goal.invariant_of-self-in-Some-take
+invariant_of-self-in-Some-take c =
+    driving_posted _ c.self.inside.end _ (item_of c.fill.new.self c.args.ask.now.eop c.args.ask.now.rs c.args.ask.now.paylen) c.in-Some.begun _ _
+    (ap (λ (x : DriverSide). x.table) c.post.ensures.step ∙ c.self.invariant.own)
+    (ap (λ (x : TxDriven). x.posted) c.post.ensures.record)
+    refl
+    (subst (λ (x : DriverSide). IsPosting (posted x) c.in-Some.begun c.args.ask.now.paylen) (sym c.self.view_is) c.in-Some.ensures)
+    c.with-self-inside.ensures.segments
+    (search rules)

@@ -1,0 +1,120 @@
+-- What the exports say of a worker's packets, and of what is done with them.
+use Rattle.std.specs.Prelude.{◌≡◌, ℕ, ◌+◌, ◌*◌, ◌<◌, ◌≤◌, ◌⊎◌, Option, Some, List, [], ◌∷◌, ◌++◌, length, map, reverse, remove, drop, slice_get, slice_index, slice_set}
+use Rattle.buffer_pool.specs.Buffer.{Buffer, buffer}
+use Rattle.buffer_pool.specs.Packed.{IsPacket, bytes_of, shape_of}
+use Rattle.buffer_pool.specs.declared.stash.TheConstants.{STASH_BUFFERS}
+use Rattle.driver.specs.declared.rx_driver.TheConstants.{MOST_BATCH}
+use Rattle.limits.specs.declared.profile.TheConstants.{BUFFER_BYTES}
+use Rattle.ring_model.specs.shared.Frames.{Bytes}
+use Rattle.poll82599_c.specs.Stashes.{AreBuffers}
+use Rattle.poll82599_c.specs.Held.{Of, There}
+
+-- A worker's empty buffers, by their numbers, the next one to be taken first; and the packets that it has, the oldest first
+pub record Worked : Type 0 where
+  pub stash : List ℕ
+  pub packets : List (List Buffer)
+
+-- so many buffers, and no packet
+pub record IsFresh (count : ℕ) (w : Worked) : Type 0 where
+  pub buffers : AreBuffers count w.stash
+  pub none : w.packets ≡ []
+
+abbrev pub IsMade : ℕ → Option Worked → Type 0
+IsMade count = There (IsFresh count)
+
+-- how many packets there were
+abbrev pub HadPackets : ℕ → Option Worked → Type 0
+HadPackets count = Of (λ w. count ≡ length w.packets)
+
+abbrev pub numbers_of : List Buffer → List ℕ
+numbers_of bufs = map (λ b. b.number) bufs
+
+-- a packet of these bytes is made, in buffers of the stash
+pub record Packed (frame : Bytes) (had : List ℕ) (packet : List Buffer) (has : List ℕ) : Type 0 where
+  pub packet_is : IsPacket packet
+  pub bytes : bytes_of packet ≡ frame
+  pub stash : had ≡ numbers_of packet ++ has
+
+-- one more buffer of the stash is the packet's, with these bytes
+pub record Pushed (bytes : Bytes) (old : List Buffer) (had : List ℕ) (new : List Buffer) (has : List ℕ) : Type 0 where
+  pub number : ℕ
+  pub behind : new ≡ old ++ buffer number bytes ∷ []
+  pub stash : had ≡ number ∷ has
+
+-- it is the worker's, behind the others
+pub record PutFrame (frame : Bytes) (old new : Worked) : Type 0 where
+  pub packet : List Buffer
+  pub made : Packed frame old.stash packet new.stash
+  pub behind : new.packets ≡ old.packets ++ packet ∷ []
+
+-- there are as many packets as there may be, or too few empty buffers for the frame
+abbrev pub HasNoPlace : Bytes → Worked → Type 0
+HasNoPlace frame w = (length w.packets ≡ MOST_BATCH) ⊎ (BUFFER_BYTES * length w.stash < length frame)
+
+-- the packet at this place
+abbrev pub IsAt : Worked → ℕ → List Buffer → Type 0
+IsAt w i packet = slice_get w.packets i ≡ Some packet
+
+-- there is none
+abbrev pub IsAbsent : ℕ → Worked → Type 0
+IsAbsent i w = length w.packets ≤ i
+
+-- it has so many bytes, more than the room
+pub record IsTooShort (i len : ℕ) (room : Bytes) (w : Worked) : Type 0 where
+  pub packet : List Buffer
+  pub there : IsAt w i packet
+  pub len_is : len ≡ length (bytes_of packet)
+  pub short : length room < len
+
+-- its bytes are at the beginning of the room
+pub record CopiedOut (i len : ℕ) (before after : Bytes) (old new : Worked) : Type 0 where
+  pub packet : List Buffer
+  pub there : IsAt old i packet
+  pub len_is : len ≡ length (bytes_of packet)
+  pub copied : after ≡ bytes_of packet ++ drop (length (bytes_of packet)) before
+  pub same : new ≡ old
+
+-- one of its bytes is this
+pub record ReadByte (i at byte : ℕ) (old new : Worked) : Type 0 where
+  pub packet : List Buffer
+  pub there : IsAt old i packet
+  pub within : at < length (bytes_of packet)
+  pub byte_is : byte ≡ slice_index (bytes_of packet) at
+  pub same : new ≡ old
+
+-- in a list of packets there is none at this place, or it has no such byte
+abbrev pub HasNoByte : ℕ → ℕ → List (List Buffer) → Type 0
+HasNoByte i at list = (packet : List Buffer) → slice_get list i ≡ Some packet → length (bytes_of packet) ≤ at
+
+-- in a list of packets a byte of this one was replaced in place: each buffer keeps its number and how many bytes are in it
+pub record SetIn (i at byte : ℕ) (old new : List (List Buffer)) : Type 0 where
+  pub before : List Buffer
+  pub after : List Buffer
+  pub there : slice_get old i ≡ Some before
+  pub within : at < length (bytes_of before)
+  pub bytes : bytes_of after ≡ slice_set (bytes_of before) at byte
+  pub shape : map shape_of after ≡ map shape_of before
+  pub list : new ≡ slice_set old i after
+
+pub record WroteByte (i at byte : ℕ) (old new : Worked) : Type 0 where
+  pub set : SetIn i at byte old.packets new.packets
+  pub stash : new.stash ≡ old.stash
+
+-- it is gone, and its buffers are in the stash again
+pub record Released (i : ℕ) (old new : Worked) : Type 0 where
+  pub packet : List Buffer
+  pub there : IsAt old i packet
+  pub list : new.packets ≡ remove old.packets i
+  pub stash : new.stash ≡ reverse (numbers_of packet) ++ old.stash
+
+-- the packet at this place has more buffers than the stash has room for
+pub record IsCrowded (i : ℕ) (w : Worked) : Type 0 where
+  pub packet : List Buffer
+  pub there : IsAt w i packet
+  pub many : STASH_BUFFERS < length w.stash + length packet
+
+-- so many packets and empty buffers there are
+pub record Counted (packets buffers : ℕ) (old new : Worked) : Type 0 where
+  pub packets_are : packets ≡ length old.packets
+  pub buffers_are : buffers ≡ length old.stash
+  pub same : new ≡ old

@@ -1,0 +1,148 @@
+-- What the exports say of a receive queue's driver and of its device, and of their steps.
+use Rattle.std.specs.Prelude.{◌≡◌, ℕ, ◌+◌, ◌++◌, Bool, true, false, Option, [], ◌∷◌, length}
+use Rattle.buffer_pool.specs.declared.stash.TheConstants.{STASH_BUFFERS}
+use Rattle.ring_model.specs.receive.Lawful.{IsLawfulRxLedger}
+use Rattle.ring_model.specs.shared.Frames.{Bytes, frames}
+use Rattle.ring_model.specs.shared.Handshakes.{is_live, is_on, is_open, is_stopped}
+use Rattle.ring_model.specs.shared.Segments.{piece_of}
+use Rattle.shared_ring.specs.declared.control.Control.{Control}
+use Rattle.shared_ring.specs.declared.events.DriverEvent.TheVariants as driver
+use Rattle.shared_ring.specs.Words.{control_word}
+use Rattle.rx_ring.specs.declared.events.RxDriverOwn.TheVariants.{LoadedQuiet}
+use Rattle.rx_ring.specs.Calls.{GoneOver, IsTold, told_left}
+use Rattle.rx_ring.specs.Ends.{appended, driver_size, driver_state, stored, taken}
+use Rattle.rx_ring.specs.Meeting.{MadeSeats, ledger_of, stored_now}
+use Rattle.driver.specs.declared.rx_driver.TheConstants.{MOST_BATCH}
+use Rattle.driver.specs.Handshake.{AskedEnabling, Finishes}
+use Rattle.driver.specs.receive.Batches.{Batched, IsFilled}
+use Rattle.driver.specs.receive.Receiver.{Receiver, hands}
+use Rattle.driver.specs.receive.Returns.{GaveBack, IsEmptied}
+use Rattle.controller.specs.Handshaking.{TurnedControl}
+use Rattle.controller.specs.Receiving.{Finished, Receiving, WasStored}
+use Rattle.controller.specs.Tallying.{nothing}
+use Rattle.poll82599_c.specs.Held.{Between, Both, Of}
+use Rattle.poll82599_c.specs.batches.Packets.{Worked}
+
+-- A driver and a device of one fresh ring of n descriptors: a batch has so many packets, buffers are filled to so many bytes, and a frame for which too few descriptors are free is dropped or held
+pub record ArePair (n batch fill : ℕ) (drop_en : Bool) (q : Receiver) (d : Receiving) : Type 0 where
+  pub ends : MadeSeats n q.end.table q.end d.end
+  pub no_chain : q.chain ≡ []
+  pub batch_is : q.batch ≡ batch
+  pub fill_is : d.bsize ≡ fill
+  pub drops : d.drop_en ≡ drop_en
+  pub uncounted : d.tally ≡ nothing
+
+abbrev pub AreMade : ℕ → ℕ → ℕ → Bool → Option Receiver → Option Receiving → Type 0
+AreMade n batch fill drop_en = Both (ArePair n batch fill drop_en)
+
+-- both are of one ring
+abbrev pub AreOfOne : Option Receiver → Option Receiving → Type 0
+AreOfOne = Both (λ q d. q.end.table ≡ d.end.table)
+
+-- it is there before and after, and of the same ring
+abbrev pub SameQueue : Option Receiver → Option Receiver → Type 0
+SameQueue = Between (λ old new. new.end.table ≡ old.end.table)
+
+abbrev pub SameDevice : Option Receiving → Option Receiving → Type 0
+SameDevice = Between (λ old new. new.end.table ≡ old.end.table)
+
+-- the records of both are those of one lawful ring: what is taken is a beginning of what is stored
+abbrev pub AreLawful : Option Receiver → Option Receiving → Type 0
+AreLawful = Both (λ q d. IsLawfulRxLedger Bytes (driver_size q.end) (ledger_of q.end d.end))
+
+-- where the head was loaded, what was said to be left is what of the stored is not taken
+abbrev pub AreTold : Option Receiver → Option Receiving → Type 0
+AreTold = Both (λ q d. IsTold (told_left q.end) (length (taken q.end)) (length (stored_now q.end d.end)))
+
+-- it was not seen on, or was seen disabled
+abbrev pub IsNotLive : Option Receiver → Type 0
+IsNotLive = Of (λ q. is_live (driver_state q.end) ≡ false)
+
+-- it was not seen on, or a disabling was asked
+abbrev pub IsNotOn : Option Receiver → Type 0
+IsNotOn = Of (λ q. is_on (driver_state q.end) ≡ false)
+
+-- the disabling was seen answered
+abbrev pub IsStopped : Option Receiver → Type 0
+IsStopped = Of (λ q. is_stopped (driver_state q.end) ≡ true)
+
+abbrev pub IsNotStopped : Option Receiver → Type 0
+IsNotStopped = Of (λ q. is_stopped (driver_state q.end) ≡ false)
+
+-- buffers of it are left, or it was not seen disabled
+abbrev pub IsNotEmptied : Option Receiver → Type 0
+IsNotEmptied = Of (λ q. ¬ IsEmptied q)
+
+-- these are a device's counts, and each frame that was offered was stored, dropped or oversize
+abbrev pub AreCounts : ℕ → ℕ → ℕ → ℕ → Option Receiving → Type 0
+AreCounts offered stored dropped oversize = Of (λ d. (d.tally ≡ record { offered = offered; stored = stored; dropped = dropped; oversize = oversize }) × (offered ≡ stored + dropped + oversize))
+
+-- ---- a driver's calls
+
+-- a batch of so many packets was taken, which are the worker's now, behind the others
+pub record TookBatch (count : ℕ) (old : Receiver) (had : Worked) (new : Receiver) (has : Worked) : Type 0 where
+  pub batch : Batched old.batch MOST_BATCH count (hands old had.stash had.packets) (hands new has.stash has.packets)
+  pub filled : is_open (driver_state old.end) ≡ true → IsFilled new.end has.stash
+  pub same : new.batch ≡ old.batch
+
+-- buffers of a disabled queue came back into the stash
+pub record CameInto (old : Receiver) (had : Worked) (new : Receiver) (has : Worked) : Type 0 where
+  pub back : GaveBack old had.stash new has.stash
+  pub kept : has.packets ≡ had.packets
+
+-- all of them, and so many
+pub record AllCame (count : ℕ) (old : Receiver) (had : Worked) (new : Receiver) (has : Worked) : Type 0 where
+  pub came : CameInto old had new has
+  pub count_is : length has.stash ≡ length had.stash + count
+  pub emptied : IsEmptied new
+
+-- as many as the stash had room for, and some are left
+pub record FilledUp (old : Receiver) (had : Worked) (new : Receiver) (has : Worked) : Type 0 where
+  pub came : CameInto old had new has
+  pub full : length has.stash ≡ STASH_BUFFERS
+  pub some_left : ¬ IsEmptied new
+
+-- An enabling was asked if nothing was asked yet, and the control word loaded; where a disabling is asked nothing was done. Whether the queue is on is answered
+pub record TriedEnabling (on : Bool) (old new : Receiver) : Type 0 where
+  pub asked : is_open (driver_state old.end) ≡ true → AskedEnabling old.end new.end
+  pub shut : is_open (driver_state old.end) ≡ false → new ≡ old
+  pub on_is : on ≡ is_on (driver_state new.end)
+  pub rest : new ≡ record old { end = new.end }
+
+-- C5
+abbrev pub AskedDisable : Receiver → Receiver → Type 0
+AskedDisable old new = new ≡ record old { end = appended old.end driver.AskedDisable }
+
+-- the control word was loaded, and where it showed the disabling answered the head; it is told how many segments were stored and not taken
+pub record TriedFinish (told : Option ℕ) (old new : Receiver) : Type 0 where
+  pub finishes : Finishes told_left old.end told new.end
+  pub rest : new ≡ record old { end = new.end }
+
+-- a queue from which all buffers came back begins a new epoch
+pub record Renewed (old new : Receiver) : Type 0 where
+  pub emptied : IsEmptied old
+  pub begun : GoneOver old.end new.end
+  pub rest : new ≡ record old { end = new.end }
+
+-- C8: the quiet word had this value
+abbrev pub FoundQuiet : ℕ → Receiver → Receiver → Type 0
+FoundQuiet value old new = new ≡ record old { end = appended old.end (driver.Own (LoadedQuiet value)) }
+
+-- ---- a device's calls
+
+-- the frame is stored, whole
+pub record StoredWhole (frame : Bytes) (old new : Receiving) : Type 0 where
+  pub was : WasStored old frame new
+  pub frames_are : frames piece_of (stored new.end) ≡ frames piece_of (stored old.end) ++ frame ∷ []
+
+-- what is asked was loaded, and answered where it may be: the value is the one that was stored, else the one that was loaded
+pub record Turned (value : ℕ) (old new : Receiving) : Type 0 where
+  pub told : Control
+  pub value_is : value ≡ control_word told
+  pub turned : TurnedControl old.end told new.end
+  pub same : new ≡ record old { end = new.end }
+
+-- C7: it was said that no more is stored; or it serves no more, or had said so
+pub record TriedQuiet (did : Bool) (old new : Receiving) : Type 0 where
+  pub finished : Finished old.end did new.end
+  pub same : new ≡ record old { end = new.end }

@@ -1,0 +1,182 @@
+-- What the exports say of a transmit queue's driver and of its device, and of their steps.
+use Rattle.std.specs.Prelude.{◌≡◌, ℕ, ◌+◌, ◌++◌, ◌<◌, Bool, true, false, Option, Some, List, [], ◌∷◌, length, take, drop, map, slice_get}
+use Rattle.buffer_pool.specs.declared.stash.TheConstants.{STASH_BUFFERS}
+use Rattle.buffer_pool.specs.Packed.{bytes_of}
+use Rattle.ring_model.specs.declared.states.Completion.{Completion}
+use Rattle.ring_model.specs.shared.Frames.{Bytes, frames}
+use Rattle.ring_model.specs.shared.Handshakes.{is_live, is_on, is_open, is_stopped}
+use Rattle.ring_model.specs.transmit.Lawful.{IsLawfulTxLedger}
+use Rattle.ring_model.specs.transmit.Ring.{carried, number_of_posting}
+use Rattle.shared_ring.specs.declared.control.Control.{Control}
+use Rattle.shared_ring.specs.declared.events.DriverEvent.TheVariants as driver
+use Rattle.shared_ring.specs.Words.{control_word}
+use Rattle.tx_ring.specs.Calls.{GoneOver}
+use Rattle.tx_ring.specs.Ends.{ControllerSide, appended, driver_size, driver_state, posted, sent}
+use Rattle.tx_ring.specs.Meeting.{IsTold, MadeSeats, ledger_of, sent_now, told_left}
+use Rattle.driver.specs.Handshake.{AskedEnabling, Finishes}
+use Rattle.driver.specs.Reclaiming.{CameBack}
+use Rattle.driver.specs.transmit.Batches.{Batched, CleanedAll, OnlyCleaned}
+use Rattle.driver.specs.transmit.Returns.{IsEmptied}
+use Rattle.driver.specs.transmit.Transmitter.{Transmitter, sending}
+use Rattle.controller.specs.Handshaking.{TurnedControl}
+use Rattle.controller.specs.Transmitting.{WasIdle, WasOff, WasRefused, WasSent}
+use Rattle.poll82599_c.specs.Held.{Between, Both, Of}
+use Rattle.poll82599_c.specs.batches.Packets.{Worked}
+
+-- A driver and a device of one fresh ring of n descriptors that reports so: of so many frames one asks for a report
+pub record ArePair (n every : ℕ) (by : Completion) (q : Transmitter) (d : ControllerSide) : Type 0 where
+  pub ends : MadeSeats n by q.end.table q.end d
+  pub every_is : q.every ≡ every
+  pub uncounted : q.frames ≡ 0
+
+abbrev pub AreMade : ℕ → ℕ → Completion → Option Transmitter → Option ControllerSide → Type 0
+AreMade n every by = Both (ArePair n every by)
+
+-- both are of one ring
+abbrev pub AreOfOne : Option Transmitter → Option ControllerSide → Type 0
+AreOfOne = Both (λ q d. q.end.table ≡ d.table)
+
+-- it is there before and after, and of the same ring
+abbrev pub SameQueue : Option Transmitter → Option Transmitter → Type 0
+SameQueue = Between (λ old new. new.end.table ≡ old.end.table)
+
+abbrev pub SameDevice : Option ControllerSide → Option ControllerSide → Type 0
+SameDevice = Between (λ old new. new.table ≡ old.table)
+
+-- the records of both are those of one lawful ring: what is sent is a beginning of what is posted
+abbrev pub AreLawful : Option Transmitter → Option ControllerSide → Type 0
+AreLawful = Both (λ q d. IsLawfulTxLedger Bytes (driver_size q.end) (ledger_of q.end d))
+
+-- where the head was loaded, what was said to be left is what of the posted is not sent
+abbrev pub AreTold : Option Transmitter → Option ControllerSide → Type 0
+AreTold = Both (λ q d. IsTold (told_left q.end) (length (sent_now q.end d)) (length (posted q.end)))
+
+-- it was not seen on, or was seen disabled
+abbrev pub IsNotLive : Option Transmitter → Type 0
+IsNotLive = Of (λ q. is_live (driver_state q.end) ≡ false)
+
+-- it was not seen on, or a disabling was asked
+abbrev pub IsNotOn : Option Transmitter → Type 0
+IsNotOn = Of (λ q. is_on (driver_state q.end) ≡ false)
+
+-- the disabling was seen answered
+abbrev pub IsStopped : Option Transmitter → Type 0
+IsStopped = Of (λ q. is_stopped (driver_state q.end) ≡ true)
+
+abbrev pub IsNotStopped : Option Transmitter → Type 0
+IsNotStopped = Of (λ q. is_stopped (driver_state q.end) ≡ false)
+
+-- buffers of it are out, or it was not seen disabled
+abbrev pub IsNotEmptied : Option Transmitter → Type 0
+IsNotEmptied = Of (λ q. ¬ IsEmptied q)
+
+-- ---- a driver's calls
+
+-- reported buffers were cleaned into the stash, and then so many of the worker's packets, its oldest, were posted and published, each a frame of its bytes
+pub record PostedBatch (count : ℕ) (old : Transmitter) (had : Worked) (new : Transmitter) (has : Worked) : Type 0 where
+  pub batch : Batched count (sending old had.stash had.packets) (sending new has.stash has.packets)
+  pub frames_are : frames carried (posted new.end) ≡ frames carried (posted old.end) ++ map bytes_of (take count had.packets)
+
+-- the oldest packet is too long for the ring: reported buffers were cleaned alone
+abbrev pub CleanedAlone : Transmitter → Worked → Transmitter → Worked → Type 0
+CleanedAlone old had new has = OnlyCleaned (sending old had.stash had.packets) (sending new has.stash has.packets)
+
+-- so many reported buffers were cleaned into the stash
+pub record CleanedSome (count : ℕ) (old : Transmitter) (had : Worked) (new : Transmitter) (has : Worked) : Type 0 where
+  pub cleaned : CleanedAll old.end had.stash new.end has.stash
+  pub count_is : length has.stash ≡ length had.stash + count
+  pub rest : new ≡ record old { end = new.end }
+  pub kept : has.packets ≡ had.packets
+
+-- buffers of a disabled queue came back into the stash
+pub record CameInto (old : Transmitter) (had : Worked) (new : Transmitter) (has : Worked) : Type 0 where
+  pub back : CameBack number_of_posting old.end had.stash new.end has.stash
+  pub rest : new ≡ record old { end = new.end }
+  pub kept : has.packets ≡ had.packets
+
+-- all of them, and so many
+pub record AllCame (count : ℕ) (old : Transmitter) (had : Worked) (new : Transmitter) (has : Worked) : Type 0 where
+  pub came : CameInto old had new has
+  pub count_is : length has.stash ≡ length had.stash + count
+  pub emptied : IsEmptied new
+
+-- as many as the stash had room for, and some are left
+pub record FilledUp (old : Transmitter) (had : Worked) (new : Transmitter) (has : Worked) : Type 0 where
+  pub came : CameInto old had new has
+  pub full : length has.stash ≡ STASH_BUFFERS
+  pub some_left : ¬ IsEmptied new
+
+-- An enabling was asked if nothing was asked yet, and the control word loaded; where a disabling is asked nothing was done. Whether the queue is on is answered
+pub record TriedEnabling (on : Bool) (old new : Transmitter) : Type 0 where
+  pub asked : is_open (driver_state old.end) ≡ true → AskedEnabling old.end new.end
+  pub shut : is_open (driver_state old.end) ≡ false → new ≡ old
+  pub on_is : on ≡ is_on (driver_state new.end)
+  pub rest : new ≡ record old { end = new.end }
+
+-- C5
+abbrev pub AskedDisable : Transmitter → Transmitter → Type 0
+AskedDisable old new = new ≡ record old { end = appended old.end driver.AskedDisable }
+
+-- the control word was loaded, and where it showed the disabling answered the head; it is told how many segments were posted and not sent
+pub record TriedFinish (told : Option ℕ) (old new : Transmitter) : Type 0 where
+  pub finishes : Finishes told_left old.end told new.end
+  pub rest : new ≡ record old { end = new.end }
+
+-- a queue from which all buffers came back begins a new epoch, and counts its frames anew
+pub record Renewed (old new : Transmitter) : Type 0 where
+  pub emptied : IsEmptied old
+  pub begun : GoneOver old.end new.end
+  pub rest : new ≡ record old { end = new.end; frames = 0 }
+
+-- ---- a device's calls
+
+-- the next frame was sent, one more than before
+pub record SentWhole (frame : Bytes) (old new : ControllerSide) : Type 0 where
+  pub was : WasSent old [] new (frame ∷ [])
+  pub frames_are : frames carried (sent new) ≡ frames carried (sent old) ++ frame ∷ []
+
+-- and its bytes are at the beginning of the room
+pub record SentInto (len : ℕ) (before after : Bytes) (old new : ControllerSide) : Type 0 where
+  pub frame : Bytes
+  pub went : SentWhole frame old new
+  pub len_is : len ≡ length frame
+  pub copied : after ≡ frame ++ drop (length frame) before
+
+-- and it is longer than the room, which is as it was
+pub record SentBeyond (len : ℕ) (before after : Bytes) (old new : ControllerSide) : Type 0 where
+  pub frame : Bytes
+  pub went : SentWhole frame old new
+  pub len_is : len ≡ length frame
+  pub long : length before < length frame
+  pub kept : after ≡ before
+
+-- the first frame of a wire is at the beginning of the room, or is longer than the room
+pub record CopiedFirst (len : ℕ) (wire : List Bytes) (before after : Bytes) : Type 0 where
+  pub frame : Bytes
+  pub first : slice_get wire 0 ≡ Some frame
+  pub len_is : len ≡ length frame
+  pub copied : after ≡ frame ++ drop (length frame) before
+
+pub record IsBeyond (len : ℕ) (wire : List Bytes) (before : Bytes) : Type 0 where
+  pub frame : Bytes
+  pub first : slice_get wire 0 ≡ Some frame
+  pub len_is : len ≡ length frame
+  pub long : length before < length frame
+
+-- a load of the tail showed that nothing is ready
+abbrev pub FoundIdle : ControllerSide → ControllerSide → Type 0
+FoundIdle old new = WasIdle old [] new []
+
+-- it doesn't serve
+abbrev pub FoundOff : ControllerSide → ControllerSide → Type 0
+FoundOff old new = WasOff old [] new []
+
+-- the tail was loaded, a frame is ready, and memory for it was refused: nothing was fetched
+abbrev pub FoundNoMemory : ControllerSide → ControllerSide → Type 0
+FoundNoMemory old new = WasRefused old [] new []
+
+-- what is asked was loaded, and answered where it may be: the value is the one that was stored, else the one that was loaded
+pub record Turned (value : ℕ) (old new : ControllerSide) : Type 0 where
+  pub told : Control
+  pub value_is : value ≡ control_word told
+  pub turned : TurnedControl old told new

@@ -1,0 +1,4 @@
+pub mod Following
+pub mod RxEnds
+pub mod Steps
+pub mod TxEnds

@@ -1,0 +1,35 @@
+-- How far the frame is that an end has begun and not ended, and what may follow in it.
+use Rattle.std.specs.Prelude.{◌≡◌, ℕ, ◌+◌, ◌<◌, ◌≤◌, Bool, true, List, length, Some, slice_get}
+use Rattle.limits.specs.declared.profile.TheConstants.{BUFFER_BYTES, LEAST_FRAME, MOST_FRAME, MOST_SEGMENTS}
+use Rattle.ring_model.specs.shared.Frames.{Piece, join, unfinished}
+use Rattle.ring_model.specs.transmit.Ring.{carried}
+use Rattle.tx_ring.specs.Records.{Posting}
+use Rattle.poll82599_c.specs.declared.rings.begun.Begun.{Begun}
+
+-- the unfinished frame at the end of xs has so many segments, and so many bytes
+pub record IsBegun {X : Type 0} (carries : X → Piece) (xs : List X) (begun : Begun) : Type 0 where
+  pub segments_are : length (unfinished carries xs) ≡ begun.segments
+  pub bytes_are : length (join carries (unfinished carries xs)) ≡ begun.bytes
+
+-- In a ring of n places so many bytes may follow what is begun, and end the frame where eop holds
+pub record CanFollow (n : ℕ) (begun : Begun) (len : ℕ) (eop : Bool) : Type 0 where
+  pub some_bytes : 0 < len
+  pub few_bytes : len ≤ BUFFER_BYTES
+  pub segments : begun.segments < MOST_SEGMENTS
+  pub descriptors : begun.segments + 1 < n
+  pub most : begun.bytes + len ≤ MOST_FRAME
+  pub least : eop ≡ true → LEAST_FRAME ≤ begun.bytes + len
+
+-- It may be posted so: a report is asked for at a frame's end alone, and PAYLEN is the whole frame's length, which its bytes do not pass and at its end reach
+pub record CanPost (n : ℕ) (begun : Begun) (len : ℕ) (eop rs : Bool) (paylen : ℕ) : Type 0 where
+  pub follow : CanFollow n begun len eop
+  pub asks_at_end : rs ≡ true → eop ≡ true
+  pub long_enough : LEAST_FRAME ≤ paylen
+  pub short_enough : paylen ≤ MOST_FRAME
+  pub within : begun.bytes + len ≤ paylen
+  pub whole : eop ≡ true → begun.bytes + len ≡ paylen
+
+-- the unfinished frame of a transmit ring is as far, and each of its descriptors has this PAYLEN
+pub record IsPosting (ps : List Posting) (begun : Begun) (paylen : ℕ) : Type 0 where
+  pub counts : IsBegun carried ps begun
+  pub same : (k : ℕ) (q : Posting) → slice_get (unfinished carried ps) k ≡ Some q → q.paylen ≡ paylen

@@ -1,0 +1,96 @@
+-- What the exports of a receive ring say of the two ends that handles hold, and of their steps.
+use Rattle.std.specs.Prelude.{◌≡◌, ◌≢◌, ℕ, ◌⊎◌, Option, Bool, false, if◌then◌else◌, ◌++◌, length, drop, [], ◌∷◌}
+use Rattle.std.specs.Int.{from_bool}
+use Rattle.atomic_table.specs.Seated.{TableId}
+use Rattle.buffer_pool.specs.Buffer.{Buffer, buffer}
+use Rattle.ring_model.specs.receive.Agreement.{rx_word}
+use Rattle.ring_model.specs.receive.Lawful.{IsLawfulRxLedger}
+use Rattle.ring_model.specs.shared.Frames.{Bytes}
+use Rattle.ring_model.specs.shared.Segments.{piece_of}
+use Rattle.shared_ring.specs.declared.events.DriverEvent.TheVariants as driver
+use Rattle.shared_ring.specs.declared.events.ControllerEvent.TheVariants as controller
+use Rattle.rx_ring.specs.Calls.{FoundFree, IsTold, SawNotDone, TookSegment, told_left}
+use Rattle.rx_ring.specs.declared.events.RxDriverOwn.TheVariants.{LoadedQuiet}
+use Rattle.rx_ring.specs.declared.events.RxControllerOwn.TheVariants.{SaidQuiet, WroteBack}
+use Rattle.rx_ring.specs.Ends.{DriverSide, ControllerSide, answered, appended, driver_size, fill_place, is_between, known_free, reclaimed, serve_place, stored, taken}
+use Rattle.rx_ring.specs.Meeting.{MadeSeats, ledger_of, stored_now}
+use Rattle.poll82599_c.specs.Held.{Both}
+use Rattle.poll82599_c.specs.rings.Following.{IsBegun}
+use Rattle.poll82599_c.specs.declared.rings.begun.Begun.{Begun}
+
+-- both are fresh ends of one ring of n descriptors
+abbrev pub AreMade : ℕ → Option DriverSide → Option ControllerSide → Type 0
+AreMade n = Both (λ d c. MadeSeats n d.table d c)
+
+-- the records of both are those of one lawful ring: what is taken is a beginning of what is stored
+abbrev pub AreLawful : Option DriverSide → Option ControllerSide → Type 0
+AreLawful = Both (λ d c. IsLawfulRxLedger Bytes (driver_size d) (ledger_of d c))
+
+-- where the head was loaded, what was said to be left is what of the stored is not taken
+abbrev pub AreTold : Option DriverSide → Option ControllerSide → Type 0
+AreTold = Both (λ d c. IsTold (told_left d) (length (taken d)) (length (stored_now d c)))
+
+-- ---- a driver's steps
+
+-- A1: an empty buffer is posted at the place where the driver posts next
+pub record PostedOne (old new : DriverSide) : Type 0 where
+  pub buf : Buffer
+  pub step : new ≡ appended old (driver.Posted (fill_place old) 0 buf)
+
+-- A6: one more segment is taken, and its bytes are at the beginning of the room
+pub record TookOne (len eop : ℕ) (before after : Bytes) (old new : DriverSide) : Type 0 where
+  pub buf : Buffer
+  pub ends : Bool
+  pub took : TookSegment old buf ends new
+  pub len_is : len ≡ length buf.bytes
+  pub eop_is : eop ≡ from_bool ends
+  pub copied : after ≡ buf.bytes ++ drop (length buf.bytes) before
+
+-- nothing was taken, and nothing handed out: the next descriptor was loaded and had no DD, or where another number is answered no step was made
+pub record TookNone (answer : ℕ) (before after : Bytes) (old new : DriverSide) : Type 0 where
+  pub loaded : answer ≡ 0 → SawNotDone old new
+  pub still : answer ≢ 0 → new ≡ old
+  pub kept : after ≡ before
+
+-- C8: the quiet word had this value
+abbrev pub FoundQuiet : ℕ → DriverSide → DriverSide → Type 0
+FoundQuiet value old new = new ≡ appended old (driver.Own (LoadedQuiet value))
+
+-- ---- a controller's steps
+
+-- A4 and A5, and where it ends its frame A7: one more segment is stored, of these bytes
+pub record WroteOne (bytes : Bytes) (eop : Bool) (old new : ControllerSide) : Type 0 where
+  pub number : ℕ
+  pub word : ℕ
+  pub written : ControllerSide
+  pub segment : written ≡ answered (answered old (controller.Fetched (serve_place old) word (buffer number []))) (controller.Own (WroteBack (serve_place old) (rx_word (length bytes) eop) (buffer number bytes)))
+  pub head : new ≡ (if eop then answered written (controller.StoredHead (serve_place written)) else written)
+  pub grew : stored new ≡ stored old ++ record { number = number; payload = bytes; eop = eop } ∷ []
+
+-- the same, where a descriptor was known to be free, or a load of the tail (A3) showed one
+pub record StoredOne (bytes : Bytes) (eop : Bool) (old new : ControllerSide) : Type 0 where
+  pub ready : ControllerSide
+  pub knew : (ready ≡ old) ⊎ ((free : ℕ) × FoundFree old free ready)
+  pub wrote : WroteOne bytes eop ready new
+  pub grew : stored new ≡ stored old ++ record { number = wrote.number; payload = bytes; eop = eop } ∷ []
+
+-- none was known to be free, and a load of the tail (A3) showed none
+pub record FoundNoneFree (old new : ControllerSide) : Type 0 where
+  pub few_known : known_free old ≡ 0
+  pub looked : FoundFree old 0 new
+
+-- C7
+abbrev pub SaidNoMore : ControllerSide → ControllerSide → Type 0
+SaidNoMore old new = new ≡ answered old (controller.Own SaidQuiet)
+
+-- ---- what the objects behind the handles keep
+
+-- the end is of the object's ring, and of a frame that is begun so many segments and bytes are stored
+pub record IsServing (ring : TableId) (c : ControllerSide) (begun : Begun) : Type 0 where
+  pub own : c.table ≡ ring
+  pub begun_is : is_between c ≡ false → IsBegun piece_of (stored c) begun
+
+-- the end is of the object's ring, and unless it was said that buffers were reclaimed in this epoch, none was
+pub record IsDriving (ring : TableId) (d : DriverSide) (reclaiming : Bool) : Type 0 where
+  pub own : d.table ≡ ring
+  pub none_back : reclaiming ≡ false → reclaimed d ≡ 0

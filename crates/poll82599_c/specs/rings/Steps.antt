@@ -1,0 +1,55 @@
+-- What the exports of both kinds of rings say alike of the two ends that handles hold, and of their steps.
+use Rattle.std.specs.Prelude.{◌≡◌, ℕ, Option}
+use Rattle.buffer_pool.specs.Buffer.{Buffer}
+use Rattle.shared_ring.specs.declared.events.DriverEvent.TheVariants as driver
+use Rattle.shared_ring.specs.declared.events.ControllerEvent.TheVariants as controller
+use Rattle.shared_ring.specs.Calls.{Answered}
+use Rattle.shared_ring.specs.Ends.{ControllerSide, DriverSide, answered, appended, fill_place, next_place}
+use Rattle.shared_ring.specs.Forms.{Form}
+use Rattle.poll82599_c.specs.Held.{Between, Both}
+
+module _ {Ring Posted Served Given D C : Type 0} {form : Form Ring Posted Served Given D C} where
+  -- both are ends of one ring
+  abbrev pub AreOfOne : Option (DriverSide form) → Option (ControllerSide form) → Type 0
+  AreOfOne = Both (λ d c. d.table ≡ c.table)
+
+  -- the end is there before and after, and of the same ring
+  abbrev pub SameDriven : Option (DriverSide form) → Option (DriverSide form) → Type 0
+  SameDriven = Between (λ old new. new.table ≡ old.table)
+
+  abbrev pub SameServed : Option (ControllerSide form) → Option (ControllerSide form) → Type 0
+  SameServed = Between (λ old new. new.table ≡ old.table)
+
+  -- ---- a driver's steps
+
+  -- A2, B2
+  abbrev pub PublishedAll : DriverSide form → DriverSide form → Type 0
+  PublishedAll old new = new ≡ appended old (driver.Published (fill_place old))
+
+  -- C1 and C5
+  abbrev pub AskedEnable : DriverSide form → DriverSide form → Type 0
+  AskedEnable old new = new ≡ appended old driver.AskedEnable
+
+  abbrev pub AskedDisable : DriverSide form → DriverSide form → Type 0
+  AskedDisable old new = new ≡ appended old driver.AskedDisable
+
+  -- C4: the control word had this value
+  abbrev pub LoadedControl : ℕ → DriverSide form → DriverSide form → Type 0
+  LoadedControl value old new = new ≡ appended old (driver.LoadedControl value)
+
+  -- C6: the oldest buffer that was out is back
+  pub record ReclaimedOne (old new : DriverSide form) : Type 0 where
+    pub buf : Buffer
+    pub step : new ≡ appended old (driver.Reclaimed (next_place old) buf)
+
+  -- ---- a controller's steps
+
+  -- C2: what is asked was loaded, and not answered
+  pub record LookedAsked (old new : ControllerSide form) : Type 0 where
+    pub value : ℕ
+    pub step : new ≡ answered old (controller.LoadedRequest value)
+
+  -- C2 and C3: it was loaded, and answered
+  pub record AnsweredAsked (old new : ControllerSide form) : Type 0 where
+    pub value : ℕ
+    pub step : Answered (answered old (controller.LoadedRequest value)) new

@@ -1,0 +1,199 @@
+//! A worker's buffers: those that are empty, and the packets that it has.
+ghost use Rattle.std.specs.Prelude.{◌≡◌, ◌≢◌, ◌+◌, ◌*◌, ◌<◌, ◌≤◌, ◌++◌, ◌⊎◌, true, false, [], length, reverse, Some, IfErr, IfOk};
+ghost use Rattle.poll82599_c.specs.Handles.{as_packets};
+ghost use Rattle.buffer_pool.specs.declared.stash.TheConstants.{STASH_BUFFERS};
+ghost use Rattle.limits.specs.declared.profile.TheConstants.{BUFFER_BYTES, MOST_SEGMENTS};
+ghost use Rattle.ring_model.specs.shared.Frames.{HasFrameLength};
+ghost use Rattle.poll82599_c.specs.batches.Packets.{CopiedOut, HasNoByte, HasNoPlace, IsAbsent, IsCrowded, IsMade, IsTooShort, Packed, Pushed, PutFrame, ReadByte, Released, SetIn, WroteByte, numbers_of};
+
+use crate::batches::found::Found;
+use crate::end::End;
+use crate::makings::{Unmade, boxed, stash_of};
+use arrayvec::ArrayVec;
+use buffer_pool::{Packet, STASH_BUFFERS, Stash};
+use driver::MOST_BATCH;
+use limits::{BUFFER_BYTES, LEAST_FRAME, MOST_FRAME};
+use std::alloc::Global;
+use std::marker::Model;
+
+/// The empty buffers of a worker, and up to 32 packets.
+#[derive(Drop)]
+pub struct Packets {
+    pub(crate) stash: Stash,
+    pub(crate) list: ArrayVec<Packet, MOST_BATCH>,
+}
+
+impl Model for Packets {
+    ghost use Rattle.std.specs.Prelude.{All};
+    ghost use Rattle.buffer_pool.specs.Packed.{IsPacket};
+    ghost use Rattle.poll82599_c.specs.batches.Packets.{Worked};
+
+    ghost Value = { Worked };
+
+    ghost view = { λ p. record { stash = p.stash; packets = p.list.items } };
+
+    ghost invariant = { λ p. All IsPacket p.list.items };
+}
+
+impl Packets {
+    /// These buffers, and no packet.
+    pub(crate) fn of(stash: Stash) -> Packets
+        ensures stash { result.stash ≡ stash }
+        ensures none { result.packets ≡ [] }
+    {
+        Packets {
+            stash,
+            list: ArrayVec::new(),
+        }
+    }
+
+    /// Makes a packet of these bytes, behind the others: 1; 0 where there are 32, or too few empty buffers; 2 where no frame
+    /// has so many bytes.
+    pub(crate) fn put(&mut self, frame: &[u8]) -> u32
+        ensures step { (result ≡ 1) → PutFrame frame.now self.old self.new }
+        ensures refused { (result ≡ 2) → ¬ HasFrameLength frame.now }
+        ensures full { (result ≡ 0) → HasNoPlace frame.now self.old }
+        ensures answers { result ≤ 2 }
+        ensures kept { (result ≢ 1) → self.new ≡ self.old }
+    {
+        if frame.len() < LEAST_FRAME || MOST_FRAME < frame.len() {
+            return 2;
+        }
+        if self.list.is_full() || BUFFER_BYTES * self.stash.len() < frame.len() {
+            return 0;
+        }
+        self.list.push(packed(&mut self.stash, frame));
+        1
+    }
+
+    /// Copies packet `i`, counted from 0, into a room: 1; 0 where there is no such packet; 4 where the room is too small. With 1
+    /// and 4 it says the packet's length.
+    pub(crate) fn copy(&self, i: usize, room: &mut [u8]) -> Found
+        ensures step { (result.answer ≡ 1) → CopiedOut i result.count room.old room.new self.now self.now }
+        ensures short { (result.answer ≡ 4) → IsTooShort i result.count room.old self.now }
+        ensures absent { (result.answer ≡ 0) → IsAbsent i self.now }
+        ensures kept { (result.answer ≢ 1) → room.new ≡ room.old }
+    {
+        match self.list.as_slice().get(i) {
+            None => Found::nothing(0),
+            Some(packet) if room.len() < packet.len() => Found {
+                answer: 4,
+                count: packet.len(),
+            },
+            Some(packet) => {
+                packet.copy_to(room);
+                Found {
+                    answer: 1,
+                    count: packet.len(),
+                }
+            }
+        }
+    }
+
+    /// Reads a byte of packet `i`: 1, and the byte; 0 where there is no such packet or byte.
+    pub(crate) fn byte(&self, i: usize, at: usize) -> (u32, u8)
+        ensures step { (result.0 ≡ 1) → ReadByte i at result.1 self.now self.now }
+        ensures absent { (result.0 ≢ 1) → HasNoByte i at self.now.packets }
+    {
+        match self.list.as_slice().get(i) {
+            Some(packet) if at < packet.len() => (1, packet.byte(at)),
+            _ => (0, 0),
+        }
+    }
+
+    /// Puts a byte into packet `i`, in place of the one that stood there: 1; 0 where there is no such packet or byte.
+    pub(crate) fn touch(&mut self, i: usize, at: usize, byte: u8) -> u32
+        ensures step { (result ≡ 1) → WroteByte i at byte self.old self.new }
+        ensures absent { (result ≢ 1) → HasNoByte i at self.old.packets }
+        ensures kept { (result ≢ 1) → self.new ≡ self.old }
+    {
+        if set_in(self.list.as_mut_slice(), i, at, byte) {
+            return 1;
+        }
+        0
+    }
+
+    /// Lets packet `i` go, and has its buffers in the stash again: 1; 0 where there is no such packet; 2 where the stash has no
+    /// room for them.
+    pub(crate) fn release(&mut self, i: usize) -> u32
+        ensures step { (result ≡ 1) → Released i self.old self.new }
+        ensures absent { (result ≡ 0) → IsAbsent i self.old }
+        ensures crowded { (result ≡ 2) → IsCrowded i self.old }
+        ensures answers { result ≤ 2 }
+        ensures kept { (result ≢ 1) → self.new ≡ self.old }
+    {
+        if self.list.len() <= i {
+            return 0;
+        }
+        if STASH_BUFFERS - self.stash.len() < self.list.as_slice()[i].segments() {
+            return 2;
+        }
+        let packet = self.list.remove(i);
+        emptied(packet, &mut self.stash);
+        1
+    }
+}
+
+/// A worker's packets: none, and so many empty buffers.
+pub(crate) fn make(alloc: Global, buffers: u32) -> Result<Box<End>, Unmade>
+    ensures made { IfOk result (λ p. IsMade buffers (as_packets (Some p.value))) }
+    ensures refusals { IfErr result (λ e. (e ≡ Unmade.Buffers) ⊎ (e ≡ Unmade.Memory)) }
+    ensures buffers { IfErr result (λ e. e ≡ Unmade.Buffers → (buffers < 16) ⊎ (256 < buffers)) }
+{
+    boxed(alloc, End::Packets(Packets::of(stash_of(alloc, buffers)?)))
+}
+
+/// A packet of these bytes, in buffers of the stash.
+fn packed(stash: &mut Stash, frame: &[u8]) -> Packet
+    requires frame { HasFrameLength frame.now }
+    requires enough { length frame.now ≤ BUFFER_BYTES * length stash.old }
+    ensures { Packed frame.now stash.old result stash.new }
+{
+    let mut packet = Packet::default();
+    let mut rest = frame;
+    while BUFFER_BYTES < rest.len() {
+        let (piece, more) = rest.split_at(BUFFER_BYTES);
+        push_piece(&mut packet, stash, piece);
+        rest = more;
+    }
+    push_piece(&mut packet, stash, rest);
+    packet
+}
+
+/// Puts some bytes behind those of a packet, in a buffer of the stash.
+fn push_piece(packet: &mut Packet, stash: &mut Stash, bytes: &[u8])
+    requires some_bytes { 0 < length bytes.now }
+    requires few_bytes { length bytes.now ≤ BUFFER_BYTES }
+    requires few { length packet.old < MOST_SEGMENTS }
+    requires stash { 0 < length stash.old }
+    ensures { Pushed bytes.now packet.old stash.old packet.new stash.new }
+{
+    let Some(mut buf) = stash.take() else {
+        unreachable!()
+    };
+    buf.fill(bytes);
+    packet.push_back(buf);
+}
+
+/// Puts a byte into one of these packets, if there are such a packet and byte, and answers whether.
+fn set_in(packets: &mut [Packet], i: usize, at: usize, byte: u8) -> bool
+    ensures step { result ≡ true → SetIn i at byte packets.old packets.new }
+    ensures absent { result ≡ false → HasNoByte i at packets.old }
+    ensures kept { result ≡ false → packets.new ≡ packets.old }
+{
+    if packets.len() <= i || packets[i].len() <= at {
+        return false;
+    }
+    packets[i].set_byte(at, byte);
+    true
+}
+
+/// Moves a packet's buffers into a stash that has room for them.
+fn emptied(mut packet: Packet, stash: &mut Stash)
+    requires { length packet + length stash.old ≤ STASH_BUFFERS }
+    ensures { stash.new ≡ reverse (numbers_of packet) ++ stash.old }
+{
+    while let Some(buf) = packet.pop_front() {
+        stash.push(buf);
+    }
+}

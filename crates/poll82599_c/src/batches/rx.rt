@@ -1,0 +1,210 @@
+//! The exports of a receive queue.
+ghost use Rattle.std.specs.Prelude.{◌≡◌, ◌≢◌, ◌<◌, ◌≤◌, ◌⊎◌, true, false, Some, None, IsSome, pos};
+ghost use Rattle.limits.specs.RingLength.{IsRingLength};
+ghost use Rattle.controller.specs.FillSize.{IsFillSize};
+ghost use Rattle.controller.specs.Receiving.{WasDropped, WasHeld, WasOff, WasOversize, WasRefused};
+ghost use Rattle.opaque.specs.Words.{is_set};
+ghost use Rattle.poll82599_c.specs.Handles.{as_packets, as_rx_device, as_rx_queue};
+ghost use Rattle.poll82599_c.specs.Held.{Among, Between};
+ghost use Rattle.poll82599_c.specs.batches.Receiving.{AllCame, AreCounts, AreLawful, AreMade, AreOfOne, AreTold, AskedDisable, FilledUp, FoundQuiet, IsNotEmptied, IsNotLive, IsNotOn, IsNotStopped, IsStopped};
+ghost use Rattle.poll82599_c.specs.batches.Receiving.{Renewed, SameDevice, SameQueue, StoredWhole, TookBatch, TriedEnabling, TriedFinish, TriedQuiet, Turned};
+
+use crate::batches::rx_making::{make, unmake};
+use crate::call::{NO_OPERATION, Poll82599Device, Poll82599Queue};
+use crate::end::End;
+use crate::handle::Handle;
+use opaque::is_set;
+use std::alloc::Global;
+
+/// Makes a receive queue of so many descriptors, whose driver takes up to `batch` packets at once, and whose device fills buffers to
+/// `fill` bytes and drops a frame for which too few descriptors are free, or where `drop_en` is 0 holds it: 0; 1 where the length is
+/// no power of two from 8 to 4,096; 2 where memory was refused; 4 where a batch has not 1 to 32 packets, or buffers are not filled to
+/// 1,024 or 2,048 bytes. Only 0 changes the handles, which must hold nothing.
+#[unsafe(no_mangle)]
+pub extern "C" fn poll82599_rx_queue_new(
+    alloc: Global,
+    descriptors: u32,
+    batch: usize,
+    fill: usize,
+    drop_en: u32,
+    queue: &mut Handle,
+    device: &mut Handle,
+) -> i32
+    ensures made { (result ≡ pos 0) → AreMade descriptors batch fill (is_set drop_en) (as_rx_queue queue.new.held) (as_rx_device device.new.held) }
+    ensures length { (result ≡ pos 1) → ¬ IsRingLength descriptors }
+    ensures settings { (result ≡ pos 4) → ((batch ≡ 0) ⊎ (32 < batch)) ⊎ ¬ IsFillSize fill }
+    ensures buffers { result ≢ pos 3 }
+    ensures queue { (result ≢ pos 0) → queue.new ≡ queue.old }
+    ensures device { (result ≢ pos 0) → device.new ≡ device.old }
+{
+    match make(alloc, descriptors, batch, fill, is_set(drop_en)) {
+        Ok((driving, serving)) => {
+            queue.put(driving);
+            device.put(serving);
+            0
+        }
+        Err(why) => why.number(),
+    }
+}
+
+/// Moves buffers between a receive queue and a worker: 0 takes a batch of packets and posts empty buffers, and 1 has the buffers of
+/// a disabled queue in the stash again.
+#[unsafe(no_mangle)]
+pub extern "C" fn poll82599_rx_queue_move(
+    alloc: Global,
+    queue: &mut Handle,
+    packets: &mut Handle,
+    call: &mut Poll82599Queue,
+)
+    requires queue { IsSome queue.old.held }
+    requires packets { IsSome packets.old.held }
+    ensures other { (as_rx_queue queue.old.held ≡ None) ⊎ (as_packets packets.old.held ≡ None) → call.new.answer ≡ 4294967295 }
+    ensures other_queue { (as_rx_queue queue.old.held ≡ None) ⊎ (as_packets packets.old.held ≡ None) → queue.new.held ≡ queue.old.held }
+    ensures other_packets { (as_rx_queue queue.old.held ≡ None) ⊎ (as_packets packets.old.held ≡ None) → packets.new.held ≡ packets.old.held }
+    ensures own { SameQueue (as_rx_queue queue.old.held) (as_rx_queue queue.new.held) }
+    ensures answers { (call.old.operation ≡ 1) → IsSome (as_rx_queue queue.old.held) → IsSome (as_packets packets.old.held) → call.new.answer ≤ 2 }
+    ensures batch { (call.old.operation ≡ 0) → (call.new.answer ≡ 1)
+        → Among (TookBatch call.new.count) (as_rx_queue queue.old.held) (as_packets packets.old.held) (as_rx_queue queue.new.held) (as_packets packets.new.held) }
+    ensures off { (call.old.operation ≡ 0) → (call.new.answer ≢ 1) → IsSome (as_rx_queue queue.old.held) → IsSome (as_packets packets.old.held) → IsNotLive (as_rx_queue queue.old.held) }
+    ensures back { (call.old.operation ≡ 1) → (call.new.answer ≡ 1)
+        → Among (AllCame call.new.count) (as_rx_queue queue.old.held) (as_packets packets.old.held) (as_rx_queue queue.new.held) (as_packets packets.new.held) }
+    ensures full { (call.old.operation ≡ 1) → (call.new.answer ≡ 0) → Among FilledUp (as_rx_queue queue.old.held) (as_packets packets.old.held) (as_rx_queue queue.new.held) (as_packets packets.new.held) }
+    ensures waits { (call.old.operation ≡ 1) → (call.new.answer ≡ 2) → IsNotStopped (as_rx_queue queue.old.held) }
+    ensures queue { (call.old.operation ≢ 1) → (call.new.answer ≢ 1) → queue.new.held ≡ queue.old.held }
+    ensures packets { (call.old.operation ≢ 1) → (call.new.answer ≢ 1) → packets.new.held ≡ packets.old.held }
+    ensures queue_waits { (call.old.operation ≡ 1) → (call.new.answer ≡ 2) → queue.new.held ≡ queue.old.held }
+    ensures packets_wait { (call.old.operation ≡ 1) → (call.new.answer ≡ 2) → packets.new.held ≡ packets.old.held }
+{
+    let mut end = queue.take(alloc);
+    let mut worker = packets.take(alloc);
+    call.answer = match (&mut *end, &mut *worker) {
+        (End::RxQueue(driving), End::Packets(held)) => match call.operation {
+            0 => {
+                let found = driving.batch(held);
+                call.count = found.count;
+                found.answer
+            }
+            1 => {
+                let found = driving.reclaim(held);
+                call.count = found.count;
+                found.answer
+            }
+            _ => NO_OPERATION,
+        },
+        _ => NO_OPERATION,
+    };
+    queue.put(end);
+    packets.put(worker);
+}
+
+/// Makes a driver's step: 0 asks for the queue to be enabled and loads the control word, 1 asks for it to be disabled, 2 looks whether
+/// that is answered and how many segments are left, 3 renews a disabled queue, and 4 loads the quiet word.
+#[unsafe(no_mangle)]
+pub extern "C" fn poll82599_rx_queue_do(
+    alloc: Global,
+    queue: &mut Handle,
+    call: &mut Poll82599Queue,
+)
+    requires { IsSome queue.old.held }
+    ensures other { as_rx_queue queue.old.held ≡ None → (call.new.answer ≡ 4294967295) × (queue.new.held ≡ queue.old.held) }
+    ensures own { SameQueue (as_rx_queue queue.old.held) (as_rx_queue queue.new.held) }
+    ensures answers { (call.old.operation ≡ 0) → IsSome (as_rx_queue queue.old.held) → call.new.answer ≤ 2 }
+    ensures on { (call.old.operation ≡ 0) → (call.new.answer ≡ 1) → Between (TriedEnabling true) (as_rx_queue queue.old.held) (as_rx_queue queue.new.held) }
+    ensures waits { (call.old.operation ≡ 0) → (call.new.answer ≡ 0) → Between (TriedEnabling false) (as_rx_queue queue.old.held) (as_rx_queue queue.new.held) }
+    ensures stopped { (call.old.operation ≡ 0) → (call.new.answer ≡ 2) → IsStopped (as_rx_queue queue.old.held) }
+    ensures unrenewed { (call.old.operation ≡ 0) → (call.new.answer ≡ 2) → queue.new.held ≡ queue.old.held }
+    ensures asked { (call.old.operation ≡ 1) → (call.new.answer ≡ 1) → Between AskedDisable (as_rx_queue queue.old.held) (as_rx_queue queue.new.held) }
+    ensures unasked { (call.old.operation ≡ 1) → (call.new.answer ≢ 1) → IsNotOn (as_rx_queue queue.old.held) }
+    ensures finished { (call.old.operation ≡ 2) → (call.new.answer ≡ 1) → Between (TriedFinish (Some call.new.count)) (as_rx_queue queue.old.held) (as_rx_queue queue.new.held) }
+    ensures unfinished { (call.old.operation ≡ 2) → (call.new.answer ≢ 1) → Between (TriedFinish None) (as_rx_queue queue.old.held) (as_rx_queue queue.new.held) }
+    ensures renewed { (call.old.operation ≡ 3) → (call.new.answer ≡ 1) → Between Renewed (as_rx_queue queue.old.held) (as_rx_queue queue.new.held) }
+    ensures left { (call.old.operation ≡ 3) → (call.new.answer ≢ 1) → IsNotEmptied (as_rx_queue queue.old.held) }
+    ensures quiet { (call.old.operation ≡ 4) → Between (FoundQuiet call.new.answer) (as_rx_queue queue.old.held) (as_rx_queue queue.new.held) }
+    ensures kept { (call.old.operation ≢ 0) → (call.old.operation ≢ 2) → (call.old.operation ≢ 4) → (call.new.answer ≢ 1) → queue.new.held ≡ queue.old.held }
+{
+    let mut end = queue.take(alloc);
+    call.answer = match &mut *end {
+        End::RxQueue(driving) => match call.operation {
+            0 => driving.enable(),
+            1 => driving.ask_disable(),
+            2 => {
+                let found = driving.finish_disable();
+                call.count = found.count;
+                found.answer
+            }
+            3 => driving.renew(),
+            4 => driving.is_quiet(),
+            _ => NO_OPERATION,
+        },
+        _ => NO_OPERATION,
+    };
+    queue.put(end);
+}
+
+/// Makes a device's step: 0 offers a frame, 1 loads what the driver asks and answers it where it may, 2 says that no more is stored,
+/// and 3 hands out how many frames were offered and what became of them.
+#[unsafe(no_mangle)]
+pub extern "C" fn poll82599_rx_device_do(
+    alloc: Global,
+    device: &mut Handle,
+    call: &mut Poll82599Device,
+    frame: &[u8],
+)
+    requires { IsSome device.old.held }
+    ensures other { as_rx_device device.old.held ≡ None → (call.new.answer ≡ 4294967295) × (device.new.held ≡ device.old.held) }
+    ensures own { SameDevice (as_rx_device device.old.held) (as_rx_device device.new.held) }
+    ensures answers { (call.old.operation ≡ 0) → IsSome (as_rx_device device.old.held) → call.new.answer ≤ 5 }
+    ensures stored { (call.old.operation ≡ 0) → (call.new.answer ≡ 1) → Between (StoredWhole frame.now) (as_rx_device device.old.held) (as_rx_device device.new.held) }
+    ensures held { (call.old.operation ≡ 0) → (call.new.answer ≡ 0) → Between (λ old new. WasHeld old frame.now new) (as_rx_device device.old.held) (as_rx_device device.new.held) }
+    ensures length { (call.old.operation ≡ 0) → (call.new.answer ≡ 2) → Between (λ old new. WasRefused old frame.now new) (as_rx_device device.old.held) (as_rx_device device.new.held) }
+    ensures off { (call.old.operation ≡ 0) → (call.new.answer ≡ 3) → Between (λ old new. WasOff old frame.now new) (as_rx_device device.old.held) (as_rx_device device.new.held) }
+    ensures oversize { (call.old.operation ≡ 0) → (call.new.answer ≡ 4) → Between (λ old new. WasOversize old frame.now new) (as_rx_device device.old.held) (as_rx_device device.new.held) }
+    ensures dropped { (call.old.operation ≡ 0) → (call.new.answer ≡ 5) → Between (λ old new. WasDropped old frame.now new) (as_rx_device device.old.held) (as_rx_device device.new.held) }
+    ensures turned { (call.old.operation ≡ 1) → Between (Turned call.new.answer) (as_rx_device device.old.held) (as_rx_device device.new.held) }
+    ensures quiet { (call.old.operation ≡ 2) → (call.new.answer ≡ 1) → Between (TriedQuiet true) (as_rx_device device.old.held) (as_rx_device device.new.held) }
+    ensures over { (call.old.operation ≡ 2) → (call.new.answer ≢ 1) → Between (TriedQuiet false) (as_rx_device device.old.held) (as_rx_device device.new.held) }
+    ensures told { (call.old.operation ≡ 3) → AreCounts call.new.offered call.new.stored call.new.dropped call.new.oversize (as_rx_device device.old.held) }
+    ensures kept { (call.old.operation ≢ 0) → (call.old.operation ≢ 1) → (call.old.operation ≢ 2) → device.new.held ≡ device.old.held }
+{
+    let mut end = device.take(alloc);
+    call.answer = match &mut *end {
+        End::RxDevice(serving) => match call.operation {
+            0 => serving.offer(frame),
+            1 => serving.turn_control(),
+            2 => serving.finish(),
+            3 => {
+                let tally = serving.tally();
+                call.offered = tally.offered;
+                call.stored = tally.stored;
+                call.dropped = tally.dropped;
+                call.oversize = tally.oversize;
+                1
+            }
+            _ => NO_OPERATION,
+        },
+        _ => NO_OPERATION,
+    };
+    device.put(end);
+}
+
+/// Closes a receive queue by its driver and its device: how many buffers lay in its ring, or -1 where another owner of the ring is
+/// left.
+#[unsafe(no_mangle)]
+pub extern "C" fn poll82599_rx_queue_close(
+    alloc: Global,
+    queue: &mut Handle,
+    device: &mut Handle,
+) -> i64
+    requires { AreOfOne (as_rx_queue queue.old.held) (as_rx_device device.old.held) }
+    ensures lawful { AreLawful (as_rx_queue queue.old.held) (as_rx_device device.old.held) }
+    ensures told { AreTold (as_rx_queue queue.old.held) (as_rx_device device.old.held) }
+    ensures queue { queue.new.held ≡ None }
+    ensures device { device.new.held ≡ None }
+{
+    let queue = Box::into_inner(queue.take(alloc)).rx_queue();
+    let device = Box::into_inner(device.take(alloc)).rx_device();
+    match queue.zip(device) {
+        Some((driving, serving)) => unmake(driving, serving),
+        None => -1,
+    }
+}

@@ -1,0 +1,62 @@
+//! The making of a receive queue with its driver and its device, and its closing.
+ghost use Rattle.std.specs.Prelude.{◌≡◌, ◌≢◌, ◌<◌, ◌⊎◌, Some, IfErr, IfOk, length};
+ghost use Rattle.limits.specs.RingLength.{IsRingLength};
+ghost use Rattle.ring_model.specs.receive.Lawful.{IsLawfulRxLedger};
+ghost use Rattle.ring_model.specs.shared.Frames.{Bytes};
+ghost use Rattle.rx_ring.specs.Calls.{IsTold, told_left};
+ghost use Rattle.rx_ring.specs.Ends.{driver_size, taken};
+ghost use Rattle.rx_ring.specs.Meeting.{ledger_of, stored_now};
+ghost use Rattle.controller.specs.FillSize.{IsFillSize};
+ghost use Rattle.poll82599_c.specs.batches.Receiving.{AreMade};
+ghost use Rattle.poll82599_c.specs.Handles.{as_rx_device, as_rx_queue};
+
+use crate::batches::rx_device::RxDevice;
+use crate::batches::rx_queue::RxQueue;
+use crate::end::End;
+use crate::makings::{Unmade, both_boxed, rx_close, rx_halves};
+use controller::{RxController, is_fill_size};
+use driver::{MOST_BATCH, RxDriver};
+use std::alloc::Global;
+
+/// A ring of so many descriptors, a driver that takes up to `batch` packets at once, and a device that fills buffers to `fill`
+/// bytes, and drops or holds a frame for which too few descriptors are free.
+pub(crate) fn make(
+    alloc: Global,
+    ring: u32,
+    batch: usize,
+    fill: usize,
+    drop_en: bool,
+) -> Result<(Box<End>, Box<End>), Unmade>
+    ensures made { IfOk result (λ r. AreMade ring batch fill drop_en (as_rx_queue (Some r.0.value)) (as_rx_device (Some r.1.value))) }
+    ensures length { IfErr result (λ e. e ≡ Unmade.Length → ¬ IsRingLength ring) }
+    ensures settings { IfErr result (λ e. e ≡ Unmade.Settings → ((batch ≡ 0) ⊎ (32 < batch)) ⊎ ¬ IsFillSize fill) }
+    ensures refusals { IfErr result (λ e. e ≢ Unmade.Buffers) }
+{
+    if batch == 0 || MOST_BATCH < batch || !is_fill_size(fill) {
+        return Err(Unmade::Settings);
+    }
+    let ((ring, driver), (other, controller)) = rx_halves(alloc, ring)?;
+    let queue = RxQueue {
+        ring,
+        driver: RxDriver::new(driver, batch),
+    };
+    let device = RxDevice {
+        ring: other,
+        controller: RxController::new(controller, fill, drop_en),
+    };
+    both_boxed(alloc, End::RxQueue(queue), End::RxDevice(device))
+}
+
+/// Closes a receive queue: how many buffers lay in its ring, or -1 where another owner of the ring is left.
+pub(crate) fn unmake(queue: RxQueue, device: RxDevice) -> i64
+    requires { queue.end.table ≡ device.end.table }
+    ensures lawful { IsLawfulRxLedger Bytes (driver_size queue.end) (ledger_of queue.end device.end) }
+    ensures told { IsTold (told_left queue.end) (length (taken queue.end)) (length (stored_now queue.end device.end)) }
+{
+    let (end, chain) = queue.driver.into_end();
+    drop(chain);
+    rx_close(
+        (queue.ring, end),
+        (device.ring, device.controller.into_end()),
+    )
+}

@@ -1,0 +1,141 @@
+//! The driver of a receive queue, and the ring that it shares.
+ghost use Rattle.std.specs.Prelude.{◌≡◌, ◌≢◌, ◌≤◌, true, false, Some, None};
+ghost use Rattle.ring_model.specs.shared.Handshakes.{is_live, is_on, is_stopped};
+ghost use Rattle.rx_ring.specs.Ends.{driver_state};
+ghost use Rattle.driver.specs.receive.Returns.{IsEmptied};
+ghost use Rattle.poll82599_c.specs.batches.Receiving.{AllCame, AskedDisable, FilledUp, FoundQuiet, Renewed, TookBatch, TriedEnabling, TriedFinish};
+
+use crate::batches::found::Found;
+use crate::batches::packets::Packets;
+use driver::RxDriver;
+use rx_ring::RxRing;
+use std::alloc::Global;
+use std::marker::Model;
+use std::sync::Arc;
+
+/// What a thread has that drives a receive queue in batches.
+#[derive(Drop)]
+pub struct RxQueue {
+    pub(crate) ring: Arc<RxRing, Global>,
+    pub(crate) driver: RxDriver,
+}
+
+impl Model for RxQueue {
+    ghost use Rattle.std.specs.Prelude.{◌≡◌};
+    ghost use Rattle.std.specs.Arc.{arc_value};
+    ghost use Rattle.driver.specs.receive.Receiver.{Receiver};
+
+    ghost Value = { Receiver };
+
+    ghost view = { λ q. q.driver };
+
+    ghost invariant = { λ q. q.driver.end.table ≡ arc_value q.ring };
+}
+
+impl RxQueue {
+    /// Takes the packets that are done, up to a batch of them and as many as the worker has room for, and posts empty buffers
+    /// of its stash: 1, and how many packets these were; 0 where the queue was not seen enabled, or was seen disabled.
+    pub(crate) fn batch(&mut self, packets: &mut Packets) -> Found
+        ensures own { self.new.end.table ≡ self.old.end.table }
+        ensures step { (result.answer ≡ 1) → TookBatch result.count self.old packets.old self.new packets.new }
+        ensures off { (result.answer ≢ 1) → is_live (driver_state self.old.end) ≡ false }
+        ensures queue { (result.answer ≢ 1) → self.new ≡ self.old }
+        ensures kept { (result.answer ≢ 1) → packets.new ≡ packets.old }
+    {
+        match self
+            .driver
+            .rx_batch(&self.ring, &mut packets.stash, &mut packets.list)
+        {
+            Ok(count) => Found { answer: 1, count },
+            Err(_) => Found::nothing(0),
+        }
+    }
+
+    /// Has the buffers of a disabled queue in the stash again: 1, and how many these were; 0 where the stash has no room for all,
+    /// and as many came as fit; 2 where no disabling was seen answered.
+    pub(crate) fn reclaim(&mut self, packets: &mut Packets) -> Found
+        ensures own { self.new.end.table ≡ self.old.end.table }
+        ensures answers { result.answer ≤ 2 }
+        ensures step { (result.answer ≡ 1) → AllCame result.count self.old packets.old self.new packets.new }
+        ensures full { (result.answer ≡ 0) → FilledUp self.old packets.old self.new packets.new }
+        ensures waits { (result.answer ≡ 2) → is_stopped (driver_state self.old.end) ≡ false }
+        ensures queue { (result.answer ≡ 2) → self.new ≡ self.old }
+        ensures kept { (result.answer ≡ 2) → packets.new ≡ packets.old }
+    {
+        if !self.driver.is_stopped() {
+            return Found::nothing(2);
+        }
+        match self.driver.reclaim_into(&self.ring, &mut packets.stash) {
+            Ok(count) => Found { answer: 1, count },
+            Err(_) => Found::nothing(0),
+        }
+    }
+
+    /// Asks for the queue to be enabled, if nothing was asked yet, and loads the control word: 1 where it is on; 0 where it is
+    /// not; 2 where it was seen disabled, and has to be renewed first.
+    pub(crate) fn enable(&mut self) -> u32
+        ensures own { self.new.end.table ≡ self.old.end.table }
+        ensures answers { result ≤ 2 }
+        ensures on { (result ≡ 1) → TriedEnabling true self.old self.new }
+        ensures waits { (result ≡ 0) → TriedEnabling false self.old self.new }
+        ensures refused { (result ≡ 2) → is_stopped (driver_state self.old.end) ≡ true }
+        ensures kept { (result ≡ 2) → self.new ≡ self.old }
+    {
+        match self.driver.enable(&self.ring) {
+            Ok(true) => 1,
+            Ok(false) => 0,
+            Err(_) => 2,
+        }
+    }
+
+    /// Asks for the queue to be disabled: 1, or 0 where it is not on.
+    pub(crate) fn ask_disable(&mut self) -> u32
+        ensures own { self.new.end.table ≡ self.old.end.table }
+        ensures step { (result ≡ 1) → AskedDisable self.old self.new }
+        ensures refused { (result ≢ 1) → is_on (driver_state self.old.end) ≡ false }
+        ensures kept { (result ≢ 1) → self.new ≡ self.old }
+    {
+        match self.driver.ask_disable(&self.ring) {
+            Ok(()) => 1,
+            Err(_) => 0,
+        }
+    }
+
+    /// Loads the control word, and once the disabling is answered the head: 1, and how many segments were stored and not taken,
+    /// once; else 0.
+    pub(crate) fn finish_disable(&mut self) -> Found
+        ensures own { self.new.end.table ≡ self.old.end.table }
+        ensures step { (result.answer ≡ 1) → TriedFinish (Some result.count) self.old self.new }
+        ensures waits { (result.answer ≢ 1) → TriedFinish None self.old self.new }
+    {
+        match self.driver.finish_disable(&self.ring) {
+            Some(left) => Found {
+                answer: 1,
+                count: left as usize,
+            },
+            None => Found::nothing(0),
+        }
+    }
+
+    /// Clears the registers of a disabled queue from which all buffers came back: 1; or 0 where it was not seen disabled, or
+    /// buffers are left.
+    pub(crate) fn renew(&mut self) -> u32
+        ensures own { self.new.end.table ≡ self.old.end.table }
+        ensures step { (result ≡ 1) → Renewed self.old self.new }
+        ensures refused { (result ≢ 1) → ¬ IsEmptied self.old }
+        ensures kept { (result ≢ 1) → self.new ≡ self.old }
+    {
+        match self.driver.renew(&self.ring) {
+            Ok(()) => 1,
+            Err(_) => 0,
+        }
+    }
+
+    /// Loads whether the device says that it stores no more: 1 or 0.
+    pub(crate) fn is_quiet(&mut self) -> u32
+        ensures own { self.new.end.table ≡ self.old.end.table }
+        ensures step { FoundQuiet result self.old self.new }
+    {
+        u32::from(self.driver.is_quiet(&self.ring))
+    }
+}

@@ -1,0 +1,119 @@
+//! The exports of a worker's packets.
+ghost use Rattle.std.specs.Prelude.{◌≡◌, ◌≢◌, ◌<◌, ◌≤◌, ◌⊎◌, None, IsSome, pos};
+ghost use Rattle.ring_model.specs.shared.Frames.{HasFrameLength};
+ghost use Rattle.poll82599_c.specs.Handles.{as_packets};
+ghost use Rattle.poll82599_c.specs.Held.{Between, Of};
+ghost use Rattle.poll82599_c.specs.batches.Packets.{CopiedOut, Counted, HadPackets, HasNoByte, HasNoPlace, IsAbsent, IsCrowded, IsMade, IsTooShort, PutFrame, ReadByte, Released, WroteByte};
+
+use crate::batches::packets::make;
+use crate::call::{NO_OPERATION, Poll82599Packet};
+use crate::end::End;
+use crate::handle::Handle;
+use std::alloc::Global;
+
+/// Makes a worker's packets: none, and so many empty buffers: 0; 2 where memory was refused; 3 where there are not 16 to 256
+/// buffers. Only 0 changes the handle, which must hold nothing.
+#[unsafe(no_mangle)]
+pub extern "C" fn poll82599_packets_new(alloc: Global, buffers: u32, packets: &mut Handle) -> i32
+    ensures made { (result ≡ pos 0) → IsMade buffers (as_packets packets.new.held) }
+    ensures buffers { (result ≡ pos 3) → (buffers < 16) ⊎ (256 < buffers) }
+    ensures kept { (result ≢ pos 0) → packets.new ≡ packets.old }
+{
+    match make(alloc, buffers) {
+        Ok(made) => {
+            packets.put(made);
+            0
+        }
+        Err(why) => why.number(),
+    }
+}
+
+/// Makes a packet of a frame's bytes, behind the others: 1; 0 where there are 32, or too few empty buffers; 2 where no frame has so
+/// many bytes.
+#[unsafe(no_mangle)]
+pub extern "C" fn poll82599_packets_put(alloc: Global, packets: &mut Handle, frame: &[u8]) -> u32
+    requires { IsSome packets.old.held }
+    ensures other { as_packets packets.old.held ≡ None → (result ≡ 4294967295) × (packets.new.held ≡ packets.old.held) }
+    ensures step { (result ≡ 1) → Between (PutFrame frame.now) (as_packets packets.old.held) (as_packets packets.new.held) }
+    ensures refused { (result ≡ 2) → ¬ HasFrameLength frame.now }
+    ensures full { (result ≡ 0) → Of (HasNoPlace frame.now) (as_packets packets.old.held) }
+    ensures answers { IsSome (as_packets packets.old.held) → result ≤ 2 }
+    ensures kept { (result ≢ 1) → packets.new.held ≡ packets.old.held }
+{
+    let mut end = packets.take(alloc);
+    let answer = match &mut *end {
+        End::Packets(held) => held.put(frame),
+        _ => NO_OPERATION,
+    };
+    packets.put(end);
+    answer
+}
+
+/// Does something with one of a worker's packets: 0 copies it into `room`, 1 reads a byte, 2 replaces one in place, 3 lets the
+/// packet go, so that its buffers are in the stash again, and 4 hands out how many packets there are, and as `len` how many empty buffers.
+#[unsafe(no_mangle)]
+pub extern "C" fn poll82599_packets_do(
+    alloc: Global,
+    packets: &mut Handle,
+    call: &mut Poll82599Packet,
+    room: &mut [u8],
+)
+    requires { IsSome packets.old.held }
+    ensures other { as_packets packets.old.held ≡ None → (call.new.answer ≡ 4294967295) × (packets.new.held ≡ packets.old.held) }
+    ensures copied { (call.old.operation ≡ 0) → (call.new.answer ≡ 1)
+        → Between (CopiedOut call.old.packet call.new.len room.old room.new) (as_packets packets.old.held) (as_packets packets.new.held) }
+    ensures short { (call.old.operation ≡ 0) → (call.new.answer ≡ 4) → Of (IsTooShort call.old.packet call.new.len room.old) (as_packets packets.old.held) }
+    ensures absent { (call.old.operation ≡ 0) → (call.new.answer ≡ 0) → Of (IsAbsent call.old.packet) (as_packets packets.old.held) }
+    ensures read { (call.old.operation ≡ 1) → (call.new.answer ≡ 1)
+        → Between (ReadByte call.old.packet call.old.at call.new.byte) (as_packets packets.old.held) (as_packets packets.new.held) }
+    ensures touched { (call.old.operation ≡ 2) → (call.new.answer ≡ 1)
+        → Between (WroteByte call.old.packet call.old.at call.old.byte) (as_packets packets.old.held) (as_packets packets.new.held) }
+    ensures released { (call.old.operation ≡ 3) → (call.new.answer ≡ 1) → Between (Released call.old.packet) (as_packets packets.old.held) (as_packets packets.new.held) }
+    ensures unread { (call.old.operation ≡ 1) → (call.new.answer ≢ 1) → Of (λ w. HasNoByte call.old.packet call.old.at w.packets) (as_packets packets.old.held) }
+    ensures untouched { (call.old.operation ≡ 2) → (call.new.answer ≢ 1) → Of (λ w. HasNoByte call.old.packet call.old.at w.packets) (as_packets packets.old.held) }
+    ensures crowded { (call.old.operation ≡ 3) → (call.new.answer ≢ 0) → (call.new.answer ≢ 1) → Of (IsCrowded call.old.packet) (as_packets packets.old.held) }
+    ensures counted { (call.old.operation ≡ 4) → Between (Counted call.new.packet call.new.len) (as_packets packets.old.held) (as_packets packets.new.held) }
+    ensures gone { (call.old.operation ≡ 3) → (call.new.answer ≡ 0) → Of (IsAbsent call.old.packet) (as_packets packets.old.held) }
+    ensures room { (call.old.operation ≢ 0) → room.new ≡ room.old }
+    ensures uncopied { (call.new.answer ≢ 1) → room.new ≡ room.old }
+    ensures kept { (call.new.answer ≢ 1) → packets.new.held ≡ packets.old.held }
+{
+    let mut end = packets.take(alloc);
+    call.answer = match &mut *end {
+        End::Packets(held) => match call.operation {
+            0 => {
+                let found = held.copy(call.packet, room);
+                call.len = found.count;
+                found.answer
+            }
+            1 => {
+                let (answer, byte) = held.byte(call.packet, call.at);
+                call.byte = byte;
+                answer
+            }
+            2 => held.touch(call.packet, call.at, call.byte),
+            3 => held.release(call.packet),
+            4 => {
+                call.packet = held.list.len();
+                call.len = held.stash.len();
+                1
+            }
+            _ => NO_OPERATION,
+        },
+        _ => NO_OPERATION,
+    };
+    packets.put(end);
+}
+
+/// Gives a worker's packets and empty buffers back: how many packets these were.
+#[unsafe(no_mangle)]
+pub extern "C" fn poll82599_packets_close(alloc: Global, packets: &mut Handle) -> usize
+    requires { IsSome (as_packets packets.old.held) }
+    ensures count { HadPackets result (as_packets packets.old.held) }
+    ensures empty { packets.new.held ≡ None }
+{
+    match Box::into_inner(packets.take(alloc)).packets() {
+        Some(held) => held.list.len(),
+        None => 0,
+    }
+}

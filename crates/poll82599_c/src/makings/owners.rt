@@ -1,0 +1,85 @@
+//! Who owns what is made.
+ghost use Rattle.std.specs.Prelude.{◌≡◌, IfErr, IfOk, IfSome};
+ghost use Rattle.std.specs.Arc.{arc_value};
+
+use crate::makings::Unmade;
+use buffer_pool::Buf;
+use std::alloc::Global;
+use std::sync::Arc;
+
+/// Two owners of a ring, one for each end.
+fn shared<T: Drop>(alloc: Global, ring: T) -> Result<(Arc<T, Global>, Arc<T, Global>), Unmade>
+    ensures one { IfOk result (λ r. arc_value r.0 ≡ ring) }
+    ensures other { IfOk result (λ r. arc_value r.1 ≡ ring) }
+    ensures refusal { IfErr result (λ e. e ≡ Unmade.Memory) }
+{
+    let Ok(one) = Arc::new(alloc, ring) else {
+        return Err(Unmade::Memory);
+    };
+    match Arc::try_clone(&one) {
+        Ok(other) => Ok((one, other)),
+        Err(_) => Err(Unmade::Memory),
+    }
+}
+
+/// The two halves of a ring: an owner of it with each end.
+pub(crate) fn halves<T: Drop, D: Drop, C: Drop>(
+    alloc: Global,
+    ring: T,
+    driver: D,
+    controller: C,
+) -> Result<((Arc<T, Global>, D), (Arc<T, Global>, C)), Unmade>
+    ensures one { IfOk result (λ r. arc_value r.0.0 ≡ ring) }
+    ensures driver { IfOk result (λ r. r.0.1 ≡ driver) }
+    ensures other { IfOk result (λ r. arc_value r.1.0 ≡ ring) }
+    ensures controller { IfOk result (λ r. r.1.1 ≡ controller) }
+    ensures refusal { IfErr result (λ e. e ≡ Unmade.Memory) }
+{
+    let (one, other) = shared(alloc, ring)?;
+    Ok(((one, driver), (other, controller)))
+}
+
+/// The ring of two owners, if there is no other.
+pub(crate) fn sole<T: Drop>(one: Arc<T, Global>, other: Arc<T, Global>) -> Option<T>
+    ensures { IfSome result (λ ring. ring ≡ arc_value one) }
+{
+    drop(other);
+    Arc::into_inner(one)
+}
+
+/// How many buffers lie in the places of a closed ring.
+pub(crate) fn lying(places: Vec<Option<Buf>>) -> i64 {
+    let mut left = 0u32;
+    for place in places {
+        if place.is_some() {
+            left = left.wrapping_add(1);
+        }
+    }
+    i64::from(left)
+}
+
+/// An object behind a pointer.
+pub(crate) fn boxed<T: Drop>(alloc: Global, value: T) -> Result<Box<T>, Unmade>
+    ensures made { IfOk result (λ b. b.value ≡ value) }
+    ensures refusal { IfErr result (λ e. e ≡ Unmade.Memory) }
+{
+    match Box::new(alloc, value) {
+        Ok(made) => Ok(made),
+        Err(_) => Err(Unmade::Memory),
+    }
+}
+
+/// Two objects, each behind a pointer.
+pub(crate) fn both_boxed<T: Drop>(
+    alloc: Global,
+    one: T,
+    other: T,
+) -> Result<(Box<T>, Box<T>), Unmade>
+    ensures one { IfOk result (λ r. r.0.value ≡ one) }
+    ensures other { IfOk result (λ r. r.1.value ≡ other) }
+    ensures refusal { IfErr result (λ e. e ≡ Unmade.Memory) }
+{
+    let one = boxed(alloc, one)?;
+    let other = boxed(alloc, other)?;
+    Ok((one, other))
+}

@@ -1,0 +1,85 @@
+//! How far the frame is that an end has begun and not ended, and what may follow in it.
+ghost use Rattle.std.specs.Prelude.{◌≡◌, ◌+◌, ◌≤◌, true, false};
+ghost use Rattle.limits.specs.declared.profile.TheConstants.{BUFFER_BYTES, MOST_FRAME, MOST_SEGMENTS};
+ghost use Rattle.poll82599_c.specs.rings.Following.{CanFollow, CanPost};
+
+use limits::{BUFFER_BYTES, LEAST_FRAME, MOST_FRAME, MOST_SEGMENTS};
+
+/// How many segments of a frame there are so far, and how many bytes in them together.
+#[derive(Clone, Copy)]
+pub(crate) struct Begun {
+    pub(crate) segments: usize,
+    pub(crate) bytes: usize,
+}
+
+/// What a transmit descriptor says beside its segment's length: EOP, RS, and PAYLEN, the whole frame's length in bytes.
+#[derive(Clone, Copy)]
+pub(crate) struct Asking {
+    pub(crate) eop: bool,
+    pub(crate) rs: bool,
+    pub(crate) paylen: u32,
+}
+
+impl Begun {
+    /// No segment.
+    pub(crate) fn none() -> Begun
+        ensures segments { result.segments ≡ 0 }
+        ensures bytes { result.bytes ≡ 0 }
+    {
+        Begun {
+            segments: 0,
+            bytes: 0,
+        }
+    }
+
+    /// Whether so many more bytes may follow in a ring of so many descriptors, and end the frame where `eop` says so.
+    pub(crate) fn can_follow(self, len: usize, eop: bool, ring: u32) -> bool
+        ensures can { result ≡ true → CanFollow ring self len eop }
+        ensures cannot { result ≡ false → ¬ CanFollow ring self len eop }
+    {
+        if len == 0 || BUFFER_BYTES < len {
+            return false;
+        }
+        if self.segments >= MOST_SEGMENTS || ring as usize <= self.segments + 1 {
+            return false;
+        }
+        if MOST_FRAME < self.bytes || MOST_FRAME - self.bytes < len {
+            return false;
+        }
+        !eop || LEAST_FRAME <= self.bytes + len
+    }
+
+    /// Whether so many more bytes may be posted so in a ring of so many descriptors. Whether PAYLEN is that of the segments
+    /// before is another question.
+    pub(crate) fn can_post(self, len: usize, ask: &Asking, ring: u32) -> bool
+        ensures can { result ≡ true → CanPost ring self len ask.now.eop ask.now.rs ask.now.paylen }
+        ensures cannot { result ≡ false → ¬ CanPost ring self len ask.now.eop ask.now.rs ask.now.paylen }
+    {
+        if !self.can_follow(len, ask.eop, ring) || (ask.rs && !ask.eop) {
+            return false;
+        }
+        let paylen = ask.paylen as usize;
+        if paylen < LEAST_FRAME || MOST_FRAME < paylen {
+            return false;
+        }
+        let after = self.bytes + len;
+        if ask.eop {
+            after == paylen
+        } else {
+            after <= paylen
+        }
+    }
+
+    /// With a segment of so many bytes more.
+    pub(crate) fn with(self, len: usize) -> Begun
+        requires segments { self.segments + 1 ≤ MOST_SEGMENTS }
+        requires bytes { self.bytes + len ≤ MOST_FRAME }
+        ensures segments { result.segments ≡ self.segments + 1 }
+        ensures bytes { result.bytes ≡ self.bytes + len }
+    {
+        Begun {
+            segments: self.segments + 1,
+            bytes: self.bytes + len,
+        }
+    }
+}

@@ -1,0 +1,73 @@
+//! The making of a receive ring with its two objects, and its closing.
+ghost use Rattle.std.specs.Prelude.{◌≡◌, ◌≢◌, ◌<◌, ◌⊎◌, Some, IfErr, IfOk, length};
+ghost use Rattle.limits.specs.RingLength.{IsRingLength};
+ghost use Rattle.poll82599_c.specs.Handles.{as_rx_driver, as_rx_controller};
+ghost use Rattle.poll82599_c.specs.rings.RxEnds.{AreMade};
+ghost use Rattle.ring_model.specs.receive.Lawful.{IsLawfulRxLedger};
+ghost use Rattle.ring_model.specs.shared.Frames.{Bytes};
+ghost use Rattle.rx_ring.specs.Calls.{IsTold, told_left};
+ghost use Rattle.rx_ring.specs.Ends.{driver_size, taken};
+ghost use Rattle.rx_ring.specs.Meeting.{ledger_of, stored_now};
+
+use crate::end::End;
+use crate::makings::{Unmade, both_boxed, rx_close, rx_halves, stash_of};
+use crate::rings::begun::Begun;
+use crate::rings::rx_driving::RxDriving;
+use crate::rings::rx_serving::RxServing;
+use buffer_pool::Stash;
+use std::alloc::Global;
+
+/// A ring of so many descriptors, and its two objects. The driver has so many buffers.
+pub(crate) fn make(alloc: Global, ring: u32, buffers: u32) -> Result<(Box<End>, Box<End>), Unmade>
+    ensures made { IfOk result (λ r. AreMade ring (as_rx_driver (Some r.0.value)) (as_rx_controller (Some r.1.value))) }
+    ensures length { IfErr result (λ e. e ≡ Unmade.Length → ¬ IsRingLength ring) }
+    ensures buffers { IfErr result (λ e. e ≡ Unmade.Buffers → (buffers < 16) ⊎ (256 < buffers)) }
+    ensures refusals { IfErr result (λ e. e ≢ Unmade.Settings) }
+{
+    let stash = stash_of(alloc, buffers)?;
+    let (driving, serving) = ends_of(alloc, ring, stash)?;
+    both_boxed(alloc, End::RxDriver(driving), End::RxController(serving))
+}
+
+/// The two objects of a new ring. The driver's has these buffers.
+fn ends_of(alloc: Global, ring: u32, stash: Stash) -> Result<(RxDriving, RxServing), Unmade>
+    ensures made { IfOk result (λ r. AreMade ring (Some r.0) (Some r.1)) }
+    ensures length { IfErr result (λ e. e ≡ Unmade.Length → ¬ IsRingLength ring) }
+    ensures refusals { IfErr result (λ e. (e ≡ Unmade.Length) ⊎ (e ≡ Unmade.Memory)) }
+{
+    match rx_halves(alloc, ring) {
+        Ok(((ring, driver), (other, controller))) => Ok((
+            RxDriving {
+                ring,
+                end: driver,
+                stash,
+                reclaiming: false,
+            },
+            RxServing {
+                ring: other,
+                end: controller,
+                begun: Begun::none(),
+            },
+        )),
+        Err(why) => {
+            drop(stash);
+            Err(why)
+        }
+    }
+}
+
+/// Closes a ring: how many buffers lay in it, or -1 where another owner of the ring is left.
+pub(crate) fn unmake(driving: RxDriving, serving: RxServing) -> i64
+    requires { driving.table ≡ serving.table }
+    ensures lawful { IsLawfulRxLedger Bytes (driver_size driving) (ledger_of driving serving) }
+    ensures told { IsTold (told_left driving) (length (taken driving)) (length (stored_now driving serving)) }
+{
+    let RxDriving {
+        ring,
+        end,
+        stash,
+        ..
+    } = driving;
+    drop(stash);
+    rx_close((ring, end), (serving.ring, serving.end))
+}

@@ -1,0 +1,117 @@
+//! The controller's object: its end, and the ring that it shares.
+ghost use Rattle.std.specs.Prelude.{◌≡◌, ◌≢◌, ◌<◌, true, false, length, None};
+ghost use Rattle.ring_model.specs.shared.Frames.{Follows, unfinished};
+ghost use Rattle.ring_model.specs.shared.Handshakes.{is_serving};
+ghost use Rattle.ring_model.specs.shared.Segments.{piece_of};
+ghost use Rattle.rx_ring.specs.Ends.{controller_size, controller_state, held, is_quiet, known_free, stored};
+ghost use Rattle.poll82599_c.specs.rings.Following.{CanFollow, IsBegun};
+ghost use Rattle.poll82599_c.specs.rings.RxEnds.{FoundNoneFree, SaidNoMore, StoredOne, WroteOne};
+ghost use Rattle.poll82599_c.specs.rings.Steps.{AnsweredAsked, LookedAsked};
+
+use crate::rings::begun::Begun;
+use rx_ring::{ControllerEnd, RxControllerEnd, RxRing};
+use std::alloc::Global;
+use std::marker::Model;
+use std::sync::Arc;
+
+/// What a C thread has that serves a receive ring.
+#[derive(Drop)]
+pub struct RxServing {
+    pub(crate) ring: Arc<RxRing, Global>,
+    pub(crate) end: RxControllerEnd,
+    // how far the frame is that is begun, where one is
+    pub(crate) begun: Begun,
+}
+
+impl Model for RxServing {
+    ghost use Rattle.std.specs.Arc.{arc_value};
+    ghost use Rattle.rx_ring.specs.Ends.{ControllerSide};
+    ghost use Rattle.poll82599_c.specs.rings.RxEnds.{IsServing};
+
+    ghost Value = { ControllerSide };
+
+    ghost view = { λ s. s.end };
+
+    ghost invariant = { λ s. IsServing (arc_value s.ring) s.end s.begun };
+}
+
+impl RxServing {
+    /// How far the frame is that is begun.
+    fn begun(&self) -> Begun
+        ensures { IsBegun piece_of (stored self.now) result }
+    {
+        if self.end.is_between_frames() {
+            return Begun::none();
+        }
+        self.begun
+    }
+
+    /// Loads what is asked, and answers it where it may: 1 where it answered, else 0.
+    pub(crate) fn answer(&mut self) -> u32
+        ensures own { self.new.table ≡ self.old.table }
+        ensures step { (result ≡ 1) → AnsweredAsked self.old self.new }
+        ensures looked { (result ≢ 1) → LookedAsked self.old self.new }
+    {
+        self.end.asked(&self.ring);
+        if !self.end.can_answer() {
+            return 0;
+        }
+        self.end.answer(&self.ring);
+        1
+    }
+
+    /// Stores a segment, and the head where it ends its frame: 1; 0 where no descriptor is free; 2 where so many bytes may
+    /// not follow the frame's segments so far; or 3 where the queue is not served, or is quiet.
+    pub(crate) fn store(&mut self, bytes: &[u8], eop: bool) -> u32
+        ensures own { self.new.table ≡ self.old.table }
+        ensures stored { (result ≡ 1) → StoredOne bytes.now eop self.old self.new }
+        ensures none { (result ≡ 0) → FoundNoneFree self.old self.new }
+        ensures kept { (result ≢ 0) → (result ≢ 1) → self.new ≡ self.old }
+    {
+        if !self.end.is_serving() || self.end.is_holding() || self.end.has_finished() {
+            return 3;
+        }
+        let begun = self.begun();
+        if !begun.can_follow(bytes.len(), eop, self.end.size()) {
+            return 2;
+        }
+        if self.end.free() == 0 && self.end.look(&self.ring) == 0 {
+            return 0;
+        }
+        self.write(bytes, eop, begun);
+        1
+    }
+
+    // Writes a segment into the next descriptor, and stores the head where it ends its frame.
+    fn write(&mut self, bytes: &[u8], eop: bool, begun: Begun)
+        requires serving { is_serving (controller_state self.old) ≡ true }
+        requires held { held self.old ≡ None }
+        requires quiet { is_quiet self.old ≡ false }
+        requires free { 0 < known_free self.old }
+        requires begun { IsBegun piece_of (stored self.old) begun }
+        requires can { CanFollow (controller_size self.old) begun (length bytes.now) eop }
+        ensures own { self.new.table ≡ self.old.table }
+        ensures wrote { WroteOne bytes.now eop self.old self.new }
+    {
+        let mut buf = self.end.fetch(&self.ring);
+        buf.fill(bytes);
+        self.end.write_back(&self.ring, buf, eop);
+        self.begun = begun.with(bytes.len());
+        if eop {
+            self.end.set_head(&self.ring);
+        }
+    }
+
+    /// Says that no more is stored in this epoch: 1, or 0 where the queue is not served, or a frame is begun.
+    pub(crate) fn set_quiet(&mut self) -> u32
+        ensures own { self.new.table ≡ self.old.table }
+        ensures step { (result ≡ 1) → SaidNoMore self.old self.new }
+        ensures kept { (result ≢ 1) → self.new ≡ self.old }
+    {
+        if !self.end.is_serving() || self.end.is_holding() || !self.end.is_between_frames() {
+            return 0;
+        }
+        self.end.set_quiet(&self.ring);
+        1
+    }
+}

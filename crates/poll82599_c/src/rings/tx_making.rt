@@ -1,0 +1,83 @@
+//! The making of a transmit ring with its two objects, and its closing.
+ghost use Rattle.std.specs.Prelude.{◌≡◌, ◌≢◌, ◌<◌, ◌⊎◌, Some, IfErr, IfOk, length};
+ghost use Rattle.limits.specs.RingLength.{IsRingLength};
+ghost use Rattle.poll82599_c.specs.Handles.{as_tx_driver, as_tx_controller};
+ghost use Rattle.poll82599_c.specs.rings.TxEnds.{AreMade};
+ghost use Rattle.ring_model.specs.transmit.Lawful.{IsLawfulTxLedger};
+ghost use Rattle.ring_model.specs.shared.Frames.{Bytes};
+ghost use Rattle.tx_ring.specs.Ends.{driver_size, posted};
+ghost use Rattle.tx_ring.specs.Meeting.{IsTold, ledger_of, sent_now, told_left};
+
+use crate::end::End;
+use crate::makings::{Unmade, both_boxed, stash_of, tx_close, tx_halves};
+use crate::rings::begun::Begun;
+use crate::rings::tx_driving::TxDriving;
+use crate::rings::tx_serving::TxServing;
+use buffer_pool::Stash;
+use std::alloc::Global;
+use tx_ring::Completion;
+
+/// A ring of so many descriptors that reports so, and its two objects. The driver has so many buffers.
+pub(crate) fn make(
+    alloc: Global,
+    ring: u32,
+    buffers: u32,
+    completion: Completion,
+) -> Result<(Box<End>, Box<End>), Unmade>
+    ensures made { IfOk result (λ r. AreMade ring completion (as_tx_driver (Some r.0.value)) (as_tx_controller (Some r.1.value))) }
+    ensures length { IfErr result (λ e. e ≡ Unmade.Length → ¬ IsRingLength ring) }
+    ensures buffers { IfErr result (λ e. e ≡ Unmade.Buffers → (buffers < 16) ⊎ (256 < buffers)) }
+    ensures refusals { IfErr result (λ e. e ≢ Unmade.Settings) }
+{
+    let stash = stash_of(alloc, buffers)?;
+    let (driving, serving) = ends_of(alloc, ring, stash, completion)?;
+    both_boxed(alloc, End::TxDriver(driving), End::TxController(serving))
+}
+
+/// The two objects of a new ring. The driver's has these buffers.
+fn ends_of(
+    alloc: Global,
+    ring: u32,
+    stash: Stash,
+    completion: Completion,
+) -> Result<(TxDriving, TxServing), Unmade>
+    ensures made { IfOk result (λ r. AreMade ring completion (Some r.0) (Some r.1)) }
+    ensures length { IfErr result (λ e. e ≡ Unmade.Length → ¬ IsRingLength ring) }
+    ensures refusals { IfErr result (λ e. (e ≡ Unmade.Length) ⊎ (e ≡ Unmade.Memory)) }
+{
+    match tx_halves(alloc, ring, completion) {
+        Ok(((ring, driver), (other, controller))) => Ok((
+            TxDriving {
+                ring,
+                end: driver,
+                stash,
+                begun: Begun::none(),
+                paylen: 0,
+            },
+            TxServing {
+                ring: other,
+                end: controller,
+            },
+        )),
+        Err(why) => {
+            drop(stash);
+            Err(why)
+        }
+    }
+}
+
+/// Closes a ring: how many buffers lay in it, or -1 where another owner of the ring is left.
+pub(crate) fn unmake(driving: TxDriving, serving: TxServing) -> i64
+    requires { driving.table ≡ serving.table }
+    ensures lawful { IsLawfulTxLedger Bytes (driver_size driving) (ledger_of driving serving) }
+    ensures told { IsTold (told_left driving) (length (sent_now driving serving)) (length (posted driving)) }
+{
+    let TxDriving {
+        ring,
+        end,
+        stash,
+        ..
+    } = driving;
+    drop(stash);
+    tx_close((ring, end), (serving.ring, serving.end))
+}

@@ -1,0 +1,77 @@
+//! The controller's object of a transmit ring: its end, and the ring that it shares.
+ghost use Rattle.std.specs.Prelude.{◌≡◌, ◌≢◌};
+ghost use Rattle.poll82599_c.specs.rings.TxEnds.{SentNone, SentOne};
+ghost use Rattle.poll82599_c.specs.rings.Steps.{AnsweredAsked, LookedAsked};
+
+use crate::rings::handed::Handed;
+use limits::BUFFER_BYTES;
+use opaque::overwrite;
+use std::alloc::Global;
+use std::marker::Model;
+use std::sync::Arc;
+use tx_ring::{ControllerEnd, TxControllerEnd, TxRing};
+
+/// What a C thread has that serves a transmit ring.
+#[derive(Drop)]
+pub struct TxServing {
+    pub(crate) ring: Arc<TxRing, Global>,
+    pub(crate) end: TxControllerEnd,
+}
+
+impl Model for TxServing {
+    ghost use Rattle.std.specs.Prelude.{◌≡◌};
+    ghost use Rattle.std.specs.Arc.{arc_value};
+    ghost use Rattle.tx_ring.specs.Ends.{ControllerSide};
+
+    ghost Value = { ControllerSide };
+
+    ghost view = { λ s. s.end };
+
+    ghost invariant = { λ s. s.end.table ≡ arc_value s.ring };
+}
+
+impl TxServing {
+    /// Loads what is asked, and answers it where it may: 1 where it answered, else 0.
+    pub(crate) fn answer(&mut self) -> u32
+        ensures own { self.new.table ≡ self.old.table }
+        ensures step { (result ≡ 1) → AnsweredAsked self.old self.new }
+        ensures looked { (result ≢ 1) → LookedAsked self.old self.new }
+    {
+        self.end.asked(&self.ring);
+        if !self.end.can_answer() {
+            return 0;
+        }
+        self.end.answer(&self.ring);
+        1
+    }
+
+    /// Sends the next segment into a room of a buffer's size, and reports it where a report is asked for: 1 where there was
+    /// one, 0 where none is ready, 3 where the queue is not served, and 4 where the room is too small.
+    pub(crate) fn send(&mut self, bytes: &mut [u8]) -> Handed
+        ensures own { self.new.table ≡ self.old.table }
+        ensures sent { (result.answer ≡ 1) → SentOne result.len result.eop bytes.old bytes.new self.old self.new }
+        ensures none { (result.answer ≢ 1) → SentNone result.answer bytes.old bytes.new self.old self.new }
+    {
+        if bytes.len() < BUFFER_BYTES {
+            return Handed::nothing(4);
+        }
+        if !self.end.is_serving() || self.end.is_holding() || self.end.owes_report() {
+            return Handed::nothing(3);
+        }
+        if self.end.ready() == 0 && self.end.look(&self.ring) == 0 {
+            return Handed::nothing(0);
+        }
+        let (buf, read) = self.end.fetch(&self.ring);
+        overwrite(bytes, buf.bytes());
+        let len = buf.len() as u32;
+        self.end.give_back(&self.ring, buf);
+        if self.end.owes_report() {
+            self.end.report(&self.ring);
+        }
+        Handed {
+            answer: 1,
+            len,
+            eop: u32::from(read.eop),
+        }
+    }
+}
