@@ -95,11 +95,6 @@ plain_passes s word h plain =
     ∙ (ap (λ o. flag_word_passes s.rules s.args_override_self o word h) plain.no_long
     ∙ ap (λ o. option_map_or (λ flags. bundle_passes s.rules s.args_override_self flags h) o true) plain.no_short)
 
--- no option that isn't global makes the command have one
-pub or_false : (b x : Bool) → x ≡ false → (b || x) ≡ b
-or_false true x is = refl
-or_false false x is = is
-
 -- ---- numbers and flags
 
 -- a text that clap takes for a number up to this one

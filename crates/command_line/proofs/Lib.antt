@@ -1,4 +1,5 @@
 pub mod CommandLine
+mod Built
 pub mod DecodeWords
 pub mod OnceWords
 mod OptionRows

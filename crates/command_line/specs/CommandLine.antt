@@ -50,14 +50,20 @@ decode_app rings formats =
     let with_ring = with_rule (new_app (codes "decode")) (choice_rule (codes "ring") rings) in
     with_rule (with_rule with_ring (choice_rule (codes "format") formats)) hex_rule
 
+-- the options of `replay` for its queues
+abbrev pub with_machine_rules : App → App
+with_machine_rules app =
+    let with_pairs = with_rule (with_rule app (number_rule (codes "ring") (codes "8"))) (number_rule (codes "pairs") (codes "1")) in
+    with_rule (with_rule with_pairs (flag_rule (codes "off"))) (flag_rule (codes "head"))
+
+-- and for what it shows
+abbrev pub with_shown_rules : App → App
+with_shown_rules app =
+    with_rule (with_rule (with_rule app (flag_rule (codes "json"))) (flag_rule (codes "registers"))) (optional_rule (codes "picture") (codes "each"))
+
 -- the command `replay`
 abbrev pub replay_app : App
-replay_app =
-    let with_ring = with_rule (new_app (codes "replay")) (number_rule (codes "ring") (codes "8")) in
-    let with_pairs = with_rule with_ring (number_rule (codes "pairs") (codes "1")) in
-    let with_head = with_rule (with_rule with_pairs (flag_rule (codes "off"))) (flag_rule (codes "head")) in
-    let with_registers = with_rule (with_rule with_head (flag_rule (codes "json"))) (flag_rule (codes "registers")) in
-    with_rule with_registers (optional_rule (codes "picture") (codes "each"))
+replay_app = with_shown_rules (with_machine_rules (new_app (codes "replay")))
 
 -- the options of `forward` for queues and buffers
 abbrev pub with_queue_rules : App → App
@@ -75,6 +81,11 @@ with_work_rules app =
     let with_workers = with_rule with_rs_every (number_rule (codes "workers") (codes "1")) in
     with_rule with_workers (number_rule (codes "turns") (codes "0"))
 
+-- and for full rings and for reports
+abbrev pub with_manner_rules : App → App
+with_manner_rules app =
+    with_rule (with_rule (with_rule app (flag_rule (codes "drop"))) (flag_rule (codes "no-retry"))) (flag_rule (codes "head"))
+
 -- and for what it prints
 abbrev pub with_printing_rules : App → App
 with_printing_rules app =
@@ -82,9 +93,7 @@ with_printing_rules app =
 
 -- the command `forward`
 abbrev pub forward_app : App
-forward_app =
-    let with_drop = with_rule (with_work_rules (with_queue_rules (new_app (codes "forward")))) (flag_rule (codes "drop")) in
-    with_file_rules (with_printing_rules (with_rule (with_rule with_drop (flag_rule (codes "no-retry"))) (flag_rule (codes "head"))))
+forward_app = with_file_rules (with_printing_rules (with_manner_rules (with_work_rules (with_queue_rules (new_app (codes "forward"))))))
 
 abbrev pub program_app : Choices → Choices → App
 program_app rings formats =

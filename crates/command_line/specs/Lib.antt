@@ -4,3 +4,4 @@ pub mod ScheduleWords
 pub mod FileWords
 pub mod Forwarding
 pub mod CommandLine
+pub mod Building

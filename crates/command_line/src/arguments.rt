@@ -89,7 +89,13 @@ pub(crate) fn hex<'a>(alloc: Global, help: &'a str) -> Arg<'a>
 }
 
 /// An argument that is one of these words.
-pub(crate) fn choice<'a>(alloc: Global, id: &'a str, name: &'a str, words: &'a [&'a str]) -> Arg<'a>
+pub(crate) fn choice<'a>(
+    alloc: Global,
+    id: &'a str,
+    name: &'a str,
+    words: &'a [&'a str],
+    help: &'a str,
+) -> Arg<'a>
     ensures rule { rule_of result ≡ choice_rule id.entry.now words.entry }
     ensures local { result.global ≡ false }
 {
@@ -97,4 +103,5 @@ pub(crate) fn choice<'a>(alloc: Global, id: &'a str, name: &'a str, words: &'a [
         .value_name(name)
         .value_parser(words)
         .required(true)
+        .help(help)
 }

@@ -1,11 +1,12 @@
 //! The commands `from-capture` and `to-capture`, and what is asked for in their matches.
 ghost use Rattle.std.specs.Prelude.{◌≡◌, ℕ, Some, false, codes, IfOk, IfSome};
-ghost use Rattle.clap.specs.Words.{app_of, found_of, rows_of, rule_of};
-ghost use Rattle.clap.specs.declared.builder.command.Command.TheViews.{out-Command};
+ghost use Rattle.clap.specs.Words.{found_of, rows_of, rule_of};
+ghost use Rattle.command_line.specs.Building.{IsNew};
 ghost use Rattle.capture_command.specs.Requests.{IsPlaced};
 ghost use Rattle.capture_command.specs.declared.request.CaptureRequest.TheVariants.{FromCapture, ToCapture};
 ghost use Rattle.command_line.specs.CaptureWords.{HasFromCapture, HasToCapture, from_capture_app, port_rule, queue_rule, to_capture_app};
 
+use crate::building::{named, with};
 use capture_command::CaptureRequest;
 use clap::{Arg, ArgMatches, Command, value_parser};
 use std::alloc::{AllocError, Global};
@@ -50,29 +51,35 @@ fn placed(request: CaptureRequest) -> Option<CaptureRequest>
 
 /// The command `from-capture`.
 pub(crate) fn from_capture<'a>(alloc: Global) -> Result<Command<'a>, AllocError>
-    ensures app { IfOk result (λ c. app_of c ≡ from_capture_app) }
-    ensures local { IfOk result (λ c. (out-Command c).has_globals ≡ false) }
+    ensures { IfOk result (IsNew (λ app. app ≡ from_capture_app)) }
 {
-    Command::new(alloc, "from-capture")
-        .about(
-            "Prints the frames of the capture on standard input as lines of a script. A capture is classic pcap of Ethernet",
-        )
-        .after_help(FROM_EXAMPLE)
-        .arg(port(alloc, "The port at which the frames come in, 0 or 1"))?
-        .arg(queue(alloc, "The queue of that port, 0 to 7"))
+    let command = named(
+        alloc,
+        "from-capture",
+        "Prints the frames of the capture on standard input as lines of a script. A capture is classic pcap of Ethernet",
+        FROM_EXAMPLE,
+    );
+    let command = with(
+        command,
+        port(alloc, "The port at which the frames come in, 0 or 1"),
+    );
+    with(command, queue(alloc, "The queue of that port, 0 to 7"))
 }
 
 /// The command `to-capture`.
 pub(crate) fn to_capture<'a>(alloc: Global) -> Result<Command<'a>, AllocError>
-    ensures app { IfOk result (λ c. app_of c ≡ to_capture_app) }
-    ensures local { IfOk result (λ c. (out-Command c).has_globals ≡ false) }
+    ensures { IfOk result (IsNew (λ app. app ≡ to_capture_app)) }
 {
-    Command::new(alloc, "to-capture")
-        .about(
-            "Writes the frames of a port, of a script or of what forward prints on standard input, as a capture. Frame k has k microseconds",
-        )
-        .after_help(TO_EXAMPLE)
-        .arg(port(alloc, "The port whose frames are written, 0 or 1"))
+    let command = named(
+        alloc,
+        "to-capture",
+        "Writes the frames of a port, of a script or of what forward prints on standard input, as a capture. Frame k has k microseconds",
+        TO_EXAMPLE,
+    );
+    with(
+        command,
+        port(alloc, "The port whose frames are written, 0 or 1"),
+    )
 }
 
 /// An argument that is a port.

@@ -1,14 +1,14 @@
 //! The words of the command line, as `clap` reads them, to a request.
-ghost use Rattle.std.specs.Prelude.{◌≡◌, ◌⊎◌, ℕ, Bool, List, Some, false, codes, map};
+ghost use Rattle.std.specs.Prelude.{◌≡◌, ◌⊎◌, ℕ, Bool, List, Some, codes, map};
 ghost use Rattle.std.specs.Prelude.{IfOk, IfSome, IsErrAnd, IsSomeAnd, MatchResult};
 ghost use Rattle.std.specs.String.{string_bytes};
 ghost use Rattle.clap.specs.Words.{Row, Text, app_of, kind_of, found_of, one_of, rows_of, subcommand_rows_of};
 ghost use Rattle.clap.specs.Values.{bool_text};
-ghost use Rattle.clap.specs.declared.builder.command.Command.TheViews.{out-Command};
 ghost use Rattle.clap.specs.declared.error.kind.ErrorKind.TheVariants.{OutOfMemory};
 ghost use Rattle.commands.specs.declared.decode.Form.{Form};
 ghost use Rattle.command_line.specs.CommandLine.{IsDecodeApp, IsProgram, bare_app, once_app};
-ghost use Rattle.command_line.specs.CommandLine.{forward_app, replay_app, with_printing_rules, with_queue_rules, with_work_rules};
+ghost use Rattle.command_line.specs.Building.{Grows, IsNew};
+ghost use Rattle.command_line.specs.CommandLine.{forward_app, replay_app, with_machine_rules, with_manner_rules, with_printing_rules, with_queue_rules, with_shown_rules, with_work_rules};
 ghost use Rattle.commands.specs.declared.replay.QueuePlan.{QueuePlan};
 ghost use Rattle.command_line.specs.CommandLine.{HasDecode, IsDecode, SaysDecode};
 ghost use Rattle.command_line.specs.CommandLine.{HasReplay, IsReplayOf, SaysReplay};
@@ -27,6 +27,7 @@ ghost use Rattle.schedule_command.specs.declared.request.ScheduleRequest.{Schedu
 ghost use Rattle.cover_command.specs.declared.request.CoverRequest.{CoverRequest as Covering};
 
 use crate::arguments::{choice, flag, hex, number, optional};
+use crate::building::{having, named, with};
 use crate::captures::{from_capture, from_capture_in, to_capture, to_capture_in};
 use crate::drawings::{draws_any, pictures_in};
 use crate::files::with_files;
@@ -294,14 +295,13 @@ pub(crate) fn completion_in<'a>(matches: &ArgMatches<'a>) -> Completion
 pub(crate) fn program<'a>(alloc: Global) -> Result<Command<'a>, AllocError>
     ensures { IfOk result (λ c. IsProgram (app_of c)) }
 {
-    bare(alloc)?
-        .subcommand(once(alloc)?)?
-        .subcommand(decode(alloc)?)?
-        .subcommand(replay(alloc)?)?
-        .subcommand(forward(alloc)?)?
-        .subcommand(from_capture(alloc)?)?
-        .subcommand(to_capture(alloc)?)?
-        .subcommand(schedules(alloc)?)
+    let program = having(bare(alloc), once(alloc));
+    let program = having(program, decode(alloc));
+    let program = having(program, replay(alloc));
+    let program = having(program, forward(alloc));
+    let program = having(program, from_capture(alloc));
+    let program = having(program, to_capture(alloc));
+    having(program, schedules(alloc))
 }
 
 /// The program before its commands are added.
@@ -321,190 +321,304 @@ fn bare<'a>(alloc: Global) -> Result<Command<'a>, AllocError>
 
 /// The command `once`.
 fn once<'a>(alloc: Global) -> Result<Command<'a>, AllocError>
-    ensures app { IfOk result (λ c. app_of c ≡ once_app) }
-    ensures local { IfOk result (λ c. (out-Command c).has_globals ≡ false) }
+    ensures { IfOk result (IsNew (λ app. app ≡ once_app)) }
 {
-    let hex = hex(
+    let command = named(
         alloc,
-        "A frame of 14 to 14,336 bytes, two hex digits for each byte",
+        "once",
+        "Passes one frame through a receive ring of 8 and prints it",
+        ONCE_EXAMPLE,
     );
-    Command::new(alloc, "once")
-        .about("Passes one frame through a receive ring of 8 and prints it")
-        .after_help(ONCE_EXAMPLE)
-        .arg(hex)
+    with(
+        command,
+        hex(
+            alloc,
+            "A frame of 14 to 14,336 bytes, two hex digits for each byte",
+        ),
+    )
 }
 
 /// The command `decode`.
 fn decode<'a>(alloc: Global) -> Result<Command<'a>, AllocError>
-    ensures app { IfOk result (λ c. IsDecodeApp (app_of c)) }
-    ensures local { IfOk result (λ c. (out-Command c).has_globals ≡ false) }
+    ensures { IfOk result (IsNew IsDecodeApp) }
 {
-    let ring = choice(alloc, "ring", "RING", RINGS.as_slice()).help(
-        "The ring that the descriptor is on: to receive or to transmit",
-    );
-    let format = choice(alloc, "format", "FORMAT", FORMATS.as_slice()).help(
-        "As the driver posts it, or as the controller writes it back",
-    );
-    let hex = hex(
+    let command = named(
         alloc,
-        "The 16 bytes of a descriptor, two hex digits for each byte",
+        "decode",
+        "Reads the bytes of a descriptor and prints what they say",
+        DECODE_EXAMPLE,
     );
-    Command::new(alloc, "decode")
-        .about("Reads the bytes of a descriptor and prints what they say")
-        .after_help(DECODE_EXAMPLE)
-        .arg(ring)?
-        .arg(format)?
-        .arg(hex)
+    let command = with(
+        command,
+        choice(
+            alloc,
+            "ring",
+            "RING",
+            RINGS.as_slice(),
+            "The ring that the descriptor is on: to receive or to transmit",
+        ),
+    );
+    let command = with(
+        command,
+        choice(
+            alloc,
+            "format",
+            "FORMAT",
+            FORMATS.as_slice(),
+            "As the driver posts it, or as the controller writes it back",
+        ),
+    );
+    with(
+        command,
+        hex(
+            alloc,
+            "The 16 bytes of a descriptor, two hex digits for each byte",
+        ),
+    )
 }
 
 /// The command `replay`.
 fn replay<'a>(alloc: Global) -> Result<Command<'a>, AllocError>
-    ensures app { IfOk result (λ c. app_of c ≡ replay_app) }
-    ensures local { IfOk result (λ c. (out-Command c).has_globals ≡ false) }
+    ensures { IfOk result (IsNew (λ app. app ≡ replay_app)) }
 {
-    Command::new(alloc, "replay")
-        .about("Makes the moves of standard input on queues, and prints what each of them tells")
-        .after_help(REPLAY_EXAMPLE)
-        .arg(number(
+    let command = named(
+        alloc,
+        "replay",
+        "Makes the moves of standard input on queues, and prints what each of them tells",
+        REPLAY_EXAMPLE,
+    );
+    with_shown(alloc, with_machines(alloc, command))
+}
+
+/// A command with the options of `replay` for its queues.
+fn with_machines<'a>(
+    alloc: Global,
+    command: Result<Command<'a>, AllocError>,
+) -> Result<Command<'a>, AllocError>
+    ensures { IfOk result (Grows with_machine_rules command.entry) }
+{
+    let command = with(
+        command,
+        number(
             alloc,
             "ring",
             "8",
             "How many descriptors each queue has, a power of two from 8 to 4,096",
-        ))?
-        .arg(number(
+        ),
+    );
+    let command = with(
+        command,
+        number(
             alloc,
             "pairs",
             "1",
             "How many pairs of a receive and a transmit queue there are, 1 to 8",
-        ))?
-        .arg(flag(alloc, "off", "Begins with disabled queues"))?
-        .arg(flag(alloc, "head", "Reports what was sent by a head word"))?
-        .arg(flag(
+        ),
+    );
+    let command = with(command, flag(alloc, "off", "Begins with disabled queues"));
+    with(
+        command,
+        flag(alloc, "head", "Reports what was sent by a head word"),
+    )
+}
+
+/// A command with the options of `replay` for what it shows.
+fn with_shown<'a>(
+    alloc: Global,
+    command: Result<Command<'a>, AllocError>,
+) -> Result<Command<'a>, AllocError>
+    ensures { IfOk result (Grows with_shown_rules command.entry) }
+{
+    let command = with(
+        command,
+        flag(
             alloc,
             "json",
             "Prints what each move tells as a JSON object",
-        ))?
-        .arg(flag(
+        ),
+    );
+    let command = with(
+        command,
+        flag(
             alloc,
             "registers",
             "Prints after each move what head, tail and ENABLE of its queue hold",
-        ))?
-        .arg(optional(
+        ),
+    );
+    with(
+        command,
+        optional(
             alloc,
             "picture",
             "WHICH",
             "each",
             "Draws after each move its queue, a line a place; with =last after the last move alone",
-        ))
+        ),
+    )
 }
 
 /// The command `forward`.
 fn forward<'a>(alloc: Global) -> Result<Command<'a>, AllocError>
-    ensures app { IfOk result (λ c. app_of c ≡ forward_app) }
-    ensures local { IfOk result (λ c. (out-Command c).has_globals ≡ false) }
+    ensures { IfOk result (IsNew (λ app. app ≡ forward_app)) }
 {
-    let command = with_work(alloc, with_queues(alloc, Command::new(alloc, "forward"))?)?
-        .about(
-            "Forwards the frames of standard input, one a line, between two ports, and prints the wires and the flows",
-        )
-        .after_help(FORWARD_EXAMPLES)
-        .arg(flag(
-            alloc,
-            "drop",
-            "Drops a frame for which a receive ring has too few free descriptors (default: holds it)",
-        ))?
-        .arg(flag(
-            alloc,
-            "no-retry",
-            "Drops packets for which a transmit ring has no room (default: keeps them)",
-        ))?
-        .arg(flag(
-            alloc,
-            "head",
-            "Reports what was sent by a head word (default: in the descriptors)",
-        ))?;
-    with_files(alloc, with_printing(alloc, command)?)
+    let command = named(
+        alloc,
+        "forward",
+        "Forwards the frames of standard input, one a line, between two ports, and prints the wires and the flows",
+        FORWARD_EXAMPLES,
+    );
+    let command = with_work(alloc, with_queues(alloc, command));
+    with_files(alloc, with_printing(alloc, with_manners(alloc, command)))
 }
 
 /// A command with the options of `forward` for queues and buffers.
-fn with_queues<'a>(alloc: Global, command: Command<'a>) -> Result<Command<'a>, AllocError>
-    ensures app { IfOk result (λ c. app_of c ≡ with_queue_rules (app_of command.entry)) }
-    ensures local { IfOk result (λ c. (out-Command c).has_globals ≡ (out-Command command.entry).has_globals) }
+fn with_queues<'a>(
+    alloc: Global,
+    command: Result<Command<'a>, AllocError>,
+) -> Result<Command<'a>, AllocError>
+    ensures { IfOk result (Grows with_queue_rules command.entry) }
 {
-    command
-        .arg(number(
+    let command = with(
+        command,
+        number(
             alloc,
             "pairs",
             "1",
             "How many queue pairs each port has, 1 to 8",
-        ))?
-        .arg(number(
+        ),
+    );
+    let command = with(
+        command,
+        number(
             alloc,
             "ring",
             "512",
             "How many descriptors each ring has, a power of two from 8 to 4,096",
-        ))?
-        .arg(number(
+        ),
+    );
+    let command = with(
+        command,
+        number(
             alloc,
             "buffers",
             "4096",
             "How many buffers there are, 16 to 65,536, and at least 32 for each queue pair",
-        ))?
-        .arg(number(
+        ),
+    );
+    with(
+        command,
+        number(
             alloc,
             "bsize",
             "2048",
             "To how many bytes a receive buffer is filled, 1,024 or 2,048",
-        ))
+        ),
+    )
 }
 
 /// A command with the options of `forward` for its workers.
-fn with_work<'a>(alloc: Global, command: Command<'a>) -> Result<Command<'a>, AllocError>
-    ensures app { IfOk result (λ c. app_of c ≡ with_work_rules (app_of command.entry)) }
-    ensures local { IfOk result (λ c. (out-Command c).has_globals ≡ (out-Command command.entry).has_globals) }
+fn with_work<'a>(
+    alloc: Global,
+    command: Result<Command<'a>, AllocError>,
+) -> Result<Command<'a>, AllocError>
+    ensures { IfOk result (Grows with_work_rules command.entry) }
 {
-    command
-        .arg(number(
+    let command = with(
+        command,
+        number(
             alloc,
             "batch",
             "32",
             "The most packets that a driver takes at once, 1 to 32",
-        ))?
-        .arg(number(
+        ),
+    );
+    let command = with(
+        command,
+        number(
             alloc,
             "rs-every",
             "32",
             "After how many frames a driver asks for a report, 1 to 4,096",
-        ))?
-        .arg(number(
+        ),
+    );
+    let command = with(
+        command,
+        number(
             alloc,
             "workers",
             "1",
             "How many threads of drivers and of controllers there are each, 1 to two a queue pair",
-        ))?
-        .arg(number(
+        ),
+    );
+    with(
+        command,
+        number(
             alloc,
             "turns",
             "0",
             "After how many turns of its driver a flow is cut, 0 to 4,294,967,295; 0 is never",
-        ))
+        ),
+    )
+}
+
+/// A command with the options of `forward` for full rings and for reports.
+fn with_manners<'a>(
+    alloc: Global,
+    command: Result<Command<'a>, AllocError>,
+) -> Result<Command<'a>, AllocError>
+    ensures { IfOk result (Grows with_manner_rules command.entry) }
+{
+    let command = with(
+        command,
+        flag(
+            alloc,
+            "drop",
+            "Drops a frame for which a receive ring has too few free descriptors (default: holds it)",
+        ),
+    );
+    let command = with(
+        command,
+        flag(
+            alloc,
+            "no-retry",
+            "Drops packets for which a transmit ring has no room (default: keeps them)",
+        ),
+    );
+    with(
+        command,
+        flag(
+            alloc,
+            "head",
+            "Reports what was sent by a head word (default: in the descriptors)",
+        ),
+    )
 }
 
 /// A command with the options of `forward` for what it prints.
-fn with_printing<'a>(alloc: Global, command: Command<'a>) -> Result<Command<'a>, AllocError>
-    ensures app { IfOk result (λ c. app_of c ≡ with_printing_rules (app_of command.entry)) }
-    ensures local { IfOk result (λ c. (out-Command c).has_globals ≡ (out-Command command.entry).has_globals) }
+fn with_printing<'a>(
+    alloc: Global,
+    command: Result<Command<'a>, AllocError>,
+) -> Result<Command<'a>, AllocError>
+    ensures { IfOk result (Grows with_printing_rules command.entry) }
 {
-    command
-        .arg(flag(alloc, "quiet", "Leaves the frames of the wires out"))?
-        .arg(flag(
+    let command = with(
+        command,
+        flag(alloc, "quiet", "Leaves the frames of the wires out"),
+    );
+    let command = with(
+        command,
+        flag(
             alloc,
             "json",
             "Prints the counts of each flow as a JSON object",
-        ))?
-        .arg(flag(
+        ),
+    );
+    with(
+        command,
+        flag(
             alloc,
             "progress",
             "Shows on standard error once a second how far it is, with --json as a JSON object",
-        ))
+        ),
+    )
 }

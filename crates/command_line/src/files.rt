@@ -1,15 +1,16 @@
 //! The options of `forward` for files, and the files in their matches.
 ghost use Rattle.std.specs.Prelude.{◌≡◌, ◌||◌, List, Some, All, IfOk, IsSomeAnd, MatchResult, codes, false, map};
 ghost use Rattle.std.specs.String.{string_bytes};
-ghost use Rattle.clap.specs.Words.{Row, app_of, found_of, kind_of, rows_of, rule_of, subcommand_rows_of};
-ghost use Rattle.clap.specs.declared.builder.command.Command.TheViews.{out-Command};
+ghost use Rattle.clap.specs.Words.{Row, found_of, kind_of, rows_of, rule_of, subcommand_rows_of};
 ghost use Rattle.clap.specs.declared.error.kind.ErrorKind.TheVariants.{OutOfMemory};
 ghost use Rattle.forwarder.specs.declared.config.Config.{Config as ForwardConfig};
 ghost use Rattle.forward_command.specs.declared.printing.Printing.{Printing as Printed};
 ghost use Rattle.port_files.specs.Words.{IsSource, IsWireFile, PortFile, SourceFile, source_word, wire_file_word};
+ghost use Rattle.command_line.specs.Building.{Grows};
 ghost use Rattle.command_line.specs.CommandLine.{SaysForward};
 ghost use Rattle.command_line.specs.FileWords.{AreFiles, FileOptions, HasFiles, HoldsFiles, file_rule, file_values, with_file_rules};
 
+use crate::building::with;
 use crate::command::program;
 use clap::error::ErrorKind;
 use clap::{Arg, ArgAction, ArgMatches, Command, Error};
@@ -131,23 +132,30 @@ fn wires_said<'a>(alloc: Global, words: &[&'a str]) -> Result<Option<Vec<WireFil
 }
 
 /// A command with the options of `forward` for files.
-pub(crate) fn with_files<'a>(alloc: Global, command: Command<'a>) -> Result<Command<'a>, AllocError>
-    ensures app { IfOk result (λ c. app_of c ≡ with_file_rules (app_of command.entry)) }
-    ensures local { IfOk result (λ c. (out-Command c).has_globals ≡ (out-Command command.entry).has_globals) }
+pub(crate) fn with_files<'a>(
+    alloc: Global,
+    command: Result<Command<'a>, AllocError>,
+) -> Result<Command<'a>, AllocError>
+    ensures { IfOk result (Grows with_file_rules command.entry) }
 {
-    command
-        .arg(file(
+    let command = with(
+        command,
+        file(
             alloc,
             "capture",
             "P:Q=FILE",
             "Takes the frames of a capture, which come in at port P, queue Q, in place of standard input; may be repeated",
-        ))?
-        .arg(file(
+        ),
+    );
+    with(
+        command,
+        file(
             alloc,
             "wire-capture",
             "P=FILE",
             "Writes what leaves port P as a capture, by queue, frame k at k microseconds; may be repeated",
-        ))
+        ),
+    )
 }
 
 /// An option with a file, which may be repeated.

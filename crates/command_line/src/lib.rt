@@ -7,6 +7,7 @@
 #![tactic(auto)]
 
 mod arguments;
+mod building;
 mod captures;
 mod command;
 mod covers;

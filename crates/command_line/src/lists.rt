@@ -1,13 +1,14 @@
 //! The command `schedules`, and what is asked for in its matches.
-ghost use Rattle.std.specs.Prelude.{◌≡◌, Some, false, codes, IfOk, IfSome, IsSomeAnd};
-ghost use Rattle.clap.specs.Words.{app_of, found_of, rows_of};
-ghost use Rattle.clap.specs.declared.builder.command.Command.TheViews.{out-Command};
+ghost use Rattle.std.specs.Prelude.{◌≡◌, Some, codes, IfOk, IfSome, IsSomeAnd};
+ghost use Rattle.clap.specs.Words.{found_of, rows_of};
 ghost use Rattle.schedule_command.specs.declared.request.ScheduleRequest.{ScheduleRequest as Lists};
 ghost use Rattle.cover_command.specs.declared.request.CoverRequest.{CoverRequest as Covering};
+ghost use Rattle.command_line.specs.Building.{Grows, IsNew};
 ghost use Rattle.command_line.specs.CommandLine.{CanBeDone, IsCover, IsSchedules};
 ghost use Rattle.command_line.specs.ScheduleWords.{HasCover, HasSchedules, schedules_app, with_drawing_rules, with_list_rules};
 
 use crate::arguments::{flag, number, said, share};
+use crate::building::{named, with};
 use crate::command::{Asked, completion_in};
 use crate::covers::cover_in;
 use clap::{ArgMatches, Command};
@@ -74,79 +75,111 @@ fn plan_in<'a>(matches: &ArgMatches<'a>) -> Option<SchedulePlan>
 
 /// The command `schedules`.
 pub(crate) fn schedules<'a>(alloc: Global) -> Result<Command<'a>, AllocError>
-    ensures app { IfOk result (λ c. app_of c ≡ schedules_app) }
-    ensures local { IfOk result (λ c. (out-Command c).has_globals ≡ false) }
+    ensures { IfOk result (IsNew (λ app. app ≡ schedules_app)) }
 {
-    let command = Command::new(alloc, "schedules")
-        .about(
-            "Prints lists of moves drawn from a seed, the same for the same words on every machine, or lists that together meet all that a queue can do",
-        )
-        .after_help(EXAMPLES);
-    with_drawing(alloc, with_lists(alloc, command)?)
+    let command = named(
+        alloc,
+        "schedules",
+        "Prints lists of moves drawn from a seed, the same for the same words on every machine, or lists that together meet all that a queue can do",
+        EXAMPLES,
+    );
+    with_drawing(alloc, with_lists(alloc, command))
 }
 
 /// A command with the options of `schedules` for its lists and their queues.
-fn with_lists<'a>(alloc: Global, command: Command<'a>) -> Result<Command<'a>, AllocError>
-    ensures app { IfOk result (λ c. app_of c ≡ with_list_rules (app_of command.entry)) }
-    ensures local { IfOk result (λ c. (out-Command c).has_globals ≡ (out-Command command.entry).has_globals) }
+fn with_lists<'a>(
+    alloc: Global,
+    command: Result<Command<'a>, AllocError>,
+) -> Result<Command<'a>, AllocError>
+    ensures { IfOk result (Grows with_list_rules command.entry) }
 {
-    command
-        .arg(said(
+    let command = with(
+        command,
+        said(
             alloc,
             "seed",
             "Which lists are drawn, 0 to 4,294,967,295; has to be said without --cover",
-        ))?
-        .arg(said(
+        ),
+    );
+    let command = with(
+        command,
+        said(
             alloc,
             "moves",
             "How many moves each list has, 0 to 4,294,967,295; has to be said without --cover",
-        ))?
-        .arg(number(
+        ),
+    );
+    let command = with(
+        command,
+        number(
             alloc,
             "count",
             "1",
             "How many lists there are, 0 to 4,294,967,295",
-        ))?
-        .arg(number(
+        ),
+    );
+    let command = with(
+        command,
+        number(
             alloc,
             "ring",
             "8",
             "How many descriptors each queue has, a power of two from 8 to 4,096",
-        ))?
-        .arg(number(
+        ),
+    );
+    with(
+        command,
+        number(
             alloc,
             "pairs",
             "1",
             "How many pairs of a receive and a transmit queue there are, 1 to 8",
-        ))
+        ),
+    )
 }
 
 /// A command with the options of `schedules` for how a list is drawn and what follows it.
-fn with_drawing<'a>(alloc: Global, command: Command<'a>) -> Result<Command<'a>, AllocError>
-    ensures app { IfOk result (λ c. app_of c ≡ with_drawing_rules (app_of command.entry)) }
-    ensures local { IfOk result (λ c. (out-Command c).has_globals ≡ (out-Command command.entry).has_globals) }
+fn with_drawing<'a>(
+    alloc: Global,
+    command: Result<Command<'a>, AllocError>,
+) -> Result<Command<'a>, AllocError>
+    ensures { IfOk result (Grows with_drawing_rules command.entry) }
 {
-    command
-        .arg(flag(alloc, "off", "Begins with disabled queues"))?
-        .arg(flag(alloc, "head", "Reports what was sent by a head word"))?
-        .arg(share(
+    let command = with(command, flag(alloc, "off", "Begins with disabled queues"));
+    let command = with(
+        command,
+        flag(alloc, "head", "Reports what was sent by a head word"),
+    );
+    let command = with(
+        command,
+        share(
             alloc,
             "refused",
             "How many of a hundred moves at most don't happen, 0 to 100",
-        ))?
-        .arg(flag(
+        ),
+    );
+    let command = with(
+        command,
+        flag(
             alloc,
             "expect",
             "Prints below each list what replay prints of it",
-        ))?
-        .arg(flag(
+        ),
+    );
+    let command = with(
+        command,
+        flag(
             alloc,
             "device-only-real",
             "Only moves that silicon and its driver make too",
-        ))?
-        .arg(flag(
+        ),
+    );
+    with(
+        command,
+        flag(
             alloc,
             "cover",
             "Prints no drawn lists, but lists that together meet all that a queue of 8 can do, each below what it meets; beside it stand --head, --expect and --device-only-real alone. How far it is goes to standard error",
-        ))
+        ),
+    )
 }

@@ -10,5 +10,6 @@ returns-clause-rule c =
     let named : rule_of c.value_name.result ≡ record (rule_of c.new.result) { value_names = 1 } = ap rule_of c.value_name.ensures in
     let parsed : rule_of c.value_parser.result ≡ record (rule_of c.value_name.result) { parser = c.value_parser.result.value_parser } = ap rule_of c.value_parser.ensures.others in
     let required : rule_of c.required.result ≡ record (rule_of c.value_parser.result) { required = true } = ap rule_of c.required.ensures in
-    required ∙ ap (λ (r : Rule). record r { required = true }) (parsed
+    let helped : rule_of c.help.result ≡ rule_of c.required.result = ap rule_of c.help.ensures in
+    helped ∙ required ∙ ap (λ (r : Rule). record r { required = true }) (parsed
     ∙ ap₂ (λ (r : Rule) (p : Option ValueParser). record r { parser = p }) (named ∙ ap (λ (r : Rule). record r { value_names = 1 }) c.new.ensures.rule) parser)

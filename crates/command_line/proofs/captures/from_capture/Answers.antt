@@ -1,17 +1,7 @@
-use Rattle.std.proofs.Common.{rules, ◌≡◌, ◌∙◌, ap₂, false, ◌||◌, codes}
-use Rattle.std.proofs.lemmas.Result.{IfOk-weaker}
-use Rattle.clap.specs.Words.{app_of, new_app, with_rule}
-use Rattle.clap.specs.declared.builder.command.Command.TheViews.{out-Command}
+use Rattle.command_line.proofs.Built.{added, begun, made}
 use Rattle.command_line.proofs.captures.from_capture.Goals as goal
 
-pub returns-clause-app : goal.returns-clause-app
-returns-clause-app c =
-    let new_is : app_of c.after_help.result ≡ new_app (codes "from-capture") = search rules in
-    let with_port = c.in_ok-arg.ensures.shape c.port.ensures.local ∙ ap₂ with_rule new_is c.port.ensures.rule in
-    IfOk-weaker c.arg-2.result _ _ (λ r adds. adds.shape c.queue.ensures.local ∙ ap₂ with_rule with_port c.queue.ensures.rule) c.arg-2.ensures
-
-pub returns-clause-local : goal.returns-clause-local
-returns-clause-local c =
-    let new : (out-Command c.after_help.result).has_globals ≡ false = search rules in
-    let with_port = c.in_ok-arg.ensures.globals ∙ ap₂ (λ x y. x || y) new c.port.ensures.local in
-    IfOk-weaker c.arg-2.result _ _ (λ r adds. adds.globals ∙ ap₂ (λ x y. x || y) with_port c.queue.ensures.local) c.arg-2.ensures
+pub returns : goal.returns
+returns c =
+    let port = added _ c.port.result _ _ _ _ (begun _) c.port.ensures.rule c.with-command.ensures in
+    made _ _ _ _ c.named-command.ensures (added _ c.queue.result _ _ _ _ port c.queue.ensures.rule c.with.ensures)
