@@ -1,12 +1,14 @@
-//! The capture that is measured.
+//! What is measured: a script or a capture, whose room is reserved at once, so that making it leaves no gaps in memory that
+//! reading could fill.
 
 ghost use Rattle.std.specs.Prelude.{◌≤◌};
 ghost use Rattle.limits.specs.declared.profile.TheConstants.{LEAST_FRAME, MOST_FRAME};
 
 use anyhow::Result;
 use capture::{CaptureRecord, write_header, write_record};
-use limits::MOST_FRAME;
+use limits::{MOST_FRAME, MOST_PAIRS, PORTS};
 use std::alloc::Global;
+use wire_script::print_line;
 
 // The next of a sequence of numbers that looks random (Knuth's MMIX constants).
 fn next(state: u64) -> u64 {
@@ -24,7 +26,24 @@ fn fill(frame: &mut [u8], number: u32) {
     }
 }
 
-/// A capture of so many frames of so many bytes. Its room is reserved at once.
+/// A script of so many frames of so many bytes, at each port and queue in turn.
+pub fn script(alloc: Global, frames: u32, length: usize) -> Result<Vec<u8>> {
+    let room = length
+        .saturating_mul(2)
+        .saturating_add(5)
+        .saturating_mul(frames as usize);
+    let mut text = String::with_capacity(alloc, room)?;
+    let mut frame = Vec::from_elem(alloc, 0u8, length)?;
+    for number in 0..frames {
+        fill(frame.as_mut_slice(), number);
+        let at = number as usize;
+        let (port, queue) = ((at % PORTS) as u8, (at / PORTS % MOST_PAIRS) as u8);
+        print_line(alloc, &mut text, port, queue, frame.as_slice())?;
+    }
+    Ok(text.into_bytes())
+}
+
+/// A capture of so many frames of so many bytes.
 pub fn capture(alloc: Global, frames: u32, length: usize) -> Result<Vec<u8>>
     requires least { LEAST_FRAME ≤ length }
     requires greatest { length ≤ MOST_FRAME }
