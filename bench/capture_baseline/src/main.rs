@@ -1,5 +1,5 @@
-//! How fast plain Rust reads and writes captures: `capture_baseline <frames> <bytes> <rounds>` does what `capture_bench`
-//! of the repository does, and prints the same lines.
+//! How fast plain Rust reads and writes captures: `capture_baseline <frames> <bytes> <rounds>` does what `text_bench
+//! capture` of the repository does, and prints the same lines.
 
 mod capture;
 

@@ -1,49 +1,48 @@
 //! What a capture has, as text.
 
-use capture::{CaptureRecord, TimeUnit, read};
-use std::alloc::{AllocError, Global};
+use anyhow::Result;
+use capture::{CaptureError, CaptureRecord, TimeUnit, read};
 
-/// A line for each frame of a capture: its time with nine digits after the point, its length on the wire and its bytes.
-/// Or the refusal.
-pub fn told(alloc: Global, bytes: &[u8]) -> Result<String, AllocError> {
-    match read(alloc, bytes) {
-        Ok(capture) => lines(alloc, capture.unit(), capture.records()),
-        Err(refused) => match refused.record() {
-            Some(number) => {
-                format!(in alloc; "record {number}: refused {} {refused}\n", refused.number())
-            }
-            None => format!(in alloc; "refused {} {refused}\n", refused.number()),
-        },
+/// Prints a line for each frame of a capture: its time with nine digits after the point, its length on the wire and its
+/// bytes. Or the refusal.
+pub fn tell_capture<R: Print + AllocGlobal>(rt: &R, bytes: &[u8]) -> Result<()> {
+    match read(rt.alloc(), bytes) {
+        Ok(capture) => tell_records(rt, capture.unit(), capture.records()),
+        Err(refused) => tell_refusal(rt, refused),
     }
 }
 
-fn lines(
-    alloc: Global,
+fn tell_refusal<R: Print>(rt: &R, refused: CaptureError) -> Result<()> {
+    if let Some(number) = refused.record() {
+        print!(rt; "record {number}: ")?;
+    }
+    println!(rt; "refused {} {refused}", refused.number())?;
+    Ok(())
+}
+
+fn tell_records<R: Print + AllocGlobal>(
+    rt: &R,
     unit: TimeUnit,
     records: &[CaptureRecord<'_>],
-) -> Result<String, AllocError> {
-    let mut text = String::new(alloc);
+) -> Result<()> {
     for found in records {
-        write_line(alloc, &mut text, unit, found)?;
+        tell_time(rt, unit, found)?;
+        tell_frame(rt, found)?;
     }
-    Ok(text)
+    Ok(())
 }
 
-fn write_line(
-    alloc: Global,
-    text: &mut String,
-    unit: TimeUnit,
-    found: &CaptureRecord<'_>,
-) -> Result<(), AllocError> {
-    let fraction = match unit {
-        TimeUnit::Micros => format!(in alloc; "{:06}000", found.fraction())?,
-        TimeUnit::Nanos => format!(in alloc; "{:09}", found.fraction())?,
-    };
-    let digits = hex::encode(alloc, found.frame())?;
-    writeln!(
-        text,
-        "{}.{fraction} {} {digits}",
-        found.seconds(),
-        found.wire_len()
-    )
+fn tell_time<R: Print>(rt: &R, unit: TimeUnit, found: &CaptureRecord<'_>) -> Result<()> {
+    let (seconds, fraction) = (found.seconds(), found.fraction());
+    match unit {
+        TimeUnit::Micros => print!(rt; "{seconds}.{fraction:06}000")?,
+        TimeUnit::Nanos => print!(rt; "{seconds}.{fraction:09}")?,
+    }
+    Ok(())
+}
+
+fn tell_frame<R: Print + AllocGlobal>(rt: &R, found: &CaptureRecord<'_>) -> Result<()> {
+    let digits = hex::encode(rt.alloc(), found.frame())?;
+    println!(rt; " {} {digits}", found.wire_len())?;
+    Ok(())
 }

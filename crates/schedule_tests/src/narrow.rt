@@ -1,13 +1,23 @@
 //! An output that fails.
 
+use std::alloc::Global;
 use std::io;
 use std::io::{ErrorKind, Write};
 
 /// An output that takes so many bytes, and then fails.
 #[derive(Drop)]
 pub struct Narrow {
-    pub room: usize,
+    room: usize,
     pub taken: Vec<u8>,
+}
+
+impl Narrow {
+    pub fn new(alloc: Global, room: usize) -> Narrow {
+        Narrow {
+            room,
+            taken: Vec::new(alloc),
+        }
+    }
 }
 
 impl Write for Narrow {

@@ -8,18 +8,19 @@ use schedule_command::{ScheduleRequest, answer};
 use schedules::SchedulePlan;
 use std::alloc::Global;
 use std::process::Abort;
-use std::test::Fail;
+
+const PLAN: SchedulePlan = SchedulePlan {
+    pairs: 1,
+    ring: 8,
+    enabled: true,
+    completion: Completion::Status,
+    moves: 4,
+    refused: 0,
+    device_only: false,
+};
 
 const REQUEST: ScheduleRequest = ScheduleRequest {
-    plan: SchedulePlan {
-        pairs: 1,
-        ring: 8,
-        enabled: true,
-        completion: Completion::Status,
-        moves: 4,
-        refused: 0,
-        device_only: false,
-    },
+    plan: PLAN,
     seed: 1,
     count: 2,
     expect: false,
@@ -39,97 +40,91 @@ const QUEUES: QueuePlan = QueuePlan {
 };
 
 /// What is printed, for a request that is done.
-fn printed<A: Abort>(rt: &A, alloc: Global, request: &ScheduleRequest) -> Result<String, Fail> {
+fn printed<A: Abort>(rt: &A, alloc: Global, request: &ScheduleRequest) -> String {
     let (mut output, mut faults) = (Vec::new(alloc), Vec::new(alloc));
     let status = answer(alloc, request, &mut output, &mut faults);
-    holds(&rt, faults.is_empty());
-    same(&rt, status, 0);
-    Ok(String::from_utf8(output)?)
+    same(rt, (status, faults.len()), (0, 0));
+    String::from_utf8(output).expect(rt, "a text")
 }
 
 #[test]
-fn lists_stand_one_behind_another(rt: HostRuntime) -> Result<(), Fail> {
-    let text = printed(&rt, rt.alloc(), &REQUEST)?;
+fn lists_stand_one_behind_another(rt: HostRuntime) {
+    let text = printed(&rt, rt.alloc(), &REQUEST);
     same(&rt, text.as_str(), LISTS);
-    Ok(())
+}
+
+/// One list, and with what is expected of it.
+const ONE: ScheduleRequest = ScheduleRequest {
+    count: 1,
+    ..REQUEST
+};
+
+const ONE_EXPECTED: ScheduleRequest = ScheduleRequest {
+    expect: true,
+    ..ONE
+};
+
+/// What is printed behind a list is what `replay` prints of it.
+fn is_expected<A: Abort>(rt: &A, alloc: Global, list: &str, whole: &str) {
+    let page = replay_text(alloc, QUEUES, &mut list.as_bytes()).expect(rt, "a page");
+    same(rt, whole.strip_prefix(list), Some(page.as_str()));
+    holds(rt, whole.ends_with("moves 4 of 4\n"));
 }
 
 #[test]
-fn what_is_expected_is_what_replay_prints(rt: HostRuntime) -> Result<(), Fail> {
-    let alloc = rt.alloc();
-    let one = ScheduleRequest {
-        count: 1,
-        ..REQUEST
-    };
-    let list = printed(&rt, alloc, &one)?;
-    let whole = printed(
-        &rt,
-        alloc,
-        &ScheduleRequest {
-            expect: true,
-            ..one
-        },
-    )?;
-    let expected = replay_text(alloc, QUEUES, &mut list.as_bytes())?;
-    same(
-        &rt,
-        whole.as_str(),
-        format!(in alloc; "{list}{expected}")?.as_str(),
-    );
-    holds(&rt, whole.as_str().ends_with("moves 4 of 4\n"));
-    Ok(())
+fn what_is_expected_is_what_replay_prints(rt: HostRuntime) {
+    let list = printed(&rt, rt.alloc(), &ONE);
+    let whole = printed(&rt, rt.alloc(), &ONE_EXPECTED);
+    is_expected(&rt, rt.alloc(), list.as_str(), whole.as_str())
 }
 
+const NONE: ScheduleRequest = ScheduleRequest {
+    count: 0,
+    ..REQUEST
+};
+
 #[test]
-fn no_list_is_nothing(rt: HostRuntime) -> Result<(), Fail> {
-    let request = ScheduleRequest {
-        count: 0,
-        ..REQUEST
-    };
-    let text = printed(&rt, rt.alloc(), &request)?;
+fn no_list_is_nothing(rt: HostRuntime) {
+    let text = printed(&rt, rt.alloc(), &NONE);
     same(&rt, text.as_str(), "");
-    Ok(())
 }
 
-/// A request is refused so, with this beginning of the output.
+/// A request is refused with this line, and with this output in so much room.
 fn is_refused<A: Abort>(
     rt: &A,
     alloc: Global,
     request: &ScheduleRequest,
-    room: usize,
+    (room, wanted): (usize, &[u8]),
     line: &str,
-) -> Result<Vec<u8>, Fail> {
-    let mut output = Narrow {
-        room,
-        taken: Vec::new(alloc),
-    };
+) {
+    let mut output = Narrow::new(alloc, room);
     let mut faults = Vec::new(alloc);
     let status = answer(alloc, request, &mut output, &mut faults);
-    same(&rt, String::from_utf8(faults)?.as_str(), line);
-    same(&rt, status, 1);
-    Ok(output.taken)
+    let told = (status, faults.as_slice(), output.taken.as_slice());
+    same(rt, told, (1, line.as_bytes(), wanted));
 }
 
 #[test]
-fn an_output_that_fails_has_a_beginning(rt: HostRuntime) -> Result<(), Fail> {
-    let whole = printed(&rt, rt.alloc(), &REQUEST)?;
-    for room in 0..whole.len() {
-        let taken = is_refused(&rt, rt.alloc(), &REQUEST, room, "refused 84 output\n")?;
-        same(&rt, taken.as_slice(), &whole.as_bytes()[..room]);
+fn an_output_that_fails_has_a_beginning(rt: HostRuntime) {
+    for room in 0..LISTS.len() {
+        let wanted = &LISTS.as_bytes()[..room];
+        is_refused(
+            &rt,
+            rt.alloc(),
+            &REQUEST,
+            (room, wanted),
+            "refused 84 output\n",
+        );
     }
-    Ok(())
 }
 
+const NO_RING: ScheduleRequest = ScheduleRequest {
+    plan: SchedulePlan { ring: 9, ..PLAN },
+    ..REQUEST
+};
+
 #[test]
-fn queues_that_cannot_be_are_refused(rt: HostRuntime) -> Result<(), Fail> {
-    let request = ScheduleRequest {
-        plan: SchedulePlan {
-            ring: 9,
-            ..REQUEST.plan
-        },
-        ..REQUEST
-    };
-    let taken = is_refused(&rt, rt.alloc(), &request, 100, "refused 12 ring length\n")?;
-    holds(&rt, taken.is_empty());
-    Ok(())
+fn queues_that_cannot_be_are_refused(rt: HostRuntime) {
+    let line = "refused 12 ring length\n";
+    is_refused(&rt, rt.alloc(), &NO_RING, (100, b""), line);
 }
