@@ -4,7 +4,6 @@ use crate::told::same;
 use capture::{CaptureError, CaptureRecord, TimeUnit, read, write};
 use std::alloc::{AllocError, Global};
 use std::process::Abort;
-use std::test::Fail;
 
 /// A frame of 14 bytes.
 const FRAME: &[u8] = b"abcdefghijklmn";
@@ -109,27 +108,20 @@ fn joined(alloc: Global, parts: &[Part]) -> Result<Vec<u8>, AllocError> {
 }
 
 /// So is answered of the file of these parts.
-fn is_answered<R: Abort>(
-    rt: &R,
-    alloc: Global,
-    parts: &[Part],
-    wanted: Answer,
-) -> Result<(), AllocError> {
-    let bytes = joined(alloc, parts)?;
+fn is_answered<R: Abort>(rt: &R, alloc: Global, parts: &[Part], wanted: Answer) {
+    let bytes = joined(alloc, parts).expect(rt, "memory");
     same(
         rt,
         (parts, answer(alloc, bytes.as_slice())),
         (parts, wanted),
     );
-    Ok(())
 }
 
 #[test]
-fn the_first_fault_is_named(rt: HostRuntime) -> Result<(), Fail> {
+fn the_first_fault_is_named(rt: HostRuntime) {
     for (parts, wanted) in FILES {
-        is_answered(&rt, rt.alloc(), parts, *wanted)?;
+        is_answered(&rt, rt.alloc(), parts, *wanted);
     }
-    Ok(())
 }
 
 /// Parts of a file of one record, of 1 second and 2 parts of one: the unit of those, and the length on the wire.
@@ -147,26 +139,20 @@ fn is_record<R: Abort>(rt: &R, found: &CaptureRecord<'_>, wire_len: u32) {
 }
 
 /// The file of these parts has that record.
-fn has_record<R: Abort>(
-    rt: &R,
-    alloc: Global,
-    (parts, unit, wire_len): (&[Part], TimeUnit, u32),
-) -> Result<(), Fail> {
-    let bytes = joined(alloc, parts)?;
-    let capture = read(alloc, bytes.as_slice())?;
+fn has_record<R: Abort>(rt: &R, alloc: Global, (parts, unit, wire_len): (&[Part], TimeUnit, u32)) {
+    let bytes = joined(alloc, parts).expect(rt, "memory");
+    let capture = read(alloc, bytes.as_slice()).expect(rt, "a capture");
     same(rt, (parts, capture.unit()), (parts, unit));
     for found in capture.records() {
         is_record(rt, found, wire_len);
     }
-    Ok(())
 }
 
 #[test]
-fn a_record_has_its_time_and_its_lengths(rt: HostRuntime) -> Result<(), Fail> {
+fn a_record_has_its_time_and_its_lengths(rt: HostRuntime) {
     for row in RECORDS {
-        has_record(&rt, rt.alloc(), *row)?;
+        has_record(&rt, rt.alloc(), *row);
     }
-    Ok(())
 }
 
 /// Each refusal, with its number and that of its record, and its words.
@@ -189,24 +175,17 @@ const WORDS: &[(CaptureError, &str)] = &[
     (CaptureError::Memory, "97 None memory"),
 ];
 
-fn has_words<R: Abort>(
-    rt: &R,
-    alloc: Global,
-    refused: CaptureError,
-    words: &str,
-) -> Result<(), AllocError> {
+fn has_words<R: Abort>(rt: &R, alloc: Global, refused: CaptureError, words: &str) {
     let (number, record) = (refused.number(), refused.record());
-    let text = format!(in alloc; "{number} {record:?} {refused}")?;
+    let text = format!(in alloc; "{number} {record:?} {refused}").expect(rt, "memory");
     same(rt, text.as_str(), words);
-    Ok(())
 }
 
 #[test]
-fn refusals_have_words(rt: HostRuntime) -> Result<(), Fail> {
+fn refusals_have_words(rt: HostRuntime) {
     for (refused, words) in WORDS {
-        has_words(&rt, rt.alloc(), *refused, words)?;
+        has_words(&rt, rt.alloc(), *refused, words);
     }
-    Ok(())
 }
 
 // A capture of three frames of 14, 60 and 15,000 bytes.
@@ -238,22 +217,20 @@ fn are_answered<R: Abort>(
     alloc: Global,
     bytes: &[u8],
     (least, beyond, wanted): (usize, usize, Answer),
-) -> Result<(), Fail> {
+) {
     for length in least..beyond {
-        let beginning = bytes.get(..length).ok_or("it is shorter")?;
+        let beginning = bytes.get(..length).expect(rt, "a beginning");
         same(rt, (length, answer(alloc, beginning)), (length, wanted));
     }
-    Ok(())
 }
 
 #[test]
-fn each_beginning_is_read_or_named(rt: HostRuntime) -> Result<(), Fail> {
-    let bytes = three(rt.alloc())?;
+fn each_beginning_is_read_or_named(rt: HostRuntime) {
+    let bytes = three(rt.alloc()).expect(&rt, "a capture");
     same(&rt, bytes.len(), 15_146);
     for lengths in BEGINNINGS {
-        are_answered(&rt, rt.alloc(), bytes.as_slice(), lengths)?;
+        are_answered(&rt, rt.alloc(), bytes.as_slice(), lengths);
     }
-    Ok(())
 }
 
 /// Bytes of the header from one to below another, and what is answered where a bit of one is flipped.
@@ -283,10 +260,9 @@ fn flipped_are_answered<R: Abort>(
 }
 
 #[test]
-fn each_bit_of_the_header_flipped_is_read_or_named(rt: HostRuntime) -> Result<(), Fail> {
-    let mut bytes = three(rt.alloc())?;
+fn each_bit_of_the_header_flipped_is_read_or_named(rt: HostRuntime) {
+    let mut bytes = three(rt.alloc()).expect(&rt, "a capture");
     for places in PLACES {
         flipped_are_answered(&rt, rt.alloc(), bytes.as_mut_slice(), places);
     }
-    Ok(())
 }

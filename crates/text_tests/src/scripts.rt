@@ -3,7 +3,6 @@
 use crate::told::same;
 use std::alloc::{AllocError, Global};
 use std::process::Abort;
-use std::test::Fail;
 use wire_script::{Script, ScriptError, WireFrame, parse, print};
 
 // The number and the line of a refusal.
@@ -105,23 +104,16 @@ const PRINTED: &[(&str, &str)] = &[
     ),
 ];
 
-fn is_printed<R: Abort>(
-    rt: &R,
-    alloc: Global,
-    text: &str,
-    wanted: &str,
-) -> Result<(), ScriptError> {
-    let again = printed(alloc, text)?;
+fn is_printed<R: Abort>(rt: &R, alloc: Global, text: &str, wanted: &str) {
+    let again = printed(alloc, text).expect(rt, "a script");
     same(rt, (text, again.as_str()), (text, wanted));
-    Ok(())
 }
 
 #[test]
-fn frames_are_read_and_printed(rt: HostRuntime) -> Result<(), Fail> {
+fn frames_are_read_and_printed(rt: HostRuntime) {
     for (text, wanted) in PRINTED {
-        is_printed(&rt, rt.alloc(), text, wanted)?;
+        is_printed(&rt, rt.alloc(), text, wanted);
     }
-    Ok(())
 }
 
 // A text, and then another over and over.
@@ -144,62 +136,61 @@ const LENGTHS: &[(&str, usize, Option<u8>)] = &[
     ("a5-", 15_002, Some(74)),
 ];
 
-fn is_length<R: Abort>(
-    rt: &R,
-    alloc: Global,
-    (more, times, number): (&str, usize, Option<u8>),
-) -> Result<(), AllocError> {
-    let line = repeated(alloc, "0 0 ", more, times)?;
+fn is_length<R: Abort>(rt: &R, alloc: Global, (more, times, number): (&str, usize, Option<u8>)) {
+    let line = repeated(alloc, "0 0 ", more, times).expect(rt, "memory");
     let wanted = number.map(|number| (number, Some(1)));
     same(
         rt,
         (more, times, refusal(alloc, line.as_str())),
         (more, times, wanted),
     );
-    Ok(())
 }
 
 /// Scripts of one frame that is filled, and its length.
 const FILLED: &[(&str, usize)] = &[("1 7 fill 14 a5", 14), ("1 7 fill 15000 a5", 15_000)];
 
-fn is_filled<R: Abort>(rt: &R, alloc: Global, text: &str, len: usize) -> Result<(), ScriptError> {
-    let script = parse(alloc, text.as_bytes())?;
+fn is_filled<R: Abort>(rt: &R, alloc: Global, text: &str, len: usize) {
+    let script = parse(alloc, text.as_bytes()).expect(rt, "a script");
     same(rt, script.frames().len(), 1);
     for frame in script.frames() {
         let told = (frame.port(), frame.queue(), frame.bytes().len());
         same(rt, told, (1, 7, len));
     }
-    Ok(())
 }
 
 #[test]
-fn a_frame_has_14_to_15000_bytes(rt: HostRuntime) -> Result<(), Fail> {
+fn a_frame_has_14_to_15000_bytes(rt: HostRuntime) {
     for row in LENGTHS {
-        is_length(&rt, rt.alloc(), *row)?;
+        is_length(&rt, rt.alloc(), *row);
     }
     for (text, len) in FILLED {
-        is_filled(&rt, rt.alloc(), text, *len)?;
+        is_filled(&rt, rt.alloc(), text, *len);
     }
-    Ok(())
 }
 
 #[test]
-fn a_thousand_frames_are_read_and_printed(rt: HostRuntime) -> Result<(), Fail> {
+fn a_thousand_frames_are_read_and_printed(rt: HostRuntime) {
     let line = "1 7 000102030405060708090a0b0c0d0e\n";
-    let text = repeated(rt.alloc(), "", line, 1_000)?;
-    same(&rt, frames_in(rt.alloc(), text.as_str())?, 1_000);
-    is_printed(&rt, rt.alloc(), text.as_str(), text.as_str())?;
-    Ok(())
+    let text = repeated(rt.alloc(), "", line, 1_000).expect(&rt, "memory");
+    same(
+        &rt,
+        frames_in(rt.alloc(), text.as_str()).expect(&rt, "a script"),
+        1_000,
+    );
+    is_printed(&rt, rt.alloc(), text.as_str(), text.as_str());
 }
 
 #[test]
-fn a_script_has_at_most_a_million_frames(rt: HostRuntime) -> Result<(), Fail> {
-    let mut text = repeated(rt.alloc(), "", "0 0 fill 14 00\n", 1_000_000)?;
-    same(&rt, frames_in(rt.alloc(), text.as_str())?, 1_000_000);
-    text.push_str("#\n0 0 fill 14 00\n")?;
+fn a_script_has_at_most_a_million_frames(rt: HostRuntime) {
+    let mut text = repeated(rt.alloc(), "", "0 0 fill 14 00\n", 1_000_000).expect(&rt, "memory");
+    same(
+        &rt,
+        frames_in(rt.alloc(), text.as_str()).expect(&rt, "a script"),
+        1_000_000,
+    );
+    text.push_str("#\n0 0 fill 14 00\n").expect(&rt, "memory");
     let refused = refusal(rt.alloc(), text.as_str());
     same(&rt, refused, Some((76, Some(1_000_002))));
-    Ok(())
 }
 
 /// A script, each beginning of which is read.
@@ -235,13 +226,14 @@ fn each_beginning_is_read_or_refused_at_its_last_line(rt: HostRuntime) {
 }
 
 #[test]
-fn a_script_is_made_of_frames(rt: HostRuntime) -> Result<(), Fail> {
+fn a_script_is_made_of_frames(rt: HostRuntime) {
     let mut frames = Vec::new(rt.alloc());
-    frames.push(WireFrame::new(1, 6, Vec::from_elem(rt.alloc(), 7u8, 14)?))?;
+    let bytes = Vec::from_elem(rt.alloc(), 7u8, 14).expect(&rt, "memory");
+    let frame = WireFrame::new(1, 6, bytes);
+    frames.push(frame).expect(&rt, "memory");
     let script = Script::new(frames);
-    let text = print(rt.alloc(), script.frames())?;
+    let text = print(rt.alloc(), script.frames()).expect(&rt, "memory");
     same(&rt, text.as_str(), "1 6 0707070707070707070707070707\n");
-    Ok(())
 }
 
 /// Each refusal, with its number, its line and its words.
@@ -258,24 +250,17 @@ const WORDS: &[(ScriptError, &str)] = &[
     (ScriptError::Memory, "77 None memory"),
 ];
 
-fn has_words<R: Abort>(
-    rt: &R,
-    alloc: Global,
-    refused: ScriptError,
-    words: &str,
-) -> Result<(), AllocError> {
+fn has_words<R: Abort>(rt: &R, alloc: Global, refused: ScriptError, words: &str) {
     let (number, line) = (refused.number(), refused.line());
-    let text = format!(in alloc; "{number} {line:?} {refused}")?;
+    let text = format!(in alloc; "{number} {line:?} {refused}").expect(rt, "memory");
     same(rt, text.as_str(), words);
-    Ok(())
 }
 
 #[test]
-fn refusals_have_words(rt: HostRuntime) -> Result<(), Fail> {
+fn refusals_have_words(rt: HostRuntime) {
     for (refused, words) in WORDS {
-        has_words(&rt, rt.alloc(), *refused, words)?;
+        has_words(&rt, rt.alloc(), *refused, words);
     }
-    Ok(())
 }
 
 // With any one allocation refused, as `rt try --test --fail-alloc 1..` does, this passes too.

@@ -4,7 +4,6 @@ use crate::told::same;
 use capture::{CaptureRecord, TimeUnit, read, write};
 use std::alloc::Global;
 use std::process::Abort;
-use std::test::Fail;
 
 /// Magic; versions 2 and 4; zone and accuracy 0; snap length 65,535; Ethernet. Then seconds and microseconds, twice the length
 /// of 14, and the frame.
@@ -12,12 +11,11 @@ const WRITTEN: &[u8] =
     b"\xd4\xc3\xb2\xa1\x02\0\x04\0\0\0\0\0\0\0\0\0\xff\xff\0\0\x01\0\0\0\0\xf1\x53\x65\x3f\x42\x0f\0\x0e\0\0\0\x0e\0\0\0\xab\xab\xab\xab\xab\xab\xab\xab\xab\xab\xab\xab\xab\xab";
 
 #[test]
-fn a_capture_is_written_as_the_format_says(rt: HostRuntime) -> Result<(), Fail> {
+fn a_capture_is_written_as_the_format_says(rt: HostRuntime) {
     let frame = [0xabu8; 14];
     let records = [CaptureRecord::new(0x6553_f100, 999_999, &frame)];
-    let written = write(rt.alloc(), &records)?;
+    let written = write(rt.alloc(), &records).expect(&rt, "memory");
     same(&rt, written.as_slice(), WRITTEN);
-    Ok(())
 }
 
 // A capture that was written is read, or there is no memory.
