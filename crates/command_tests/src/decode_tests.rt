@@ -1,75 +1,83 @@
 //! The command `decode`, row after row.
 
 use crate::told::comes_to;
-use std::test::Fail;
+use std::alloc::Global;
+use std::process::Abort;
+use std::rt::Files;
+use std::sync::Wait;
+use std::thread::Threads;
+use std::time::Clock;
 
-const FORMS: [[&str; 2]; 4] = [
-    ["rx", "read"],
-    ["rx", "back"],
-    ["tx", "read"],
-    ["tx", "back"],
+/// A ring and a format.
+type Form = (&'static str, &'static str);
+
+const FORMS: &[Form] = &[
+    ("rx", "read"),
+    ("rx", "back"),
+    ("tx", "read"),
+    ("tx", "back"),
 ];
 
 /// Each form, the bytes of a descriptor, and its line.
-const LINES: [([&str; 2], &str, &str); 5] = [
+const LINES: &[(Form, &str, &str)] = &[
     // 60 bytes that end their frame, written back
     (
-        ["rx", "back"],
+        ("rx", "back"),
         "0000000000000000030000003c000000",
         "dd 1 eop 1 length 60\n",
     ),
     // buffer 5 with a whole frame of 60 bytes, to be reported, in digits of either case
     (
-        ["tx", "read"],
+        ("tx", "read"),
         "00280000000000003c00302b00000f00",
         "buffer 5 length 60 eop 1 rs 1 paylen 60\n",
     ),
     (
-        ["tx", "read"],
+        ("tx", "read"),
         "00280000000000003C00302B00000F00",
         "buffer 5 length 60 eop 1 rs 1 paylen 60\n",
     ),
-    (["tx", "back"], "00000000000000000000000001000000", "dd 1\n"),
+    (("tx", "back"), "00000000000000000000000001000000", "dd 1\n"),
     (
-        ["rx", "read"],
+        ("rx", "read"),
         "00f8ff07000000000000000000000000",
         "buffer 65535\n",
     ),
 ];
 
 /// Each form, bytes that are not in it, and why.
-const REFUSED: [([&str; 2], &str, &str); 5] = [
+const REFUSED: &[(Form, &str, &str)] = &[
     // DTYP 2, which is a context descriptor
     (
-        ["tx", "read"],
+        ("tx", "read"),
         "00280000000000003c00202b00000f00",
         "refused 3 type\n",
     ),
     // a write-back of no bytes
     (
-        ["rx", "back"],
+        ("rx", "back"),
         "00000000000000000300000000000000",
         "refused 4 size\n",
     ),
     (
-        ["rx", "read"],
+        ("rx", "read"),
         "0000000000000000030000003c000000",
         "refused 2 reserved\n",
     ),
     (
-        ["rx", "back"],
+        ("rx", "back"),
         "00f8ff07000000000000000000000000",
         "refused 2 reserved\n",
     ),
     (
-        ["tx", "back"],
+        ("tx", "back"),
         "00280000000000003c00302b00000f00",
         "refused 2 reserved\n",
     ),
 ];
 
 /// Digits that are no descriptor in any form, and why.
-const NEVER: [(&str, &str); 8] = [
+const NEVER: &[(&str, &str)] = &[
     ("", "refused 1 length\n"),
     ("000000000000000000000000000000", "refused 1 length\n"),
     ("0000000000000000000000000000000000", "refused 1 length\n"),
@@ -80,31 +88,47 @@ const NEVER: [(&str, &str); 8] = [
     ("0x000000000000000000000001000000", "refused 81 hex\n"),
 ];
 
-#[test]
-fn descriptors_are_decoded(rt: HostRuntime) -> Result<(), Fail> {
-    for ([ring, format], digits, line) in LINES {
-        let words = ["decode", ring, format, digits];
-        comes_to(&rt, rt.alloc(), words.as_slice(), "", (0, line, ""))?;
-    }
-    Ok(())
+/// `decode` of these digits in this form comes to this.
+fn decodes<R: Abort + Threads + Wait + Clock + Sync + Files>(
+    rt: &R,
+    alloc: Global,
+    (ring, format): (&str, &str),
+    digits: &str,
+    wanted: (u8, &str, &str),
+) {
+    let words = ["decode", ring, format, digits];
+    comes_to(rt, alloc, words.as_slice(), "", wanted)
 }
 
 #[test]
-fn bytes_of_another_form_are_refused(rt: HostRuntime) -> Result<(), Fail> {
-    for ([ring, format], digits, faults) in REFUSED {
-        let words = ["decode", ring, format, digits];
-        comes_to(&rt, rt.alloc(), words.as_slice(), "", (1, "", faults))?;
+fn descriptors_are_decoded(rt: HostRuntime) {
+    for (form, digits, line) in LINES {
+        decodes(&rt, rt.alloc(), *form, digits, (0, line, ""));
     }
-    Ok(())
 }
 
 #[test]
-fn digits_of_no_descriptor_are_refused_in_each_form(rt: HostRuntime) -> Result<(), Fail> {
+fn bytes_of_another_form_are_refused(rt: HostRuntime) {
+    for (form, digits, faults) in REFUSED {
+        decodes(&rt, rt.alloc(), *form, digits, (1, "", faults));
+    }
+}
+
+/// These digits are refused in each form.
+fn are_never<R: Abort + Threads + Wait + Clock + Sync + Files>(
+    rt: &R,
+    alloc: Global,
+    digits: &str,
+    faults: &str,
+) {
+    for form in FORMS {
+        decodes(rt, alloc, *form, digits, (1, "", faults));
+    }
+}
+
+#[test]
+fn digits_of_no_descriptor_are_refused_in_each_form(rt: HostRuntime) {
     for (digits, faults) in NEVER {
-        for [ring, format] in FORMS {
-            let words = ["decode", ring, format, digits];
-            comes_to(&rt, rt.alloc(), words.as_slice(), "", (1, "", faults))?;
-        }
+        are_never(&rt, rt.alloc(), digits, faults);
     }
-    Ok(())
 }

@@ -3,7 +3,7 @@
 use crate::told::Row;
 
 /// Each kind of note, a move that there isn't, and the count.
-pub const OBJECTS: [Row; 4] = [
+pub const OBJECTS: &[Row] = &[
     // one frame is received, each move told by an object
     Row {
         words: &["replay", "--json"],

@@ -1,11 +1,15 @@
 //! The command `once`, row after row.
 
-use crate::told::comes_to;
+use crate::told::{comes_to, times};
 use std::alloc::{AllocError, Global};
-use std::test::Fail;
+use std::process::Abort;
+use std::rt::Files;
+use std::sync::Wait;
+use std::thread::Threads;
+use std::time::Clock;
 
 /// What `once` has to refuse.
-const REFUSED: [(&str, &str); 6] = [
+const REFUSED: &[(&str, &str)] = &[
     ("000102030405060708090a0b0c", "refused 41 frame length\n"),
     ("", "refused 41 frame length\n"),
     ("0", "refused 81 hex\n"),
@@ -15,7 +19,7 @@ const REFUSED: [(&str, &str); 6] = [
 ];
 
 /// Digits and the line that they come out in.
-const PASSED: [(&str, &str); 2] = [
+const PASSED: &[(&str, &str)] = &[
     (
         "000102030405060708090a0b0c0d",
         "000102030405060708090a0b0c0d\n",
@@ -26,47 +30,38 @@ const PASSED: [(&str, &str); 2] = [
     ),
 ];
 
-/// How many bytes a long frame has, and what it comes to: where it is passed, its digits and nothing else.
-const LONG: [(usize, u8, &str); 5] = [
-    (2_048, 0, ""),
-    (2_049, 0, ""),
-    (9_000, 0, ""),
-    (14_336, 0, ""),
-    (14_337, 1, "refused 41 frame length\n"),
+/// How many bytes a long frame has, and why it is refused; where it isn't, its digits come out and nothing else.
+const LONG: &[(usize, &str)] = &[
+    (2_048, ""),
+    (2_049, ""),
+    (9_000, ""),
+    (14_336, ""),
+    (14_337, "refused 41 frame length\n"),
 ];
 
+/// `once` on these digits comes to this.
+fn passes<R: Abort + Threads + Wait + Clock + Sync + Files>(
+    rt: &R,
+    alloc: Global,
+    digits: &str,
+    wanted: (u8, &str, &str),
+) {
+    let words = ["once", digits];
+    comes_to(rt, alloc, words.as_slice(), "", wanted)
+}
+
 #[test]
-fn frames_come_out_in_lower_case(rt: HostRuntime) -> Result<(), Fail> {
+fn frames_come_out_in_lower_case(rt: HostRuntime) {
     for (digits, line) in PASSED {
-        let words = ["once", digits];
-        comes_to(&rt, rt.alloc(), words.as_slice(), "", (0, line, ""))?;
+        passes(&rt, rt.alloc(), digits, (0, line, ""));
     }
-    Ok(())
 }
 
 #[test]
-fn digits_of_no_frame_are_refused(rt: HostRuntime) -> Result<(), Fail> {
+fn digits_of_no_frame_are_refused(rt: HostRuntime) {
     for (digits, faults) in REFUSED {
-        let words = ["once", digits];
-        comes_to(&rt, rt.alloc(), words.as_slice(), "", (1, "", faults))?;
+        passes(&rt, rt.alloc(), digits, (1, "", faults));
     }
-    Ok(())
-}
-
-#[test]
-fn frames_of_up_to_seven_segments_are_passed(rt: HostRuntime) -> Result<(), Fail> {
-    for (len, status, faults) in LONG {
-        let digits = digits_of(rt.alloc(), len)?;
-        let mut line = String::new(rt.alloc());
-        if status == 0 {
-            line.push_str(digits.as_str())?;
-            line.push('\n')?;
-        }
-        let words = ["once", digits.as_str()];
-        let wanted = (status, line.as_str(), faults);
-        comes_to(&rt, rt.alloc(), words.as_slice(), "", wanted)?;
-    }
-    Ok(())
 }
 
 /// The digits of a frame of so many bytes, of which byte i is i modulo 251.
@@ -76,4 +71,26 @@ fn digits_of(alloc: Global, len: usize) -> Result<String, AllocError> {
         bytes.push((i % 251) as u8)?;
     }
     hex::encode(alloc, bytes.as_slice())
+}
+
+/// A frame of so many bytes is passed, or refused with these faults.
+fn passes_long<R: Abort + Threads + Wait + Clock + Sync + Files>(
+    rt: &R,
+    alloc: Global,
+    len: usize,
+    faults: &str,
+) {
+    let digits = digits_of(alloc, len).expect(rt, "memory");
+    if !faults.is_empty() {
+        return passes(rt, alloc, digits.as_str(), (1, "", faults));
+    }
+    let line = times(alloc, digits.as_str(), 1, "\n").expect(rt, "memory");
+    passes(rt, alloc, digits.as_str(), (0, line.as_str(), ""))
+}
+
+#[test]
+fn frames_of_up_to_seven_segments_are_passed(rt: HostRuntime) {
+    for (len, faults) in LONG {
+        passes_long(&rt, rt.alloc(), *len, faults);
+    }
 }

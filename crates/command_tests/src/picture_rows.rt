@@ -3,7 +3,7 @@
 use crate::told::Row;
 
 /// Each move's queue and the last move's alone, of both directions, a longer ring, no queue and no move.
-pub const PICTURES: [Row; 5] = [
+pub const PICTURES: &[Row] = &[
     // a buffer is posted and published; the third move has no queue
     Row {
         words: &["replay", "--picture"],

@@ -3,7 +3,7 @@
 use crate::told::Row;
 
 /// Both directions, a move that there isn't, a queue that isn't there, and objects.
-pub const REGISTERS: [Row; 3] = [
+pub const REGISTERS: &[Row] = &[
     // one frame is received
     Row {
         words: &["replay", "--registers"],

@@ -3,7 +3,7 @@
 use crate::told::Row;
 
 /// Each list that a table of the machine's moves gives.
-pub const ROWS: [Row; 17] = [
+pub const ROWS: &[Row] = &[
     // one frame is received
     Row {
         words: &["replay"],
@@ -455,7 +455,7 @@ pub const ROWS: [Row; 17] = [
 ];
 
 /// The list of a disabling in the middle of a frame, without the asking of the disabling.
-pub const MIDDLE: [&str; 19] = [
+pub const MIDDLE: &[&str] = &[
     "r0 A1 1\n",
     "r0 A1 2\n",
     "r0 A2\n",
@@ -478,7 +478,7 @@ pub const MIDDLE: [&str; 19] = [
 ];
 
 /// How the list ends where the disabling is asked before its first move, its second, and so on to its end.
-pub const ENDS: [(usize, &str); 20] = [
+pub const ENDS: &[(usize, &str)] = &[
     (0, "\nmoves 6 of 20\n"),
     (1, "\nmoves 8 of 20\n"),
     (2, "\nmoves 10 of 20\n"),

@@ -4,19 +4,18 @@ use crate::object_rows::OBJECTS;
 use crate::picture_rows::PICTURES;
 use crate::register_rows::REGISTERS;
 use crate::replay_rows::{ENDS, MIDDLE, ROWS};
-use crate::told::{comes_to, times};
+use crate::told::{Row, comes_to, each_comes_to, times};
 use crate::wanted::same;
 use program_kit::outcome_of;
 use std::alloc::{AllocError, Global};
 use std::process::Abort;
 use std::rt::Files;
 use std::sync::Wait;
-use std::test::Fail;
 use std::thread::Threads;
 use std::time::Clock;
 
 /// A list of moves, and the number of its first line that is no move.
-const FAULTY: [(&str, &str); 16] = [
+const FAULTY: &[(&str, &str)] = &[
     ("r0 A1 5\nr0 A9\n", "line 2: refused 14 move\n"),
     ("# r0 A9\n\nr0 A9", "line 3: refused 14 move\n"),
     ("r0 A2\n r0 A2\n", "line 2: refused 14 move\n"),
@@ -36,7 +35,7 @@ const FAULTY: [(&str, &str); 16] = [
 ];
 
 /// Words of queues that there can't be.
-const NO_QUEUES: [&[&str]; 7] = [
+const NO_QUEUES: &[&[&str]] = &[
     &["replay", "--ring", "12"],
     &["replay", "--ring", "4"],
     &["replay", "--ring", "0"],
@@ -47,7 +46,7 @@ const NO_QUEUES: [&[&str]; 7] = [
 ];
 
 /// Each lawful length, and how a list of as many posts ends: the last has no room.
-const RINGS: [(&str, usize, &str); 10] = [
+const RINGS: &[(&str, usize, &str)] = &[
     ("8", 8, " A1 not enabled\nmoves 7 of 8\n"),
     ("16", 16, " A1 not enabled\nmoves 15 of 16\n"),
     ("32", 32, " A1 not enabled\nmoves 31 of 32\n"),
@@ -61,7 +60,7 @@ const RINGS: [(&str, usize, &str); 10] = [
 ];
 
 /// Each number of pairs, a post on the last of them, and a move on the next with what is told of it.
-const PAIRS: [(&str, &str, &str, &str); 8] = [
+const PAIRS: &[(&str, &str, &str, &str)] = &[
     (
         "1",
         "r0 A1 5\n",
@@ -108,128 +107,163 @@ const PAIRS: [(&str, &str, &str, &str); 8] = [
 ];
 
 #[test]
-fn lists_of_moves_are_answered(rt: HostRuntime) -> Result<(), Fail> {
-    for row in ROWS {
-        comes_to(&rt, rt.alloc(), row.words, row.input, (0, row.output, ""))?;
+fn lists_of_moves_are_answered(rt: HostRuntime) {
+    each_comes_to(&rt, rt.alloc(), ROWS)
+}
+
+#[test]
+fn objects_tell_what_lines_tell(rt: HostRuntime) {
+    each_comes_to(&rt, rt.alloc(), OBJECTS)
+}
+
+#[test]
+fn registers_are_shown_after_each_move(rt: HostRuntime) {
+    each_comes_to(&rt, rt.alloc(), REGISTERS)
+}
+
+#[test]
+fn queues_are_drawn_behind_each_move_or_the_last(rt: HostRuntime) {
+    each_comes_to(&rt, rt.alloc(), PICTURES)
+}
+
+const REPLAY: &[&str] = &["replay"];
+
+const PASSED_OVER: &[Row] = &[Row {
+    words: REPLAY,
+    input: "# a list\n\n#\nr0 A2\n\nr0 A7",
+    output: "r0 A2 tail 0\nr0 A7 head 0\nmoves 2 of 2\n",
+}];
+
+#[test]
+fn empty_lines_and_comments_are_passed_over(rt: HostRuntime) {
+    each_comes_to(&rt, rt.alloc(), PASSED_OVER)
+}
+
+/// Each list is refused with its line by a run on these words.
+fn each_is_refused<R: Abort + Threads + Wait + Clock + Sync + Files>(
+    rt: &R,
+    alloc: Global,
+    words: &[&str],
+    rows: &[(&str, &str)],
+) {
+    for (input, faults) in rows {
+        comes_to(rt, alloc, words, input, (1, "", faults));
     }
-    Ok(())
 }
 
 #[test]
-fn objects_tell_what_lines_tell(rt: HostRuntime) -> Result<(), Fail> {
-    for row in OBJECTS {
-        comes_to(&rt, rt.alloc(), row.words, row.input, (0, row.output, ""))?;
-    }
-    Ok(())
+fn a_line_that_is_no_move_is_refused_with_its_number(rt: HostRuntime) {
+    each_is_refused(&rt, rt.alloc(), REPLAY, FAULTY)
 }
 
-#[test]
-fn registers_are_shown_after_each_move(rt: HostRuntime) -> Result<(), Fail> {
-    for row in REGISTERS {
-        comes_to(&rt, rt.alloc(), row.words, row.input, (0, row.output, ""))?;
-    }
-    Ok(())
-}
+/// A list, and one with a faulty line, on queues that there can't be.
+const FIRST_FAULTS: &[(&str, &str)] = &[
+    ("r0 A2\n", "refused 12 ring length\n"),
+    ("r0 A2\nr0 A9\n", "line 2: refused 14 move\n"),
+];
 
 #[test]
-fn queues_are_drawn_behind_each_move_or_the_last(rt: HostRuntime) -> Result<(), Fail> {
-    for row in PICTURES {
-        comes_to(&rt, rt.alloc(), row.words, row.input, (0, row.output, ""))?;
-    }
-    Ok(())
-}
-
-#[test]
-fn empty_lines_and_comments_are_passed_over(rt: HostRuntime) -> Result<(), Fail> {
-    let input = "# a list\n\n#\nr0 A2\n\nr0 A7";
-    let output = "r0 A2 tail 0\nr0 A7 head 0\nmoves 2 of 2\n";
-    let words = ["replay"];
-    comes_to(&rt, rt.alloc(), words.as_slice(), input, (0, output, ""))
-}
-
-#[test]
-fn a_line_that_is_no_move_is_refused_with_its_number(rt: HostRuntime) -> Result<(), Fail> {
-    let words = ["replay"];
-    for (input, faults) in FAULTY {
-        comes_to(&rt, rt.alloc(), words.as_slice(), input, (1, "", faults))?;
-    }
-    Ok(())
-}
-
-#[test]
-fn queues_that_cannot_be_are_refused_after_a_faulty_line(rt: HostRuntime) -> Result<(), Fail> {
-    let told = [
-        ("r0 A2\n", "refused 12 ring length\n"),
-        ("r0 A2\nr0 A9\n", "line 2: refused 14 move\n"),
-    ];
+fn queues_that_cannot_be_are_refused_after_a_faulty_line(rt: HostRuntime) {
     for words in NO_QUEUES {
-        for (input, faults) in told {
-            comes_to(&rt, rt.alloc(), words, input, (1, "", faults))?;
-        }
+        each_is_refused(&rt, rt.alloc(), words, FIRST_FAULTS);
+    }
+}
+
+/// So many of these lines behind a text.
+fn push_all(text: &mut String, lines: &[&str]) -> Result<(), AllocError> {
+    for line in lines {
+        text.push_str(line)?;
     }
     Ok(())
 }
 
 /// The list of a disabling in the middle of a frame, with the asking before its move at this index, or at its end.
 fn asked_at(alloc: Global, at: usize) -> Result<String, AllocError> {
+    let (front, back) = MIDDLE.split_at(at.min(MIDDLE.len()));
     let mut text = String::new(alloc);
-    for line in MIDDLE.iter().take(at) {
-        text.push_str(line)?;
-    }
+    push_all(&mut text, front)?;
     text.push_str("r0 C5\n")?;
-    for line in MIDDLE.iter().skip(at) {
-        text.push_str(line)?;
-    }
+    push_all(&mut text, back)?;
     Ok(text)
 }
 
+/// A list ends well, and so.
+fn ends_so<R: Abort + Threads + Wait + Clock + Sync + Files>(
+    rt: &R,
+    alloc: Global,
+    words: &[&str],
+    list: &str,
+    end: &str,
+) {
+    let told = outcome_of(rt, alloc, words, list.as_bytes()).expect(rt, "a run");
+    let is_end = told.text().ends_with(end);
+    same(rt, (words, end, told.status, is_end), (words, end, 0, true));
+}
+
+fn makes_moves<R: Abort + Threads + Wait + Clock + Sync + Files>(
+    rt: &R,
+    alloc: Global,
+    at: usize,
+    end: &str,
+) {
+    let list = asked_at(alloc, at).expect(rt, "memory");
+    ends_so(rt, alloc, REPLAY, list.as_str(), end)
+}
+
 #[test]
-fn a_disabling_at_every_step_makes_as_many_moves(rt: HostRuntime) -> Result<(), Fail> {
+fn a_disabling_at_every_step_makes_as_many_moves(rt: HostRuntime) {
     for (at, end) in ENDS {
-        let text = asked_at(rt.alloc(), at)?;
-        let told = outcome_of(&rt, rt.alloc(), &["replay"], text.as_bytes())?;
-        same(&rt, (at, told.text()?.ends_with(end)), (at, true));
-        same(&rt, (at, told.status), (at, 0));
+        makes_moves(&rt, rt.alloc(), *at, end);
     }
-    Ok(())
+}
+
+/// A list prints this.
+fn prints<R: Abort + Threads + Wait + Clock + Sync + Files>(
+    rt: &R,
+    alloc: Global,
+    words: &[&str],
+    list: &str,
+    wanted: &str,
+) {
+    let told = outcome_of(rt, alloc, words, list.as_bytes()).expect(rt, "a run");
+    same(rt, (words, told.text()), (words, wanted));
 }
 
 /// Such queues are made: the last of them takes one post less than its length, and the next is not there.
 fn are_made<R: Abort + Threads + Wait + Clock + Sync + Files>(
     rt: &R,
     alloc: Global,
-    (pairs, post, beyond, told): (&'static str, &str, &str, &str),
-    (ring, posts, end): (&'static str, usize, &str),
-) -> Result<(), Fail> {
+    (pairs, post, beyond, told): (&str, &str, &str, &str),
+    (ring, posts, end): (&str, usize, &str),
+) {
     let words = ["replay", "--pairs", pairs, "--ring", ring];
-    let text = times(alloc, post, posts, "")?;
-    let posted = outcome_of(rt, alloc, words.as_slice(), text.as_bytes())?;
-    same(
-        rt,
-        (pairs, ring, posted.text()?.ends_with(end)),
-        (pairs, ring, true),
-    );
-    let next = outcome_of(rt, alloc, words.as_slice(), beyond.as_bytes())?;
-    same(rt, (pairs, ring, next.text()? == told), (pairs, ring, true));
-    Ok(())
+    let list = times(alloc, post, posts, "").expect(rt, "memory");
+    ends_so(rt, alloc, words.as_slice(), list.as_str(), end);
+    prints(rt, alloc, words.as_slice(), beyond, told)
 }
 
-#[test]
-fn every_lawful_length_and_number_of_pairs_is_made(rt: HostRuntime) -> Result<(), Fail> {
-    for ring in RINGS {
-        for pairs in PAIRS {
-            are_made(&rt, rt.alloc(), pairs, ring)?;
-        }
+fn each_number_of_pairs_is_made<R: Abort + Threads + Wait + Clock + Sync + Files>(
+    rt: &R,
+    alloc: Global,
+    ring: (&str, usize, &str),
+) {
+    for pairs in PAIRS {
+        are_made(rt, alloc, *pairs, ring);
     }
-    Ok(())
 }
 
 #[test]
-fn a_list_of_100_000_moves_is_answered(rt: HostRuntime) -> Result<(), Fail> {
-    let input = times(rt.alloc(), "r0 A7\n", 100_000, "")?;
+fn every_lawful_length_and_number_of_pairs_is_made(rt: HostRuntime) {
+    for ring in RINGS {
+        each_number_of_pairs_is_made(&rt, rt.alloc(), *ring);
+    }
+}
+
+#[test]
+fn a_list_of_100_000_moves_is_answered(rt: HostRuntime) {
+    let input = times(rt.alloc(), "r0 A7\n", 100_000, "").expect(&rt, "memory");
     let end = "moves 100000 of 100000\n";
-    let output = times(rt.alloc(), "r0 A7 head 0\n", 100_000, end)?;
-    let words = ["replay"];
+    let output = times(rt.alloc(), "r0 A7 head 0\n", 100_000, end).expect(&rt, "memory");
     let wanted = (0, output.as_str(), "");
-    comes_to(&rt, rt.alloc(), words.as_slice(), input.as_str(), wanted)
+    comes_to(&rt, rt.alloc(), REPLAY, input.as_str(), wanted)
 }

@@ -2,14 +2,13 @@
 
 use crate::wanted::{holds, same};
 use commands::{NOTES, QueuePlan, Request, perform};
-use program_kit::{Broken, Narrow, Screen, Unflushed, refusal_of, status_of};
+use program_kit::{Broken, Narrow, Screen, Unflushed, refusal_of, status_of, text_of};
 use ring_machine::Completion;
 use std::alloc::Global;
 use std::io::Write;
 use std::process::Abort;
 use std::rt::Files;
 use std::sync::Wait;
-use std::test::Fail;
 use std::thread::Threads;
 use std::time::Clock;
 
@@ -20,7 +19,7 @@ const TX_READ: &str = "00280000000000003c00302b00000f00";
 const RX_BACK: &str = "0000000000000000030000003c000000";
 
 /// Words whose output is longer than 28 bytes.
-const LONG: [&[&str]; 4] = [
+const LONG: &[&[&str]] = &[
     &["once", FRAME],
     &["decode", "tx", "read", TX_READ],
     &["replay"],
@@ -28,7 +27,7 @@ const LONG: [&[&str]; 4] = [
 ];
 
 /// Words and the status that they end with, whatever becomes of the faults.
-const STATUSES: [(&[&str], u8); 7] = [
+const STATUSES: &[(&[&str], u8)] = &[
     (&["decode", "rx", "back", RX_BACK], 0),
     (&["decode", "rx", "back", "0"], 1),
     (&["decode", "rx", "back", "00"], 1),
@@ -38,72 +37,99 @@ const STATUSES: [(&[&str], u8); 7] = [
     (&["once"], 2),
 ];
 
+const REPLAY: &[&str] = &["replay"];
+
 /// A run with such an output is refused for it.
 fn is_refused<R: Abort + Threads + Wait + Clock + Sync + Files, W: Write>(
     rt: &R,
     alloc: Global,
     words: &[&str],
     output: &mut W,
-) -> Result<(), Fail> {
+) {
     let mut input = "r0 A2\nr0 A2\nr0 A2\n".as_bytes();
-    let (status, faults) = refusal_of(rt, alloc, words, &mut input, output)?;
-    same(rt, (words, faults.as_str()), (words, "refused 84 output\n"));
-    same(rt, (words, status), (words, 1));
-    Ok(())
+    let (status, faults) = refusal_of(rt, alloc, words, &mut input, output).expect(rt, "a run");
+    let wanted = (words, "refused 84 output\n", 1);
+    same(rt, (words, text_of(faults.as_slice()), status), wanted);
+}
+
+/// With so much room the output is refused, and full.
+fn is_full<R: Abort + Threads + Wait + Clock + Sync + Files>(
+    rt: &R,
+    alloc: Global,
+    words: &[&str],
+    room: usize,
+) {
+    let mut output = Narrow::new(alloc, room);
+    is_refused(rt, alloc, words, &mut output);
+    same(rt, (words, output.taken.len()), (words, room));
+}
+
+/// An output that takes too little, or fails where it is flushed, is refused.
+fn each_output_is_refused<R: Abort + Threads + Wait + Clock + Sync + Files>(
+    rt: &R,
+    alloc: Global,
+    words: &[&str],
+) {
+    for room in [0, 1, 27, 28] {
+        is_full(rt, alloc, words, room);
+    }
+    is_refused(rt, alloc, words, &mut Unflushed)
 }
 
 #[test]
-fn an_output_that_fails_is_refused(rt: HostRuntime) -> Result<(), Fail> {
+fn an_output_that_fails_is_refused(rt: HostRuntime) {
     for words in LONG {
-        for room in [0, 1, 27, 28] {
-            let mut output = Narrow::new(rt.alloc(), room);
-            is_refused(&rt, rt.alloc(), words, &mut output)?;
-            same(&rt, (words, output.taken.len()), (words, room));
-        }
-        is_refused(&rt, rt.alloc(), words, &mut Unflushed)?;
+        each_output_is_refused(&rt, rt.alloc(), words);
     }
-    Ok(())
+}
+
+/// With so much room for the faults the status is this.
+fn has_status<R: Abort + Threads + Wait + Clock + Sync + Files>(
+    rt: &R,
+    alloc: Global,
+    words: &[&str],
+    room: usize,
+    status: u8,
+) {
+    let (mut output, mut faults) = (Vec::new(alloc), Narrow::new(alloc, room));
+    let mut screen = Screen::new(alloc, false);
+    let told = status_of(
+        rt,
+        alloc,
+        words,
+        &mut "".as_bytes(),
+        &mut output,
+        &mut faults,
+        &mut screen,
+    )
+    .expect(rt, "a run");
+    same(rt, (words, room, told), (words, room, status));
 }
 
 #[test]
-fn faults_that_fail_change_no_status(rt: HostRuntime) -> Result<(), Fail> {
+fn faults_that_fail_change_no_status(rt: HostRuntime) {
     for (words, status) in STATUSES {
-        for room in [0, 3] {
-            let mut output = Vec::new(rt.alloc());
-            let mut faults = Narrow::new(rt.alloc(), room);
-            let mut input = "".as_bytes();
-            let mut screen = Screen::new(rt.alloc(), false);
-            let told = status_of(
-                &rt,
-                rt.alloc(),
-                words,
-                &mut input,
-                &mut output,
-                &mut faults,
-                &mut screen,
-            )?;
-            same(&rt, (words, told), (words, status));
-        }
+        has_status(&rt, rt.alloc(), words, 0, *status);
+        has_status(&rt, rt.alloc(), words, 3, *status);
     }
-    Ok(())
 }
 
 #[test]
-fn an_input_that_fails_in_mid_stream_is_refused(rt: HostRuntime) -> Result<(), Fail> {
+fn an_input_that_fails_in_mid_stream_is_refused(rt: HostRuntime) {
     let mut output = Vec::new(rt.alloc());
     let mut input = Broken {
         left: b"r0 A2\nr0 A9\n".as_slice(),
     };
-    let words = ["replay"].as_slice();
-    let (status, faults) = refusal_of(&rt, rt.alloc(), words, &mut input, &mut output)?;
-    same(&rt, status, 1);
+    let (status, faults) = refusal_of(&rt, rt.alloc(), REPLAY, &mut input, &mut output).expect(
+        &rt, "a run",
+    );
+    let told = (status, text_of(faults.as_slice()));
+    same(&rt, told, (1, "refused 82 input\n"));
     holds(&rt, output.is_empty());
-    same(&rt, faults.as_str(), "refused 82 input\n");
-    Ok(())
 }
 
 #[test]
-fn want_of_memory(rt: HostRuntime) -> Result<(), Fail> {
+fn want_of_memory(rt: HostRuntime) {
     let plan = QueuePlan {
         pairs: 1,
         ring: 8,
@@ -127,5 +153,4 @@ fn want_of_memory(rt: HostRuntime) -> Result<(), Fail> {
             holds(&rt, output.taken.is_empty());
         }
     }
-    Ok(())
 }

@@ -1,12 +1,11 @@
 //! What runs of the program on words and an input have to come to.
 
 use crate::wanted::same;
-use program_kit::{is_page, outcome_of};
+use program_kit::{Told, is_page, outcome_of};
 use std::alloc::{AllocError, Global};
 use std::process::Abort;
 use std::rt::Files;
 use std::sync::Wait;
-use std::test::Fail;
 use std::thread::Threads;
 use std::time::Clock;
 
@@ -18,59 +17,99 @@ pub struct Row {
     pub output: &'static str,
 }
 
+/// What a run came to is this status, this output and these faults, and nothing is shown.
+fn is_told<R: Abort>(
+    rt: &R,
+    (words, input): (&[&str], &str),
+    told: &Told,
+    (status, output, faults): (u8, &str, &str),
+) {
+    let text = told.text();
+    let texts = (text, told.faults(), told.shown());
+    same(
+        rt,
+        (words, input, told.status, texts),
+        (words, input, status, (output, faults, "")),
+    );
+}
+
 /// A run on these words and this input comes to this status, this output and these faults, and nothing is shown.
 pub fn comes_to<R: Abort + Threads + Wait + Clock + Sync + Files>(
     rt: &R,
     alloc: Global,
     words: &[&str],
     input: &str,
-    (status, output, faults): (u8, &str, &str),
-) -> Result<(), Fail> {
-    let told = outcome_of(rt, alloc, words, input.as_bytes())?;
-    same(rt, (words, input, told.text()?), (words, input, output));
-    same(
-        rt,
-        (words, input, told.faults.as_str()),
-        (words, input, faults),
-    );
-    same(rt, (words, input, told.status), (words, input, status));
-    same(rt, (words, input, told.shown.as_str()), (words, input, ""));
-    Ok(())
+    wanted: (u8, &str, &str),
+) {
+    let told = outcome_of(rt, alloc, words, input.as_bytes()).expect(rt, "a run");
+    is_told(rt, (words, input), &told, wanted)
+}
+
+/// Each row comes to its output, and to no faults.
+pub fn each_comes_to<R: Abort + Threads + Wait + Clock + Sync + Files>(
+    rt: &R,
+    alloc: Global,
+    rows: &[Row],
+) {
+    for row in rows {
+        comes_to(rt, alloc, row.words, row.input, (0, row.output, ""));
+    }
 }
 
 /// A run on these words is told that they are wrong, with this text, and prints nothing on the output.
-pub fn is_mistaken<R: Abort + Threads + Wait + Clock + Sync + Files>(
+fn is_mistaken<R: Abort + Threads + Wait + Clock + Sync + Files>(
     rt: &R,
     alloc: Global,
     words: &[&str],
     text: &str,
-) -> Result<(), Fail> {
-    let told = outcome_of(rt, alloc, words, b"r0 A2\n")?;
-    same(rt, (words, told.status), (words, 2));
-    same(rt, (words, told.output.is_empty()), (words, true));
+) {
+    let told = outcome_of(rt, alloc, words, b"r0 A2\n").expect(rt, "a run");
+    let is_told = is_page(told.faults(), "error: ", text);
+    let is_silent = told.output.is_empty();
     same(
         rt,
-        (words, is_page(told.faults.as_str(), "error: ", text)),
-        (words, true),
+        (words, text, told.status, is_silent, is_told),
+        (words, text, 2, true, true),
     );
-    Ok(())
+}
+
+/// Each of these words is told to be wrong, with its text.
+pub fn each_is_mistaken<R: Abort + Threads + Wait + Clock + Sync + Files>(
+    rt: &R,
+    alloc: Global,
+    rows: &[(&[&str], &str)],
+) {
+    for (words, text) in rows {
+        is_mistaken(rt, alloc, words, text);
+    }
 }
 
 /// A run on these words prints help with this text, and ends well.
-pub fn is_helped<R: Abort + Threads + Wait + Clock + Sync + Files>(
+fn is_helped<R: Abort + Threads + Wait + Clock + Sync + Files>(
     rt: &R,
     alloc: Global,
     words: &[&str],
     text: &str,
-) -> Result<(), Fail> {
-    let told = outcome_of(rt, alloc, words, b"")?;
+) {
+    let told = outcome_of(rt, alloc, words, b"").expect(rt, "a run");
+    let has_text = is_page(told.text(), "", text);
+    let faults = told.faults();
     same(
         rt,
-        (words, told.status == 0 && told.faults.is_empty()),
-        (words, true),
+        (words, text, told.status, faults, has_text),
+        (words, text, 0, "", true),
     );
-    same(rt, (words, is_page(told.text()?, "", text)), (words, true));
-    Ok(())
+}
+
+/// The help that each of these words ask for has its text.
+pub fn each_is_helped<R: Abort + Threads + Wait + Clock + Sync + Files>(
+    rt: &R,
+    alloc: Global,
+    rows: &[(&[&str], &str)],
+) {
+    for (words, text) in rows {
+        is_helped(rt, alloc, words, text);
+    }
 }
 
 /// So many copies of a text, and then an end.

@@ -1,13 +1,14 @@
 //! Words that ask for help, and words that are wrong.
 
-use crate::told::{comes_to, is_helped, is_mistaken};
+use crate::told::{Row, each_comes_to, each_is_helped, each_is_mistaken};
 use crate::wanted::same;
 use buffer_pool::PoolError;
 use commands::{REFUSED, Refusal, refuse};
 use descriptor::DescError;
 use ring_machine::MachineError;
 use rx_ring::RingError;
-use std::test::Fail;
+use std::alloc::Global;
+use std::process::Abort;
 
 const FRAME: &str = "000102030405060708090a0b0c0d";
 
@@ -30,7 +31,7 @@ const NOT_DRAWN: &str = "--cover draws no lists";
 const NOT_SHOWN: &str = "--picture stands alone or as --picture=last";
 
 /// Words that ask for help, and the example that it has to have.
-const HELPED: [(&[&str], &str); 20] = [
+const HELPED: &[(&[&str], &str)] = &[
     (&["--help"], ONCE),
     (&["--help"], DECODE),
     (&["--help"], REPLAY),
@@ -54,7 +55,7 @@ const HELPED: [(&[&str], &str); 20] = [
 ];
 
 /// Words that are wrong, and what has to be told of them.
-const WRONG: [(&[&str], &str); 34] = [
+const WRONG: &[(&[&str], &str)] = &[
     (&[], ""),
     (&["twice"], "twice"),
     (&["once"], "HEX"),
@@ -103,7 +104,7 @@ const WRONG: [(&[&str], &str); 34] = [
 ];
 
 /// Each refusal, and its line.
-const LINES: [(Refusal, &str); 20] = [
+const LINES: &[(Refusal, &str)] = &[
     (Refusal::Descriptor(DescError::Length), "refused 1 length\n"),
     (
         Refusal::Descriptor(DescError::Reserved),
@@ -142,42 +143,42 @@ const LINES: [(Refusal, &str); 20] = [
 ];
 
 #[test]
-fn help_goes_to_the_output_with_an_example(rt: HostRuntime) -> Result<(), Fail> {
-    for (words, text) in HELPED {
-        is_helped(&rt, rt.alloc(), words, text)?;
-    }
-    Ok(())
+fn help_goes_to_the_output_with_an_example(rt: HostRuntime) {
+    each_is_helped(&rt, rt.alloc(), HELPED)
+}
+
+const VERSION: &[Row] = &[
+    Row {
+        words: &["--version"],
+        input: "",
+        output: "poll82599 0.1.0\n",
+    },
+    Row {
+        words: &["-V"],
+        input: "",
+        output: "poll82599 0.1.0\n",
+    },
+];
+
+#[test]
+fn the_version_goes_to_the_output(rt: HostRuntime) {
+    each_comes_to(&rt, rt.alloc(), VERSION)
 }
 
 #[test]
-fn the_version_goes_to_the_output(rt: HostRuntime) -> Result<(), Fail> {
-    for word in ["--version", "-V"] {
-        let words = [word];
-        comes_to(
-            &rt,
-            rt.alloc(),
-            words.as_slice(),
-            "",
-            (0, "poll82599 0.1.0\n", ""),
-        )?;
-    }
-    Ok(())
+fn wrong_words_are_told_with_status_2(rt: HostRuntime) {
+    each_is_mistaken(&rt, rt.alloc(), WRONG)
+}
+
+fn has_line<R: Abort>(rt: &R, alloc: Global, refusal: Refusal, line: &str) {
+    let mut faults = Vec::new(alloc);
+    let status = refuse(&mut faults, refusal);
+    same(rt, (status, faults.as_slice()), (REFUSED, line.as_bytes()));
 }
 
 #[test]
-fn wrong_words_are_told_with_status_2(rt: HostRuntime) -> Result<(), Fail> {
-    for (words, text) in WRONG {
-        is_mistaken(&rt, rt.alloc(), words, text)?;
-    }
-    Ok(())
-}
-
-#[test]
-fn refusals_have_their_words(rt: HostRuntime) -> Result<(), Fail> {
+fn refusals_have_their_words(rt: HostRuntime) {
     for (refusal, line) in LINES {
-        let mut faults = Vec::new(rt.alloc());
-        same(&rt, refuse(&mut faults, refusal), REFUSED);
-        same(&rt, faults.as_slice(), line.as_bytes());
+        has_line(&rt, rt.alloc(), *refusal, line);
     }
-    Ok(())
 }

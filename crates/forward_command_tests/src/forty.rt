@@ -5,6 +5,14 @@ use std::alloc::{AllocError, Global};
 /// Two pairs, and rings that have to be filled again and again.
 pub const FORTY_WORDS: &[&str] = &["forward", "--pairs", "2", "--ring", "8"];
 
+/// These words, with options behind them.
+pub fn forty_words<'a>(alloc: Global, options: &[&'a str]) -> Result<Vec<&'a str>, AllocError> {
+    let mut words = Vec::new(alloc);
+    words.extend_from_slice(FORTY_WORDS)?;
+    words.extend_from_slice(options)?;
+    Ok(words)
+}
+
 /// The bytes of the 40 frames, each of which has 60 of its byte.
 const LAST: u8 = 0x26;
 

@@ -1,11 +1,15 @@
 //! The help of `forward`, words that are wrong, and refusals.
 
-use crate::wanted::{holds, same};
+use crate::told::{each_is_helped, each_is_mistaken};
+use crate::wanted::same;
 use commands::{REFUSED, Refusal, refuse};
 use forwarding::ForwardError;
 use program_kit::outcome_of;
-use std::test::Fail;
+use std::alloc::Global;
+use std::process::Abort;
 use wire_script::ScriptError;
+
+const HELP: &[&str] = &["forward", "--help"];
 
 /// What help has to say: an option with its range and default in each line, and the examples.
 const LINES: &[&str] = &[
@@ -36,7 +40,7 @@ const LINES: &[&str] = &[
 ];
 
 /// Words that are wrong, and what has to be told of them.
-const WRONG: [(&[&str], &str); 7] = [
+const WRONG: &[(&[&str], &str)] = &[
     (&["forward", "--ring", "eight"], "eight"),
     (&["forward", "--pairs", "4294967296"], "4294967296"),
     (&["forward", "--turns"], "--turns"),
@@ -47,7 +51,7 @@ const WRONG: [(&[&str], &str); 7] = [
 ];
 
 /// Each refusal of a script and of a forwarding, and its line.
-const REFUSALS: [(Refusal, &str); 11] = [
+const REFUSALS: &[(Refusal, &str)] = &[
     (
         Refusal::Forward(ForwardError::Memory),
         "refused 61 memory\n",
@@ -88,44 +92,41 @@ const REFUSALS: [(Refusal, &str); 11] = [
     (Refusal::Script(ScriptError::Memory), "refused 77 memory\n"),
 ];
 
+fn has_line<R: Abort>(rt: &R, alloc: Global, refusal: Refusal, line: &str) {
+    let mut faults = Vec::new(alloc);
+    let status = refuse(&mut faults, refusal);
+    same(rt, (status, faults.as_slice()), (REFUSED, line.as_bytes()));
+}
+
 #[test]
-fn refusals_have_their_words(rt: HostRuntime) -> Result<(), Fail> {
+fn refusals_have_their_words(rt: HostRuntime) {
     for (refusal, line) in REFUSALS {
-        let mut faults = Vec::new(rt.alloc());
-        same(&rt, refuse(&mut faults, refusal), REFUSED);
-        same(&rt, faults.as_slice(), line.as_bytes());
+        has_line(&rt, rt.alloc(), *refusal, line);
     }
-    Ok(())
 }
 
-#[test]
-fn the_program_s_help_has_an_example(rt: HostRuntime) -> Result<(), Fail> {
-    let told = outcome_of(&rt, rt.alloc(), ["--help"].as_slice(), b"")?;
-    holds(
-        &rt,
-        told.text()?
-            .contains("echo '0 0 fill 60 01' | poll82599 forward\n"),
-    );
-    Ok(())
-}
+const EXAMPLE: &[(&[&str], &str)] = &[(&["--help"], "echo '0 0 fill 60 01' | poll82599 forward\n")];
 
 #[test]
-fn help_has_each_option(rt: HostRuntime) -> Result<(), Fail> {
-    let told = outcome_of(&rt, rt.alloc(), ["forward", "--help"].as_slice(), b"")?;
-    same(&rt, told.status, 0);
+fn the_program_s_help_has_an_example(rt: HostRuntime) {
+    each_is_helped(&rt, rt.alloc(), EXAMPLE)
+}
+
+/// The help has each of these lines.
+fn has_lines<R: Abort>(rt: &R, page: &str) {
     for text in LINES {
-        same(&rt, (text, told.text()?.contains(text)), (text, true));
+        same(rt, (*text, page.contains(text)), (*text, true));
     }
-    Ok(())
 }
 
 #[test]
-fn wrong_words_are_told_with_status_2(rt: HostRuntime) -> Result<(), Fail> {
-    for (words, text) in WRONG {
-        let told = outcome_of(&rt, rt.alloc(), words, b"2 0 00\n")?;
-        same(&rt, (words, told.status), (words, 2));
-        same(&rt, (words, told.output.is_empty()), (words, true));
-        same(&rt, (words, told.faults.contains(text)), (words, true));
-    }
-    Ok(())
+fn help_has_each_option(rt: HostRuntime) {
+    let told = outcome_of(&rt, rt.alloc(), HELP, b"").expect(&rt, "a run");
+    same(&rt, told.status, 0);
+    has_lines(&rt, told.text());
+}
+
+#[test]
+fn wrong_words_are_told_with_status_2(rt: HostRuntime) {
+    each_is_mistaken(&rt, rt.alloc(), WRONG)
 }

@@ -1,16 +1,15 @@
 //! Streams that fail, and want of memory.
 
 use crate::forty::{FORTY_WORDS, forty, forty_forwarded};
+use crate::streams::{each_beginning, each_cut, is_refused};
 use crate::wanted::{holds, same};
 use forward_command::{Printing, perform};
 use forwarder::Config;
-use program_kit::{Broken, Halting, Narrow, PIECE, Piecemeal, Screen, Unflushed, refusal_of};
+use program_kit::{Halting, Narrow, PIECE, Piecemeal, Screen};
 use std::alloc::Global;
-use std::io::{Read, Write};
 use std::process::Abort;
 use std::rt::Files;
 use std::sync::Wait;
-use std::test::Fail;
 use std::thread::Threads;
 use std::time::Clock;
 
@@ -22,104 +21,77 @@ const SCRIPT: &str = "0 0 fill 14 05\n";
 const PRINTED: &str =
     "1 0 0506050505050505050505050505\nflow 0 0 offered 1 stored 1 dropped 0 oversize 0 taken 1 posted 1 tx-dropped 0 wire 1 left 0 ended drained\nflow 1 0 offered 0 stored 0 dropped 0 oversize 0 taken 0 posted 0 tx-dropped 0 wire 0 left 0 ended drained\n";
 
-/// A run with these streams is refused so.
-fn is_refused<R: Abort + Threads + Wait + Clock + Sync + Files, I: Read, W: Write>(
+#[test]
+fn an_output_that_fails_has_a_beginning(rt: HostRuntime) {
+    let rooms = [0, 1, 32, 33, 34, 200];
+    each_beginning(&rt, rt.alloc(), (WORDS, SCRIPT), PRINTED.as_bytes(), &rooms)
+}
+
+/// Words, and what can be read of the input.
+const CUT: &[(&[&str], &[u8])] = &[
+    (WORDS, b""),
+    (WORDS, b"0 0 fill 14 05\n"),
+    (WORDS, b"0 0 fill 14 05\n2 0 00\n"),
+];
+
+#[test]
+fn an_input_that_fails_in_mid_stream_is_refused(rt: HostRuntime) {
+    each_cut(&rt, rt.alloc(), CUT)
+}
+
+/// With so many pieces written of the 40 frames, these are the output.
+fn stops_writing<R: Abort + Threads + Wait + Clock + Sync + Files>(
     rt: &R,
     alloc: Global,
-    words: &[&str],
-    input: &mut I,
-    output: &mut W,
-    line: &str,
-) -> Result<(), Fail> {
-    let (status, faults) = refusal_of(rt, alloc, words, input, output)?;
-    same(rt, faults.as_str(), line);
-    same(rt, status, 1);
-    Ok(())
+    (script, printed): (&str, &str),
+    pieces: usize,
+) {
+    let mut input = script.as_bytes();
+    let mut output = Piecemeal::new(alloc, pieces);
+    let line = "refused 84 output\n";
+    is_refused(rt, alloc, FORTY_WORDS, &mut input, &mut output, line);
+    let beginning = printed.as_bytes().get(..pieces.saturating_mul(PIECE));
+    same(rt, Some(output.taken.as_slice()), beginning);
 }
 
 #[test]
-fn an_output_that_fails_has_a_beginning(rt: HostRuntime) -> Result<(), Fail> {
-    for room in [0, 1, 32, 33, 34, 200, PRINTED.len() - 1] {
-        let mut output = Narrow::new(rt.alloc(), room);
-        let mut input = SCRIPT.as_bytes();
-        is_refused(
-            &rt,
-            rt.alloc(),
-            WORDS,
-            &mut input,
-            &mut output,
-            "refused 84 output\n",
-        )?;
-        same(&rt, output.taken.as_slice(), &PRINTED.as_bytes()[..room]);
-    }
-    let mut input = SCRIPT.as_bytes();
-    is_refused(
-        &rt,
-        rt.alloc(),
-        WORDS,
-        &mut input,
-        &mut Unflushed,
-        "refused 84 output\n",
-    )
-}
-
-#[test]
-fn an_input_that_fails_in_mid_stream_is_refused(rt: HostRuntime) -> Result<(), Fail> {
-    for left in ["", "0 0 fill 14 05\n", "0 0 fill 14 05\n2 0 00\n"] {
-        let mut output = Vec::new(rt.alloc());
-        let mut input = Broken {
-            left: left.as_bytes(),
-        };
-        is_refused(
-            &rt,
-            rt.alloc(),
-            WORDS,
-            &mut input,
-            &mut output,
-            "refused 82 input\n",
-        )?;
-        holds(&rt, output.is_empty());
-    }
-    Ok(())
-}
-
-#[test]
-fn each_write_that_fails_leaves_a_beginning(rt: HostRuntime) -> Result<(), Fail> {
-    let script = forty(rt.alloc())?;
-    let printed = forty_forwarded(rt.alloc())?;
+fn each_write_that_fails_leaves_a_beginning(rt: HostRuntime) {
+    let script = forty(rt.alloc()).expect(&rt, "memory");
+    let printed = forty_forwarded(rt.alloc()).expect(&rt, "memory");
+    let texts = (script.as_str(), printed.as_str());
     for pieces in 0..printed.len().div_ceil(PIECE) {
-        let mut input = script.as_bytes();
-        let mut output = Piecemeal::new(rt.alloc(), pieces);
-        let line = "refused 84 output\n";
-        is_refused(&rt, rt.alloc(), FORTY_WORDS, &mut input, &mut output, line)?;
-        same(
-            &rt,
-            output.taken.as_slice(),
-            &printed.as_bytes()[..pieces * PIECE],
-        );
+        stops_writing(&rt, rt.alloc(), texts, pieces);
     }
-    Ok(())
+}
+
+/// With so many pieces read of the 40 frames, nothing is the output.
+fn stops_reading<R: Abort + Threads + Wait + Clock + Sync + Files>(
+    rt: &R,
+    alloc: Global,
+    script: &str,
+    pieces: usize,
+) {
+    let mut input = Halting {
+        left: script.as_bytes(),
+        pieces,
+    };
+    let mut output = Vec::new(alloc);
+    let line = "refused 82 input\n";
+    is_refused(rt, alloc, FORTY_WORDS, &mut input, &mut output, line);
+    holds(rt, output.is_empty());
 }
 
 #[test]
-fn each_read_that_fails_is_refused(rt: HostRuntime) -> Result<(), Fail> {
-    let script = forty(rt.alloc())?;
+fn each_read_that_fails_is_refused(rt: HostRuntime) {
+    let script = forty(rt.alloc()).expect(&rt, "memory");
     for pieces in 0..=script.len().div_ceil(PIECE) {
-        let mut input = Halting {
-            left: script.as_bytes(),
-            pieces,
-        };
-        let mut output = Vec::new(rt.alloc());
-        let line = "refused 82 input\n";
-        is_refused(&rt, rt.alloc(), FORTY_WORDS, &mut input, &mut output, line)?;
-        holds(&rt, output.is_empty());
+        stops_reading(&rt, rt.alloc(), script.as_str(), pieces);
     }
-    Ok(())
 }
 
 // With any one allocation refused, as `rt try --test --fail-alloc N` does, this passes too.
 #[test]
-fn want_of_memory(rt: HostRuntime) -> Result<(), Fail> {
+fn want_of_memory(rt: HostRuntime) {
     let mut input = SCRIPT.as_bytes();
     let mut output = Narrow::new(rt.alloc(), 400);
     let mut screen = Screen::new(rt.alloc(), false);
@@ -139,5 +111,4 @@ fn want_of_memory(rt: HostRuntime) -> Result<(), Fail> {
             holds(&rt, output.taken.is_empty());
         }
     }
-    Ok(())
 }

@@ -1,12 +1,11 @@
-//! What runs of the program on a script have to come to.
+//! What runs of the program have to come to.
 
 use crate::wanted::same;
-use program_kit::outcome_of;
+use program_kit::{Broken, Told, outcome_of, told_by};
 use std::alloc::Global;
 use std::process::Abort;
 use std::rt::Files;
 use std::sync::Wait;
-use std::test::Fail;
 use std::thread::Threads;
 use std::time::Clock;
 
@@ -20,22 +19,87 @@ pub struct Row {
     pub faults: &'static str,
 }
 
+/// What a run came to is this status, this output and these faults, and nothing is shown.
+fn is_told<R: Abort>(
+    rt: &R,
+    (words, input): (&[&str], &str),
+    told: &Told,
+    (status, output, faults): (u8, &str, &str),
+) {
+    let text = told.text();
+    let texts = (text, told.faults(), told.shown());
+    same(
+        rt,
+        (words, input, told.status, texts),
+        (words, input, status, (output, faults, "")),
+    );
+}
+
 /// A run on these words and this input comes to this status, this output and these faults, and nothing is shown.
 pub fn comes_to<R: Abort + Threads + Wait + Clock + Sync + Files>(
     rt: &R,
     alloc: Global,
     words: &[&str],
     input: &str,
-    (status, output, faults): (u8, &str, &str),
-) -> Result<(), Fail> {
-    let told = outcome_of(rt, alloc, words, input.as_bytes())?;
-    same(rt, (words, input, told.text()?), (words, input, output));
+    wanted: (u8, &str, &str),
+) {
+    let told = outcome_of(rt, alloc, words, input.as_bytes()).expect(rt, "a run");
+    is_told(rt, (words, input), &told, wanted)
+}
+
+/// A run on these words prints help with this text, and ends well.
+fn is_helped<R: Abort + Threads + Wait + Clock + Sync + Files>(
+    rt: &R,
+    alloc: Global,
+    words: &[&str],
+    text: &str,
+) {
+    let told = outcome_of(rt, alloc, words, b"").expect(rt, "a run");
+    let has_text = told.text().contains(text);
+    let faults = told.faults();
     same(
         rt,
-        (words, input, told.faults.as_str()),
-        (words, input, faults),
+        (words, text, told.status, faults, has_text),
+        (words, text, 0, "", true),
     );
-    same(rt, (words, input, told.status), (words, input, status));
-    same(rt, (words, input, told.shown.as_str()), (words, input, ""));
-    Ok(())
+}
+
+/// A run on these words is told that they are wrong, with this text, and writes nothing else. Its input is a faulty script
+/// that breaks off.
+fn is_mistaken<R: Abort + Threads + Wait + Clock + Sync + Files>(
+    rt: &R,
+    alloc: Global,
+    words: &[&str],
+    text: &str,
+) {
+    let told = told_by(rt, alloc, words, &mut Broken { left: b"2 0 00\n" }).expect(rt, "a run");
+    let has_text = told.faults().contains(text);
+    let is_silent = told.output.is_empty();
+    same(
+        rt,
+        (words, text, told.status, is_silent, has_text),
+        (words, text, 2, true, true),
+    );
+}
+
+/// The help that each of these words ask for has its text.
+pub fn each_is_helped<R: Abort + Threads + Wait + Clock + Sync + Files>(
+    rt: &R,
+    alloc: Global,
+    rows: &[(&[&str], &str)],
+) {
+    for (words, text) in rows {
+        is_helped(rt, alloc, words, text);
+    }
+}
+
+/// Each of these words is told to be wrong with its text.
+pub fn each_is_mistaken<R: Abort + Threads + Wait + Clock + Sync + Files>(
+    rt: &R,
+    alloc: Global,
+    rows: &[(&[&str], &str)],
+) {
+    for (words, text) in rows {
+        is_mistaken(rt, alloc, words, text);
+    }
 }

@@ -5,5 +5,5 @@
 mod runs;
 mod streams;
 
-pub use runs::{Told, is_page, outcome_of, outcome_on, refusal_of, status_of, told_by};
+pub use runs::{Told, is_page, outcome_of, outcome_on, refusal_of, status_of, text_of, told_by};
 pub use streams::{Broken, Halting, Narrow, PIECE, Piecemeal, Screen, Unflushed};

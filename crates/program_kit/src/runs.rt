@@ -6,25 +6,36 @@ use std::alloc::{AllocError, Global};
 use std::io::{Read, Write};
 use std::rt::Files;
 use std::str;
-use std::str::Utf8Error;
 use std::sync::Wait;
-use std::test::Fail;
 use std::thread::Threads;
 use std::time::Clock;
+
+/// The text that these bytes are, or one that says that they are none.
+pub fn text_of(bytes: &[u8]) -> &str {
+    str::from_utf8(bytes).unwrap_or("(this is no UTF-8)")
+}
 
 /// What a run came to: its status, and what it wrote to the output, to the faults and on the screen.
 #[derive(Drop)]
 pub struct Told {
     pub status: u8,
     pub output: Vec<u8>,
-    pub faults: String,
-    pub shown: String,
+    faults: Vec<u8>,
+    shown: Vec<u8>,
 }
 
 impl Told {
     /// The output as a text.
-    pub fn text(&self) -> Result<&str, Utf8Error> {
-        str::from_utf8(self.output.as_slice())
+    pub fn text(&self) -> &str {
+        text_of(self.output.as_slice())
+    }
+
+    pub fn faults(&self) -> &str {
+        text_of(self.faults.as_slice())
+    }
+
+    pub fn shown(&self) -> &str {
+        text_of(self.shown.as_slice())
     }
 }
 
@@ -52,7 +63,7 @@ pub fn outcome_on<R: Threads + Wait + Clock + Sync + Files, I: Read>(
     words: &[&str],
     input: &mut I,
     mut screen: Screen,
-) -> Result<Told, Fail> {
+) -> Result<Told, AllocError> {
     let (mut output, mut faults) = (Vec::new(alloc), Vec::new(alloc));
     let status = status_of(
         rt,
@@ -66,8 +77,8 @@ pub fn outcome_on<R: Threads + Wait + Clock + Sync + Files, I: Read>(
     Ok(Told {
         status,
         output,
-        faults: String::from_utf8(faults)?,
-        shown: String::from_utf8(screen.shown)?,
+        faults,
+        shown: screen.shown,
     })
 }
 
@@ -77,7 +88,7 @@ pub fn told_by<R: Threads + Wait + Clock + Sync + Files, I: Read>(
     alloc: Global,
     words: &[&str],
     input: &mut I,
-) -> Result<Told, Fail> {
+) -> Result<Told, AllocError> {
     outcome_on(rt, alloc, words, input, Screen::new(alloc, false))
 }
 
@@ -87,7 +98,7 @@ pub fn outcome_of<R: Threads + Wait + Clock + Sync + Files>(
     alloc: Global,
     words: &[&str],
     mut input: &[u8],
-) -> Result<Told, Fail> {
+) -> Result<Told, AllocError> {
     told_by(rt, alloc, words, &mut input)
 }
 
@@ -98,11 +109,11 @@ pub fn refusal_of<R: Threads + Wait + Clock + Sync + Files, I: Read, W: Write>(
     words: &[&str],
     input: &mut I,
     output: &mut W,
-) -> Result<(u8, String), Fail> {
+) -> Result<(u8, Vec<u8>), AllocError> {
     let mut faults = Vec::new(alloc);
     let mut screen = Screen::new(alloc, false);
     let status = status_of(rt, alloc, words, input, output, &mut faults, &mut screen)?;
-    Ok((status, String::from_utf8(faults)?))
+    Ok((status, faults))
 }
 
 /// Whether a page has lines, begins so, and has this text.
