@@ -1,11 +1,10 @@
 use crate::told::{holds, same};
 use buffer_pool::{Buf, PoolError, Stash, Stock};
-use std::test::Fail;
 
 #[test]
-fn a_buffer_has_the_bytes_of_the_last_fill(rt: HostRuntime) -> Result<(), Fail> {
-    let mut stock = Stock::new(rt.alloc(), 100, 16)?;
-    let mut buf = stock.take().ok_or("no buffer")?;
+fn a_buffer_has_the_bytes_of_the_last_fill(rt: HostRuntime) {
+    let mut stock = Stock::new(rt.alloc(), 100, 16).expect(&rt, "a stock");
+    let mut buf = stock.take().expect(&rt, "a buffer");
     same(&rt, buf.number(), 100);
     same(&rt, buf.capacity(), 2_048);
     holds(&rt, buf.is_empty());
@@ -16,45 +15,41 @@ fn a_buffer_has_the_bytes_of_the_last_fill(rt: HostRuntime) -> Result<(), Fail> 
     same(&rt, buf.bytes(), [1, 2, 3].as_slice());
     buf.clear();
     same(&rt, buf.bytes(), [].as_slice());
-    Ok(())
 }
 
 #[test]
-fn the_default_buffer_is_a_blank(rt: HostRuntime) -> Result<(), Fail> {
-    let mut blanks = Buf::blanks(rt.alloc(), 4_095)?;
-    blanks.push(Buf::default())?;
+fn the_default_buffer_is_a_blank(rt: HostRuntime) {
+    let mut blanks = Buf::blanks(rt.alloc(), 4_095).expect(&rt, "blanks");
+    blanks.push(Buf::default()).expect(&rt, "a blank");
     same(&rt, blanks.len(), 4_096);
     for blank in &blanks {
         same(&rt, blank.number(), 0);
         same(&rt, blank.capacity(), 0);
         same(&rt, blank.bytes(), [].as_slice());
     }
-    Ok(())
 }
 
 #[test]
-fn a_stock_hands_out_each_number_once(rt: HostRuntime) -> Result<(), Fail> {
-    let mut stock = Stock::new(rt.alloc(), 7, 16)?;
+fn a_stock_hands_out_each_number_once(rt: HostRuntime) {
+    let mut stock = Stock::new(rt.alloc(), 7, 16).expect(&rt, "a stock");
     for number in 7..23 {
         same(&rt, stock.take().map(|buf| buf.number()), Some(number));
     }
     same(&rt, stock.len(), 0);
     holds(&rt, stock.take().is_none());
-    Ok(())
 }
 
 #[test]
-fn a_given_buffer_comes_out_first_and_empty(rt: HostRuntime) -> Result<(), Fail> {
-    let mut stock = Stock::new(rt.alloc(), 0, 16)?;
-    let mut buf = stock.take().ok_or("no buffer")?;
+fn a_given_buffer_comes_out_first_and_empty(rt: HostRuntime) {
+    let mut stock = Stock::new(rt.alloc(), 0, 16).expect(&rt, "a stock");
+    let mut buf = stock.take().expect(&rt, "a buffer");
     buf.fill(&[5; 60]);
     stock.give(buf);
     same(&rt, stock.len(), 16);
-    let again = stock.take().ok_or("no buffer")?;
+    let again = stock.take().expect(&rt, "a buffer");
     same(&rt, again.number(), 0);
     holds(&rt, again.is_empty());
     holds(&rt, !stock.is_empty());
-    Ok(())
 }
 
 #[test]
@@ -91,36 +86,35 @@ fn without_memory_no_stock_is_made(rt: HostRuntime) {
 }
 
 #[test]
-fn refusals_have_a_number_and_a_text(rt: HostRuntime) -> Result<(), Fail> {
+fn refusals_have_a_number_and_a_text(rt: HostRuntime) {
     for (refusal, want) in [
         (PoolError::Memory, "31 memory"),
         (PoolError::Empty, "32 empty"),
         (PoolError::StashFull, "33 stash full"),
         (PoolError::Count, "34 count"),
     ] {
-        let text = format!(in rt.alloc(); "{} {refusal}", refusal.number())?;
+        let text = format!(in rt.alloc(); "{} {refusal}", refusal.number()).expect(&rt, "a text");
         same(&rt, text.as_str(), want);
     }
-    Ok(())
 }
 
 #[test]
-fn a_stash_takes_256_empty_buffers(rt: HostRuntime) -> Result<(), Fail> {
-    let mut stock = Stock::new(rt.alloc(), 0, 257)?;
+fn a_stash_takes_256_empty_buffers(rt: HostRuntime) {
+    let mut stock = Stock::new(rt.alloc(), 0, 257).expect(&rt, "a stock");
     let mut stash = Stash::new();
     holds(&rt, stash.take().is_none());
     for number in 0..256 {
-        let mut buf = stock.take().ok_or("no buffer")?;
+        let mut buf = stock.take().expect(&rt, "a buffer");
         buf.fill(&[7; 60]);
         holds(&rt, !stash.is_full());
         holds(&rt, stash.put(buf).is_ok());
         same(&rt, stash.len(), number + 1);
     }
     holds(&rt, stash.is_full());
-    let mut last = stock.take().ok_or("no buffer")?;
+    let mut last = stock.take().expect(&rt, "a buffer");
     last.fill(&[1, 2, 3]);
     match stash.put(last) {
-        Ok(()) => return Err("a 257th buffer".into()),
+        Ok(()) => holds(&rt, false),
         Err((refusal, back)) => {
             same(&rt, refusal, PoolError::StashFull);
             same(&rt, back.number(), 256);
@@ -128,10 +122,9 @@ fn a_stash_takes_256_empty_buffers(rt: HostRuntime) -> Result<(), Fail> {
         }
     }
     for number in (0..256).rev() {
-        let buf = stash.take().ok_or("no buffer")?;
+        let buf = stash.take().expect(&rt, "a buffer");
         same(&rt, buf.number(), number);
         holds(&rt, buf.is_empty());
     }
     holds(&rt, stash.is_empty());
-    Ok(())
 }

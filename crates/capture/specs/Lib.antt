@@ -3,3 +3,5 @@ pub mod CaptureError
 pub mod Layout
 pub mod Reading
 pub mod Writing
+pub mod Frames
+pub mod Records

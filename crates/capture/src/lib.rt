@@ -1,4 +1,5 @@
-//! Captures of frames, as tcpdump and Wireshark write them: classic pcap, version 2.4, of Ethernet.
+//! Captures of frames, as tcpdump and Wireshark write them: classic pcap, version 2.4, of Ethernet; and between captures
+//! and scripts.
 //!
 //! A capture is a header of 24 bytes and then its records. A record is a header of 16 bytes, which
 //! has a time, how many bytes were captured and how many the frame had on the wire, and then the
@@ -8,19 +9,27 @@
 //! [`read`] answers the records that some bytes say as a capture, or the first fault. [`write`]
 //! makes a capture of records: in little-endian order, in microseconds, with a snap length of
 //! 65,535; and `read` reads from it the same records.
+//!
+//! [`lines_at`] puts the frames of a capture at a port and a queue, as lines of a script. [`capture_of`] makes a capture
+//! of the frames of a port, in the script's order: frame k, counted from 0, has k microseconds, since a script has no
+//! times.
 #![tactic(auto)]
 
 mod content;
 mod error;
 mod fields;
+mod from_capture;
 mod header;
 mod reading;
 mod record;
+mod to_capture;
 mod writing;
 
 pub use content::Capture;
 pub use error::CaptureError;
+pub use from_capture::lines_at;
 pub use header::TimeUnit;
 pub use reading::read;
 pub use record::CaptureRecord;
+pub use to_capture::capture_of;
 pub use writing::{write, write_header, write_record};

@@ -15,9 +15,9 @@ use limits::{LEAST_FRAME, MOST_FRAME, MOST_SCRIPT_FRAMES};
 use std::alloc::Global;
 
 // How many bytes a capture's header has, and how many each record has before the captured ones.
-const HEADER: usize = 24;
+pub(crate) const HEADER: usize = 24;
 
-const RECORD_HEADER: usize = 16;
+pub(crate) const RECORD_HEADER: usize = 16;
 
 /// What these bytes say as a capture, or its first fault: of the header, else of the first faulty
 /// record. Of the header's faults 91 comes before 92, and of a record's the lowest number (93 to 96,

@@ -10,6 +10,7 @@ ghost use Rattle.capture.specs.declared.error.CaptureError.TheVariants.{Memory};
 ghost use Rattle.capture.specs.declared.header.TimeUnit.TheVariants.{Micros};
 
 use crate::error::CaptureError;
+use crate::reading::RECORD_HEADER;
 use crate::record::CaptureRecord;
 use byteorder::{ByteOrder, LittleEndian};
 use std::alloc::{AllocError, Global};
@@ -43,7 +44,7 @@ pub fn write(alloc: Global, records: &[CaptureRecord<'_>]) -> Result<Vec<u8>, Ca
 fn capture_len(records: &[CaptureRecord<'_>]) -> usize {
     let mut len = HEADER.len();
     for found in records {
-        len = len.saturating_add(16).saturating_add(found.frame().len());
+        len = len.saturating_add(RECORD_HEADER).saturating_add(found.frame().len());
     }
     len
 }

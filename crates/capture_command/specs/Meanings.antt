@@ -5,8 +5,8 @@ use Rattle.std.specs.Io.KnownBytes.{Appends, Keeps}
 use Rattle.capture.specs.Reading.{capture_in}
 use Rattle.capture.specs.Writing.{capture_of}
 use Rattle.capture.specs.declared.error.CaptureError.TheVariants.{Memory as NoRecords}
-use Rattle.capture_script.specs.Frames.{frames_at}
-use Rattle.capture_script.specs.Records.{records_of_port}
+use Rattle.capture.specs.Frames.{frames_at}
+use Rattle.capture.specs.Records.{records_of_port}
 use Rattle.commands.specs.declared.refusal.Refusal.{Refusal}
 use Rattle.commands.specs.declared.refusal.Refusal.TheVariants as refusal
 use Rattle.wire_script.specs.Frame.{Frame}

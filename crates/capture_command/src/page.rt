@@ -10,8 +10,7 @@ ghost use Rattle.limits.specs.declared.profile.TheConstants.{MOST_PAIRS, PORTS};
 
 use crate::flows::pass_flows;
 use crate::request::CaptureRequest;
-use capture::read;
-use capture_script::{capture_of, lines_at};
+use capture::{capture_of, lines_at, read};
 use commands::{Refusal, read_text};
 use std::alloc::Global;
 use std::io::Read;

@@ -18,7 +18,7 @@ use Rattle.forward_command.proofs.Endings.{kept}
 use Rattle.forwarder.specs.declared.config.Config.{Config}
 use Rattle.forward_command.specs.declared.printing.Printing.{Printing}
 use Rattle.capture_command.specs.declared.request.CaptureRequest.TheVariants.{FromCapture, ToCapture}
-use Rattle.port_files.specs.Words.{SourceFile}
+use Rattle.forward_captures.specs.Words.{SourceFile}
 use Rattle.command_line.specs.CaptureWords.{SaysFromCapture, SaysToCapture}
 use Rattle.command_line.specs.FileWords.{FileOptions}
 use Rattle.command_line.specs.Forwarding.{EndsForwarding}

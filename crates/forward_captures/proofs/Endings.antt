@@ -9,9 +9,9 @@ use Rattle.forward_command.specs.Text.{report_text}
 use Rattle.forward_command.specs.declared.printing.Printing.{Printing}
 use Rattle.forward_command.proofs.Endings.{done-ends, kept, refused-ends}
 use Rattle.forwarder.specs.declared.config.Config.{Config}
-use Rattle.port_files.specs.Refusals.{refused_itself}
-use Rattle.port_files.specs.Words.{PortFile, SourceFile}
-use Rattle.port_files.specs.declared.refused.Refused.{Refused}
+use Rattle.forward_captures.specs.Refusals.{refused_itself}
+use Rattle.forward_captures.specs.Words.{PortFile, SourceFile}
+use Rattle.forward_captures.specs.declared.refused.Refused.{Refused}
 use Rattle.wire_script.specs.Frame.{Frame}
 use Rattle.forward_captures.specs.Endings.{AreReports, EndsRefused, IsPage, IsScript, IsUnpaged, PrintsPage, WithholdsPage}
 

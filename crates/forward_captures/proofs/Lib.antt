@@ -1,2 +1,3 @@
+mod Captures
 mod Records
 pub mod Endings

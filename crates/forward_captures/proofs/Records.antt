@@ -7,7 +7,7 @@ use Rattle.std.proofs.lemmas.List.{append_assoc, append-nil, at_drop_all, at_dro
 use Rattle.std.proofs.lemmas.List.Elements.{filter-append}
 use Rattle.capture.specs.Record.{Record}
 use Rattle.capture.specs.Writing.{capture_of, record_bytes}
-use Rattle.capture_script.specs.Records.{frames_of_port, record_at, records_from}
+use Rattle.capture.specs.Records.{frames_of_port, record_at, records_from}
 use Rattle.flows.specs.declared.report.FlowReport.{FlowReport}
 use Rattle.forward_command.specs.Text.{wires_from}
 use Rattle.wire_script.specs.Frame.{Frame, frame_of}

@@ -16,12 +16,12 @@ use Rattle.wire_script.specs.Frame.{Frame}
 use Rattle.wire_script.specs.Script.{script_of}
 use Rattle.wire_script.specs.ScriptError.{Fails}
 use Rattle.wire_script.specs.declared.error.ScriptError.{ScriptError}
-use Rattle.port_files.specs.declared.refused.Place.TheVariants.{Command, Wire}
-use Rattle.port_files.specs.declared.refused.Refused.{Refused}
-use Rattle.port_files.specs.Gathering.{AreGathered, IsUngathered}
+use Rattle.forward_captures.specs.declared.refused.Place.TheVariants.{Command, Wire}
+use Rattle.forward_captures.specs.declared.refused.Refused.{Refused}
+use Rattle.forward_captures.specs.Gathering.{AreGathered, IsUngathered}
 use Rattle.forward_captures.specs.Wires.{IsUncaptured}
-use Rattle.port_files.specs.Refusals.{refused_itself}
-use Rattle.port_files.specs.Words.{PortFile, SourceFile}
+use Rattle.forward_captures.specs.Refusals.{refused_itself}
+use Rattle.forward_captures.specs.Words.{PortFile, SourceFile}
 
 -- the script of a text that was read, which is the input's where that is known; with sources, that of their captures
 abbrev pub IsScript : List SourceFile → Option (List ℕ) → List Frame → Type 0

@@ -2,7 +2,7 @@
 use Rattle.std.specs.Prelude.{◌≡◌, ◌⊎◌, ℕ, List, drop, take}
 use Rattle.capture.specs.Writing.{capture_of}
 use Rattle.capture.specs.declared.error.CaptureError.TheVariants as errors
-use Rattle.capture_script.specs.Records.{records_of_port}
+use Rattle.capture.specs.Records.{records_of_port}
 use Rattle.commands.specs.declared.refusal.Refusal.{Refusal}
 use Rattle.commands.specs.declared.refusal.Refusal.TheVariants as refusal
 use Rattle.flows.specs.declared.report.FlowReport.{FlowReport}

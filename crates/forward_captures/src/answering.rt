@@ -5,11 +5,12 @@ ghost use Rattle.commands.specs.declared.answering.TheConstants.{DONE, REFUSED};
 ghost use Rattle.forward_command.specs.Forwards.{EndsForward};
 ghost use Rattle.forward_captures.specs.Endings.{EndsRefused, PrintsPage, WithholdsPage};
 
+use crate::refused::{Refused, tell};
 use crate::running::{forwarded, page_for, script_for};
+use crate::words::{Source, WireFile};
 use commands::{DONE, print};
 use forward_command::Printing;
 use forwarder::Config;
-use port_files::{Refused, Source, WireFile, tell};
 use std::alloc::Global;
 use std::io::{IsTerminal, Read, Write};
 use std::marker::Send;

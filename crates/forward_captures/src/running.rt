@@ -7,13 +7,16 @@ ghost use Rattle.limits.specs.declared.profile.TheConstants.{MOST_PAIRS, PORTS};
 ghost use Rattle.forward_captures.specs.Endings.{AreReports, IsFaulty, IsNoScript, IsScript, IsUnforwarded, IsUnpaged};
 ghost use Rattle.forward_captures.specs.Wires.{IsUncaptured};
 
+use crate::files::{remove, rename, write_file};
+use crate::gathering::gather;
+use crate::refused::{Place, Refused};
 use crate::wires::wire_capture;
+use crate::words::{Source, WireFile};
 use commands::{Refusal, read_text};
 use flows::FlowReport;
 use forward_command::{Printing, text_of};
 use forwarder::{Config, Report};
 use forwarding::Open;
-use port_files::{Place, Refused, Source, WireFile, gather, remove, rename, write_file};
 use progress::Form;
 use std::alloc::{AllocError, Global};
 use std::io::{Read, Write};

@@ -2,7 +2,7 @@
 ghost use Rattle.std.specs.Prelude.{◌≡◌, ◌+◌, ◌*◌, ◌<◌, ◌≤◌, ◌++◌, [], length, map, IfErr, IfOk, OnOk};
 ghost use Rattle.std.specs.List.{flat_map};
 ghost use Rattle.capture.specs.Writing.{capture_of, record_bytes};
-ghost use Rattle.capture_script.specs.Records.{record_at, records_from};
+ghost use Rattle.capture.specs.Records.{record_at, records_from};
 ghost use Rattle.commands.specs.declared.refusal.Refusal.TheVariants.{Memory};
 ghost use Rattle.forward_command.specs.Text.{wires_from};
 ghost use Rattle.limits.specs.declared.profile.TheConstants.{MOST_PAIRS, MOST_SCRIPT_FRAMES, PORTS};

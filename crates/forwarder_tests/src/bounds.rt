@@ -10,7 +10,6 @@ use forwarding::{ForwardError, Open};
 use std::alloc::Global;
 use std::process::Abort;
 use std::sync::Wait;
-use std::test::Fail;
 use std::thread::Threads;
 use wire_script::Script;
 
@@ -115,7 +114,7 @@ const BROKEN: &[Config] = &[
 ];
 
 /// How many of these are refused before anything is done, up to the first that is not.
-fn refused<R: Threads + Wait + Sync>(
+fn refused<R: Threads + Wait + Sync + Abort>(
     rt: &R,
     alloc: Global,
     script: &Script,
@@ -134,10 +133,9 @@ fn refused<R: Threads + Wait + Sync>(
 }
 
 #[test]
-fn a_broken_limit_is_refused_before_anything_is_done(rt: HostRuntime) -> Result<(), Fail> {
-    let script = script_of(rt.alloc(), &[])?;
+fn a_broken_limit_is_refused_before_anything_is_done(rt: HostRuntime) {
+    let script = script_of(&rt, rt.alloc(), &[]);
     same(&rt, refused(&rt, rt.alloc(), &script, BROKEN), BROKEN.len());
-    Ok(())
 }
 
 /// How many of these fit the script, up to the first that doesn't.
@@ -155,11 +153,10 @@ fn fitting(script: &Script, configs: &[Config]) -> usize {
 const EDGES: &[Config] = &[LEAST, DEFAULT, GREATEST];
 
 #[test]
-fn the_edges_are_lawful(rt: HostRuntime) -> Result<(), Fail> {
-    let script = script_of(rt.alloc(), &[])?;
+fn the_edges_are_lawful(rt: HostRuntime) {
+    let script = script_of(&rt, rt.alloc(), &[]);
     holds(&rt, Config::default() == DEFAULT);
     same(&rt, fitting(&script, EDGES), 3);
-    Ok(())
 }
 
 /// Ten frames for port 1, queue 0.
@@ -180,28 +177,27 @@ const OF_SIXTEEN: &[Counts] = &[
 ];
 
 #[test]
-fn the_edges_are_run(rt: HostRuntime) -> Result<(), Fail> {
-    let script = script_of(rt.alloc(), TEN)?;
+fn the_edges_are_run(rt: HostRuntime) {
+    let script = script_of(&rt, rt.alloc(), TEN);
     let least = [NONE, ALL_TEN];
     holds(
         &rt,
-        comes_to(&rt, rt.alloc(), &script, &LEAST, &Open, &least)?,
+        comes_to(&rt, rt.alloc(), &script, &LEAST, &Open, &least),
     );
     holds(
         &rt,
-        comes_to(&rt, rt.alloc(), &script, &GREATEST, &Open, OF_SIXTEEN)?,
+        comes_to(&rt, rt.alloc(), &script, &GREATEST, &Open, OF_SIXTEEN),
     );
-    Ok(())
 }
 
 /// Whether a frame of this port and queue is refused with so many pairs, and taken with one more.
-fn has_just<R: Threads + Wait + Sync>(
+fn has_just<R: Threads + Wait + Sync + Abort>(
     rt: &R,
     alloc: Global,
     port: u8,
     queue: u8,
     pairs: u32,
-) -> Result<bool, Fail> {
+) -> bool {
     let burst = Burst {
         port,
         queue,
@@ -209,22 +205,21 @@ fn has_just<R: Threads + Wait + Sync>(
         first: 0,
         count: 1,
     };
-    let script = script_of(alloc, &[burst])?;
+    let script = script_of(rt, alloc, &[burst]);
     let fewer = Config { pairs, ..DEFAULT };
     let enough = Config {
         pairs: pairs.saturating_add(1),
         ..DEFAULT
     };
-    Ok(refused(rt, alloc, &script, &[fewer]) == 1 && enough.check(&script).is_ok())
+    refused(rt, alloc, &script, &[fewer]) == 1 && enough.check(&script).is_ok()
 }
 
 #[test]
-fn a_queue_that_is_not_there_is_refused(rt: HostRuntime) -> Result<(), Fail> {
+fn a_queue_that_is_not_there_is_refused(rt: HostRuntime) {
     for (port, queue, pairs) in [(0, 1, 1), (1, 1, 1), (1, 7, 7)] {
-        let just = has_just(&rt, rt.alloc(), port, queue, pairs)?;
+        let just = has_just(&rt, rt.alloc(), port, queue, pairs);
         same(&rt, (pairs, just), (pairs, true));
     }
-    Ok(())
 }
 
 const REFUSALS: &[(ForwardError, &str)] = &[
@@ -235,16 +230,14 @@ const REFUSALS: &[(ForwardError, &str)] = &[
 ];
 
 /// A refusal has this number and text.
-fn reads<R: Abort>(rt: &R, alloc: Global, refusal: ForwardError, want: &str) -> Result<(), Fail> {
-    let text = format!(in alloc; "{} {refusal}", refusal.number())?;
+fn reads<R: Abort>(rt: &R, alloc: Global, refusal: ForwardError, want: &str) {
+    let text = format!(in alloc; "{} {refusal}", refusal.number()).expect(rt, "a text");
     same(rt, text.as_str(), want);
-    Ok(())
 }
 
 #[test]
-fn refusals_have_a_number_and_a_text(rt: HostRuntime) -> Result<(), Fail> {
+fn refusals_have_a_number_and_a_text(rt: HostRuntime) {
     for row in REFUSALS {
-        reads(&rt, rt.alloc(), row.0, row.1)?;
+        reads(&rt, rt.alloc(), row.0, row.1);
     }
-    Ok(())
 }

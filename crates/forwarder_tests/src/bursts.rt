@@ -2,6 +2,7 @@
 
 use crate::counted::{Counts, NONE};
 use std::alloc::Global;
+use std::process::Abort;
 use std::test::Fail;
 use wire_script::{Script, WireFrame};
 
@@ -37,7 +38,11 @@ pub(crate) const FORTY: &[Burst] = &[
 pub(crate) const FORTY_COUNTS: &[Counts] = &[NONE, [40, 40, 0, 0, 40, 40, 0, 40, 0], NONE, NONE];
 
 /// The script of these bursts.
-pub(crate) fn script_of(alloc: Global, bursts: &[Burst]) -> Result<Script, Fail> {
+pub(crate) fn script_of<R: Abort>(rt: &R, alloc: Global, bursts: &[Burst]) -> Script {
+    script_in(alloc, bursts).expect(rt, "a script")
+}
+
+fn script_in(alloc: Global, bursts: &[Burst]) -> Result<Script, Fail> {
     let mut frames = Vec::new(alloc);
     for burst in bursts {
         let (port, queue, len) = (burst.port, burst.queue, burst.len);

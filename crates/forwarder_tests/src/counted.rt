@@ -3,8 +3,9 @@
 use controller::Wire;
 use flows::{Ended, FlowReport};
 use forwarder::{Config, Report, forward};
-use forwarding::{ForwardError, Gate};
+use forwarding::Gate;
 use std::alloc::Global;
+use std::process::Abort;
 use std::sync::Wait;
 use std::thread::Threads;
 use wire_script::Script;
@@ -81,14 +82,14 @@ pub(crate) fn is_drained(report: &Report, script: &Script, pairs: u32, wanted: &
 
 /// Whether a script that is forwarded so comes to flows that are drained with these counts, and have their frames on their
 /// wires.
-pub(crate) fn comes_to<R: Threads + Wait + Sync, G: Gate + Sync>(
+pub(crate) fn comes_to<R: Threads + Wait + Sync + Abort, G: Gate + Sync>(
     rt: &R,
     alloc: Global,
     script: &Script,
     config: &Config,
     gate: &G,
     wanted: &[Counts],
-) -> Result<bool, ForwardError> {
-    let report = forward(rt, alloc, script, config, gate)?;
-    Ok(is_drained(&report, script, config.pairs, wanted))
+) -> bool {
+    let report = forward(rt, alloc, script, config, gate).expect(rt, "a report");
+    is_drained(&report, script, config.pairs, wanted)
 }

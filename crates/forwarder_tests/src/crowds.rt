@@ -6,15 +6,20 @@ use crate::told::same;
 use controller::Wire;
 use flows::{Ended, FlowReport};
 use forwarder::{Config, forward};
-use forwarding::{ForwardError, Open};
+use forwarding::Open;
 use std::alloc::Global;
+use std::process::Abort;
 use std::sync::Wait;
 use std::test::Fail;
 use std::thread::Threads;
 use wire_script::{Script, WireFrame};
 
 /// So many frames of 14 to 43 bytes, over all 16 flows in turn.
-fn crowd(alloc: Global, count: u32) -> Result<Script, Fail> {
+fn crowd<R: Abort>(rt: &R, alloc: Global, count: u32) -> Script {
+    crowd_in(alloc, count).expect(rt, "a script")
+}
+
+fn crowd_in(alloc: Global, count: u32) -> Result<Script, Fail> {
     let mut frames = Vec::new(alloc);
     for k in 0..count {
         let round = k / 16;
@@ -96,32 +101,29 @@ fn all_have_gone(flows: &[FlowReport], wanted: &[Sum; 16]) -> bool {
 }
 
 /// Whether so many frames of each flow go out by so many workers.
-fn all_go<R: Threads + Wait + Sync>(
+fn all_go<R: Threads + Wait + Sync + Abort>(
     rt: &R,
     alloc: Global,
     script: &Script,
     wanted: &[Sum; 16],
     workers: u32,
-) -> Result<bool, ForwardError> {
+) -> bool {
     let config = Config {
         pairs: 8,
         ring: 64,
         workers,
         ..DEFAULT
     };
-    let report = forward(rt, alloc, script, &config, &Open)?;
-    Ok(all_have_gone(&report.flows, wanted))
+    let report = forward(rt, alloc, script, &config, &Open).expect(rt, "a report");
+    all_have_gone(&report.flows, wanted)
 }
 
 #[test]
-fn fifty_thousand_frames_over_sixteen_flows_by_each_number_of_workers(
-    rt: HostRuntime,
-) -> Result<(), Fail> {
-    let script = crowd(rt.alloc(), 50_000)?;
+fn fifty_thousand_frames_over_sixteen_flows_by_each_number_of_workers(rt: HostRuntime) {
+    let script = crowd(&rt, rt.alloc(), 50_000);
     let wanted = wanted(&script);
     for workers in 1..=16 {
-        let good = all_go(&rt, rt.alloc(), &script, &wanted, workers)?;
+        let good = all_go(&rt, rt.alloc(), &script, &wanted, workers);
         same(&rt, (workers, good), (workers, true));
     }
-    Ok(())
 }

@@ -6,10 +6,10 @@ use crate::counted::{carries, comes_to};
 use crate::told::{holds, same};
 use flows::{Ended, FlowReport};
 use forwarder::{Config, forward};
-use forwarding::{ForwardError, Open};
+use forwarding::Open;
 use std::alloc::Global;
+use std::process::Abort;
 use std::sync::Wait;
-use std::test::Fail;
 use std::thread::Threads;
 use wire_script::Script;
 
@@ -41,64 +41,62 @@ fn is_relayed(flow: &FlowReport, script: &Script, retry: bool) -> bool {
 }
 
 /// Whether flow 1 is cut, with up to 7 frames taken a turn, and all flows add up.
-fn is_cut<R: Threads + Wait + Sync>(
+fn is_cut<R: Threads + Wait + Sync + Abort>(
     rt: &R,
     alloc: Global,
     script: &Script,
     turns: u32,
     retry: bool,
-) -> Result<bool, ForwardError> {
+) -> bool {
     let config = Config {
         turns,
         retry,
         ..SHORT
     };
-    let report = forward(rt, alloc, script, &config, &Open)?;
+    let report = forward(rt, alloc, script, &config, &Open).expect(rt, "a report");
     let Some(flow) = report.flows.get(1) else {
-        return Ok(false);
+        return false;
     };
     let few = flow.taken <= u64::from(turns).saturating_mul(7);
     let cut = few && flow.ended == Ended::Cut;
-    Ok(cut && is_relayed(flow, script, retry) && all_add_up(&report.flows))
+    cut && is_relayed(flow, script, retry) && all_add_up(&report.flows)
 }
 
 /// Whether it is so where packets are kept, and where they are dropped.
-fn is_cut_either_way<R: Threads + Wait + Sync>(
+fn is_cut_either_way<R: Threads + Wait + Sync + Abort>(
     rt: &R,
     alloc: Global,
     script: &Script,
     turns: u32,
-) -> Result<bool, ForwardError> {
-    Ok(is_cut(rt, alloc, script, turns, true)? && is_cut(rt, alloc, script, turns, false)?)
+) -> bool {
+    is_cut(rt, alloc, script, turns, true) && is_cut(rt, alloc, script, turns, false)
 }
 
 // A turn takes what a ring of 8 has at most, 7 frames, so 5 turns are too few for 40.
 #[test]
-fn a_flow_is_cut_after_its_turns(rt: HostRuntime) -> Result<(), Fail> {
-    let script = script_of(rt.alloc(), FORTY)?;
+fn a_flow_is_cut_after_its_turns(rt: HostRuntime) {
+    let script = script_of(&rt, rt.alloc(), FORTY);
     for turns in [1, 2, 5] {
-        let good = is_cut_either_way(&rt, rt.alloc(), &script, turns)?;
+        let good = is_cut_either_way(&rt, rt.alloc(), &script, turns);
         same(&rt, (turns, good), (turns, true));
     }
-    Ok(())
 }
 
 /// Whether all 40 frames go out in so many turns.
-fn none_is_cut<R: Threads + Wait + Sync>(
+fn none_is_cut<R: Threads + Wait + Sync + Abort>(
     rt: &R,
     alloc: Global,
     script: &Script,
     turns: u32,
-) -> Result<bool, ForwardError> {
+) -> bool {
     let config = Config { turns, ..SHORT };
     comes_to(rt, alloc, script, &config, &Open, FORTY_COUNTS)
 }
 
 #[test]
-fn with_turns_enough_no_flow_is_cut(rt: HostRuntime) -> Result<(), Fail> {
-    let script = script_of(rt.alloc(), FORTY)?;
+fn with_turns_enough_no_flow_is_cut(rt: HostRuntime) {
+    let script = script_of(&rt, rt.alloc(), FORTY);
     for turns in [0, 1_000_000_000] {
-        holds(&rt, none_is_cut(&rt, rt.alloc(), &script, turns)?);
+        holds(&rt, none_is_cut(&rt, rt.alloc(), &script, turns));
     }
-    Ok(())
 }

@@ -7,10 +7,10 @@ use crate::told::same;
 use controller::Wire;
 use flows::{Ended, FlowReport};
 use forwarder::{Config, forward};
-use forwarding::{ForwardError, Open};
+use forwarding::Open;
 use std::alloc::Global;
+use std::process::Abort;
 use std::sync::Wait;
-use std::test::Fail;
 use std::thread::Threads;
 use tx_ring::Completion;
 use wire_script::Script;
@@ -52,51 +52,48 @@ fn adds_up(flow: &FlowReport) -> bool {
 }
 
 /// Whether it is so over rings of 8, where frames are held or dropped, and packets wait or are dropped.
-fn is_counted<R: Threads + Wait + Sync>(
+fn is_counted<R: Threads + Wait + Sync + Abort>(
     rt: &R,
     alloc: Global,
     script: &Script,
     drop_en: bool,
     retry: bool,
     completion: Completion,
-) -> Result<bool, ForwardError> {
+) -> bool {
     let config = Config {
         drop_en,
         retry,
         completion,
         ..SHORT
     };
-    let report = forward(rt, alloc, script, &config, &Open)?;
+    let report = forward(rt, alloc, script, &config, &Open).expect(rt, "a report");
     let Some(flow) = report.flows.first() else {
-        return Ok(false);
+        return false;
     };
     let allowed = (drop_en || flow.dropped == 0) && (!retry || flow.tx_dropped == 0);
-    Ok(allowed && adds_up(flow) && follows(&flow.wire, script))
+    allowed && adds_up(flow) && follows(&flow.wire, script)
 }
 
 /// Whether it is so in both ways to report.
-fn is_counted_both_ways<R: Threads + Wait + Sync>(
+fn is_counted_both_ways<R: Threads + Wait + Sync + Abort>(
     rt: &R,
     alloc: Global,
     script: &Script,
     drop_en: bool,
     retry: bool,
-) -> Result<bool, ForwardError> {
-    Ok(
-        is_counted(rt, alloc, script, drop_en, retry, Completion::Status)?
-            && is_counted(rt, alloc, script, drop_en, retry, Completion::Head)?,
-    )
+) -> bool {
+    is_counted(rt, alloc, script, drop_en, retry, Completion::Status)
+        && is_counted(rt, alloc, script, drop_en, retry, Completion::Head)
 }
 
 /// `drop_en` and `retry`.
 const WAYS: &[(bool, bool)] = &[(false, true), (false, false), (true, true), (true, false)];
 
 #[test]
-fn what_is_dropped_is_counted(rt: HostRuntime) -> Result<(), Fail> {
-    let script = script_of(rt.alloc(), MANY)?;
+fn what_is_dropped_is_counted(rt: HostRuntime) {
+    let script = script_of(&rt, rt.alloc(), MANY);
     for way in WAYS {
-        let counted = is_counted_both_ways(&rt, rt.alloc(), &script, way.0, way.1)?;
+        let counted = is_counted_both_ways(&rt, rt.alloc(), &script, way.0, way.1);
         same(&rt, (*way, counted), (*way, true));
     }
-    Ok(())
 }

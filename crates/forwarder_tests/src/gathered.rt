@@ -13,8 +13,8 @@ use forwarder::{Config, forward_in};
 use forwarding::{ForwardError, Gate, Open};
 use pool::{Pool, PoolPass};
 use std::alloc::Global;
+use std::process::Abort;
 use std::sync::Wait;
-use std::test::Fail;
 use std::thread::Threads;
 use wire_script::Script;
 
@@ -61,20 +61,20 @@ fn taken_out<R: Wait>(rt: &R, pool: &Pool, pass: &mut PoolPass) -> Numbers
 }
 
 /// How forwarding over a pool of its own ends, and what is in the pool then.
-fn ended<R: Threads + Wait + Sync, G: Gate + Sync>(
+fn ended<R: Threads + Wait + Sync + Abort, G: Gate + Sync>(
     rt: &R,
     alloc: Global,
     script: &Script,
     config: &Config,
     gate: &G,
-) -> Result<(Option<ForwardError>, Numbers), Fail> {
-    config.check(script)?;
-    let (pool, pass) = Pool::new(rt, alloc, BUFFERS)?;
-    Ok(ended_over(rt, alloc, script, config, gate, &pool, pass))
+) -> (Option<ForwardError>, Numbers) {
+    config.check(script).expect(rt, "a lawful configuration");
+    let (pool, pass) = Pool::new(rt, alloc, BUFFERS).expect(rt, "a pool");
+    ended_over(rt, alloc, script, config, gate, &pool, pass)
 }
 
 /// How forwarding over this pool ends, and what is in it then.
-pub(crate) fn ended_over<R: Threads + Wait + Sync, G: Gate + Sync>(
+pub(crate) fn ended_over<R: Threads + Wait + Sync + Abort, G: Gate + Sync>(
     rt: &R,
     alloc: Global,
     script: &Script,
@@ -112,89 +112,87 @@ const ALL: Config = Config {
 };
 
 /// Whether all buffers are back after a refusal, by so many workers, once so many passed the gate.
-fn are_back<R: Threads + Wait + Sync>(
+fn are_back<R: Threads + Wait + Sync + Abort>(
     rt: &R,
     alloc: Global,
     script: &Script,
     workers: u32,
     passes: u64,
-) -> Result<bool, Fail> {
+) -> bool {
     let config = Config { workers, ..ALL };
     let gate = Shuts::after(passes);
-    let (refusal, numbers) = ended(rt, alloc, script, &config, &gate)?;
-    Ok(refusal == Some(ForwardError::Gate) && numbers.came_once())
+    let (refusal, numbers) = ended(rt, alloc, script, &config, &gate);
+    refusal == Some(ForwardError::Gate) && numbers.came_once()
 }
 
 /// Whether it is so after each of these numbers of passes.
-fn all_are_back<R: Threads + Wait + Sync>(
+fn all_are_back<R: Threads + Wait + Sync + Abort>(
     rt: &R,
     alloc: Global,
     script: &Script,
     workers: u32,
-) -> Result<bool, Fail> {
+) -> bool {
     for passes in [0, 1, 3, 10, 40, 79] {
-        if !are_back(rt, alloc, script, workers, passes)? {
-            return Ok(false);
+        if !are_back(rt, alloc, script, workers, passes) {
+            return false;
         }
     }
-    Ok(true)
+    true
 }
 
 #[test]
-fn all_back_after_a_refusal(rt: HostRuntime) -> Result<(), Fail> {
+fn all_back_after_a_refusal(rt: HostRuntime) {
     for bursts in [FORTY, LONG] {
-        let script = script_of(rt.alloc(), bursts)?;
+        let script = script_of(&rt, rt.alloc(), bursts);
         for workers in 1..=4 {
-            let good = all_are_back(&rt, rt.alloc(), &script, workers)?;
+            let good = all_are_back(&rt, rt.alloc(), &script, workers);
             same(&rt, (workers, good), (workers, true));
         }
     }
-    Ok(())
 }
 
 /// Whether all buffers are back after so many turns, by so many workers.
-fn are_back_at_the_end<R: Threads + Wait + Sync>(
+fn are_back_at_the_end<R: Threads + Wait + Sync + Abort>(
     rt: &R,
     alloc: Global,
     script: &Script,
     workers: u32,
     turns: u32,
-) -> Result<bool, Fail> {
+) -> bool {
     let config = Config {
         workers,
         turns,
         retry: workers % 2 == 0,
         ..ALL
     };
-    let (refusal, numbers) = ended(rt, alloc, script, &config, &Open)?;
-    Ok(refusal.is_none() && numbers.came_once())
+    let (refusal, numbers) = ended(rt, alloc, script, &config, &Open);
+    refusal.is_none() && numbers.came_once()
 }
 
 /// Whether it is so after each of these numbers of turns.
-fn all_are_back_at_the_end<R: Threads + Wait + Sync>(
+fn all_are_back_at_the_end<R: Threads + Wait + Sync + Abort>(
     rt: &R,
     alloc: Global,
     script: &Script,
     workers: u32,
-) -> Result<bool, Fail> {
+) -> bool {
     for turns in [0, 1, 5] {
-        if !are_back_at_the_end(rt, alloc, script, workers, turns)? {
-            return Ok(false);
+        if !are_back_at_the_end(rt, alloc, script, workers, turns) {
+            return false;
         }
     }
-    Ok(true)
+    true
 }
 
 #[test]
-fn all_back_after_a_report(rt: HostRuntime) -> Result<(), Fail> {
+fn all_back_after_a_report(rt: HostRuntime) {
     for bursts in [FORTY, LONG] {
-        let script = script_of(rt.alloc(), bursts)?;
+        let script = script_of(&rt, rt.alloc(), bursts);
         for workers in 1..=4 {
-            let good = all_are_back_at_the_end(&rt, rt.alloc(), &script, workers)?;
+            let good = all_are_back_at_the_end(&rt, rt.alloc(), &script, workers);
             same(&rt, (workers, good), (workers, true));
         }
     }
-    Ok(())
 }
 
 /// 40 frames for flow 0.
@@ -216,34 +214,32 @@ const LONGEST: &[Burst] = &[Burst {
 }];
 
 /// Whether all buffers are back once this gate refused, or nobody was refused.
-fn are_back_after<R: Threads + Wait + Sync, G: Gate + Sync>(
+fn are_back_after<R: Threads + Wait + Sync + Abort, G: Gate + Sync>(
     rt: &R,
     alloc: Global,
     script: &Script,
     gate: &G,
-) -> Result<bool, Fail> {
-    let (refusal, numbers) = ended(rt, alloc, script, &ALL, gate)?;
-    Ok(matches!(refusal, None | Some(ForwardError::Gate)) && numbers.came_once())
+) -> bool {
+    let (refusal, numbers) = ended(rt, alloc, script, &ALL, gate);
+    matches!(refusal, None | Some(ForwardError::Gate)) && numbers.came_once()
 }
 
 // After one pass of the driver two packets wait, and after two they are in the transmit ring.
 #[test]
-fn packets_that_wait_come_back(rt: HostRuntime) -> Result<(), Fail> {
-    let script = script_of(rt.alloc(), ZERO)?;
+fn packets_that_wait_come_back(rt: HostRuntime) {
+    let script = script_of(&rt, rt.alloc(), ZERO);
     for passes in 0..8 {
         let gate = Stops::after(passes);
-        let good = are_back_after(&rt, rt.alloc(), &script, &gate)?;
+        let good = are_back_after(&rt, rt.alloc(), &script, &gate);
         same(&rt, (passes, good), (passes, true));
     }
-    Ok(())
 }
 
 #[test]
-fn a_frame_that_is_taken_in_part_comes_back(rt: HostRuntime) -> Result<(), Fail> {
-    let script = script_of(rt.alloc(), LONGEST)?;
+fn a_frame_that_is_taken_in_part_comes_back(rt: HostRuntime) {
+    let script = script_of(&rt, rt.alloc(), LONGEST);
     for _ in 0..20 {
         let gate = Midway::new();
-        holds(&rt, are_back_after(&rt, rt.alloc(), &script, &gate)?);
+        holds(&rt, are_back_after(&rt, rt.alloc(), &script, &gate));
     }
-    Ok(())
 }

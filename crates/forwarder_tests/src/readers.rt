@@ -4,7 +4,8 @@ ghost use Rattle.counters.specs.Paired.{ArePaired, IsFresh};
 
 use counters::{DrivePass, Driven, FlowCells, FlowPens, Offered, StatPass};
 use flows::FlowReport;
-use std::alloc::{AllocError, Global};
+use std::alloc::Global;
+use std::process::Abort;
 use std::sync::Wait;
 
 /// A flow's cells, with passes that know of no write.
@@ -37,19 +38,22 @@ impl<'c> Reader<'c> {
 }
 
 /// A reader of each flow.
-pub(crate) fn readers_of<'c>(
+pub(crate) fn readers_of<'c, R: Abort>(
+    rt: &R,
     alloc: Global,
     cells: &'c [FlowCells],
     pens: &mut [FlowPens],
-) -> Result<Vec<Reader<'c>>, AllocError>
+) -> Vec<Reader<'c>>
     requires pens { ArePaired cells.now pens.old }
     ensures same { pens.new ≡ pens.old }
 {
-    let mut readers = Vec::with_capacity(alloc, cells.len())?;
+    let mut readers = Vec::with_capacity(alloc, cells.len()).expect(rt, "readers");
     for k in 0..cells.len() {
-        readers.push(Reader::new(&cells[k], &mut pens[k]))?;
+        readers
+            .push(Reader::new(&cells[k], &mut pens[k]))
+            .expect(rt, "a reader");
     }
-    Ok(readers)
+    readers
 }
 
 /// What the controller's side of a flow counted.

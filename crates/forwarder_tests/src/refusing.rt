@@ -7,13 +7,13 @@ use crate::told::same;
 use forwarder::{Config, forward};
 use forwarding::ForwardError;
 use std::alloc::Global;
+use std::process::Abort;
 use std::sync::Wait;
-use std::test::Fail;
 use std::thread::Threads;
 use wire_script::Script;
 
 /// Whether the gate refuses, by so many workers, once so many passed it.
-fn is_refused<R: Threads + Wait + Sync>(
+fn is_refused<R: Threads + Wait + Sync + Abort>(
     rt: &R,
     alloc: Global,
     script: &Script,
@@ -27,7 +27,7 @@ fn is_refused<R: Threads + Wait + Sync>(
 }
 
 /// Whether it is so after each of these numbers of passes.
-fn all_are_refused<R: Threads + Wait + Sync>(
+fn all_are_refused<R: Threads + Wait + Sync + Abort>(
     rt: &R,
     alloc: Global,
     script: &Script,
@@ -43,13 +43,12 @@ fn all_are_refused<R: Threads + Wait + Sync>(
 
 // 40 offers and as many transmit turns at least are made, so each of these gates refuses.
 #[test]
-fn wherever_a_gate_refuses_that_is_answered(rt: HostRuntime) -> Result<(), Fail> {
-    let script = script_of(rt.alloc(), FORTY)?;
+fn wherever_a_gate_refuses_that_is_answered(rt: HostRuntime) {
+    let script = script_of(&rt, rt.alloc(), FORTY);
     for workers in 1..=4 {
         let good = all_are_refused(&rt, rt.alloc(), &script, workers);
         same(&rt, (workers, good), (workers, true));
     }
-    Ok(())
 }
 
 const ONE: &[Burst] = &[Burst {
@@ -61,7 +60,7 @@ const ONE: &[Burst] = &[Burst {
 }];
 
 /// Whether each worker's driver was at its gate while an offer was refused, and left it before that was answered.
-fn is_left<R: Threads + Wait + Sync>(rt: &R, alloc: Global, script: &Script, workers: u32) -> bool {
+fn is_left<R: Threads + Wait + Sync + Abort>(rt: &R, alloc: Global, script: &Script, workers: u32) -> bool {
     let config = Config { workers, ..SHORT };
     let gate = Leaving::new(u64::from(workers));
     let refusal = forward(rt, alloc, script, &config, &gate).err();
@@ -70,11 +69,10 @@ fn is_left<R: Threads + Wait + Sync>(rt: &R, alloc: Global, script: &Script, wor
 }
 
 #[test]
-fn all_workers_are_joined_before_a_refusal_is_answered(rt: HostRuntime) -> Result<(), Fail> {
-    let script = script_of(rt.alloc(), ONE)?;
+fn all_workers_are_joined_before_a_refusal_is_answered(rt: HostRuntime) {
+    let script = script_of(&rt, rt.alloc(), ONE);
     for workers in 1..=4 {
         let good = is_left(&rt, rt.alloc(), &script, workers);
         same(&rt, (workers, good), (workers, true));
     }
-    Ok(())
 }

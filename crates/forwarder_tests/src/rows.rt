@@ -7,10 +7,10 @@ use crate::told::{holds, same};
 use controller::Wire;
 use flows::FlowReport;
 use forwarder::{Config, forward};
-use forwarding::{ForwardError, Open};
+use forwarding::Open;
 use std::alloc::Global;
+use std::process::Abort;
 use std::sync::Wait;
-use std::test::Fail;
 use std::thread::Threads;
 use tx_ring::Completion;
 use wire_script::Script;
@@ -22,13 +22,13 @@ const EMPTY: Config = Config {
 };
 
 /// Whether the 40 frames go over rings of 8 by batches of 1, 7 and 32.
-fn forty_go<R: Threads + Wait + Sync>(
+fn forty_go<R: Threads + Wait + Sync + Abort>(
     rt: &R,
     alloc: Global,
     script: &Script,
     workers: u32,
     completion: Completion,
-) -> Result<bool, ForwardError> {
+) -> bool {
     let mut good = true;
     for batch in [1, 7, 32] {
         let config = Config {
@@ -37,32 +37,29 @@ fn forty_go<R: Threads + Wait + Sync>(
             completion,
             ..SHORT
         };
-        good &= comes_to(rt, alloc, script, &config, &Open, FORTY_COUNTS)?;
+        good &= comes_to(rt, alloc, script, &config, &Open, FORTY_COUNTS);
     }
-    Ok(good)
+    good
 }
 
 /// Whether they do in both ways to report.
-fn forty_go_both_ways<R: Threads + Wait + Sync>(
+fn forty_go_both_ways<R: Threads + Wait + Sync + Abort>(
     rt: &R,
     alloc: Global,
     script: &Script,
     workers: u32,
-) -> Result<bool, ForwardError> {
-    Ok(
-        forty_go(rt, alloc, script, workers, Completion::Status)?
-            && forty_go(rt, alloc, script, workers, Completion::Head)?,
-    )
+) -> bool {
+    forty_go(rt, alloc, script, workers, Completion::Status)
+        && forty_go(rt, alloc, script, workers, Completion::Head)
 }
 
 #[test]
-fn forty_frames_over_a_short_ring(rt: HostRuntime) -> Result<(), Fail> {
-    let script = script_of(rt.alloc(), FORTY)?;
+fn forty_frames_over_a_short_ring(rt: HostRuntime) {
+    let script = script_of(&rt, rt.alloc(), FORTY);
     for workers in 1..=4 {
-        let good = forty_go_both_ways(&rt, rt.alloc(), &script, workers)?;
+        let good = forty_go_both_ways(&rt, rt.alloc(), &script, workers);
         same(&rt, (workers, good), (workers, true));
     }
-    Ok(())
 }
 
 /// The first three bytes of frame `i` of a wire, and its last.
@@ -91,21 +88,19 @@ fn edges_of_flow_1(flows: &[FlowReport]) -> [Option<[u8; 4]>; 3] {
 const TOUCHED: [Option<[u8; 4]>; 3] = [Some([0, 1, 0, 0]), Some([255, 0, 255, 255]), None];
 
 #[test]
-fn a_touch_grows_one_byte(rt: HostRuntime) -> Result<(), Fail> {
-    let script = script_of(rt.alloc(), FORTY)?;
-    let report = forward(&rt, rt.alloc(), &script, &SHORT, &Open)?;
+fn a_touch_grows_one_byte(rt: HostRuntime) {
+    let script = script_of(&rt, rt.alloc(), FORTY);
+    let report = forward(&rt, rt.alloc(), &script, &SHORT, &Open).expect(&rt, "a report");
     same(&rt, edges_of_flow_1(&report.flows), TOUCHED);
-    Ok(())
 }
 
 #[test]
-fn an_empty_script(rt: HostRuntime) -> Result<(), Fail> {
-    let script = script_of(rt.alloc(), &[])?;
+fn an_empty_script(rt: HostRuntime) {
+    let script = script_of(&rt, rt.alloc(), &[]);
     holds(
         &rt,
-        comes_to(&rt, rt.alloc(), &script, &EMPTY, &Open, &[NONE; 4])?,
+        comes_to(&rt, rt.alloc(), &script, &EMPTY, &Open, &[NONE; 4]),
     );
-    Ok(())
 }
 
 /// Frames of one length for port 0, queue 0, over rings of one length, and what flow 0 comes to.
@@ -154,7 +149,7 @@ const LONG: &[Long] = &[
 ];
 
 /// Whether the frames of a row come to what it says.
-fn goes<R: Threads + Wait + Sync>(rt: &R, alloc: Global, row: &Long) -> Result<bool, Fail> {
+fn goes<R: Threads + Wait + Sync + Abort>(rt: &R, alloc: Global, row: &Long) -> bool {
     let burst = Burst {
         port: 0,
         queue: 0,
@@ -162,20 +157,19 @@ fn goes<R: Threads + Wait + Sync>(rt: &R, alloc: Global, row: &Long) -> Result<b
         first: 0,
         count: row.count,
     };
-    let script = script_of(alloc, &[burst])?;
+    let script = script_of(rt, alloc, &[burst]);
     let config = Config {
         ring: row.ring,
         bsize: row.bsize,
         ..DEFAULT
     };
-    Ok(comes_to(rt, alloc, &script, &config, &Open, row.wanted)?)
+    comes_to(rt, alloc, &script, &config, &Open, row.wanted)
 }
 
 #[test]
-fn long_frames_go_out_or_are_oversize(rt: HostRuntime) -> Result<(), Fail> {
+fn long_frames_go_out_or_are_oversize(rt: HostRuntime) {
     for row in LONG {
-        let gone = goes(&rt, rt.alloc(), row)?;
+        let gone = goes(&rt, rt.alloc(), row);
         same(&rt, (row.len, row.ring, gone), (row.len, row.ring, true));
     }
-    Ok(())
 }

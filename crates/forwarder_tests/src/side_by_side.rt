@@ -7,8 +7,8 @@ use crate::gates::{After, Meeting};
 use crate::told::holds;
 use forwarder::Config;
 use std::alloc::Global;
+use std::process::Abort;
 use std::sync::Wait;
-use std::test::Fail;
 use std::thread::Threads;
 use wire_script::Script;
 
@@ -23,15 +23,14 @@ const ONE: &[Burst] = &[Burst {
 const ONE_COUNTS: &[Counts] = &[[1, 1, 0, 0, 1, 1, 0, 1, 0], NONE];
 
 #[test]
-fn a_driver_and_its_controller_wait_for_each_other(rt: HostRuntime) -> Result<(), Fail> {
-    let script = script_of(rt.alloc(), ONE)?;
+fn a_driver_and_its_controller_wait_for_each_other(rt: HostRuntime) {
+    let script = script_of(&rt, rt.alloc(), ONE);
     let gate = Meeting::new();
     holds(
         &rt,
-        comes_to(&rt, rt.alloc(), &script, &DEFAULT, &gate, ONE_COUNTS)?,
+        comes_to(&rt, rt.alloc(), &script, &DEFAULT, &gate, ONE_COUNTS),
     );
     holds(&rt, gate.took_place());
-    Ok(())
 }
 
 const FORTY: &[Burst] = &[Burst {
@@ -49,14 +48,14 @@ const FIFTEEN: &[Counts] = &[[40, 15, 25, 0, 15, 15, 0, 15, 0], NONE];
 const SIXTEEN: &[Counts] = &[[40, 16, 24, 0, 16, 16, 0, 16, 0], NONE];
 
 /// Whether 40 frames that are offered before the first is taken come to these counts.
-fn is_full<R: Threads + Wait + Sync>(
+fn is_full<R: Threads + Wait + Sync + Abort>(
     rt: &R,
     alloc: Global,
     script: &Script,
     ring: u32,
     buffers: u32,
     wanted: &[Counts],
-) -> Result<bool, Fail> {
+) -> bool {
     let config = Config {
         ring,
         buffers,
@@ -64,21 +63,19 @@ fn is_full<R: Threads + Wait + Sync>(
         ..DEFAULT
     };
     let gate = After::new(40);
-    Ok(comes_to(rt, alloc, script, &config, &gate, wanted)? && gate.was_in_time())
+    comes_to(rt, alloc, script, &config, &gate, wanted) && gate.was_in_time()
 }
 
 #[test]
-fn a_full_ring_drops_what_comes(rt: HostRuntime) -> Result<(), Fail> {
-    let script = script_of(rt.alloc(), FORTY)?;
-    holds(&rt, is_full(&rt, rt.alloc(), &script, 8, 4_096, SEVEN)?);
-    holds(&rt, is_full(&rt, rt.alloc(), &script, 16, 4_096, FIFTEEN)?);
-    Ok(())
+fn a_full_ring_drops_what_comes(rt: HostRuntime) {
+    let script = script_of(&rt, rt.alloc(), FORTY);
+    holds(&rt, is_full(&rt, rt.alloc(), &script, 8, 4_096, SEVEN));
+    holds(&rt, is_full(&rt, rt.alloc(), &script, 16, 4_096, FIFTEEN));
 }
 
 // Two flows share 32 buffers.
 #[test]
-fn a_flow_has_its_share_of_the_buffers(rt: HostRuntime) -> Result<(), Fail> {
-    let script = script_of(rt.alloc(), FORTY)?;
-    holds(&rt, is_full(&rt, rt.alloc(), &script, 64, 32, SIXTEEN)?);
-    Ok(())
+fn a_flow_has_its_share_of_the_buffers(rt: HostRuntime) {
+    let script = script_of(&rt, rt.alloc(), FORTY);
+    holds(&rt, is_full(&rt, rt.alloc(), &script, 64, 32, SIXTEEN));
 }

@@ -2,13 +2,12 @@
 //! and so they do where a thread can't be started.
 
 use crate::configs::SHORT;
-use crate::counted::{Counts, NONE, comes_to};
+use crate::counted::{Counts, NONE, is_drained};
 use crate::gathered::{BUFFERS, ended_over};
 use crate::told::holds;
-use forwarder::Config;
+use forwarder::{Config, forward};
 use forwarding::{ForwardError, Open};
 use pool::Pool;
-use std::test::Fail;
 use wire_script::parse;
 
 const TWO: &[u8] = b"0 1 fill 60 00\n0 1 fill 60 01\n";
@@ -35,22 +34,23 @@ fn without_memory_or_threads_that_is_answered(rt: HostRuntime) {
     let Ok(script) = parse(rt.alloc(), TWO) else {
         return;
     };
-    match comes_to(&rt, rt.alloc(), &script, &TWO_WORKERS, &Open, TWO_COUNTS) {
-        Ok(good) => holds(&rt, good),
+    match forward(&rt, rt.alloc(), &script, &TWO_WORKERS, &Open) {
+        Ok(report) => holds(&rt, is_drained(&report, &script, 2, TWO_COUNTS)),
         Err(refusal) => holds(&rt, is_want(Some(refusal))),
     }
 }
 
 #[test]
-fn without_memory_or_threads_no_buffer_is_lost(rt: HostRuntime) -> Result<(), Fail> {
+fn without_memory_or_threads_no_buffer_is_lost(rt: HostRuntime) {
     let Ok(script) = parse(rt.alloc(), TWO) else {
-        return Ok(());
+        return;
     };
-    TWO_WORKERS.check(&script)?;
+    TWO_WORKERS
+        .check(&script)
+        .expect(&rt, "a lawful configuration");
     let Ok((pool, pass)) = Pool::new(&rt, rt.alloc(), BUFFERS) else {
-        return Ok(());
+        return;
     };
     let (refusal, numbers) = ended_over(&rt, rt.alloc(), &script, &TWO_WORKERS, &Open, &pool, pass);
     holds(&rt, is_want(refusal) && numbers.came_once());
-    Ok(())
 }

@@ -13,8 +13,8 @@ use flows::FlowReport;
 use forwarder::{Config, Report, forward_watched};
 use forwarding::{ForwardError, Open};
 use std::alloc::Global;
+use std::process::Abort;
 use std::sync::Wait;
-use std::test::Fail;
 use std::thread;
 use std::thread::Threads;
 use wire_script::Script;
@@ -30,28 +30,28 @@ fn all_see<R: Wait>(rt: &R, readers: &mut [Reader<'_>], flows: &[FlowReport]) ->
 }
 
 /// Whether each cell has its flow's numbers once the 40 frames went over rings of 8.
-fn are_shown<R: Threads + Wait + Sync>(
+fn are_shown<R: Threads + Wait + Sync + Abort>(
     rt: &R,
     alloc: Global,
     script: &Script,
     workers: u32,
-) -> Result<bool, Fail> {
+) -> bool {
     let config = Config { workers, ..SHORT };
-    let (cells, mut pens) = FlowCells::of(alloc, 4)?;
-    let mut readers = readers_of(alloc, &cells, &mut pens)?;
-    let (report, _) = forward_watched(rt, alloc, script, &config, &Open, &cells, pens)?;
+    let (cells, mut pens) = FlowCells::of(alloc, 4).expect(rt, "cells");
+    let mut readers = readers_of(rt, alloc, &cells, &mut pens);
+    let (report, _) = forward_watched(rt, alloc, script, &config, &Open, &cells, pens)
+        .expect(rt, "a report");
     let shown = all_see(rt, &mut readers, &report.flows);
-    Ok(shown && is_drained(&report, script, 2, FORTY_COUNTS))
+    shown && is_drained(&report, script, 2, FORTY_COUNTS)
 }
 
 #[test]
-fn each_cell_shows_its_report(rt: HostRuntime) -> Result<(), Fail> {
-    let script = script_of(rt.alloc(), FORTY)?;
+fn each_cell_shows_its_report(rt: HostRuntime) {
+    let script = script_of(&rt, rt.alloc(), FORTY);
     for workers in 1..=4 {
-        let good = are_shown(&rt, rt.alloc(), &script, workers)?;
+        let good = are_shown(&rt, rt.alloc(), &script, workers);
         same(&rt, (workers, good), (workers, true));
     }
-    Ok(())
 }
 
 /// How often a reader reads at most.
@@ -100,7 +100,7 @@ fn watch_driven<R: Wait>(rt: &R, cell: &DriveCell, mut pass: DrivePass) -> bool
 }
 
 /// Both cells of a flow are read by threads of their own.
-fn watch<R: Threads + Wait + Sync>(rt: &R, reader: Reader<'_>, gate: &Paced) -> bool {
+fn watch<R: Threads + Wait + Sync + Abort>(rt: &R, reader: Reader<'_>, gate: &Paced) -> bool {
     let Reader { cells, stat, drive } = reader;
     let (offered, driven) = thread::join(
         rt,
@@ -111,7 +111,7 @@ fn watch<R: Threads + Wait + Sync>(rt: &R, reader: Reader<'_>, gate: &Paced) -> 
 }
 
 /// Whether the cells of flow 1 show how the forwarder gets on, of which this gate is passed.
-fn is_watched<R: Threads + Wait + Sync>(
+fn is_watched<R: Threads + Wait + Sync + Abort>(
     rt: &R,
     alloc: Global,
     script: &Script,
@@ -119,7 +119,7 @@ fn is_watched<R: Threads + Wait + Sync>(
     cells: &[FlowCells],
     pens: Vec<FlowPens>,
     reader: Reader<'_>,
-) -> Result<bool, Fail>
+) -> bool
     requires cells { length cells.now ≡ 2 * config.now.pairs }
     requires pens { ArePaired cells.now pens.items }
 {
@@ -132,22 +132,21 @@ fn is_watched<R: Threads + Wait + Sync>(
         { forward_watched(rt, alloc, script, config, gate, cells, pens) },
         move || watch(rt, reader, gate),
     );
-    let (report, _) = ran?;
-    Ok(good && is_drained(&report, script, 2, FORTY_COUNTS))
+    let (report, _) = ran.expect(rt, "a report");
+    good && is_drained(&report, script, 2, FORTY_COUNTS)
 }
 
 // The gate lets each frame be offered only once the one before was seen in the cell.
 #[test]
-fn watch_while_workers_run(rt: HostRuntime) -> Result<(), Fail> {
-    let script = script_of(rt.alloc(), FORTY)?;
+fn watch_while_workers_run(rt: HostRuntime) {
+    let script = script_of(&rt, rt.alloc(), FORTY);
     let config = Config { ring: 64, ..SHORT };
-    let (cells, mut pens) = FlowCells::of(rt.alloc(), 4)?;
-    let mut readers = readers_of(rt.alloc(), &cells, &mut pens)?;
+    let (cells, mut pens) = FlowCells::of(rt.alloc(), 4).expect(&rt, "cells");
+    let mut readers = readers_of(&rt, rt.alloc(), &cells, &mut pens);
     readers.truncate(2);
-    let reader = readers.pop().ok_or("no flow 1")?;
+    let reader = readers.pop().expect(&rt, "flow 1");
     holds(
         &rt,
-        is_watched(&rt, rt.alloc(), &script, &config, &cells, pens, reader)?,
+        is_watched(&rt, rt.alloc(), &script, &config, &cells, pens, reader),
     );
-    Ok(())
 }

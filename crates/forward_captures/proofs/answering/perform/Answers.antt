@@ -2,7 +2,7 @@ use Rattle.std.proofs.Common.{◌∙◌, ap}
 use Rattle.std.specs.String.{string_bytes}
 use Rattle.std.proofs.lemmas.Result.{err_from_is_err_and}
 use Rattle.forward_command.specs.Text.{report_text}
-use Rattle.port_files.specs.Refusals.{refused_itself}
+use Rattle.forward_captures.specs.Refusals.{refused_itself}
 use Rattle.forward_captures.proofs.Endings.{page-of, unpaged, unprinted}
 use Rattle.forward_captures.proofs.answering.perform.Goals as goal
 

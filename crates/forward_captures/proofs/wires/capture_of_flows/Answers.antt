@@ -1,6 +1,6 @@
 use Rattle.std.proofs.Common.{◌≡◌, ◌++◌, ◌+◌, drop, sym, subst, arith}
 use Rattle.capture.specs.Writing.{capture_of}
-use Rattle.capture_script.specs.Records.{records_from}
+use Rattle.capture.specs.Records.{records_from}
 use Rattle.forward_command.specs.Text.{wires_from}
 use Rattle.forward_captures.proofs.Records.{bytes_from, wire-more}
 use Rattle.forward_captures.proofs.wires.capture_of_flows.Goals as goal

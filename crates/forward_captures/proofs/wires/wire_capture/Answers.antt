@@ -1,7 +1,7 @@
 use Rattle.std.proofs.Common.{◌≡◌, ◌∙◌, ap, arith, rules}
 use Rattle.std.proofs.lemmas.Result.{IfOk-weaker}
 use Rattle.capture.specs.Writing.{capture_of}
-use Rattle.capture_script.specs.Records.{records_from}
+use Rattle.capture.specs.Records.{records_from}
 use Rattle.forward_command.specs.Text.{wires_from}
 use Rattle.forward_captures.specs.Wires.{port_capture}
 use Rattle.forward_captures.proofs.Records.{of-port-0, of-port-1}

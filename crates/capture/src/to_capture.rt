@@ -1,0 +1,50 @@
+//! The capture of a port.
+
+ghost use Rattle.std.specs.Prelude.{◌≡◌, IfErr, IfOk, Ok};
+ghost use Rattle.capture.specs.Reading.{capture_in};
+ghost use Rattle.capture.specs.Writing.{capture_of};
+ghost use Rattle.capture.specs.declared.error.CaptureError.TheVariants.{Memory};
+ghost use Rattle.capture.specs.declared.header.TimeUnit.TheVariants.{Micros};
+ghost use Rattle.capture.specs.Records.{records_of_port};
+
+use crate::error::CaptureError;
+use crate::reading::{HEADER, RECORD_HEADER};
+use crate::record::CaptureRecord;
+use crate::writing::{write_header, write_record};
+use std::alloc::Global;
+use wire_script::Script;
+
+/// How many microseconds a second has.
+const SECOND: u32 = 1_000_000;
+
+/// A capture of the frames of this port, 0 or 1, in the script's order, frame k at k microseconds. Its room is made at
+/// once.
+pub fn capture_of(alloc: Global, port: u8, script: &Script) -> Result<Vec<u8>, CaptureError>
+    ensures bytes { IfOk result (λ bytes. bytes.items ≡ capture_of (records_of_port port script.now)) }
+    ensures err { IfErr result (λ e. e ≡ Memory) }
+{
+    let room = capture_len(port, script);
+    let mut bytes = Vec::with_capacity(alloc, room).map_err(|_| CaptureError::Memory)?;
+    write_header(&mut bytes)?;
+    let mut number: u32 = 0;
+    for frame in script.frames() {
+        if frame.port() == port {
+            let found = CaptureRecord::new(number / SECOND, number % SECOND, frame.bytes());
+            write_record(&mut bytes, &found)?;
+            number += 1;
+        }
+    }
+    Ok(bytes)
+}
+
+/// How many bytes the capture has. No clause needs it.
+fn capture_len(port: u8, script: &Script) -> usize {
+    let mut len = HEADER;
+    for frame in script.frames() {
+        if port == frame.port() {
+            let held = frame.bytes().len();
+            len = len.saturating_add(RECORD_HEADER).saturating_add(held);
+        }
+    }
+    len
+}
