@@ -67,12 +67,7 @@ fn overwrite(packet: &mut Packet, i: usize) -> Option<(u8, u8)> {
 }
 
 // What is wrong with a packet of segments of these lengths, if anything is.
-fn fault<R: Abort>(
-    rt: &R,
-    alloc: Global,
-    lengths: &[usize],
-    len: usize,
-) -> Option<&'static str> {
+fn fault<R: Abort>(rt: &R, alloc: Global, lengths: &[usize], len: usize) -> Option<&'static str> {
     let mut packet = packet(rt, alloc, lengths);
     if packet.len() != len || packet.segments() != lengths.len() {
         return Some("size");
@@ -118,11 +113,7 @@ fn bytes_are_those_of_the_segments_in_order(rt: HostRuntime) {
     same(&rt, fault(&rt, rt.alloc(), &[2_048], 2_048), None);
     same(&rt, fault(&rt, rt.alloc(), &[1, 13], 14), None);
     same(&rt, fault(&rt, rt.alloc(), &[1; 14], 14), None);
-    same(
-        &rt,
-        fault(&rt, rt.alloc(), &[1_000; 15], 15_000),
-        None,
-    );
+    same(&rt, fault(&rt, rt.alloc(), &[1_000; 15], 15_000), None);
 }
 
 // The first and the last byte of each segment, and the buffers that have them afterwards.

@@ -44,7 +44,9 @@ pub fn write(alloc: Global, records: &[CaptureRecord<'_>]) -> Result<Vec<u8>, Ca
 fn capture_len(records: &[CaptureRecord<'_>]) -> usize {
     let mut len = HEADER.len();
     for found in records {
-        len = len.saturating_add(RECORD_HEADER).saturating_add(found.frame().len());
+        len = len
+            .saturating_add(RECORD_HEADER)
+            .saturating_add(found.frame().len());
     }
     len
 }

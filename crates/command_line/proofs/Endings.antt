@@ -1,5 +1,5 @@
 -- From what the words ask for to how the run ends.
-use Rattle.std.proofs.Common.{◌≡◌, ◌∙◌, ap, inl, inr, refl, false, ℕ, List, Option, Some, subst}
+use Rattle.std.proofs.Common.{◌≡◌, inl, inr, refl, ℕ, List, Option, Some, subst}
 use Rattle.std.specs.Prelude.{Result}
 use Rattle.std.specs.Io.KnownBytes.{Keeps}
 use Rattle.commands.specs.declared.answering.TheConstants.{DONE, REFUSED}
@@ -17,50 +17,13 @@ use Rattle.commands.specs.declared.refusal.Refusal.{Refusal}
 use Rattle.forward_command.proofs.Endings.{kept}
 use Rattle.forwarder.specs.declared.config.Config.{Config}
 use Rattle.forward_command.specs.declared.printing.Printing.{Printing}
-use Rattle.capture_command.specs.declared.request.CaptureRequest.TheVariants.{FromCapture, ToCapture}
 use Rattle.forward_captures.specs.Words.{SourceFile}
-use Rattle.command_line.specs.CaptureWords.{SaysFromCapture, SaysToCapture}
-use Rattle.command_line.specs.FileWords.{FileOptions}
 use Rattle.command_line.specs.Forwarding.{EndsForwarding}
 use Rattle.schedule_command.specs.Lists.{EndsSchedules}
 use Rattle.schedule_command.specs.declared.request.ScheduleRequest.{ScheduleRequest}
 use Rattle.cover_command.specs.Covers.{EndsCover}
 use Rattle.cover_command.specs.declared.request.CoverRequest.{CoverRequest}
-use Rattle.command_line.specs.ScheduleWords.{SaysSchedules}
-use Rattle.command_line.specs.CommandLine.{IsCapture, IsDecode, IsSchedules, IsForward, IsMisuse, IsOnce, IsReplayOf, IsRequest, IsUnshown, SaysDecode, SaysForward, SaysOnce, SaysReplay}
-use Rattle.command_line.specs.CommandLine.IsUnshown.{is_misuse, asks_once, asks_decode, asks_replay, asks_forward, asks_from_capture, asks_to_capture, asks_schedules}
-use Rattle.command_line.specs.declared.command.Asked.{Asked}
-use Rattle.command_line.specs.declared.command.Asked.TheVariants as asked
-
--- what was asked for is a request, or to forward, and not both
-pub as-request : (P : Request → Type 0) (a : Asked) (request : Request) → a ≡ asked.Request request → IsRequest P a → P request
-as-request P a request is has = subst (IsRequest P) is has
-
-pub no-request : (P : Request → Type 0) (a : Asked) (given : Config) (shown : Printing) → a ≡ asked.Forward given shown → IsRequest P a → ⊥
-no-request P a given shown is has = subst (IsRequest P) is has
-
-pub as-forward : (a : Asked) (given config : Config) (shown printing : Printing) → a ≡ asked.Forward given shown → IsForward a config printing
-    → (given ≡ config) × (shown ≡ printing)
-as-forward a given config shown printing is has = subst (λ (b : Asked). IsForward b config printing) is has
-
-pub no-forward : (a : Asked) (request : Request) (config : Config) (printing : Printing) → a ≡ asked.Request request → IsForward a config printing → ⊥
-no-forward a request config printing is has = subst (λ (b : Asked). IsForward b config printing) is has
-
--- the same of requests of captures
-pub no-request-of-captures : (P : Request → Type 0) (a : Asked) (given : CaptureRequest) → a ≡ asked.Capture given → IsRequest P a → ⊥
-no-request-of-captures P a given is has = subst (IsRequest P) is has
-
-pub no-forward-of-captures : (a : Asked) (given : CaptureRequest) (config : Config) (printing : Printing) → a ≡ asked.Capture given → IsForward a config printing → ⊥
-no-forward-of-captures a given config printing is has = subst (λ (b : Asked). IsForward b config printing) is has
-
-pub as-capture : (a : Asked) (given request : CaptureRequest) → a ≡ asked.Capture given → IsCapture a request → given ≡ request
-as-capture a given request is has = subst (λ (b : Asked). IsCapture b request) is has
-
-pub no-capture-of-request : (a : Asked) (given : Request) (request : CaptureRequest) → a ≡ asked.Request given → IsCapture a request → ⊥
-no-capture-of-request a given request is has = subst (λ (b : Asked). IsCapture b request) is has
-
-pub no-capture-of-forward : (a : Asked) (given : Config) (shown : Printing) (request : CaptureRequest) → a ≡ asked.Forward given shown → IsCapture a request → ⊥
-no-capture-of-forward a given shown request is has = subst (λ (b : Asked). IsCapture b request) is has
+use Rattle.command_line.specs.CommandLine.{IsDecode, IsOnce, IsReplayOf}
 
 pub capture-ends : (given request : CaptureRequest) (bytes : List ℕ) (input : Option (List ℕ)) (status : ℕ) (old new : Option (List ℕ)) → given ≡ request
     → input ≡ Some bytes → ((b : List ℕ) → input ≡ Some b → EndsBy (meant given b) status old new) → EndsBy (meant request bytes) status old new
@@ -128,55 +91,3 @@ schedules-kept request old new keeps = record {
 
 pub cover-kept : (request : CoverRequest) (old new : Option (List ℕ)) → EndsCover request REFUSED old new
 cover-kept request old new = record { done = λ e. let bad : ⊥ = cc e in absurd bad; either = inr refl }
-
--- words of which nothing is shown ask for no forwarding, or for one that isn't shown
-pub unshown-forward : (words : List (List ℕ)) (a : Asked) (given : Config) (shown : Printing) → a ≡ asked.Forward given shown
-    → ((digits : List ℕ) → SaysOnce words digits → IsRequest (λ r. IsOnce r digits) a)
-    → ((form : Form) (digits : List ℕ) → SaysDecode words form digits → IsRequest (λ r. IsDecode r form digits) a)
-    → ((plan : QueuePlan) → SaysReplay words plan → IsRequest (λ r. IsReplayOf r plan) a)
-    → ((config : Config) (printing : Printing) (files : FileOptions) → SaysForward words config printing files → IsForward a config printing)
-    → ((port queue : ℕ) → SaysFromCapture words port queue → IsCapture a (FromCapture port queue))
-    → ((port : ℕ) → SaysToCapture words port → IsCapture a (ToCapture port))
-    → ((request : ScheduleRequest) → SaysSchedules words request → IsSchedules a request)
-    → (IsMisuse words → ⊥) → IsUnshown words → shown.progress ≡ false
-unshown-forward words a given shown is once decode replay forward from to lists misuse (is_misuse wrong) = absurd (misuse wrong)
-unshown-forward words a given shown is once decode replay forward from to lists misuse (asks_once digits says) =
-    absurd (no-request (λ (r : Request). IsOnce r digits) a given shown is (once digits says))
-unshown-forward words a given shown is once decode replay forward from to lists misuse (asks_decode form digits says) =
-    absurd (no-request (λ (r : Request). IsDecode r form digits) a given shown is (decode form digits says))
-unshown-forward words a given shown is once decode replay forward from to lists misuse (asks_replay plan says) =
-    absurd (no-request (λ (r : Request). IsReplayOf r plan) a given shown is (replay plan says))
-unshown-forward words a given shown is once decode replay forward from to lists misuse (asks_forward config printing files says dark) =
-    ap (λ (p : Printing). p.progress) (as-forward a given config shown printing is (forward config printing files says)).1 ∙ dark
-unshown-forward words a given shown is once decode replay forward from to lists misuse (asks_from_capture port queue says) =
-    absurd (no-capture-of-forward a given shown (FromCapture port queue) is (from port queue says))
-unshown-forward words a given shown is once decode replay forward from to lists misuse (asks_to_capture port says) =
-    absurd (no-capture-of-forward a given shown (ToCapture port) is (to port says))
-unshown-forward words a given shown is once decode replay forward from to lists misuse (asks_schedules request says) =
-    absurd (subst (λ (b : Asked). IsSchedules b request) is (lists request says))
-
--- and for no lists that cover what a queue can do
-pub unshown-cover : (words : List (List ℕ)) (a : Asked) (given : CoverRequest) → a ≡ asked.Cover given
-    → ((digits : List ℕ) → SaysOnce words digits → IsRequest (λ r. IsOnce r digits) a)
-    → ((form : Form) (digits : List ℕ) → SaysDecode words form digits → IsRequest (λ r. IsDecode r form digits) a)
-    → ((plan : QueuePlan) → SaysReplay words plan → IsRequest (λ r. IsReplayOf r plan) a)
-    → ((config : Config) (printing : Printing) (files : FileOptions) → SaysForward words config printing files → IsForward a config printing)
-    → ((port queue : ℕ) → SaysFromCapture words port queue → IsCapture a (FromCapture port queue))
-    → ((port : ℕ) → SaysToCapture words port → IsCapture a (ToCapture port))
-    → ((request : ScheduleRequest) → SaysSchedules words request → IsSchedules a request)
-    → (IsMisuse words → ⊥) → IsUnshown words → ⊥
-unshown-cover words a given is once decode replay forward from to lists misuse (is_misuse wrong) = misuse wrong
-unshown-cover words a given is once decode replay forward from to lists misuse (asks_once digits says) =
-    subst (IsRequest (λ r. IsOnce r digits)) is (once digits says)
-unshown-cover words a given is once decode replay forward from to lists misuse (asks_decode form digits says) =
-    subst (IsRequest (λ r. IsDecode r form digits)) is (decode form digits says)
-unshown-cover words a given is once decode replay forward from to lists misuse (asks_replay plan says) =
-    subst (IsRequest (λ r. IsReplayOf r plan)) is (replay plan says)
-unshown-cover words a given is once decode replay forward from to lists misuse (asks_forward config printing files says dark) =
-    subst (λ (b : Asked). IsForward b config printing) is (forward config printing files says)
-unshown-cover words a given is once decode replay forward from to lists misuse (asks_from_capture port queue says) =
-    subst (λ (b : Asked). IsCapture b (FromCapture port queue)) is (from port queue says)
-unshown-cover words a given is once decode replay forward from to lists misuse (asks_to_capture port says) =
-    subst (λ (b : Asked). IsCapture b (ToCapture port)) is (to port says)
-unshown-cover words a given is once decode replay forward from to lists misuse (asks_schedules request says) =
-    subst (λ (b : Asked). IsSchedules b request) is (lists request says)

@@ -12,3 +12,4 @@ pub mod ScheduleWords
 pub mod CoverWords
 pub mod CaptureWords
 pub mod Endings
+pub mod Sayings

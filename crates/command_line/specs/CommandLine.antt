@@ -16,11 +16,11 @@ use Rattle.forward_command.specs.declared.printing.Printing.{Printing}
 use Rattle.capture_command.specs.Requests.{IsPlaced}
 use Rattle.capture_command.specs.declared.request.CaptureRequest.{CaptureRequest}
 use Rattle.command_line.specs.OptionWords.{SaysNumber, draws_any, flag_rule, flag_words, is_head, number_rule, optional_rule, picture_value, picture_words}
-use Rattle.command_line.specs.ScheduleWords.{SaysSchedules, schedules_app}
+use Rattle.command_line.specs.ScheduleWords.{schedules_app}
 use Rattle.schedule_command.specs.declared.request.ScheduleRequest.{ScheduleRequest}
 use Rattle.cover_command.specs.declared.request.CoverRequest.{CoverRequest}
 use Rattle.command_line.specs.FileWords.{AreFiles, FileOptions, with_file_rules, words_of_files}
-use Rattle.command_line.specs.CaptureWords.{SaysFromCapture, SaysToCapture, from_capture_app, to_capture_app}
+use Rattle.command_line.specs.CaptureWords.{from_capture_app, to_capture_app}
 use Rattle.command_line.specs.declared.command.Asked.{Asked}
 use Rattle.command_line.specs.declared.command.Asked.TheVariants as asked
 
@@ -289,15 +289,3 @@ AreMistakes (kind ∷ kinds) = All IsMistake (kind ∷ kinds)
 -- the words are no command line of the program
 abbrev pub IsMisuse : List Text → Type 0
 IsMisuse words = (app : App) → IsProgram app → AreMistakes (fault_of app words)
-
--- the words ask for nothing of which it is shown how far it is: they are no command line of the program, or another
--- command, `forward` without `--progress`, or `schedules` without `--cover`
-pub data IsUnshown (words : List Text) : Type 0 where
-  is_misuse : IsMisuse words → IsUnshown words
-  asks_once : (digits : Text) → SaysOnce words digits → IsUnshown words
-  asks_decode : (form : Form) (digits : Text) → SaysDecode words form digits → IsUnshown words
-  asks_replay : (plan : QueuePlan) → SaysReplay words plan → IsUnshown words
-  asks_forward : (config : Config) (printing : Printing) (files : FileOptions) → SaysForward words config printing files → printing.progress ≡ false → IsUnshown words
-  asks_from_capture : (port queue : ℕ) → SaysFromCapture words port queue → IsUnshown words
-  asks_to_capture : (port : ℕ) → SaysToCapture words port → IsUnshown words
-  asks_schedules : (request : ScheduleRequest) → SaysSchedules words request → IsUnshown words

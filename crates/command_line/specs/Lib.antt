@@ -4,4 +4,5 @@ pub mod ScheduleWords
 pub mod FileWords
 pub mod Forwarding
 pub mod CommandLine
+pub mod Sayings
 pub mod Building

@@ -1,30 +1,18 @@
 //! The words of the command line, as `clap` reads them, to a request.
-ghost use Rattle.std.specs.Prelude.{◌≡◌, ◌⊎◌, ℕ, Bool, List, Some, codes, map};
-ghost use Rattle.std.specs.Prelude.{IfOk, IfSome, IsErrAnd, IsSomeAnd, MatchResult};
+ghost use Rattle.std.specs.Prelude.{◌≡◌, ◌⊎◌, Bool, List, Some, codes, map, IfOk, IfSome, IsErrAnd, IsSomeAnd, MatchResult};
 ghost use Rattle.std.specs.String.{string_bytes};
 ghost use Rattle.clap.specs.Words.{Row, Text, app_of, kind_of, found_of, one_of, rows_of, subcommand_rows_of};
 ghost use Rattle.clap.specs.Values.{bool_text};
 ghost use Rattle.clap.specs.declared.error.kind.ErrorKind.TheVariants.{OutOfMemory};
 ghost use Rattle.commands.specs.declared.decode.Form.{Form};
-ghost use Rattle.command_line.specs.CommandLine.{IsDecodeApp, IsProgram, bare_app, once_app};
+ghost use Rattle.command_line.specs.CommandLine.{CanBeDone, HasDecode, HasForward, HasOnce, HasPrinting, HasReplay, IsDecode, IsMistake, IsMisuse, IsOnce, IsReplayOf};
+ghost use Rattle.command_line.specs.CommandLine.{IsDecodeApp, IsProgram, bare_app, once_app, forward_app, replay_app, with_machine_rules, with_manner_rules, with_printing_rules, with_queue_rules, with_shown_rules, with_work_rules};
 ghost use Rattle.command_line.specs.Building.{Grows, IsNew};
-ghost use Rattle.command_line.specs.CommandLine.{forward_app, replay_app, with_machine_rules, with_manner_rules, with_printing_rules, with_queue_rules, with_shown_rules, with_work_rules};
 ghost use Rattle.commands.specs.declared.replay.QueuePlan.{QueuePlan};
-ghost use Rattle.command_line.specs.CommandLine.{HasDecode, IsDecode, SaysDecode};
-ghost use Rattle.command_line.specs.CommandLine.{HasReplay, IsReplayOf, SaysReplay};
-ghost use Rattle.command_line.specs.CommandLine.{HasForward, HasPrinting, IsForward, IsRequest, SaysForward};
 ghost use Rattle.command_line.specs.OptionWords.{completion_of};
 ghost use Rattle.forwarder.specs.declared.config.Config.{Config as ForwardConfig};
 ghost use Rattle.forward_command.specs.declared.printing.Printing.{Printing as Printed};
-ghost use Rattle.command_line.specs.CommandLine.{HasOnce, IsMistake, IsMisuse, IsOnce, SaysOnce};
-ghost use Rattle.capture_command.specs.declared.request.CaptureRequest.TheVariants.{FromCapture, ToCapture};
-ghost use Rattle.command_line.specs.CaptureWords.{HasFromCapture, HasToCapture, SaysFromCapture, SaysToCapture};
-ghost use Rattle.command_line.specs.CommandLine.{CanBeDone, IsCapture};
-ghost use Rattle.command_line.specs.CommandLine.{IsCover, IsSchedules};
-ghost use Rattle.command_line.specs.FileWords.{FileOptions};
-ghost use Rattle.command_line.specs.ScheduleWords.{HasCover, HasSchedules, SaysCover, SaysSchedules};
-ghost use Rattle.schedule_command.specs.declared.request.ScheduleRequest.{ScheduleRequest as Lists};
-ghost use Rattle.cover_command.specs.declared.request.CoverRequest.{CoverRequest as Covering};
+ghost use Rattle.command_line.specs.Sayings.{Holds, IsAsked, Says, Saying, name_of};
 
 use crate::arguments::{choice, flag, hex, number, optional};
 use crate::building::{having, named, with};
@@ -96,22 +84,8 @@ pub enum Asked<'a> {
 /// Reads the words after the program's name. What it answers in place of a request is an error of `clap`, which is
 /// also how help is asked for.
 pub fn asked_of<'a>(alloc: Global, words: &'a [String]) -> Result<Asked<'a>, Error>
-    ensures once { (digits : List ℕ) → SaysOnce (map string_bytes words.entry.now) digits
-        → MatchResult result (IsRequest (λ r. IsOnce r digits)) (λ e. kind_of e ≡ OutOfMemory) }
-    ensures decode { (form : Form) (digits : List ℕ) → SaysDecode (map string_bytes words.entry.now) form digits
-        → MatchResult result (IsRequest (λ r. IsDecode r form digits)) (λ e. kind_of e ≡ OutOfMemory) }
-    ensures replay { (plan : QueuePlan) → SaysReplay (map string_bytes words.entry.now) plan
-        → MatchResult result (IsRequest (λ r. IsReplayOf r plan)) (λ e. kind_of e ≡ OutOfMemory) }
-    ensures forward { (config : ForwardConfig) (printing : Printed) (files : FileOptions) → SaysForward (map string_bytes words.entry.now) config printing files
-        → MatchResult result (λ a. IsForward a config printing) (λ e. kind_of e ≡ OutOfMemory) }
-    ensures from_capture { (port queue : ℕ) → SaysFromCapture (map string_bytes words.entry.now) port queue
-        → MatchResult result (λ a. IsCapture a (FromCapture port queue)) (λ e. kind_of e ≡ OutOfMemory) }
-    ensures to_capture { (port : ℕ) → SaysToCapture (map string_bytes words.entry.now) port
-        → MatchResult result (λ a. IsCapture a (ToCapture port)) (λ e. kind_of e ≡ OutOfMemory) }
-    ensures schedules { (request : Lists) → SaysSchedules (map string_bytes words.entry.now) request
-        → MatchResult result (λ a. IsSchedules a request) (λ e. kind_of e ≡ OutOfMemory) }
-    ensures cover { (request : Covering) → SaysCover (map string_bytes words.entry.now) request
-        → MatchResult result (λ a. IsCover a request) (λ e. kind_of e ≡ OutOfMemory) }
+    ensures said { (saying : Saying) → Says (map string_bytes words.entry.now) saying
+        → MatchResult result (IsAsked saying) (λ e. kind_of e ≡ OutOfMemory) }
     ensures can_be_done { IfOk result CanBeDone }
     ensures misuse { IsMisuse (map string_bytes words.entry.now)
         → IsErrAnd result (λ e. (kind_of e ≡ OutOfMemory) ⊎ IsMistake (kind_of e)) }
@@ -149,26 +123,8 @@ fn fault_in<'a>(matches: &ArgMatches<'a>) -> (ErrorKind, &'static str) {
 
 /// What is asked for in matches of the program's command line.
 fn asked_in<'a>(matches: &ArgMatches<'a>) -> Option<Asked<'a>>
-    ensures once { (rows : List Row) (digits : Text) → subcommand_rows_of matches.now ≡ Some (codes "once", rows)
-        → HasOnce rows digits → IsSomeAnd result (IsRequest (λ r. IsOnce r digits)) }
-    ensures decode { (rows : List Row) (form : Form) (digits : Text)
-        → subcommand_rows_of matches.now ≡ Some (codes "decode", rows)
-        → HasDecode rows form digits → IsSomeAnd result (IsRequest (λ r. IsDecode r form digits)) }
-    ensures replay { (rows : List Row) (plan : QueuePlan) → subcommand_rows_of matches.now ≡ Some (codes "replay", rows)
-        → HasReplay rows plan → IsSomeAnd result (IsRequest (λ r. IsReplayOf r plan)) }
-    ensures forward { (rows : List Row) (config : ForwardConfig) (printing : Printed)
-        → subcommand_rows_of matches.now ≡ Some (codes "forward", rows)
-        → HasForward rows config → HasPrinting rows printing → IsSomeAnd result (λ a. IsForward a config printing) }
-    ensures from_capture { (rows : List Row) (port queue : ℕ)
-        → subcommand_rows_of matches.now ≡ Some (codes "from-capture", rows)
-        → HasFromCapture rows port queue → IsSomeAnd result (λ a. IsCapture a (FromCapture port queue)) }
-    ensures to_capture { (rows : List Row) (port : ℕ)
-        → subcommand_rows_of matches.now ≡ Some (codes "to-capture", rows)
-        → HasToCapture rows port → IsSomeAnd result (λ a. IsCapture a (ToCapture port)) }
-    ensures schedules { (rows : List Row) (request : Lists) → subcommand_rows_of matches.now ≡ Some (codes "schedules", rows)
-        → HasSchedules rows request → IsSomeAnd result (λ a. IsSchedules a request) }
-    ensures cover { (rows : List Row) (request : Covering) → subcommand_rows_of matches.now ≡ Some (codes "schedules", rows)
-        → HasCover rows request → IsSomeAnd result (λ a. IsCover a request) }
+    ensures said { (rows : List Row) (saying : Saying) → subcommand_rows_of matches.now ≡ Some (name_of saying, rows)
+        → Holds rows saying → IsSomeAnd result (IsAsked saying) }
     ensures can_be_done { IfSome result CanBeDone }
 {
     match matches.subcommand()? {

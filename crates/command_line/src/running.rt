@@ -1,26 +1,15 @@
 //! The program's run: its words to a request, and the request to an exit status.
-ghost use Rattle.std.specs.Prelude.{◌≡◌, ◌≢◌, ◌⊎◌, ℕ, List, [], Some, false, map};
+ghost use Rattle.std.specs.Prelude.{◌≡◌, ◌≢◌, ◌⊎◌, [], false, map};
 ghost use Rattle.std.specs.String.{string_bytes};
 ghost use Rattle.std.specs.Io.KnownBytes.{Keeps};
 ghost use Rattle.clap.specs.Words.{kind_of};
 ghost use Rattle.clap.specs.declared.error.kind.ErrorKind.TheVariants.{OutOfMemory};
-ghost use Rattle.commands.specs.declared.decode.Form.{Form};
-ghost use Rattle.commands.specs.declared.replay.QueuePlan.{QueuePlan};
-ghost use Rattle.capture_command.specs.Meanings.{capture_meant, lines_meant};
-ghost use Rattle.commands.specs.Answers.{Ends, EndsBy, EndsDecode};
-ghost use Rattle.commands.specs.Frame.{frame_in};
-ghost use Rattle.commands.specs.Replay.{EndsReplay};
-ghost use Rattle.command_line.specs.CaptureWords.{SaysFromCapture, SaysToCapture};
-ghost use Rattle.command_line.specs.CommandLine.{IsMistake, IsMisuse, IsUnshown, SaysDecode, SaysForward, SaysOnce, SaysReplay};
+ghost use Rattle.command_line.specs.CommandLine.{IsMistake, IsMisuse, SaysForward};
 ghost use Rattle.command_line.specs.FileWords.{FileOptions};
-ghost use Rattle.command_line.specs.ScheduleWords.{SaysCover, SaysSchedules};
-ghost use Rattle.cover_command.specs.Covers.{EndsCover};
-ghost use Rattle.cover_command.specs.declared.request.CoverRequest.{CoverRequest as Covering};
-ghost use Rattle.schedule_command.specs.Lists.{EndsSchedules};
-ghost use Rattle.schedule_command.specs.declared.request.ScheduleRequest.{ScheduleRequest as Lists};
 ghost use Rattle.command_line.specs.Forwarding.{EndsForwarding};
 ghost use Rattle.forward_command.specs.declared.printing.Printing.{Printing};
 ghost use Rattle.forwarder.specs.declared.config.Config.{Config};
+ghost use Rattle.command_line.specs.Sayings.{EndsSaid, IsUnshown, Says, Saying};
 
 use crate::command::{Asked, asked_of};
 use crate::files::files_of;
@@ -68,26 +57,10 @@ pub fn run<
     ensures misused { result ≡ MISUSED → Keeps (W.contents output.old) (W.contents output.new) }
     ensures misuse { IsMisuse (map string_bytes words.now)
         → ((result ≡ MISUSED) ⊎ (result ≡ REFUSED)) × Keeps (W.contents output.old) (W.contents output.new) }
-    ensures once { (digits : List ℕ) → SaysOnce (map string_bytes words.now) digits
-        → Ends (frame_in digits) result (W.contents output.old) (W.contents output.new) }
-    ensures decode { (form : Form) (digits : List ℕ) → SaysDecode (map string_bytes words.now) form digits
-        → EndsDecode form digits result (W.contents output.old) (W.contents output.new) }
-    ensures replay { (plan : QueuePlan) (text : List ℕ) → SaysReplay (map string_bytes words.now) plan
-        → I.remaining input.old ≡ Some text → EndsReplay plan text result (W.contents output.old) (W.contents output.new) }
-    ensures forward { (config : Config) (printing : Printing) (files : FileOptions) → SaysForward (map string_bytes words.now) config printing files
-        → EndsForwarding config printing files.sources (I.remaining input.old) result (W.contents output.old) (W.contents output.new) }
+    ensures ends { (saying : Saying) → Says (map string_bytes words.now) saying
+        → EndsSaid saying (I.remaining input.old) result (W.contents output.old) (W.contents output.new) }
     ensures unread { (config : Config) (printing : Printing) (files : FileOptions) → SaysForward (map string_bytes words.now) config printing files
         → files.sources ≢ [] → input.new ≡ input.old }
-    ensures from_capture { (port queue : ℕ) (bytes : List ℕ) → SaysFromCapture (map string_bytes words.now) port queue
-        → I.remaining input.old ≡ Some bytes
-        → EndsBy (lines_meant port queue bytes) result (W.contents output.old) (W.contents output.new) }
-    ensures to_capture { (port : ℕ) (text : List ℕ) → SaysToCapture (map string_bytes words.now) port
-        → I.remaining input.old ≡ Some text
-        → EndsBy (capture_meant port text) result (W.contents output.old) (W.contents output.new) }
-    ensures schedules { (request : Lists) → SaysSchedules (map string_bytes words.now) request
-        → EndsSchedules request result (W.contents output.old) (W.contents output.new) }
-    ensures cover { (request : Covering) → SaysCover (map string_bytes words.now) request
-        → EndsCover request result (W.contents output.old) (W.contents output.new) }
 {
     match asked_of(alloc, words) {
         Ok(Asked::Request(request)) => answer(rt, alloc, request, input, output, faults),

@@ -60,7 +60,12 @@ const ONE: &[Burst] = &[Burst {
 }];
 
 /// Whether each worker's driver was at its gate while an offer was refused, and left it before that was answered.
-fn is_left<R: Threads + Wait + Sync + Abort>(rt: &R, alloc: Global, script: &Script, workers: u32) -> bool {
+fn is_left<R: Threads + Wait + Sync + Abort>(
+    rt: &R,
+    alloc: Global,
+    script: &Script,
+    workers: u32,
+) -> bool {
     let config = Config { workers, ..SHORT };
     let gate = Leaving::new(u64::from(workers));
     let refusal = forward(rt, alloc, script, &config, &gate).err();

@@ -39,8 +39,9 @@ fn are_shown<R: Threads + Wait + Sync + Abort>(
     let config = Config { workers, ..SHORT };
     let (cells, mut pens) = FlowCells::of(alloc, 4).expect(rt, "cells");
     let mut readers = readers_of(rt, alloc, &cells, &mut pens);
-    let (report, _) = forward_watched(rt, alloc, script, &config, &Open, &cells, pens)
-        .expect(rt, "a report");
+    let (report, _) = forward_watched(rt, alloc, script, &config, &Open, &cells, pens).expect(
+        rt, "a report",
+    );
     let shown = all_see(rt, &mut readers, &report.flows);
     shown && is_drained(&report, script, 2, FORTY_COUNTS)
 }

@@ -1,0 +1,205 @@
+-- What words say, whichever the command is: clap takes them and finds it, and the run that they lead to ends as it has to.
+use Rattle.std.proofs.Common.{◌≡◌, ◌∙◌, ap, subst, sym, true, false, ℕ, List, Option, Some, codes, unwrap_or}
+use Rattle.std.specs.Prelude.{IsSomeAnd}
+use Rattle.std.specs.Io.KnownBytes.{Keeps}
+use Rattle.clap.specs.Words.{App, Row, Text, subcommand_of, takes}
+use Rattle.capture_command.specs.Meanings.{capture_meant, lines_meant, meant}
+use Rattle.capture_command.specs.declared.request.CaptureRequest.{CaptureRequest}
+use Rattle.capture_command.specs.declared.request.CaptureRequest.TheVariants.{FromCapture, ToCapture}
+use Rattle.commands.specs.Answers.{EndsAs, EndsBy}
+use Rattle.commands.specs.declared.answering.TheConstants.{REFUSED}
+use Rattle.commands.specs.declared.decode.Form.{Form}
+use Rattle.commands.specs.declared.replay.QueuePlan.{QueuePlan}
+use Rattle.commands.specs.declared.request.Request.{Request}
+use Rattle.cover_command.specs.Covers.{EndsCover}
+use Rattle.cover_command.specs.declared.request.CoverRequest.{CoverRequest}
+use Rattle.forward_command.specs.declared.printing.Printing.{Printing}
+use Rattle.forwarder.specs.declared.config.Config.{Config}
+use Rattle.schedule_command.specs.Lists.{EndsSchedules}
+use Rattle.schedule_command.specs.declared.request.ScheduleRequest.{ScheduleRequest}
+use Rattle.command_line.specs.CommandLine.{IsMisuse, IsProgram, SaysForward}
+use Rattle.command_line.specs.FileWords.{FileOptions}
+use Rattle.command_line.specs.Forwarding.{EndsForwarding}
+use Rattle.command_line.specs.Sayings.{EndsSaid, Holds, IsAsked, IsUnshown, Says, Saying, is_shown, name_of}
+use Rattle.command_line.specs.Sayings.Saying.{once, decode, replay, forward, from_capture, to_capture, schedules, cover}
+use Rattle.command_line.specs.Sayings.IsUnshown.{is_misuse, asks}
+use Rattle.command_line.specs.declared.command.Asked.{Asked}
+use Rattle.command_line.specs.declared.command.Asked.TheVariants as asked
+use Rattle.command_line.proofs.CaptureWords.{from_found, from_taken, to_found, to_taken}
+use Rattle.command_line.proofs.CoverWords.{cover_found, cover_taken}
+use Rattle.command_line.proofs.DecodeWords.{decode_found, decode_taken}
+use Rattle.command_line.proofs.Endings.{capture-ends, capture-kept, cover-kept, decode-ends, forward-ends, forward-kept, once-ends, replay-ends, replay-kept, schedules-ends, schedules-kept}
+use Rattle.command_line.proofs.ForwardWords.{forward_found, forward_taken}
+use Rattle.command_line.proofs.OnceWords.{once_found, once_taken}
+use Rattle.command_line.proofs.ReplayWords.{replay_found, replay_taken}
+use Rattle.command_line.proofs.ScheduleWords.{schedules_found, schedules_taken}
+
+-- ---- clap's part
+
+pub taken : (app : App) (words : List Text) (saying : Saying) → IsProgram app → Says words saying → takes app words ≡ true
+taken app words (once digits) program says = once_taken app words digits program says
+taken app words (decode form digits) program says = decode_taken app words form digits program says
+taken app words (replay plan) program says = replay_taken app words plan program says
+taken app words (forward config printing files) program says = forward_taken app words config printing files program says
+taken app words (from_capture port queue) program says = from_taken app words port queue program says
+taken app words (to_capture port) program says = to_taken app words port program says
+taken app words (schedules request) program says = schedules_taken app words request program says
+taken app words (cover request) program says = cover_taken app words request program says
+
+pub found : (app : App) (words : List Text) (saying : Saying) → IsProgram app → Says words saying
+    → (rows : List Row) × (subcommand_of app words ≡ Some (name_of saying, rows)) × Holds rows saying
+found app words (once digits) program says = once_found app words digits program says
+found app words (decode form digits) program says = decode_found app words form digits program says
+found app words (replay plan) program says = replay_found app words plan program says
+found app words (forward config printing files) program says =
+    let all = forward_found app words config printing files program says in (all.0, all.1, (all.2, all.3))
+found app words (from_capture port queue) program says = from_found app words port queue program says
+found app words (to_capture port) program says = to_found app words port program says
+found app words (schedules request) program says = schedules_found app words request program says
+found app words (cover request) program says = cover_found app words request program says
+
+-- ---- from the values of a command to its request
+
+-- what holds of whatever these values say under this name
+abbrev pub Leads : Text → List Row → Option Asked → Type 0
+Leads name rows result = (saying : Saying) → name_of saying ≡ name → Holds rows saying → IsSomeAnd result (IsAsked saying)
+
+-- so it holds of what the matches say
+pub led : (name : Text) (given rows : List Row) (chosen : Option (Text × List Row)) (saying : Saying) (result : Option Asked)
+    → Leads name given result → Some (name, given) ≡ chosen → chosen ≡ Some (name_of saying, rows) → Holds rows saying → IsSomeAnd result (IsAsked saying)
+led name given rows chosen saying result leads is names holds =
+    let same : (name, given) ≡ (name_of saying, rows) = ap (λ (o : Option (Text × List Row)). unwrap_or o (name, given)) (is ∙ names) in
+    leads saying (sym (ap (λ (p : Text × List Row). p.0) same)) (subst (λ (rs : List Row). Holds rs saying) (sym (ap (λ (p : Text × List Row). p.1) same)) holds)
+
+-- one case for each command
+each : (P : Saying → Type 0) → ((digits : Text) → P (once digits)) → ((form : Form) (digits : Text) → P (decode form digits)) → ((plan : QueuePlan) → P (replay plan))
+    → ((config : Config) (printing : Printing) (files : FileOptions) → P (forward config printing files)) → ((port queue : ℕ) → P (from_capture port queue))
+    → ((port : ℕ) → P (to_capture port)) → ((request : ScheduleRequest) → P (schedules request)) → ((request : CoverRequest) → P (cover request))
+    → (saying : Saying) → P saying
+each P of-once of-decode of-replay of-forward of-from of-to of-schedules of-cover (once digits) = of-once digits
+each P of-once of-decode of-replay of-forward of-from of-to of-schedules of-cover (decode form digits) = of-decode form digits
+each P of-once of-decode of-replay of-forward of-from of-to of-schedules of-cover (replay plan) = of-replay plan
+each P of-once of-decode of-replay of-forward of-from of-to of-schedules of-cover (forward config printing files) = of-forward config printing files
+each P of-once of-decode of-replay of-forward of-from of-to of-schedules of-cover (from_capture port queue) = of-from port queue
+each P of-once of-decode of-replay of-forward of-from of-to of-schedules of-cover (to_capture port) = of-to port
+each P of-once of-decode of-replay of-forward of-from of-to of-schedules of-cover (schedules request) = of-schedules request
+each P of-once of-decode of-replay of-forward of-from of-to of-schedules of-cover (cover request) = of-cover request
+
+-- the values of one command, of which no other has the name
+pub once-leads : (rows : List Row) (result : Option Asked) → ((digits : Text) → Holds rows (once digits) → IsSomeAnd result (IsAsked (once digits)))
+    → Leads (codes "once") rows result
+once-leads rows result said =
+    each (λ s. name_of s ≡ codes "once" → Holds rows s → IsSomeAnd result (IsAsked s)) (λ d is has. said d has) (λ f d is has. cc is) (λ p is has. cc is)
+    (λ c p f is has. cc is) (λ p q is has. cc is) (λ p is has. cc is) (λ r is has. cc is) (λ r is has. cc is)
+
+pub decode-leads : (rows : List Row) (result : Option Asked) → ((form : Form) (digits : Text) → Holds rows (decode form digits) → IsSomeAnd result (IsAsked (decode form digits)))
+    → Leads (codes "decode") rows result
+decode-leads rows result said =
+    each (λ s. name_of s ≡ codes "decode" → Holds rows s → IsSomeAnd result (IsAsked s)) (λ d is has. cc is) (λ f d is has. said f d has) (λ p is has. cc is)
+    (λ c p f is has. cc is) (λ p q is has. cc is) (λ p is has. cc is) (λ r is has. cc is) (λ r is has. cc is)
+
+pub replay-leads : (rows : List Row) (result : Option Asked) → ((plan : QueuePlan) → Holds rows (replay plan) → IsSomeAnd result (IsAsked (replay plan)))
+    → Leads (codes "replay") rows result
+replay-leads rows result said =
+    each (λ s. name_of s ≡ codes "replay" → Holds rows s → IsSomeAnd result (IsAsked s)) (λ d is has. cc is) (λ f d is has. cc is) (λ p is has. said p has)
+    (λ c p f is has. cc is) (λ p q is has. cc is) (λ p is has. cc is) (λ r is has. cc is) (λ r is has. cc is)
+
+pub forward-leads : (rows : List Row) (result : Option Asked)
+    → ((config : Config) (printing : Printing) (files : FileOptions) → Holds rows (forward config printing files) → IsSomeAnd result (IsAsked (forward config printing files)))
+    → Leads (codes "forward") rows result
+forward-leads rows result said =
+    each (λ s. name_of s ≡ codes "forward" → Holds rows s → IsSomeAnd result (IsAsked s)) (λ d is has. cc is) (λ f d is has. cc is) (λ p is has. cc is)
+    (λ c p f is has. said c p f has) (λ p q is has. cc is) (λ p is has. cc is) (λ r is has. cc is) (λ r is has. cc is)
+
+pub from-leads : (rows : List Row) (result : Option Asked) → ((port queue : ℕ) → Holds rows (from_capture port queue) → IsSomeAnd result (IsAsked (from_capture port queue)))
+    → Leads (codes "from-capture") rows result
+from-leads rows result said =
+    each (λ s. name_of s ≡ codes "from-capture" → Holds rows s → IsSomeAnd result (IsAsked s)) (λ d is has. cc is) (λ f d is has. cc is) (λ p is has. cc is)
+    (λ c p f is has. cc is) (λ p q is has. said p q has) (λ p is has. cc is) (λ r is has. cc is) (λ r is has. cc is)
+
+pub to-leads : (rows : List Row) (result : Option Asked) → ((port : ℕ) → Holds rows (to_capture port) → IsSomeAnd result (IsAsked (to_capture port)))
+    → Leads (codes "to-capture") rows result
+to-leads rows result said =
+    each (λ s. name_of s ≡ codes "to-capture" → Holds rows s → IsSomeAnd result (IsAsked s)) (λ d is has. cc is) (λ f d is has. cc is) (λ p is has. cc is)
+    (λ c p f is has. cc is) (λ p q is has. cc is) (λ p is has. said p has) (λ r is has. cc is) (λ r is has. cc is)
+
+-- two kinds of requests have this one
+pub lists-lead : (rows : List Row) (result : Option Asked) → ((request : ScheduleRequest) → Holds rows (schedules request) → IsSomeAnd result (IsAsked (schedules request)))
+    → ((request : CoverRequest) → Holds rows (cover request) → IsSomeAnd result (IsAsked (cover request))) → Leads (codes "schedules") rows result
+lists-lead rows result drawn covering =
+    each (λ s. name_of s ≡ codes "schedules" → Holds rows s → IsSomeAnd result (IsAsked s)) (λ d is has. cc is) (λ f d is has. cc is) (λ p is has. cc is)
+    (λ c p f is has. cc is) (λ p q is has. cc is) (λ p is has. cc is) (λ r is has. drawn r has) (λ r is has. covering r has)
+
+-- ---- from a request to the end of its run
+
+-- a refusal that prints nothing ends each
+pub kept : (saying : Saying) (input old new : Option (List ℕ)) → Keeps old new → EndsSaid saying input REFUSED old new
+kept (once digits) input old new keeps = search
+kept (decode form digits) input old new keeps = search
+kept (replay plan) input old new keeps = λ text known. replay-kept plan text old new keeps
+kept (forward config printing files) input old new keeps = forward-kept config printing files.sources input old new keeps
+kept (from_capture port queue) input old new keeps = λ bytes known. capture-kept (lines_meant port queue bytes) old new keeps
+kept (to_capture port) input old new keeps = λ text known. capture-kept (capture_meant port text) old new keeps
+kept (schedules request) input old new keeps = schedules-kept request old new keeps
+kept (cover request) input old new keeps = cover-kept request old new
+
+-- what is asked for ends as it is said to
+pub request-ends : (saying : Saying) (request : Request) (input : Option (List ℕ)) (status : ℕ) (old new : Option (List ℕ)) → IsAsked saying (asked.Request request)
+    → EndsAs request input status old new → EndsSaid saying input status old new
+request-ends (once digits) request input status old new is ends = once-ends request digits input status old new is ends
+request-ends (decode form digits) request input status old new is ends = decode-ends request form digits input status old new is ends
+request-ends (replay plan) request input status old new is ends = λ text known. replay-ends request plan text input status old new is known ends
+request-ends (forward config printing files) request input status old new is ends = absurd is
+request-ends (from_capture port queue) request input status old new is ends = absurd is
+request-ends (to_capture port) request input status old new is ends = absurd is
+request-ends (schedules request′) request input status old new is ends = absurd is
+request-ends (cover request′) request input status old new is ends = absurd is
+
+pub forward-said : (words : List Text) (saying : Saying) (given : Config) (shown : Printing) (input : Option (List ℕ)) (status : ℕ) (old new : Option (List ℕ))
+    → IsAsked saying (asked.Forward given shown) → Says words saying
+    → ((config : Config) (printing : Printing) (files : FileOptions) → SaysForward words config printing files → EndsForwarding given shown files.sources input status old new)
+    → EndsSaid saying input status old new
+forward-said words saying given shown input status old new is says ends =
+    each (λ s. IsAsked s (asked.Forward given shown) → Says words s → EndsSaid s input status old new) (λ d is says. absurd is) (λ f d is says. absurd is)
+    (λ p is says. absurd is)
+    (λ config printing files is says. forward-ends given config shown printing files.sources input status old new is (ends config printing files says))
+    (λ p q is says. absurd is) (λ p is says. absurd is) (λ r is says. absurd is) (λ r is says. absurd is) saying is says
+
+pub capture-said : (saying : Saying) (given : CaptureRequest) (input : Option (List ℕ)) (status : ℕ) (old new : Option (List ℕ)) → IsAsked saying (asked.Capture given)
+    → ((bytes : List ℕ) → input ≡ Some bytes → EndsBy (meant given bytes) status old new) → EndsSaid saying input status old new
+capture-said saying given input status old new is ends =
+    each (λ s. IsAsked s (asked.Capture given) → EndsSaid s input status old new) (λ d is. absurd is) (λ f d is. absurd is) (λ p is. absurd is) (λ c p f is. absurd is)
+    (λ port queue is bytes known. capture-ends given (FromCapture port queue) bytes input status old new is known ends)
+    (λ port is text known. capture-ends given (ToCapture port) text input status old new is known ends) (λ r is. absurd is) (λ r is. absurd is) saying is
+
+pub schedules-said : (saying : Saying) (given : ScheduleRequest) (input : Option (List ℕ)) (status : ℕ) (old new : Option (List ℕ)) → IsAsked saying (asked.Schedules given)
+    → EndsSchedules given status old new → EndsSaid saying input status old new
+schedules-said saying given input status old new is ends =
+    each (λ s. IsAsked s (asked.Schedules given) → EndsSaid s input status old new) (λ d is. absurd is) (λ f d is. absurd is) (λ p is. absurd is) (λ c p f is. absurd is)
+    (λ p q is. absurd is) (λ p is. absurd is) (λ request is. schedules-ends given request status old new is ends) (λ r is. absurd is) saying is
+
+pub cover-said : (saying : Saying) (given : CoverRequest) (input : Option (List ℕ)) (status : ℕ) (old new : Option (List ℕ)) → IsAsked saying (asked.Cover given)
+    → EndsCover given status old new → EndsSaid saying input status old new
+cover-said saying given input status old new is ends =
+    each (λ s. IsAsked s (asked.Cover given) → EndsSaid s input status old new) (λ d is. absurd is) (λ f d is. absurd is) (λ p is. absurd is) (λ c p f is. absurd is)
+    (λ p q is. absurd is) (λ p is. absurd is) (λ r is. absurd is)
+    (λ request is. subst (λ (r : CoverRequest). EndsCover r status old new) is ends) saying is
+
+-- ---- what is not shown
+
+-- the words say what was asked for, if they are a command line of the program; so a forwarding that is asked for isn't shown, and no
+-- lists that cover what a queue can do are asked for
+pub unshown-forward : (words : List Text) (a : Asked) (given : Config) (shown : Printing) → a ≡ asked.Forward given shown
+    → ((saying : Saying) → Says words saying → IsAsked saying a) → (IsMisuse words → ⊥) → IsUnshown words → shown.progress ≡ false
+unshown-forward words a given shown is said misuse (is_misuse wrong) = absurd (misuse wrong)
+unshown-forward words a given shown is said misuse (asks saying says dark) =
+    each (λ s. IsAsked s (asked.Forward given shown) → is_shown s ≡ false → shown.progress ≡ false) (λ d is dark. absurd is) (λ f d is dark. absurd is)
+    (λ p is dark. absurd is) (λ config printing files is dark. ap (λ (p : Printing). p.progress) is.1 ∙ dark) (λ p q is dark. absurd is) (λ p is dark. absurd is)
+    (λ r is dark. absurd is) (λ r is dark. absurd is) saying (subst (IsAsked saying) is (said saying says)) dark
+
+pub unshown-cover : (words : List Text) (a : Asked) (given : CoverRequest) → a ≡ asked.Cover given
+    → ((saying : Saying) → Says words saying → IsAsked saying a) → (IsMisuse words → ⊥) → IsUnshown words → ⊥
+unshown-cover words a given is said misuse (is_misuse wrong) = misuse wrong
+unshown-cover words a given is said misuse (asks saying says dark) =
+    each (λ s. IsAsked s (asked.Cover given) → is_shown s ≡ false → ⊥) (λ d is dark. is) (λ f d is dark. is) (λ p is dark. is) (λ c p f is dark. is)
+    (λ p q is dark. is) (λ p is dark. is) (λ r is dark. is) (λ r is dark. cc dark) saying (subst (IsAsked saying) is (said saying says)) dark
