@@ -1,12 +1,14 @@
 -- What words say, whichever the command is: clap takes them and finds it, and the run that they lead to ends as it has to.
-use Rattle.std.proofs.Common.{◌≡◌, ◌∙◌, ap, subst, sym, true, false, ℕ, List, Option, Some, codes, unwrap_or}
-use Rattle.std.specs.Prelude.{IsSomeAnd}
+use Rattle.std.proofs.Common.{◌≡◌, ◌∙◌, ap, inr, refl, subst, true, false, ℕ, List, Option, Some}
+use Rattle.std.specs.Prelude.{Result, Ok, Err}
 use Rattle.std.specs.Io.KnownBytes.{Keeps}
 use Rattle.clap.specs.Words.{App, Row, Text, subcommand_of, takes}
 use Rattle.capture_command.specs.Meanings.{capture_meant, lines_meant, meant}
 use Rattle.capture_command.specs.declared.request.CaptureRequest.{CaptureRequest}
 use Rattle.capture_command.specs.declared.request.CaptureRequest.TheVariants.{FromCapture, ToCapture}
-use Rattle.commands.specs.Answers.{EndsAs, EndsBy}
+use Rattle.commands.specs.Answers.{Ends, EndsAs, EndsBy}
+use Rattle.commands.specs.Frame.{frame_in}
+use Rattle.commands.specs.declared.refusal.Refusal.{Refusal}
 use Rattle.commands.specs.declared.answering.TheConstants.{REFUSED}
 use Rattle.commands.specs.declared.decode.Form.{Form}
 use Rattle.commands.specs.declared.replay.QueuePlan.{QueuePlan}
@@ -58,19 +60,6 @@ found app words (to_capture port) program says = to_found app words port program
 found app words (schedules request) program says = schedules_found app words request program says
 found app words (cover request) program says = cover_found app words request program says
 
--- ---- from the values of a command to its request
-
--- what holds of whatever these values say under this name
-abbrev pub Leads : Text → List Row → Option Asked → Type 0
-Leads name rows result = (saying : Saying) → name_of saying ≡ name → Holds rows saying → IsSomeAnd result (IsAsked saying)
-
--- so it holds of what the matches say
-pub led : (name : Text) (given rows : List Row) (chosen : Option (Text × List Row)) (saying : Saying) (result : Option Asked)
-    → Leads name given result → Some (name, given) ≡ chosen → chosen ≡ Some (name_of saying, rows) → Holds rows saying → IsSomeAnd result (IsAsked saying)
-led name given rows chosen saying result leads is names holds =
-    let same : (name, given) ≡ (name_of saying, rows) = ap (λ (o : Option (Text × List Row)). unwrap_or o (name, given)) (is ∙ names) in
-    leads saying (sym (ap (λ (p : Text × List Row). p.0) same)) (subst (λ (rs : List Row). Holds rs saying) (sym (ap (λ (p : Text × List Row). p.1) same)) holds)
-
 -- one case for each command
 each : (P : Saying → Type 0) → ((digits : Text) → P (once digits)) → ((form : Form) (digits : Text) → P (decode form digits)) → ((plan : QueuePlan) → P (replay plan))
     → ((config : Config) (printing : Printing) (files : FileOptions) → P (forward config printing files)) → ((port queue : ℕ) → P (from_capture port queue))
@@ -85,57 +74,16 @@ each P of-once of-decode of-replay of-forward of-from of-to of-schedules of-cove
 each P of-once of-decode of-replay of-forward of-from of-to of-schedules of-cover (schedules request) = of-schedules request
 each P of-once of-decode of-replay of-forward of-from of-to of-schedules of-cover (cover request) = of-cover request
 
--- the values of one command, of which no other has the name
-pub once-leads : (rows : List Row) (result : Option Asked) → ((digits : Text) → Holds rows (once digits) → IsSomeAnd result (IsAsked (once digits)))
-    → Leads (codes "once") rows result
-once-leads rows result said =
-    each (λ s. name_of s ≡ codes "once" → Holds rows s → IsSomeAnd result (IsAsked s)) (λ d is has. said d has) (λ f d is has. cc is) (λ p is has. cc is)
-    (λ c p f is has. cc is) (λ p q is has. cc is) (λ p is has. cc is) (λ r is has. cc is) (λ r is has. cc is)
-
-pub decode-leads : (rows : List Row) (result : Option Asked) → ((form : Form) (digits : Text) → Holds rows (decode form digits) → IsSomeAnd result (IsAsked (decode form digits)))
-    → Leads (codes "decode") rows result
-decode-leads rows result said =
-    each (λ s. name_of s ≡ codes "decode" → Holds rows s → IsSomeAnd result (IsAsked s)) (λ d is has. cc is) (λ f d is has. said f d has) (λ p is has. cc is)
-    (λ c p f is has. cc is) (λ p q is has. cc is) (λ p is has. cc is) (λ r is has. cc is) (λ r is has. cc is)
-
-pub replay-leads : (rows : List Row) (result : Option Asked) → ((plan : QueuePlan) → Holds rows (replay plan) → IsSomeAnd result (IsAsked (replay plan)))
-    → Leads (codes "replay") rows result
-replay-leads rows result said =
-    each (λ s. name_of s ≡ codes "replay" → Holds rows s → IsSomeAnd result (IsAsked s)) (λ d is has. cc is) (λ f d is has. cc is) (λ p is has. said p has)
-    (λ c p f is has. cc is) (λ p q is has. cc is) (λ p is has. cc is) (λ r is has. cc is) (λ r is has. cc is)
-
-pub forward-leads : (rows : List Row) (result : Option Asked)
-    → ((config : Config) (printing : Printing) (files : FileOptions) → Holds rows (forward config printing files) → IsSomeAnd result (IsAsked (forward config printing files)))
-    → Leads (codes "forward") rows result
-forward-leads rows result said =
-    each (λ s. name_of s ≡ codes "forward" → Holds rows s → IsSomeAnd result (IsAsked s)) (λ d is has. cc is) (λ f d is has. cc is) (λ p is has. cc is)
-    (λ c p f is has. said c p f has) (λ p q is has. cc is) (λ p is has. cc is) (λ r is has. cc is) (λ r is has. cc is)
-
-pub from-leads : (rows : List Row) (result : Option Asked) → ((port queue : ℕ) → Holds rows (from_capture port queue) → IsSomeAnd result (IsAsked (from_capture port queue)))
-    → Leads (codes "from-capture") rows result
-from-leads rows result said =
-    each (λ s. name_of s ≡ codes "from-capture" → Holds rows s → IsSomeAnd result (IsAsked s)) (λ d is has. cc is) (λ f d is has. cc is) (λ p is has. cc is)
-    (λ c p f is has. cc is) (λ p q is has. said p q has) (λ p is has. cc is) (λ r is has. cc is) (λ r is has. cc is)
-
-pub to-leads : (rows : List Row) (result : Option Asked) → ((port : ℕ) → Holds rows (to_capture port) → IsSomeAnd result (IsAsked (to_capture port)))
-    → Leads (codes "to-capture") rows result
-to-leads rows result said =
-    each (λ s. name_of s ≡ codes "to-capture" → Holds rows s → IsSomeAnd result (IsAsked s)) (λ d is has. cc is) (λ f d is has. cc is) (λ p is has. cc is)
-    (λ c p f is has. cc is) (λ p q is has. cc is) (λ p is has. said p has) (λ r is has. cc is) (λ r is has. cc is)
-
--- two kinds of requests have this one
-pub lists-lead : (rows : List Row) (result : Option Asked) → ((request : ScheduleRequest) → Holds rows (schedules request) → IsSomeAnd result (IsAsked (schedules request)))
-    → ((request : CoverRequest) → Holds rows (cover request) → IsSomeAnd result (IsAsked (cover request))) → Leads (codes "schedules") rows result
-lists-lead rows result drawn covering =
-    each (λ s. name_of s ≡ codes "schedules" → Holds rows s → IsSomeAnd result (IsAsked s)) (λ d is has. cc is) (λ f d is has. cc is) (λ p is has. cc is)
-    (λ c p f is has. cc is) (λ p q is has. cc is) (λ p is has. cc is) (λ r is has. drawn r has) (λ r is has. covering r has)
-
 -- ---- from a request to the end of its run
 
 -- a refusal that prints nothing ends each
+once-kept : (frame : Result (List ℕ) Refusal) (old new : Option (List ℕ)) → Keeps old new → Ends frame REFUSED old new
+once-kept (Ok bytes) old new keeps = inr refl
+once-kept (Err e) old new keeps = (refl, keeps)
+
 pub kept : (saying : Saying) (input old new : Option (List ℕ)) → Keeps old new → EndsSaid saying input REFUSED old new
-kept (once digits) input old new keeps = search
-kept (decode form digits) input old new keeps = search
+kept (once digits) input old new keeps = once-kept (frame_in digits) old new keeps
+kept (decode form digits) input old new keeps = inr (refl, keeps)
 kept (replay plan) input old new keeps = λ text known. replay-kept plan text old new keeps
 kept (forward config printing files) input old new keeps = forward-kept config printing files.sources input old new keeps
 kept (from_capture port queue) input old new keeps = λ bytes known. capture-kept (lines_meant port queue bytes) old new keeps

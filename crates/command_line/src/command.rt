@@ -1,5 +1,5 @@
 //! The words of the command line, as `clap` reads them, to a request.
-ghost use Rattle.std.specs.Prelude.{◌≡◌, ◌⊎◌, Bool, List, Some, codes, map, IfOk, IfSome, IsErrAnd, IsSomeAnd, MatchResult};
+ghost use Rattle.std.specs.Prelude.{◌≡◌, ◌⊎◌, Bool, List, Some, codes, map, IfOk, IfSome, IsErrAnd, IsSomeAnd, MatchResult, option_map};
 ghost use Rattle.std.specs.String.{string_bytes};
 ghost use Rattle.clap.specs.Words.{Row, Text, app_of, kind_of, found_of, one_of, rows_of, subcommand_rows_of};
 ghost use Rattle.clap.specs.Values.{bool_text};
@@ -127,7 +127,7 @@ fn asked_in<'a>(matches: &ArgMatches<'a>) -> Option<Asked<'a>>
         → Holds rows saying → IsSomeAnd result (IsAsked saying) }
     ensures can_be_done { IfSome result CanBeDone }
 {
-    match matches.subcommand()? {
+    match chosen(matches)? {
         ("once", once) => Some(Asked::Request(once_in(once)?)),
         ("decode", decode) => Some(Asked::Request(decode_in(decode)?)),
         ("replay", replay) => Some(Asked::Request(replay_in(replay)?)),
@@ -140,6 +140,13 @@ fn asked_in<'a>(matches: &ArgMatches<'a>) -> Option<Asked<'a>>
         ("schedules", found) => lists_in(found),
         _ => None,
     }
+}
+
+/// The command in matches of the program's command line: its name, and the matches of its own words.
+fn chosen<'b, 'a>(matches: &'b ArgMatches<'a>) -> Option<(&'a str, &'b ArgMatches<'a>)>
+    ensures { option_map (λ p. (p.0.now, rows_of (found_of p.1.now))) result ≡ subcommand_rows_of matches.now }
+{
+    matches.subcommand()
 }
 
 /// The request in matches of `once`.

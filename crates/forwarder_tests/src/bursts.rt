@@ -3,7 +3,6 @@
 use crate::counted::{Counts, NONE};
 use std::alloc::Global;
 use std::process::Abort;
-use std::test::Fail;
 use wire_script::{Script, WireFrame};
 
 /// Frames that come in at one queue, one after another: frame `k` has `len` bytes, each of them `first + k`, modulo 256.
@@ -37,25 +36,33 @@ pub(crate) const FORTY: &[Burst] = &[
 /// What these come to with two pairs.
 pub(crate) const FORTY_COUNTS: &[Counts] = &[NONE, [40, 40, 0, 0, 40, 40, 0, 40, 0], NONE, NONE];
 
-/// The script of these bursts.
-pub(crate) fn script_of<R: Abort>(rt: &R, alloc: Global, bursts: &[Burst]) -> Script {
-    script_in(alloc, bursts).expect(rt, "a script")
+/// Frame `k` of a burst, if there can be such a frame.
+fn frame_of<R: Abort>(rt: &R, alloc: Global, burst: &Burst, k: u8) -> Option<WireFrame> {
+    let (port, queue, len) = (burst.port, burst.queue, burst.len);
+    if port > 1 || queue > 7 || len < 14 || len > 15_000 {
+        return None;
+    }
+    let bytes = Vec::from_elem(alloc, burst.first.wrapping_add(k), len).expect(rt, "bytes");
+    Some(WireFrame::new(port, queue, bytes))
 }
 
-fn script_in(alloc: Global, bursts: &[Burst]) -> Result<Script, Fail> {
+/// The script of these bursts.
+pub(crate) fn script_of<R: Abort>(rt: &R, alloc: Global, bursts: &[Burst]) -> Script {
     let mut frames = Vec::new(alloc);
     for burst in bursts {
-        let (port, queue, len) = (burst.port, burst.queue, burst.len);
-        if port > 1 || queue > 7 || len < 14 || len > 15_000 {
-            return Err("there are no such frames".into());
-        }
         for k in 0..burst.count {
-            let bytes = Vec::from_elem(alloc, burst.first.wrapping_add(k), len)?;
-            frames.push(WireFrame::new(port, queue, bytes))?;
+            let frame = frame_of(rt, alloc, burst, k).expect(rt, "a frame");
+            frames.push(frame).expect(rt, "a frame's room");
         }
     }
+    script_with(frames).expect(rt, "a script")
+}
+
+/// The script of these frames, if they are not too many.
+pub(crate) fn script_with(frames: Vec<WireFrame>) -> Option<Script> {
     if frames.len() > 1_000_000 {
-        return Err("too many frames".into());
+        None
+    } else {
+        Some(Script::new(frames))
     }
-    Ok(Script::new(frames))
 }

@@ -1,5 +1,6 @@
 //! All flows of 8 pairs, by each number of workers.
 
+use crate::bursts::script_with;
 use crate::configs::DEFAULT;
 use crate::counted::counts_of;
 use crate::told::same;
@@ -10,27 +11,21 @@ use forwarding::Open;
 use std::alloc::Global;
 use std::process::Abort;
 use std::sync::Wait;
-use std::test::Fail;
 use std::thread::Threads;
 use wire_script::{Script, WireFrame};
 
 /// So many frames of 14 to 43 bytes, over all 16 flows in turn.
 fn crowd<R: Abort>(rt: &R, alloc: Global, count: u32) -> Script {
-    crowd_in(alloc, count).expect(rt, "a script")
-}
-
-fn crowd_in(alloc: Global, count: u32) -> Result<Script, Fail> {
     let mut frames = Vec::new(alloc);
     for k in 0..count {
         let round = k / 16;
         let len = 14 + (round % 30) as usize;
-        let bytes = Vec::from_elem(alloc, (k % 251) as u8, len)?;
-        frames.push(WireFrame::new((k % 2) as u8, (k / 2 % 8) as u8, bytes))?;
+        let bytes = Vec::from_elem(alloc, (k % 251) as u8, len).expect(rt, "bytes");
+        frames
+            .push(WireFrame::new((k % 2) as u8, (k / 2 % 8) as u8, bytes))
+            .expect(rt, "a frame's room");
     }
-    if frames.len() > 1_000_000 {
-        return Err("too many frames".into());
-    }
-    Ok(Script::new(frames))
+    script_with(frames).expect(rt, "a script")
 }
 
 /// How many frames there are, and a sum of their bytes in which the order counts.

@@ -2,4 +2,4 @@ use Rattle.std.proofs.Common.{◌≡◌}
 use Rattle.forwarder_tests.proofs.readers.readers_of.Given as goal
 
 abbrev pub invariant-loop-k : goal.invariant-loop-k
-invariant-loop-k l = l.pens ≡ l.initial.pens
+invariant-loop-k g l = l.pens ≡ l.initial.pens
