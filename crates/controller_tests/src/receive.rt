@@ -1,13 +1,13 @@
 //! A receive queue whose driver the test plays.
 ghost use Rattle.std.specs.Prelude.{◌≡◌};
 
-use crate::told::{Bytes, Told};
+use crate::told::{Bytes, Told, Walked};
 use buffer_pool::Stash;
 use controller::{RxController, Tally};
 use rx_ring::{Control, ControllerEnd, DriverEnd, Poll, RxDriverEnd, RxRing};
 use std::alloc::Global;
 use std::process::Abort;
-use test_kit::{Tells, asked, full_stash, put_back, renewed};
+use test_kit::{Tells, asked, full_stash, put_back, renewed, told_so};
 
 /// A step of the controller or of the driver. A frame is so many bytes from a place on.
 #[derive(Clone, Copy, Drop)]
@@ -179,16 +179,15 @@ impl Receive {
         true
     }
 
-    /// Whether the controller's end stands between two frames of an enabled queue.
-    pub(crate) fn ends_between_frames(self) -> bool {
-        ends_between_frames(self.controller)
+    /// Makes the rows' steps.
+    pub(crate) fn walk(mut self, rows: &[(Step, Told)]) -> Walked {
+        let told = told_so(&mut self, rows);
+        let end = self.controller.into_end();
+        Walked {
+            told,
+            ends_between_frames: end.is_serving() && end.is_between_frames() && !end.is_holding(),
+        }
     }
-}
-
-/// Whether the controller's end stands between two frames of an enabled queue.
-fn ends_between_frames(controller: RxController) -> bool {
-    let end = controller.into_end();
-    end.is_serving() && end.is_between_frames() && !end.is_holding()
 }
 
 impl Tells for Receive {

@@ -1,12 +1,11 @@
 //! Worked rows of a receive queue's controller.
 
 use crate::receive::{Receive, Step};
-use crate::told::{Told, add};
+use crate::told::{Told, Walked, add};
 use crate::wanted::same;
 use controller::{CtlError, Offer, is_fill_size};
 use std::alloc::Global;
 use std::process::Abort;
-use test_kit::told_so;
 
 const STORED: Told = Told::Offered(Offer::Stored);
 
@@ -27,23 +26,11 @@ type Queue = (u32, bool, bool);
 /// A step, and what it has to tell.
 type Row = (Step, Told);
 
-/// How many rows told so, and whether the controller's end stood between two frames of an enabled queue afterwards.
-#[derive(Clone, Copy)]
-struct Walked {
-    told: usize,
-    ends_between_frames: bool,
-}
-
 /// Makes the rows' steps on a ring of so many places that is not enabled. No other function here owns a queue, since each
 /// that does is dear to prove.
 fn walk<R: Abort>(rt: &R, alloc: Global, (n, large, drop_en): Queue, rows: &[Row]) -> Walked {
-    let mut receive = Receive::new(rt, alloc, n, large, drop_en);
-    let told = told_so(&mut receive, rows);
-    let ends_between_frames = receive.ends_between_frames();
-    Walked {
-        told,
-        ends_between_frames,
-    }
+    let receive = Receive::new(rt, alloc, n, large, drop_en);
+    receive.walk(rows)
 }
 
 /// All of the rows tell so on a ring that is not enabled.

@@ -40,6 +40,13 @@ impl Told {
     }
 }
 
+/// How many rows told so, and whether the controller's end stood between two frames of an enabled queue afterwards.
+#[derive(Clone, Copy)]
+pub(crate) struct Walked {
+    pub told: usize,
+    pub ends_between_frames: bool,
+}
+
 /// Adds rows, each a step and what it has to tell.
 pub(crate) fn add<R: Abort, S: Copy>(rt: &R, rows: &mut Vec<(S, Told)>, more: &[(S, Told)]) {
     rows.extend_from_slice(more).expect(rt, "memory");

@@ -7,13 +7,13 @@ ghost use Rattle.tx_ring.specs.Ends.{posted};
 ghost use Rattle.tx_tests.specs.Begun.{AreOfFrame};
 
 use crate::growing::{len_of, send, send_seldom_growing};
-use crate::told::{Bytes, Told};
+use crate::told::{Bytes, Told, Walked};
 use buffer_pool::Stash;
 use controller::{CtlError, Turn, TxController, Wire};
 use limits::{LEAST_FRAME, MOST_FRAME, MOST_SEGMENTS};
 use std::alloc::Global;
 use std::process::Abort;
-use test_kit::{Tells, asked, full_stash, put_back, renewed};
+use test_kit::{Tells, asked, full_stash, put_back, renewed, told_so};
 use tx_ring::{Completion, Control, ControllerEnd, DriverEnd, TxDriverEnd, TxRing};
 
 /// A step of the driver or of the controller. A frame is so many bytes from a place on.
@@ -244,16 +244,15 @@ impl Transmit {
         k == count && self.wire.is_empty() == (count == 0)
     }
 
-    /// Whether the controller's end stands between two frames of an enabled queue.
-    pub(crate) fn ends_between_frames(self) -> bool {
-        ends_between_frames(self.controller)
+    /// Makes the rows' steps.
+    pub(crate) fn walk(mut self, rows: &[(Step, Told)]) -> Walked {
+        let told = told_so(&mut self, rows);
+        let end = self.controller.into_end();
+        Walked {
+            told,
+            ends_between_frames: end.is_serving() && end.is_between_frames() && !end.owes_report(),
+        }
     }
-}
-
-/// Whether the controller's end stands between two frames of an enabled queue.
-fn ends_between_frames(controller: TxController) -> bool {
-    let end = controller.into_end();
-    end.is_serving() && end.is_between_frames() && !end.owes_report()
 }
 
 impl Tells for Transmit {

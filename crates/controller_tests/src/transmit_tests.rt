@@ -1,12 +1,11 @@
 //! Worked rows of a transmit queue's controller, and of the wire.
 
-use crate::told::{Told, add};
+use crate::told::{Told, Walked, add};
 use crate::transmit::{Step, Transmit};
 use crate::wanted::same;
 use controller::Turn;
 use std::alloc::Global;
 use std::process::Abort;
-use test_kit::told_so;
 use tx_ring::Completion;
 
 const BOTH_WAYS: &[Completion] = &[Completion::Status, Completion::Head];
@@ -20,13 +19,6 @@ const SENT: Told = Told::Turned(Turn::Sent);
 /// A step, and what it has to tell.
 type Row = (Step, Told);
 
-/// How many rows told so, and whether the controller's end stood between two frames of an enabled queue afterwards.
-#[derive(Clone, Copy)]
-struct Walked {
-    told: usize,
-    ends_between_frames: bool,
-}
-
 /// Makes the rows' steps on a ring of so many places that is not enabled. No other function here owns a queue, since each
 /// that does is dear to prove.
 fn walk<R: Abort>(
@@ -35,13 +27,8 @@ fn walk<R: Abort>(
     (n, completion): (u32, Completion),
     rows: &[Row],
 ) -> Walked {
-    let mut transmit = Transmit::new(rt, alloc, n, completion);
-    let told = told_so(&mut transmit, rows);
-    let ends_between_frames = transmit.ends_between_frames();
-    Walked {
-        told,
-        ends_between_frames,
-    }
+    let transmit = Transmit::new(rt, alloc, n, completion);
+    transmit.walk(rows)
 }
 
 /// All of the rows tell so on a ring of so many places that is not enabled.
