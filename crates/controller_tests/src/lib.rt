@@ -3,6 +3,8 @@
 #![tactic(auto)]
 
 #[cfg(test)]
+mod growing;
+#[cfg(test)]
 mod receive;
 #[cfg(test)]
 mod receive_tests;
@@ -12,3 +14,5 @@ mod told;
 mod transmit;
 #[cfg(test)]
 mod transmit_tests;
+#[cfg(test)]
+mod wanted;

@@ -1,13 +1,13 @@
 //! A receive queue whose driver the test plays.
 ghost use Rattle.std.specs.Prelude.{◌≡◌};
 
-use crate::told::{Bytes, Told};
+use crate::told::{Bytes, Told, Walked};
 use buffer_pool::Stash;
 use controller::{RxController, Tally};
 use rx_ring::{Control, ControllerEnd, DriverEnd, Poll, RxDriverEnd, RxRing};
 use std::alloc::Global;
-use std::test::Fail;
-use test_kit::{Tells, asked, full_stash, put_back, renewed};
+use std::process::Abort;
+use test_kit::{Tells, asked, full_stash, put_back, renewed, told_so};
 
 /// A step of the controller or of the driver. A frame is so many bytes from a place on.
 #[derive(Clone, Copy, Drop)]
@@ -62,20 +62,26 @@ pub(crate) struct Receive {
 impl Receive {
     /// A ring of so many places that is not enabled, and buffers at hand. Buffers are filled to 1,024 bytes, or to 2,048
     /// where they are `large`.
-    pub(crate) fn new(alloc: Global, n: u32, large: bool, drop_en: bool) -> Result<Receive, Fail> {
-        let spare = full_stash(alloc, 32)?;
-        let bytes = Bytes::new(alloc)?;
+    pub(crate) fn new<R: Abort>(
+        rt: &R,
+        alloc: Global,
+        n: u32,
+        large: bool,
+        drop_en: bool,
+    ) -> Receive {
+        let spare = full_stash(alloc, 32).expect(rt, "buffers");
+        let bytes = Bytes::new(rt, alloc);
         let bsize = if large { 2_048 } else { 1_024 };
-        let (ring, driver, end) = RxRing::new(alloc, n)?;
+        let (ring, driver, end) = RxRing::new(alloc, n).expect(rt, "a ring");
         let _size = end.size();
-        Ok(Receive {
+        Receive {
             controller: RxController::new(end, bsize, drop_en),
             ring,
             driver,
             spare,
             bytes,
             bsize,
-        })
+        }
     }
 
     fn enable(&mut self) -> bool {
@@ -173,16 +179,15 @@ impl Receive {
         true
     }
 
-    /// Whether the controller's end stands between two frames of an enabled queue.
-    pub(crate) fn ends_between_frames(self) -> bool {
-        ends_between_frames(self.controller)
+    /// Makes the rows' steps.
+    pub(crate) fn walk(mut self, rows: &[(Step, Told)]) -> Walked {
+        let told = told_so(&mut self, rows);
+        let end = self.controller.into_end();
+        Walked {
+            told,
+            ends_between_frames: end.is_serving() && end.is_between_frames() && !end.is_holding(),
+        }
     }
-}
-
-/// Whether the controller's end stands between two frames of an enabled queue.
-fn ends_between_frames(controller: RxController) -> bool {
-    let end = controller.into_end();
-    end.is_serving() && end.is_between_frames() && !end.is_holding()
 }
 
 impl Tells for Receive {

@@ -1,11 +1,11 @@
 //! Worked rows of a receive queue's controller.
 
 use crate::receive::{Receive, Step};
-use crate::told::Told;
+use crate::told::{Told, Walked, add};
+use crate::wanted::same;
 use controller::{CtlError, Offer, is_fill_size};
-use std::alloc::{AllocError, Global};
-use std::test::Fail;
-use test_kit::told_so;
+use std::alloc::Global;
+use std::process::Abort;
 
 const STORED: Told = Told::Offered(Offer::Stored);
 
@@ -19,57 +19,51 @@ const OFF: Told = Told::Offered(Offer::Off);
 
 const REFUSED: Told = Told::Refused(CtlError::FrameLength);
 
+/// A ring of so many places, whether its buffers are filled to 2,048 bytes, or to 1,024, and whether a frame is dropped that
+/// finds no descriptor.
+type Queue = (u32, bool, bool);
+
 /// A step, and what it has to tell.
 type Row = (Step, Told);
 
-/// How many rows told so, and whether the controller's end stood between two frames of an enabled queue afterwards.
-#[derive(Clone, Copy)]
-struct Walked {
-    told: usize,
-    ends_between_frames: bool,
-}
-
 /// Makes the rows' steps on a ring of so many places that is not enabled. No other function here owns a queue, since each
 /// that does is dear to prove.
-fn walk(alloc: Global, n: u32, large: bool, drop_en: bool, rows: &[Row]) -> Result<Walked, Fail> {
-    let mut receive = Receive::new(alloc, n, large, drop_en)?;
-    let told = told_so(&mut receive, rows);
-    let ends_between_frames = receive.ends_between_frames();
-    Ok(Walked {
-        told,
-        ends_between_frames,
-    })
+fn walk<R: Abort>(rt: &R, alloc: Global, (n, large, drop_en): Queue, rows: &[Row]) -> Walked {
+    let receive = Receive::new(rt, alloc, n, large, drop_en);
+    receive.walk(rows)
 }
 
-/// How many of the rows tell so on a ring of so many places that is not enabled.
-fn told(alloc: Global, n: u32, large: bool, drop_en: bool, rows: &[Row]) -> Result<usize, Fail> {
-    Ok(walk(alloc, n, large, drop_en, rows)?.told)
+/// All of the rows tell so on a ring that is not enabled.
+fn each_tells<R: Abort>(rt: &R, alloc: Global, queue: Queue, rows: &[Row]) {
+    let walked = walk(rt, alloc, queue, rows);
+    same(rt, walked.told, rows.len());
 }
 
 /// The rows of a queue of 8 that is enabled and filled.
 const READY: &[Row] = &[(Step::Enable, Told::Yes), (Step::Fill, Told::Count(7))];
 
 /// The rows of so many frames of 60 bytes, each taken before the next is offered.
-fn going_round(alloc: Global, count: usize) -> Result<Vec<Row>, AllocError> {
+fn going_round<R: Abort>(rt: &R, alloc: Global, count: usize) -> Vec<Row> {
     let mut rows = Vec::new(alloc);
-    rows.extend_from_slice(READY)?;
+    add(rt, &mut rows, READY);
     for k in 0..count {
-        rows.extend_from_slice(&[
+        let round = [
             (Step::Offer(60, k), STORED),
             (Step::Take(k, 0, 60), Told::Yes),
             (Step::Fill, Told::Count(1)),
-        ])?;
+        ];
+        add(rt, &mut rows, &round);
     }
     let all = count as u64;
-    rows.extend_from_slice(&[(Step::Counted(all, all, 0, 0), Told::Yes)])?;
-    Ok(rows)
+    let counted = (Step::Counted(all, all, 0, 0), Told::Yes);
+    add(rt, &mut rows, &[counted]);
+    rows
 }
 
 #[test]
-fn frames_go_round(rt: HostRuntime) -> Result<(), Fail> {
-    let rows = going_round(rt.alloc(), 21)?;
-    assert_eq!(rt; told(rt.alloc(), 8, true, true, &rows)?, rows.len());
-    Ok(())
+fn frames_go_round(rt: HostRuntime) {
+    let rows = going_round(&rt, rt.alloc(), 21);
+    each_tells(&rt, rt.alloc(), (8, true, true), &rows);
 }
 
 const SEVEN: &[Row] = &[
@@ -96,20 +90,19 @@ const HOLDING: &[Row] = &[
     (Step::Counted(8, 8, 0, 0), Told::Yes),
 ];
 
-/// Whether the rows tell so of a ready ring of 8 with seven frames.
-fn told_of_the_eighth(alloc: Global, drop_en: bool, rows: &[Row]) -> Result<bool, Fail> {
+/// The rows tell so of a ready ring of 8 with seven frames.
+fn each_tells_of_the_eighth<R: Abort>(rt: &R, alloc: Global, drop_en: bool, rows: &[Row]) {
     let mut all = Vec::new(alloc);
-    all.extend_from_slice(READY)?;
-    all.extend_from_slice(SEVEN)?;
-    all.extend_from_slice(rows)?;
-    Ok(told(alloc, 8, true, drop_en, &all)? == all.len())
+    add(rt, &mut all, READY);
+    add(rt, &mut all, SEVEN);
+    add(rt, &mut all, rows);
+    each_tells(rt, alloc, (8, true, drop_en), &all);
 }
 
 #[test]
-fn the_eighth_is_dropped_or_held(rt: HostRuntime) -> Result<(), Fail> {
-    assert!(rt; told_of_the_eighth(rt.alloc(), true, DROPPING)?);
-    assert!(rt; told_of_the_eighth(rt.alloc(), false, HOLDING)?);
-    Ok(())
+fn the_eighth_is_dropped_or_held(rt: HostRuntime) {
+    each_tells_of_the_eighth(&rt, rt.alloc(), true, DROPPING);
+    each_tells_of_the_eighth(&rt, rt.alloc(), false, HOLDING);
 }
 
 /// A ring of so many places, whose buffers are filled to 2,048 bytes or to 1,024, a frame of so many bytes, and in how many
@@ -129,8 +122,8 @@ const CUTS: &[Cut] = &[
     (8, true, 14_336, 6, 2_048),
 ];
 
-/// Whether a frame is stored in a ready ring as the row says.
-fn is_cut(alloc: Global, row: Cut) -> Result<bool, Fail> {
+/// A frame is stored in a ready ring as the row says.
+fn is_cut<R: Abort>(rt: &R, alloc: Global, row: Cut) {
     let (n, large, len, full, last) = row;
     let rows = [
         (Step::Enable, Told::Yes),
@@ -139,39 +132,40 @@ fn is_cut(alloc: Global, row: Cut) -> Result<bool, Fail> {
         (Step::Take(3, full, last), Told::Yes),
         (Step::FindsNone, Told::Yes),
     ];
-    Ok(told(alloc, n, large, true, &rows)? == rows.len())
+    let walked = walk(rt, alloc, (n, large, true), &rows);
+    same(rt, (len, walked.told), (len, rows.len()));
 }
 
 #[test]
-fn frames_are_cut(rt: HostRuntime) -> Result<(), Fail> {
+fn frames_are_cut(rt: HostRuntime) {
     for row in CUTS {
-        assert!(rt; is_cut(rt.alloc(), *row)?, "{} bytes", row.2);
+        is_cut(&rt, rt.alloc(), *row);
     }
-    Ok(())
 }
 
 const TOO_LONG: &[(bool, usize)] = &[(false, 9_000), (true, 15_000), (true, 14_337)];
 
-/// Whether frames of so many bytes are oversize in a ready ring of 8, and counted so.
-fn is_oversize(alloc: Global, large: bool, len: usize) -> Result<bool, Fail> {
+/// Frames of so many bytes are oversize in a ready ring of 8, and counted so.
+fn is_oversize<R: Abort>(rt: &R, alloc: Global, (large, len): (bool, usize)) {
     let mut rows = Vec::new(alloc);
-    rows.extend_from_slice(READY)?;
+    add(rt, &mut rows, READY);
     for count in 1..=3 {
-        rows.extend_from_slice(&[
+        let counted = [
             (Step::Offer(len, 0), OVERSIZE),
             (Step::Counted(count, 0, 0, count), Told::Yes),
-        ])?;
+        ];
+        add(rt, &mut rows, &counted);
     }
-    rows.extend_from_slice(&[(Step::FindsNone, Told::Yes)])?;
-    Ok(told(alloc, 8, large, false, &rows)? == rows.len())
+    add(rt, &mut rows, &[(Step::FindsNone, Told::Yes)]);
+    let walked = walk(rt, alloc, (8, large, false), &rows);
+    same(rt, (len, walked.told), (len, rows.len()));
 }
 
 #[test]
-fn what_does_not_fit_is_oversize(rt: HostRuntime) -> Result<(), Fail> {
+fn what_does_not_fit_is_oversize(rt: HostRuntime) {
     for row in TOO_LONG {
-        assert!(rt; is_oversize(rt.alloc(), row.0, row.1)?, "{} bytes", row.1);
+        is_oversize(&rt, rt.alloc(), *row);
     }
-    Ok(())
 }
 
 const REFUSALS: &[Row] = &[
@@ -186,71 +180,77 @@ const REFUSALS: &[Row] = &[
 ];
 
 #[test]
-fn lengths_are_refused(rt: HostRuntime) -> Result<(), Fail> {
-    assert_eq!(rt;
-        told(rt.alloc(), 16, false, false, REFUSALS)?,
-        REFUSALS.len()
-    );
-    Ok(())
+fn lengths_are_refused(rt: HostRuntime) {
+    each_tells(&rt, rt.alloc(), (16, false, false), REFUSALS);
 }
 
-/// Whether a refusal has this number and text.
-fn reads(alloc: Global, refusal: CtlError, want: &str) -> Result<bool, AllocError> {
-    let text = format!(in alloc; "{} {refusal}", refusal.number())?;
-    Ok(text.as_str() == want)
+/// A refusal has this number and text.
+fn reads<R: Abort>(rt: &R, alloc: Global, refusal: CtlError, want: &str) {
+    let text = format!(in alloc; "{} {refusal}", refusal.number()).expect(rt, "memory");
+    same(rt, text.as_str(), want);
 }
+
+/// Sizes, and whether buffers are filled to them.
+const FILL_SIZES: &[(usize, bool)] = &[
+    (0, false),
+    (1_023, false),
+    (1_024, true),
+    (1_025, false),
+    (2_047, false),
+    (2_048, true),
+    (4_096, false),
+];
 
 #[test]
-fn refusals_have_a_number_and_a_text(rt: HostRuntime) -> Result<(), Fail> {
-    assert!(rt; reads(rt.alloc(), CtlError::FrameLength, "41 frame length")?);
-    assert!(rt; reads(rt.alloc(), CtlError::Memory, "42 memory")?);
-    for bsize in [0, 1_023, 1_024, 1_025, 2_047, 2_048, 4_096] {
-        assert!(rt; is_fill_size(bsize) == (bsize == 1_024 || bsize == 2_048));
+fn refusals_have_a_number_and_a_text(rt: HostRuntime) {
+    reads(&rt, rt.alloc(), CtlError::FrameLength, "41 frame length");
+    reads(&rt, rt.alloc(), CtlError::Memory, "42 memory");
+    for (bsize, wanted) in FILL_SIZES {
+        same(&rt, (*bsize, is_fill_size(*bsize)), (*bsize, *wanted));
     }
-    Ok(())
 }
 
 /// Adds rows of so many frames of 60 bytes, from a place on, each after one that is oversize.
-fn alternate(rows: &mut Vec<Row>, first: usize, count: usize) -> Result<(), AllocError> {
+fn alternate<R: Abort>(rt: &R, rows: &mut Vec<Row>, first: usize, count: usize) {
     for k in 0..count {
-        rows.extend_from_slice(&[
+        let pair = [
             (Step::Offer(9_000, 0), OVERSIZE),
             (Step::Offer(60, first.saturating_add(k)), STORED),
-        ])?;
+        ];
+        add(rt, rows, &pair);
     }
-    Ok(())
 }
 
 /// Adds rows by which so many frames of 60 bytes, from a place on, are taken, and as many buffers posted.
-fn take(rows: &mut Vec<Row>, first: usize, count: u32) -> Result<(), AllocError> {
+fn take<R: Abort>(rt: &R, rows: &mut Vec<Row>, first: usize, count: u32) {
     for k in 0..count as usize {
         let place = first.saturating_add(k);
-        rows.extend_from_slice(&[(Step::Take(place, 0, 60), Told::Yes)])?;
+        add(rt, rows, &[(Step::Take(place, 0, 60), Told::Yes)]);
     }
-    rows.extend_from_slice(&[(Step::Fill, Told::Count(count))])
+    add(rt, rows, &[(Step::Fill, Told::Count(count))]);
 }
 
 /// The rows of 100 frames, each after one that is oversize; each eighth is held until the seven before it are taken.
-fn alternating(alloc: Global) -> Result<Vec<Row>, AllocError> {
+fn alternating<R: Abort>(rt: &R, alloc: Global) -> Vec<Row> {
     let mut rows = Vec::new(alloc);
-    rows.extend_from_slice(READY)?;
+    add(rt, &mut rows, READY);
     for round in 0..14 {
         let first = round * 7;
-        alternate(&mut rows, first, 7)?;
-        rows.extend_from_slice(&[(Step::Offer(60, first + 7), HELD)])?;
-        take(&mut rows, first, 7)?;
+        alternate(rt, &mut rows, first, 7);
+        add(rt, &mut rows, &[(Step::Offer(60, first + 7), HELD)]);
+        take(rt, &mut rows, first, 7);
     }
-    alternate(&mut rows, 98, 2)?;
-    take(&mut rows, 98, 2)?;
-    rows.extend_from_slice(&[(Step::Counted(200, 100, 0, 100), Told::Yes)])?;
-    Ok(rows)
+    alternate(rt, &mut rows, 98, 2);
+    take(rt, &mut rows, 98, 2);
+    let counted = (Step::Counted(200, 100, 0, 100), Told::Yes);
+    add(rt, &mut rows, &[counted]);
+    rows
 }
 
 #[test]
-fn oversize_frames_between_others(rt: HostRuntime) -> Result<(), Fail> {
-    let rows = alternating(rt.alloc())?;
-    assert_eq!(rt; told(rt.alloc(), 8, false, false, &rows)?, rows.len());
-    Ok(())
+fn oversize_frames_between_others(rt: HostRuntime) {
+    let rows = alternating(&rt, rt.alloc());
+    each_tells(&rt, rt.alloc(), (8, false, false), &rows);
 }
 
 /// The rows of a queue whose controller says that it is quiet, and of one that the driver disables: nothing more is stored.
@@ -281,55 +281,57 @@ const ANEW: &[Row] = &[
 ];
 
 /// Adds a row so many times.
-fn repeat(rows: &mut Vec<Row>, row: Row, times: u32) -> Result<(), AllocError> {
+fn repeat<R: Abort>(rt: &R, rows: &mut Vec<Row>, row: Row, times: u32) {
     for _ in 0..times {
-        rows.extend_from_slice(&[row])?;
+        add(rt, rows, &[row]);
     }
-    Ok(())
 }
 
 /// Adds rows by which a queue with so many frames ends, quiet or disabled, and is renewed.
-fn end(rows: &mut Vec<Row>, before: u32, quiet: bool) -> Result<(), AllocError> {
+fn end<R: Abort>(rt: &R, rows: &mut Vec<Row>, before: u32, quiet: bool) {
     let stored = u64::from(before);
     let counted = (Step::Counted(stored, stored, 0, 0), Told::Yes);
-    if !quiet {
-        rows.extend_from_slice(DISABLED)?;
-        return rows.extend_from_slice(&[counted, (Step::Renew, Told::Count(7))]);
+    let mut left = 7;
+    if quiet {
+        add(rt, rows, QUIET);
+        add(rt, rows, &[counted]);
+        repeat(rt, rows, (Step::Take(9, 0, 60), Told::Yes), before);
+        add(rt, rows, TAKEN);
+        left = 7u32.saturating_sub(before);
+    } else {
+        add(rt, rows, DISABLED);
+        add(rt, rows, &[counted]);
     }
-    rows.extend_from_slice(QUIET)?;
-    rows.extend_from_slice(&[counted])?;
-    repeat(rows, (Step::Take(9, 0, 60), Told::Yes), before)?;
-    rows.extend_from_slice(TAKEN)?;
-    let left = 7u32.saturating_sub(before);
-    rows.extend_from_slice(&[(Step::Renew, Told::Count(left))])
+    add(rt, rows, &[(Step::Renew, Told::Count(left))]);
 }
 
 /// The rows of a queue that is quiet or disabled after so many frames, and then renewed: nothing more is stored before, and
 /// the tally goes on after it.
-fn over_after(alloc: Global, before: u32, quiet: bool) -> Result<Vec<Row>, AllocError> {
+fn over_after<R: Abort>(rt: &R, alloc: Global, before: u32, quiet: bool) -> Vec<Row> {
     let mut rows = Vec::new(alloc);
-    rows.extend_from_slice(READY)?;
-    repeat(&mut rows, (Step::Offer(60, 9), STORED), before)?;
-    end(&mut rows, before, quiet)?;
-    rows.extend_from_slice(ANEW)?;
+    add(rt, &mut rows, READY);
+    repeat(rt, &mut rows, (Step::Offer(60, 9), STORED), before);
+    end(rt, &mut rows, before, quiet);
+    add(rt, &mut rows, ANEW);
     let stored = u64::from(before).saturating_add(1);
-    rows.extend_from_slice(&[(Step::Counted(stored, stored, 0, 0), Told::Yes)])?;
-    Ok(rows)
+    let counted = (Step::Counted(stored, stored, 0, 0), Told::Yes);
+    add(rt, &mut rows, &[counted]);
+    rows
 }
 
-fn is_over_after(alloc: Global, before: u32, quiet: bool) -> Result<bool, Fail> {
-    let rows = over_after(alloc, before, quiet)?;
-    Ok(told(alloc, 8, true, true, &rows)? == rows.len())
+fn is_over_after<R: Abort>(rt: &R, alloc: Global, before: u32, quiet: bool) {
+    let rows = over_after(rt, alloc, before, quiet);
+    let walked = walk(rt, alloc, (8, true, true), &rows);
+    let row = (before, quiet);
+    same(rt, (row, walked.told), (row, rows.len()));
 }
 
 #[test]
-fn nothing_is_stored_once_it_is_over(rt: HostRuntime) -> Result<(), Fail> {
+fn nothing_is_stored_once_it_is_over(rt: HostRuntime) {
     for before in 0..5 {
-        for quiet in [true, false] {
-            assert!(rt; is_over_after(rt.alloc(), before, quiet)?);
-        }
+        is_over_after(&rt, rt.alloc(), before, true);
+        is_over_after(&rt, rt.alloc(), before, false);
     }
-    Ok(())
 }
 
 const BEFORE: &[Row] = &[
@@ -341,9 +343,8 @@ const BEFORE: &[Row] = &[
 ];
 
 #[test]
-fn nothing_is_done_before_the_enabling(rt: HostRuntime) -> Result<(), Fail> {
-    let walked = walk(rt.alloc(), 8, true, true, BEFORE)?;
-    assert_eq!(rt; walked.told, BEFORE.len());
-    assert!(rt; walked.ends_between_frames);
-    Ok(())
+fn nothing_is_done_before_the_enabling(rt: HostRuntime) {
+    let walked = walk(&rt, rt.alloc(), (8, true, true), BEFORE);
+    let told = (walked.told, walked.ends_between_frames);
+    same(&rt, told, (BEFORE.len(), true));
 }

@@ -1,7 +1,8 @@
 //! What a step of a controller, or of the driver beside it, tells.
 
 use controller::{CtlError, Offer, Turn};
-use std::alloc::{AllocError, Global};
+use std::alloc::Global;
+use std::process::Abort;
 use test_kit::Random;
 
 /// What was told.
@@ -39,19 +40,31 @@ impl Told {
     }
 }
 
+/// How many rows told so, and whether the controller's end stood between two frames of an enabled queue afterwards.
+#[derive(Clone, Copy)]
+pub(crate) struct Walked {
+    pub told: usize,
+    pub ends_between_frames: bool,
+}
+
+/// Adds rows, each a step and what it has to tell.
+pub(crate) fn add<R: Abort, S: Copy>(rt: &R, rows: &mut Vec<(S, Told)>, more: &[(S, Told)]) {
+    rows.extend_from_slice(more).expect(rt, "memory");
+}
+
 /// Random bytes, of which frames are parts.
 #[derive(Drop)]
 pub(crate) struct Bytes(Vec<u8>);
 
 impl Bytes {
     /// 20,300 bytes.
-    pub(crate) fn new(alloc: Global) -> Result<Bytes, AllocError> {
+    pub(crate) fn new<R: Abort>(rt: &R, alloc: Global) -> Bytes {
         let mut random = Random::new(82_599);
-        let mut bytes = Vec::with_capacity(alloc, 20_300)?;
+        let mut bytes = Vec::with_capacity(alloc, 20_300).expect(rt, "memory");
         for _ in 0..20_300 {
-            bytes.push(random.below(256) as u8)?;
+            bytes.push(random.below(256) as u8).expect(rt, "memory");
         }
-        Ok(Bytes(bytes))
+        Bytes(bytes)
     }
 
     /// So many bytes from this place on.

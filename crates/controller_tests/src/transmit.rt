@@ -6,13 +6,14 @@ ghost use Rattle.ring_model.specs.transmit.Ring.{carried};
 ghost use Rattle.tx_ring.specs.Ends.{posted};
 ghost use Rattle.tx_tests.specs.Begun.{AreOfFrame};
 
-use crate::told::{Bytes, Told};
+use crate::growing::{len_of, send, send_seldom_growing};
+use crate::told::{Bytes, Told, Walked};
 use buffer_pool::Stash;
 use controller::{CtlError, Turn, TxController, Wire};
 use limits::{LEAST_FRAME, MOST_FRAME, MOST_SEGMENTS};
 use std::alloc::Global;
-use std::test::Fail;
-use test_kit::{Tells, asked, full_stash, put_back, renewed};
+use std::process::Abort;
+use test_kit::{Tells, asked, full_stash, put_back, renewed, told_so};
 use tx_ring::{Completion, Control, ControllerEnd, DriverEnd, TxDriverEnd, TxRing};
 
 /// A step of the driver or of the controller. A frame is so many bytes from a place on.
@@ -36,6 +37,15 @@ pub(crate) enum Step {
     HasSent(usize),
     /// Whether a frame of the wire has so many bytes from a place on.
     IsOnWire(usize, usize, usize),
+    /// So many frames are posted, sent and cleaned, one after another, each as long as `len_of` says and from the place of
+    /// its number on: how many were, up to the first that was not.
+    Send(u32),
+    /// Whether the wire has so many of them, and no other.
+    AreSent(usize),
+    /// So many frames of 60 bytes are posted, sent and cleaned, where no turn is refused memory, and the wire's list of
+    /// frames and the block of their bytes take memory so many times at most each: how many were, up to the first that was
+    /// not.
+    SendSeldomGrowing(u32, u32),
 }
 
 /// The frame that is begun: its segments so far, their bytes, and the length of the whole.
@@ -73,11 +83,11 @@ pub(crate) struct Transmit {
 
 impl Transmit {
     /// A ring of so many places that is not enabled, with nothing on its wire.
-    pub(crate) fn new(alloc: Global, n: u32, completion: Completion) -> Result<Transmit, Fail> {
-        let spare = full_stash(alloc, 32)?;
-        let bytes = Bytes::new(alloc)?;
-        let (ring, driver, end) = TxRing::new_with(alloc, n, completion)?;
-        Ok(Transmit {
+    pub(crate) fn new<R: Abort>(rt: &R, alloc: Global, n: u32, completion: Completion) -> Transmit {
+        let spare = full_stash(alloc, 32).expect(rt, "buffers");
+        let bytes = Bytes::new(rt, alloc);
+        let (ring, driver, end) = TxRing::new_with(alloc, n, completion).expect(rt, "a ring");
+        Transmit {
             controller: TxController::new(end),
             wire: Wire::new(alloc),
             ring,
@@ -85,7 +95,7 @@ impl Transmit {
             spare,
             bytes,
             begun: NONE,
-        })
+        }
     }
 
     fn enable(&mut self) -> bool {
@@ -181,6 +191,11 @@ impl Transmit {
         true
     }
 
+    /// Whether the oldest report is made, and one buffer comes back.
+    pub(crate) fn is_cleaned(&mut self) -> bool {
+        self.driver.poll_report(&self.ring) && self.clean() == 1
+    }
+
     fn clean(&mut self) -> u32 {
         let mut count = 0_u32;
         for _ in 0..32 {
@@ -218,7 +233,7 @@ impl Transmit {
     }
 
     /// Whether so many frames are on the wire, in order, each as long as `len_of` says and from the place of its number on.
-    pub(crate) fn are_sent(&self, count: usize) -> bool {
+    fn are_sent(&self, count: usize) -> bool {
         let mut k = 0_usize;
         for frame in self.wire.iter() {
             if frame != self.bytes.frame(k, len_of(k)) {
@@ -229,16 +244,15 @@ impl Transmit {
         k == count && self.wire.is_empty() == (count == 0)
     }
 
-    /// Whether the controller's end stands between two frames of an enabled queue.
-    pub(crate) fn ends_between_frames(self) -> bool {
-        ends_between_frames(self.controller)
+    /// Makes the rows' steps.
+    pub(crate) fn walk(mut self, rows: &[(Step, Told)]) -> Walked {
+        let told = told_so(&mut self, rows);
+        let end = self.controller.into_end();
+        Walked {
+            told,
+            ends_between_frames: end.is_serving() && end.is_between_frames() && !end.owes_report(),
+        }
     }
-}
-
-/// Whether the controller's end stands between two frames of an enabled queue.
-fn ends_between_frames(controller: TxController) -> bool {
-    let end = controller.into_end();
-    end.is_serving() && end.is_between_frames() && !end.owes_report()
 }
 
 impl Tells for Transmit {
@@ -257,6 +271,11 @@ impl Tells for Transmit {
             Step::Clean => Told::Count(self.clean()),
             Step::HasSent(count) => Told::whether(self.has_sent(count)),
             Step::IsOnWire(k, len, from) => Told::whether(self.is_on_wire(k, len, from)),
+            Step::Send(count) => Told::Count(send(self, count)),
+            Step::AreSent(count) => Told::whether(self.are_sent(count)),
+            Step::SendSeldomGrowing(count, most) => {
+                Told::Count(send_seldom_growing(self, count, most))
+            }
         }
     }
 }
@@ -266,11 +285,4 @@ fn is_one_frame(segments: usize, len: usize, paylen: usize) -> bool
     ensures { result ≡ true → (segments ≡ 0) ⊎ (len ≡ paylen) }
 {
     segments == 0 || len == paylen
-}
-
-/// How long frame `k` of a long wire is.
-pub(crate) fn len_of(k: usize) -> usize
-    ensures { result ≤ 2048 }
-{
-    14 + k % 300 * 6
 }

@@ -2,6 +2,7 @@
 ghost use Rattle.std.specs.Prelude.{◌≡◌, ◌<◌, ◌≤◌};
 
 use crate::made;
+use crate::stashes::cut;
 use crate::told::{Call, Told};
 use arrayvec::ArrayVec;
 use buffer_pool::{Packet, Stash};
@@ -10,7 +11,7 @@ use limits::BUFFER_BYTES;
 use rx_ring::RxRing;
 use std::alloc::Global;
 use std::mem;
-use std::test::Fail;
+use std::process::Abort;
 use test_kit::{Storer, Tells, full_stash};
 
 /// A ring with a driver and a controller's end.
@@ -52,22 +53,22 @@ pub(crate) enum RxCall {
 
 impl Both {
     /// A ring of 8 that is not enabled, with so many buffers at hand, up to 16.
-    pub(crate) fn new(alloc: Global, batch: usize, buffers: usize) -> Result<Both, Fail>
+    pub(crate) fn new<R: Abort>(rt: &R, alloc: Global, batch: usize, buffers: usize) -> Both
         requires some { 0 < batch }
         requires few { batch ≤ MOST_BATCH }
     {
-        let mut stash = full_stash(alloc, 16)?;
-        let others = full_stash(alloc, 256)?;
+        let mut stash = full_stash(alloc, 16).expect(rt, "buffers");
+        let others = full_stash(alloc, 256).expect(rt, "buffers");
         cut(&mut stash, buffers);
-        let (ring, driver, controller) = RxRing::new(alloc, 8)?;
-        Ok(Both {
+        let (ring, driver, controller) = RxRing::new(alloc, 8).expect(rt, "a ring");
+        Both {
             ring,
             driver: RxDriver::new(driver, batch),
             storer: Storer::new(controller),
             stash,
             others,
             packets: ArrayVec::new(),
-        })
+        }
     }
 
     fn store(&mut self, len: usize, eop: bool, byte: u8) -> bool {
@@ -129,21 +130,19 @@ fn is_chain(packet: Option<&Packet>, lens: &[usize], first: u8) -> bool {
     let mut byte = first;
     let mut rest = lens.iter();
     for bytes in packet.iter() {
-        let wanted = [byte; BUFFER_BYTES];
-        if rest.next() != Some(&bytes.len()) || wanted.get(..bytes.len()) != Some(bytes) {
+        if rest.next() != Some(&bytes.len()) || !is_filled(bytes, byte) {
             return false;
         }
         byte = byte.wrapping_add(1);
     }
-    rest.next().is_none_or(|len| *len == 0)
+    match rest.next() {
+        Some(len) => *len == 0,
+        None => true,
+    }
 }
 
-/// Drops buffers until only so many are at hand.
-fn cut(stash: &mut Stash, buffers: usize) {
-    for _ in 0..stash.len() {
-        if stash.len() <= buffers {
-            return;
-        }
-        stash.take();
-    }
+/// Whether each of a segment's bytes is this one.
+fn is_filled(bytes: &[u8], byte: u8) -> bool {
+    let wanted = [byte; BUFFER_BYTES];
+    wanted.get(..bytes.len()) == Some(bytes)
 }

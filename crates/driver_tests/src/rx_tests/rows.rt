@@ -3,35 +3,43 @@ ghost use Rattle.std.specs.Prelude.{◌<◌, ◌≤◌};
 
 use crate::rx_tests::both::{Both, RxCall};
 use crate::told::{Call, Told};
+use crate::wanted::same;
 use driver::DriverError;
 use std::alloc::Global;
-use std::test::Fail;
+use std::process::Abort;
 use test_kit::told_so;
 
 /// A call, and what it has to tell.
 type Row = (Call<RxCall>, Told);
 
-/// How many of the rows tell so on a ring of 8 that is not enabled, in batches of so many, with so many buffers at hand.
-fn told(alloc: Global, batch: usize, buffers: usize, rows: &[Row]) -> Result<usize, Fail>
+/// All of the rows tell so on a ring of 8 that is not enabled, in batches of so many, with so many buffers at hand. No other
+/// function here owns a driver, since each that does is dear to prove.
+fn each_tells<R: Abort>(rt: &R, alloc: Global, batch: usize, buffers: usize, rows: &[Row])
     requires some { 0 < batch }
     requires few { batch ≤ 32 }
 {
-    let mut both = Both::new(alloc, batch, buffers)?;
-    Ok(told_so(&mut both, rows))
+    let mut both = Both::new(rt, alloc, batch, buffers);
+    same(rt, told_so(&mut both, rows), rows.len());
+}
+
+/// Each refusal, with its number and its words.
+const WORDS: &[(DriverError, &str)] = &[
+    (DriverError::QueueOff, "51 queue off"),
+    (DriverError::StashFull, "52 stash full"),
+    (DriverError::TooLong, "53 too long"),
+    (DriverError::NotReclaimed, "54 not reclaimed"),
+];
+
+fn has_words<R: Abort>(rt: &R, alloc: Global, refused: DriverError, words: &str) {
+    let text = format!(in alloc; "{} {refused}", refused.number()).expect(rt, "memory");
+    same(rt, text.as_str(), words);
 }
 
 #[test]
-fn refusals_have_a_number_and_a_text(rt: HostRuntime) -> Result<(), Fail> {
-    for (refusal, want) in [
-        (DriverError::QueueOff, "51 queue off"),
-        (DriverError::StashFull, "52 stash full"),
-        (DriverError::TooLong, "53 too long"),
-        (DriverError::NotReclaimed, "54 not reclaimed"),
-    ] {
-        let text = format!(in rt.alloc(); "{} {refusal}", refusal.number())?;
-        assert_eq!(rt; text.as_str(), want);
+fn refusals_have_a_number_and_a_text(rt: HostRuntime) {
+    for (refused, words) in WORDS {
+        has_words(&rt, rt.alloc(), *refused, words);
     }
-    Ok(())
 }
 
 const FILLED: &[Row] = &[
@@ -68,9 +76,8 @@ const FILLED: &[Row] = &[
 ];
 
 #[test]
-fn a_batch_fills_the_ring_and_takes_what_is_done(rt: HostRuntime) -> Result<(), Fail> {
-    assert_eq!(rt; told(rt.alloc(), 32, 10, FILLED)?, FILLED.len());
-    Ok(())
+fn a_batch_fills_the_ring_and_takes_what_is_done(rt: HostRuntime) {
+    each_tells(&rt, rt.alloc(), 32, 10, FILLED);
 }
 
 const ENDED: &[Row] = &[
@@ -97,9 +104,8 @@ const ENDED: &[Row] = &[
 ];
 
 #[test]
-fn a_batch_and_a_list_have_an_end(rt: HostRuntime) -> Result<(), Fail> {
-    assert_eq!(rt; told(rt.alloc(), 2, 7, ENDED)?, ENDED.len());
-    Ok(())
+fn a_batch_and_a_list_have_an_end(rt: HostRuntime) {
+    each_tells(&rt, rt.alloc(), 2, 7, ENDED);
 }
 
 const CHAINED: &[Row] = &[
@@ -124,9 +130,8 @@ const CHAINED: &[Row] = &[
 ];
 
 #[test]
-fn a_chain_waits_for_its_end(rt: HostRuntime) -> Result<(), Fail> {
-    assert_eq!(rt; told(rt.alloc(), 32, 7, CHAINED)?, CHAINED.len());
-    Ok(())
+fn a_chain_waits_for_its_end(rt: HostRuntime) {
+    each_tells(&rt, rt.alloc(), 32, 7, CHAINED);
 }
 
 const RENEWED: &[Row] = &[
@@ -179,9 +184,8 @@ const RENEWED: &[Row] = &[
 ];
 
 #[test]
-fn disabled_reclaimed_and_renewed(rt: HostRuntime) -> Result<(), Fail> {
-    assert_eq!(rt; told(rt.alloc(), 32, 7, RENEWED)?, RENEWED.len());
-    Ok(())
+fn disabled_reclaimed_and_renewed(rt: HostRuntime) {
+    each_tells(&rt, rt.alloc(), 32, 7, RENEWED);
 }
 
 const QUIET: &[Row] = &[
@@ -199,7 +203,6 @@ const QUIET: &[Row] = &[
 ];
 
 #[test]
-fn quiet_by_calls(rt: HostRuntime) -> Result<(), Fail> {
-    assert_eq!(rt; told(rt.alloc(), 32, 7, QUIET)?, QUIET.len());
-    Ok(())
+fn quiet_by_calls(rt: HostRuntime) {
+    each_tells(&rt, rt.alloc(), 32, 7, QUIET);
 }

@@ -3,14 +3,14 @@ ghost use Rattle.std.specs.Prelude.{◌≡◌, ◌≤◌, All};
 ghost use Rattle.buffer_pool.specs.Packed.{IsPacket};
 
 use crate::made;
+use crate::stashes::cut;
 use crate::told::{Call, Told};
 use arrayvec::ArrayVec;
-use buffer_pool::{Packet, STASH_BUFFERS, Stash, Stock};
+use buffer_pool::{Buf, Packet, STASH_BUFFERS, Stash, Stock};
 use descriptor::TxRead;
 use driver::{DriverError, MOST_BATCH, TxDriver};
 use std::alloc::Global;
-use std::mem;
-use std::test::Fail;
+use std::process::Abort;
 use test_kit::{Tells, put_back};
 use tx_ring::{Completion, ControllerEnd, TxControllerEnd, TxRing, close};
 
@@ -30,6 +30,9 @@ pub(crate) struct Queue {
     ghost serves: { controller.table ≡ ring },
     ghost whole: { All IsPacket packets.items },
 }
+
+/// The number of the buffer at each place of a ring.
+pub(crate) type Places = [Option<u16>; 8];
 
 /// A call that only transmitting has.
 #[derive(Clone, Copy, Drop)]
@@ -51,17 +54,17 @@ pub(crate) enum TxCall {
 
 impl Queue {
     /// A queue of 8 that is not enabled, whose fourth frames ask for a report.
-    pub(crate) fn new(alloc: Global, completion: Completion) -> Result<Queue, Fail> {
-        let stock = Stock::new(alloc, 0, 300)?;
-        let (ring, end, controller) = TxRing::new_with(alloc, 8, completion)?;
-        Ok(Queue {
+    pub(crate) fn new<R: Abort>(rt: &R, alloc: Global, completion: Completion) -> Queue {
+        let stock = Stock::new(alloc, 0, 300).expect(rt, "buffers");
+        let (ring, end, controller) = TxRing::new_with(alloc, 8, completion).expect(rt, "a ring");
+        Queue {
             ring,
             driver: TxDriver::new(end, 4),
             controller,
             stock,
             stash: Stash::new(),
             packets: ArrayVec::new(),
-        })
+        }
     }
 
     fn add(&mut self, count: usize, segments: usize, len: usize) {
@@ -109,21 +112,15 @@ impl Queue {
     }
 
     /// The number of the buffer at each place.
-    pub(crate) fn places(self) -> [Option<u16>; 8] {
+    pub(crate) fn places(self) -> Places {
         let Queue {
             ring,
             driver,
             controller,
             ..
         } = self;
-        let mut places = [None; 8];
-        for (place, buf) in places
-            .iter_mut()
-            .zip(close(ring, driver.into_end(), controller))
-        {
-            *place = buf.map(|buf| buf.number());
-        }
-        places
+        let slots = close(ring, driver.into_end(), controller);
+        numbers(&slots)
     }
 
     fn answer(&mut self) -> bool {
@@ -137,16 +134,41 @@ impl Queue {
     fn own(&mut self, call: TxCall) -> Told {
         match call {
             TxCall::Ready => return Told::Count(self.ready() as usize),
-            TxCall::Asks(rs) => return Told::whether(self.send().is_some_and(|read| read.rs == rs)),
-            TxCall::Word(word) => {
-                return Told::whether(self.send().is_some_and(|read| read.second_word() == word));
-            }
+            TxCall::Asks(rs) => return Told::whether(asks(self.send(), rs)),
+            TxCall::Word(word) => return Told::whether(has_word(self.send(), word)),
             TxCall::Clean => return Told::Count(self.driver.clean(&self.ring, &mut self.stash)),
             TxCall::Add(count, segments, len) => self.add(count, segments, len),
             TxCall::Fill(room) => self.fill_stash(room),
-            TxCall::Drop => drop(mem::take(&mut self.stash)),
+            TxCall::Drop => cut(&mut self.stash, 0),
         }
         Told::Yes
+    }
+}
+
+/// The number of the buffer in each slot.
+fn numbers(slots: &[Option<Buf>]) -> Places {
+    let mut places = [None; 8];
+    for (place, slot) in places.iter_mut().zip(slots) {
+        if let Some(buf) = slot {
+            *place = Some(buf.number());
+        }
+    }
+    places
+}
+
+/// Whether there is a descriptor, and it asks for a report or not, as is said.
+fn asks(read: Option<TxRead>, rs: bool) -> bool {
+    match read {
+        Some(read) => read.rs == rs,
+        None => false,
+    }
+}
+
+/// Whether there is a descriptor, and its second word is this one.
+fn has_word(read: Option<TxRead>, word: u64) -> bool {
+    match read {
+        Some(read) => read.second_word() == word,
+        None => false,
     }
 }
 

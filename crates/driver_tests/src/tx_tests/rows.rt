@@ -1,23 +1,27 @@
 //! Worked rows of a transmit driver.
 
 use crate::told::{Call, Told};
-use crate::tx_tests::queue::{Queue, TxCall};
+use crate::tx_tests::queue::{Places, Queue, TxCall};
+use crate::wanted::same;
 use driver::DriverError;
 use std::alloc::Global;
-use std::test::Fail;
+use std::process::Abort;
 use test_kit::told_so;
 use tx_ring::Completion;
 
 /// A call, and what it has to tell.
 type Row = (Call<TxCall>, Told);
 
-/// How many of the rows tell so on a ring of 8 that is not enabled.
-fn told(alloc: Global, completion: Completion, rows: &[Row]) -> Result<usize, Fail> {
-    let mut queue = Queue::new(alloc, completion)?;
-    Ok(told_so(&mut queue, rows))
+/// All of the rows tell so on a ring of 8 that is not enabled: where its buffers lie then. No other function here owns a
+/// queue, since each that does is dear to prove.
+fn each_tells<R: Abort>(rt: &R, alloc: Global, completion: Completion, rows: &[Row]) -> Places {
+    let mut queue = Queue::new(rt, alloc, completion);
+    let told = told_so(&mut queue, rows);
+    same(rt, told, rows.len());
+    queue.places()
 }
 
-const BOTH_WAYS: [Completion; 2] = [Completion::Status, Completion::Head];
+const BOTH_WAYS: &[Completion] = &[Completion::Status, Completion::Head];
 
 const TEN: &[Row] = &[
     (Call::Own(TxCall::Add(10, 1, 60)), Told::Yes),
@@ -47,24 +51,24 @@ const TEN: &[Row] = &[
     (Call::Own(TxCall::Ready), Told::Count(0)),
 ];
 
+/// Where the buffers lie after them.
+const LYING: Places = [
+    Some(8),
+    Some(9),
+    None,
+    None,
+    Some(4),
+    Some(5),
+    Some(6),
+    Some(7),
+];
+
 #[test]
-fn batches_of_ten_packets(rt: HostRuntime) -> Result<(), Fail> {
-    let lying = [
-        Some(8),
-        Some(9),
-        None,
-        None,
-        Some(4),
-        Some(5),
-        Some(6),
-        Some(7),
-    ];
+fn batches_of_ten_packets(rt: HostRuntime) {
     for completion in BOTH_WAYS {
-        let mut queue = Queue::new(rt.alloc(), completion)?;
-        assert_eq!(rt; told_so(&mut queue, TEN), TEN.len());
-        assert!(rt; queue.places() == lying);
+        let lying = each_tells(&rt, rt.alloc(), *completion, TEN);
+        same(&rt, lying, LYING);
     }
-    Ok(())
 }
 
 const TOO_LONG: &[Row] = &[
@@ -85,12 +89,8 @@ const TOO_LONG: &[Row] = &[
 ];
 
 #[test]
-fn a_packet_that_no_ring_of_8_has_room_for(rt: HostRuntime) -> Result<(), Fail> {
-    assert_eq!(rt;
-        told(rt.alloc(), Completion::Status, TOO_LONG)?,
-        TOO_LONG.len()
-    );
-    Ok(())
+fn a_packet_that_no_ring_of_8_has_room_for(rt: HostRuntime) {
+    each_tells(&rt, rt.alloc(), Completion::Status, TOO_LONG);
 }
 
 const SIX: &[Row] = &[
@@ -110,9 +110,8 @@ const SIX: &[Row] = &[
 ];
 
 #[test]
-fn six_packets_in_one_batch(rt: HostRuntime) -> Result<(), Fail> {
-    assert_eq!(rt; told(rt.alloc(), Completion::Status, SIX)?, SIX.len());
-    Ok(())
+fn six_packets_in_one_batch(rt: HostRuntime) {
+    each_tells(&rt, rt.alloc(), Completion::Status, SIX);
 }
 
 const RENEWED: &[Row] = &[
@@ -159,9 +158,8 @@ const RENEWED: &[Row] = &[
 /// A disabled queue tells what was not sent, gives its buffers back where the stash has room, and counts its frames
 /// from 1 once it is renewed.
 #[test]
-fn a_disabling_and_the_epoch_after_it(rt: HostRuntime) -> Result<(), Fail> {
+fn a_disabling_and_the_epoch_after_it(rt: HostRuntime) {
     for completion in BOTH_WAYS {
-        assert_eq!(rt; told(rt.alloc(), completion, RENEWED)?, RENEWED.len());
+        each_tells(&rt, rt.alloc(), *completion, RENEWED);
     }
-    Ok(())
 }

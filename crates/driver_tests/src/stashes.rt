@@ -1,0 +1,13 @@
+//! Buffers at hand, made fewer.
+
+use buffer_pool::Stash;
+
+/// Drops buffers until only so many are at hand.
+pub(crate) fn cut(stash: &mut Stash, buffers: usize) {
+    for _ in 0..stash.len() {
+        if stash.len() <= buffers {
+            return;
+        }
+        stash.take();
+    }
+}
