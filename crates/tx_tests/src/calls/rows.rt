@@ -267,27 +267,31 @@ fn second_words_are_those_of_the_datasheet(rt: HostRuntime) {
     come_out(&rt, rt.alloc(), 16, LONG)
 }
 
-/// The sizes of a new ring's ends, and the room in it.
-fn sizes(alloc: Global, n: u32, completion: Completion) -> Result<[u32; 3], RingError> {
-    let (_ring, driver, controller) = TxRing::new_with(alloc, n, completion)?;
-    Ok([driver.size(), controller.size(), driver.room()])
-}
-
-/// The same of a ring that is made without a word on how it reports.
-fn plain_sizes(alloc: Global, n: u32) -> Result<[u32; 3], RingError> {
-    let (_ring, driver, controller) = TxRing::new(alloc, n)?;
+/// The sizes of a new ring's ends, and the room in it. Of no completion it is one that is made without a word on how it
+/// reports.
+fn sizes(alloc: Global, n: u32, completion: Option<Completion>) -> Result<[u32; 3], RingError> {
+    let made = match completion {
+        Some(completion) => TxRing::new_with(alloc, n, completion),
+        None => TxRing::new(alloc, n),
+    };
+    let (_ring, driver, controller) = made?;
     Ok([driver.size(), controller.size(), driver.room()])
 }
 
 const LAWFUL: &[u32] = &[8, 16, 32, 64, 128, 256, 512, 1_024, 2_048, 4_096];
 
+/// A ring of such a length is made.
+fn is_made<R: Abort>(rt: &R, alloc: Global, n: u32, completion: Option<Completion>) {
+    let told = sizes(alloc, n, completion);
+    same(rt, told, Ok([n, n, n.wrapping_sub(1)]));
+}
+
 #[test]
 fn lawful_lengths_are_made(rt: HostRuntime) {
     for n in LAWFUL {
-        let wanted = Ok([*n, *n, n.wrapping_sub(1)]);
-        same(&rt, sizes(rt.alloc(), *n, Completion::Status), wanted);
-        same(&rt, sizes(rt.alloc(), *n, Completion::Head), wanted);
-        same(&rt, plain_sizes(rt.alloc(), *n), wanted);
+        is_made(&rt, rt.alloc(), *n, Some(Completion::Status));
+        is_made(&rt, rt.alloc(), *n, Some(Completion::Head));
+        is_made(&rt, rt.alloc(), *n, None);
     }
 }
 
@@ -295,7 +299,7 @@ const UNLAWFUL: &[u32] = &[0, 4, 7, 9, 12, 4_097, 8_192, u32::MAX];
 
 /// A ring of such a length is refused.
 fn is_refused<R: Abort>(rt: &R, alloc: Global, n: u32, completion: Completion) {
-    let told = sizes(alloc, n, completion);
+    let told = sizes(alloc, n, Some(completion));
     same(rt, (n, told), (n, Err(RingError::RingLength)));
 }
 
