@@ -226,15 +226,15 @@ fn is_made(queues: &mut Queues, line: &str) -> bool {
     }
 }
 
-// Who has place 0 of the first receive queue, and of the first transmit queue.
-fn sides(queues: &Queues) -> Option<(Owner, Owner)> {
-    let number = QueueNumber::new(0)?;
-    let receive = queues.receive(number)?;
-    let transmit = queues.transmit(number)?;
+// Place 0 of the first receive queue, and of the first transmit queue, is with these.
+fn are_with<R: Abort>(rt: &R, queues: &Queues, sides: (Owner, Owner)) -> bool {
+    let first = QueueNumber::new(0).expect(rt, "a number");
+    let receive = queues.receive(first).expect(rt, "a queue");
+    let transmit = queues.transmit(first).expect(rt, "a queue");
     if receive.size() < 8 || transmit.size() < 8 {
-        return None;
+        return false;
     }
-    Some((receive.owner(0), transmit.owner(0)))
+    receive.owner(0) == sides.0 && transmit.owner(0) == sides.1
 }
 
 // Whether there is no second pair of queues.
@@ -248,15 +248,10 @@ fn are_one_pair(queues: &Queues) -> bool {
 // A line, and who has these places after its move.
 type Given = (&'static str, Owner, Owner);
 
-// The first of these lines that is no move that is made, or after which the places are not with whom stands beside it.
-fn first_other(queues: &mut Queues, rows: &[Given]) -> Option<&'static str> {
-    for k in 0..rows.len() {
-        let (line, receive, transmit) = rows[k];
-        if !is_made(queues, line) || sides(queues) != Some((receive, transmit)) {
-            return Some(line);
-        }
-    }
-    None
+// The move of the line is made, and the places are with these after it.
+fn is_given<R: Abort>(rt: &R, queues: &mut Queues, (line, receive, transmit): Given) {
+    let is_given = is_made(queues, line) && are_with(rt, queues, (receive, transmit));
+    same(rt, (line, is_given), (line, true));
 }
 
 // From their drivers to a ring's two sides, and back.
@@ -277,34 +272,36 @@ const GIVEN: &[Given] = &[
     ("t0 B8", Owner::Driver, Owner::Driver),
 ];
 
+// Of new queues all places are with their drivers; then they are with whom stands beside each line.
+fn are_given<R: Abort>(rt: &R, queues: &mut Queues, rows: &[Given]) {
+    holds(rt, are_with(rt, queues, (Owner::Driver, Owner::Driver)));
+    for row in rows {
+        is_given(rt, queues, *row);
+    }
+}
+
 #[test]
 fn a_place_is_with_one_side(rt: HostRuntime) {
     let mut queues = Queues::new(rt.alloc(), 1, 8, true).expect(&rt, "queues");
-    holds(&rt, sides(&queues) == Some((Owner::Driver, Owner::Driver)));
-    same(&rt, first_other(&mut queues, GIVEN), None);
+    are_given(&rt, &mut queues, GIVEN);
     holds(&rt, are_one_pair(&queues));
+    drop(queues)
 }
 
-// The first of these lines that is no move that new queues make.
-fn first_unmade(
-    alloc: Global,
-    lines: &[&'static str],
-) -> Result<Option<&'static str>, MachineError> {
-    let mut queues = Queues::new(alloc, 2, 8, true)?;
+// Each of these lines is a move that is made.
+fn are_made<R: Abort>(rt: &R, queues: &mut Queues, lines: &[&str]) {
     for line in lines {
-        if !is_made(&mut queues, line) {
-            return Ok(Some(line));
-        }
+        same(rt, (*line, is_made(queues, line)), (*line, true));
     }
-    Ok(None)
 }
+
+const RECEIVES: &[&str] = &["r1 A1 5", "r1 A2", "r1 A3", "r1 A4", "r1 A5 60 1", "r1 A6"];
 
 // With any one allocation refused, as `rt try --test --fail-alloc N` does, this passes too.
 #[test]
 fn want_of_memory_is_13_and_changes_no_answer(rt: HostRuntime) {
-    let lines = ["r1 A1 5", "r1 A2", "r1 A3", "r1 A4", "r1 A5 60 1", "r1 A6"];
-    match first_unmade(rt.alloc(), &lines) {
-        Ok(unmade) => same(&rt, unmade, None),
+    match Queues::new(rt.alloc(), 2, 8, true) {
+        Ok(mut queues) => are_made(&rt, &mut queues, RECEIVES),
         Err(refused) => same(&rt, refused, MachineError::Memory),
     }
 }

@@ -34,7 +34,8 @@ fn is_printed<R: Abort, T: Display>(rt: &R, alloc: Global, printed: &T, wanted: 
 // The line begins with what is printed.
 fn begins_with<R: Abort, T: Display>(rt: &R, alloc: Global, line: &str, printed: &T) {
     let text = text_of(alloc, printed).expect(rt, "memory");
-    same(rt, (line, line.starts_with(text.as_str())), (line, true));
+    let begins = line.as_bytes().starts_with(text.as_bytes());
+    same(rt, (line, begins), (line, true));
 }
 
 // The line is this move's, both ways, and begins with its name.
@@ -231,60 +232,94 @@ fn lines_of_no_queue_are_refused(rt: HostRuntime) {
     same(&rt, first_move(OF_NO_QUEUE), None);
 }
 
+// What has bounds.
+#[derive(Clone, Copy)]
+enum Bounded {
+    // the bytes of a segment that is stored
+    Stored(u16),
+    // and of one that is posted
+    Posted(u16),
+    Paylen(u16),
+    // EOP and RS
+    Flags(bool, bool),
+    Queue(u8),
+}
+
 // Whether such a segment may be posted.
 fn may_be_posted(len: u16, eop: bool, rs: bool, paylen: u16) -> bool {
     SegmentDescriptor::new(7, len, eop, rs, paylen).is_some()
 }
 
-// A number, and whether it is lawful.
-type Bound = (u16, bool);
+fn is_lawful(bounded: Bounded) -> bool {
+    match bounded {
+        Bounded::Stored(len) => SegmentLength::new(len).is_some(),
+        Bounded::Posted(len) => may_be_posted(len, true, true, 60),
+        Bounded::Paylen(paylen) => may_be_posted(60, true, true, paylen),
+        Bounded::Flags(eop, rs) => may_be_posted(60, eop, rs, 60),
+        Bounded::Queue(number) => QueueNumber::new(number).is_some(),
+    }
+}
 
-const LENGTHS: &[Bound] = &[(0, false), (1, true), (2_048, true), (2_049, false)];
+// What has bounds, and whether it is lawful.
+type Bound = (Bounded, bool);
+
+// Each of these is lawful, or isn't, as the row of this number says.
+fn are_bounds<R: Abort>(rt: &R, rows: &[Bound]) {
+    for k in 0..rows.len() {
+        let (bounded, lawful) = rows[k];
+        same(rt, (k, is_lawful(bounded)), (k, lawful));
+    }
+}
+
+const LENGTHS: &[Bound] = &[
+    (Bounded::Stored(0), false),
+    (Bounded::Stored(1), true),
+    (Bounded::Stored(2_048), true),
+    (Bounded::Stored(2_049), false),
+    (Bounded::Posted(0), false),
+    (Bounded::Posted(1), true),
+    (Bounded::Posted(2_048), true),
+    (Bounded::Posted(2_049), false),
+];
 
 #[test]
 fn lengths_have_their_bounds(rt: HostRuntime) {
-    for (bytes, lawful) in LENGTHS {
-        let stored = SegmentLength::new(*bytes).is_some();
-        same(&rt, (*bytes, stored), (*bytes, *lawful));
-        let posted = may_be_posted(*bytes, true, true, 60);
-        same(&rt, (*bytes, posted), (*bytes, *lawful));
-    }
+    are_bounds(&rt, LENGTHS)
 }
 
-const PAYLENS: &[Bound] = &[(13, false), (14, true), (15_000, true), (15_001, false)];
+const PAYLENS: &[Bound] = &[
+    (Bounded::Paylen(13), false),
+    (Bounded::Paylen(14), true),
+    (Bounded::Paylen(15_000), true),
+    (Bounded::Paylen(15_001), false),
+];
 
 #[test]
 fn paylens_have_their_bounds(rt: HostRuntime) {
-    for (paylen, lawful) in PAYLENS {
-        let posted = may_be_posted(60, true, true, *paylen);
-        same(&rt, (*paylen, posted), (*paylen, *lawful));
-    }
+    are_bounds(&rt, PAYLENS)
 }
 
-// EOP, RS, and whether they are lawful together.
-const FLAGS: &[(bool, bool, bool)] = &[
-    (true, true, true),
-    (true, false, true),
-    (false, false, true),
-    (false, true, false),
+const FLAGS: &[Bound] = &[
+    (Bounded::Flags(true, true), true),
+    (Bounded::Flags(true, false), true),
+    (Bounded::Flags(false, false), true),
+    (Bounded::Flags(false, true), false),
 ];
 
 #[test]
 fn a_middle_segment_asks_for_no_report(rt: HostRuntime) {
-    for (eop, rs, lawful) in FLAGS {
-        let posted = may_be_posted(60, *eop, *rs, 60);
-        same(&rt, (*eop, *rs, posted), (*eop, *rs, *lawful));
-    }
+    are_bounds(&rt, FLAGS)
 }
 
-const NUMBERS: &[(u8, bool)] = &[(0, true), (7, true), (8, false)];
+const NUMBERS: &[Bound] = &[
+    (Bounded::Queue(0), true),
+    (Bounded::Queue(7), true),
+    (Bounded::Queue(8), false),
+];
 
 #[test]
 fn queues_are_numbered_from_0_to_7(rt: HostRuntime) {
-    for (number, lawful) in NUMBERS {
-        let is_there = QueueNumber::new(*number).is_some();
-        same(&rt, (*number, is_there), (*number, *lawful));
-    }
+    are_bounds(&rt, NUMBERS)
 }
 
 // A note, and how it is printed.
@@ -354,6 +389,14 @@ fn notes_of_a_segment_are_printed(rt: HostRuntime) {
     are_printed(&rt, rt.alloc(), OF_A_SEGMENT)
 }
 
+// Each of these refusals has this number, and is printed so.
+fn are_refusals<R: Abort>(rt: &R, alloc: Global, rows: &[(MachineError, u8, &str)]) {
+    for (refusal, number, words) in rows {
+        same(rt, refusal.number(), *number);
+        is_printed(rt, alloc, refusal, words);
+    }
+}
+
 const REFUSALS: &[(MachineError, u8, &str)] = &[
     (MachineError::NotEnabled, 11, "not enabled"),
     (MachineError::RingLength, 12, "ring length"),
@@ -363,8 +406,5 @@ const REFUSALS: &[(MachineError, u8, &str)] = &[
 
 #[test]
 fn refusals_are_printed(rt: HostRuntime) {
-    for (refusal, number, words) in REFUSALS {
-        same(&rt, refusal.number(), *number);
-        is_printed(&rt, rt.alloc(), refusal, words);
-    }
+    are_refusals(&rt, rt.alloc(), REFUSALS)
 }
