@@ -4,8 +4,8 @@ use crate::told::{holds, same};
 use ring_machine::{
     Completion, MachineError, Move, Owner, QueueNumber, Queues, RxMachine, RxStep, TxMachine,
 };
-use std::alloc::Global;
-use std::test::Fail;
+use std::alloc::{AllocError, Global};
+use std::process::Abort;
 
 // How it is refused, if it is.
 fn refusal<T: Drop>(made: Result<T, MachineError>) -> Option<MachineError> {
@@ -22,43 +22,76 @@ fn refusals(alloc: Global, n: usize, enabled: bool) -> [Option<MachineError>; 4]
     ]
 }
 
-#[test]
-fn each_lawful_length_is_made(rt: HostRuntime) {
-    for n in [8, 16, 32, 64, 128, 256, 512, 1_024, 2_048, 4_096] {
-        same(&rt, (n, refusals(rt.alloc(), n, true)), (n, [None; 4]));
-        same(&rt, (n, refusals(rt.alloc(), n, false)), (n, [None; 4]));
-    }
+const LAWFUL: &[usize] = &[8, 16, 32, 64, 128, 256, 512, 1_024, 2_048, 4_096];
+
+// Machines of this length that begin so are all refused so, or none is.
+fn are_refused<R: Abort>(
+    rt: &R,
+    alloc: Global,
+    n: usize,
+    enabled: bool,
+    wanted: Option<MachineError>,
+) {
+    let told = refusals(alloc, n, enabled);
+    same(rt, (n, told), (n, [wanted; 4]));
 }
 
 #[test]
-fn other_lengths_are_refused(rt: HostRuntime) {
-    let refused = [Some(MachineError::RingLength); 4];
-    for n in [0, 1, 4, 7, 9, 12, 4_095, 4_097, 8_192] {
-        same(&rt, (n, refusals(rt.alloc(), n, true)), (n, refused));
+fn each_lawful_length_is_made(rt: HostRuntime) {
+    for n in LAWFUL {
+        are_refused(&rt, rt.alloc(), *n, true, None);
+        are_refused(&rt, rt.alloc(), *n, false, None);
     }
+}
+
+const UNLAWFUL: &[usize] = &[0, 1, 4, 7, 9, 12, 4_095, 4_097, 8_192];
+
+#[test]
+fn other_lengths_are_refused(rt: HostRuntime) {
+    for n in UNLAWFUL {
+        are_refused(&rt, rt.alloc(), *n, true, Some(MachineError::RingLength));
+    }
+}
+
+// So many pairs of queues of this length that begin so are refused so, or not at all.
+fn are_pairs<R: Abort>(
+    rt: &R,
+    alloc: Global,
+    (pairs, n): (usize, usize),
+    enabled: bool,
+    wanted: Option<MachineError>,
+) {
+    let told = refusal(Queues::new(alloc, pairs, n, enabled));
+    same(rt, (pairs, n, told), (pairs, n, wanted));
 }
 
 #[test]
 fn one_to_eight_pairs_are_made(rt: HostRuntime) {
-    for pairs in [1, 2, 3, 4, 5, 6, 7, 8] {
-        let told = refusal(Queues::new(rt.alloc(), pairs, 8, false));
-        same(&rt, (pairs, told), (pairs, None));
+    for pairs in 1..=8 {
+        are_pairs(&rt, rt.alloc(), (pairs, 8), false, None);
     }
 }
+
+// How many pairs, and how many places.
+const NO_QUEUES: &[(usize, usize)] = &[(0, 8), (9, 8), (1, 12), (8, 12)];
 
 #[test]
 fn other_pairs_are_refused(rt: HostRuntime) {
-    let refused = Some(MachineError::RingLength);
-    for (pairs, n) in [(0, 8), (9, 8), (1, 12), (8, 12)] {
-        let told = refusal(Queues::new(rt.alloc(), pairs, n, true));
-        same(&rt, (pairs, n, told), (pairs, n, refused));
+    for pairs in NO_QUEUES {
+        are_pairs(
+            &rt,
+            rt.alloc(),
+            *pairs,
+            true,
+            Some(MachineError::RingLength),
+        );
     }
 }
 
-// The move of a line is made, and this is printed: its name, and its note or the refusal.
-fn printed(alloc: Global, queues: &mut Queues, line: &str) -> Result<String, Fail> {
+// The move of the line is made, and this is printed: its name, and its note or the refusal.
+fn printed(alloc: Global, queues: &mut Queues, line: &str) -> Result<String, AllocError> {
     let Ok(action) = Move::parse(line.as_bytes()) else {
-        return Err(Fail::new("no move"));
+        return String::from_str(alloc, "no move");
     };
     let name = action.name();
     match queues.step(action) {
@@ -70,29 +103,18 @@ fn printed(alloc: Global, queues: &mut Queues, line: &str) -> Result<String, Fai
 // A line, and what its move prints.
 type Row = (&'static str, &'static str);
 
-// The first of these lines that prints something else than what stands beside it.
-fn first_misprint(
-    alloc: Global,
-    queues: &mut Queues,
-    rows: &[Row],
-) -> Result<Option<&'static str>, Fail> {
-    for k in 0..rows.len() {
-        let (line, wanted) = rows[k];
-        if printed(alloc, queues, line)?.as_str() != wanted {
-            return Ok(Some(line));
-        }
-    }
-    Ok(None)
+// The move of the line prints this.
+fn prints<R: Abort>(rt: &R, alloc: Global, queues: &mut Queues, (line, wanted): Row) {
+    let told = printed(alloc, queues, line).expect(rt, "memory");
+    same(rt, (line, told.as_str()), (line, wanted));
 }
 
-// The same of one pair of queues of 8, enabled, whose transmit queue reports as told.
-fn misprint(
-    alloc: Global,
-    completion: Completion,
-    rows: &[Row],
-) -> Result<Option<&'static str>, Fail> {
-    let mut queues = Queues::new_with(alloc, 1, 8, true, completion)?;
-    first_misprint(alloc, &mut queues, rows)
+// Each line prints what stands beside it, on one pair of queues of 8, enabled, whose transmit queue reports as told.
+fn each_prints<R: Abort>(rt: &R, alloc: Global, completion: Completion, rows: &[Row]) {
+    let mut queues = Queues::new_with(alloc, 1, 8, true, completion).expect(rt, "queues");
+    for row in rows {
+        prints(rt, alloc, &mut queues, *row);
+    }
 }
 
 const RECEIVED: &[Row] = &[
@@ -113,13 +135,8 @@ const RECEIVED: &[Row] = &[
 ];
 
 #[test]
-fn receive_moves_print_their_notes(rt: HostRuntime) -> Result<(), Fail> {
-    same(
-        &rt,
-        misprint(rt.alloc(), Completion::Status, RECEIVED)?,
-        None,
-    );
-    Ok(())
+fn receive_moves_print_their_notes(rt: HostRuntime) {
+    each_prints(&rt, rt.alloc(), Completion::Status, RECEIVED)
 }
 
 // What is transmitted, where a report prints what stands here.
@@ -148,25 +165,16 @@ const BY_STATUS: &[Row] = &transmitted!("t0 B6 place 1");
 const BY_HEAD: &[Row] = &transmitted!("t0 B6 head 2");
 
 #[test]
-fn transmit_moves_print_their_notes(rt: HostRuntime) -> Result<(), Fail> {
-    same(
-        &rt,
-        misprint(rt.alloc(), Completion::Status, BY_STATUS)?,
-        None,
-    );
-    same(&rt, misprint(rt.alloc(), Completion::Head, BY_HEAD)?, None);
-    Ok(())
+fn transmit_moves_print_their_notes(rt: HostRuntime) {
+    each_prints(&rt, rt.alloc(), Completion::Status, BY_STATUS);
+    each_prints(&rt, rt.alloc(), Completion::Head, BY_HEAD)
 }
 
-// How many of these moves a pair of queues makes, and then how many of none.
-fn run_twice(
-    alloc: Global,
-    completion: Completion,
-    moves: &[Move],
-) -> Result<(usize, usize), MachineError> {
-    let mut queues = Queues::new_with(alloc, 1, 8, true, completion)?;
+// A pair of queues makes so many of these moves, and then none of none.
+fn makes<R: Abort>(rt: &R, alloc: Global, completion: Completion, moves: &[Move], wanted: usize) {
+    let mut queues = Queues::new_with(alloc, 1, 8, true, completion).expect(rt, "queues");
     let made = queues.run(moves);
-    Ok((made, queues.run(&[])))
+    same(rt, (made, queues.run(&[])), (wanted, 0));
 }
 
 // One frame each way, with a move that can't be made at the end of each way, and one of a queue that is not there.
@@ -204,12 +212,10 @@ fn moves_of(lines: &[&str; 17]) -> Option<[Move; 17]> {
 }
 
 #[test]
-fn run_answers_how_many_moves_it_made(rt: HostRuntime) -> Result<(), Fail> {
-    let moves = moves_of(&ONE_EACH_WAY).ok_or("no move")?;
-    for completion in [Completion::Status, Completion::Head] {
-        same(&rt, run_twice(rt.alloc(), completion, &moves), Ok((14, 0)));
-    }
-    Ok(())
+fn run_answers_how_many_moves_it_made(rt: HostRuntime) {
+    let moves = moves_of(&ONE_EACH_WAY).expect(&rt, "moves");
+    makes(&rt, rt.alloc(), Completion::Status, &moves, 14);
+    makes(&rt, rt.alloc(), Completion::Head, &moves, 14)
 }
 
 // Whether the move of a line is made.
@@ -220,15 +226,15 @@ fn is_made(queues: &mut Queues, line: &str) -> bool {
     }
 }
 
-// Who has place 0 of the first receive queue, and of the first transmit queue.
-fn sides(queues: &Queues) -> Option<(Owner, Owner)> {
-    let number = QueueNumber::new(0)?;
-    let receive = queues.receive(number)?;
-    let transmit = queues.transmit(number)?;
+// Place 0 of the first receive queue, and of the first transmit queue, is with these.
+fn are_with<R: Abort>(rt: &R, queues: &Queues, sides: (Owner, Owner)) -> bool {
+    let first = QueueNumber::new(0).expect(rt, "a number");
+    let receive = queues.receive(first).expect(rt, "a queue");
+    let transmit = queues.transmit(first).expect(rt, "a queue");
     if receive.size() < 8 || transmit.size() < 8 {
-        return None;
+        return false;
     }
-    Some((receive.owner(0), transmit.owner(0)))
+    receive.owner(0) == sides.0 && transmit.owner(0) == sides.1
 }
 
 // Whether there is no second pair of queues.
@@ -242,15 +248,10 @@ fn are_one_pair(queues: &Queues) -> bool {
 // A line, and who has these places after its move.
 type Given = (&'static str, Owner, Owner);
 
-// The first of these lines that is no move that is made, or after which the places are not with whom stands beside it.
-fn first_other(queues: &mut Queues, rows: &[Given]) -> Option<&'static str> {
-    for k in 0..rows.len() {
-        let (line, receive, transmit) = rows[k];
-        if !is_made(queues, line) || sides(queues) != Some((receive, transmit)) {
-            return Some(line);
-        }
-    }
-    None
+// The move of the line is made, and the places are with these after it.
+fn is_given<R: Abort>(rt: &R, queues: &mut Queues, (line, receive, transmit): Given) {
+    let is_given = is_made(queues, line) && are_with(rt, queues, (receive, transmit));
+    same(rt, (line, is_given), (line, true));
 }
 
 // From their drivers to a ring's two sides, and back.
@@ -271,35 +272,36 @@ const GIVEN: &[Given] = &[
     ("t0 B8", Owner::Driver, Owner::Driver),
 ];
 
-#[test]
-fn a_place_is_with_one_side(rt: HostRuntime) -> Result<(), Fail> {
-    let mut queues = Queues::new(rt.alloc(), 1, 8, true)?;
-    holds(&rt, sides(&queues) == Some((Owner::Driver, Owner::Driver)));
-    same(&rt, first_other(&mut queues, GIVEN), None);
-    holds(&rt, are_one_pair(&queues));
-    Ok(())
+// Of new queues all places are with their drivers; then they are with whom stands beside each line.
+fn are_given<R: Abort>(rt: &R, queues: &mut Queues, rows: &[Given]) {
+    holds(rt, are_with(rt, queues, (Owner::Driver, Owner::Driver)));
+    for row in rows {
+        is_given(rt, queues, *row);
+    }
 }
 
-// The first of these lines that is no move that new queues make.
-fn first_unmade(
-    alloc: Global,
-    lines: &[&'static str],
-) -> Result<Option<&'static str>, MachineError> {
-    let mut queues = Queues::new(alloc, 2, 8, true)?;
-    for line in lines {
-        if !is_made(&mut queues, line) {
-            return Ok(Some(line));
-        }
-    }
-    Ok(None)
+#[test]
+fn a_place_is_with_one_side(rt: HostRuntime) {
+    let mut queues = Queues::new(rt.alloc(), 1, 8, true).expect(&rt, "queues");
+    are_given(&rt, &mut queues, GIVEN);
+    holds(&rt, are_one_pair(&queues));
+    drop(queues)
 }
+
+// Each of these lines is a move that is made.
+fn are_made<R: Abort>(rt: &R, queues: &mut Queues, lines: &[&str]) {
+    for line in lines {
+        same(rt, (*line, is_made(queues, line)), (*line, true));
+    }
+}
+
+const RECEIVES: &[&str] = &["r1 A1 5", "r1 A2", "r1 A3", "r1 A4", "r1 A5 60 1", "r1 A6"];
 
 // With any one allocation refused, as `rt try --test --fail-alloc N` does, this passes too.
 #[test]
 fn want_of_memory_is_13_and_changes_no_answer(rt: HostRuntime) {
-    let lines = ["r1 A1 5", "r1 A2", "r1 A3", "r1 A4", "r1 A5 60 1", "r1 A6"];
-    match first_unmade(rt.alloc(), &lines) {
-        Ok(unmade) => same(&rt, unmade, None),
+    match Queues::new(rt.alloc(), 2, 8, true) {
+        Ok(mut queues) => are_made(&rt, &mut queues, RECEIVES),
         Err(refused) => same(&rt, refused, MachineError::Memory),
     }
 }

@@ -1,14 +1,14 @@
 //! Rows of the texts of moves and notes: what each line means, which lines are refused, and the printed words.
 
 use crate::steps::{RxNamed, TxNamed, rx_step, tx_step};
-use crate::told::same;
+use crate::told::{holds, same};
 use ring_machine::{
     ControlStep, FetchedSegment, MachineError, Move, Note, QueueNumber, RxStep, SegmentDescriptor,
     SegmentLength, TakenSegment, TxStep,
 };
-use std::alloc::Global;
+use std::alloc::{AllocError, Global};
 use std::fmt::Display;
-use std::test::Fail;
+use std::process::Abort;
 
 // A step of a receive queue of this number.
 fn rx(queue: u8, step: RxNamed) -> Option<Move> {
@@ -20,52 +20,50 @@ fn tx(queue: u8, step: TxNamed) -> Option<Move> {
     Some(Move::Transmit(QueueNumber::new(queue)?, tx_step(step)?))
 }
 
-// Whether it is printed so.
-fn is_printed<T: Display>(alloc: Global, printed: &T, wanted: &str) -> Result<bool, Fail> {
-    Ok(format!(in alloc; "{printed}")?.as_str() == wanted)
+// What is printed.
+fn text_of<T: Display>(alloc: Global, printed: &T) -> Result<String, AllocError> {
+    format!(in alloc; "{printed}")
 }
 
-// Whether the line begins with what is printed.
-fn begins_with<T: Display>(alloc: Global, line: &str, printed: &T) -> Result<bool, Fail> {
-    Ok(line.starts_with(format!(in alloc; "{printed}")?.as_str()))
+// It is printed so.
+fn is_printed<R: Abort, T: Display>(rt: &R, alloc: Global, printed: &T, wanted: &str) {
+    let text = text_of(alloc, printed).expect(rt, "memory");
+    same(rt, text.as_str(), wanted);
 }
 
-// Whether the line is this move's, both ways, and begins with its name.
-fn is_line_of(alloc: Global, line: &str, wanted: Option<Move>) -> Result<bool, Fail> {
-    let Ok(read) = Move::parse(line.as_bytes()) else {
-        return Ok(false);
-    };
-    if Some(read) != wanted || !begins_with(alloc, line, &read.name())? {
-        return Ok(false);
-    }
-    is_printed(alloc, &read, line)
+// The line begins with what is printed.
+fn begins_with<R: Abort, T: Display>(rt: &R, alloc: Global, line: &str, printed: &T) {
+    let text = text_of(alloc, printed).expect(rt, "memory");
+    let begins = line.as_bytes().starts_with(text.as_bytes());
+    same(rt, (line, begins), (line, true));
+}
+
+// The line is this move's, both ways, and begins with its name.
+fn is_line_of<R: Abort>(rt: &R, alloc: Global, line: &str, wanted: Option<Move>) {
+    let read = Move::parse(line.as_bytes()).ok();
+    holds(rt, read == wanted);
+    let read = read.expect(rt, line);
+    begins_with(rt, alloc, line, &read.name());
+    is_printed(rt, alloc, &read, line)
 }
 
 // A line of the receive queue of this number, and its step.
 type RxLine = (&'static str, u8, RxNamed);
 
-// The first of these lines that is not the move beside it.
-fn first_other_rx(alloc: Global, rows: &[RxLine]) -> Result<Option<&'static str>, Fail> {
-    for k in 0..rows.len() {
-        let (line, queue, step) = rows[k];
-        if !is_line_of(alloc, line, rx(queue, step))? {
-            return Ok(Some(line));
-        }
+// Each of these lines is the move beside it.
+fn are_lines_rx<R: Abort>(rt: &R, alloc: Global, rows: &[RxLine]) {
+    for (line, queue, step) in rows {
+        is_line_of(rt, alloc, line, rx(*queue, *step));
     }
-    Ok(None)
 }
 
 // The same of a transmit queue.
 type TxLine = (&'static str, u8, TxNamed);
 
-fn first_other_tx(alloc: Global, rows: &[TxLine]) -> Result<Option<&'static str>, Fail> {
-    for k in 0..rows.len() {
-        let (line, queue, step) = rows[k];
-        if !is_line_of(alloc, line, tx(queue, step))? {
-            return Ok(Some(line));
-        }
+fn are_lines_tx<R: Abort>(rt: &R, alloc: Global, rows: &[TxLine]) {
+    for (line, queue, step) in rows {
+        is_line_of(rt, alloc, line, tx(*queue, *step));
     }
-    Ok(None)
 }
 
 const RECEIVE: &[RxLine] = &[
@@ -81,9 +79,8 @@ const RECEIVE: &[RxLine] = &[
 ];
 
 #[test]
-fn lines_of_receive_queues_are_read_and_printed(rt: HostRuntime) -> Result<(), Fail> {
-    same(&rt, first_other_rx(rt.alloc(), RECEIVE)?, None);
-    Ok(())
+fn lines_of_receive_queues_are_read_and_printed(rt: HostRuntime) {
+    are_lines_rx(&rt, rt.alloc(), RECEIVE)
 }
 
 const RECEIVE_CONTROLS: &[RxLine] = &[
@@ -101,9 +98,8 @@ const RECEIVE_CONTROLS: &[RxLine] = &[
 ];
 
 #[test]
-fn lines_of_receive_queues_controls_are_read_and_printed(rt: HostRuntime) -> Result<(), Fail> {
-    same(&rt, first_other_rx(rt.alloc(), RECEIVE_CONTROLS)?, None);
-    Ok(())
+fn lines_of_receive_queues_controls_are_read_and_printed(rt: HostRuntime) {
+    are_lines_rx(&rt, rt.alloc(), RECEIVE_CONTROLS)
 }
 
 const TRANSMIT: &[TxLine] = &[
@@ -127,9 +123,8 @@ const TRANSMIT: &[TxLine] = &[
 ];
 
 #[test]
-fn lines_of_transmit_queues_are_read_and_printed(rt: HostRuntime) -> Result<(), Fail> {
-    same(&rt, first_other_tx(rt.alloc(), TRANSMIT)?, None);
-    Ok(())
+fn lines_of_transmit_queues_are_read_and_printed(rt: HostRuntime) {
+    are_lines_tx(&rt, rt.alloc(), TRANSMIT)
 }
 
 const TRANSMIT_CONTROLS: &[TxLine] = &[
@@ -145,9 +140,8 @@ const TRANSMIT_CONTROLS: &[TxLine] = &[
 ];
 
 #[test]
-fn lines_of_transmit_queues_controls_are_read_and_printed(rt: HostRuntime) -> Result<(), Fail> {
-    same(&rt, first_other_tx(rt.alloc(), TRANSMIT_CONTROLS)?, None);
-    Ok(())
+fn lines_of_transmit_queues_controls_are_read_and_printed(rt: HostRuntime) {
+    are_lines_tx(&rt, rt.alloc(), TRANSMIT_CONTROLS)
 }
 
 // Whether the line is refused as no move.
@@ -238,70 +232,104 @@ fn lines_of_no_queue_are_refused(rt: HostRuntime) {
     same(&rt, first_move(OF_NO_QUEUE), None);
 }
 
+// What has bounds.
+#[derive(Clone, Copy)]
+enum Bounded {
+    // the bytes of a segment that is stored
+    Stored(u16),
+    // and of one that is posted
+    Posted(u16),
+    Paylen(u16),
+    // EOP and RS
+    Flags(bool, bool),
+    Queue(u8),
+}
+
 // Whether such a segment may be posted.
 fn may_be_posted(len: u16, eop: bool, rs: bool, paylen: u16) -> bool {
     SegmentDescriptor::new(7, len, eop, rs, paylen).is_some()
 }
 
-#[test]
-fn lengths_have_their_bounds(rt: HostRuntime) {
-    for (bytes, lawful) in [(0, false), (1, true), (2_048, true), (2_049, false)] {
-        let stored = SegmentLength::new(bytes).is_some();
-        let posted = may_be_posted(bytes, true, true, 60);
-        same(&rt, (bytes, stored, posted), (bytes, lawful, lawful));
+fn is_lawful(bounded: Bounded) -> bool {
+    match bounded {
+        Bounded::Stored(len) => SegmentLength::new(len).is_some(),
+        Bounded::Posted(len) => may_be_posted(len, true, true, 60),
+        Bounded::Paylen(paylen) => may_be_posted(60, true, true, paylen),
+        Bounded::Flags(eop, rs) => may_be_posted(60, eop, rs, 60),
+        Bounded::Queue(number) => QueueNumber::new(number).is_some(),
     }
 }
+
+// What has bounds, and whether it is lawful.
+type Bound = (Bounded, bool);
+
+// Each of these is lawful, or isn't, as the row of this number says.
+fn are_bounds<R: Abort>(rt: &R, rows: &[Bound]) {
+    for k in 0..rows.len() {
+        let (bounded, lawful) = rows[k];
+        same(rt, (k, is_lawful(bounded)), (k, lawful));
+    }
+}
+
+const LENGTHS: &[Bound] = &[
+    (Bounded::Stored(0), false),
+    (Bounded::Stored(1), true),
+    (Bounded::Stored(2_048), true),
+    (Bounded::Stored(2_049), false),
+    (Bounded::Posted(0), false),
+    (Bounded::Posted(1), true),
+    (Bounded::Posted(2_048), true),
+    (Bounded::Posted(2_049), false),
+];
+
+#[test]
+fn lengths_have_their_bounds(rt: HostRuntime) {
+    are_bounds(&rt, LENGTHS)
+}
+
+const PAYLENS: &[Bound] = &[
+    (Bounded::Paylen(13), false),
+    (Bounded::Paylen(14), true),
+    (Bounded::Paylen(15_000), true),
+    (Bounded::Paylen(15_001), false),
+];
 
 #[test]
 fn paylens_have_their_bounds(rt: HostRuntime) {
-    for (paylen, lawful) in [(13, false), (14, true), (15_000, true), (15_001, false)] {
-        same(
-            &rt,
-            (paylen, may_be_posted(60, true, true, paylen)),
-            (paylen, lawful),
-        );
-    }
+    are_bounds(&rt, PAYLENS)
 }
+
+const FLAGS: &[Bound] = &[
+    (Bounded::Flags(true, true), true),
+    (Bounded::Flags(true, false), true),
+    (Bounded::Flags(false, false), true),
+    (Bounded::Flags(false, true), false),
+];
 
 #[test]
 fn a_middle_segment_asks_for_no_report(rt: HostRuntime) {
-    for (eop, rs, lawful) in [
-        (true, true, true),
-        (true, false, true),
-        (false, false, true),
-        (false, true, false),
-    ] {
-        same(
-            &rt,
-            (eop, rs, may_be_posted(60, eop, rs, 60)),
-            (eop, rs, lawful),
-        );
-    }
+    are_bounds(&rt, FLAGS)
 }
+
+const NUMBERS: &[Bound] = &[
+    (Bounded::Queue(0), true),
+    (Bounded::Queue(7), true),
+    (Bounded::Queue(8), false),
+];
 
 #[test]
 fn queues_are_numbered_from_0_to_7(rt: HostRuntime) {
-    for (number, lawful) in [(0, true), (7, true), (8, false)] {
-        same(
-            &rt,
-            (number, QueueNumber::new(number).is_some()),
-            (number, lawful),
-        );
-    }
+    are_bounds(&rt, NUMBERS)
 }
 
 // A note, and how it is printed.
 type Printed = (Note, &'static str);
 
-// The first of these notes that is printed otherwise.
-fn first_other_note(alloc: Global, rows: &[Printed]) -> Result<Option<&'static str>, Fail> {
-    for k in 0..rows.len() {
-        let (note, line) = rows[k];
-        if !is_printed(alloc, &note, line)? {
-            return Ok(Some(line));
-        }
+// Each of these notes is printed so.
+fn are_printed<R: Abort>(rt: &R, alloc: Global, rows: &[Printed]) {
+    for (note, line) in rows {
+        is_printed(rt, alloc, note, line);
     }
-    Ok(None)
 }
 
 const OF_A_NUMBER: &[Printed] = &[
@@ -318,9 +346,8 @@ const OF_A_NUMBER: &[Printed] = &[
 ];
 
 #[test]
-fn notes_of_a_number_are_printed(rt: HostRuntime) -> Result<(), Fail> {
-    same(&rt, first_other_note(rt.alloc(), OF_A_NUMBER)?, None);
-    Ok(())
+fn notes_of_a_number_are_printed(rt: HostRuntime) {
+    are_printed(&rt, rt.alloc(), OF_A_NUMBER)
 }
 
 const TAKEN: TakenSegment = TakenSegment {
@@ -358,9 +385,16 @@ const OF_A_SEGMENT: &[Printed] = &[
 ];
 
 #[test]
-fn notes_of_a_segment_are_printed(rt: HostRuntime) -> Result<(), Fail> {
-    same(&rt, first_other_note(rt.alloc(), OF_A_SEGMENT)?, None);
-    Ok(())
+fn notes_of_a_segment_are_printed(rt: HostRuntime) {
+    are_printed(&rt, rt.alloc(), OF_A_SEGMENT)
+}
+
+// Each of these refusals has this number, and is printed so.
+fn are_refusals<R: Abort>(rt: &R, alloc: Global, rows: &[(MachineError, u8, &str)]) {
+    for (refusal, number, words) in rows {
+        same(rt, refusal.number(), *number);
+        is_printed(rt, alloc, refusal, words);
+    }
 }
 
 const REFUSALS: &[(MachineError, u8, &str)] = &[
@@ -371,14 +405,6 @@ const REFUSALS: &[(MachineError, u8, &str)] = &[
 ];
 
 #[test]
-fn refusals_are_printed(rt: HostRuntime) -> Result<(), Fail> {
-    for (refusal, number, words) in REFUSALS {
-        same(&rt, refusal.number(), *number);
-        same(
-            &rt,
-            (*words, is_printed(rt.alloc(), refusal, words)?),
-            (*words, true),
-        );
-    }
-    Ok(())
+fn refusals_are_printed(rt: HostRuntime) {
+    are_refusals(&rt, rt.alloc(), REFUSALS)
 }

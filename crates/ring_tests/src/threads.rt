@@ -9,8 +9,8 @@ use buffer_pool::{Buf, Stash};
 use hands::{ask_for, fetch, fill_ring, left, receive, reclaim_all, renew, serve};
 use rx_ring::{Control, RxControllerEnd, RxDriverEnd, RxRing, close, meet_rx};
 use std::alloc::Global;
+use std::process::Abort;
 use std::sync::Wait;
-use std::test::Fail;
 use std::thread;
 use std::thread::Threads;
 use test_kit::{Closed, full_stash};
@@ -47,6 +47,22 @@ impl Driven {
         back: 0,
         epochs: 0,
     };
+}
+
+/// A driver's end with the buffers at hand, and what its thread has to tell.
+#[derive(Drop)]
+struct Driving {
+    end: RxDriverEnd,
+    spare: Stash,
+    told: Driven,
+}
+
+/// A controller's end with the buffer that it holds, and how many frames it stored in the last epoch.
+#[derive(Drop)]
+struct Serving {
+    end: RxControllerEnd,
+    held: Option<Buf>,
+    stored: u32,
 }
 
 /// One epoch of a driver: the queue is enabled, used and disabled, and the buffers come back.
@@ -111,22 +127,16 @@ fn drive_on<R: Wait>(
 }
 
 /// The driver's side of the plan.
-fn drive<R: Wait>(
-    rt: &R,
-    ring: &RxRing,
-    mut driver: RxDriverEnd,
-    mut spare: Stash,
-    plan: Plan,
-) -> (RxDriverEnd, Stash, Driven)
-    requires own { driver.table ≡ ring.now }
-    requires fresh { reclaimed driver ≡ 0 }
-    ensures { result.0.table ≡ ring.now }
+fn drive<R: Wait>(rt: &R, ring: &RxRing, mut side: Driving, plan: Plan) -> Driving
+    requires own { side.end.table ≡ ring.now }
+    requires fresh { reclaimed side.end ≡ 0 }
+    ensures { result.end.table ≡ ring.now }
 {
-    let told = match plan {
-        Plan::Epochs(epochs) => drive_epochs(rt, ring, &mut driver, &mut spare, epochs),
-        Plan::On(_, takes) => drive_on(rt, ring, &mut driver, &mut spare, takes),
+    side.told = match plan {
+        Plan::Epochs(epochs) => drive_epochs(rt, ring, &mut side.end, &mut side.spare, epochs),
+        Plan::On(_, takes) => drive_on(rt, ring, &mut side.end, &mut side.spare, takes),
     };
-    (driver, spare, told)
+    side
 }
 
 /// The controller's side of so many epochs: how many frames it stored in the last.
@@ -160,27 +170,19 @@ fn fetch_when_free<R: Wait>(rt: &R, ring: &RxRing, controller: &mut RxController
     unreachable!()
 }
 
-/// The controller's side of the plan: how many frames it stored, and what it holds.
-fn control<R: Wait>(
-    rt: &R,
-    ring: &RxRing,
-    mut controller: RxControllerEnd,
-    plan: Plan,
-) -> (RxControllerEnd, u32, Option<Buf>)
-    requires { controller.table ≡ ring.now }
-    ensures { result.0.table ≡ ring.now }
+/// The controller's side of the plan.
+fn control<R: Wait>(rt: &R, ring: &RxRing, mut side: Serving, plan: Plan) -> Serving
+    requires { side.end.table ≡ ring.now }
+    ensures { result.end.table ≡ ring.now }
 {
     match plan {
-        Plan::Epochs(epochs) => {
-            let stored = control_epochs(rt, ring, &mut controller, epochs);
-            (controller, stored, None)
-        }
+        Plan::Epochs(epochs) => side.stored = control_epochs(rt, ring, &mut side.end, epochs),
         Plan::On(stores, _) => {
-            let stored = serve(rt, ring, &mut controller, stores);
-            let held = fetch_when_free(rt, ring, &mut controller);
-            (controller, stored, Some(held))
+            side.stored = serve(rt, ring, &mut side.end, stores);
+            side.held = Some(fetch_when_free(rt, ring, &mut side.end));
         }
     }
+    side
 }
 
 /// What the closed ring gave back.
@@ -216,67 +218,94 @@ struct Ran {
     back: Back,
 }
 
-/// Runs both ends, joins their threads, and closes the ring.
-fn run_ends<R: Threads + Wait + Sync>(
+/// Each side of the plan in a thread of its own.
+fn join_both<R: Threads + Wait + Sync>(
     rt: &R,
-    ring: RxRing,
-    ends: (RxDriverEnd, RxControllerEnd),
-    spare: Stash,
+    ring: &RxRing,
+    serving: Serving,
+    driving: Driving,
     plan: Plan,
-) -> Ran
-    requires drives { ends.0.table ≡ ring }
-    requires serves { ends.1.table ≡ ring }
-    requires fresh { reclaimed ends.0 ≡ 0 }
+) -> (Serving, Driving)
+    requires serves { serving.end.table ≡ ring.now }
+    requires drives { driving.end.table ≡ ring.now }
+    requires fresh { reclaimed driving.end ≡ 0 }
+    ensures serves { result.0.end.table ≡ ring.now }
+    ensures drives { result.1.end.table ≡ ring.now }
 {
-    let (driver, controller) = ends;
-    let ((mut controller, stored, held), (mut driver, spare, told)) = thread::join(
+    thread::join(
         rt,
-        || control(rt, &ring, controller, plan),
-        || drive(rt, &ring, driver, spare, plan),
-    );
+        || control(rt, ring, serving, plan),
+        || drive(rt, ring, driving, plan),
+    )
+}
+
+/// Lets the ends meet where the queue was disabled.
+fn meet(ring: &RxRing, serving: &mut Serving, driving: &mut Driving, plan: Plan)
+    requires serves { serving.old.end.table ≡ ring.now }
+    requires drives { driving.old.end.table ≡ ring.now }
+    ensures serves { serving.new.end.table ≡ ring.now }
+    ensures drives { driving.new.end.table ≡ ring.now }
+{
     if let Plan::Epochs(_) = plan {
-        meet_rx(&ring, &mut driver, &mut controller);
+        meet_rx(ring, &mut driving.end, &mut serving.end);
     }
-    let closed = Closed::of(close(ring, driver, controller), spare, held);
+}
+
+/// Closes the ring.
+fn close_both(ring: RxRing, serving: Serving, driving: Driving) -> Ran
+    requires serves { serving.end.table ≡ ring }
+    requires drives { driving.end.table ≡ ring }
+{
+    let (told, stored) = (driving.told, serving.stored);
+    let slots = close(ring, driving.end, serving.end);
     Ran {
         told,
         stored,
-        back: Back::of(closed),
+        back: Back::of(Closed::of(slots, driving.spare, serving.held)),
     }
 }
 
-/// The same of a new ring of 8 and 16 buffers.
-fn run<R: Threads + Wait + Sync>(rt: &R, alloc: Global, plan: Plan) -> Result<Ran, Fail> {
-    let spare = full_stash(alloc, 16)?;
-    let (ring, driver, controller) = RxRing::new(alloc, 8)?;
-    Ok(run_ends(rt, ring, (driver, controller), spare, plan))
+/// Both sides of a new ring of 8 and 16 buffers, each in a thread of its own until both are done; then the ring is closed.
+fn run<R: Threads + Wait + Sync + Abort>(rt: &R, alloc: Global, plan: Plan) -> Ran {
+    let spare = full_stash(alloc, 16).expect(rt, "buffers");
+    let (ring, driver, controller) = RxRing::new(alloc, 8).expect(rt, "a ring");
+    let driving = Driving {
+        end: driver,
+        spare,
+        told: Driven::NOTHING,
+    };
+    let serving = Serving {
+        end: controller,
+        held: None,
+        stored: 0,
+    };
+    let (mut serving, mut driving) = join_both(rt, &ring, serving, driving, plan);
+    meet(&ring, &mut serving, &mut driving, plan);
+    close_both(ring, serving, driving)
 }
 
 #[test]
-fn stop_while_running(rt: HostRuntime) -> Result<(), Fail> {
-    let Ran { told, stored, .. } = run(&rt, rt.alloc(), Plan::Epochs(1))?;
+fn stop_while_running(rt: HostRuntime) {
+    let Ran { told, stored, .. } = run(&rt, rt.alloc(), Plan::Epochs(1));
     same(&rt, (told.good, told.back), (FRAMES, 7));
     same(&rt, told.left, stored.checked_sub(FRAMES));
     holds(&rt, told.left.is_some());
-    Ok(())
 }
 
 #[test]
-fn three_epochs(rt: HostRuntime) -> Result<(), Fail> {
-    let Ran { told, back, .. } = run(&rt, rt.alloc(), Plan::Epochs(3))?;
+fn three_epochs(rt: HostRuntime) {
+    let Ran { told, back, .. } = run(&rt, rt.alloc(), Plan::Epochs(3));
     same(
         &rt,
         (told.good, told.back, told.epochs),
         (3 * FRAMES, 21, 3),
     );
     same(&rt, (back.lying, back.is_whole), (0, true));
-    Ok(())
 }
 
 #[test]
-fn closed(rt: HostRuntime) -> Result<(), Fail> {
-    let Ran { told, back, .. } = run(&rt, rt.alloc(), Plan::On(45, 40))?;
+fn closed(rt: HostRuntime) {
+    let Ran { told, back, .. } = run(&rt, rt.alloc(), Plan::On(45, 40));
     same(&rt, (told.good, back.at_hand, back.held), (40, 9, true));
     same(&rt, (back.lying, back.is_whole), (6, true));
-    Ok(())
 }

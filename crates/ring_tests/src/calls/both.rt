@@ -17,7 +17,7 @@ use rx_ring::{
     ControllerEnd, DriverEnd, Poll, RxControllerEnd, RxDriverEnd, RxRing, close, meet_rx,
 };
 use std::alloc::Global;
-use std::test::Fail;
+use std::process::Abort;
 use test_kit::{
     BUFFERS, Beside, Closed, Random, filled, full_stash, is_filled, put_back, random_control,
     renewed, shake,
@@ -54,18 +54,13 @@ pub(crate) struct Both {
     ghost none_back: { untouched ≡ true → reclaimed driver ≡ 0 },
 }
 
-/// The machine of so many places, and all buffers.
-fn beside(alloc: Global, n: u32) -> Result<(RxMachine, Stash), Fail> {
-    let machine = RxMachine::new(alloc, n as usize, false)?;
-    Ok((machine, full_stash(alloc, BUFFERS)?))
-}
-
 impl Both {
     /// A ring of so many places that is not enabled, and all buffers at hand.
-    pub(crate) fn new(alloc: Global, n: u32) -> Result<Both, Fail> {
-        let (machine, spare) = beside(alloc, n)?;
-        let (ring, driver, controller) = RxRing::new(alloc, n)?;
-        Ok(Both {
+    pub(crate) fn new<R: Abort>(rt: &R, alloc: Global, n: u32) -> Both {
+        let machine = RxMachine::new(alloc, n as usize, false).expect(rt, "a machine");
+        let spare = full_stash(alloc, BUFFERS).expect(rt, "buffers");
+        let (ring, driver, controller) = RxRing::new(alloc, n).expect(rt, "a ring");
+        Both {
             ring,
             driver,
             controller,
@@ -78,7 +73,7 @@ impl Both {
             segments: 0,
             bytes: 0,
             untouched: true,
-        })
+        }
     }
 
     fn post(&mut self) -> Option<Note> {

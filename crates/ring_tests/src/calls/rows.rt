@@ -7,7 +7,7 @@ use buffer_pool::Buf;
 use ring_model::{ControlStep, Note, RxStep, TakenSegment};
 use rx_ring::{ControllerEnd, DriverEnd, RingError, RxDriverEnd, RxRing};
 use std::alloc::Global;
-use std::test::Fail;
+use std::process::Abort;
 use test_kit::{Beside, Tells, disable, enable, told_so};
 
 /// What a row does on a ring, or looks at.
@@ -179,9 +179,11 @@ fn walked<B: Beside + Drop + Tells<Step = Act, Told = Told>>(
     (told, empty_place(&both.close().slots))
 }
 
-/// The same of a new ring of 8.
-fn comes_to(alloc: Global, rows: &[Row]) -> Result<(usize, Option<usize>), Fail> {
-    Ok(walked(Both::new(alloc, 8)?, rows))
+/// On a new ring of 8 each row tells what it should: the place that alone was empty when it was closed then.
+fn comes_to<R: Abort>(rt: &R, alloc: Global, rows: &[Row]) -> Option<usize> {
+    let (told, place) = walked(Both::new(rt, alloc, 8), rows);
+    same(rt, told, rows.len());
+    place
 }
 
 /// The head is 5 then, as the place to take next.
@@ -196,9 +198,8 @@ const ROUND: &[Row] = &[
 ];
 
 #[test]
-fn frames_with_heads_go_round(rt: HostRuntime) -> Result<(), Fail> {
-    same(&rt, comes_to(rt.alloc(), ROUND)?, (ROUND.len(), Some(4)));
-    Ok(())
+fn frames_with_heads_go_round(rt: HostRuntime) {
+    same(&rt, comes_to(&rt, rt.alloc(), ROUND), Some(4));
 }
 
 /// The step can't be made.
@@ -253,9 +254,8 @@ const SHAKEN: &[Row] = &[
 ];
 
 #[test]
-fn enabling_and_disabling_by_calls(rt: HostRuntime) -> Result<(), Fail> {
-    same(&rt, comes_to(rt.alloc(), SHAKEN)?.0, SHAKEN.len());
-    Ok(())
+fn enabling_and_disabling_by_calls(rt: HostRuntime) {
+    comes_to(&rt, rt.alloc(), SHAKEN);
 }
 
 /// The first buffer that was posted, with a whole frame of 60 bytes.
@@ -287,9 +287,8 @@ const TWO_LEFT: &[Row] = &[
 ];
 
 #[test]
-fn disabled_with_two_left(rt: HostRuntime) -> Result<(), Fail> {
-    same(&rt, comes_to(rt.alloc(), TWO_LEFT)?.0, TWO_LEFT.len());
-    Ok(())
+fn disabled_with_two_left(rt: HostRuntime) {
+    comes_to(&rt, rt.alloc(), TWO_LEFT);
 }
 
 /// A queue can't be said quiet before it is enabled. What is left of a quiet one is still taken, and nothing more stored.
@@ -322,9 +321,8 @@ const QUIET: &[Row] = &[
 ];
 
 #[test]
-fn quiet_by_calls(rt: HostRuntime) -> Result<(), Fail> {
-    same(&rt, comes_to(rt.alloc(), QUIET)?.0, QUIET.len());
-    Ok(())
+fn quiet_by_calls(rt: HostRuntime) {
+    comes_to(&rt, rt.alloc(), QUIET);
 }
 
 /// The sizes of a new ring's ends, the room in it, and how many descriptors are free.
@@ -338,36 +336,34 @@ fn sizes(alloc: Global, n: u32) -> Result<[u32; 4], RingError> {
     ])
 }
 
+const LAWFUL: &[u32] = &[8, 16, 32, 64, 128, 256, 512, 1_024, 2_048, 4_096];
+
 #[test]
 fn lawful_lengths_are_made(rt: HostRuntime) {
-    for n in [8u32, 16, 32, 64, 128, 256, 512, 1_024, 2_048, 4_096] {
-        same(&rt, sizes(rt.alloc(), n), Ok([n, n, n.wrapping_sub(1), 0]));
+    for n in LAWFUL {
+        let wanted = [*n, *n, n.wrapping_sub(1), 0];
+        same(&rt, (*n, sizes(rt.alloc(), *n)), (*n, Ok(wanted)));
     }
 }
+
+const UNLAWFUL: &[u32] = &[0, 1, 4, 7, 9, 12, 4_095, 4_097, 8_192, u32::MAX];
 
 #[test]
 fn other_lengths_are_refused(rt: HostRuntime) {
-    for n in [0, 1, 4, 7, 9, 12, 4_095, 4_097, 8_192, u32::MAX] {
-        same(
-            &rt,
-            (n, sizes(rt.alloc(), n)),
-            (n, Err(RingError::RingLength)),
-        );
+    for n in UNLAWFUL {
+        let refused = Err(RingError::RingLength);
+        same(&rt, (*n, sizes(rt.alloc(), *n)), (*n, refused));
     }
 }
 
 #[test]
-fn refusals_have_numbers_and_words(rt: HostRuntime) -> Result<(), Fail> {
+fn refusals_have_numbers_and_words(rt: HostRuntime) {
     let refusal = RingError::RingLength;
     same(
         &rt,
         (refusal.number(), RingError::Memory.number()),
         (21, 22),
     );
-    same(
-        &rt,
-        format!(in rt.alloc(); "{refusal}")?.as_str(),
-        "ring length",
-    );
-    Ok(())
+    let words = format!(in rt.alloc(); "{refusal}").expect(&rt, "memory");
+    same(&rt, words.as_str(), "ring length");
 }

@@ -5,11 +5,11 @@ use crate::steps::{RxNamed, rx_step};
 use crate::told::{holds, same};
 use ring_model::{ControlStep, RxStep};
 use std::alloc::Global;
-use std::test::Fail;
+use std::process::Abort;
 use test_kit::{Beside, Random, Survey, Walk};
 
 // The list of a frame of two segments, whose queue is disabled and reclaimed, without the asking for it.
-const LIST: [RxNamed; 19] = [
+const LIST: &[RxNamed] = &[
     RxStep::Post(0),
     RxStep::Post(0),
     RxStep::Publish,
@@ -31,7 +31,7 @@ const LIST: [RxNamed; 19] = [
     RxStep::Reclaim,
 ];
 
-const ENABLING: [RxNamed; 4] = [
+const ENABLING: &[RxNamed] = &[
     RxStep::Control(ControlStep::AskEnable),
     RxStep::Control(ControlStep::LookAsked),
     RxStep::Control(ControlStep::Answer),
@@ -54,7 +54,7 @@ fn walks<B: Beside<Step = Step> + Drop>(walk: &mut Walk<B>, steps: &[RxNamed]) -
 fn made_with<B: Beside<Step = Step> + Drop>(both: B, index: usize) -> Option<usize> {
     let mut walk = Walk::new(both);
     let (before, after) = LIST.split_at(index.min(LIST.len()));
-    let agree = walks(&mut walk, &ENABLING)
+    let agree = walks(&mut walk, ENABLING)
         && walks(&mut walk, before)
         && walks(&mut walk, &[RxStep::Control(ControlStep::AskDisable)])
         && walks(&mut walk, after);
@@ -67,7 +67,7 @@ fn made_with<B: Beside<Step = Step> + Drop>(both: B, index: usize) -> Option<usi
 }
 
 #[test]
-fn at_every_step(rt: HostRuntime) -> Result<(), Fail> {
+fn at_every_step(rt: HostRuntime) {
     for index in 0..20 {
         let wanted = match index {
             0 => 6,
@@ -76,27 +76,25 @@ fn at_every_step(rt: HostRuntime) -> Result<(), Fail> {
             3..=7 => 16,
             _ => 14,
         };
-        let made = made_with(Both::new(rt.alloc(), 8)?, index);
+        let made = made_with(Both::new(&rt, rt.alloc(), 8), index);
         same(&rt, (index, made), (index, Some(wanted)));
     }
-    Ok(())
 }
 
 // A thousand schedules on rings of 8 and 16: the first on which the ring and its machine differ.
-fn first_differing(alloc: Global, survey: &mut Survey) -> Result<Option<u32>, Fail> {
+fn first_differing<R: Abort>(rt: &R, alloc: Global, survey: &mut Survey) -> Option<u32> {
     for schedule in 0..1_000u32 {
         let n = if schedule % 2 == 0 { 8 } else { 16 };
-        if !survey.agrees(Both::new(alloc, n)?) {
-            return Ok(Some(schedule));
+        if !survey.agrees(Both::new(rt, alloc, n)) {
+            return Some(schedule);
         }
     }
-    Ok(None)
+    None
 }
 
 #[test]
-fn random_schedules(rt: HostRuntime) -> Result<(), Fail> {
+fn random_schedules(rt: HostRuntime) {
     let mut survey = Survey::new(Random::new(82_599));
-    same(&rt, first_differing(rt.alloc(), &mut survey)?, None);
+    same(&rt, first_differing(&rt, rt.alloc(), &mut survey), None);
     holds(&rt, survey.is_rich(1_000));
-    Ok(())
 }

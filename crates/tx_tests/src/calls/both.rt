@@ -13,7 +13,7 @@ use limits::{LEAST_FRAME, MOST_FRAME, MOST_SEGMENTS};
 use ring_machine::{SegmentDescriptor, TxMachine};
 use ring_model::{ControlStep, FetchedSegment, Note, Owner, TxStep};
 use std::alloc::Global;
-use std::test::Fail;
+use std::process::Abort;
 use test_kit::{
     BUFFERS, Beside, Closed, Random, filled, full_stash, is_filled, put_back, random_control,
     renewed, shake,
@@ -47,7 +47,7 @@ pub(crate) struct Both {
     pub driver: TxDriverEnd,
     pub controller: TxControllerEnd,
     machine: TxMachine,
-    completion: Completion,
+    pub completion: Completion,
     /// The buffers at hand.
     spare: Stash,
     /// The number of the buffer that was posted last.
@@ -70,18 +70,18 @@ pub(crate) struct Both {
     ghost of_frame: { AreOfFrame begun.paylen (unfinished carried (posted driver)) },
 }
 
-/// The machine of so many places, and all buffers.
-fn beside(alloc: Global, n: u32, completion: Completion) -> Result<(TxMachine, Stash), Fail> {
-    let machine = TxMachine::new_with(alloc, n as usize, false, completion)?;
-    Ok((machine, full_stash(alloc, BUFFERS)?))
-}
-
 impl Both {
     /// A ring of so many places that is not enabled, and all buffers at hand.
-    pub(crate) fn new(alloc: Global, n: u32, completion: Completion) -> Result<Both, Fail> {
-        let (machine, spare) = beside(alloc, n, completion)?;
-        let (ring, driver, controller) = TxRing::new_with(alloc, n, completion)?;
-        Ok(Both {
+    pub(crate) fn new<R: Abort>(rt: &R, alloc: Global, n: u32, completion: Completion) -> Both {
+        let machine = TxMachine::new_with(alloc, n as usize, false, completion).expect(
+            rt,
+            "a machine",
+        );
+        let spare = full_stash(alloc, BUFFERS).expect(rt, "buffers");
+        let (ring, driver, controller) = TxRing::new_with(alloc, n, completion).expect(
+            rt, "a ring",
+        );
+        Both {
             begun: NONE,
             word: 0,
             held_buf: None,
@@ -95,7 +95,7 @@ impl Both {
             machine,
             completion,
             spare,
-        })
+        }
     }
 
     // Whether this may be posted behind the frame that is begun.
