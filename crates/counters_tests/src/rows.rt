@@ -28,47 +28,46 @@ fn what_is_written_is_read<R: Abort + Wait, T: Moment<N> + PartialEq + Debug, co
     rt: &R,
     alloc: Global,
     numbers: T,
-) -> Result<(), CounterError>
+)
     requires lawful { T.lawful numbers }
     requires none_falls { NoneFalls (T.words T.opening) (T.words numbers) }
 {
-    let (cell, mut pen, mut told_before) = MomentCell::<T, N>::new(alloc)?;
+    let (cell, mut pen, mut told_before) = MomentCell::<T, N>::new(alloc).expect(rt, "a cell");
     shows(rt, &cell, &mut told_before, T::opening());
     cell.write(rt, &mut pen, numbers);
     let mut told_after = pen.pass();
     shows(rt, &cell, &mut told_after, numbers);
     shows(rt, &cell, &mut told_before, numbers);
-    Ok(())
 }
 
 #[test]
-fn what_was_offered_is_read(rt: HostRuntime) -> Result<(), CounterError> {
+fn what_was_offered_is_read(rt: HostRuntime) {
     let numbers = Offered {
         offered: 8,
         stored: 7,
         dropped: 1,
         oversize: 0,
     };
-    what_is_written_is_read::<HostRuntime, Offered, 4>(&rt, rt.alloc(), numbers)
+    what_is_written_is_read::<HostRuntime, Offered, 4>(&rt, rt.alloc(), numbers);
 }
 
 #[test]
-fn what_was_driven_is_read(rt: HostRuntime) -> Result<(), CounterError> {
+fn what_was_driven_is_read(rt: HostRuntime) {
     let numbers = Driven {
         taken: 8,
         posted: 7,
         tx_dropped: 0,
     };
-    what_is_written_is_read::<HostRuntime, Driven, 3>(&rt, rt.alloc(), numbers)
+    what_is_written_is_read::<HostRuntime, Driven, 3>(&rt, rt.alloc(), numbers);
 }
 
 #[test]
-fn frames_and_bytes_are_read(rt: HostRuntime) -> Result<(), CounterError> {
+fn frames_and_bytes_are_read(rt: HostRuntime) {
     let numbers = Bytes {
         frames: 2,
         bytes: 15_014,
     };
-    what_is_written_is_read::<HostRuntime, Bytes, 2>(&rt, rt.alloc(), numbers)
+    what_is_written_is_read::<HostRuntime, Bytes, 2>(&rt, rt.alloc(), numbers);
 }
 
 fn can_be(frames: u64, bytes: u64) -> bool {

@@ -3,7 +3,7 @@ ghost use Rattle.std.specs.Prelude.{◌≡◌, ◌*◌, ◌≤◌};
 ghost use Rattle.counters.specs.Kinds.{none_offered};
 
 use crate::rows::shows;
-use counters::{CounterError, Moment, Offered, StatCell, StatPass, StatPen};
+use counters::{Moment, Offered, StatCell, StatPass, StatPen};
 use std::sync::Wait;
 use std::thread;
 use std::thread::Threads;
@@ -72,8 +72,8 @@ fn read_in_two<R: Threads + Wait + Sync>(
 }
 
 #[test]
-fn no_number_falls_and_each_read_adds_up(rt: HostRuntime) -> Result<(), CounterError> {
-    let (cell, mut pen, mut first) = StatCell::new(rt.alloc())?;
+fn no_number_falls_and_each_read_adds_up(rt: HostRuntime) {
+    let (cell, mut pen, mut first) = StatCell::new(rt.alloc()).expect(&rt, "a cell");
     let second = cell.split(&mut first);
     let mut told_before = pen.pass();
     let (mut pen, good) = thread::join(
@@ -85,5 +85,4 @@ fn no_number_falls_and_each_read_adds_up(rt: HostRuntime) -> Result<(), CounterE
     let mut told_after = pen.pass();
     shows(&rt, &cell, &mut told_after, row(WRITES));
     shows(&rt, &cell, &mut told_before, row(WRITES));
-    Ok(())
 }

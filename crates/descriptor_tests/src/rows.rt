@@ -2,7 +2,9 @@
 
 use crate::told::{holds, same};
 use descriptor::{DescError, Descriptor, RxBack, RxRead, TxBack, TxRead};
-use std::test::Fail;
+use std::alloc::Global;
+use std::fmt::Display;
+use std::process::Abort;
 
 // 60 bytes that end their frame, written back.
 const RX_BACK: [u8; 16] = [0, 0, 0, 0, 0, 0, 0, 0, 3, 0, 0, 0, 60, 0, 0, 0];
@@ -179,32 +181,30 @@ fn status_words_are_read(rt: HostRuntime) {
     );
 }
 
+// It is printed so.
+fn is_printed<R: Abort, T: Display>(rt: &R, alloc: Global, printed: &T, wanted: &str) {
+    let text = format!(in alloc; "{printed}").expect(rt, "a text");
+    same(rt, text.as_str(), wanted);
+}
+
+const REFUSALS: &[(DescError, u8, &str)] = &[
+    (DescError::Length, 1, "length"),
+    (DescError::Reserved, 2, "reserved"),
+    (DescError::Kind, 3, "type"),
+    (DescError::Size, 4, "size"),
+];
+
 #[test]
-fn descriptors_and_refusals_are_printed(rt: HostRuntime) -> Result<(), Fail> {
+fn descriptors_and_refusals_are_printed(rt: HostRuntime) {
     let alloc = rt.alloc();
-    same(
-        &rt,
-        format!(in alloc; "{}", RxRead { number: 65_535 })?.as_str(),
-        "buffer 65535",
-    );
-    same(
-        &rt,
-        format!(in alloc; "{}", RxBack::new(60, true))?.as_str(),
-        "dd 1 eop 1 length 60",
-    );
+    is_printed(&rt, alloc, &RxRead { number: 65_535 }, "buffer 65535");
+    is_printed(&rt, alloc, &RxBack::new(60, true), "dd 1 eop 1 length 60");
     let posted = TxRead::new(5, 60, true, false, 1_500);
     let line = "buffer 5 length 60 eop 1 rs 0 paylen 1500";
-    same(&rt, format!(in alloc; "{posted}")?.as_str(), line);
-    same(&rt, format!(in alloc; "{TxBack}")?.as_str(), "dd 1");
-    let refusals = [
-        (DescError::Length, "1 length"),
-        (DescError::Reserved, "2 reserved"),
-        (DescError::Kind, "3 type"),
-        (DescError::Size, "4 size"),
-    ];
-    for (refusal, words) in refusals {
-        let text = format!(in alloc; "{} {refusal}", refusal.number())?;
-        same(&rt, text.as_str(), words);
+    is_printed(&rt, alloc, &posted, line);
+    is_printed(&rt, alloc, &TxBack, "dd 1");
+    for (refusal, number, words) in REFUSALS {
+        same(&rt, (*words, refusal.number()), (*words, *number));
+        is_printed(&rt, alloc, refusal, words);
     }
-    Ok(())
 }
