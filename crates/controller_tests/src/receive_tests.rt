@@ -147,16 +147,17 @@ const TOO_LONG: &[(bool, usize)] = &[(false, 9_000), (true, 15_000), (true, 14_3
 
 /// Frames of so many bytes are oversize in a ready ring of 8, and counted so.
 fn is_oversize<R: Abort>(rt: &R, alloc: Global, (large, len): (bool, usize)) {
-    let mut rows = Vec::new(alloc);
-    add(rt, &mut rows, READY);
-    for count in 1..=3 {
-        let counted = [
-            (Step::Offer(len, 0), OVERSIZE),
-            (Step::Counted(count, 0, 0, count), Told::Yes),
-        ];
-        add(rt, &mut rows, &counted);
-    }
-    add(rt, &mut rows, &[(Step::FindsNone, Told::Yes)]);
+    let rows = [
+        (Step::Enable, Told::Yes),
+        (Step::Fill, Told::Count(7)),
+        (Step::Offer(len, 0), OVERSIZE),
+        (Step::Counted(1, 0, 0, 1), Told::Yes),
+        (Step::Offer(len, 0), OVERSIZE),
+        (Step::Counted(2, 0, 0, 2), Told::Yes),
+        (Step::Offer(len, 0), OVERSIZE),
+        (Step::Counted(3, 0, 0, 3), Told::Yes),
+        (Step::FindsNone, Told::Yes),
+    ];
     let walked = walk(rt, alloc, (8, large, false), &rows);
     same(rt, (len, walked.told), (len, rows.len()));
 }
@@ -271,6 +272,9 @@ const DISABLED: &[Row] = &[
 /// The rows of a quiet queue whose frames are all taken.
 const TAKEN: &[Row] = &[(Step::IsNotDone, Told::Yes), (Step::Disable, Told::Yes)];
 
+/// The rows of a disabled queue, whose frames stay.
+const LEFT: &[Row] = &[];
+
 /// The rows of a queue that is renewed.
 const ANEW: &[Row] = &[
     (Step::Offer(60, 9), OFF),
@@ -287,33 +291,27 @@ fn repeat<R: Abort>(rt: &R, rows: &mut Vec<Row>, row: Row, times: u32) {
     }
 }
 
-/// Adds rows by which a queue with so many frames ends, quiet or disabled, and is renewed.
-fn end<R: Abort>(rt: &R, rows: &mut Vec<Row>, before: u32, quiet: bool) {
-    let stored = u64::from(before);
-    let counted = (Step::Counted(stored, stored, 0, 0), Told::Yes);
-    let mut left = 7;
-    if quiet {
-        add(rt, rows, QUIET);
-        add(rt, rows, &[counted]);
-        repeat(rt, rows, (Step::Take(9, 0, 60), Told::Yes), before);
-        add(rt, rows, TAKEN);
-        left = 7u32.saturating_sub(before);
-    } else {
-        add(rt, rows, DISABLED);
-        add(rt, rows, &[counted]);
-    }
-    add(rt, rows, &[(Step::Renew, Told::Count(left))]);
-}
-
 /// The rows of a queue that is quiet or disabled after so many frames, and then renewed: nothing more is stored before, and
-/// the tally goes on after it.
+/// the tally goes on after it. The frames of one that is quiet are taken first.
 fn over_after<R: Abort>(rt: &R, alloc: Global, before: u32, quiet: bool) -> Vec<Row> {
+    let (over, taken, then) = if quiet {
+        (QUIET, before, TAKEN)
+    } else {
+        (DISABLED, 0, LEFT)
+    };
     let mut rows = Vec::new(alloc);
     add(rt, &mut rows, READY);
     repeat(rt, &mut rows, (Step::Offer(60, 9), STORED), before);
-    end(rt, &mut rows, before, quiet);
+    add(rt, &mut rows, over);
+    let stored = u64::from(before);
+    let counted = (Step::Counted(stored, stored, 0, 0), Told::Yes);
+    add(rt, &mut rows, &[counted]);
+    repeat(rt, &mut rows, (Step::Take(9, 0, 60), Told::Yes), taken);
+    add(rt, &mut rows, then);
+    let left = 7u32.saturating_sub(taken);
+    add(rt, &mut rows, &[(Step::Renew, Told::Count(left))]);
     add(rt, &mut rows, ANEW);
-    let stored = u64::from(before).saturating_add(1);
+    let stored = stored.saturating_add(1);
     let counted = (Step::Counted(stored, stored, 0, 0), Told::Yes);
     add(rt, &mut rows, &[counted]);
     rows
