@@ -55,29 +55,52 @@ impl Taking {
         }
     }
 
+    /// Whether it took enough in this epoch, where the device has said that it stores no more and all is taken, or where not.
+    fn has_enough(&self, is_drained: bool) -> bool {
+        match self.ends {
+            Ends::After(most) => self.count >= most,
+            Ends::WhenQuiet => is_drained,
+        }
+    }
+
+    /// Takes one batch: how many frames it was, if none was refused.
+    fn take(&mut self, ring: &RxRing, load: &mut Load) -> Option<usize>
+        requires { self.old.driver.end.table ≡ ring.now }
+        ensures { self.new.driver.end.table ≡ ring.now }
+    {
+        let quiet = self.driver.is_quiet(ring);
+        let has_room = load.packets.len() < MOST_BATCH;
+        let taken = self
+            .driver
+            .rx_batch(ring, &mut load.stash, &mut load.packets);
+        let count = taken.ok()?;
+        self.count = self.count.saturating_add(count);
+        if self.has_enough(quiet && count == 0 && has_room) {
+            let _ = self.driver.ask_disable(ring);
+        }
+        Some(count)
+    }
+
+    /// Takes the buffers of a disabled queue back.
+    fn end(&mut self, ring: &RxRing, stash: &mut Stash)
+        requires { self.old.driver.end.table ≡ ring.now }
+        ensures { self.new.driver.end.table ≡ ring.now }
+    {
+        if self.driver.finish_disable(ring).is_some() {
+            self.over = self.driver.reclaim_into(ring, stash).is_ok();
+        }
+    }
+
     /// One batch; asks for what is to be asked, and takes the buffers of a disabled queue back.
     fn turn(&mut self, ring: &RxRing, load: &mut Load) -> usize
         requires { self.old.driver.end.table ≡ ring.now }
         ensures { self.new.driver.end.table ≡ ring.now }
     {
-        let driver = &mut self.driver;
-        let _ = driver.enable(ring);
-        let quiet = driver.is_quiet(ring);
-        let free = MOST_BATCH - load.packets.len();
-        let Ok(count) = driver.rx_batch(ring, &mut load.stash, &mut load.packets) else {
+        let _ = self.driver.enable(ring);
+        let Some(count) = self.take(ring, load) else {
             return 0;
         };
-        self.count = self.count.saturating_add(count);
-        let ends = match self.ends {
-            Ends::After(most) => self.count >= most,
-            Ends::WhenQuiet => quiet && count == 0 && free > 0,
-        };
-        if ends {
-            let _ = driver.ask_disable(ring);
-        }
-        if driver.finish_disable(ring).is_some() {
-            self.over = driver.reclaim_into(ring, &mut load.stash).is_ok();
-        }
+        self.end(ring, &mut load.stash);
         count
     }
 

@@ -20,6 +20,13 @@ pub(crate) enum Lens {
     InTurn(usize, usize),
 }
 
+impl Lens {
+    /// From the least length to the greatest that rings of so many places carry: one of 8 has 7 descriptors.
+    pub(crate) fn of_ring(n: u32) -> Lens {
+        Lens::UpTo(if n == 8 { 14_336 } else { 15_000 })
+    }
+}
+
 /// All frames.
 #[derive(Drop)]
 pub(crate) struct Frames {

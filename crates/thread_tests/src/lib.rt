@@ -16,6 +16,8 @@ mod rings;
 #[cfg(test)]
 mod side;
 #[cfg(test)]
+mod told;
+#[cfg(test)]
 mod with_controllers;
 #[cfg(test)]
 mod with_ends;

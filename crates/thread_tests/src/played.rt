@@ -97,8 +97,8 @@ impl Hearing {
         }
     }
 
-    /// Answers what is asked, and sends the next segment if one is ready. The frames of an epoch are those from `first` on.
-    fn turn(&mut self, ring: &TxRing, frames: &Frames, first: u32) -> bool
+    /// Answers what is asked: whether the queue is on then.
+    fn answer(&mut self, ring: &TxRing) -> bool
         requires { self.old.end.table ≡ ring.now }
         ensures { self.new.end.table ≡ ring.now }
     {
@@ -110,20 +110,39 @@ impl Hearing {
         if self.epochs.see(is_on) {
             self.sent = 0;
         }
-        if !is_on || self.end.is_holding() || self.end.owes_report() || self.end.look(ring) == 0 {
+        is_on
+    }
+
+    /// Sends the next segment, which is to be of this frame, if one is ready.
+    fn send(&mut self, ring: &TxRing, frame: &[u8]) -> bool
+        requires { self.old.end.table ≡ ring.now }
+        ensures { self.new.end.table ≡ ring.now }
+    {
+        if !self.end.is_serving() || self.end.is_holding() || self.end.owes_report() {
+            return false;
+        }
+        if self.end.look(ring) == 0 {
             return false;
         }
         let (buf, read) = self.end.fetch(ring);
-        self.compare(
-            frames.frame(first.wrapping_add(self.sent)),
-            buf.bytes(),
-            read,
-        );
+        self.compare(frame, buf.bytes(), read);
         self.end.give_back(ring, buf);
         if self.end.owes_report() {
             self.end.report(ring);
         }
         true
+    }
+
+    /// Answers what is asked, and sends the next segment if one is ready. The frames of an epoch are those from `first` on.
+    fn turn(&mut self, ring: &TxRing, frames: &Frames, first: u32) -> bool
+        requires { self.old.end.table ≡ ring.now }
+        ensures { self.new.end.table ≡ ring.now }
+    {
+        if !self.answer(ring) {
+            return false;
+        }
+        let frame = frames.frame(first.wrapping_add(self.sent));
+        self.send(ring, frame)
     }
 
     /// Compares what is sent with the frame that it is to be of.

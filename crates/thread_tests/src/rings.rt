@@ -6,7 +6,7 @@ use crate::frames::{Frames, Lens};
 use crate::side::Shared;
 use rx_ring::{RxControllerEnd, RxDriverEnd, RxRing};
 use std::alloc::Global;
-use std::test::Fail;
+use std::process::Abort;
 use tx_ring::{Completion, TxControllerEnd, TxDriverEnd, TxRing};
 
 /// What both sides know, and the ends that each side is to have.
@@ -27,16 +27,17 @@ pub(crate) struct Rings {
 
 impl Rings {
     /// Rings of so many places, and the frames that go through them.
-    pub(crate) fn new(
+    pub(crate) fn new<R: Abort>(
+        rt: &R,
         alloc: Global,
         n: u32,
         completion: Completion,
         lens: Lens,
-    ) -> Result<Rings, Fail> {
-        let frames = Frames::new(alloc, lens)?;
-        let (from, takes, stores) = RxRing::new(alloc, n)?;
-        let (to, posts, sends) = TxRing::new_with(alloc, n, completion)?;
-        Ok(Rings {
+    ) -> Rings {
+        let frames = Frames::new(alloc, lens).expect(rt, "frames");
+        let (from, takes, stores) = RxRing::new(alloc, n).expect(rt, "a ring");
+        let (to, posts, sends) = TxRing::new_with(alloc, n, completion).expect(rt, "a ring");
+        Rings {
             shared: Shared { from, to, frames },
             takes,
             stores,
@@ -44,6 +45,6 @@ impl Rings {
             sends,
             n,
             completion,
-        })
+        }
     }
 }

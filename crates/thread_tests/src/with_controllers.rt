@@ -8,12 +8,13 @@ use crate::forwarder::{Ends, Forwarder, Plan};
 use crate::frames::{Frames, Lens};
 use crate::rings::Rings;
 use crate::side::{Shared, run_both};
+use crate::told::holds;
 use buffer_pool::Stash;
 use controller::{RxController, Tally, TxController, Wire};
 use rx_ring::{ControllerEnd, RxControllerEnd};
 use std::alloc::Global;
+use std::process::Abort;
 use std::sync::Wait;
-use std::test::Fail;
 use std::thread::Threads;
 use test_kit::full_stash;
 use tx_ring::{Completion, TxControllerEnd};
@@ -102,61 +103,75 @@ fn sides(alloc: Global, case: &Case, rings: Rings, stash: Stash) -> (Shared, For
 }
 
 /// Runs both sides: what was counted, if all was as it should be.
-fn counted<R: Threads + Wait + Sync>(
-    rt: &R,
-    alloc: Global,
-    case: Case,
-) -> Result<Option<Tally>, Fail> {
-    let stash = full_stash(alloc, 128)?;
-    let rings = Rings::new(alloc, case.n, case.completion, case.lens)?;
+fn counted<R: Threads + Wait + Sync + Abort>(rt: &R, alloc: Global, case: Case) -> Option<Tally> {
+    let stash = full_stash(alloc, 128).expect(rt, "buffers");
+    let rings = Rings::new(rt, alloc, case.n, case.completion, case.lens);
     let (shared, forwarder, device) = sides(alloc, &case, rings, stash);
     let (forwarder, device) = run_both(rt, &shared, forwarder, device);
-    Ok(seen(&forwarder, &device, &shared.frames))
+    let tally = seen(&forwarder, &device, &shared.frames);
+    drop(shared);
+    drop(forwarder);
+    drop(device);
+    tally
 }
 
-const BOTH_WAYS: [Completion; 2] = [Completion::Status, Completion::Head];
+/// How many places the rings have, and whether frames are dropped where there is no descriptor.
+const RINGS: &[(u32, bool)] = &[(8, false), (64, false), (8, true), (64, true)];
+
+/// All that is stored goes out, in three epochs.
+fn all_goes_out<R: Threads + Wait + Sync + Abort>(
+    rt: &R,
+    alloc: Global,
+    completion: Completion,
+    (n, drop_en): (u32, bool),
+) {
+    let case = Case {
+        n,
+        large: n == 8,
+        drop_en,
+        lens: Lens::of_ring(n),
+        completion,
+        epochs: 3,
+        frames: 3_334,
+    };
+    let tally = counted(rt, alloc, case).expect(rt, "another wire or count");
+    holds(rt, tally.offered >= 10_002 && tally.oversize == 0);
+    holds(rt, drop_en || tally.dropped == 0);
+}
 
 #[test]
-fn all_that_is_stored_goes_out(rt: HostRuntime) -> Result<(), Fail> {
-    for completion in BOTH_WAYS {
-        for (n, drop_en) in [(8, false), (64, false), (8, true), (64, true)] {
-            let case = Case {
-                n,
-                large: n == 8,
-                drop_en,
-                // a ring of 8 has 7 descriptors
-                lens: Lens::UpTo(if n == 8 { 14_336 } else { 15_000 }),
-                completion,
-                epochs: 3,
-                frames: 3_334,
-            };
-            let tally = counted(&rt, rt.alloc(), case)?.ok_or("another wire or count")?;
-            assert!(rt; tally.offered >= 10_002 && tally.oversize == 0);
-            assert!(rt; drop_en || tally.dropped == 0);
-        }
+fn all_that_is_stored_goes_out(rt: HostRuntime) {
+    for ring in RINGS {
+        all_goes_out(&rt, rt.alloc(), Completion::Status, *ring);
+        all_goes_out(&rt, rt.alloc(), Completion::Head, *ring);
     }
-    Ok(())
 }
 
+/// Every second frame is too long for a ring of 8 with small buffers, and all others go out.
+const OVERSIZE: Case = Case {
+    n: 8,
+    large: false,
+    drop_en: false,
+    lens: Lens::InTurn(9_000, 60),
+    completion: Completion::Status,
+    epochs: 1,
+    frames: 200,
+};
+
+const HALF: Tally = Tally {
+    offered: 200,
+    stored: 100,
+    dropped: 0,
+    oversize: 100,
+};
+
 #[test]
-fn oversize_frames_between_others(rt: HostRuntime) -> Result<(), Fail> {
-    for completion in BOTH_WAYS {
+fn oversize_frames_between_others(rt: HostRuntime) {
+    for completion in [Completion::Status, Completion::Head] {
         let case = Case {
-            n: 8,
-            large: false,
-            drop_en: false,
-            lens: Lens::InTurn(9_000, 60),
             completion,
-            epochs: 1,
-            frames: 200,
+            ..OVERSIZE
         };
-        let wanted = Tally {
-            offered: 200,
-            stored: 100,
-            dropped: 0,
-            oversize: 100,
-        };
-        assert!(rt; counted(&rt, rt.alloc(), case)? == Some(wanted));
+        holds(&rt, counted(&rt, rt.alloc(), case) == Some(HALF));
     }
-    Ok(())
 }

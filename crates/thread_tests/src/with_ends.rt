@@ -6,10 +6,11 @@ use crate::frames::Lens;
 use crate::played::{Hearing, Played, Storing};
 use crate::rings::Rings;
 use crate::side::{Shared, run_both};
+use crate::told::same;
 use buffer_pool::Stash;
 use std::alloc::Global;
+use std::process::Abort;
 use std::sync::Wait;
-use std::test::Fail;
 use std::thread::Threads;
 use test_kit::{Closed, Storer, full_stash};
 use tx_ring::Completion;
@@ -81,50 +82,42 @@ fn closes(shared: Shared, forwarder: Forwarder, played: Played) -> bool
     is_empty && closed.has_each_once(BUFFERS as usize)
 }
 
-/// Runs both sides over rings of so many places, and closes the rings: whether all was as it should be.
-fn passes<R: Threads + Wait + Sync>(
+/// Runs both sides over rings of so many places, and closes the rings: whether the frames were as they should be, and the
+/// closed rings.
+fn passes<R: Threads + Wait + Sync + Abort>(
     rt: &R,
     alloc: Global,
     n: u32,
     batch: usize,
     completion: Completion,
-) -> Result<bool, Fail>
+) -> (bool, bool)
     requires some { 0 < batch }
     requires few { batch ≤ 32 }
 {
-    let stash = full_stash(alloc, BUFFERS)?;
-    // a ring of 8 has 7 descriptors
-    let most = if n == 8 { 14_336 } else { 15_000 };
-    let rings = Rings::new(alloc, n, completion, Lens::UpTo(most))?;
+    let stash = full_stash(alloc, BUFFERS).expect(rt, "buffers");
+    let rings = Rings::new(rt, alloc, n, completion, Lens::of_ring(n));
     let (shared, forwarder, played) = sides(rings, stash, batch);
     let (forwarder, played) = run_both(rt, &shared, forwarder, played);
-    Ok(is_good(&forwarder, &played) && closes(shared, forwarder, played))
+    let is_good = is_good(&forwarder, &played);
+    (is_good, closes(shared, forwarder, played))
 }
 
 /// The same over rings of 8 and 64, in batches of 1, 7 and 32.
-fn all_pass<R: Threads + Wait + Sync>(
-    rt: &R,
-    alloc: Global,
-    completion: Completion,
-) -> Result<bool, Fail> {
+fn all_pass<R: Threads + Wait + Sync + Abort>(rt: &R, alloc: Global, completion: Completion) {
     for n in [8, 64] {
         for batch in [1, 7, 32] {
-            if !passes(rt, alloc, n, batch, completion)? {
-                return Ok(false);
-            }
+            let told = passes(rt, alloc, n, batch, completion);
+            same(rt, (n, batch, told), (n, batch, (true, true)));
         }
     }
-    Ok(true)
 }
 
 #[test]
-fn frames_are_sent_on_in_order(rt: HostRuntime) -> Result<(), Fail> {
-    assert!(rt; all_pass(&rt, rt.alloc(), Completion::Status)?);
-    Ok(())
+fn frames_are_sent_on_in_order(rt: HostRuntime) {
+    all_pass(&rt, rt.alloc(), Completion::Status)
 }
 
 #[test]
-fn frames_are_sent_on_in_order_by_head(rt: HostRuntime) -> Result<(), Fail> {
-    assert!(rt; all_pass(&rt, rt.alloc(), Completion::Head)?);
-    Ok(())
+fn frames_are_sent_on_in_order_by_head(rt: HostRuntime) {
+    all_pass(&rt, rt.alloc(), Completion::Head)
 }
