@@ -91,6 +91,8 @@ pub fn perform<
     let form = printing.form(screen.is_terminal());
     let report = forwarded(rt, alloc, config, script, screen, form)?;
     let pairs = config.pairs as usize;
-    let page = page_for(rt, alloc, pairs, printing, wires, report.flows.as_slice())?;
+    let page = page_for(rt, alloc, pairs, printing, wires, report.flows.as_slice());
+    drop(report);
+    let page = page?;
     Ok(print(page.as_str(), output)?)
 }

@@ -98,6 +98,7 @@ pub fn gather<R: Files>(rt: &R, alloc: Global, sources: &[Source<'_>]) -> Result
     for source in sources {
         let added = add_file(rt, alloc, &mut frames, source);
         if let Err(refusal) = added {
+            drop(frames);
             let place = Place::Source(at);
             return Err(Refused { place, refusal });
         }

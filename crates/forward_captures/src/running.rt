@@ -67,7 +67,9 @@ pub(crate) fn forwarded<R: Threads + Wait + Clock + Sync, M: Write + Send>(
     ensures refused { IfErr result (λ e. IsUnforwarded config.now script e) }
     ensures screen { form ≡ None → screen.new ≡ screen.old }
 {
-    Ok(progress::forward(rt, alloc, &script, config, &Open, screen, form)?)
+    let forwarded = progress::forward(rt, alloc, &script, config, &Open, screen, form);
+    drop(script);
+    Ok(forwarded?)
 }
 
 /// The page of reports, after the wire files were written.
@@ -133,6 +135,7 @@ fn write_part<R: Files>(
     let file = wire.file();
     let part = part_name(alloc, file, at)?;
     let written = write_file(rt, part.as_str(), bytes.as_slice());
+    drop(bytes);
     if written.is_err() {
         remove(rt, part.as_str());
         return written;
