@@ -1,5 +1,5 @@
 -- Words on what may be held.
-use Rattle.std.specs.Prelude.{⊤, Option, Some, None}
+use Rattle.std.specs.Prelude.{◌≡◌, ◌≢◌, ⊤, ℕ, Option, Some, None}
 
 -- both are there, and this holds of them
 abbrev pub Both : {A B : Type 0} → (A → B → Type 0) → Option A → Option B → Type 0
@@ -29,3 +29,7 @@ Among Holds (Some a) (Some b) (Some c) None = ⊥
 Among Holds (Some a) (Some b) None new = ⊥
 Among Holds (Some a) None old new = ⊤
 Among Holds None b old new = ⊤
+
+-- 1 answers that it was done, and another number that nothing was
+abbrev pub Tried : {A : Type 0} → (A → A → Type 0) → ℕ → A → A → Type 0
+Tried Step answer old new = (answer ≡ 1 → Step old new) × (answer ≢ 1 → new ≡ old)

@@ -1,11 +1,11 @@
 -- What the exports say of a worker's packets, and of what is done with them.
-use Rattle.std.specs.Prelude.{◌≡◌, ℕ, ◌+◌, ◌*◌, ◌<◌, ◌≤◌, ◌⊎◌, Option, Some, List, [], ◌∷◌, ◌++◌, length, map, reverse, remove, drop, slice_get, slice_index, slice_set}
+use Rattle.std.specs.Prelude.{◌≡◌, ℕ, zero, suc, ◌+◌, ◌*◌, ◌<◌, ◌≤◌, ◌⊎◌, Option, Some, List, [], ◌∷◌, ◌++◌, length, map, reverse, remove, drop, slice_get, slice_index, slice_set}
 use Rattle.buffer_pool.specs.Buffer.{Buffer, buffer}
 use Rattle.buffer_pool.specs.Packed.{IsPacket, bytes_of, shape_of}
 use Rattle.buffer_pool.specs.declared.stash.TheConstants.{STASH_BUFFERS}
 use Rattle.driver.specs.declared.rx_driver.TheConstants.{MOST_BATCH}
 use Rattle.limits.specs.declared.profile.TheConstants.{BUFFER_BYTES}
-use Rattle.ring_model.specs.shared.Frames.{Bytes}
+use Rattle.ring_model.specs.shared.Frames.{Bytes, HasFrameLength}
 use Rattle.poll82599_c.specs.Stashes.{AreBuffers}
 use Rattle.poll82599_c.specs.Held.{Of, There}
 
@@ -112,6 +112,28 @@ pub record IsCrowded (i : ℕ) (w : Worked) : Type 0 where
   pub packet : List Buffer
   pub there : IsAt w i packet
   pub many : STASH_BUFFERS < length w.stash + length packet
+
+-- ---- what calls answer, and what they did then
+
+-- 1: it was made; 0: there is no place for it; 2: no frame has so many bytes
+abbrev pub TriedPut : ℕ → Bytes → Worked → Worked → Type 0
+TriedPut zero frame old new = HasNoPlace frame old × (new ≡ old)
+TriedPut (suc zero) frame old new = PutFrame frame old new
+TriedPut (suc (suc zero)) frame old new = (¬ HasFrameLength frame) × (new ≡ old)
+TriedPut _ frame old new = ⊥
+
+-- 1: it was copied; 0: there is none; 4: the room is too small
+abbrev pub TriedCopy : ℕ → ℕ → ℕ → Bytes → Bytes → Worked → Worked → Type 0
+TriedCopy zero i len before after old new = IsAbsent i old × (new ≡ old) × (after ≡ before)
+TriedCopy (suc zero) i len before after old new = CopiedOut i len before after old new
+TriedCopy (suc (suc (suc (suc zero)))) i len before after old new = IsTooShort i len before old × (new ≡ old) × (after ≡ before)
+TriedCopy _ i len before after old new = ⊥
+
+-- 1: it was read; 0: there is none
+abbrev pub TriedRead : ℕ → ℕ → ℕ → ℕ → Worked → Worked → Type 0
+TriedRead zero i at byte old new = HasNoByte i at old.packets × (new ≡ old)
+TriedRead (suc zero) i at byte old new = ReadByte i at byte old new
+TriedRead _ i at byte old new = ⊥
 
 -- so many packets and empty buffers there are
 pub record Counted (packets buffers : ℕ) (old new : Worked) : Type 0 where

@@ -1,5 +1,5 @@
 -- What the exports say of a receive queue's driver and of its device, and of their steps.
-use Rattle.std.specs.Prelude.{◌≡◌, ℕ, ◌+◌, ◌++◌, Bool, true, false, Option, [], ◌∷◌, length}
+use Rattle.std.specs.Prelude.{◌≡◌, ◌≢◌, ⊤, ℕ, zero, suc, ◌+◌, ◌++◌, Bool, true, false, Option, Some, None, [], ◌∷◌, length}
 use Rattle.buffer_pool.specs.declared.stash.TheConstants.{STASH_BUFFERS}
 use Rattle.ring_model.specs.receive.Lawful.{IsLawfulRxLedger}
 use Rattle.ring_model.specs.shared.Frames.{Bytes, frames}
@@ -18,7 +18,7 @@ use Rattle.driver.specs.receive.Batches.{Batched, IsFilled}
 use Rattle.driver.specs.receive.Receiver.{Receiver, hands}
 use Rattle.driver.specs.receive.Returns.{GaveBack, IsEmptied}
 use Rattle.controller.specs.Handshaking.{TurnedControl}
-use Rattle.controller.specs.Receiving.{Finished, Receiving, WasStored}
+use Rattle.controller.specs.Receiving.{Finished, Receiving, WasDropped, WasHeld, WasOff, WasOversize, WasRefused, WasStored}
 use Rattle.controller.specs.Tallying.{nothing}
 use Rattle.poll82599_c.specs.Held.{Between, Both, Of}
 use Rattle.poll82599_c.specs.batches.Packets.{Worked}
@@ -53,25 +53,6 @@ AreLawful = Both (λ q d. IsLawfulRxLedger Bytes (driver_size q.end) (ledger_of 
 -- where the head was loaded, what was said to be left is what of the stored is not taken
 abbrev pub AreTold : Option Receiver → Option Receiving → Type 0
 AreTold = Both (λ q d. IsTold (told_left q.end) (length (taken q.end)) (length (stored_now q.end d.end)))
-
--- it was not seen on, or was seen disabled
-abbrev pub IsNotLive : Option Receiver → Type 0
-IsNotLive = Of (λ q. is_live (driver_state q.end) ≡ false)
-
--- it was not seen on, or a disabling was asked
-abbrev pub IsNotOn : Option Receiver → Type 0
-IsNotOn = Of (λ q. is_on (driver_state q.end) ≡ false)
-
--- the disabling was seen answered
-abbrev pub IsStopped : Option Receiver → Type 0
-IsStopped = Of (λ q. is_stopped (driver_state q.end) ≡ true)
-
-abbrev pub IsNotStopped : Option Receiver → Type 0
-IsNotStopped = Of (λ q. is_stopped (driver_state q.end) ≡ false)
-
--- buffers of it are left, or it was not seen disabled
-abbrev pub IsNotEmptied : Option Receiver → Type 0
-IsNotEmptied = Of (λ q. ¬ IsEmptied q)
 
 -- these are a device's counts, and each frame that was offered was stored, dropped or oversize
 abbrev pub AreCounts : ℕ → ℕ → ℕ → ℕ → Option Receiving → Type 0
@@ -128,12 +109,77 @@ pub record Renewed (old new : Receiver) : Type 0 where
 abbrev pub FoundQuiet : ℕ → Receiver → Receiver → Type 0
 FoundQuiet value old new = new ≡ record old { end = appended old.end (driver.Own (LoadedQuiet value)) }
 
+-- ---- what a driver's calls answer, and what they did then
+
+-- 1: a batch of so many was taken; 0: it was not seen on, or was seen disabled
+abbrev pub TriedBatch : ℕ → ℕ → Receiver → Worked → Receiver → Worked → Type 0
+TriedBatch zero count old had new has = (is_live (driver_state old.end) ≡ false) × (new ≡ old) × (has ≡ had)
+TriedBatch (suc zero) count old had new has = TookBatch count old had new has
+TriedBatch _ count old had new has = ⊥
+
+-- 1: all buffers came back, and so many; 0: as many as the stash had room for; 2: no disabling was seen answered
+abbrev pub TriedReclaim : ℕ → ℕ → Receiver → Worked → Receiver → Worked → Type 0
+TriedReclaim zero count old had new has = FilledUp old had new has
+TriedReclaim (suc zero) count old had new has = AllCame count old had new has
+TriedReclaim (suc (suc zero)) count old had new has = (is_stopped (driver_state old.end) ≡ false) × (new ≡ old) × (has ≡ had)
+TriedReclaim _ count old had new has = ⊥
+
+-- 1: it is on; 0: it is not; 2: it was seen disabled
+abbrev pub TriedEnable : ℕ → Receiver → Receiver → Type 0
+TriedEnable zero old new = TriedEnabling false old new
+TriedEnable (suc zero) old new = TriedEnabling true old new
+TriedEnable (suc (suc zero)) old new = (is_stopped (driver_state old.end) ≡ true) × (new ≡ old)
+TriedEnable _ old new = ⊥
+
+-- 1: it was asked for; 0: it is not on
+abbrev pub TriedDisable : ℕ → Receiver → Receiver → Type 0
+TriedDisable zero old new = (is_on (driver_state old.end) ≡ false) × (new ≡ old)
+TriedDisable (suc zero) old new = AskedDisable old new
+TriedDisable _ old new = ⊥
+
+-- 1: so many segments are left; 0: that is not known yet, or was told
+abbrev pub TriedLeft : ℕ → ℕ → Receiver → Receiver → Type 0
+TriedLeft zero count old new = TriedFinish None old new
+TriedLeft (suc zero) count old new = TriedFinish (Some count) old new
+TriedLeft _ count old new = ⊥
+
+-- 1: it was renewed; 0: buffers are left, or it was not seen disabled
+abbrev pub TriedRenewal : ℕ → Receiver → Receiver → Type 0
+TriedRenewal zero old new = (¬ IsEmptied old) × (new ≡ old)
+TriedRenewal (suc zero) old new = Renewed old new
+TriedRenewal _ old new = ⊥
+
+-- the step of an operation, by its number, with this answer
+abbrev pub Moved : ℕ → ℕ → ℕ → Receiver → Worked → Receiver → Worked → Type 0
+Moved zero answer count old had new has = TriedBatch answer count old had new has
+Moved (suc zero) answer count old had new has = TriedReclaim answer count old had new has
+Moved _ answer count old had new has = ⊤
+
+-- the step of an operation, by its number, with this answer
+abbrev pub Did : ℕ → ℕ → ℕ → Receiver → Receiver → Type 0
+Did zero answer count old new = TriedEnable answer old new
+Did (suc zero) answer count old new = TriedDisable answer old new
+Did (suc (suc zero)) answer count old new = TriedLeft answer count old new
+Did (suc (suc (suc zero))) answer count old new = TriedRenewal answer old new
+Did (suc (suc (suc (suc zero)))) answer count old new = FoundQuiet answer old new
+Did _ answer count old new = ⊤
+
 -- ---- a device's calls
 
 -- the frame is stored, whole
 pub record StoredWhole (frame : Bytes) (old new : Receiving) : Type 0 where
   pub was : WasStored old frame new
   pub frames_are : frames piece_of (stored new.end) ≡ frames piece_of (stored old.end) ++ frame ∷ []
+
+-- what a frame's offering answers, and what it did then: 1 stored; 0 held, and to be offered again; 2 refused for its length; 3 off; 4 oversize; 5 dropped
+abbrev pub TriedOffer : ℕ → Bytes → Receiving → Receiving → Type 0
+TriedOffer zero frame old new = WasHeld old frame new
+TriedOffer (suc zero) frame old new = StoredWhole frame old new
+TriedOffer (suc (suc zero)) frame old new = WasRefused old frame new
+TriedOffer (suc (suc (suc zero))) frame old new = WasOff old frame new
+TriedOffer (suc (suc (suc (suc zero)))) frame old new = WasOversize old frame new
+TriedOffer (suc (suc (suc (suc (suc zero))))) frame old new = WasDropped old frame new
+TriedOffer _ frame old new = ⊥
 
 -- what is asked was loaded, and answered where it may be: the value is the one that was stored, else the one that was loaded
 pub record Turned (value : ℕ) (old new : Receiving) : Type 0 where
@@ -146,3 +192,10 @@ pub record Turned (value : ℕ) (old new : Receiving) : Type 0 where
 pub record TriedQuiet (did : Bool) (old new : Receiving) : Type 0 where
   pub finished : Finished old.end did new.end
   pub same : new ≡ record old { end = new.end }
+
+-- the step of an operation, by its number, with this answer
+abbrev pub Played : ℕ → ℕ → Bytes → Receiving → Receiving → Type 0
+Played zero answer frame old new = TriedOffer answer frame old new
+Played (suc zero) answer frame old new = Turned answer old new
+Played (suc (suc zero)) answer frame old new = (answer ≡ 1 → TriedQuiet true old new) × (answer ≢ 1 → TriedQuiet false old new)
+Played _ answer frame old new = ⊤

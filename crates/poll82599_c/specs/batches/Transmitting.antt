@@ -1,5 +1,5 @@
 -- What the exports say of a transmit queue's driver and of its device, and of their steps.
-use Rattle.std.specs.Prelude.{◌≡◌, ℕ, ◌+◌, ◌++◌, ◌<◌, Bool, true, false, Option, Some, List, [], ◌∷◌, length, take, drop, map, slice_get}
+use Rattle.std.specs.Prelude.{◌≡◌, ⊤, ℕ, zero, suc, ◌+◌, ◌++◌, ◌<◌, Bool, true, false, Option, Some, None, List, [], ◌∷◌, length, take, drop, map, slice_get}
 use Rattle.buffer_pool.specs.declared.stash.TheConstants.{STASH_BUFFERS}
 use Rattle.buffer_pool.specs.Packed.{bytes_of}
 use Rattle.ring_model.specs.declared.states.Completion.{Completion}
@@ -20,7 +20,7 @@ use Rattle.driver.specs.transmit.Returns.{IsEmptied}
 use Rattle.driver.specs.transmit.Transmitter.{Transmitter, sending}
 use Rattle.controller.specs.Handshaking.{TurnedControl}
 use Rattle.controller.specs.Transmitting.{WasIdle, WasOff, WasRefused, WasSent}
-use Rattle.poll82599_c.specs.Held.{Between, Both, Of}
+use Rattle.poll82599_c.specs.Held.{Between, Both}
 use Rattle.poll82599_c.specs.batches.Packets.{Worked}
 
 -- A driver and a device of one fresh ring of n descriptors that reports so: of so many frames one asks for a report
@@ -50,25 +50,6 @@ AreLawful = Both (λ q d. IsLawfulTxLedger Bytes (driver_size q.end) (ledger_of 
 -- where the head was loaded, what was said to be left is what of the posted is not sent
 abbrev pub AreTold : Option Transmitter → Option ControllerSide → Type 0
 AreTold = Both (λ q d. IsTold (told_left q.end) (length (sent_now q.end d)) (length (posted q.end)))
-
--- it was not seen on, or was seen disabled
-abbrev pub IsNotLive : Option Transmitter → Type 0
-IsNotLive = Of (λ q. is_live (driver_state q.end) ≡ false)
-
--- it was not seen on, or a disabling was asked
-abbrev pub IsNotOn : Option Transmitter → Type 0
-IsNotOn = Of (λ q. is_on (driver_state q.end) ≡ false)
-
--- the disabling was seen answered
-abbrev pub IsStopped : Option Transmitter → Type 0
-IsStopped = Of (λ q. is_stopped (driver_state q.end) ≡ true)
-
-abbrev pub IsNotStopped : Option Transmitter → Type 0
-IsNotStopped = Of (λ q. is_stopped (driver_state q.end) ≡ false)
-
--- buffers of it are out, or it was not seen disabled
-abbrev pub IsNotEmptied : Option Transmitter → Type 0
-IsNotEmptied = Of (λ q. ¬ IsEmptied q)
 
 -- ---- a driver's calls
 
@@ -128,6 +109,68 @@ pub record Renewed (old new : Transmitter) : Type 0 where
   pub begun : GoneOver old.end new.end
   pub rest : new ≡ record old { end = new.end; frames = 0 }
 
+-- ---- what a driver's calls answer, and what they did then
+
+-- 1: so many packets were posted; 0: it was not seen on, or was seen disabled; 3: the oldest packet is too long, and reported buffers came back alone
+abbrev pub TriedBatch : ℕ → ℕ → Transmitter → Worked → Transmitter → Worked → Type 0
+TriedBatch zero count old had new has = (is_live (driver_state old.end) ≡ false) × (new ≡ old) × (has ≡ had)
+TriedBatch (suc zero) count old had new has = PostedBatch count old had new has
+TriedBatch (suc (suc (suc zero))) count old had new has = CleanedAlone old had new has
+TriedBatch _ count old had new has = ⊥
+
+-- 1: so many reported buffers came back; 0: it was not seen on, or was seen disabled
+abbrev pub TriedCleaning : ℕ → ℕ → Transmitter → Worked → Transmitter → Worked → Type 0
+TriedCleaning zero count old had new has = (is_live (driver_state old.end) ≡ false) × (new ≡ old) × (has ≡ had)
+TriedCleaning (suc zero) count old had new has = CleanedSome count old had new has
+TriedCleaning _ count old had new has = ⊥
+
+-- 1: all buffers came back, and so many; 0: as many as the stash had room for; 2: no disabling was seen answered
+abbrev pub TriedReclaim : ℕ → ℕ → Transmitter → Worked → Transmitter → Worked → Type 0
+TriedReclaim zero count old had new has = FilledUp old had new has
+TriedReclaim (suc zero) count old had new has = AllCame count old had new has
+TriedReclaim (suc (suc zero)) count old had new has = (is_stopped (driver_state old.end) ≡ false) × (new ≡ old) × (has ≡ had)
+TriedReclaim _ count old had new has = ⊥
+
+-- 1: it is on; 0: it is not; 2: it was seen disabled
+abbrev pub TriedEnable : ℕ → Transmitter → Transmitter → Type 0
+TriedEnable zero old new = TriedEnabling false old new
+TriedEnable (suc zero) old new = TriedEnabling true old new
+TriedEnable (suc (suc zero)) old new = (is_stopped (driver_state old.end) ≡ true) × (new ≡ old)
+TriedEnable _ old new = ⊥
+
+-- 1: it was asked for; 0: it is not on
+abbrev pub TriedDisable : ℕ → Transmitter → Transmitter → Type 0
+TriedDisable zero old new = (is_on (driver_state old.end) ≡ false) × (new ≡ old)
+TriedDisable (suc zero) old new = AskedDisable old new
+TriedDisable _ old new = ⊥
+
+-- 1: so many segments are left; 0: that is not known yet, or was told
+abbrev pub TriedLeft : ℕ → ℕ → Transmitter → Transmitter → Type 0
+TriedLeft zero count old new = TriedFinish None old new
+TriedLeft (suc zero) count old new = TriedFinish (Some count) old new
+TriedLeft _ count old new = ⊥
+
+-- 1: it was renewed; 0: buffers are out, or it was not seen disabled
+abbrev pub TriedRenewal : ℕ → Transmitter → Transmitter → Type 0
+TriedRenewal zero old new = (¬ IsEmptied old) × (new ≡ old)
+TriedRenewal (suc zero) old new = Renewed old new
+TriedRenewal _ old new = ⊥
+
+-- the step of an operation, by its number, with this answer
+abbrev pub Moved : ℕ → ℕ → ℕ → Transmitter → Worked → Transmitter → Worked → Type 0
+Moved zero answer count old had new has = TriedBatch answer count old had new has
+Moved (suc zero) answer count old had new has = TriedCleaning answer count old had new has
+Moved (suc (suc zero)) answer count old had new has = TriedReclaim answer count old had new has
+Moved _ answer count old had new has = ⊤
+
+-- the step of an operation, by its number, with this answer
+abbrev pub Did : ℕ → ℕ → ℕ → Transmitter → Transmitter → Type 0
+Did zero answer count old new = TriedEnable answer old new
+Did (suc zero) answer count old new = TriedDisable answer old new
+Did (suc (suc zero)) answer count old new = TriedLeft answer count old new
+Did (suc (suc (suc zero))) answer count old new = TriedRenewal answer old new
+Did _ answer count old new = ⊤
+
 -- ---- a device's calls
 
 -- the next frame was sent, one more than before
@@ -175,8 +218,24 @@ FoundOff old new = WasOff old [] new []
 abbrev pub FoundNoMemory : ControllerSide → ControllerSide → Type 0
 FoundNoMemory old new = WasRefused old [] new []
 
+-- what the sending of a frame answers, and what it did then: 1, and its length, where it is in the room; 0 idle; 3 off; 4 where the room is too small; 5 no memory; 6, and its length, where it is longer than the room
+abbrev pub TriedTurn : ℕ → ℕ → Bytes → Bytes → ControllerSide → ControllerSide → Type 0
+TriedTurn zero count before after old new = FoundIdle old new × (after ≡ before)
+TriedTurn (suc zero) count before after old new = SentInto count before after old new
+TriedTurn (suc (suc (suc zero))) count before after old new = FoundOff old new × (after ≡ before)
+TriedTurn (suc (suc (suc (suc zero)))) count before after old new = (new ≡ old) × (after ≡ before)
+TriedTurn (suc (suc (suc (suc (suc zero))))) count before after old new = FoundNoMemory old new × (after ≡ before)
+TriedTurn (suc (suc (suc (suc (suc (suc zero)))))) count before after old new = SentBeyond count before after old new
+TriedTurn _ count before after old new = ⊥
+
 -- what is asked was loaded, and answered where it may be: the value is the one that was stored, else the one that was loaded
 pub record Turned (value : ℕ) (old new : ControllerSide) : Type 0 where
   pub told : Control
   pub value_is : value ≡ control_word told
   pub turned : TurnedControl old told new
+
+-- the step of an operation, by its number, with this answer
+abbrev pub Played : ℕ → ℕ → ℕ → Bytes → Bytes → ControllerSide → ControllerSide → Type 0
+Played zero answer count before after old new = TriedTurn answer count before after old new
+Played (suc zero) answer count before after old new = Turned answer old new
+Played _ answer count before after old new = ⊤

@@ -1,5 +1,5 @@
 -- What the exports of a receive ring say of the two ends that handles hold, and of their steps.
-use Rattle.std.specs.Prelude.{◌≡◌, ◌≢◌, ℕ, ◌⊎◌, Option, Bool, false, if◌then◌else◌, ◌++◌, length, drop, [], ◌∷◌}
+use Rattle.std.specs.Prelude.{◌≡◌, ◌≢◌, ⊤, ℕ, zero, suc, ◌⊎◌, Option, Bool, false, if◌then◌else◌, ◌++◌, length, drop, [], ◌∷◌}
 use Rattle.std.specs.Int.{from_bool}
 use Rattle.atomic_table.specs.Seated.{TableId}
 use Rattle.buffer_pool.specs.Buffer.{Buffer, buffer}
@@ -9,13 +9,14 @@ use Rattle.ring_model.specs.shared.Frames.{Bytes}
 use Rattle.ring_model.specs.shared.Segments.{piece_of}
 use Rattle.shared_ring.specs.declared.events.DriverEvent.TheVariants as driver
 use Rattle.shared_ring.specs.declared.events.ControllerEvent.TheVariants as controller
-use Rattle.rx_ring.specs.Calls.{FoundFree, IsTold, SawNotDone, TookSegment, told_left}
+use Rattle.rx_ring.specs.Calls.{FoundFree, FoundLeft, GoneOver, IsTold, SawNotDone, TookSegment, told_left}
 use Rattle.rx_ring.specs.declared.events.RxDriverOwn.TheVariants.{LoadedQuiet}
 use Rattle.rx_ring.specs.declared.events.RxControllerOwn.TheVariants.{SaidQuiet, WroteBack}
 use Rattle.rx_ring.specs.Ends.{DriverSide, ControllerSide, answered, appended, driver_size, fill_place, is_between, known_free, reclaimed, serve_place, stored, taken}
 use Rattle.rx_ring.specs.Meeting.{MadeSeats, ledger_of, stored_now}
-use Rattle.poll82599_c.specs.Held.{Both}
+use Rattle.poll82599_c.specs.Held.{Both, Tried}
 use Rattle.poll82599_c.specs.rings.Following.{IsBegun}
+use Rattle.poll82599_c.specs.rings.Steps.{AskedDisable, AskedEnable, LoadedControl, PublishedAll, ReclaimedOne, TriedAnswer}
 use Rattle.poll82599_c.specs.declared.rings.begun.Begun.{Begun}
 
 -- both are fresh ends of one ring of n descriptors
@@ -56,6 +57,24 @@ pub record TookNone (answer : ℕ) (before after : Bytes) (old new : DriverSide)
 abbrev pub FoundQuiet : ℕ → DriverSide → DriverSide → Type 0
 FoundQuiet value old new = new ≡ appended old (driver.Own (LoadedQuiet value))
 
+-- a poll with this answer
+abbrev pub TriedPoll : ℕ → ℕ → ℕ → Bytes → Bytes → DriverSide → DriverSide → Type 0
+TriedPoll answer len eop before after old new = (answer ≡ 1 → TookOne len eop before after old new) × (answer ≢ 1 → TookNone answer before after old new)
+
+-- the step of an operation, by its number, with this answer
+abbrev pub Drove : ℕ → ℕ → ℕ → ℕ → Bytes → Bytes → DriverSide → DriverSide → Type 0
+Drove zero answer len eop before after old new = Tried PostedOne answer old new
+Drove (suc zero) answer len eop before after old new = Tried PublishedAll answer old new
+Drove (suc (suc zero)) answer len eop before after old new = TriedPoll answer len eop before after old new
+Drove (suc (suc (suc zero))) answer len eop before after old new = Tried AskedEnable answer old new
+Drove (suc (suc (suc (suc zero)))) answer len eop before after old new = LoadedControl answer old new
+Drove (suc (suc (suc (suc (suc zero))))) answer len eop before after old new = Tried AskedDisable answer old new
+Drove (suc (suc (suc (suc (suc (suc zero)))))) answer len eop before after old new = FoundQuiet answer old new
+Drove (suc (suc (suc (suc (suc (suc (suc zero))))))) answer len eop before after old new = Tried ReclaimedOne answer old new
+Drove (suc (suc (suc (suc (suc (suc (suc (suc zero)))))))) answer len eop before after old new = Tried GoneOver answer old new
+Drove (suc (suc (suc (suc (suc (suc (suc (suc (suc zero))))))))) answer len eop before after old new = Tried (λ d e. FoundLeft d len e) answer old new
+Drove _ answer len eop before after old new = ⊤
+
 -- ---- a controller's steps
 
 -- A4 and A5, and where it ends its frame A7: one more segment is stored, of these bytes
@@ -82,6 +101,17 @@ pub record FoundNoneFree (old new : ControllerSide) : Type 0 where
 -- C7
 abbrev pub SaidNoMore : ControllerSide → ControllerSide → Type 0
 SaidNoMore old new = new ≡ answered old (controller.Own SaidQuiet)
+
+-- a storing with this answer
+abbrev pub TriedStore : ℕ → Bytes → Bool → ControllerSide → ControllerSide → Type 0
+TriedStore answer bytes eop old new = (answer ≡ 1 → StoredOne bytes eop old new) × (answer ≡ 0 → FoundNoneFree old new) × (answer ≢ 0 → answer ≢ 1 → new ≡ old)
+
+-- the step of an operation, by its number, with this answer
+abbrev pub Served : ℕ → ℕ → Bytes → Bool → ControllerSide → ControllerSide → Type 0
+Served zero answer bytes eop old new = TriedAnswer answer old new
+Served (suc zero) answer bytes eop old new = TriedStore answer bytes eop old new
+Served (suc (suc zero)) answer bytes eop old new = Tried SaidNoMore answer old new
+Served _ answer bytes eop old new = ⊤
 
 -- ---- what the objects behind the handles keep
 

@@ -1,5 +1,5 @@
 -- What the exports of both kinds of rings say alike of the two ends that handles hold, and of their steps.
-use Rattle.std.specs.Prelude.{◌≡◌, ℕ, Option}
+use Rattle.std.specs.Prelude.{◌≡◌, ◌≢◌, ℕ, Option}
 use Rattle.buffer_pool.specs.Buffer.{Buffer}
 use Rattle.shared_ring.specs.declared.events.DriverEvent.TheVariants as driver
 use Rattle.shared_ring.specs.declared.events.ControllerEvent.TheVariants as controller
@@ -53,3 +53,7 @@ module _ {Ring Posted Served Given D C : Type 0} {form : Form Ring Posted Served
   pub record AnsweredAsked (old new : ControllerSide form) : Type 0 where
     pub value : ℕ
     pub step : Answered (answered old (controller.LoadedRequest value)) new
+
+  -- 1 answers that it was answered, and another number that it was not
+  abbrev pub TriedAnswer : ℕ → ControllerSide form → ControllerSide form → Type 0
+  TriedAnswer answer old new = (answer ≡ 1 → AnsweredAsked old new) × (answer ≢ 1 → LookedAsked old new)

@@ -1,5 +1,5 @@
 -- What the exports of a transmit ring say of the two ends that handles hold, and of their steps.
-use Rattle.std.specs.Prelude.{◌≡◌, ◌≢◌, ℕ, Option, Bool, true, false, ◌++◌, length, drop, [], ◌∷◌}
+use Rattle.std.specs.Prelude.{◌≡◌, ◌≢◌, ⊤, ℕ, zero, suc, Option, Bool, true, false, ◌++◌, length, drop, [], ◌∷◌}
 use Rattle.std.specs.Int.{from_bool}
 use Rattle.atomic_table.specs.Seated.{TableId}
 use Rattle.buffer_pool.specs.Buffer.{Buffer, buffer}
@@ -10,12 +10,13 @@ use Rattle.ring_model.specs.transmit.Lawful.{IsLawfulTxLedger}
 use Rattle.ring_model.specs.transmit.Ring.{are_whole, new_posting}
 use Rattle.shared_ring.specs.declared.events.DriverEvent.TheVariants as driver
 use Rattle.shared_ring.specs.declared.events.ControllerEvent.TheVariants as controller
-use Rattle.tx_ring.specs.Calls.{CleanedOne, FoundReady, Polled, report_of}
+use Rattle.tx_ring.specs.Calls.{CleanedOne, FoundLeft, FoundReady, GoneOver, Polled, SawReported, report_of}
 use Rattle.tx_ring.specs.Ends.{DriverSide, ControllerSide, answered, appended, controller_size, driver_size, fill_place, known_ready, posted, sent}
 use Rattle.tx_ring.specs.Meeting.{IsTold, MadeSeats, ledger_of, sent_now, told_left}
 use Rattle.tx_ring.specs.Records.{Posting}
-use Rattle.poll82599_c.specs.Held.{Both}
+use Rattle.poll82599_c.specs.Held.{Both, Tried}
 use Rattle.poll82599_c.specs.rings.Following.{IsPosting}
+use Rattle.poll82599_c.specs.rings.Steps.{AskedDisable, AskedEnable, LoadedControl, PublishedAll, ReclaimedOne, TriedAnswer}
 use Rattle.poll82599_c.specs.declared.rings.begun.Begun.{Begun}
 
 -- both are fresh ends of one ring of n descriptors that reports so
@@ -47,6 +48,24 @@ pub record CleanedBuffer (old new : DriverSide) : Type 0 where
   pub buf : Buffer
   pub clean : CleanedOne old buf new
 
+-- the load of a report with this answer
+abbrev pub TriedReport : ℕ → DriverSide → DriverSide → Type 0
+TriedReport answer old new = (answer ≡ 1 → SawReported old new) × (answer ≢ 1 → SawNoReport old new)
+
+-- the step of an operation, by its number, with this answer
+abbrev pub Drove : ℕ → ℕ → ℕ → Bytes → Bool → Bool → ℕ → DriverSide → DriverSide → Type 0
+Drove zero answer len bytes eop rs paylen old new = Tried (PostedSegment bytes eop rs paylen) answer old new
+Drove (suc zero) answer len bytes eop rs paylen old new = Tried PublishedAll answer old new
+Drove (suc (suc zero)) answer len bytes eop rs paylen old new = TriedReport answer old new
+Drove (suc (suc (suc zero))) answer len bytes eop rs paylen old new = Tried AskedEnable answer old new
+Drove (suc (suc (suc (suc zero)))) answer len bytes eop rs paylen old new = LoadedControl answer old new
+Drove (suc (suc (suc (suc (suc zero))))) answer len bytes eop rs paylen old new = Tried AskedDisable answer old new
+Drove (suc (suc (suc (suc (suc (suc zero)))))) answer len bytes eop rs paylen old new = Tried CleanedBuffer answer old new
+Drove (suc (suc (suc (suc (suc (suc (suc zero))))))) answer len bytes eop rs paylen old new = Tried ReclaimedOne answer old new
+Drove (suc (suc (suc (suc (suc (suc (suc (suc zero)))))))) answer len bytes eop rs paylen old new = Tried GoneOver answer old new
+Drove (suc (suc (suc (suc (suc (suc (suc (suc (suc zero))))))))) answer len bytes eop rs paylen old new = Tried (λ d e. FoundLeft d len e) answer old new
+Drove _ answer len bytes eop rs paylen old new = ⊤
+
 -- ---- a controller's steps
 
 -- B4 and B5: one more segment is sent, its bytes are at the beginning of the room, and where it asks for a report the last step (B6) makes it
@@ -71,6 +90,16 @@ pub record SentNone (answer : ℕ) (before after : Bytes) (old new : ControllerS
   pub looked : answer ≡ 0 → FoundNoneReady old new
   pub still : answer ≢ 0 → new ≡ old
   pub kept : after ≡ before
+
+-- a sending with this answer
+abbrev pub TriedSend : ℕ → ℕ → ℕ → Bytes → Bytes → ControllerSide → ControllerSide → Type 0
+TriedSend answer len eop before after old new = (answer ≡ 1 → SentOne len eop before after old new) × (answer ≢ 1 → SentNone answer before after old new)
+
+-- the step of an operation, by its number, with this answer
+abbrev pub Served : ℕ → ℕ → ℕ → ℕ → Bytes → Bytes → ControllerSide → ControllerSide → Type 0
+Served zero answer len eop before after old new = TriedAnswer answer old new
+Served (suc zero) answer len eop before after old new = TriedSend answer len eop before after old new
+Served _ answer len eop before after old new = ⊤
 
 -- ---- what the object behind a driver's handle keeps: the end is of its ring, and of a frame that is begun so many segments and bytes are posted, each with this PAYLEN
 pub record IsDriving (ring : TableId) (d : DriverSide) (begun : Begun) (paylen : ℕ) : Type 0 where

@@ -4,7 +4,7 @@ ghost use Rattle.poll82599_c.specs.Handles.{as_packets};
 ghost use Rattle.buffer_pool.specs.declared.stash.TheConstants.{STASH_BUFFERS};
 ghost use Rattle.limits.specs.declared.profile.TheConstants.{BUFFER_BYTES, MOST_SEGMENTS};
 ghost use Rattle.ring_model.specs.shared.Frames.{HasFrameLength};
-ghost use Rattle.poll82599_c.specs.batches.Packets.{CopiedOut, HasNoByte, HasNoPlace, IsAbsent, IsCrowded, IsMade, IsTooShort, Packed, Pushed, PutFrame, ReadByte, Released, SetIn, WroteByte, numbers_of};
+ghost use Rattle.poll82599_c.specs.batches.Packets.{HasNoByte, IsAbsent, IsCrowded, IsMade, Packed, Pushed, Released, SetIn, TriedCopy, TriedPut, TriedRead, WroteByte, numbers_of};
 
 use crate::batches::found::Found;
 use crate::end::End;
@@ -50,11 +50,7 @@ impl Packets {
     /// Makes a packet of these bytes, behind the others: 1; 0 where there are 32, or too few empty buffers; 2 where no frame
     /// has so many bytes.
     pub(crate) fn put(&mut self, frame: &[u8]) -> u32
-        ensures step { (result ≡ 1) → PutFrame frame.now self.old self.new }
-        ensures refused { (result ≡ 2) → ¬ HasFrameLength frame.now }
-        ensures full { (result ≡ 0) → HasNoPlace frame.now self.old }
-        ensures answers { result ≤ 2 }
-        ensures kept { (result ≢ 1) → self.new ≡ self.old }
+        ensures step { TriedPut result frame.now self.old self.new }
     {
         if frame.len() < LEAST_FRAME || MOST_FRAME < frame.len() {
             return 2;
@@ -69,13 +65,13 @@ impl Packets {
     /// Copies packet `i`, counted from 0, into a room: 1; 0 where there is no such packet; 4 where the room is too small. With 1
     /// and 4 it says the packet's length.
     pub(crate) fn copy(&self, i: usize, room: &mut [u8]) -> Found
-        ensures step { (result.answer ≡ 1) → CopiedOut i result.count room.old room.new self.now self.now }
-        ensures short { (result.answer ≡ 4) → IsTooShort i result.count room.old self.now }
-        ensures absent { (result.answer ≡ 0) → IsAbsent i self.now }
-        ensures kept { (result.answer ≢ 1) → room.new ≡ room.old }
+        ensures step { TriedCopy result.answer i result.count room.old room.new self.now self.now }
     {
         match self.list.as_slice().get(i) {
-            None => Found::nothing(0),
+            None => Found {
+                answer: 0,
+                count: 0,
+            },
             Some(packet) if room.len() < packet.len() => Found {
                 answer: 4,
                 count: packet.len(),
@@ -92,8 +88,7 @@ impl Packets {
 
     /// Reads a byte of packet `i`: 1, and the byte; 0 where there is no such packet or byte.
     pub(crate) fn byte(&self, i: usize, at: usize) -> (u32, u8)
-        ensures step { (result.0 ≡ 1) → ReadByte i at result.1 self.now self.now }
-        ensures absent { (result.0 ≢ 1) → HasNoByte i at self.now.packets }
+        ensures step { TriedRead result.0 i at result.1 self.now self.now }
     {
         match self.list.as_slice().get(i) {
             Some(packet) if at < packet.len() => (1, packet.byte(at)),

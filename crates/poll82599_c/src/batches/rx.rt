@@ -1,14 +1,13 @@
 //! The exports of a receive queue.
-ghost use Rattle.std.specs.Prelude.{◌≡◌, ◌≢◌, ◌<◌, ◌≤◌, ◌⊎◌, true, false, Some, None, IsSome, pos};
+ghost use Rattle.std.specs.Prelude.{◌≡◌, ◌≢◌, ◌<◌, ◌⊎◌, None, IsSome, pos};
 ghost use Rattle.limits.specs.RingLength.{IsRingLength};
 ghost use Rattle.controller.specs.FillSize.{IsFillSize};
-ghost use Rattle.controller.specs.Receiving.{WasDropped, WasHeld, WasOff, WasOversize, WasRefused};
 ghost use Rattle.opaque.specs.Words.{is_set};
 ghost use Rattle.poll82599_c.specs.Handles.{as_packets, as_rx_device, as_rx_queue};
 ghost use Rattle.poll82599_c.specs.Held.{Among, Between};
-ghost use Rattle.poll82599_c.specs.batches.Receiving.{AllCame, AreCounts, AreLawful, AreMade, AreOfOne, AreTold, AskedDisable, FilledUp, FoundQuiet, IsNotEmptied, IsNotLive, IsNotOn, IsNotStopped, IsStopped};
-ghost use Rattle.poll82599_c.specs.batches.Receiving.{Renewed, SameDevice, SameQueue, StoredWhole, TookBatch, TriedEnabling, TriedFinish, TriedQuiet, Turned};
+ghost use Rattle.poll82599_c.specs.batches.Receiving.{AreCounts, AreLawful, AreMade, AreOfOne, AreTold, Did, Moved, Played, SameDevice, SameQueue};
 
+use crate::batches::found::Found;
 use crate::batches::rx_making::{make, unmake};
 use crate::call::{NO_OPERATION, Poll82599Device, Poll82599Queue};
 use crate::end::End;
@@ -58,41 +57,23 @@ pub extern "C" fn poll82599_rx_queue_move(
 )
     requires queue { IsSome queue.old.held }
     requires packets { IsSome packets.old.held }
-    ensures other { (as_rx_queue queue.old.held ≡ None) ⊎ (as_packets packets.old.held ≡ None) → call.new.answer ≡ 4294967295 }
-    ensures other_queue { (as_rx_queue queue.old.held ≡ None) ⊎ (as_packets packets.old.held ≡ None) → queue.new.held ≡ queue.old.held }
-    ensures other_packets { (as_rx_queue queue.old.held ≡ None) ⊎ (as_packets packets.old.held ≡ None) → packets.new.held ≡ packets.old.held }
+    ensures other { (as_rx_queue queue.old.held ≡ None) ⊎ (as_packets packets.old.held ≡ None) → (call.new.answer ≡ 4294967295) × (queue.new.held ≡ queue.old.held) × (packets.new.held ≡ packets.old.held) }
     ensures own { SameQueue (as_rx_queue queue.old.held) (as_rx_queue queue.new.held) }
-    ensures answers { (call.old.operation ≡ 1) → IsSome (as_rx_queue queue.old.held) → IsSome (as_packets packets.old.held) → call.new.answer ≤ 2 }
-    ensures batch { (call.old.operation ≡ 0) → (call.new.answer ≡ 1)
-        → Among (TookBatch call.new.count) (as_rx_queue queue.old.held) (as_packets packets.old.held) (as_rx_queue queue.new.held) (as_packets packets.new.held) }
-    ensures off { (call.old.operation ≡ 0) → (call.new.answer ≢ 1) → IsSome (as_rx_queue queue.old.held) → IsSome (as_packets packets.old.held) → IsNotLive (as_rx_queue queue.old.held) }
-    ensures back { (call.old.operation ≡ 1) → (call.new.answer ≡ 1)
-        → Among (AllCame call.new.count) (as_rx_queue queue.old.held) (as_packets packets.old.held) (as_rx_queue queue.new.held) (as_packets packets.new.held) }
-    ensures full { (call.old.operation ≡ 1) → (call.new.answer ≡ 0) → Among FilledUp (as_rx_queue queue.old.held) (as_packets packets.old.held) (as_rx_queue queue.new.held) (as_packets packets.new.held) }
-    ensures waits { (call.old.operation ≡ 1) → (call.new.answer ≡ 2) → IsNotStopped (as_rx_queue queue.old.held) }
-    ensures queue { (call.old.operation ≢ 1) → (call.new.answer ≢ 1) → queue.new.held ≡ queue.old.held }
-    ensures packets { (call.old.operation ≢ 1) → (call.new.answer ≢ 1) → packets.new.held ≡ packets.old.held }
-    ensures queue_waits { (call.old.operation ≡ 1) → (call.new.answer ≡ 2) → queue.new.held ≡ queue.old.held }
-    ensures packets_wait { (call.old.operation ≡ 1) → (call.new.answer ≡ 2) → packets.new.held ≡ packets.old.held }
+    ensures step { Among (Moved call.old.operation call.new.answer call.new.count) (as_rx_queue queue.old.held) (as_packets packets.old.held) (as_rx_queue queue.new.held) (as_packets packets.new.held) }
+    ensures kept { (1 < call.old.operation) → (queue.new.held ≡ queue.old.held) × (packets.new.held ≡ packets.old.held) }
 {
     let mut end = queue.take(alloc);
     let mut worker = packets.take(alloc);
-    call.answer = match (&mut *end, &mut *worker) {
+    let found = match (&mut *end, &mut *worker) {
         (End::RxQueue(driving), End::Packets(held)) => match call.operation {
-            0 => {
-                let found = driving.batch(held);
-                call.count = found.count;
-                found.answer
-            }
-            1 => {
-                let found = driving.reclaim(held);
-                call.count = found.count;
-                found.answer
-            }
-            _ => NO_OPERATION,
+            0 => driving.batch(held),
+            1 => driving.reclaim(held),
+            _ => Found::nothing(NO_OPERATION),
         },
-        _ => NO_OPERATION,
+        _ => Found::nothing(NO_OPERATION),
     };
+    call.answer = found.answer;
+    call.count = found.count;
     queue.put(end);
     packets.put(worker);
 }
@@ -108,19 +89,8 @@ pub extern "C" fn poll82599_rx_queue_do(
     requires { IsSome queue.old.held }
     ensures other { as_rx_queue queue.old.held ≡ None → (call.new.answer ≡ 4294967295) × (queue.new.held ≡ queue.old.held) }
     ensures own { SameQueue (as_rx_queue queue.old.held) (as_rx_queue queue.new.held) }
-    ensures answers { (call.old.operation ≡ 0) → IsSome (as_rx_queue queue.old.held) → call.new.answer ≤ 2 }
-    ensures on { (call.old.operation ≡ 0) → (call.new.answer ≡ 1) → Between (TriedEnabling true) (as_rx_queue queue.old.held) (as_rx_queue queue.new.held) }
-    ensures waits { (call.old.operation ≡ 0) → (call.new.answer ≡ 0) → Between (TriedEnabling false) (as_rx_queue queue.old.held) (as_rx_queue queue.new.held) }
-    ensures stopped { (call.old.operation ≡ 0) → (call.new.answer ≡ 2) → IsStopped (as_rx_queue queue.old.held) }
-    ensures unrenewed { (call.old.operation ≡ 0) → (call.new.answer ≡ 2) → queue.new.held ≡ queue.old.held }
-    ensures asked { (call.old.operation ≡ 1) → (call.new.answer ≡ 1) → Between AskedDisable (as_rx_queue queue.old.held) (as_rx_queue queue.new.held) }
-    ensures unasked { (call.old.operation ≡ 1) → (call.new.answer ≢ 1) → IsNotOn (as_rx_queue queue.old.held) }
-    ensures finished { (call.old.operation ≡ 2) → (call.new.answer ≡ 1) → Between (TriedFinish (Some call.new.count)) (as_rx_queue queue.old.held) (as_rx_queue queue.new.held) }
-    ensures unfinished { (call.old.operation ≡ 2) → (call.new.answer ≢ 1) → Between (TriedFinish None) (as_rx_queue queue.old.held) (as_rx_queue queue.new.held) }
-    ensures renewed { (call.old.operation ≡ 3) → (call.new.answer ≡ 1) → Between Renewed (as_rx_queue queue.old.held) (as_rx_queue queue.new.held) }
-    ensures left { (call.old.operation ≡ 3) → (call.new.answer ≢ 1) → IsNotEmptied (as_rx_queue queue.old.held) }
-    ensures quiet { (call.old.operation ≡ 4) → Between (FoundQuiet call.new.answer) (as_rx_queue queue.old.held) (as_rx_queue queue.new.held) }
-    ensures kept { (call.old.operation ≢ 0) → (call.old.operation ≢ 2) → (call.old.operation ≢ 4) → (call.new.answer ≢ 1) → queue.new.held ≡ queue.old.held }
+    ensures step { Between (Did call.old.operation call.new.answer call.new.count) (as_rx_queue queue.old.held) (as_rx_queue queue.new.held) }
+    ensures kept { (4 < call.old.operation) → queue.new.held ≡ queue.old.held }
 {
     let mut end = queue.take(alloc);
     call.answer = match &mut *end {
@@ -153,18 +123,9 @@ pub extern "C" fn poll82599_rx_device_do(
     requires { IsSome device.old.held }
     ensures other { as_rx_device device.old.held ≡ None → (call.new.answer ≡ 4294967295) × (device.new.held ≡ device.old.held) }
     ensures own { SameDevice (as_rx_device device.old.held) (as_rx_device device.new.held) }
-    ensures answers { (call.old.operation ≡ 0) → IsSome (as_rx_device device.old.held) → call.new.answer ≤ 5 }
-    ensures stored { (call.old.operation ≡ 0) → (call.new.answer ≡ 1) → Between (StoredWhole frame.now) (as_rx_device device.old.held) (as_rx_device device.new.held) }
-    ensures held { (call.old.operation ≡ 0) → (call.new.answer ≡ 0) → Between (λ old new. WasHeld old frame.now new) (as_rx_device device.old.held) (as_rx_device device.new.held) }
-    ensures length { (call.old.operation ≡ 0) → (call.new.answer ≡ 2) → Between (λ old new. WasRefused old frame.now new) (as_rx_device device.old.held) (as_rx_device device.new.held) }
-    ensures off { (call.old.operation ≡ 0) → (call.new.answer ≡ 3) → Between (λ old new. WasOff old frame.now new) (as_rx_device device.old.held) (as_rx_device device.new.held) }
-    ensures oversize { (call.old.operation ≡ 0) → (call.new.answer ≡ 4) → Between (λ old new. WasOversize old frame.now new) (as_rx_device device.old.held) (as_rx_device device.new.held) }
-    ensures dropped { (call.old.operation ≡ 0) → (call.new.answer ≡ 5) → Between (λ old new. WasDropped old frame.now new) (as_rx_device device.old.held) (as_rx_device device.new.held) }
-    ensures turned { (call.old.operation ≡ 1) → Between (Turned call.new.answer) (as_rx_device device.old.held) (as_rx_device device.new.held) }
-    ensures quiet { (call.old.operation ≡ 2) → (call.new.answer ≡ 1) → Between (TriedQuiet true) (as_rx_device device.old.held) (as_rx_device device.new.held) }
-    ensures over { (call.old.operation ≡ 2) → (call.new.answer ≢ 1) → Between (TriedQuiet false) (as_rx_device device.old.held) (as_rx_device device.new.held) }
+    ensures step { Between (Played call.old.operation call.new.answer frame.now) (as_rx_device device.old.held) (as_rx_device device.new.held) }
     ensures told { (call.old.operation ≡ 3) → AreCounts call.new.offered call.new.stored call.new.dropped call.new.oversize (as_rx_device device.old.held) }
-    ensures kept { (call.old.operation ≢ 0) → (call.old.operation ≢ 1) → (call.old.operation ≢ 2) → device.new.held ≡ device.old.held }
+    ensures kept { (2 < call.old.operation) → device.new.held ≡ device.old.held }
 {
     let mut end = device.take(alloc);
     call.answer = match &mut *end {
@@ -203,8 +164,5 @@ pub extern "C" fn poll82599_rx_queue_close(
 {
     let queue = Box::into_inner(queue.take(alloc)).rx_queue();
     let device = Box::into_inner(device.take(alloc)).rx_device();
-    match queue.zip(device) {
-        Some((driving, serving)) => unmake(driving, serving),
-        None => -1,
-    }
+    unmake(queue, device)
 }

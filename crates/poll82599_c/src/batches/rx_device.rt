@@ -1,8 +1,7 @@
 //! The controller of a receive queue, and the ring that it shares.
-ghost use Rattle.std.specs.Prelude.{◌≡◌, ◌≢◌, ◌≤◌, true, false};
-ghost use Rattle.controller.specs.Receiving.{WasDropped, WasHeld, WasOff, WasOversize, WasRefused};
+ghost use Rattle.std.specs.Prelude.{◌≡◌, ◌≢◌, true, false};
 ghost use Rattle.controller.specs.Tallying.{AddsUp};
-ghost use Rattle.poll82599_c.specs.batches.Receiving.{StoredWhole, TriedQuiet, Turned};
+ghost use Rattle.poll82599_c.specs.batches.Receiving.{TriedOffer, TriedQuiet, Turned};
 
 use controller::{Offer, RxController, Tally};
 use rx_ring::RxRing;
@@ -35,13 +34,7 @@ impl RxDevice {
     /// for it; 5 where too few descriptors are free, and it is dropped.
     pub(crate) fn offer(&mut self, frame: &[u8]) -> u32
         ensures own { self.new.end.table ≡ self.old.end.table }
-        ensures answers { result ≤ 5 }
-        ensures stored { (result ≡ 1) → StoredWhole frame.now self.old self.new }
-        ensures held { (result ≡ 0) → WasHeld self.old frame.now self.new }
-        ensures length { (result ≡ 2) → WasRefused self.old frame.now self.new }
-        ensures off { (result ≡ 3) → WasOff self.old frame.now self.new }
-        ensures oversize { (result ≡ 4) → WasOversize self.old frame.now self.new }
-        ensures dropped { (result ≡ 5) → WasDropped self.old frame.now self.new }
+        ensures step { TriedOffer result frame.now self.old self.new }
     {
         match self.controller.offer(&self.ring, frame) {
             Ok(Offer::Stored) => 1,

@@ -1,13 +1,8 @@
 //! The making of a receive queue with its driver and its device, and its closing.
-ghost use Rattle.std.specs.Prelude.{◌≡◌, ◌≢◌, ◌<◌, ◌⊎◌, Some, IfErr, IfOk, length};
+ghost use Rattle.std.specs.Prelude.{◌≡◌, ◌≢◌, ◌<◌, ◌⊎◌, Some, IfErr, IfOk};
 ghost use Rattle.limits.specs.RingLength.{IsRingLength};
-ghost use Rattle.ring_model.specs.receive.Lawful.{IsLawfulRxLedger};
-ghost use Rattle.ring_model.specs.shared.Frames.{Bytes};
-ghost use Rattle.rx_ring.specs.Calls.{IsTold, told_left};
-ghost use Rattle.rx_ring.specs.Ends.{driver_size, taken};
-ghost use Rattle.rx_ring.specs.Meeting.{ledger_of, stored_now};
 ghost use Rattle.controller.specs.FillSize.{IsFillSize};
-ghost use Rattle.poll82599_c.specs.batches.Receiving.{AreMade};
+ghost use Rattle.poll82599_c.specs.batches.Receiving.{AreLawful, AreMade, AreOfOne, AreTold};
 ghost use Rattle.poll82599_c.specs.Handles.{as_rx_device, as_rx_queue};
 
 use crate::batches::rx_device::RxDevice;
@@ -48,15 +43,20 @@ pub(crate) fn make(
 }
 
 /// Closes a receive queue: how many buffers lay in its ring, or -1 where another owner of the ring is left.
-pub(crate) fn unmake(queue: RxQueue, device: RxDevice) -> i64
-    requires { queue.end.table ≡ device.end.table }
-    ensures lawful { IsLawfulRxLedger Bytes (driver_size queue.end) (ledger_of queue.end device.end) }
-    ensures told { IsTold (told_left queue.end) (length (taken queue.end)) (length (stored_now queue.end device.end)) }
+pub(crate) fn unmake(queue: Option<RxQueue>, device: Option<RxDevice>) -> i64
+    requires { AreOfOne queue device }
+    ensures lawful { AreLawful queue device }
+    ensures told { AreTold queue device }
 {
-    let (end, chain) = queue.driver.into_end();
-    drop(chain);
-    rx_close(
-        (queue.ring, end),
-        (device.ring, device.controller.into_end()),
-    )
+    match queue.zip(device) {
+        None => -1,
+        Some((queue, device)) => {
+            let (end, chain) = queue.driver.into_end();
+            drop(chain);
+            rx_close(
+                (queue.ring, end),
+                (device.ring, device.controller.into_end()),
+            )
+        }
+    }
 }

@@ -1,9 +1,6 @@
 //! The driver of a receive queue, and the ring that it shares.
-ghost use Rattle.std.specs.Prelude.{◌≡◌, ◌≢◌, ◌≤◌, true, false, Some, None};
-ghost use Rattle.ring_model.specs.shared.Handshakes.{is_live, is_on, is_stopped};
-ghost use Rattle.rx_ring.specs.Ends.{driver_state};
-ghost use Rattle.driver.specs.receive.Returns.{IsEmptied};
-ghost use Rattle.poll82599_c.specs.batches.Receiving.{AllCame, AskedDisable, FilledUp, FoundQuiet, Renewed, TookBatch, TriedEnabling, TriedFinish};
+ghost use Rattle.std.specs.Prelude.{◌≡◌};
+ghost use Rattle.poll82599_c.specs.batches.Receiving.{FoundQuiet, TriedBatch, TriedDisable, TriedEnable, TriedLeft, TriedReclaim, TriedRenewal};
 
 use crate::batches::found::Found;
 use crate::batches::packets::Packets;
@@ -37,17 +34,17 @@ impl RxQueue {
     /// of its stash: 1, and how many packets these were; 0 where the queue was not seen enabled, or was seen disabled.
     pub(crate) fn batch(&mut self, packets: &mut Packets) -> Found
         ensures own { self.new.end.table ≡ self.old.end.table }
-        ensures step { (result.answer ≡ 1) → TookBatch result.count self.old packets.old self.new packets.new }
-        ensures off { (result.answer ≢ 1) → is_live (driver_state self.old.end) ≡ false }
-        ensures queue { (result.answer ≢ 1) → self.new ≡ self.old }
-        ensures kept { (result.answer ≢ 1) → packets.new ≡ packets.old }
+        ensures step { TriedBatch result.answer result.count self.old packets.old self.new packets.new }
     {
         match self
             .driver
             .rx_batch(&self.ring, &mut packets.stash, &mut packets.list)
         {
             Ok(count) => Found { answer: 1, count },
-            Err(_) => Found::nothing(0),
+            Err(_) => Found {
+                answer: 0,
+                count: 0,
+            },
         }
     }
 
@@ -55,19 +52,20 @@ impl RxQueue {
     /// and as many came as fit; 2 where no disabling was seen answered.
     pub(crate) fn reclaim(&mut self, packets: &mut Packets) -> Found
         ensures own { self.new.end.table ≡ self.old.end.table }
-        ensures answers { result.answer ≤ 2 }
-        ensures step { (result.answer ≡ 1) → AllCame result.count self.old packets.old self.new packets.new }
-        ensures full { (result.answer ≡ 0) → FilledUp self.old packets.old self.new packets.new }
-        ensures waits { (result.answer ≡ 2) → is_stopped (driver_state self.old.end) ≡ false }
-        ensures queue { (result.answer ≡ 2) → self.new ≡ self.old }
-        ensures kept { (result.answer ≡ 2) → packets.new ≡ packets.old }
+        ensures step { TriedReclaim result.answer result.count self.old packets.old self.new packets.new }
     {
         if !self.driver.is_stopped() {
-            return Found::nothing(2);
+            return Found {
+                answer: 2,
+                count: 0,
+            };
         }
         match self.driver.reclaim_into(&self.ring, &mut packets.stash) {
             Ok(count) => Found { answer: 1, count },
-            Err(_) => Found::nothing(0),
+            Err(_) => Found {
+                answer: 0,
+                count: 0,
+            },
         }
     }
 
@@ -75,11 +73,7 @@ impl RxQueue {
     /// not; 2 where it was seen disabled, and has to be renewed first.
     pub(crate) fn enable(&mut self) -> u32
         ensures own { self.new.end.table ≡ self.old.end.table }
-        ensures answers { result ≤ 2 }
-        ensures on { (result ≡ 1) → TriedEnabling true self.old self.new }
-        ensures waits { (result ≡ 0) → TriedEnabling false self.old self.new }
-        ensures refused { (result ≡ 2) → is_stopped (driver_state self.old.end) ≡ true }
-        ensures kept { (result ≡ 2) → self.new ≡ self.old }
+        ensures step { TriedEnable result self.old self.new }
     {
         match self.driver.enable(&self.ring) {
             Ok(true) => 1,
@@ -91,9 +85,7 @@ impl RxQueue {
     /// Asks for the queue to be disabled: 1, or 0 where it is not on.
     pub(crate) fn ask_disable(&mut self) -> u32
         ensures own { self.new.end.table ≡ self.old.end.table }
-        ensures step { (result ≡ 1) → AskedDisable self.old self.new }
-        ensures refused { (result ≢ 1) → is_on (driver_state self.old.end) ≡ false }
-        ensures kept { (result ≢ 1) → self.new ≡ self.old }
+        ensures step { TriedDisable result self.old self.new }
     {
         match self.driver.ask_disable(&self.ring) {
             Ok(()) => 1,
@@ -105,15 +97,17 @@ impl RxQueue {
     /// once; else 0.
     pub(crate) fn finish_disable(&mut self) -> Found
         ensures own { self.new.end.table ≡ self.old.end.table }
-        ensures step { (result.answer ≡ 1) → TriedFinish (Some result.count) self.old self.new }
-        ensures waits { (result.answer ≢ 1) → TriedFinish None self.old self.new }
+        ensures step { TriedLeft result.answer result.count self.old self.new }
     {
         match self.driver.finish_disable(&self.ring) {
             Some(left) => Found {
                 answer: 1,
                 count: left as usize,
             },
-            None => Found::nothing(0),
+            None => Found {
+                answer: 0,
+                count: 0,
+            },
         }
     }
 
@@ -121,9 +115,7 @@ impl RxQueue {
     /// buffers are left.
     pub(crate) fn renew(&mut self) -> u32
         ensures own { self.new.end.table ≡ self.old.end.table }
-        ensures step { (result ≡ 1) → Renewed self.old self.new }
-        ensures refused { (result ≢ 1) → ¬ IsEmptied self.old }
-        ensures kept { (result ≢ 1) → self.new ≡ self.old }
+        ensures step { TriedRenewal result self.old self.new }
     {
         match self.driver.renew(&self.ring) {
             Ok(()) => 1,

@@ -1,11 +1,10 @@
 //! The exports of a transmit queue.
-ghost use Rattle.std.specs.Prelude.{◌≡◌, ◌≢◌, ◌<◌, ◌≤◌, ◌⊎◌, true, false, Some, None, IsSome, pos};
+ghost use Rattle.std.specs.Prelude.{◌≡◌, ◌≢◌, ◌<◌, ◌⊎◌, None, IsSome, pos};
 ghost use Rattle.limits.specs.RingLength.{IsRingLength};
 ghost use Rattle.ring_model.specs.declared.states.Completion.TheVariants as by;
 ghost use Rattle.poll82599_c.specs.Handles.{as_packets, as_tx_device, as_tx_queue};
 ghost use Rattle.poll82599_c.specs.Held.{Among, Between};
-ghost use Rattle.poll82599_c.specs.batches.Transmitting.{AllCame, AreLawful, AreMade, AreOfOne, AreTold, AskedDisable, CleanedAlone, CleanedSome, FilledUp, FoundIdle, FoundNoMemory, FoundOff};
-ghost use Rattle.poll82599_c.specs.batches.Transmitting.{IsNotEmptied, IsNotLive, IsNotOn, IsNotStopped, IsStopped, PostedBatch, Renewed, SameDevice, SameQueue, SentBeyond, SentInto, TriedEnabling, TriedFinish, Turned};
+ghost use Rattle.poll82599_c.specs.batches.Transmitting.{AreLawful, AreMade, AreOfOne, AreTold, Did, Moved, Played, SameDevice, SameQueue};
 
 use crate::batches::found::Found;
 use crate::batches::tx_making::{make, unmake};
@@ -61,26 +60,10 @@ pub extern "C" fn poll82599_tx_queue_move(
 )
     requires queue { IsSome queue.old.held }
     requires packets { IsSome packets.old.held }
-    ensures other { (as_tx_queue queue.old.held ≡ None) ⊎ (as_packets packets.old.held ≡ None) → call.new.answer ≡ 4294967295 }
-    ensures other_queue { (as_tx_queue queue.old.held ≡ None) ⊎ (as_packets packets.old.held ≡ None) → queue.new.held ≡ queue.old.held }
-    ensures other_packets { (as_tx_queue queue.old.held ≡ None) ⊎ (as_packets packets.old.held ≡ None) → packets.new.held ≡ packets.old.held }
+    ensures other { (as_tx_queue queue.old.held ≡ None) ⊎ (as_packets packets.old.held ≡ None) → (call.new.answer ≡ 4294967295) × (queue.new.held ≡ queue.old.held) × (packets.new.held ≡ packets.old.held) }
     ensures own { SameQueue (as_tx_queue queue.old.held) (as_tx_queue queue.new.held) }
-    ensures batch { (call.old.operation ≡ 0) → (call.new.answer ≡ 1)
-        → Among (PostedBatch call.new.count) (as_tx_queue queue.old.held) (as_packets packets.old.held) (as_tx_queue queue.new.held) (as_packets packets.new.held) }
-    ensures long { (call.old.operation ≡ 0) → (call.new.answer ≢ 0) → (call.new.answer ≢ 1)
-        → Among CleanedAlone (as_tx_queue queue.old.held) (as_packets packets.old.held) (as_tx_queue queue.new.held) (as_packets packets.new.held) }
-    ensures off { (call.old.operation ≡ 0) → (call.new.answer ≡ 0) → IsNotLive (as_tx_queue queue.old.held) }
-    ensures cleaned { (call.old.operation ≡ 1) → (call.new.answer ≡ 1)
-        → Among (CleanedSome call.new.count) (as_tx_queue queue.old.held) (as_packets packets.old.held) (as_tx_queue queue.new.held) (as_packets packets.new.held) }
-    ensures unclean { (call.old.operation ≡ 1) → (call.new.answer ≢ 1) → IsSome (as_tx_queue queue.old.held) → IsSome (as_packets packets.old.held) → IsNotLive (as_tx_queue queue.old.held) }
-    ensures back { (call.old.operation ≡ 2) → (call.new.answer ≡ 1)
-        → Among (AllCame call.new.count) (as_tx_queue queue.old.held) (as_packets packets.old.held) (as_tx_queue queue.new.held) (as_packets packets.new.held) }
-    ensures full { (call.old.operation ≡ 2) → (call.new.answer ≡ 0) → Among FilledUp (as_tx_queue queue.old.held) (as_packets packets.old.held) (as_tx_queue queue.new.held) (as_packets packets.new.held) }
-    ensures waits { (call.old.operation ≡ 2) → (call.new.answer ≢ 0) → (call.new.answer ≢ 1) → IsSome (as_tx_queue queue.old.held) → IsSome (as_packets packets.old.held) → IsNotStopped (as_tx_queue queue.old.held) }
-    ensures queue_off { (call.old.operation ≢ 2) → (call.new.answer ≡ 0) → queue.new.held ≡ queue.old.held }
-    ensures packets_off { (call.old.operation ≢ 2) → (call.new.answer ≡ 0) → packets.new.held ≡ packets.old.held }
-    ensures queue { (call.old.operation ≢ 0) → (call.new.answer ≢ 0) → (call.new.answer ≢ 1) → queue.new.held ≡ queue.old.held }
-    ensures packets { (call.old.operation ≢ 0) → (call.new.answer ≢ 0) → (call.new.answer ≢ 1) → packets.new.held ≡ packets.old.held }
+    ensures step { Among (Moved call.old.operation call.new.answer call.new.count) (as_tx_queue queue.old.held) (as_packets packets.old.held) (as_tx_queue queue.new.held) (as_packets packets.new.held) }
+    ensures kept { (2 < call.old.operation) → (queue.new.held ≡ queue.old.held) × (packets.new.held ≡ packets.old.held) }
 {
     let mut end = queue.take(alloc);
     let mut worker = packets.take(alloc);
@@ -110,18 +93,8 @@ pub extern "C" fn poll82599_tx_queue_do(
     requires { IsSome queue.old.held }
     ensures other { as_tx_queue queue.old.held ≡ None → (call.new.answer ≡ 4294967295) × (queue.new.held ≡ queue.old.held) }
     ensures own { SameQueue (as_tx_queue queue.old.held) (as_tx_queue queue.new.held) }
-    ensures answers { (call.old.operation ≡ 0) → IsSome (as_tx_queue queue.old.held) → call.new.answer ≤ 2 }
-    ensures on { (call.old.operation ≡ 0) → (call.new.answer ≡ 1) → Between (TriedEnabling true) (as_tx_queue queue.old.held) (as_tx_queue queue.new.held) }
-    ensures waits { (call.old.operation ≡ 0) → (call.new.answer ≡ 0) → Between (TriedEnabling false) (as_tx_queue queue.old.held) (as_tx_queue queue.new.held) }
-    ensures stopped { (call.old.operation ≡ 0) → (call.new.answer ≡ 2) → IsStopped (as_tx_queue queue.old.held) }
-    ensures unrenewed { (call.old.operation ≡ 0) → (call.new.answer ≡ 2) → queue.new.held ≡ queue.old.held }
-    ensures asked { (call.old.operation ≡ 1) → (call.new.answer ≡ 1) → Between AskedDisable (as_tx_queue queue.old.held) (as_tx_queue queue.new.held) }
-    ensures unasked { (call.old.operation ≡ 1) → (call.new.answer ≢ 1) → IsNotOn (as_tx_queue queue.old.held) }
-    ensures finished { (call.old.operation ≡ 2) → (call.new.answer ≡ 1) → Between (TriedFinish (Some call.new.count)) (as_tx_queue queue.old.held) (as_tx_queue queue.new.held) }
-    ensures unfinished { (call.old.operation ≡ 2) → (call.new.answer ≢ 1) → Between (TriedFinish None) (as_tx_queue queue.old.held) (as_tx_queue queue.new.held) }
-    ensures renewed { (call.old.operation ≡ 3) → (call.new.answer ≡ 1) → Between Renewed (as_tx_queue queue.old.held) (as_tx_queue queue.new.held) }
-    ensures left { (call.old.operation ≡ 3) → (call.new.answer ≢ 1) → IsNotEmptied (as_tx_queue queue.old.held) }
-    ensures kept { (call.old.operation ≢ 0) → (call.old.operation ≢ 2) → (call.new.answer ≢ 1) → queue.new.held ≡ queue.old.held }
+    ensures step { Between (Did call.old.operation call.new.answer call.new.count) (as_tx_queue queue.old.held) (as_tx_queue queue.new.held) }
+    ensures kept { (3 < call.old.operation) → queue.new.held ≡ queue.old.held }
 {
     let mut end = queue.take(alloc);
     call.answer = match &mut *end {
@@ -150,22 +123,11 @@ pub extern "C" fn poll82599_tx_device_do(
     room: &mut [u8],
 )
     requires { IsSome device.old.held }
-    ensures other { as_tx_device device.old.held ≡ None → (call.new.answer ≡ 4294967295) × (device.new.held ≡ device.old.held) }
+    ensures other { as_tx_device device.old.held ≡ None → (call.new.answer ≡ 4294967295) × (device.new.held ≡ device.old.held) × (room.new ≡ room.old) }
     ensures own { SameDevice (as_tx_device device.old.held) (as_tx_device device.new.held) }
-    ensures answers { (call.old.operation ≡ 0) → IsSome (as_tx_device device.old.held) → call.new.answer ≤ 6 }
-    ensures two { (call.old.operation ≡ 0) → call.new.answer ≢ 2 }
-    ensures sent { (call.old.operation ≡ 0) → (call.new.answer ≡ 1)
-        → Between (SentInto call.new.count room.old room.new) (as_tx_device device.old.held) (as_tx_device device.new.held) }
-    ensures beyond { (call.old.operation ≡ 0) → (call.new.answer ≡ 6)
-        → Between (SentBeyond call.new.count room.old room.new) (as_tx_device device.old.held) (as_tx_device device.new.held) }
-    ensures idle { (call.old.operation ≡ 0) → (call.new.answer ≡ 0) → Between FoundIdle (as_tx_device device.old.held) (as_tx_device device.new.held) }
-    ensures off { (call.old.operation ≡ 0) → (call.new.answer ≡ 3) → Between FoundOff (as_tx_device device.old.held) (as_tx_device device.new.held) }
-    ensures small { (call.old.operation ≡ 0) → (call.new.answer ≡ 4) → device.new.held ≡ device.old.held }
-    ensures memory { (call.old.operation ≡ 0) → (call.new.answer ≡ 5) → Between FoundNoMemory (as_tx_device device.old.held) (as_tx_device device.new.held) }
-    ensures turned { (call.old.operation ≡ 1) → Between (Turned call.new.answer) (as_tx_device device.old.held) (as_tx_device device.new.held) }
+    ensures step { Between (Played call.old.operation call.new.answer call.new.count room.old room.new) (as_tx_device device.old.held) (as_tx_device device.new.held) }
     ensures room { (call.old.operation ≢ 0) → room.new ≡ room.old }
-    ensures unsent { (call.new.answer ≢ 1) → room.new ≡ room.old }
-    ensures kept { (call.old.operation ≢ 0) → (call.old.operation ≢ 1) → device.new.held ≡ device.old.held }
+    ensures kept { (1 < call.old.operation) → device.new.held ≡ device.old.held }
 {
     let mut end = device.take(alloc);
     call.answer = match &mut *end {
@@ -199,8 +161,5 @@ pub extern "C" fn poll82599_tx_queue_close(
 {
     let queue = Box::into_inner(queue.take(alloc)).tx_queue();
     let device = Box::into_inner(device.take(alloc)).tx_device();
-    match queue.zip(device) {
-        Some((driving, serving)) => unmake(driving, serving),
-        None => -1,
-    }
+    unmake(queue, device)
 }

@@ -1,6 +1,6 @@
 //! The controller of a transmit queue, and the ring that it shares.
-ghost use Rattle.std.specs.Prelude.{◌≡◌, ◌≢◌, ◌<◌, ◌≤◌, ◌⊎◌, length};
-ghost use Rattle.poll82599_c.specs.batches.Transmitting.{CopiedFirst, FoundIdle, FoundNoMemory, FoundOff, IsBeyond, SentBeyond, SentInto, Turned};
+ghost use Rattle.std.specs.Prelude.{◌≡◌, ◌<◌, IfErr, IfOk, length};
+ghost use Rattle.poll82599_c.specs.batches.Transmitting.{CopiedFirst, IsBeyond, TriedTurn, Turned};
 
 use crate::batches::found::Found;
 use controller::{Turn, TxController, Wire};
@@ -36,25 +36,32 @@ impl TxDevice {
     /// sends nothing; 6, and its length, where it is longer than the room, into which nothing is put then.
     pub(crate) fn turn(&mut self, alloc: Global, room: &mut [u8]) -> Found
         ensures own { self.new.table ≡ self.old.table }
-        ensures few { result.answer ≤ 6 }
-        ensures answers { result.answer ≢ 2 }
-        ensures sent { (result.answer ≡ 1) → SentInto result.count room.old room.new self.old self.new }
-        ensures beyond { (result.answer ≡ 6) → SentBeyond result.count room.old room.new self.old self.new }
-        ensures idle { (result.answer ≡ 0) → FoundIdle self.old self.new }
-        ensures off { (result.answer ≡ 3) → FoundOff self.old self.new }
-        ensures memory { (result.answer ≡ 5) → FoundNoMemory self.old self.new }
-        ensures small { (result.answer ≡ 4) → self.new ≡ self.old }
-        ensures kept { (result.answer ≢ 1) → room.new ≡ room.old }
+        ensures step { TriedTurn result.answer result.count room.old room.new self.old self.new }
     {
         if room.len() < MOST_FRAME {
-            return Found::nothing(4);
+            return Found {
+                answer: 4,
+                count: 0,
+            };
         }
         let mut wire = Wire::new(alloc);
         match self.controller.turn(&self.ring, &mut wire) {
-            Ok(Turn::Sent) => copied(&wire, room),
-            Ok(Turn::Idle) => Found::nothing(0),
-            Ok(Turn::Off) => Found::nothing(3),
-            Err(_) => Found::nothing(5),
+            Ok(Turn::Sent) => match copied(&wire, room) {
+                Ok(count) => Found { answer: 1, count },
+                Err(count) => Found { answer: 6, count },
+            },
+            Ok(Turn::Idle) => Found {
+                answer: 0,
+                count: 0,
+            },
+            Ok(Turn::Off) => Found {
+                answer: 3,
+                count: 0,
+            },
+            Err(_) => Found {
+                answer: 5,
+                count: 0,
+            },
         }
     }
 
@@ -68,24 +75,17 @@ impl TxDevice {
     }
 }
 
-/// Copies the first frame of a wire into a room: 1, and its length; or 6, and its length, where it is longer than the room.
-fn copied(wire: &Wire, room: &mut [u8]) -> Found
+/// Copies the first frame of a wire into a room: its length; or its length as an error, where it is longer than the room.
+fn copied(wire: &Wire, room: &mut [u8]) -> Result<usize, usize>
     requires { 0 < length wire.now }
-    ensures few { (result.answer ≡ 1) ⊎ (result.answer ≡ 6) }
-    ensures copied { (result.answer ≡ 1) → CopiedFirst result.count wire.now room.old room.new }
-    ensures beyond { (result.answer ≡ 6) → IsBeyond result.count wire.now room.old }
-    ensures kept { (result.answer ≢ 1) → room.new ≡ room.old }
+    ensures copied { IfOk result (λ n. CopiedFirst n wire.now room.old room.new) }
+    ensures beyond { IfErr result (λ n. IsBeyond n wire.now room.old) }
+    ensures kept { IfErr result (λ n. room.new ≡ room.old) }
 {
     let frame = wire.frame(0);
     if room.len() < frame.len() {
-        return Found {
-            answer: 6,
-            count: frame.len(),
-        };
+        return Err(frame.len());
     }
     overwrite(room, frame);
-    Found {
-        answer: 1,
-        count: frame.len(),
-    }
+    Ok(frame.len())
 }

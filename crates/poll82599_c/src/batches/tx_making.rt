@@ -1,11 +1,7 @@
 //! The making of a transmit queue with its driver and its device, and its closing.
-ghost use Rattle.std.specs.Prelude.{◌≡◌, ◌≢◌, ◌<◌, ◌⊎◌, Some, IfErr, IfOk, length};
+ghost use Rattle.std.specs.Prelude.{◌≡◌, ◌≢◌, ◌<◌, ◌⊎◌, Some, IfErr, IfOk};
 ghost use Rattle.limits.specs.RingLength.{IsRingLength};
-ghost use Rattle.ring_model.specs.shared.Frames.{Bytes};
-ghost use Rattle.ring_model.specs.transmit.Lawful.{IsLawfulTxLedger};
-ghost use Rattle.tx_ring.specs.Ends.{driver_size, posted};
-ghost use Rattle.tx_ring.specs.Meeting.{IsTold, ledger_of, sent_now, told_left};
-ghost use Rattle.poll82599_c.specs.batches.Transmitting.{AreMade};
+ghost use Rattle.poll82599_c.specs.batches.Transmitting.{AreLawful, AreMade, AreOfOne, AreTold};
 ghost use Rattle.poll82599_c.specs.Handles.{as_tx_device, as_tx_queue};
 
 use crate::batches::tx_device::TxDevice;
@@ -45,13 +41,16 @@ pub(crate) fn make(
 }
 
 /// Closes a transmit queue: how many buffers lay in its ring, or -1 where another owner of the ring is left.
-pub(crate) fn unmake(queue: TxQueue, device: TxDevice) -> i64
-    requires { queue.end.table ≡ device.table }
-    ensures lawful { IsLawfulTxLedger Bytes (driver_size queue.end) (ledger_of queue.end device) }
-    ensures told { IsTold (told_left queue.end) (length (sent_now queue.end device)) (length (posted queue.end)) }
+pub(crate) fn unmake(queue: Option<TxQueue>, device: Option<TxDevice>) -> i64
+    requires { AreOfOne queue device }
+    ensures lawful { AreLawful queue device }
+    ensures told { AreTold queue device }
 {
-    tx_close(
-        (queue.ring, queue.driver.into_end()),
-        (device.ring, device.controller.into_end()),
-    )
+    match queue.zip(device) {
+        None => -1,
+        Some((queue, device)) => tx_close(
+            (queue.ring, queue.driver.into_end()),
+            (device.ring, device.controller.into_end()),
+        ),
+    }
 }

@@ -1,9 +1,6 @@
 //! The driver of a transmit queue, and the ring that it shares.
-ghost use Rattle.std.specs.Prelude.{◌≡◌, ◌≢◌, ◌≤◌, true, false, Some, None};
-ghost use Rattle.ring_model.specs.shared.Handshakes.{is_live, is_on, is_stopped};
-ghost use Rattle.tx_ring.specs.Ends.{driver_state};
-ghost use Rattle.driver.specs.transmit.Returns.{IsEmptied};
-ghost use Rattle.poll82599_c.specs.batches.Transmitting.{AllCame, AskedDisable, CleanedAlone, CleanedSome, FilledUp, PostedBatch, Renewed, TriedEnabling, TriedFinish};
+ghost use Rattle.std.specs.Prelude.{◌≡◌};
+ghost use Rattle.poll82599_c.specs.batches.Transmitting.{TriedBatch, TriedCleaning, TriedDisable, TriedEnable, TriedLeft, TriedReclaim, TriedRenewal};
 
 use crate::batches::found::Found;
 use crate::batches::packets::Packets;
@@ -38,21 +35,21 @@ impl TxQueue {
     /// too long for the ring, and reported buffers came back alone.
     pub(crate) fn batch(&mut self, packets: &mut Packets) -> Found
         ensures own { self.new.end.table ≡ self.old.end.table }
-        ensures answers { result.answer ≢ 2 }
-        ensures few { result.answer ≤ 3 }
-        ensures step { (result.answer ≡ 1) → PostedBatch result.count self.old packets.old self.new packets.new }
-        ensures long { (result.answer ≡ 3) → CleanedAlone self.old packets.old self.new packets.new }
-        ensures off { (result.answer ≡ 0) → is_live (driver_state self.old.end) ≡ false }
-        ensures queue { (result.answer ≡ 0) → self.new ≡ self.old }
-        ensures kept { (result.answer ≡ 0) → packets.new ≡ packets.old }
+        ensures step { TriedBatch result.answer result.count self.old packets.old self.new packets.new }
     {
         match self
             .driver
             .tx_batch(&self.ring, &mut packets.stash, &mut packets.list)
         {
             Ok(count) => Found { answer: 1, count },
-            Err(DriverError::TooLong) => Found::nothing(3),
-            Err(_) => Found::nothing(0),
+            Err(DriverError::TooLong) => Found {
+                answer: 3,
+                count: 0,
+            },
+            Err(_) => Found {
+                answer: 0,
+                count: 0,
+            },
         }
     }
 
@@ -60,13 +57,13 @@ impl TxQueue {
     /// disabled.
     pub(crate) fn clean(&mut self, packets: &mut Packets) -> Found
         ensures own { self.new.end.table ≡ self.old.end.table }
-        ensures step { (result.answer ≡ 1) → CleanedSome result.count self.old packets.old self.new packets.new }
-        ensures off { (result.answer ≢ 1) → is_live (driver_state self.old.end) ≡ false }
-        ensures queue { (result.answer ≢ 1) → self.new ≡ self.old }
-        ensures kept { (result.answer ≢ 1) → packets.new ≡ packets.old }
+        ensures step { TriedCleaning result.answer result.count self.old packets.old self.new packets.new }
     {
         if !self.driver.is_live() {
-            return Found::nothing(0);
+            return Found {
+                answer: 0,
+                count: 0,
+            };
         }
         let count = self.driver.clean(&self.ring, &mut packets.stash);
         Found { answer: 1, count }
@@ -76,19 +73,20 @@ impl TxQueue {
     /// and as many came as fit; 2 where no disabling was seen answered.
     pub(crate) fn reclaim(&mut self, packets: &mut Packets) -> Found
         ensures own { self.new.end.table ≡ self.old.end.table }
-        ensures answers { result.answer ≤ 2 }
-        ensures step { (result.answer ≡ 1) → AllCame result.count self.old packets.old self.new packets.new }
-        ensures full { (result.answer ≡ 0) → FilledUp self.old packets.old self.new packets.new }
-        ensures waits { (result.answer ≡ 2) → is_stopped (driver_state self.old.end) ≡ false }
-        ensures queue { (result.answer ≡ 2) → self.new ≡ self.old }
-        ensures kept { (result.answer ≡ 2) → packets.new ≡ packets.old }
+        ensures step { TriedReclaim result.answer result.count self.old packets.old self.new packets.new }
     {
         if !self.driver.is_stopped() {
-            return Found::nothing(2);
+            return Found {
+                answer: 2,
+                count: 0,
+            };
         }
         match self.driver.reclaim_into(&self.ring, &mut packets.stash) {
             Ok(count) => Found { answer: 1, count },
-            Err(_) => Found::nothing(0),
+            Err(_) => Found {
+                answer: 0,
+                count: 0,
+            },
         }
     }
 
@@ -96,11 +94,7 @@ impl TxQueue {
     /// not; 2 where it was seen disabled, and has to be renewed first.
     pub(crate) fn enable(&mut self) -> u32
         ensures own { self.new.end.table ≡ self.old.end.table }
-        ensures answers { result ≤ 2 }
-        ensures on { (result ≡ 1) → TriedEnabling true self.old self.new }
-        ensures waits { (result ≡ 0) → TriedEnabling false self.old self.new }
-        ensures refused { (result ≡ 2) → is_stopped (driver_state self.old.end) ≡ true }
-        ensures kept { (result ≡ 2) → self.new ≡ self.old }
+        ensures step { TriedEnable result self.old self.new }
     {
         match self.driver.enable(&self.ring) {
             Ok(true) => 1,
@@ -112,9 +106,7 @@ impl TxQueue {
     /// Asks for the queue to be disabled: 1, or 0 where it is not on.
     pub(crate) fn ask_disable(&mut self) -> u32
         ensures own { self.new.end.table ≡ self.old.end.table }
-        ensures step { (result ≡ 1) → AskedDisable self.old self.new }
-        ensures refused { (result ≢ 1) → is_on (driver_state self.old.end) ≡ false }
-        ensures kept { (result ≢ 1) → self.new ≡ self.old }
+        ensures step { TriedDisable result self.old self.new }
     {
         match self.driver.ask_disable(&self.ring) {
             Ok(()) => 1,
@@ -126,15 +118,17 @@ impl TxQueue {
     /// once; else 0.
     pub(crate) fn finish_disable(&mut self) -> Found
         ensures own { self.new.end.table ≡ self.old.end.table }
-        ensures step { (result.answer ≡ 1) → TriedFinish (Some result.count) self.old self.new }
-        ensures waits { (result.answer ≢ 1) → TriedFinish None self.old self.new }
+        ensures step { TriedLeft result.answer result.count self.old self.new }
     {
         match self.driver.finish_disable(&self.ring) {
             Some(left) => Found {
                 answer: 1,
                 count: left as usize,
             },
-            None => Found::nothing(0),
+            None => Found {
+                answer: 0,
+                count: 0,
+            },
         }
     }
 
@@ -142,9 +136,7 @@ impl TxQueue {
     /// buffers are out.
     pub(crate) fn renew(&mut self) -> u32
         ensures own { self.new.end.table ≡ self.old.end.table }
-        ensures step { (result ≡ 1) → Renewed self.old self.new }
-        ensures refused { (result ≢ 1) → ¬ IsEmptied self.old }
-        ensures kept { (result ≢ 1) → self.new ≡ self.old }
+        ensures step { TriedRenewal result self.old self.new }
     {
         match self.driver.renew(&self.ring) {
             Ok(()) => 1,

@@ -1,12 +1,10 @@
 //! The exports of a receive ring.
 ghost use Rattle.std.specs.Prelude.{◌≡◌, ◌≢◌, ◌<◌, ◌⊎◌, None, IsSome, pos};
 ghost use Rattle.limits.specs.RingLength.{IsRingLength};
-ghost use Rattle.rx_ring.specs.Calls.{FoundLeft, GoneOver};
 ghost use Rattle.opaque.specs.Words.{is_set};
 ghost use Rattle.poll82599_c.specs.Handles.{as_rx_driver, as_rx_controller};
-ghost use Rattle.poll82599_c.specs.rings.RxEnds.{AreLawful, AreMade, AreTold, FoundNoneFree, FoundQuiet};
-ghost use Rattle.poll82599_c.specs.rings.RxEnds.{PostedOne, SaidNoMore, StoredOne, TookNone, TookOne};
-ghost use Rattle.poll82599_c.specs.rings.Steps.{AnsweredAsked, AreOfOne, AskedDisable, AskedEnable, LoadedControl, LookedAsked, PublishedAll, ReclaimedOne, SameDriven, SameServed};
+ghost use Rattle.poll82599_c.specs.rings.RxEnds.{AreLawful, AreMade, AreTold, Drove, Served};
+ghost use Rattle.poll82599_c.specs.rings.Steps.{AreOfOne, SameDriven, SameServed};
 ghost use Rattle.poll82599_c.specs.Held.{Between};
 
 use crate::call::{NO_OPERATION, Poll82599Call};
@@ -57,20 +55,9 @@ pub extern "C" fn poll82599_rx_drive(
     requires { IsSome driver.old.held }
     ensures other { as_rx_driver driver.old.held ≡ None → (call.new.answer ≡ 4294967295) × (driver.new.held ≡ driver.old.held) }
     ensures own { SameDriven (as_rx_driver driver.old.held) (as_rx_driver driver.new.held) }
-    ensures posted { (call.old.operation ≡ 0) → (call.new.answer ≡ 1) → Between PostedOne (as_rx_driver driver.old.held) (as_rx_driver driver.new.held) }
-    ensures published { (call.old.operation ≡ 1) → (call.new.answer ≡ 1) → Between PublishedAll (as_rx_driver driver.old.held) (as_rx_driver driver.new.held) }
-    ensures taken { (call.old.operation ≡ 2) → (call.new.answer ≡ 1)
-        → Between (TookOne call.new.len call.new.eop bytes.old bytes.new) (as_rx_driver driver.old.held) (as_rx_driver driver.new.held) }
-    ensures none { (call.old.operation ≡ 2) → (call.new.answer ≢ 1) → Between (TookNone call.new.answer bytes.old bytes.new) (as_rx_driver driver.old.held) (as_rx_driver driver.new.held) }
+    ensures step { Between (Drove call.old.operation call.new.answer call.new.len call.new.eop bytes.old bytes.new) (as_rx_driver driver.old.held) (as_rx_driver driver.new.held) }
     ensures room { (call.old.operation ≢ 2) → bytes.new ≡ bytes.old }
-    ensures asked_enable { (call.old.operation ≡ 3) → (call.new.answer ≡ 1) → Between AskedEnable (as_rx_driver driver.old.held) (as_rx_driver driver.new.held) }
-    ensures loaded { (call.old.operation ≡ 4) → Between (LoadedControl call.new.answer) (as_rx_driver driver.old.held) (as_rx_driver driver.new.held) }
-    ensures asked_disable { (call.old.operation ≡ 5) → (call.new.answer ≡ 1) → Between AskedDisable (as_rx_driver driver.old.held) (as_rx_driver driver.new.held) }
-    ensures quiet { (call.old.operation ≡ 6) → Between (FoundQuiet call.new.answer) (as_rx_driver driver.old.held) (as_rx_driver driver.new.held) }
-    ensures reclaimed { (call.old.operation ≡ 7) → (call.new.answer ≡ 1) → Between ReclaimedOne (as_rx_driver driver.old.held) (as_rx_driver driver.new.held) }
-    ensures renewed { (call.old.operation ≡ 8) → (call.new.answer ≡ 1) → Between GoneOver (as_rx_driver driver.old.held) (as_rx_driver driver.new.held) }
-    ensures left { (call.old.operation ≡ 9) → (call.new.answer ≡ 1) → Between (λ old new. FoundLeft old call.new.len new) (as_rx_driver driver.old.held) (as_rx_driver driver.new.held) }
-    ensures kept { (call.old.operation ≢ 2) → (call.old.operation ≢ 4) → (call.old.operation ≢ 6) → (call.new.answer ≢ 1) → driver.new.held ≡ driver.old.held }
+    ensures kept { (9 < call.old.operation) → driver.new.held ≡ driver.old.held }
 {
     let mut held = driver.take(alloc);
     call.answer = match &mut *held {
@@ -113,13 +100,8 @@ pub extern "C" fn poll82599_rx_serve(
     requires { IsSome controller.old.held }
     ensures other { as_rx_controller controller.old.held ≡ None → (call.new.answer ≡ 4294967295) × (controller.new.held ≡ controller.old.held) }
     ensures own { SameServed (as_rx_controller controller.old.held) (as_rx_controller controller.new.held) }
-    ensures answered { (call.old.operation ≡ 0) → (call.new.answer ≡ 1) → Between AnsweredAsked (as_rx_controller controller.old.held) (as_rx_controller controller.new.held) }
-    ensures looked { (call.old.operation ≡ 0) → (call.new.answer ≢ 1) → Between LookedAsked (as_rx_controller controller.old.held) (as_rx_controller controller.new.held) }
-    ensures stored { (call.old.operation ≡ 1) → (call.new.answer ≡ 1) → Between (StoredOne segment.now (is_set call.old.eop)) (as_rx_controller controller.old.held) (as_rx_controller controller.new.held) }
-    ensures none { (call.old.operation ≡ 1) → (call.new.answer ≡ 0) → Between FoundNoneFree (as_rx_controller controller.old.held) (as_rx_controller controller.new.held) }
-    ensures refused { (call.old.operation ≡ 1) → (call.new.answer ≢ 0) → (call.new.answer ≢ 1) → controller.new.held ≡ controller.old.held }
-    ensures quiet { (call.old.operation ≡ 2) → (call.new.answer ≡ 1) → Between SaidNoMore (as_rx_controller controller.old.held) (as_rx_controller controller.new.held) }
-    ensures kept { (call.old.operation ≢ 0) → (call.old.operation ≢ 1) → (call.new.answer ≢ 1) → controller.new.held ≡ controller.old.held }
+    ensures step { Between (Served call.old.operation call.new.answer segment.now (is_set call.old.eop)) (as_rx_controller controller.old.held) (as_rx_controller controller.new.held) }
+    ensures kept { (2 < call.old.operation) → controller.new.held ≡ controller.old.held }
 {
     let mut held = controller.take(alloc);
     call.answer = match &mut *held {
@@ -149,8 +131,5 @@ pub extern "C" fn poll82599_rx_close(
 {
     let driver = Box::into_inner(driver.take(alloc)).rx_driver();
     let controller = Box::into_inner(controller.take(alloc)).rx_controller();
-    match driver.zip(controller) {
-        Some((driving, serving)) => unmake(driving, serving),
-        None => -1,
-    }
+    unmake(driver, controller)
 }

@@ -1,13 +1,9 @@
 //! The making of a receive ring with its two objects, and its closing.
-ghost use Rattle.std.specs.Prelude.{◌≡◌, ◌≢◌, ◌<◌, ◌⊎◌, Some, IfErr, IfOk, length};
+ghost use Rattle.std.specs.Prelude.{◌≡◌, ◌≢◌, ◌<◌, ◌⊎◌, Some, IfErr, IfOk};
 ghost use Rattle.limits.specs.RingLength.{IsRingLength};
 ghost use Rattle.poll82599_c.specs.Handles.{as_rx_driver, as_rx_controller};
-ghost use Rattle.poll82599_c.specs.rings.RxEnds.{AreMade};
-ghost use Rattle.ring_model.specs.receive.Lawful.{IsLawfulRxLedger};
-ghost use Rattle.ring_model.specs.shared.Frames.{Bytes};
-ghost use Rattle.rx_ring.specs.Calls.{IsTold, told_left};
-ghost use Rattle.rx_ring.specs.Ends.{driver_size, taken};
-ghost use Rattle.rx_ring.specs.Meeting.{ledger_of, stored_now};
+ghost use Rattle.poll82599_c.specs.rings.RxEnds.{AreLawful, AreMade, AreTold};
+ghost use Rattle.poll82599_c.specs.rings.Steps.{AreOfOne};
 
 use crate::end::End;
 use crate::makings::{Unmade, both_boxed, rx_close, rx_halves, stash_of};
@@ -57,17 +53,22 @@ fn ends_of(alloc: Global, ring: u32, stash: Stash) -> Result<(RxDriving, RxServi
 }
 
 /// Closes a ring: how many buffers lay in it, or -1 where another owner of the ring is left.
-pub(crate) fn unmake(driving: RxDriving, serving: RxServing) -> i64
-    requires { driving.table ≡ serving.table }
-    ensures lawful { IsLawfulRxLedger Bytes (driver_size driving) (ledger_of driving serving) }
-    ensures told { IsTold (told_left driving) (length (taken driving)) (length (stored_now driving serving)) }
+pub(crate) fn unmake(driving: Option<RxDriving>, serving: Option<RxServing>) -> i64
+    requires { AreOfOne driving serving }
+    ensures lawful { AreLawful driving serving }
+    ensures told { AreTold driving serving }
 {
-    let RxDriving {
-        ring,
-        end,
-        stash,
-        ..
-    } = driving;
-    drop(stash);
-    rx_close((ring, end), (serving.ring, serving.end))
+    match driving.zip(serving) {
+        None => -1,
+        Some((driving, serving)) => {
+            let RxDriving {
+                ring,
+                end,
+                stash,
+                ..
+            } = driving;
+            drop(stash);
+            rx_close((ring, end), (serving.ring, serving.end))
+        }
+    }
 }

@@ -2,12 +2,10 @@
 ghost use Rattle.std.specs.Prelude.{◌≡◌, ◌≢◌, ◌<◌, ◌⊎◌, None, IsSome, pos};
 ghost use Rattle.limits.specs.RingLength.{IsRingLength};
 ghost use Rattle.ring_model.specs.declared.states.Completion.TheVariants as by;
-ghost use Rattle.tx_ring.specs.Calls.{FoundLeft, GoneOver, SawReported};
 ghost use Rattle.opaque.specs.Words.{is_set};
 ghost use Rattle.poll82599_c.specs.Handles.{as_tx_driver, as_tx_controller};
-ghost use Rattle.poll82599_c.specs.rings.TxEnds.{AreLawful, AreMade, AreTold, CleanedBuffer};
-ghost use Rattle.poll82599_c.specs.rings.TxEnds.{PostedSegment, SawNoReport, SentNone, SentOne};
-ghost use Rattle.poll82599_c.specs.rings.Steps.{AnsweredAsked, AreOfOne, AskedDisable, AskedEnable, LoadedControl, LookedAsked, PublishedAll, ReclaimedOne, SameDriven, SameServed};
+ghost use Rattle.poll82599_c.specs.rings.TxEnds.{AreLawful, AreMade, AreTold, Drove, Served};
+ghost use Rattle.poll82599_c.specs.rings.Steps.{AreOfOne, SameDriven, SameServed};
 ghost use Rattle.poll82599_c.specs.Held.{Between};
 
 use crate::call::{NO_OPERATION, Poll82599Call};
@@ -67,19 +65,8 @@ pub extern "C" fn poll82599_tx_drive(
     requires { IsSome driver.old.held }
     ensures other { as_tx_driver driver.old.held ≡ None → (call.new.answer ≡ 4294967295) × (driver.new.held ≡ driver.old.held) }
     ensures own { SameDriven (as_tx_driver driver.old.held) (as_tx_driver driver.new.held) }
-    ensures posted { (call.old.operation ≡ 0) → (call.new.answer ≡ 1)
-        → Between (PostedSegment segment.now (is_set call.old.eop) (is_set call.old.rs) call.old.paylen) (as_tx_driver driver.old.held) (as_tx_driver driver.new.held) }
-    ensures published { (call.old.operation ≡ 1) → (call.new.answer ≡ 1) → Between PublishedAll (as_tx_driver driver.old.held) (as_tx_driver driver.new.held) }
-    ensures reported { (call.old.operation ≡ 2) → (call.new.answer ≡ 1) → Between SawReported (as_tx_driver driver.old.held) (as_tx_driver driver.new.held) }
-    ensures unreported { (call.old.operation ≡ 2) → (call.new.answer ≢ 1) → Between SawNoReport (as_tx_driver driver.old.held) (as_tx_driver driver.new.held) }
-    ensures asked_enable { (call.old.operation ≡ 3) → (call.new.answer ≡ 1) → Between AskedEnable (as_tx_driver driver.old.held) (as_tx_driver driver.new.held) }
-    ensures loaded { (call.old.operation ≡ 4) → Between (LoadedControl call.new.answer) (as_tx_driver driver.old.held) (as_tx_driver driver.new.held) }
-    ensures asked_disable { (call.old.operation ≡ 5) → (call.new.answer ≡ 1) → Between AskedDisable (as_tx_driver driver.old.held) (as_tx_driver driver.new.held) }
-    ensures cleaned { (call.old.operation ≡ 6) → (call.new.answer ≡ 1) → Between CleanedBuffer (as_tx_driver driver.old.held) (as_tx_driver driver.new.held) }
-    ensures reclaimed { (call.old.operation ≡ 7) → (call.new.answer ≡ 1) → Between ReclaimedOne (as_tx_driver driver.old.held) (as_tx_driver driver.new.held) }
-    ensures renewed { (call.old.operation ≡ 8) → (call.new.answer ≡ 1) → Between GoneOver (as_tx_driver driver.old.held) (as_tx_driver driver.new.held) }
-    ensures left { (call.old.operation ≡ 9) → (call.new.answer ≡ 1) → Between (λ old new. FoundLeft old call.new.len new) (as_tx_driver driver.old.held) (as_tx_driver driver.new.held) }
-    ensures kept { (call.old.operation ≢ 2) → (call.old.operation ≢ 4) → (call.new.answer ≢ 1) → driver.new.held ≡ driver.old.held }
+    ensures step { Between (Drove call.old.operation call.new.answer call.new.len segment.now (is_set call.old.eop) (is_set call.old.rs) call.old.paylen) (as_tx_driver driver.old.held) (as_tx_driver driver.new.held) }
+    ensures kept { (9 < call.old.operation) → driver.new.held ≡ driver.old.held }
 {
     let mut held = driver.take(alloc);
     call.answer = match &mut *held {
@@ -124,13 +111,9 @@ pub extern "C" fn poll82599_tx_serve(
     requires { IsSome controller.old.held }
     ensures other { as_tx_controller controller.old.held ≡ None → (call.new.answer ≡ 4294967295) × (controller.new.held ≡ controller.old.held) }
     ensures own { SameServed (as_tx_controller controller.old.held) (as_tx_controller controller.new.held) }
-    ensures answered { (call.old.operation ≡ 0) → (call.new.answer ≡ 1) → Between AnsweredAsked (as_tx_controller controller.old.held) (as_tx_controller controller.new.held) }
-    ensures looked { (call.old.operation ≡ 0) → (call.new.answer ≢ 1) → Between LookedAsked (as_tx_controller controller.old.held) (as_tx_controller controller.new.held) }
-    ensures sent { (call.old.operation ≡ 1) → (call.new.answer ≡ 1)
-        → Between (SentOne call.new.len call.new.eop bytes.old bytes.new) (as_tx_controller controller.old.held) (as_tx_controller controller.new.held) }
-    ensures none { (call.old.operation ≡ 1) → (call.new.answer ≢ 1) → Between (SentNone call.new.answer bytes.old bytes.new) (as_tx_controller controller.old.held) (as_tx_controller controller.new.held) }
+    ensures step { Between (Served call.old.operation call.new.answer call.new.len call.new.eop bytes.old bytes.new) (as_tx_controller controller.old.held) (as_tx_controller controller.new.held) }
     ensures room { (call.old.operation ≢ 1) → bytes.new ≡ bytes.old }
-    ensures kept { (call.old.operation ≢ 0) → (call.old.operation ≢ 1) → controller.new.held ≡ controller.old.held }
+    ensures kept { (1 < call.old.operation) → controller.new.held ≡ controller.old.held }
 {
     let mut held = controller.take(alloc);
     call.answer = match &mut *held {
@@ -164,8 +147,5 @@ pub extern "C" fn poll82599_tx_close(
 {
     let driver = Box::into_inner(driver.take(alloc)).tx_driver();
     let controller = Box::into_inner(controller.take(alloc)).tx_controller();
-    match driver.zip(controller) {
-        Some((driving, serving)) => unmake(driving, serving),
-        None => -1,
-    }
+    unmake(driver, controller)
 }

@@ -1,12 +1,9 @@
 //! The making of a transmit ring with its two objects, and its closing.
-ghost use Rattle.std.specs.Prelude.{◌≡◌, ◌≢◌, ◌<◌, ◌⊎◌, Some, IfErr, IfOk, length};
+ghost use Rattle.std.specs.Prelude.{◌≡◌, ◌≢◌, ◌<◌, ◌⊎◌, Some, IfErr, IfOk};
 ghost use Rattle.limits.specs.RingLength.{IsRingLength};
 ghost use Rattle.poll82599_c.specs.Handles.{as_tx_driver, as_tx_controller};
-ghost use Rattle.poll82599_c.specs.rings.TxEnds.{AreMade};
-ghost use Rattle.ring_model.specs.transmit.Lawful.{IsLawfulTxLedger};
-ghost use Rattle.ring_model.specs.shared.Frames.{Bytes};
-ghost use Rattle.tx_ring.specs.Ends.{driver_size, posted};
-ghost use Rattle.tx_ring.specs.Meeting.{IsTold, ledger_of, sent_now, told_left};
+ghost use Rattle.poll82599_c.specs.rings.TxEnds.{AreLawful, AreMade, AreTold};
+ghost use Rattle.poll82599_c.specs.rings.Steps.{AreOfOne};
 
 use crate::end::End;
 use crate::makings::{Unmade, both_boxed, stash_of, tx_close, tx_halves};
@@ -67,17 +64,22 @@ fn ends_of(
 }
 
 /// Closes a ring: how many buffers lay in it, or -1 where another owner of the ring is left.
-pub(crate) fn unmake(driving: TxDriving, serving: TxServing) -> i64
-    requires { driving.table ≡ serving.table }
-    ensures lawful { IsLawfulTxLedger Bytes (driver_size driving) (ledger_of driving serving) }
-    ensures told { IsTold (told_left driving) (length (sent_now driving serving)) (length (posted driving)) }
+pub(crate) fn unmake(driving: Option<TxDriving>, serving: Option<TxServing>) -> i64
+    requires { AreOfOne driving serving }
+    ensures lawful { AreLawful driving serving }
+    ensures told { AreTold driving serving }
 {
-    let TxDriving {
-        ring,
-        end,
-        stash,
-        ..
-    } = driving;
-    drop(stash);
-    tx_close((ring, end), (serving.ring, serving.end))
+    match driving.zip(serving) {
+        None => -1,
+        Some((driving, serving)) => {
+            let TxDriving {
+                ring,
+                end,
+                stash,
+                ..
+            } = driving;
+            drop(stash);
+            tx_close((ring, end), (serving.ring, serving.end))
+        }
+    }
 }
