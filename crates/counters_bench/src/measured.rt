@@ -39,46 +39,58 @@ pub fn writes_beside<R: Threads + Wait + Clock + Sync>(
     writes: u32,
     readers: u32,
 ) -> Result<(Duration, u32)> {
-    let (cell, pen, mut pass) = StatCell::new(alloc)?;
-    let second = cell.split(&mut pass);
-    let third = cell.split(&mut pass);
-    let shared = &cell;
+    let (cell, pen, pass) = StatCell::new(alloc)?;
     let start = Instant::now(rt)?;
-    let reads = match readers {
-        0 => {
-            write_all(rt, shared, pen, writes);
-            0
-        }
-        1 => {
-            join(
-                rt,
-                || write_all(rt, shared, pen, writes),
-                || read_until(rt, shared, pass, writes),
-            )
-            .1
-        }
-        2 => {
-            join(
-                rt,
-                || write_all(rt, shared, pen, writes),
-                move || -> u32
-                    requires { (pass.cell ≡ shared.now) × (second.cell ≡ shared.now) }
-                { read_in_two(rt, shared, pass, second, writes) },
-            )
-            .1
-        }
-        _ => {
-            join(
-                rt,
-                || write_all(rt, shared, pen, writes),
-                move || -> u32
-                    requires { (pass.cell ≡ shared.now) × (second.cell ≡ shared.now) × (third.cell ≡ shared.now) }
-                { read_in_three(rt, shared, pass, second, third, writes) },
-            )
-            .1
-        }
-    };
+    let reads = write_beside(rt, &cell, pen, pass, writes, readers);
     Ok((start.elapsed(rt)?, reads))
+}
+
+/// Writes so many times beside up to three readers, and tells how often these read meanwhile.
+fn write_beside<R: Threads + Wait + Sync>(
+    rt: &R,
+    cell: &StatCell,
+    pen: StatPen,
+    pass: StatPass,
+    writes: u32,
+    readers: u32,
+) -> u32
+    requires pen { pen.cell ≡ cell.now }
+    requires opening { pen.last ≡ none_offered }
+    requires pass { pass.cell ≡ cell.now }
+{
+    if readers == 0 {
+        write_all(rt, cell, pen, writes);
+        return 0;
+    }
+    let (_, reads) = join(
+        rt,
+        || write_all(rt, cell, pen, writes),
+        move || -> u32
+            requires { pass.cell ≡ cell.now }
+        { read_in(rt, cell, pass, readers, writes) },
+    );
+    reads
+}
+
+/// One, two or three threads read until the last write is seen, and how often all did.
+fn read_in<R: Threads + Wait + Sync>(
+    rt: &R,
+    cell: &StatCell,
+    mut pass: StatPass,
+    readers: u32,
+    writes: u32,
+) -> u32
+    requires own { pass.cell ≡ cell.now }
+{
+    if readers == 1 {
+        return read_until(rt, cell, pass, writes);
+    }
+    let second = cell.split(&mut pass);
+    if readers == 2 {
+        return read_in_two(rt, cell, pass, second, writes);
+    }
+    let third = cell.split(&mut pass);
+    read_in_three(rt, cell, pass, second, third, writes)
 }
 
 /// Writes so many times, each time one frame more.

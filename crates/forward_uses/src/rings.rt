@@ -25,7 +25,10 @@ pub fn new_tx(alloc: Global) -> Result<(TxRing, TxDriverEnd, TxControllerEnd)>
 
 /// Both values, where neither has failed; else the first error. What is let go here is of any type, and costs the proof a step;
 /// where it is known it costs one for each of its parts.
-pub fn both<A: Drop, B: Drop>(first: Result<A>, second: Result<B>) -> Result<(A, B)>
+pub fn both<A: Drop, B: Drop, E: Drop>(
+    first: Result<A, E>,
+    second: Result<B, E>,
+) -> Result<(A, B), E>
     ensures { IfOk result (λ r. (first ≡ Ok r.0) × (second ≡ Ok r.1)) }
 {
     let first = first?;

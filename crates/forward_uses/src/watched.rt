@@ -1,12 +1,13 @@
 //! A watcher: a thread of its own reads what a flow was offered so far, while the forwarder runs.
-ghost use Rattle.std.specs.Prelude.{◌≡◌, ◌*◌, IfOk, length};
+ghost use Rattle.std.specs.Prelude.{◌≡◌, ◌*◌, [], ◌∷◌, IfOk, length};
 ghost use Rattle.counters.specs.Paired.{ArePaired, IsFresh};
 
+use crate::rings::both;
 use anyhow::Result;
 use counters::{CounterError, DriveCell, FlowCells, FlowPens, Offered, StatCell, StatPass};
 use forwarder::{Config, Report, forward_watched};
 use forwarding::{ForwardError, Open};
-use std::alloc::Global;
+use std::alloc::{AllocError, Global};
 use std::sync::Wait;
 use std::thread;
 use std::thread::Threads;
@@ -87,13 +88,36 @@ pub fn watched<R: Threads + Wait + Sync>(
     count: u64,
 ) -> Result<Seen> {
     let script = parse(alloc, text)?;
-    let config = Config::default();
-    let (first, first_pens, pass) = cells_of_one(alloc)?;
-    let (second, second_pens, _) = cells_of_one(alloc)?;
-    let cells = vec![in alloc; first, second]?;
-    let pens = vec![in alloc; first_pens, second_pens]?;
-    let shown = &cells[0].stat;
-    Ok(run(
-        rt, alloc, &script, &config, &cells, pens, shown, pass, count,
-    )?)
+    let seen = watched_script(rt, alloc, &script, count);
+    drop(script);
+    seen
+}
+
+/// The same of a script that is read, with the cells of two flows.
+fn watched_script<R: Threads + Wait + Sync>(
+    rt: &R,
+    alloc: Global,
+    script: &Script,
+    count: u64,
+) -> Result<Seen> {
+    let (first, second) = both(cells_of_one(alloc), cells_of_one(alloc))?;
+    let (first, first_pens, pass) = first;
+    let (second, second_pens, _) = second;
+    let cells = two(alloc, first, second);
+    let pens = two(alloc, first_pens, second_pens);
+    let (cells, pens) = both(cells, pens)?;
+    let (config, shown) = (Config::default(), &cells[0].stat);
+    let seen = run(rt, alloc, script, &config, &cells, pens, shown, pass, count);
+    drop(cells);
+    Ok(seen?)
+}
+
+/// A list of two.
+fn two<T: Drop>(alloc: Global, first: T, second: T) -> Result<Vec<T>, AllocError>
+    ensures { IfOk result (λ list. list.items ≡ first ∷ second ∷ []) }
+{
+    let mut list = Vec::new(alloc);
+    list.push(first)?;
+    list.push(second)?;
+    Ok(list)
 }

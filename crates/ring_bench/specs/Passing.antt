@@ -8,12 +8,22 @@ use Rattle.ring_model.specs.shared.Frames.{Bytes, frames}
 use Rattle.ring_model.specs.receive.Lawful.{IsLawfulRxLedger}
 use Rattle.rx_ring.specs.Ends.{DriverSide, ControllerSide, driver_size, taken, driver_state}
 use Rattle.rx_ring.specs.Meeting.{ledger_of}
+use Rattle.limits.specs.RingLength.{IsRingLength}
+use Rattle.bench_kit.specs.Copies.{IsFrameLength}
+use Rattle.bench_kit.specs.Storing.{CanServe}
 
 -- the driver took nothing, and may ask for its queue to be enabled
 pub record CanAsk (ring : TableId) (driver : DriverSide) : Type 0 where
   pub own : driver.table ≡ ring
   pub new : is_new (driver_state driver) ≡ true
   pub none_taken : taken driver ≡ []
+
+-- both ends may begin to pass the frame through the ring
+pub record CanPass (ring : TableId) (frame : Bytes) (driver : DriverSide) (controller : ControllerSide) : Type 0 where
+  pub size : IsRingLength ring.slots
+  pub asks : CanAsk ring driver
+  pub serves : CanServe ring controller
+  pub fits : IsFrameLength (length frame)
 
 -- the driver saw its queue enabled
 pub record CanTake (ring : TableId) (driver : DriverSide) : Type 0 where

@@ -10,7 +10,8 @@ use Rattle.tx_ring.specs.Calls.{IsFreshDriver}
 use Rattle.tx_ring.specs.Ends.{DriverSide, ControllerSide, driver_size, driver_record, driver_state, posted, cleaned, reclaimed, sent, is_owed}
 use Rattle.tx_ring.specs.Meeting.{ledger_of}
 use Rattle.tx_ring.specs.Records.{Posting, TxDriven}
-use Rattle.bench_kit.specs.Copies.{AllWhole}
+use Rattle.bench_kit.specs.Copies.{AllWhole, IsFrameLength}
+use Rattle.bench_kit.specs.Fetching.{CanServe}
 use Rattle.ring_bench.specs.declared.words.TxPlan.{TxPlan}
 
 -- whether a report is asked for with the frame that so many go before: with each one of the number planned, and with the last
@@ -36,6 +37,16 @@ pub record IsCourse (plan : TxPlan) (posted until : ℕ) : Type 0 where
 pub record CanEnable (ring : TableId) (driver : DriverSide) : Type 0 where
   pub own : driver.table ≡ ring
   pub fresh : IsFreshDriver driver
+
+-- both ends may begin to send the frame as planned, with a full stock of a buffer for each descriptor of the ring
+pub record CanSend (ring : TableId) (plan : TxPlan) (frame : Bytes) (driver : DriverSide) (controller : ControllerSide) (stock : Stocked) : Type 0 where
+  pub enables : CanEnable ring driver
+  pub serves : CanServe ring controller
+  pub one_way : (driver.completion ≡ plan.completion) × (controller.completion ≡ plan.completion)
+  pub full : Shares stock []
+  pub enough : ring.slots ≤ length stock.numbers
+  pub fits : IsFrameLength (length frame)
+  pub some : 0 < plan.report
 
 -- the driver saw its queue enabled, and posted nothing yet
 pub record HasBegun (ring : TableId) (driver : DriverSide) : Type 0 where

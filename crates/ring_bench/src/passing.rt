@@ -2,10 +2,9 @@
 ghost use Rattle.std.specs.Prelude.{◌≡◌, ◌≤◌, length, replicate, IfOk};
 ghost use Rattle.limits.specs.RingLength.{IsRingLength};
 ghost use Rattle.rx_ring.specs.Calls.{IsFreshDriver};
-ghost use Rattle.bench_kit.specs.Copies.{IsFrameLength};
 ghost use Rattle.bench_kit.specs.Storing.{CanServe, StoredOnly};
 ghost use Rattle.bench_kit.specs.declared.supply.TheConstants.{BYTE};
-ghost use Rattle.ring_bench.specs.Passing.{CanAsk, HasPassed, TookAll};
+ghost use Rattle.ring_bench.specs.Passing.{CanAsk, CanPass, HasPassed, TookAll};
 
 use crate::storing::store_all;
 use crate::taking::{Reception, take_all};
@@ -98,10 +97,7 @@ fn pass_run<R: Threads + Wait + Clock + Sync>(
     run: Run<'_>,
     ends: Ends,
 ) -> Result<Timed<Ends>>
-    requires size { IsRingLength run.ring.now.slots }
-    requires driver { CanAsk run.ring.now ends.driver }
-    requires controller { CanServe run.ring.now ends.controller }
-    requires frame { IsFrameLength (length run.frame.now) }
+    requires { CanPass run.ring.now run.frame.now ends.driver ends.controller }
     ensures { IfOk result (λ p. HasPassed run.entry.plan.load.frames run.entry.frame.now p.done.driver p.done.controller) }
 {
     let (start, ends) = both(now(rt), Ok(ends))?;
@@ -148,10 +144,7 @@ fn meet(run: Run<'_>, passage: Passage) -> Ends
 
 /// Runs both ends, the controller's in a thread of its own, and joins it.
 fn in_threads<R: Threads + Wait + Sync>(rt: &R, run: Run<'_>, ends: Ends) -> Result<Passage>
-    requires size { IsRingLength run.ring.now.slots }
-    requires driver { CanAsk run.ring.now ends.driver }
-    requires controller { CanServe run.ring.now ends.controller }
-    requires frame { IsFrameLength (length run.frame.now) }
+    requires { CanPass run.ring.now run.frame.now ends.driver ends.controller }
     ensures driver { IfOk result (λ p. TookAll run.entry.ring.now run.entry.plan.load.frames p.reception.driver) }
     ensures controller { IfOk result (λ p. StoredOnly run.entry.ring.now run.entry.frame.now p.controller) }
 {
@@ -161,10 +154,7 @@ fn in_threads<R: Threads + Wait + Sync>(rt: &R, run: Run<'_>, ends: Ends) -> Res
         thread::scope_env(),
         rt,
         move |scope| -> Result<Passage>
-            requires size { IsRingLength ring.now.slots }
-            requires driver { CanAsk ring.now driver }
-            requires controller { CanServe ring.now controller }
-            requires frame { IsFrameLength (length frame.now) }
+            requires { CanPass ring.now frame.now driver controller }
             ensures driver { IfOk result (λ p. TookAll ring.entry.now plan.load.frames p.reception.driver) }
             ensures controller { IfOk result (λ p. StoredOnly ring.entry.now frame.entry.now p.controller) }
         {

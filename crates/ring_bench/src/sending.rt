@@ -1,10 +1,9 @@
 //! A transmit ring is made, its two ends run in threads of their own, and the time is taken.
-ghost use Rattle.std.specs.Prelude.{◌≡◌, ◌<◌, ◌≤◌, [], length, replicate, IfOk};
+ghost use Rattle.std.specs.Prelude.{◌≡◌, ◌≤◌, [], length, replicate, IfOk};
 ghost use Rattle.buffer_pool.specs.Stocked.{Shares};
-ghost use Rattle.bench_kit.specs.Copies.{IsFrameLength};
 ghost use Rattle.bench_kit.specs.Fetching.{CanServe, HasServed};
 ghost use Rattle.bench_kit.specs.declared.supply.TheConstants.{BYTE};
-ghost use Rattle.ring_bench.specs.Sending.{CanEnable, HasSent, PostedAll};
+ghost use Rattle.ring_bench.specs.Sending.{CanEnable, CanSend, HasSent, PostedAll};
 
 use crate::fetching::{Transmission, send_all};
 use crate::posting::{Posted, post_all};
@@ -107,13 +106,7 @@ fn send_run<R: Threads + Wait + Clock + Sync>(
     run: Run<'_>,
     sides: Sides,
 ) -> Result<Timed<Ends>>
-    requires driver { CanEnable run.ring.now sides.ends.driver }
-    requires controller { CanServe run.ring.now sides.ends.controller }
-    requires way { (sides.ends.driver.completion ≡ run.plan.completion) × (sides.ends.controller.completion ≡ run.plan.completion) }
-    requires full { Shares sides.stock [] }
-    requires enough { run.ring.now.slots ≤ length sides.stock.numbers }
-    requires frame { IsFrameLength (length run.frame.now) }
-    requires some { 0 < run.plan.report }
+    requires { CanSend run.ring.now run.plan run.frame.now sides.ends.driver sides.ends.controller sides.stock }
     ensures { IfOk result (λ p. HasSent run.entry.plan run.entry.frame.now p.done.driver p.done.controller) }
 {
     let (start, sides) = both(now(rt), Ok(sides))?;
@@ -157,13 +150,7 @@ fn meet(run: Run<'_>, dispatch: Dispatch) -> Ends
 
 /// Runs both ends, the controller's in a thread of its own, and joins it.
 fn in_threads<R: Threads + Wait + Sync>(rt: &R, run: Run<'_>, sides: Sides) -> Result<Dispatch>
-    requires driver { CanEnable run.ring.now sides.ends.driver }
-    requires controller { CanServe run.ring.now sides.ends.controller }
-    requires way { (sides.ends.driver.completion ≡ run.plan.completion) × (sides.ends.controller.completion ≡ run.plan.completion) }
-    requires full { Shares sides.stock [] }
-    requires enough { run.ring.now.slots ≤ length sides.stock.numbers }
-    requires frame { IsFrameLength (length run.frame.now) }
-    requires some { 0 < run.plan.report }
+    requires { CanSend run.ring.now run.plan run.frame.now sides.ends.driver sides.ends.controller sides.stock }
     ensures driver { IfOk result (λ d. PostedAll run.entry.ring.now run.entry.plan run.entry.frame.now d.posted.driver) }
     ensures controller { IfOk result (λ d. HasServed run.entry.ring.now run.entry.plan.completion d.sent.controller) }
 {
@@ -174,13 +161,7 @@ fn in_threads<R: Threads + Wait + Sync>(rt: &R, run: Run<'_>, sides: Sides) -> R
         thread::scope_env(),
         rt,
         move |scope| -> Result<Dispatch>
-            requires driver { CanEnable ring.now driver }
-            requires controller { CanServe ring.now controller }
-            requires way { (driver.completion ≡ plan.completion) × (controller.completion ≡ plan.completion) }
-            requires full { Shares stock [] }
-            requires enough { ring.now.slots ≤ length stock.numbers }
-            requires frame { IsFrameLength (length frame.now) }
-            requires some { 0 < plan.report }
+            requires { CanSend ring.now plan frame.now driver controller stock }
             ensures driver { IfOk result (λ d. PostedAll ring.entry.now plan frame.entry.now d.posted.driver) }
             ensures controller { IfOk result (λ d. HasServed ring.entry.now plan.completion d.sent.controller) }
         {
