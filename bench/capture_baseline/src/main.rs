@@ -1,4 +1,4 @@
-//! How fast plain Rust reads and writes captures: `capture_baseline <frames> <bytes> <rounds>` does what `text_bench
+//! How fast plain Rust reads and writes captures: `capture_baseline <frames> <bytes> <rounds>` does what `part_bench
 //! capture` of the repository does, and prints the same lines.
 
 mod capture;

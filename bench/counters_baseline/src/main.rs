@@ -1,5 +1,5 @@
 //! What it costs to write four numbers and to read them, in plain Rust: the same turns as the program
-//! `counters_bench`, over a sequence lock.
+//! `part_bench`, over a sequence lock.
 
 mod cell;
 

@@ -1,5 +1,5 @@
 //! What it costs to take a buffer from a pool and to give it back, in plain Rust: the same turns as the
-//! program `pool_bench`, over a queue of boxed buffers.
+//! program `part_bench`, over a queue of boxed buffers.
 
 mod queue;
 

@@ -1,8 +1,8 @@
 //! The command `schedules`, from its words to its lists.
 
+use crate::runs::outcome_of;
 use crate::told::comes_to;
 use crate::wanted::{holds, same};
-use program_kit::outcome_of;
 use std::alloc::Global;
 use std::process::Abort;
 use std::rt::Files;

@@ -1,8 +1,9 @@
 //! Streams that fail, and want of memory.
 
+use crate::runs::{refusal_of, status_of, text_of};
+use crate::streams::{Broken, Narrow, Screen, Unflushed};
 use crate::wanted::{holds, same};
 use commands::{NOTES, QueuePlan, Request, perform};
-use program_kit::{Broken, Narrow, Screen, Unflushed, refusal_of, status_of, text_of};
 use ring_machine::Completion;
 use std::alloc::Global;
 use std::io::Write;

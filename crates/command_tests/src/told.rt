@@ -1,7 +1,8 @@
 //! What runs of the program on words and an input have to come to.
 
+use crate::runs::{Told, is_page, outcome_of, told_by};
+use crate::streams::Broken;
 use crate::wanted::same;
-use program_kit::{Told, is_page, outcome_of};
 use std::alloc::{AllocError, Global};
 use std::process::Abort;
 use std::rt::Files;
@@ -56,14 +57,15 @@ pub fn each_comes_to<R: Abort + Threads + Wait + Clock + Sync + Files>(
     }
 }
 
-/// A run on these words is told that they are wrong, with this text, and prints nothing on the output.
+/// A run on these words is told that they are wrong, with this text, and prints nothing on the output. Its input is a faulty
+/// script that breaks off, and no move.
 fn is_mistaken<R: Abort + Threads + Wait + Clock + Sync + Files>(
     rt: &R,
     alloc: Global,
     words: &[&str],
     text: &str,
 ) {
-    let told = outcome_of(rt, alloc, words, b"r0 A2\n").expect(rt, "a run");
+    let told = told_by(rt, alloc, words, &mut Broken { left: b"2 0 00\n" }).expect(rt, "a run");
     let is_told = is_page(told.faults(), "error: ", text);
     let is_silent = told.output.is_empty();
     same(

@@ -2,14 +2,12 @@
 ghost use Rattle.forwarder.specs.Configs.{IsLawful};
 
 use crate::hot_flow::HotFlow;
-use crate::lines::make_lines;
 use crate::load::Load;
 use crate::sides::make_sides;
 use anyhow::{Result, ensure};
 use flows::{DriverFlow, Served, serve_flows};
-use forwarder::Config;
+use forwarder::{Config, make_lines};
 use forwarding::Open;
-use limits::PORTS;
 use pool::Pool;
 use std::alloc::Global;
 use std::rt::Clock;
@@ -52,10 +50,9 @@ fn forward_hot<R: Threads + Wait + Sync>(
 ) -> Result<bool>
     requires { IsLawful config.now }
 {
-    let flows = PORTS * config.pairs as usize;
     let workers = config.workers as usize;
     let (pool, mut pass) = Pool::new(rt, alloc, config.buffers)?;
-    let (lines, ends) = make_lines(alloc, config.ring, flows)?;
+    let (lines, ends) = make_lines(alloc, config)?;
     let sides = make_sides(
         rt, alloc, load, config, frames, &lines, ends, &pool, &mut pass,
     )?;

@@ -106,7 +106,7 @@ impl Load {
 }
 
 /// The number after an option.
-fn number_of(words: &[String], name: &str) -> Option<u32> {
+pub fn number_of(words: &[String], name: &str) -> Option<u32> {
     let at = words.iter().position(|word| word.as_str() == name)?;
     words.get(at + 1)?.as_str().parse().ok()
 }

@@ -1,4 +1,5 @@
-//! The program `forward_bench`: what a frame costs that is forwarded.
+//! The program `forward_bench`: what a frame costs that is forwarded; and a soak, in which what went out is compared with what
+//! came in.
 //!
 //! A script of frames of one size, shared out to the flows in turn, is forwarded, and the wires are kept. Or, without a
 //! script, a few frames come to each flow again and again, and the wires are thrown away. The time is that of the whole
@@ -7,9 +8,9 @@
 
 mod hot;
 mod hot_flow;
-mod lines;
 mod load;
 mod sides;
+mod soak;
 
 use anyhow::{Result, ensure};
 use flows::{Ended, FlowReport};
@@ -17,6 +18,7 @@ use forwarder::{Config, Report, forward};
 use forwarding::Open;
 use hot::run_hot;
 use load::Load;
+use soak::{Soak, run_soak};
 use std::alloc::Global;
 use std::env;
 use std::process::ExitCode;
@@ -28,8 +30,11 @@ use wire_script::Script;
 
 const USAGE: &str =
     "Usage: forward_bench --ring N --frames N --size N --batch N --flows N --workers N --keep N
+       forward_bench --soak N --part N
 
-Forwards so many frames, and prints how long that took.
+Forwards so many frames, and prints how long that took. With --soak it forwards them over 4 flows with 2
+workers a side, in parts of so many, and compares what goes out with what comes in: it prints a line for
+each part, and at last how many parts were right.
 
   --ring     descriptors of each ring, a power of two from 8 to 4096
   --frames   how many frames all flows have together, 1 to 1000000
@@ -38,9 +43,12 @@ Forwards so many frames, and prints how long that took.
   --flows    how many flows have frames: 1, 2, 4, 8 or 16
   --workers  threads of each side, 1 to the number of flows; with one flow, to 2
   --keep     1: a script's frames, and the wires are kept; 0: 256 frames again and again
+  --soak     how many frames are forwarded at least, from 1
+  --part     how many of them at once, 1 to 1000000
 
-Example:
-  forward_bench --ring 512 --frames 200000 --size 60 --batch 32 --flows 2 --workers 1 --keep 1";
+Examples:
+  forward_bench --ring 512 --frames 200000 --size 60 --batch 32 --flows 2 --workers 1 --keep 1
+  forward_bench --soak 20000000 --part 500000";
 
 /// Whether all frames of a flow went out.
 fn is_whole(flow: &FlowReport, count: u64) -> bool {
@@ -78,21 +86,35 @@ fn run_script<R: Threads + Wait + Clock + Sync>(
     Ok(spent)
 }
 
-fn main(rt: HostRuntime) -> Result<ExitCode> {
-    let words: Vec<String> = env::args(&rt)?.skip(1).collect(rt.alloc())?;
-    let Some(load) = Load::of(words.as_slice()) else {
-        eprintln!(rt; "{USAGE}")?;
-        return Ok(ExitCode::from(2));
-    };
+/// Forwards the load, and prints what a frame cost.
+fn tell_cost<R: Threads + Wait + Clock + Sync + Print>(
+    rt: &R,
+    alloc: Global,
+    load: &Load,
+) -> Result<()> {
     let spent = if load.keeps {
-        run_script(&rt, rt.alloc(), &load)?
+        run_script(rt, alloc, load)?
     } else {
-        run_hot(&rt, rt.alloc(), &load)?
+        run_hot(rt, alloc, load)?
     };
     let spent = spent.as_secs_f64();
     let frames = f64::from(load.frames);
     println!(rt; "frames {}", load.frames)?;
     println!(rt; "ns/frame {:.1}", spent * 1e9 / frames)?;
     println!(rt; "Mframes/s {:.3}", frames / spent / 1e6)?;
-    Ok(ExitCode::SUCCESS)
+    Ok(())
+}
+
+fn main(rt: HostRuntime) -> Result<ExitCode> {
+    let words: Vec<String> = env::args(&rt)?.skip(1).collect(rt.alloc())?;
+    if let Some(load) = Load::of(words.as_slice()) {
+        tell_cost(&rt, rt.alloc(), &load)?;
+        return Ok(ExitCode::SUCCESS);
+    }
+    let Some(soak) = Soak::of(words.as_slice()) else {
+        eprintln!(rt; "{USAGE}")?;
+        return Ok(ExitCode::from(2));
+    };
+    let right = run_soak(&rt, rt.alloc(), soak)?;
+    Ok(ExitCode::from(u8::from(!right)))
 }

@@ -2,14 +2,13 @@
 ghost use Rattle.std.specs.Prelude.{◌≡◌, ℕ, ◌<◌, [], length, vec_len, slice_index_or};
 ghost use Rattle.pool.specs.Owned.{IsOf};
 ghost use Rattle.forwarder.specs.Configs.{IsLawful};
-ghost use Rattle.forward_bench.specs.Lines.{AreEnds};
+ghost use Rattle.forwarder.specs.Lines.{AreEnds};
 
 use crate::hot_flow::HotFlow;
-use crate::lines::{Line, LineEnds};
 use crate::load::Load;
 use anyhow::Result;
 use flows::{DriverFlow, Task};
-use forwarder::Config;
+use forwarder::{Config, Line, LineEnds};
 use pool::{Pool, PoolPass};
 use std::alloc::Global;
 use std::sync::Wait;
@@ -54,7 +53,7 @@ fn make_side<'a, R: Wait>(
     pass: PoolPass,
 ) -> Side<'a>
     requires lawful { IsLawful config.now }
-    requires ends { AreEnds config.now.ring line.now ends }
+    requires ends { AreEnds config.now.ring config.now.completion line.now ends }
     requires pool { IsOf pool.now pass }
     requires share { pass.hand.share ≡ 1 }
     requires none { pass.hand.held ≡ [] }
@@ -103,7 +102,7 @@ pub(crate) fn make_sides<'a, R: Wait>(
 ) -> Result<Sides<'a>>
     requires lawful { IsLawful config.now }
     requires flows { vec_len ends ≡ length lines.now }
-    requires ends { (k : ℕ) (d : _) (e : _) → k < length lines.now → AreEnds config.now.ring (slice_index_or lines.now k d) (slice_index_or ends.items k e) }
+    requires ends { (k : ℕ) (d : _) (e : _) → k < length lines.now → AreEnds config.now.ring config.now.completion (slice_index_or lines.now k d) (slice_index_or ends.items k e) }
     requires pool { IsOf pool.now pass.old }
     requires share { length lines.now < pass.old.hand.share }
 {

@@ -20,4 +20,5 @@ pub use calls::{forward, forward_in, forward_watched};
 pub use config::{Config, LEAST_SHARE};
 pub use index::Index;
 pub use laws::plans_have_the_flows_frames;
+pub use lines::{Line, LineEnds, make_lines};
 pub use report::Report;

@@ -15,14 +15,14 @@ use tx_ring::{Completion, TxControllerEnd, TxDriverEnd, TxRing};
 
 /// The two rings of a flow: its frames come in by one and go out by the other.
 #[derive(Drop)]
-pub(crate) struct Line {
+pub struct Line {
     pub from: RxRing,
     pub to: TxRing,
 }
 
 /// The ends of a flow's two rings: a driver takes and posts, a controller stores and sends.
 #[derive(Drop)]
-pub(crate) struct LineEnds {
+pub struct LineEnds {
     pub takes: RxDriverEnd,
     pub stores: RxControllerEnd,
     pub posts: TxDriverEnd,
@@ -54,8 +54,12 @@ fn make_line(
     Ok((Line { from, to }, ends))
 }
 
-/// The rings of all flows, and their ends, in the order of the flows.
-pub(crate) fn make_lines(
+/// The rings of all flows, and their ends, in the order of the flows: of each its receive ring and the other port's transmit
+/// ring of the same queue, both of `config.ring` descriptors, enabled by nobody yet. It is refused for memory alone.
+///
+/// [`forward`](crate::forward) makes its rings so; whoever serves flows of other kinds on the same rings, as a benchmark
+/// does that makes its frames up, gives both ends of each to them.
+pub fn make_lines(
     alloc: Global,
     config: &Config,
 ) -> Result<(Vec<Line>, Vec<LineEnds>), ForwardError>

@@ -4,7 +4,7 @@ use crate::bursts::{Burst, script_of};
 use crate::configs::DEFAULT;
 use crate::counted::{Counts, NONE, comes_to};
 use crate::gates::Shuts;
-use crate::told::{holds, same};
+use crate::wanted::{holds, same};
 use forwarder::{Config, forward};
 use forwarding::{ForwardError, Open};
 use std::alloc::Global;

@@ -3,7 +3,7 @@
 use crate::bursts::script_with;
 use crate::configs::DEFAULT;
 use crate::counted::counts_of;
-use crate::told::same;
+use crate::wanted::same;
 use controller::Wire;
 use flows::{Ended, FlowReport};
 use forwarder::{Config, forward};

@@ -3,7 +3,7 @@
 use crate::bursts::{FORTY, FORTY_COUNTS, script_of};
 use crate::configs::SHORT;
 use crate::counted::{carries, comes_to};
-use crate::told::{holds, same};
+use crate::wanted::{holds, same};
 use flows::{Ended, FlowReport};
 use forwarder::{Config, forward};
 use forwarding::Open;

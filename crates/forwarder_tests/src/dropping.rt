@@ -3,7 +3,7 @@
 use crate::bursts::{Burst, script_of};
 use crate::configs::SHORT;
 use crate::counted::is_touched;
-use crate::told::same;
+use crate::wanted::same;
 use controller::Wire;
 use flows::{Ended, FlowReport};
 use forwarder::{Config, forward};

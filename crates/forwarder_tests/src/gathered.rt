@@ -7,7 +7,7 @@ ghost use Rattle.pool.specs.declared.hand.TheConstants.{WHOLE_SHARE};
 use crate::bursts::{Burst, FORTY, script_of};
 use crate::configs::DEFAULT;
 use crate::gates::{Midway, Shuts, Stops};
-use crate::told::{holds, same};
+use crate::wanted::{holds, same};
 use buffer_pool::Stash;
 use forwarder::{Config, forward_in};
 use forwarding::{ForwardError, Gate, Open};

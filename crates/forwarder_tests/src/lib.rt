@@ -28,7 +28,7 @@ mod rows;
 #[cfg(test)]
 mod side_by_side;
 #[cfg(test)]
-mod told;
+mod wanted;
 #[cfg(test)]
 mod wanting;
 #[cfg(test)]

@@ -3,7 +3,7 @@
 use crate::bursts::{Burst, FORTY, script_of};
 use crate::configs::SHORT;
 use crate::gates::{Leaving, Shuts};
-use crate::told::same;
+use crate::wanted::same;
 use forwarder::{Config, forward};
 use forwarding::ForwardError;
 use std::alloc::Global;

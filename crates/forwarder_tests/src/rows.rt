@@ -3,7 +3,7 @@
 use crate::bursts::{Burst, FORTY, FORTY_COUNTS, script_of};
 use crate::configs::{DEFAULT, SHORT};
 use crate::counted::{Counts, NONE, comes_to};
-use crate::told::{holds, same};
+use crate::wanted::{holds, same};
 use controller::Wire;
 use flows::FlowReport;
 use forwarder::{Config, forward};

@@ -4,7 +4,7 @@ use crate::bursts::{Burst, script_of};
 use crate::configs::DEFAULT;
 use crate::counted::{Counts, NONE, comes_to};
 use crate::gates::{After, Meeting};
-use crate::told::holds;
+use crate::wanted::holds;
 use forwarder::Config;
 use std::alloc::Global;
 use std::process::Abort;

@@ -4,7 +4,7 @@
 use crate::configs::SHORT;
 use crate::counted::{Counts, NONE, is_drained};
 use crate::gathered::{BUFFERS, ended_over};
-use crate::told::holds;
+use crate::wanted::holds;
 use forwarder::{Config, forward};
 use forwarding::{ForwardError, Open};
 use pool::Pool;

@@ -7,7 +7,7 @@ use crate::configs::SHORT;
 use crate::counted::is_drained;
 use crate::gates::Paced;
 use crate::readers::{Reader, readers_of};
-use crate::told::{holds, same};
+use crate::wanted::{holds, same};
 use counters::{DriveCell, DrivePass, Driven, FlowCells, FlowPens, Moment, StatCell, StatPass};
 use flows::FlowReport;
 use forwarder::{Config, Report, forward_watched};

@@ -1,5 +1,5 @@
 -- What was taken at once and is given back at once.
-use Rattle.std.proofs.Common.{◌≡◌, ℕ, suc, Contains, List, [], ◌∷◌, ◌++◌, length, take, reverse, min, cond, Bool, refl, sym, ap, ◌∙◌, arith, length-append}
+use Rattle.std.proofs.Common.{◌≡◌, ℕ, List, [], ◌∷◌, ◌++◌, length, take, reverse, min, cond, Bool, refl, sym, ap, ◌∙◌, arith, length-append}
 use Rattle.std.proofs.lemmas.List.{length-reverse}
 use borrow.Author.Tests.{eq-eqb}
 use Rattle.pool.specs.declared.hand.Hand.{Hand}
@@ -22,8 +22,3 @@ returned v w x stash moved given idle r all gave =
     all-of : (xs : List ℕ) → take (length xs) xs ≡ xs
     all-of [] = refl
     all-of (y ∷ ys) = ap (λ (zs : List ℕ). y ∷ zs) (all-of ys)
-
--- what was held stays held behind what is taken afterwards
-pub behind : (xs ys : List ℕ) (n : ℕ) → Contains (xs ++ n ∷ ys) n
-behind [] ys n = (0, omega arith, refl)
-behind (x ∷ xs) ys n = let c = behind xs ys n in (suc c.0, omega (arith, c.1), c.2)

@@ -6,10 +6,6 @@
 #![tactic(auto)]
 
 mod sharing;
-#[cfg(test)]
-mod tests;
-#[cfg(test)]
-mod told;
 mod worker;
 
 pub use sharing::{in_two, share_out};

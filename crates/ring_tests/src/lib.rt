@@ -3,14 +3,14 @@
 #![tactic(auto)]
 
 #[cfg(test)]
-mod calls;
-#[cfg(test)]
 mod machine_tests;
+#[cfg(test)]
+mod receive;
 #[cfg(test)]
 mod steps;
 #[cfg(test)]
 mod text_tests;
 #[cfg(test)]
-mod threads;
+mod transmit;
 #[cfg(test)]
-mod told;
+mod wanted;

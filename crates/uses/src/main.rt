@@ -3,18 +3,23 @@
 
 mod closing;
 mod device;
-mod forwarder;
+mod gated;
 mod lent;
 mod moves;
 mod one_frame;
 mod outcome;
 mod queue_pair;
 mod rings;
+mod rounds;
+mod stash;
+mod two_threads;
+mod watched;
 mod worker;
 
 use anyhow::Result;
 use closing::closed;
 use device::{Frame, served};
+use gated::Batches;
 use lent::lent_and_returned;
 use moves::told;
 use one_frame::passed;
@@ -22,6 +27,9 @@ use pool::Pool;
 use queue_pair::forwarded;
 use std::alloc::Global;
 use std::sync::Wait;
+use std::thread::Threads;
+use two_threads::{FRAME, FRAMES, pass};
+use watched::watched;
 use worker::work;
 
 const MOVES: [&str; 3] = ["r0 A1 5", "r0 A2", "r0 A6"];
@@ -43,6 +51,31 @@ fn back(alloc: Global) -> Result<usize> {
     Ok(closed(alloc)?.len())
 }
 
+/// Tells what goes through one ring between two threads.
+fn tell_threads<R: Threads + Wait + Sync + Print>(rt: &R, alloc: Global) -> Result<()> {
+    let taken = pass(rt, alloc, &FRAME, FRAMES)?;
+    println!(rt; "{taken} frames of {} bytes were taken", FRAME.len())?;
+    Ok(())
+}
+
+/// Tells how often a forwarder of one's own passed its gate.
+fn tell_gated<R: Print>(rt: &R, alloc: Global, frame: &Frame) -> Result<()> {
+    let gate = Batches::new();
+    let count = gated::forwarded(alloc, frame, &gate)?;
+    println!(rt; "forwarded {count} frames in {} turns", gate.count())?;
+    Ok(())
+}
+
+/// Tells what a watcher saw of a forwarder meanwhile.
+fn tell_watched<R: Threads + Wait + Sync + Print>(rt: &R, alloc: Global) -> Result<()> {
+    let seen = watched(rt, alloc, b"0 0 fill 60 01\n0 0 fill 60 02\n", 2)?;
+    println!(rt;
+        "saw {} frames stored, and {} went out",
+        seen.offered.stored, seen.sent
+    )?;
+    Ok(())
+}
+
 fn main(rt: HostRuntime) -> Result<()> {
     let (alloc, frame) = (rt.alloc(), [0xab; 60]);
     if let Some(buf) = passed(alloc, &frame)? {
@@ -56,5 +89,7 @@ fn main(rt: HostRuntime) -> Result<()> {
     let (stored, sent) = served(alloc, &frame)?;
     println!(rt; "stored {stored} frame of 2, sent {sent}")?;
     print!(rt; "{}", told(alloc, MOVES.as_slice())?)?;
-    Ok(())
+    tell_threads(&rt, alloc)?;
+    tell_gated(&rt, alloc, &frame)?;
+    tell_watched(&rt, alloc)
 }

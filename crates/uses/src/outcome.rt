@@ -2,10 +2,11 @@
 //! here, where it is of any type, it is one.
 ghost use Rattle.std.specs.Prelude.{◌≡◌, IfOk, Ok};
 
-use anyhow::Result;
-
 /// Both values, where neither has failed; else the first error.
-pub fn both<A: Drop, B: Drop>(first: Result<A>, second: Result<B>) -> Result<(A, B)>
+pub fn both<A: Drop, B: Drop, E: Drop>(
+    first: Result<A, E>,
+    second: Result<B, E>,
+) -> Result<(A, B), E>
     ensures { IfOk result (λ r. (first ≡ Ok r.0) × (second ≡ Ok r.1)) }
 {
     let first = first?;

@@ -2,12 +2,13 @@
 ghost use Rattle.std.specs.Prelude.{◌≡◌, All};
 ghost use Rattle.buffer_pool.specs.Packed.{IsPacket};
 
-use crate::forwarder::forward;
 use crate::outcome::both;
 use crate::rings::{new_rx, new_tx};
+use crate::rounds::forward;
+use crate::stash::filled;
 use anyhow::Result;
 use arrayvec::ArrayVec;
-use buffer_pool::{Packet, Stash, Stock};
+use buffer_pool::{Packet, Stash};
 use controller::{CtlError, RxController, TxController, Wire};
 use driver::{DriverError, MOST_BATCH, RxDriver, TxDriver};
 use limits::BUFFER_BYTES;
@@ -80,20 +81,6 @@ impl QueuePair {
         self.port_out.turn(&self.to, &mut self.wire)?;
         Ok(())
     }
-}
-
-/// A stash with so many empty buffers.
-fn filled(alloc: Global, count: u32) -> Result<Stash> {
-    let mut stock = Stock::new(alloc, 0, count)?;
-    let mut stash = Stash::new();
-    for _ in 0..count {
-        if let Some(buf) = stock.take() {
-            if buf.capacity() == BUFFER_BYTES {
-                let _ = stash.put(buf);
-            }
-        }
-    }
-    Ok(stash)
 }
 
 /// Has a frame come in ten times, and answers how many frames went out.

@@ -2,7 +2,7 @@ use Rattle.std.proofs.Common.{rules, ◌≡◌, ap, length, subst, sym, arith}
 use Rattle.std.specs.Prelude.{slice_index_or}
 use denote.Param.Send.{sendable}
 use Rattle.flows.proofs.Sent.{driver_flow}
-use Rattle.forward_bench.specs.Lines.{AreEnds}
+use Rattle.forwarder.specs.Lines.{AreEnds}
 use Rattle.forward_bench.proofs.Sent.{hot_flow}
 use Rattle.forward_bench.proofs.hot.forward_hot.Goals as goal
 
@@ -10,7 +10,7 @@ pub make_sides-requires-clause-ends : goal.make_sides-requires-clause-ends
 make_sides-requires-clause-ends g c =
     let made = c.in_ok-lines in
     let same : c.deref.result.now ≡ made.lines.items = search rules in
-    λ k d e low. subst (λ xs. AreEnds c.args.config.now.ring (slice_index_or xs k d) (slice_index_or made.ends.items k e)) (sym same)
+    λ k d e low. subst (λ xs. AreEnds c.args.config.now.ring c.args.config.now.completion (slice_index_or xs k d) (slice_index_or made.ends.items k e)) (sym same)
     (made.ensures.made k d e (omega (arith, low, ap length same, made.ensures.flows.0)))
 
 pub serve_flows-served-requires-send-D : goal.serve_flows-served-requires-send-D

@@ -1,7 +1,7 @@
 use Rattle.std.proofs.Common.{rules, ◌≡◌, ◌∙◌, ◌<◌, length, get_or, ap, sym, subst, arith}
 use Rattle.pool.specs.Owned.{IsOf}
 use Rattle.forwarder.proofs.Plans.{drop-first, drop-later, drop-within}
-use Rattle.forward_bench.specs.Lines.{AreEnds}
+use Rattle.forwarder.specs.Lines.{AreEnds}
 use Rattle.forward_bench.proofs.sides.make_sides.Goals as goal
 
 pub make_side-side-requires-clause-ends : goal.make_side-side-requires-clause-ends
@@ -9,14 +9,15 @@ make_side-side-requires-clause-ends g c =
     let was = c.loop-own.invariant in
     let n = c.loop-own.number in
     let size = c.args.config.now.ring in
+    let mode = c.args.config.now.completion in
     let line = c.index-lines-number.result in
     let own = c.in-Some.own in
     let first = sym was.ends ∙ c.in-Some.ensures.steps.0 in
     let within = drop-within n c.args.ends.items own _ first in
     let low : n < length c.args.lines.now = search rules in
     let at : get_or c.args.lines.now n line ≡ line = search rules in
-    subst (λ l. AreEnds size l own) at
-    (subst (λ e. AreEnds size (get_or c.args.lines.now n line) e) (drop-first n c.args.ends.items own _ first own) (c.requires.ends n line own low))
+    subst (λ l. AreEnds size mode l own) at
+    (subst (λ e. AreEnds size mode (get_or c.args.lines.now n line) e) (drop-first n c.args.ends.items own _ first own) (c.requires.ends n line own low))
 
 pub loop-own-preserved : goal.loop-own-preserved
 loop-own-preserved g c =

@@ -1,0 +1,81 @@
+//! Streams of `from-capture` and `to-capture` that fail, and want of memory.
+
+use crate::forward::captured::Content::Capture;
+use crate::forward::captured::Part::{At0, Fives, Header};
+use crate::forward::captured::bytes_of;
+use crate::forward::streams::{each_beginning, each_cut};
+use crate::streams::Narrow;
+use crate::wanted::{holds, same};
+use capture_command::{CaptureRequest, perform};
+use std::alloc::Global;
+use std::process::Abort;
+
+const TO: &[&str] = &["to-capture", "1"];
+
+const FROM: &[&str] = &["from-capture", "0", "0"];
+
+const SCRIPT: &str = "1 0 0506050505050505050505050505\n";
+
+#[test]
+fn an_output_that_fails_has_a_beginning(rt: HostRuntime) {
+    let whole = bytes_of(rt.alloc(), Capture(&[Header, At0, Fives])).expect(&rt, "memory");
+    let rooms = [0, 1, 23, 24, 25, 40];
+    each_beginning(&rt, rt.alloc(), (TO, SCRIPT), whole.as_slice(), &rooms)
+}
+
+/// What can be read of the input: nothing, the header of a capture, a line, and the beginning of one.
+const CUT: &[(&[&str], &[u8])] = &[
+    (TO, b""),
+    (
+        TO,
+        b"\xd4\xc3\xb2\xa1\x02\x00\x04\x00\0\0\0\0\0\0\0\0\xff\xff\0\0\x01\0\0\0",
+    ),
+    (TO, b"1 0 0506050505050505050505050505\n"),
+    (TO, b"flow "),
+    (FROM, b""),
+    (
+        FROM,
+        b"\xd4\xc3\xb2\xa1\x02\x00\x04\x00\0\0\0\0\0\0\0\0\xff\xff\0\0\x01\0\0\0",
+    ),
+    (FROM, b"1 0 0506050505050505050505050505\n"),
+    (FROM, b"flow "),
+];
+
+#[test]
+fn an_input_that_fails_in_mid_stream_is_refused(rt: HostRuntime) {
+    each_cut(&rt, rt.alloc(), CUT)
+}
+
+/// What `to-capture` writes, or nothing where memory is refused.
+fn capture_written<A: Abort>(rt: &A, alloc: Global) -> Vec<u8> {
+    let mut output = Narrow::new(alloc, 400);
+    let request = CaptureRequest::ToCapture { port: 1 };
+    match perform(alloc, request, &mut SCRIPT.as_bytes(), &mut output) {
+        Ok(()) => same(rt, output.taken.len(), 54),
+        Err(refusal) => {
+            holds(rt, [77, 83, 84].contains(&refusal.number()));
+            holds(rt, output.taken.is_empty());
+        }
+    }
+    output.taken
+}
+
+/// From that capture `from-capture` writes the line again, or nothing.
+fn line_is_written<A: Abort>(rt: &A, alloc: Global, mut capture: &[u8]) {
+    let mut output = Narrow::new(alloc, 400);
+    let request = CaptureRequest::FromCapture { port: 1, queue: 0 };
+    match perform(alloc, request, &mut capture, &mut output) {
+        Ok(()) => same(rt, output.taken.as_slice(), SCRIPT.as_bytes()),
+        Err(refusal) => {
+            holds(rt, [83, 84, 91, 97].contains(&refusal.number()));
+            holds(rt, output.taken.is_empty());
+        }
+    }
+}
+
+// With any one allocation refused, as `rt try --test --fail-alloc N` does, this passes too.
+#[test]
+fn want_of_memory(rt: HostRuntime) {
+    let capture = capture_written(&rt, rt.alloc());
+    line_is_written(&rt, rt.alloc(), capture.as_slice());
+}

@@ -1,0 +1,135 @@
+//! Scripts from text to text.
+
+use crate::forward::crowd::{FLOWS, crowd, crowd_forwarded};
+use crate::forward::forty::{forty, forty_forwarded, forty_words};
+use crate::forward::forward_rows::{ROWS, Row};
+use crate::runs::outcome_of;
+use crate::told::comes_to;
+use crate::wanted::same;
+use std::alloc::Global;
+use std::process::Abort;
+use std::rt::Files;
+use std::sync::Wait;
+use std::thread::Threads;
+use std::time::Clock;
+
+/// Options beside two pairs and rings of 8 that change nothing of what is printed.
+const SAME: &[&[&str]] = &[
+    &[],
+    &["--workers", "2"],
+    &["--workers", "3"],
+    &["--workers", "4"],
+    &["--batch", "1"],
+    &["--batch", "7"],
+    &["--head"],
+    &["--head", "--workers", "4", "--batch", "7"],
+    &["--buffers", "64", "--bsize", "1024", "--rs-every", "1"],
+    &["--rs-every", "4096", "--turns", "4294967295"],
+];
+
+/// Each row comes to its text.
+fn each_comes_to<R: Abort + Threads + Wait + Clock + Sync + Files>(
+    rt: &R,
+    alloc: Global,
+    rows: &[Row],
+) {
+    for row in rows {
+        let wanted = (row.status, row.output, row.faults);
+        comes_to(rt, alloc, row.words, row.input, wanted);
+    }
+}
+
+#[test]
+fn rows_come_to_their_text(rt: HostRuntime) {
+    each_comes_to(&rt, rt.alloc(), ROWS)
+}
+
+/// With these options the 40 frames are printed so.
+fn forwards_forty<R: Abort + Threads + Wait + Clock + Sync + Files>(
+    rt: &R,
+    alloc: Global,
+    options: &[&str],
+    (script, printed): (&str, &str),
+) {
+    let words = forty_words(alloc, options).expect(rt, "memory");
+    comes_to(rt, alloc, words.as_slice(), script, (0, printed, ""))
+}
+
+fn each_forwards_forty<R: Abort + Threads + Wait + Clock + Sync + Files>(
+    rt: &R,
+    alloc: Global,
+    texts: (&str, &str),
+) {
+    for options in SAME {
+        forwards_forty(rt, alloc, options, texts);
+    }
+}
+
+#[test]
+fn forty_frames_are_printed_alike_whatever_the_workers(rt: HostRuntime) {
+    let script = forty(rt.alloc()).expect(&rt, "memory");
+    let printed = forty_forwarded(rt.alloc()).expect(&rt, "memory");
+    each_forwards_forty(&rt, rt.alloc(), (script.as_str(), printed.as_str()))
+}
+
+/// A run on these words and this script ends well, and its output has this text.
+fn has_text<R: Abort + Threads + Wait + Clock + Sync + Files>(
+    rt: &R,
+    alloc: Global,
+    (words, script): (&[&str], &str),
+    wanted: &str,
+) {
+    let told = outcome_of(rt, alloc, words, script.as_bytes()).expect(rt, "a run");
+    let text = told.text();
+    let is_there = text.contains(wanted);
+    same(rt, (text, told.status, is_there), (text, 0, true));
+}
+
+const CUT: &[&str] = &[
+    "forward", "--pairs", "2", "--ring", "8", "--batch", "1", "--turns", "3",
+];
+
+#[test]
+fn a_flow_that_is_cut_says_so(rt: HostRuntime) {
+    let script = forty(rt.alloc()).expect(&rt, "memory");
+    let end = " ended cut\nflow 1 0 ";
+    has_text(&rt, rt.alloc(), (CUT, script.as_str()), end)
+}
+
+const LONG: &[&str] = &["forward", "--ring", "16", "--bsize", "1024"];
+
+const TEN: &str =
+    "\nflow 0 0 offered 10 stored 10 dropped 0 oversize 0 taken 10 posted 10 tx-dropped 0 wire 10 left 0 ended drained\n";
+
+/// Ten frames of 15,000 bytes.
+const LONG_SCRIPT: &str =
+    "0 0 fill 15000 00\n0 0 fill 15000 00\n0 0 fill 15000 00\n0 0 fill 15000 00\n0 0 fill 15000 00\n0 0 fill 15000 00\n0 0 fill 15000 00\n0 0 fill 15000 00\n0 0 fill 15000 00\n0 0 fill 15000 00\n";
+
+#[test]
+fn ten_frames_of_15_000_bytes_go_out(rt: HostRuntime) {
+    has_text(&rt, rt.alloc(), (LONG, LONG_SCRIPT), TEN)
+}
+
+/// So many workers print the crowd so.
+fn forwards_crowd<R: Abort + Threads + Wait + Clock + Sync + Files>(
+    rt: &R,
+    alloc: Global,
+    workers: u32,
+    (script, printed): (&str, &str),
+) {
+    let count = format!(in alloc; "{workers}").expect(rt, "memory");
+    let words = ["forward", "--pairs", "8", "--workers", count.as_str()];
+    let told = outcome_of(rt, alloc, words.as_slice(), script.as_bytes()).expect(rt, "a run");
+    let is_same = told.output.as_slice() == printed.as_bytes();
+    same(rt, (workers, told.status, is_same), (workers, 0, true));
+}
+
+#[test]
+fn sixteen_flows_are_printed_alike_by_each_number_of_workers(rt: HostRuntime) {
+    let script = crowd(rt.alloc()).expect(&rt, "memory");
+    let printed = crowd_forwarded(rt.alloc()).expect(&rt, "memory");
+    let texts = (script.as_str(), printed.as_str());
+    for workers in 1..=FLOWS {
+        forwards_crowd(&rt, rt.alloc(), workers, texts);
+    }
+}

@@ -1,0 +1,132 @@
+//! The help of `forward`, words that are wrong, and refusals.
+
+use crate::runs::outcome_of;
+use crate::told::{each_is_helped, each_is_mistaken};
+use crate::wanted::same;
+use commands::{REFUSED, Refusal, refuse};
+use forwarding::ForwardError;
+use std::alloc::Global;
+use std::process::Abort;
+use wire_script::ScriptError;
+
+const HELP: &[&str] = &["forward", "--help"];
+
+/// What help has to say: an option with its range and default in each line, and the examples.
+const LINES: &[&str] = &[
+    "--pairs <N>",
+    "1 to 8 [default: 1]",
+    "--ring <N>",
+    "8 to 4,096 [default: 512]",
+    "--batch <N>",
+    "1 to 32 [default: 32]",
+    "--buffers <N>",
+    "[default: 4096]",
+    "--bsize <N>",
+    "1,024 or 2,048 [default: 2048]",
+    "--rs-every <N>",
+    "1 to 4,096 [default: 32]",
+    "--drop",
+    "--no-retry",
+    "--workers <N>",
+    "[default: 1]",
+    "--turns <N>",
+    "[default: 0]",
+    "--head",
+    "--quiet",
+    "--json",
+    "--progress",
+    "echo '0 0 fill 14 05' | poll82599 forward\n",
+    "prints 1 0 0506050505050505050505050505\n",
+];
+
+/// Words that are wrong, and what has to be told of them.
+const WRONG: &[(&[&str], &str)] = &[
+    (&["forward", "--ring", "eight"], "eight"),
+    (&["forward", "--pairs", "4294967296"], "4294967296"),
+    (&["forward", "--turns"], "--turns"),
+    (&["forward", "--drop=1"], "--drop"),
+    (&["forward", "--retry"], "--retry"),
+    (&["forward", "script"], "script"),
+    (&["forward", "--progress=1"], "--progress"),
+];
+
+/// Each refusal of a script and of a forwarding, and its line.
+const REFUSALS: &[(Refusal, &str)] = &[
+    (
+        Refusal::Forward(ForwardError::Memory),
+        "refused 61 memory\n",
+    ),
+    (Refusal::Forward(ForwardError::Gate), "refused 62 gate\n"),
+    (
+        Refusal::Forward(ForwardError::Thread),
+        "refused 63 thread\n",
+    ),
+    (
+        Refusal::Forward(ForwardError::Config),
+        "refused 64 config\n",
+    ),
+    (
+        Refusal::Script(ScriptError::Fields { line: 1 }),
+        "line 1: refused 71 fields\n",
+    ),
+    (
+        Refusal::Script(ScriptError::Port { line: 2 }),
+        "line 2: refused 72 port\n",
+    ),
+    (
+        Refusal::Script(ScriptError::Queue { line: 3 }),
+        "line 3: refused 73 queue\n",
+    ),
+    (
+        Refusal::Script(ScriptError::Bytes { line: 4 }),
+        "line 4: refused 74 bytes\n",
+    ),
+    (
+        Refusal::Script(ScriptError::FrameLength { line: 5 }),
+        "line 5: refused 75 frame length\n",
+    ),
+    (
+        Refusal::Script(ScriptError::TooMany { line: 1_000_001 }),
+        "line 1000001: refused 76 too many\n",
+    ),
+    (Refusal::Script(ScriptError::Memory), "refused 77 memory\n"),
+];
+
+fn has_line<R: Abort>(rt: &R, alloc: Global, refusal: Refusal, line: &str) {
+    let mut faults = Vec::new(alloc);
+    let status = refuse(&mut faults, refusal);
+    same(rt, (status, faults.as_slice()), (REFUSED, line.as_bytes()));
+}
+
+#[test]
+fn refusals_have_their_words(rt: HostRuntime) {
+    for (refusal, line) in REFUSALS {
+        has_line(&rt, rt.alloc(), *refusal, line);
+    }
+}
+
+const EXAMPLE: &[(&[&str], &str)] = &[(&["--help"], "echo '0 0 fill 60 01' | poll82599 forward\n")];
+
+#[test]
+fn the_program_s_help_has_an_example(rt: HostRuntime) {
+    each_is_helped(&rt, rt.alloc(), EXAMPLE)
+}
+
+/// The help has each of these lines.
+fn has_lines<R: Abort>(rt: &R, page: &str) {
+    for text in LINES {
+        same(rt, (*text, page.contains(text)), (*text, true));
+    }
+}
+
+#[test]
+fn help_has_each_option(rt: HostRuntime) {
+    let told = outcome_of(&rt, rt.alloc(), HELP, b"").expect(&rt, "a run");
+    same(&rt, told.status, 0);
+    has_lines(&rt, told.text());
+}
+
+#[test]
+fn wrong_words_are_told_with_status_2(rt: HostRuntime) {
+    each_is_mistaken(&rt, rt.alloc(), WRONG)
+}

@@ -1,0 +1,116 @@
+//! With `--progress` it is shown how far it is, and the output is the same.
+
+use crate::forward::forty::{forty, forty_words};
+use crate::runs::{Told, outcome_of, outcome_on};
+use crate::streams::Screen;
+use crate::wanted::same;
+use std::alloc::Global;
+use std::process::Abort;
+use std::rt::Files;
+use std::sync::Wait;
+use std::thread::Threads;
+use std::time::Clock;
+
+/// What is shown at last of the 40 frames, before the rate.
+const LINE: &str = "offered 40 of 40 taken 40 posted 40 per-second ";
+
+const ANEW: &str = "\r\u{1b}[Koffered 40 of 40 taken 40 posted 40 per-second ";
+
+const OBJECT: &str = "{\"offered\":40,\"frames\":40,\"taken\":40,\"posted\":40,\"per_second\":";
+
+/// Options, whether the screen is a terminal, and what is shown at last before and behind the rate.
+type Shown = (&'static [&'static str], bool, &'static str, &'static str);
+
+const SHOWN: &[Shown] = &[
+    (&[], false, LINE, "\n"),
+    (&["--quiet"], true, ANEW, "\n"),
+    (&["--json"], false, OBJECT, "}\n"),
+    (&["--json"], true, OBJECT, "}\n"),
+];
+
+/// The rate between the last of these and the end.
+fn rate_in(shown: &str, last: &str, end: &str) -> Option<u64> {
+    let (_, behind) = shown.rsplit_once(last)?;
+    behind.strip_suffix(end)?.parse().ok()
+}
+
+/// A run of the 40 frames with these options and `--progress`.
+fn run_shown<R: Abort + Threads + Wait + Clock + Sync + Files>(
+    rt: &R,
+    alloc: Global,
+    options: &[&str],
+    mut script: &[u8],
+    is_terminal: bool,
+) -> Told {
+    let mut words = forty_words(alloc, options).expect(rt, "memory");
+    words.push("--progress").expect(rt, "memory");
+    let screen = Screen::new(alloc, is_terminal);
+    outcome_on(rt, alloc, words.as_slice(), &mut script, screen).expect(rt, "a run")
+}
+
+/// The same without `--progress`.
+fn run_dark<R: Abort + Threads + Wait + Clock + Sync + Files>(
+    rt: &R,
+    alloc: Global,
+    options: &[&str],
+    script: &[u8],
+) -> Told {
+    let words = forty_words(alloc, options).expect(rt, "memory");
+    outcome_of(rt, alloc, words.as_slice(), script).expect(rt, "a run")
+}
+
+/// The output is the same, and there are no faults.
+fn are_alike<R: Abort>(rt: &R, told: &Told, dark: &Told) {
+    same(rt, dark.shown(), "");
+    same(rt, told.output.as_slice(), dark.output.as_slice());
+    same(rt, (told.status, told.faults()), (0, ""));
+}
+
+/// With these options the output is the same with `--progress` and without it, and the last line shown is this one, with
+/// digits and its end behind it.
+fn shows<R: Abort + Threads + Wait + Clock + Sync + Files>(
+    rt: &R,
+    alloc: Global,
+    script: &[u8],
+    (options, is_terminal, last, end): Shown,
+) {
+    let dark = run_dark(rt, alloc, options, script);
+    let told = run_shown(rt, alloc, options, script, is_terminal);
+    are_alike(rt, &told, &dark);
+    let text = told.shown();
+    let has_rate = rate_in(text, last, end).is_some();
+    same(rt, (text, has_rate), (text, true));
+}
+
+#[test]
+fn with_progress_the_output_is_the_same(rt: HostRuntime) {
+    let script = forty(rt.alloc()).expect(&rt, "memory");
+    for row in SHOWN {
+        shows(&rt, rt.alloc(), script.as_bytes(), *row);
+    }
+}
+
+/// Words with a faulty script, or that are wrong themselves, and the end of what is told of them.
+const REFUSED: &[(&[&str], &str)] = &[
+    (&["forward", "--progress"], "line 1: refused 71 fields\n"),
+    (&["forward", "--pairs", "--progress"], "\n"),
+];
+
+/// A run on these words is refused with this end, and nothing is shown.
+fn is_not_shown<R: Abort + Threads + Wait + Clock + Sync + Files>(
+    rt: &R,
+    alloc: Global,
+    words: &[&str],
+    end: &str,
+) {
+    let told = outcome_of(rt, alloc, words, b"0 0").expect(rt, "a run");
+    let is_refused = told.status > 0 && told.faults().ends_with(end);
+    same(rt, (words, is_refused, told.shown()), (words, true, ""));
+}
+
+#[test]
+fn what_is_refused_is_not_shown(rt: HostRuntime) {
+    for (words, end) in REFUSED {
+        is_not_shown(&rt, rt.alloc(), words, end);
+    }
+}

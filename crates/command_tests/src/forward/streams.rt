@@ -1,0 +1,84 @@
+//! Runs on streams that fail.
+
+use crate::runs::{refusal_of, text_of};
+use crate::streams::{Broken, Narrow, Unflushed};
+use crate::wanted::{holds, same};
+use std::alloc::Global;
+use std::io::{Read, Write};
+use std::process::Abort;
+use std::rt::Files;
+use std::sync::Wait;
+use std::thread::Threads;
+use std::time::Clock;
+
+/// A run with these streams is refused so.
+pub fn is_refused<R: Abort + Threads + Wait + Clock + Sync + Files, I: Read, W: Write>(
+    rt: &R,
+    alloc: Global,
+    words: &[&str],
+    input: &mut I,
+    output: &mut W,
+    line: &str,
+) {
+    let (status, faults) = refusal_of(rt, alloc, words, input, output).expect(rt, "a run");
+    let faults = text_of(faults.as_slice());
+    same(rt, (words, faults, status), (words, line, 1));
+}
+
+const NO_OUTPUT: &str = "refused 84 output\n";
+
+/// An output with so much room has a beginning of what the run writes.
+fn has_beginning<R: Abort + Threads + Wait + Clock + Sync + Files>(
+    rt: &R,
+    alloc: Global,
+    (words, mut input): (&[&str], &[u8]),
+    whole: &[u8],
+    room: usize,
+) {
+    let mut output = Narrow::new(alloc, room);
+    is_refused(rt, alloc, words, &mut input, &mut output, NO_OUTPUT);
+    same(rt, Some(output.taken.as_slice()), whole.get(..room));
+}
+
+/// The run is refused with an output of each of these rooms, of one byte less than it writes, and of one that fails where it
+/// is flushed.
+pub fn each_beginning<R: Abort + Threads + Wait + Clock + Sync + Files>(
+    rt: &R,
+    alloc: Global,
+    (words, input): (&[&str], &str),
+    whole: &[u8],
+    rooms: &[usize],
+) {
+    let mut input = input.as_bytes();
+    for room in rooms {
+        has_beginning(rt, alloc, (words, input), whole, *room);
+    }
+    let last = whole.len().saturating_sub(1);
+    has_beginning(rt, alloc, (words, input), whole, last);
+    is_refused(rt, alloc, words, &mut input, &mut Unflushed, NO_OUTPUT)
+}
+
+/// A run on an input that gives this and then fails is refused, and writes nothing.
+fn is_cut<R: Abort + Threads + Wait + Clock + Sync + Files>(
+    rt: &R,
+    alloc: Global,
+    words: &[&str],
+    left: &'static [u8],
+) {
+    let mut output = Vec::new(alloc);
+    let mut input = Broken { left };
+    let line = "refused 82 input\n";
+    is_refused(rt, alloc, words, &mut input, &mut output, line);
+    holds(rt, output.is_empty());
+}
+
+/// The same of each of these words and inputs.
+pub fn each_cut<R: Abort + Threads + Wait + Clock + Sync + Files>(
+    rt: &R,
+    alloc: Global,
+    rows: &[(&[&str], &'static [u8])],
+) {
+    for (words, left) in rows {
+        is_cut(rt, alloc, words, left);
+    }
+}

@@ -1,0 +1,84 @@
+//! What is printed of lists that together meet all that a queue can do.
+
+use crate::streams::Narrow;
+use crate::wanted::{holds, same};
+use commands::{NOTES, QueuePlan, replay_text};
+use cover_command::{CoverRequest, answer};
+use ring_machine::Completion;
+use std::alloc::Global;
+use std::process::Abort;
+use std::str;
+
+/// Of silicon's moves alone, so that the searches are short.
+const REQUEST: CoverRequest = CoverRequest {
+    completion: Completion::Status,
+    expect: true,
+    device_only: true,
+};
+
+/// The queues that its lists are replayed on.
+const QUEUES: QueuePlan = QueuePlan {
+    pairs: 1,
+    ring: 8,
+    enabled: true,
+    completion: Completion::Status,
+    shown: NOTES,
+};
+
+/// How its output begins and ends.
+const FIRST: &str = "# r0 A4 driver On controller serving: not enabled\nr0 A4\n# end\n";
+
+const LAST: &str =
+    "# t0 B8 driver On controller serving: buffer\nt0 B1 0 60 1 1 60\nt0 B2\nt0 B3\nt0 B4\nt0 B5\nt0 B6\nt0 B7\nt0 B8\n# end\n";
+
+/// How many lists a text has.
+fn lists_in(text: &str) -> usize {
+    text.lines().filter(|line| *line == "# end").count()
+}
+
+/// What is expected of the first list, by hand.
+const FIRST_EXPECTED: &str =
+    "# r0 A4 driver On controller serving: not enabled\nr0 A4\n# end\nr0 A4 not enabled\nmoves 0 of 1\n";
+
+/// What is expected of the last list is what `replay` prints of it.
+fn ends_with_last<R: Abort>(rt: &R, alloc: Global, text: &str) {
+    let page = replay_text(alloc, QUEUES, &mut LAST.as_bytes()).expect(rt, "a page");
+    let front = text.strip_suffix(page.as_str()).expect(rt, "this page");
+    holds(rt, front.ends_with(LAST));
+}
+
+const SEARCHED: &str = "r0 states 1000 of 1568 steps 7890 pairs 13\n";
+
+/// The text begins and ends as is expected, and has 17 lists.
+fn has_lists<R: Abort>(rt: &R, alloc: Global, text: &str) {
+    holds(rt, text.starts_with(FIRST_EXPECTED));
+    ends_with_last(rt, alloc, text);
+    same(rt, lists_in(text), 17);
+}
+
+#[test]
+fn lists_of_both_queues_are_printed(rt: HostRuntime) {
+    let alloc = rt.alloc();
+    let (mut output, mut faults) = (Vec::new(alloc), Vec::new(alloc));
+    let mut shown = Vec::new(alloc);
+    let status = answer(alloc, &REQUEST, &mut output, &mut faults, &mut shown);
+    same(&rt, (status, faults.len()), (0, 0));
+    let text = str::from_utf8(output.as_slice()).expect(&rt, "a text");
+    has_lists(&rt, alloc, text);
+    holds(&rt, shown.as_slice().starts_with(SEARCHED.as_bytes()));
+}
+
+#[test]
+fn an_output_that_fails_has_a_beginning(rt: HostRuntime) {
+    let room = FIRST.len() + 3;
+    let mut output = Narrow::new(rt.alloc(), room);
+    let (mut faults, mut shown) = (Vec::new(rt.alloc()), Vec::new(rt.alloc()));
+    let status = answer(rt.alloc(), &REQUEST, &mut output, &mut faults, &mut shown);
+    let wanted = (1, b"refused 84 output\n".as_slice());
+    same(&rt, (status, faults.as_slice()), wanted);
+    let taken = output.taken.as_slice();
+    holds(
+        &rt,
+        taken.starts_with(FIRST.as_bytes()) && taken.len() == room,
+    );
+}

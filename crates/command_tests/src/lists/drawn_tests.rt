@@ -1,0 +1,284 @@
+//! What a list of moves has.
+
+use crate::wanted::{holds, same};
+use ring_machine::{Completion, ControlStep, Move, RxStep, TxStep};
+use schedules::{Drawn, SchedulePlan, draw};
+use std::alloc::{AllocError, Global};
+use std::process::Abort;
+
+/// Queues of 8 that begin disabled.
+const PLAN: SchedulePlan = SchedulePlan {
+    pairs: 1,
+    ring: 8,
+    enabled: false,
+    completion: Completion::Status,
+    moves: 1000,
+    refused: 0,
+    device_only: false,
+};
+
+/// What is counted of moves.
+const REFUSED: usize = 0;
+
+const INNER: usize = 1;
+
+const TAKEN: usize = 2;
+
+const CLEANED: usize = 3;
+
+const QUIET: usize = 4;
+
+const DISABLED: usize = 5;
+
+const RECLAIMED: usize = 6;
+
+const RENEWED: usize = 7;
+
+const KINDS: usize = 8;
+
+/// As what a move is counted.
+fn kind_of(d: &Drawn) -> Option<usize> {
+    if !d.happens {
+        return Some(REFUSED);
+    }
+    match d.action {
+        Move::Receive(_, RxStep::Store(_, false)) => Some(INNER),
+        Move::Receive(_, RxStep::Take) => Some(TAKEN),
+        Move::Transmit(_, TxStep::Clean) => Some(CLEANED),
+        Move::Receive(_, RxStep::StoreQuiet) => Some(QUIET),
+        Move::Receive(_, RxStep::Control(ControlStep::AskDisable)) => Some(DISABLED),
+        Move::Transmit(_, TxStep::Control(ControlStep::AskDisable)) => Some(DISABLED),
+        Move::Receive(_, RxStep::Reclaim) | Move::Transmit(_, TxStep::Reclaim) => Some(RECLAIMED),
+        Move::Receive(_, RxStep::ClearQuiet) | Move::Transmit(_, TxStep::ClearTail) => {
+            Some(RENEWED)
+        }
+        _ => None,
+    }
+}
+
+/// Counts the moves of a list.
+fn count(counts: &mut [usize; KINDS], drawn: &[Drawn]) {
+    for d in drawn {
+        if let Some(kind) = kind_of(d) {
+            if let Some(found) = counts.get_mut(kind) {
+                *found = found.saturating_add(1);
+            }
+        }
+    }
+}
+
+/// What is counted of so many lists of a seed.
+fn counted<R: Abort>(
+    rt: &R,
+    alloc: Global,
+    plan: &SchedulePlan,
+    seed: u64,
+    lists: u64,
+) -> [usize; KINDS] {
+    let mut counts = [0; KINDS];
+    for list in 0..lists {
+        let drawn = draw(alloc, plan, seed, list).expect(rt, "a list");
+        count(&mut counts, drawn.as_slice());
+    }
+    counts
+}
+
+fn is_data(action: Move) -> bool {
+    match action {
+        Move::Receive(_, step) => matches!(
+            step,
+            RxStep::Post(_)
+                | RxStep::Publish
+                | RxStep::Look
+                | RxStep::Fetch
+                | RxStep::Store(_, _)
+                | RxStep::Take
+                | RxStep::Head
+        ),
+        Move::Transmit(_, step) => matches!(
+            step,
+            TxStep::Post(_)
+                | TxStep::Publish
+                | TxStep::Look
+                | TxStep::Fetch
+                | TxStep::Send
+                | TxStep::Report
+                | TxStep::LoadReport
+                | TxStep::Clean
+        ),
+    }
+}
+
+/// The moves, one a line.
+fn lines_of(alloc: Global, drawn: &[Drawn]) -> Result<String, AllocError> {
+    let mut text = String::new(alloc);
+    for d in drawn {
+        writeln!(text, "{}", d.action)?;
+    }
+    Ok(text)
+}
+
+/// The moves of a list of a seed.
+fn text_of<R: Abort>(rt: &R, alloc: Global, seed: u64, list: u64) -> String {
+    let drawn = draw(alloc, &PLAN, seed, list).expect(rt, "a list");
+    lines_of(alloc, drawn.as_slice()).expect(rt, "memory")
+}
+
+/// Whether a list of a seed is this one.
+fn is_list<R: Abort>(rt: &R, alloc: Global, (seed, list): (u64, u64), text: &str) -> bool {
+    let other = text_of(rt, alloc, seed, list);
+    other.as_str() == text
+}
+
+#[test]
+fn a_seed_and_a_number_give_one_list(rt: HostRuntime) {
+    let one = text_of(&rt, rt.alloc(), 7, 3);
+    let text = one.as_str();
+    holds(&rt, is_list(&rt, rt.alloc(), (7, 3), text));
+    holds(&rt, !is_list(&rt, rt.alloc(), (7, 4), text));
+    holds(&rt, !is_list(&rt, rt.alloc(), (8, 3), text));
+}
+
+/// How queues begin, and how they report.
+const BEGINNINGS: &[(bool, Completion)] = &[
+    (false, Completion::Status),
+    (true, Completion::Status),
+    (false, Completion::Head),
+    (true, Completion::Head),
+];
+
+/// How many pairs there are, and how long rings.
+const QUEUES: &[(u32, u32)] = &[(1, 8), (3, 64), (8, 4096)];
+
+/// Each of 1,000 moves happens on such queues.
+fn all_happen<R: Abort>(
+    rt: &R,
+    alloc: Global,
+    (enabled, completion): (bool, Completion),
+    (pairs, ring): (u32, u32),
+) {
+    let plan = SchedulePlan {
+        pairs,
+        ring,
+        enabled,
+        completion,
+        ..PLAN
+    };
+    let drawn = draw(alloc, &plan, 1, 0).expect(rt, "a list");
+    same(rt, drawn.len(), 1000);
+    let mut counts = [0; KINDS];
+    count(&mut counts, drawn.as_slice());
+    same(rt, (pairs, ring, counts[REFUSED]), (pairs, ring, 0));
+}
+
+#[test]
+fn each_move_happens(rt: HostRuntime) {
+    for beginning in BEGINNINGS {
+        for queues in QUEUES {
+            all_happen(&rt, rt.alloc(), *beginning, *queues);
+        }
+    }
+}
+
+/// How many of a hundred moves may be refused, and at least and at most how many of 1,000 are.
+const LEAVES: &[(u32, usize, usize)] = &[(1, 9, 10), (10, 90, 100), (30, 250, 300)];
+
+fn are_refused<R: Abort>(rt: &R, alloc: Global, (refused, least, most): (u32, usize, usize)) {
+    let plan = SchedulePlan { refused, ..PLAN };
+    let found = counted(rt, alloc, &plan, 2, 1)[REFUSED];
+    holds(rt, least <= found && found <= most);
+}
+
+#[test]
+fn as_many_are_refused_as_may_be(rt: HostRuntime) {
+    for row in LEAVES {
+        are_refused(&rt, rt.alloc(), *row);
+    }
+}
+
+/// What is counted of ten lists, and that it is more than this.
+const STATES: &[(usize, usize)] = &[
+    (INNER, 100),
+    (TAKEN, 500),
+    (CLEANED, 100),
+    (QUIET, 5),
+    (DISABLED, 20),
+    (RECLAIMED, 50),
+    (RENEWED, 10),
+];
+
+fn is_more<R: Abort>(rt: &R, counts: &[usize; KINDS], kind: usize, least: usize) {
+    let found = counts.get(kind).copied().unwrap_or(0);
+    same(rt, (kind, found > least), (kind, true));
+}
+
+fn go_through<R: Abort>(rt: &R, alloc: Global, completion: Completion) {
+    let plan = SchedulePlan { completion, ..PLAN };
+    let counts = counted(rt, alloc, &plan, 3, 10);
+    for (kind, least) in STATES {
+        is_more(rt, &counts, *kind, *least);
+    }
+}
+
+#[test]
+fn queues_go_through_their_states(rt: HostRuntime) {
+    go_through(&rt, rt.alloc(), Completion::Status);
+    go_through(&rt, rt.alloc(), Completion::Head);
+}
+
+/// For a device of silicon.
+const DEVICE: SchedulePlan = SchedulePlan {
+    enabled: true,
+    refused: 10,
+    device_only: true,
+    ..PLAN
+};
+
+fn has_only_data<R: Abort>(rt: &R, alloc: Global, list: u64) {
+    let drawn = draw(alloc, &DEVICE, 4, list).expect(rt, "a list");
+    for d in drawn.as_slice() {
+        holds(rt, is_data(d.action));
+    }
+}
+
+#[test]
+fn a_device_of_silicon_has_only_data(rt: HostRuntime) {
+    for list in 0..10 {
+        has_only_data(&rt, rt.alloc(), list);
+    }
+}
+
+/// Queues that there can't be.
+const NO_QUEUES: &[(u32, u32)] = &[(0, 8), (9, 8), (1, 0), (1, 4), (1, 12), (1, 8192)];
+
+/// How many moves a list has, or the number of its refusal.
+fn answer(alloc: Global, plan: &SchedulePlan) -> (usize, u8) {
+    match draw(alloc, plan, 0, 0) {
+        Ok(drawn) => (drawn.len(), 0),
+        Err(error) => (0, error.number()),
+    }
+}
+
+fn cannot_be<R: Abort>(rt: &R, alloc: Global, pairs: u32, ring: u32) {
+    let plan = SchedulePlan {
+        pairs,
+        ring,
+        ..PLAN
+    };
+    let told = (pairs, ring, answer(alloc, &plan));
+    same(rt, told, (pairs, ring, (0, 12)));
+}
+
+#[test]
+fn queues_that_cannot_be_are_refused(rt: HostRuntime) {
+    for (pairs, ring) in NO_QUEUES {
+        cannot_be(&rt, rt.alloc(), *pairs, *ring);
+    }
+}
+
+// With any one allocation refused, as `rt try --test --fail-alloc N` does, this passes too.
+#[test]
+fn want_of_memory(rt: HostRuntime) {
+    let told = answer(rt.alloc(), &PLAN);
+    holds(&rt, told == (1000, 0) || told == (0, 13));
+}

@@ -1,0 +1,130 @@
+//! What is printed of lists.
+
+use crate::streams::Narrow;
+use crate::wanted::{holds, same};
+use commands::{NOTES, QueuePlan, replay_text};
+use ring_machine::Completion;
+use schedule_command::{ScheduleRequest, answer};
+use schedules::SchedulePlan;
+use std::alloc::Global;
+use std::process::Abort;
+
+const PLAN: SchedulePlan = SchedulePlan {
+    pairs: 1,
+    ring: 8,
+    enabled: true,
+    completion: Completion::Status,
+    moves: 4,
+    refused: 0,
+    device_only: false,
+};
+
+const REQUEST: ScheduleRequest = ScheduleRequest {
+    plan: PLAN,
+    seed: 1,
+    count: 2,
+    expect: false,
+};
+
+/// What it prints.
+const LISTS: &str =
+    "r0 A1 50788\nt0 B1 4685 14 0 0 31\nt0 B1 44665 17 1 1 31\nt0 B7\n# end\nt0 B1 13746 22 1 1 22\nt0 B1 31314 1187 0 0 1243\nr0 A1 16182\nt0 B7\n# end\n";
+
+/// The queues of that request.
+const QUEUES: QueuePlan = QueuePlan {
+    pairs: 1,
+    ring: 8,
+    enabled: true,
+    completion: Completion::Status,
+    shown: NOTES,
+};
+
+/// What is printed, for a request that is done.
+fn printed<A: Abort>(rt: &A, alloc: Global, request: &ScheduleRequest) -> String {
+    let (mut output, mut faults) = (Vec::new(alloc), Vec::new(alloc));
+    let status = answer(alloc, request, &mut output, &mut faults);
+    same(rt, (status, faults.len()), (0, 0));
+    String::from_utf8(output).expect(rt, "a text")
+}
+
+#[test]
+fn lists_stand_one_behind_another(rt: HostRuntime) {
+    let text = printed(&rt, rt.alloc(), &REQUEST);
+    same(&rt, text.as_str(), LISTS);
+}
+
+/// One list, and with what is expected of it.
+const ONE: ScheduleRequest = ScheduleRequest {
+    count: 1,
+    ..REQUEST
+};
+
+const ONE_EXPECTED: ScheduleRequest = ScheduleRequest {
+    expect: true,
+    ..ONE
+};
+
+/// What is printed behind a list is what `replay` prints of it.
+fn is_expected<A: Abort>(rt: &A, alloc: Global, list: &str, whole: &str) {
+    let page = replay_text(alloc, QUEUES, &mut list.as_bytes()).expect(rt, "a page");
+    same(rt, whole.strip_prefix(list), Some(page.as_str()));
+    holds(rt, whole.ends_with("moves 4 of 4\n"));
+}
+
+#[test]
+fn what_is_expected_is_what_replay_prints(rt: HostRuntime) {
+    let list = printed(&rt, rt.alloc(), &ONE);
+    let whole = printed(&rt, rt.alloc(), &ONE_EXPECTED);
+    is_expected(&rt, rt.alloc(), list.as_str(), whole.as_str())
+}
+
+const NONE: ScheduleRequest = ScheduleRequest {
+    count: 0,
+    ..REQUEST
+};
+
+#[test]
+fn no_list_is_nothing(rt: HostRuntime) {
+    let text = printed(&rt, rt.alloc(), &NONE);
+    same(&rt, text.as_str(), "");
+}
+
+/// A request is refused with this line, and with this output in so much room.
+fn is_refused<A: Abort>(
+    rt: &A,
+    alloc: Global,
+    request: &ScheduleRequest,
+    (room, wanted): (usize, &[u8]),
+    line: &str,
+) {
+    let mut output = Narrow::new(alloc, room);
+    let mut faults = Vec::new(alloc);
+    let status = answer(alloc, request, &mut output, &mut faults);
+    let told = (status, faults.as_slice(), output.taken.as_slice());
+    same(rt, told, (1, line.as_bytes(), wanted));
+}
+
+#[test]
+fn an_output_that_fails_has_a_beginning(rt: HostRuntime) {
+    for room in 0..LISTS.len() {
+        let wanted = &LISTS.as_bytes()[..room];
+        is_refused(
+            &rt,
+            rt.alloc(),
+            &REQUEST,
+            (room, wanted),
+            "refused 84 output\n",
+        );
+    }
+}
+
+const NO_RING: ScheduleRequest = ScheduleRequest {
+    plan: SchedulePlan { ring: 9, ..PLAN },
+    ..REQUEST
+};
+
+#[test]
+fn queues_that_cannot_be_are_refused(rt: HostRuntime) {
+    let line = "refused 12 ring length\n";
+    is_refused(&rt, rt.alloc(), &NO_RING, (100, b""), line);
+}

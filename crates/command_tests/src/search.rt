@@ -1,0 +1,4 @@
+//! The search over a queue's states.
+
+mod search_tests;
+mod second;

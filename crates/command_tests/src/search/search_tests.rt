@@ -1,0 +1,149 @@
+//! A search ends, leaves nothing out, and its lists meet all that it has met.
+use crate::search::second::{meet_along, second_search};
+use crate::wanted::{holds, same};
+use coverage::{CoverList, Pair, Scope, Search, Side, is_data};
+use ring_machine::Completion;
+use std::alloc::Global;
+use std::collections::HashSet;
+use std::process::Abort;
+
+// All that a queue can do, from its making on.
+fn all_of(side: Side) -> Scope {
+    Scope {
+        side,
+        device_only: false,
+    }
+}
+
+// What an enabled queue does that a controller of silicon and its driver do too.
+fn data_of(side: Side) -> Scope {
+    Scope {
+        side,
+        device_only: true,
+    }
+}
+
+fn whole_search<A: Abort>(rt: &A, alloc: Global, scope: Scope) -> Search {
+    let mut search = Search::new(alloc, scope).expect(rt, "a search");
+    for _ in 0..1000 {
+        if !search.is_whole() {
+            search.go_on(alloc, 1000).expect(rt, "a search's room");
+        }
+    }
+    search
+}
+
+// What the search's lists meet, by numbers.
+fn met_by_lists<A: Abort>(rt: &A, alloc: Global, scope: Scope, search: &Search) -> HashSet<usize> {
+    let lists = search.lists(alloc).expect(rt, "lists");
+    let mut along = HashSet::new(alloc);
+    for list in lists.as_slice() {
+        meet_along(scope, list.moves.as_slice(), &mut along).expect(rt, "a pair's room");
+    }
+    along
+}
+
+// The search meets what the second one met, and so do its lists.
+fn has_met_all<A: Abort>(rt: &A, search: &Search, along: &HashSet<usize>, pairs: &[Pair]) {
+    same(rt, search.pairs(), pairs.len());
+    same(rt, along.len(), pairs.len());
+    for pair in pairs {
+        holds(rt, search.has_met(pair));
+        holds(rt, along.contains(&pair.number()));
+    }
+}
+
+// A second search that is written differently reaches as many states and meets just the same pairs.
+fn is_searched_alike<A: Abort>(rt: &A, alloc: Global, scope: Scope, search: &Search, pairs: usize) {
+    let along = met_by_lists(rt, alloc, scope, search);
+    let second = second_search(alloc, scope).expect(rt, "a second search");
+    same(rt, second.states, search.states());
+    same(rt, second.pairs.len(), pairs);
+    has_met_all(rt, search, &along, second.pairs.as_slice());
+}
+
+// The search meets just what a second one meets that is written differently, and its lists meet all of it.
+fn leaves_nothing_out<A: Abort>(rt: &A, alloc: Global, scope: Scope, pairs: usize) {
+    let search = whole_search(rt, alloc, scope);
+    holds(rt, search.is_whole());
+    same(rt, search.gone_over(), search.states());
+    same(rt, search.pairs(), pairs);
+    is_searched_alike(rt, alloc, scope, &search, pairs)
+}
+
+#[test]
+fn a_receive_queue_is_gone_over(rt: HostRuntime) {
+    leaves_nothing_out(&rt, rt.alloc(), all_of(Side::Receive), 227);
+}
+
+#[test]
+fn a_transmit_queue_is_gone_over(rt: HostRuntime) {
+    leaves_nothing_out(
+        &rt,
+        rt.alloc(),
+        all_of(Side::Transmit(Completion::Status)),
+        205,
+    );
+}
+
+#[test]
+fn a_transmit_queue_with_a_head_word_is_gone_over(rt: HostRuntime) {
+    leaves_nothing_out(
+        &rt,
+        rt.alloc(),
+        all_of(Side::Transmit(Completion::Head)),
+        222,
+    );
+}
+
+// These lists have silicon's moves alone.
+fn are_data<A: Abort>(rt: &A, lists: &[CoverList]) {
+    for list in lists {
+        for action in list.moves.as_slice() {
+            holds(rt, is_data(*action));
+        }
+    }
+}
+
+// Of silicon's moves alone, in each direction and either way to report.
+#[test]
+fn queues_of_silicon_are_gone_over(rt: HostRuntime) {
+    let alloc = rt.alloc();
+    leaves_nothing_out(&rt, alloc, data_of(Side::Receive), 13);
+    leaves_nothing_out(&rt, alloc, data_of(Side::Transmit(Completion::Status)), 16);
+    leaves_nothing_out(&rt, alloc, data_of(Side::Transmit(Completion::Head)), 16);
+    let search = whole_search(&rt, alloc, data_of(Side::Transmit(Completion::Head)));
+    let lists = search.lists(alloc).expect(&rt, "lists");
+    are_data(&rt, lists.as_slice());
+}
+
+// None of these lists is shorter than the one before it, and the last is so long.
+fn grow_to<A: Abort>(rt: &A, lists: &[CoverList], last: usize) {
+    let mut before: usize = 0;
+    for list in lists {
+        holds(rt, before <= list.moves.len());
+        before = list.moves.len();
+    }
+    same(rt, before, last);
+}
+
+// Each pair is met first by as few moves as the search needs, and the lists stand by their lengths.
+#[test]
+fn lists_stand_by_length(rt: HostRuntime) {
+    let alloc = rt.alloc();
+    let search = whole_search(&rt, alloc, all_of(Side::Receive));
+    let lists = search.lists(alloc).expect(&rt, "lists");
+    same(&rt, lists.len(), 207);
+    grow_to(&rt, lists.as_slice(), 20);
+}
+
+// A search that was not gone on with has met nothing, and has no list.
+#[test]
+fn a_new_search_has_no_list(rt: HostRuntime) {
+    let search = Search::new(rt.alloc(), all_of(Side::Receive)).expect(&rt, "a search");
+    holds(&rt, !search.is_whole());
+    let counts = (search.states(), search.gone_over(), search.pairs());
+    same(&rt, counts, (1, 0, 0));
+    let lists = search.lists(rt.alloc()).expect(&rt, "lists");
+    same(&rt, lists.len(), 0);
+}

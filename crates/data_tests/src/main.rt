@@ -1,0 +1,70 @@
+//! A program that says what files have: captures that others made, and the C header with which the library is delivered.
+//!
+//! `data_tests read FILE..` prints each file's name and then, of a capture, its frames, one a line: the time, the length on
+//! the wire and the bytes, as `tshark` tells them; or the refusal. Of a header it prints each constant that it has with the
+//! library's value, or that it has not. The gate runs it on the files in `data/` and compares what it prints: with what
+//! `tshark` printed of captures that programs of others made, and with the constants as they are to be. `data_tests write
+//! FROM TO` reads a capture and writes its records into another file, in microseconds: it is run by hand. The tests of
+//! captures beside it stand in `part_tests`.
+#![tactic(auto)]
+
+mod header;
+mod rewritten;
+mod told;
+
+use anyhow::{Result, bail};
+use header::tell_header;
+use rewritten::rewritten;
+use std::env::Args;
+use std::rt::{Env, Files};
+use std::{env, fs};
+use told::tell_capture;
+
+fn tell<R: Files + Print + AllocGlobal>(rt: &R, name: &str) -> Result<()> {
+    let bytes = fs::read(rt, name)?;
+    println!(rt; "{name}")?;
+    if name.ends_with(".h") {
+        return tell_header(rt, bytes.as_slice());
+    }
+    tell_capture(rt, bytes.as_slice())
+}
+
+fn copy<R: Files + AllocGlobal>(rt: &R, from: &str, to: &str) -> Result<()> {
+    let bytes = fs::read(rt, from)?;
+    let written = rewritten(rt.alloc(), bytes.as_slice())?;
+    fs::write(rt, to, written.as_slice())?;
+    Ok(())
+}
+
+fn tell_each<R: Files + Print + AllocGlobal>(rt: &R, names: Args) -> Result<()> {
+    for name in names {
+        tell(rt, name.as_str())?;
+    }
+    Ok(())
+}
+
+fn copy_named<R: Files + AllocGlobal>(rt: &R, mut names: Args) -> Result<()> {
+    let (Some(from), Some(to)) = (names.next(), names.next()) else {
+        bail!("FROM or TO is missing");
+    };
+    copy(rt, from.as_str(), to.as_str())
+}
+
+// Whether the command behind the program's name is `read`, if there is one.
+fn asks_to_read(words: &mut Args) -> Option<bool> {
+    let command = words.nth(1)?;
+    Some(command.as_str() == "read")
+}
+
+fn run<R: Env + Files + Print + AllocGlobal>(rt: &R) -> Result<()> {
+    let mut words = env::args(rt)?;
+    match asks_to_read(&mut words) {
+        None => bail!("usage: data_tests read FILE.. | write FROM TO"),
+        Some(true) => tell_each(rt, words),
+        Some(false) => copy_named(rt, words),
+    }
+}
+
+fn main(rt: HostRuntime) -> Result<()> {
+    run(&rt)
+}

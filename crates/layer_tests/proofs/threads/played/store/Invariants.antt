@@ -1,0 +1,5 @@
+use Rattle.std.proofs.Common.{◌≡◌}
+use Rattle.layer_tests.proofs.threads.played.store.Given as goal
+
+abbrev pub invariant-loop : goal.invariant-loop
+invariant-loop l = l.storer.controller.table ≡ l.ring

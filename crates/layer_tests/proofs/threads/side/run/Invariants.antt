@@ -1,0 +1,4 @@
+use Rattle.layer_tests.proofs.threads.side.run.Given as goal
+
+abbrev pub invariant-loop : goal.invariant-loop
+invariant-loop g l = g.S.Side.is_of l.shared l.side

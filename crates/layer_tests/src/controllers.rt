@@ -1,0 +1,8 @@
+//! The device's side of a queue pair: controllers beside drivers that the tests play themselves, on one thread.
+
+mod growing;
+mod receive;
+mod receive_tests;
+mod told;
+mod transmit;
+mod transmit_tests;

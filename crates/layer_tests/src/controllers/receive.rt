@@ -1,0 +1,216 @@
+//! A receive queue whose driver the test plays.
+ghost use Rattle.std.specs.Prelude.{◌≡◌};
+
+use crate::controllers::told::{Bytes, Told, Walked};
+use buffer_pool::Stash;
+use controller::{RxController, Tally};
+use rx_ring::{Control, ControllerEnd, DriverEnd, Poll, RxDriverEnd, RxRing};
+use std::alloc::Global;
+use std::process::Abort;
+use test_kit::{Tells, asked, full_stash, put_back, renewed, told_so};
+
+/// A step of the controller or of the driver. A frame is so many bytes from a place on.
+#[derive(Clone, Copy, Drop)]
+pub(crate) enum Step {
+    /// The driver has the queue enabled, or disabled: whether both sides saw it so.
+    Enable,
+    Disable,
+    /// The driver takes all buffers of the disabled queue back, and renews it: how many came back.
+    Renew,
+    /// The driver posts buffers while there is room, and publishes them: how many they are.
+    Fill,
+    /// A frame of so many bytes from this place on is offered.
+    Offer(usize, usize),
+    /// The driver takes the next frame: whether it is the one from this place on, in so many full segments and a last one
+    /// of so many bytes.
+    Take(usize, usize, usize),
+    /// Whether the driver finds no segment.
+    FindsNone,
+    /// Whether the driver finds a descriptor that is not done.
+    IsNotDone,
+    /// Whether the driver finds that the queue is off.
+    IsOff,
+    /// The controller says that it stores no more: whether it did.
+    Finish,
+    IsQuiet,
+    /// Whether so many frames were offered, stored, dropped and oversize.
+    Counted(u64, u64, u64, u64),
+}
+
+/// What a driver found, without the segment.
+#[derive(Clone, Copy, PartialEq)]
+enum Found {
+    Segment,
+    NotDone,
+    Empty,
+    Off,
+}
+
+/// A ring, its driver's end, the controller, and the buffers at hand.
+#[derive(Drop)]
+pub(crate) struct Receive {
+    ring: RxRing,
+    driver: RxDriverEnd,
+    controller: RxController,
+    spare: Stash,
+    bytes: Bytes,
+    bsize: usize,
+    ghost drives: { driver.table ≡ ring },
+    ghost serves: { controller.end.table ≡ ring },
+}
+
+impl Receive {
+    /// A ring of so many places that is not enabled, and buffers at hand. Buffers are filled to 1,024 bytes, or to 2,048
+    /// where they are `large`.
+    pub(crate) fn new<R: Abort>(
+        rt: &R,
+        alloc: Global,
+        n: u32,
+        large: bool,
+        drop_en: bool,
+    ) -> Receive {
+        let spare = full_stash(alloc, 32).expect(rt, "buffers");
+        let bytes = Bytes::new(rt, alloc);
+        let bsize = if large { 2_048 } else { 1_024 };
+        let (ring, driver, end) = RxRing::new(alloc, n).expect(rt, "a ring");
+        let _size = end.size();
+        Receive {
+            controller: RxController::new(end, bsize, drop_en),
+            ring,
+            driver,
+            spare,
+            bytes,
+            bsize,
+        }
+    }
+
+    fn enable(&mut self) -> bool {
+        asked!(self, is_new, ask_enable, Control::Enabled, is_on)
+    }
+
+    fn disable(&mut self) -> bool {
+        asked!(self, is_on, ask_disable, Control::Disabled, is_stopped)
+    }
+
+    fn offer(&mut self, len: usize, from: usize) -> Told {
+        let frame = self.bytes.frame(from, len);
+        match self.controller.offer(&self.ring, frame) {
+            Ok(offer) => Told::Offered(offer),
+            Err(refusal) => Told::Refused(refusal),
+        }
+    }
+
+    /// What the driver finds. A segment is dropped with its buffer.
+    fn found(&mut self) -> Found {
+        match self.driver.poll(&self.ring) {
+            Poll::Segment { .. } => Found::Segment,
+            Poll::NotDone => Found::NotDone,
+            Poll::Empty => Found::Empty,
+            Poll::Off => Found::Off,
+        }
+    }
+
+    /// Whether so many frames were offered, stored, dropped and oversize.
+    fn has_counted(&self, counts: [u64; 4]) -> bool {
+        let [offered, stored, dropped, oversize] = counts;
+        let wanted = Tally {
+            offered,
+            stored,
+            dropped,
+            oversize,
+        };
+        self.controller.tally() == wanted
+    }
+
+    fn renew(&mut self) -> Option<u32> {
+        let count = self.take_back()?;
+        renewed!(self);
+        Some(count)
+    }
+
+    /// How many buffers come back from a queue that is disabled.
+    fn take_back(&mut self) -> Option<u32> {
+        let mut count = 0_u32;
+        for _ in 0..32 {
+            if !self.driver.is_stopped() {
+                return None;
+            }
+            let Some(buf) = self.driver.reclaim(&self.ring) else {
+                break;
+            };
+            put_back(&mut self.spare, buf);
+            count = count.saturating_add(1);
+        }
+        Some(count)
+    }
+
+    fn fill(&mut self) -> u32 {
+        let mut count = 0_u32;
+        for _ in 0..32 {
+            if self.driver.room() == 0 || !self.driver.is_open() {
+                break;
+            }
+            let Some(buf) = self.spare.take() else {
+                break;
+            };
+            self.driver.post(&self.ring, buf);
+            count = count.saturating_add(1);
+        }
+        if self.driver.is_open() {
+            self.driver.publish(&self.ring);
+        }
+        count
+    }
+
+    fn take(&mut self, from: usize, full: usize, last: usize) -> bool {
+        let mut at = from;
+        for k in 0..full.saturating_add(1) {
+            let Poll::Segment { buf, eop } = self.driver.poll(&self.ring) else {
+                return false;
+            };
+            let len = if k == full { last } else { self.bsize };
+            let is_next = self.bytes.are_at(at, buf.bytes()) && buf.len() == len;
+            put_back(&mut self.spare, buf);
+            if !is_next || eop != (k == full) {
+                return false;
+            }
+            at = at.saturating_add(len);
+        }
+        true
+    }
+
+    /// Makes the rows' steps.
+    pub(crate) fn walk(mut self, rows: &[(Step, Told)]) -> Walked {
+        let told = told_so(&mut self, rows);
+        let end = self.controller.into_end();
+        Walked {
+            told,
+            ends_between_frames: end.is_serving() && end.is_between_frames() && !end.is_holding(),
+        }
+    }
+}
+
+impl Tells for Receive {
+    type Step = Step;
+
+    type Told = Told;
+
+    fn make(&mut self, step: Step) -> Told {
+        match step {
+            Step::Enable => Told::whether(self.enable()),
+            Step::Disable => Told::whether(self.disable()),
+            Step::Renew => Told::counted(self.renew()),
+            Step::Fill => Told::Count(self.fill()),
+            Step::Offer(len, from) => self.offer(len, from),
+            Step::Take(from, full, last) => Told::whether(self.take(from, full, last)),
+            Step::FindsNone => Told::whether(self.found() != Found::Segment),
+            Step::IsNotDone => Told::whether(self.found() == Found::NotDone),
+            Step::IsOff => Told::whether(self.found() == Found::Off),
+            Step::Finish => Told::whether(self.controller.finish(&self.ring)),
+            Step::IsQuiet => Told::whether(self.driver.is_quiet(&self.ring)),
+            Step::Counted(offered, stored, dropped, oversize) => {
+                Told::whether(self.has_counted([offered, stored, dropped, oversize]))
+            }
+        }
+    }
+}

@@ -1,0 +1,178 @@
+//! Worked rows of a transmit queue's controller, and of the wire.
+
+use crate::controllers::told::{Told, Walked, add};
+use crate::controllers::transmit::{Step, Transmit};
+use crate::wanted::same;
+use controller::Turn;
+use std::alloc::Global;
+use std::process::Abort;
+use tx_ring::Completion;
+
+const BOTH_WAYS: &[Completion] = &[Completion::Status, Completion::Head];
+
+const OFF: Told = Told::Turned(Turn::Off);
+
+const IDLE: Told = Told::Turned(Turn::Idle);
+
+const SENT: Told = Told::Turned(Turn::Sent);
+
+/// A step, and what it has to tell.
+type Row = (Step, Told);
+
+/// Makes the rows' steps on a ring of so many places that is not enabled. No other function here owns a queue, since each
+/// that does is dear to prove.
+fn walk<R: Abort>(
+    rt: &R,
+    alloc: Global,
+    (n, completion): (u32, Completion),
+    rows: &[Row],
+) -> Walked {
+    let transmit = Transmit::new(rt, alloc, n, completion);
+    transmit.walk(rows)
+}
+
+/// All of the rows tell so on a ring of so many places that is not enabled.
+fn each_tells<R: Abort>(rt: &R, alloc: Global, queue: (u32, Completion), rows: &[Row]) {
+    let walked = walk(rt, alloc, queue, rows);
+    same(rt, walked.told, rows.len());
+}
+
+const TWO: &[Row] = &[
+    (Step::Post(60, 1, 2_048, false), Told::Yes),
+    (Step::Post(14, 2, 2_048, true), Told::Yes),
+    (Step::Turn, OFF),
+    (Step::HasSent(0), Told::Yes),
+    (Step::Enable, Told::Yes),
+    (Step::Turn, SENT),
+    (Step::HasReport, Told::No),
+    (Step::Turn, SENT),
+    (Step::Turn, IDLE),
+    (Step::HasReport, Told::Yes),
+    (Step::Clean, Told::Count(2)),
+    (Step::HasSent(2), Told::Yes),
+    (Step::IsOnWire(0, 60, 1), Told::Yes),
+    (Step::IsOnWire(1, 14, 2), Told::Yes),
+];
+
+#[test]
+fn frames_go_onto_the_wire(rt: HostRuntime) {
+    for completion in BOTH_WAYS {
+        each_tells(&rt, rt.alloc(), (8, *completion), TWO);
+    }
+}
+
+/// An enabled queue with four frames.
+const FOUR: &[Row] = &[
+    (Step::Enable, Told::Yes),
+    (Step::Post(60, 5, 2_048, true), Told::Yes),
+    (Step::Post(60, 6, 2_048, true), Told::Yes),
+    (Step::Post(60, 7, 2_048, true), Told::Yes),
+    (Step::Post(60, 8, 2_048, true), Told::Yes),
+];
+
+/// The rows of a queue that is disabled.
+const DISABLED: &[Row] = &[(Step::Disable, Told::Yes), (Step::Turn, OFF)];
+
+/// The rows of one that is renewed, and sends one frame.
+const ANEW: &[Row] = &[
+    (Step::Renew, Told::Yes),
+    (Step::Post(60, 9, 2_048, true), Told::Yes),
+    (Step::Turn, OFF),
+    (Step::Enable, Told::Yes),
+    (Step::Turn, SENT),
+    (Step::Turn, IDLE),
+];
+
+/// The rows of a queue that is disabled after so many of four frames were sent, and then renewed: no other is sent before,
+/// and one is after it.
+fn over_after<R: Abort>(rt: &R, alloc: Global, before: usize) -> Vec<Row> {
+    let mut rows = Vec::new(alloc);
+    add(rt, &mut rows, FOUR);
+    for _ in 0..before {
+        add(rt, &mut rows, &[(Step::Turn, SENT)]);
+    }
+    add(rt, &mut rows, DISABLED);
+    add(rt, &mut rows, &[(Step::HasSent(before), Told::Yes)]);
+    add(rt, &mut rows, ANEW);
+    let sent = [
+        (Step::HasSent(before.saturating_add(1)), Told::Yes),
+        (Step::IsOnWire(before, 60, 9), Told::Yes),
+    ];
+    add(rt, &mut rows, &sent);
+    rows
+}
+
+/// It tells so, and ends between two frames.
+fn is_over_after<R: Abort>(rt: &R, alloc: Global, before: usize) {
+    let rows = over_after(rt, alloc, before);
+    let walked = walk(rt, alloc, (8, Completion::Status), &rows);
+    let told = (walked.told, walked.ends_between_frames);
+    same(rt, (before, told), (before, (rows.len(), true)));
+}
+
+#[test]
+fn nothing_is_sent_once_it_is_disabled(rt: HostRuntime) {
+    for before in 0..4 {
+        is_over_after(&rt, rt.alloc(), before);
+    }
+}
+
+const GROWN: &[Row] = &[
+    (Step::Enable, Told::Yes),
+    (Step::Send(300), Told::Count(300)),
+    (Step::Turn, IDLE),
+    (Step::AreSent(300), Told::Yes),
+];
+
+#[test]
+fn a_wire_grows(rt: HostRuntime) {
+    each_tells(&rt, rt.alloc(), (8, Completion::Status), GROWN);
+}
+
+const LONG: &[Row] = &[
+    (Step::Enable, Told::Yes),
+    (Step::SendSeldomGrowing(100_000, 60), Told::Count(100_000)),
+    (Step::HasSent(100_000), Told::Yes),
+];
+
+#[test]
+fn a_long_wire_grows_seldom(rt: HostRuntime) {
+    each_tells(&rt, rt.alloc(), (8, Completion::Status), LONG);
+}
+
+/// A frame of so many bytes, in segments of so many bytes and a last one, so many in all.
+type Joined = (usize, usize, u32);
+
+const JOINED: &[Joined] = &[
+    (14, 7, 2),
+    (1_025, 1_024, 2),
+    (2_500, 1_024, 3),
+    (9_000, 2_048, 5),
+    (15_000, 1_024, 15),
+    (15_000, 2_048, 8),
+];
+
+/// A frame goes onto the wire as one.
+fn is_joined<R: Abort>(rt: &R, alloc: Global, completion: Completion, row: Joined) {
+    let (len, bsize, segments) = row;
+    let rows = [
+        (Step::Enable, Told::Yes),
+        (Step::Post(len, 3, bsize, true), Told::Yes),
+        (Step::Turn, SENT),
+        (Step::HasReport, Told::Yes),
+        (Step::Turn, IDLE),
+        (Step::HasSent(1), Told::Yes),
+        (Step::IsOnWire(0, len, 3), Told::Yes),
+        (Step::Clean, Told::Count(segments)),
+    ];
+    let walked = walk(rt, alloc, (16, completion), &rows);
+    same(rt, (len, walked.told), (len, rows.len()));
+}
+
+#[test]
+fn segments_are_joined(rt: HostRuntime) {
+    for row in JOINED {
+        is_joined(&rt, rt.alloc(), Completion::Status, *row);
+        is_joined(&rt, rt.alloc(), Completion::Head, *row);
+    }
+}

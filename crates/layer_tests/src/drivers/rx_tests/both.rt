@@ -1,0 +1,148 @@
+//! A receive driver and a controller's end of one ring, in one thread.
+ghost use Rattle.std.specs.Prelude.{◌≡◌, ◌<◌, ◌≤◌};
+
+use crate::drivers::stashes::cut;
+use crate::drivers::told::{Call, Told};
+use crate::made;
+use arrayvec::ArrayVec;
+use buffer_pool::{Packet, Stash};
+use driver::{DriverError, MOST_BATCH, RxDriver};
+use limits::BUFFER_BYTES;
+use rx_ring::RxRing;
+use std::alloc::Global;
+use std::mem;
+use std::process::Abort;
+use test_kit::{Storer, Tells, full_stash};
+
+/// A ring with a driver and a controller's end.
+#[derive(Drop)]
+pub(crate) struct Both {
+    ring: RxRing,
+    driver: RxDriver,
+    storer: Storer,
+    /// The buffers at hand, and others that can be put in their place.
+    stash: Stash,
+    others: Stash,
+    /// What was taken.
+    packets: ArrayVec<Packet, MOST_BATCH>,
+    ghost drives: { driver.end.table ≡ ring },
+    ghost serves: { storer.controller.table ≡ ring },
+}
+
+/// A call that only receiving has.
+#[derive(Clone, Copy, Drop)]
+pub(crate) enum RxCall {
+    /// The controller stores a segment of so many bytes, each of them the same, which ends its frame or not.
+    Store(usize, bool, u8),
+    /// The controller says that it stores no more.
+    SayQuiet,
+    IsQuiet,
+    HasChain,
+    /// Drops buffers until only so many are at hand.
+    Cut(usize),
+    /// Puts the 256 other buffers in the place of those at hand.
+    Exchange,
+    /// Puts packets without bytes into the list, until there are so many.
+    Blanks(usize),
+    /// Empties the list.
+    Clear,
+    /// Whether the packet at this place has segments of these lengths, as far as they aren't 0, all bytes of the first
+    /// being this one, and those of each next one one more.
+    Packet(usize, [usize; 3], u8),
+}
+
+impl Both {
+    /// A ring of 8 that is not enabled, with so many buffers at hand, up to 16.
+    pub(crate) fn new<R: Abort>(rt: &R, alloc: Global, batch: usize, buffers: usize) -> Both
+        requires some { 0 < batch }
+        requires few { batch ≤ MOST_BATCH }
+    {
+        let mut stash = full_stash(alloc, 16).expect(rt, "buffers");
+        let others = full_stash(alloc, 256).expect(rt, "buffers");
+        cut(&mut stash, buffers);
+        let (ring, driver, controller) = RxRing::new(alloc, 8).expect(rt, "a ring");
+        Both {
+            ring,
+            driver: RxDriver::new(driver, batch),
+            storer: Storer::new(controller),
+            stash,
+            others,
+            packets: ArrayVec::new(),
+        }
+    }
+
+    fn store(&mut self, len: usize, eop: bool, byte: u8) -> bool {
+        let bytes = [byte; BUFFER_BYTES];
+        let Some(bytes) = bytes.get(..len) else {
+            return false;
+        };
+        let is_stored = self.storer.store(&self.ring, bytes, eop);
+        self.storer.set_head(&self.ring);
+        is_stored
+    }
+
+    fn add_blanks(&mut self, count: usize) {
+        for _ in 0..MOST_BATCH {
+            if self.packets.len() < count {
+                let _ = self.packets.try_push(Packet::default());
+            }
+        }
+    }
+
+    fn answer(&mut self) -> bool {
+        self.storer.answer(&self.ring)
+    }
+
+    fn own(&mut self, call: RxCall) -> Told {
+        match call {
+            RxCall::Store(len, eop, byte) => return Told::whether(self.store(len, eop, byte)),
+            RxCall::IsQuiet => return Told::whether(self.driver.is_quiet(&self.ring)),
+            RxCall::HasChain => return Told::whether(self.driver.has_chain()),
+            RxCall::Packet(k, lens, first) => {
+                return Told::whether(is_chain(self.packets.get(k), &lens, first));
+            }
+            RxCall::SayQuiet => self.storer.say_quiet(&self.ring),
+            RxCall::Cut(buffers) => cut(&mut self.stash, buffers),
+            RxCall::Exchange => mem::swap(&mut self.stash, &mut self.others),
+            RxCall::Blanks(count) => self.add_blanks(count),
+            RxCall::Clear => self.packets.clear(),
+        }
+        Told::Yes
+    }
+}
+
+impl Tells for Both {
+    type Step = Call<RxCall>;
+
+    type Told = Told;
+
+    fn make(&mut self, step: Call<RxCall>) -> Told {
+        made!(self, step, rx_batch)
+    }
+}
+
+/// Whether there is a packet with segments of these lengths, as far as they aren't 0, all bytes of each the same, and
+/// those of the next one more.
+fn is_chain(packet: Option<&Packet>, lens: &[usize], first: u8) -> bool {
+    let Some(packet) = packet else {
+        return false;
+    };
+    let mut byte = first;
+    let mut rest = lens.iter();
+    for bytes in packet.iter() {
+        if rest.next() != Some(&bytes.len()) || !is_filled(bytes, byte) {
+            return false;
+        }
+        byte = byte.wrapping_add(1);
+    }
+    match rest.next() {
+        Some(len) => *len == 0,
+        None => true,
+    }
+}
+
+/// Whether each of a segment's bytes is this one.
+fn is_filled(bytes: &[u8], byte: u8) -> bool {
+    let wanted = [byte; BUFFER_BYTES];
+    wanted.get(..bytes.len()) == Some(bytes)
+}

@@ -1,0 +1,198 @@
+//! The transmit driver on a ring of 8, beside a controller end in the same thread.
+ghost use Rattle.std.specs.Prelude.{◌≡◌, ◌≤◌, All};
+ghost use Rattle.buffer_pool.specs.Packed.{IsPacket};
+
+use crate::drivers::stashes::cut;
+use crate::drivers::told::{Call, Told};
+use crate::made;
+use arrayvec::ArrayVec;
+use buffer_pool::{Buf, Packet, STASH_BUFFERS, Stash, Stock};
+use descriptor::TxRead;
+use driver::{DriverError, MOST_BATCH, TxDriver};
+use std::alloc::Global;
+use std::process::Abort;
+use test_kit::{Tells, put_back};
+use tx_ring::{Completion, ControllerEnd, TxControllerEnd, TxRing, close};
+
+/// How many bytes a segment has at most.
+const MOST: usize = 1_000;
+
+/// A queue, with what stays and what came back.
+#[derive(Drop)]
+pub(crate) struct Queue {
+    ring: TxRing,
+    driver: TxDriver,
+    controller: TxControllerEnd,
+    stock: Stock,
+    stash: Stash,
+    packets: ArrayVec<Packet, MOST_BATCH>,
+    ghost drives: { driver.end.table ≡ ring },
+    ghost serves: { controller.table ≡ ring },
+    ghost whole: { All IsPacket packets.items },
+}
+
+/// The number of the buffer at each place of a ring.
+pub(crate) type Places = [Option<u16>; 8];
+
+/// A call that only transmitting has.
+#[derive(Clone, Copy, Drop)]
+pub(crate) enum TxCall {
+    /// So many packets more, each of so many segments of so many bytes.
+    Add(usize, usize, usize),
+    /// How many descriptors the controller sees published, and not sent.
+    Ready,
+    /// Whether there is a descriptor to be sent, and it asks for a report or not, as is said; it is sent.
+    Asks(bool),
+    /// Whether there is a descriptor to be sent, with this second word; it is sent.
+    Word(u64),
+    Clean,
+    /// Leaves the stash with room for so many buffers.
+    Fill(usize),
+    /// Drops the buffers of the stash.
+    Drop,
+}
+
+impl Queue {
+    /// A queue of 8 that is not enabled, whose fourth frames ask for a report.
+    pub(crate) fn new<R: Abort>(rt: &R, alloc: Global, completion: Completion) -> Queue {
+        let stock = Stock::new(alloc, 0, 300).expect(rt, "buffers");
+        let (ring, end, controller) = TxRing::new_with(alloc, 8, completion).expect(rt, "a ring");
+        Queue {
+            ring,
+            driver: TxDriver::new(end, 4),
+            controller,
+            stock,
+            stash: Stash::new(),
+            packets: ArrayVec::new(),
+        }
+    }
+
+    fn add(&mut self, count: usize, segments: usize, len: usize) {
+        for _ in 0..count {
+            let packet = packet(&mut self.stock, segments, len);
+            if packet.is_whole() && !self.packets.is_full() {
+                self.packets.push(packet);
+            }
+        }
+    }
+
+    fn fill_stash(&mut self, room: usize) {
+        for _ in 0..STASH_BUFFERS {
+            if self.stash.len().saturating_add(room) >= STASH_BUFFERS {
+                return;
+            }
+            if let Some(buf) = self.stock.take() {
+                put_back(&mut self.stash, buf);
+            }
+        }
+    }
+
+    fn ready(&mut self) -> u32 {
+        if !self.controller.is_serving() {
+            return 0;
+        }
+        self.controller.look(&self.ring)
+    }
+
+    /// The descriptor that the controller sends next; it is reported where it asks for that.
+    fn send(&mut self) -> Option<TxRead> {
+        let controller = &mut self.controller;
+        if !controller.is_serving() || controller.is_holding() || controller.owes_report() {
+            return None;
+        }
+        if controller.look(&self.ring) == 0 {
+            return None;
+        }
+        let (buf, read) = controller.fetch(&self.ring);
+        controller.give_back(&self.ring, buf);
+        if controller.owes_report() {
+            controller.report(&self.ring);
+        }
+        Some(read)
+    }
+
+    /// The number of the buffer at each place.
+    pub(crate) fn places(self) -> Places {
+        let Queue {
+            ring,
+            driver,
+            controller,
+            ..
+        } = self;
+        let slots = close(ring, driver.into_end(), controller);
+        numbers(&slots)
+    }
+
+    fn answer(&mut self) -> bool {
+        self.controller.asked(&self.ring);
+        if self.controller.can_answer() {
+            self.controller.answer(&self.ring);
+        }
+        self.controller.is_serving()
+    }
+
+    fn own(&mut self, call: TxCall) -> Told {
+        match call {
+            TxCall::Ready => return Told::Count(self.ready() as usize),
+            TxCall::Asks(rs) => return Told::whether(asks(self.send(), rs)),
+            TxCall::Word(word) => return Told::whether(has_word(self.send(), word)),
+            TxCall::Clean => return Told::Count(self.driver.clean(&self.ring, &mut self.stash)),
+            TxCall::Add(count, segments, len) => self.add(count, segments, len),
+            TxCall::Fill(room) => self.fill_stash(room),
+            TxCall::Drop => cut(&mut self.stash, 0),
+        }
+        Told::Yes
+    }
+}
+
+/// The number of the buffer in each slot.
+fn numbers(slots: &[Option<Buf>]) -> Places {
+    let mut places = [None; 8];
+    for (place, slot) in places.iter_mut().zip(slots) {
+        if let Some(buf) = slot {
+            *place = Some(buf.number());
+        }
+    }
+    places
+}
+
+/// Whether there is a descriptor, and it asks for a report or not, as is said.
+fn asks(read: Option<TxRead>, rs: bool) -> bool {
+    match read {
+        Some(read) => read.rs == rs,
+        None => false,
+    }
+}
+
+/// Whether there is a descriptor, and its second word is this one.
+fn has_word(read: Option<TxRead>, word: u64) -> bool {
+    match read {
+        Some(read) => read.second_word() == word,
+        None => false,
+    }
+}
+
+/// A packet of so many segments, 15 at most, of so many bytes; of fewer where the stock has no buffer more.
+fn packet(stock: &mut Stock, segments: usize, len: usize) -> Packet {
+    let mut packet = Packet::default();
+    let len = len.clamp(1, MOST);
+    for _ in 0..segments.min(15) {
+        if let Some(mut buf) = stock.take()
+            && packet.segments() < 15
+        {
+            buf.fill(&[7; MOST][..len]);
+            packet.push_back(buf);
+        }
+    }
+    packet
+}
+
+impl Tells for Queue {
+    type Step = Call<TxCall>;
+
+    type Told = Told;
+
+    fn make(&mut self, step: Call<TxCall>) -> Told {
+        made!(self, step, tx_batch)
+    }
+}

@@ -1,0 +1,165 @@
+//! Worked rows of a transmit driver.
+
+use crate::drivers::told::{Call, Told};
+use crate::drivers::tx_tests::queue::{Places, Queue, TxCall};
+use crate::wanted::same;
+use driver::DriverError;
+use std::alloc::Global;
+use std::process::Abort;
+use test_kit::told_so;
+use tx_ring::Completion;
+
+/// A call, and what it has to tell.
+type Row = (Call<TxCall>, Told);
+
+/// All of the rows tell so on a ring of 8 that is not enabled: where its buffers lie then. No other function here owns a
+/// queue, since each that does is dear to prove.
+fn each_tells<R: Abort>(rt: &R, alloc: Global, completion: Completion, rows: &[Row]) -> Places {
+    let mut queue = Queue::new(rt, alloc, completion);
+    let told = told_so(&mut queue, rows);
+    same(rt, told, rows.len());
+    queue.places()
+}
+
+const BOTH_WAYS: &[Completion] = &[Completion::Status, Completion::Head];
+
+const TEN: &[Row] = &[
+    (Call::Own(TxCall::Add(10, 1, 60)), Told::Yes),
+    (Call::Enable, Told::No),
+    (Call::Answer, Told::Yes),
+    (Call::Enable, Told::Yes),
+    (Call::Batch, Told::Count(7)),
+    (Call::Listed, Told::Count(3)),
+    (Call::Room, Told::Count(0)),
+    (Call::Own(TxCall::Ready), Told::Count(7)),
+    (Call::Batch, Told::Count(0)),
+    (Call::Own(TxCall::Asks(false)), Told::Yes),
+    (Call::Own(TxCall::Asks(false)), Told::Yes),
+    (Call::Own(TxCall::Asks(false)), Told::Yes),
+    (Call::Own(TxCall::Asks(true)), Told::Yes),
+    (Call::Own(TxCall::Asks(false)), Told::Yes),
+    (Call::Batch, Told::Count(3)),
+    (Call::Listed, Told::Count(0)),
+    (Call::AtHand, Told::Count(4)),
+    (Call::Room, Told::Count(1)),
+    (Call::Own(TxCall::Ready), Told::Count(5)),
+    (Call::Own(TxCall::Asks(false)), Told::Yes),
+    (Call::Own(TxCall::Asks(true)), Told::Yes),
+    (Call::Own(TxCall::Asks(true)), Told::Yes),
+    (Call::Own(TxCall::Asks(false)), Told::Yes),
+    (Call::Own(TxCall::Asks(true)), Told::Yes),
+    (Call::Own(TxCall::Ready), Told::Count(0)),
+];
+
+/// Where the buffers lie after them.
+const LYING: Places = [
+    Some(8),
+    Some(9),
+    None,
+    None,
+    Some(4),
+    Some(5),
+    Some(6),
+    Some(7),
+];
+
+#[test]
+fn batches_of_ten_packets(rt: HostRuntime) {
+    for completion in BOTH_WAYS {
+        let lying = each_tells(&rt, rt.alloc(), *completion, TEN);
+        same(&rt, lying, LYING);
+    }
+}
+
+const TOO_LONG: &[Row] = &[
+    (Call::Own(TxCall::Add(1, 1, 60)), Told::Yes),
+    (Call::Batch, Told::Refused(DriverError::QueueOff)),
+    (Call::Listed, Told::Count(1)),
+    (Call::Enable, Told::No),
+    (Call::Answer, Told::Yes),
+    (Call::Enable, Told::Yes),
+    (Call::Own(TxCall::Add(1, 9, 1_000)), Told::Yes),
+    (Call::Own(TxCall::Add(1, 1, 60)), Told::Yes),
+    (Call::Batch, Told::Count(1)),
+    (Call::Own(TxCall::Asks(true)), Told::Yes),
+    (Call::Batch, Told::Refused(DriverError::TooLong)),
+    (Call::AtHand, Told::Count(1)),
+    (Call::Listed, Told::Count(2)),
+    (Call::Room, Told::Count(7)),
+];
+
+#[test]
+fn a_packet_that_no_ring_of_8_has_room_for(rt: HostRuntime) {
+    each_tells(&rt, rt.alloc(), Completion::Status, TOO_LONG);
+}
+
+const SIX: &[Row] = &[
+    (Call::Own(TxCall::Add(6, 1, 60)), Told::Yes),
+    (Call::Enable, Told::No),
+    (Call::Answer, Told::Yes),
+    (Call::Enable, Told::Yes),
+    (Call::Batch, Told::Count(6)),
+    (Call::Own(TxCall::Word(0x000f_0000_2330_003c)), Told::Yes),
+    (Call::Own(TxCall::Word(0x000f_0000_2330_003c)), Told::Yes),
+    (Call::Own(TxCall::Word(0x000f_0000_2330_003c)), Told::Yes),
+    (Call::Own(TxCall::Word(0x000f_0000_2b30_003c)), Told::Yes),
+    (Call::Own(TxCall::Word(0x000f_0000_2330_003c)), Told::Yes),
+    (Call::Own(TxCall::Word(0x000f_0000_2b30_003c)), Told::Yes),
+    (Call::Own(TxCall::Clean), Told::Count(6)),
+    (Call::Own(TxCall::Clean), Told::Count(0)),
+];
+
+#[test]
+fn six_packets_in_one_batch(rt: HostRuntime) {
+    each_tells(&rt, rt.alloc(), Completion::Status, SIX);
+}
+
+const RENEWED: &[Row] = &[
+    (Call::Own(TxCall::Add(11, 1, 60)), Told::Yes),
+    (Call::Enable, Told::No),
+    (Call::Answer, Told::Yes),
+    (Call::Enable, Told::Yes),
+    (Call::Batch, Told::Count(7)),
+    (Call::Own(TxCall::Asks(false)), Told::Yes),
+    (Call::Own(TxCall::Asks(false)), Told::Yes),
+    (Call::AskDisable, Told::Yes),
+    (Call::AskDisable, Told::Refused(DriverError::QueueOff)),
+    (Call::Batch, Told::Count(0)),
+    (Call::Enable, Told::No),
+    (Call::FinishDisable, Told::No),
+    (Call::Reclaim, Told::Count(0)),
+    (Call::Answer, Told::No),
+    (Call::FinishDisable, Told::Count(5)),
+    (Call::FinishDisable, Told::No),
+    (Call::Batch, Told::Refused(DriverError::QueueOff)),
+    (Call::Own(TxCall::Clean), Told::Count(0)),
+    (Call::Renew, Told::Refused(DriverError::NotReclaimed)),
+    (Call::Own(TxCall::Fill(2)), Told::Yes),
+    (Call::Reclaim, Told::Refused(DriverError::StashFull)),
+    (Call::Room, Told::Count(2)),
+    (Call::Renew, Told::Refused(DriverError::NotReclaimed)),
+    (Call::Own(TxCall::Drop), Told::Yes),
+    (Call::Reclaim, Told::Count(5)),
+    (Call::Enable, Told::Refused(DriverError::NotReclaimed)),
+    (Call::Renew, Told::Yes),
+    (Call::Renew, Told::Refused(DriverError::NotReclaimed)),
+    (Call::Enable, Told::No),
+    (Call::Answer, Told::Yes),
+    (Call::Enable, Told::Yes),
+    (Call::Own(TxCall::Add(1, 1, 60)), Told::Yes),
+    (Call::Batch, Told::Count(5)),
+    (Call::Own(TxCall::Asks(false)), Told::Yes),
+    (Call::Own(TxCall::Asks(false)), Told::Yes),
+    (Call::Own(TxCall::Asks(false)), Told::Yes),
+    (Call::Own(TxCall::Asks(true)), Told::Yes),
+    (Call::Own(TxCall::Asks(true)), Told::Yes),
+];
+
+/// A disabled queue tells what was not sent, gives its buffers back where the stash has room, and counts its frames
+/// from 1 once it is renewed.
+#[test]
+fn a_disabling_and_the_epoch_after_it(rt: HostRuntime) {
+    for completion in BOTH_WAYS {
+        each_tells(&rt, rt.alloc(), *completion, RENEWED);
+    }
+}

@@ -1,0 +1,170 @@
+//! The device's side with controllers: frames are offered, and what is sent goes onto a wire.
+ghost use Rattle.std.specs.Prelude.{◌≡◌};
+
+use crate::threads::frames::Frames;
+use crate::threads::side::{Epochs, Shared, Side};
+use controller::{Offer, RxController, Tally, Turn, TxController, Wire};
+use rx_ring::{Control, RxRing};
+use std::alloc::Global;
+use tx_ring::TxRing;
+
+/// For how many turns no frame comes after one that was dropped, so that not all are.
+const PAUSE: u32 = 100;
+
+/// The receive queue's controller.
+#[derive(Drop)]
+pub(crate) struct Offering {
+    pub controller: RxController,
+    epochs: Epochs,
+    /// How many frames are offered in an epoch at least, and how many were.
+    least: u32,
+    offered: u32,
+    /// The next frame, and for how many turns it is not offered.
+    next: u32,
+    pause: u32,
+    /// What was answered, counted.
+    pub seen: Tally,
+    /// The numbers of the frames that were stored, in order.
+    pub stored: Vec<u32>,
+    /// Whether a call was refused.
+    pub refused: bool,
+}
+
+impl Offering {
+    /// Nothing was offered yet.
+    pub(crate) fn new(alloc: Global, controller: RxController, least: u32) -> Offering
+        ensures { result.controller ≡ controller }
+    {
+        Offering {
+            controller,
+            epochs: Epochs::new(),
+            least,
+            offered: 0,
+            next: 0,
+            pause: 0,
+            seen: Tally::default(),
+            stored: Vec::new(alloc),
+            refused: false,
+        }
+    }
+
+    /// Answers what is asked, and offers the next frame. Once so many were offered, and the last was stored, it says that
+    /// no more comes in this epoch.
+    fn turn(&mut self, ring: &RxRing, frames: &Frames) -> bool
+        requires { self.old.controller.end.table ≡ ring.now }
+        ensures { self.new.controller.end.table ≡ ring.now }
+    {
+        let told = self.controller.turn_control(ring);
+        if self.epochs.see(told == Control::Enabled) {
+            self.offered = 0;
+        }
+        if self.pause > 0 {
+            self.pause -= 1;
+            return false;
+        }
+        let Ok(offer) = self.controller.offer(ring, frames.frame(self.next)) else {
+            self.refused = true;
+            return false;
+        };
+        self.count(offer);
+        if offer == Offer::Stored && self.offered >= self.least {
+            self.controller.finish(ring);
+        }
+        offer == Offer::Stored || offer == Offer::Oversize
+    }
+
+    /// Counts what was answered.
+    fn count(&mut self, offer: Offer)
+        ensures { self.new.controller ≡ self.old.controller }
+    {
+        let seen = &mut self.seen;
+        match offer {
+            Offer::Stored => {
+                seen.stored = seen.stored.saturating_add(1);
+                self.refused = self.stored.push(self.next).is_err() || self.refused;
+            }
+            Offer::Dropped => {
+                seen.dropped = seen.dropped.saturating_add(1);
+                self.pause = PAUSE;
+            }
+            Offer::Oversize => seen.oversize = seen.oversize.saturating_add(1),
+            Offer::Off | Offer::Held => return,
+        }
+        seen.offered = seen.offered.saturating_add(1);
+        self.offered = self.offered.saturating_add(1);
+        self.next = self.next.wrapping_add(1);
+    }
+}
+
+/// The transmit queue's controller, and its wire.
+#[derive(Drop)]
+pub(crate) struct Wiring {
+    pub controller: TxController,
+    pub wire: Wire,
+    epochs: Epochs,
+    pub refused: bool,
+}
+
+impl Wiring {
+    /// Nothing was sent yet.
+    pub(crate) fn new(alloc: Global, controller: TxController) -> Wiring
+        ensures { result.controller ≡ controller }
+    {
+        Wiring {
+            controller,
+            wire: Wire::new(alloc),
+            epochs: Epochs::new(),
+            refused: false,
+        }
+    }
+
+    /// Answers what is asked, and sends the next frame.
+    fn turn(&mut self, ring: &TxRing) -> bool
+        requires { self.old.controller.table ≡ ring.now }
+        ensures { self.new.controller.table ≡ ring.now }
+    {
+        let told = self.controller.turn_control(ring);
+        self.epochs.see(told == Control::Enabled);
+        let turned = self.controller.turn(ring, &mut self.wire);
+        if turned.is_err() {
+            self.refused = true;
+        }
+        turned == Ok(Turn::Sent)
+    }
+}
+
+/// Both in one thread.
+#[derive(Drop)]
+pub(crate) struct Device {
+    pub offering: Offering,
+    pub wiring: Wiring,
+    /// How many epochs there are to be.
+    most: u32,
+}
+
+impl Device {
+    /// Both, for so many epochs.
+    pub(crate) fn new(offering: Offering, wiring: Wiring, epochs: u32) -> Device
+        ensures { (result.offering ≡ offering) × (result.wiring ≡ wiring) }
+    {
+        Device {
+            offering,
+            wiring,
+            most: epochs,
+        }
+    }
+}
+
+impl Side for Device {
+    ghost is_of = { λ shared d. (d.offering.controller.end.table ≡ shared.from) × (d.wiring.controller.table ≡ shared.to) };
+
+    fn turn(&mut self, shared: &Shared) -> bool {
+        let stored = self.offering.turn(&shared.from, &shared.frames);
+        let sent = self.wiring.turn(&shared.to);
+        stored || sent
+    }
+
+    fn is_over(&self) -> bool {
+        self.offering.epochs.ended == self.most && self.wiring.epochs.ended == self.most
+    }
+}

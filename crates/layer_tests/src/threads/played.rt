@@ -1,0 +1,203 @@
+//! The device's side, played with the rings' own ends: frames are stored as soon as there is room, whatever comes of them,
+//! and what is sent is compared with what was stored.
+ghost use Rattle.std.specs.Prelude.{◌≡◌};
+
+use crate::threads::frames::Frames;
+use crate::threads::side::{Epochs, Shared, Side};
+use descriptor::TxRead;
+use limits::{BUFFER_BYTES, MOST_SEGMENTS};
+use rx_ring::{ControllerEnd, RxRing};
+use test_kit::Storer;
+use tx_ring::{TxControllerEnd, TxRing};
+
+/// The receive queue's controller.
+#[derive(Drop)]
+pub(crate) struct Storing {
+    pub storer: Storer,
+    /// The next frame to be stored, and the first one of this epoch.
+    next: u32,
+    first: u32,
+    epochs: Epochs,
+}
+
+impl Storing {
+    /// Nothing was stored yet.
+    pub(crate) fn new(storer: Storer) -> Storing
+        ensures { result.storer ≡ storer }
+    {
+        Storing {
+            storer,
+            next: 0,
+            first: 0,
+            epochs: Epochs::new(),
+        }
+    }
+
+    /// Answers what is asked, and stores the next frame whole if there are descriptors enough.
+    fn turn(&mut self, ring: &RxRing, frames: &Frames) -> bool
+        requires { self.old.storer.controller.table ≡ ring.now }
+        ensures { self.new.storer.controller.table ≡ ring.now }
+    {
+        let is_on = self.storer.answer(ring);
+        if self.epochs.see(is_on) {
+            self.first = self.next;
+        }
+        let frame = frames.frame(self.next);
+        if !is_on || (self.storer.free(ring) as usize) < frame.len().div_ceil(BUFFER_BYTES) {
+            return false;
+        }
+        store(ring, &mut self.storer, frame);
+        self.next = self.next.wrapping_add(1);
+        true
+    }
+}
+
+/// Stores a frame.
+fn store(ring: &RxRing, storer: &mut Storer, frame: &[u8])
+    requires { storer.old.controller.table ≡ ring.now }
+    ensures { storer.new.controller.table ≡ ring.now }
+{
+    let mut rest = frame;
+    for _ in 0..MOST_SEGMENTS {
+        let (piece, more) = rest.split_at(rest.len().min(BUFFER_BYTES));
+        storer.store(ring, piece, more.is_empty());
+        rest = more;
+        if rest.is_empty() {
+            break;
+        }
+    }
+    storer.set_head(ring);
+}
+
+/// The transmit queue's controller.
+#[derive(Drop)]
+pub(crate) struct Hearing {
+    pub end: TxControllerEnd,
+    /// How many frames were sent in this epoch, and how many bytes of the next one.
+    sent: u32,
+    at: usize,
+    /// How many frames were sent in all, and how many segments that were not as they should be.
+    pub frames: usize,
+    pub bad: usize,
+    epochs: Epochs,
+}
+
+impl Hearing {
+    /// Nothing was sent yet.
+    pub(crate) fn new(end: TxControllerEnd) -> Hearing
+        ensures { result.end ≡ end }
+    {
+        Hearing {
+            end,
+            sent: 0,
+            at: 0,
+            frames: 0,
+            bad: 0,
+            epochs: Epochs::new(),
+        }
+    }
+
+    /// Answers what is asked: whether the queue is on then.
+    fn answer(&mut self, ring: &TxRing) -> bool
+        requires { self.old.end.table ≡ ring.now }
+        ensures { self.new.end.table ≡ ring.now }
+    {
+        self.end.asked(ring);
+        if self.end.can_answer() {
+            self.end.answer(ring);
+        }
+        let is_on = self.end.is_serving();
+        if self.epochs.see(is_on) {
+            self.sent = 0;
+        }
+        is_on
+    }
+
+    /// Sends the next segment, which is to be of this frame, if one is ready.
+    fn send(&mut self, ring: &TxRing, frame: &[u8]) -> bool
+        requires { self.old.end.table ≡ ring.now }
+        ensures { self.new.end.table ≡ ring.now }
+    {
+        if !self.end.is_serving() || self.end.is_holding() || self.end.owes_report() {
+            return false;
+        }
+        if self.end.look(ring) == 0 {
+            return false;
+        }
+        let (buf, read) = self.end.fetch(ring);
+        self.compare(frame, buf.bytes(), read);
+        self.end.give_back(ring, buf);
+        if self.end.owes_report() {
+            self.end.report(ring);
+        }
+        true
+    }
+
+    /// Answers what is asked, and sends the next segment if one is ready. The frames of an epoch are those from `first` on.
+    fn turn(&mut self, ring: &TxRing, frames: &Frames, first: u32) -> bool
+        requires { self.old.end.table ≡ ring.now }
+        ensures { self.new.end.table ≡ ring.now }
+    {
+        if !self.answer(ring) {
+            return false;
+        }
+        let frame = frames.frame(first.wrapping_add(self.sent));
+        self.send(ring, frame)
+    }
+
+    /// Compares what is sent with the frame that it is to be of.
+    fn compare(&mut self, frame: &[u8], bytes: &[u8], read: TxRead)
+        ensures { self.new.end ≡ self.old.end }
+    {
+        let end = self.at.saturating_add(bytes.len());
+        let is_next = frame.get(self.at..end) == Some(bytes);
+        let is_told = usize::from(read.paylen) == frame.len() && read.eop == (end == frame.len());
+        if !is_next || !is_told {
+            self.bad = self.bad.saturating_add(1);
+        }
+        self.at = end;
+        if read.eop {
+            self.at = 0;
+            self.sent = self.sent.saturating_add(1);
+            self.frames = self.frames.saturating_add(1);
+        }
+    }
+}
+
+/// Both in one thread.
+#[derive(Drop)]
+pub(crate) struct Played {
+    pub storing: Storing,
+    pub hearing: Hearing,
+    /// How many epochs there are to be.
+    most: u32,
+}
+
+impl Played {
+    /// Both, for so many epochs.
+    pub(crate) fn new(storing: Storing, hearing: Hearing, epochs: u32) -> Played
+        ensures { (result.storing ≡ storing) × (result.hearing ≡ hearing) }
+    {
+        Played {
+            storing,
+            hearing,
+            most: epochs,
+        }
+    }
+}
+
+impl Side for Played {
+    ghost is_of = { λ shared d. (d.storing.storer.controller.table ≡ shared.from) × (d.hearing.end.table ≡ shared.to) };
+
+    fn turn(&mut self, shared: &Shared) -> bool {
+        let stored = self.storing.turn(&shared.from, &shared.frames);
+        let sent = self
+            .hearing
+            .turn(&shared.to, &shared.frames, self.storing.first);
+        stored || sent
+    }
+
+    fn is_over(&self) -> bool {
+        self.storing.epochs.ended == self.most && self.hearing.epochs.ended == self.most
+    }
+}

@@ -1,0 +1,177 @@
+//! Drivers beside a device with controllers.
+ghost use Rattle.std.specs.Prelude.{◌≡◌, ◌<◌, ◌≤◌, ◌⊎◌};
+ghost use Rattle.controller.specs.Receiving.{IsIdle as IsIdleRx};
+ghost use Rattle.controller.specs.Transmitting.{IsIdle as IsIdleTx};
+
+use crate::threads::device::{Device, Offering, Wiring};
+use crate::threads::forwarder::{Ends, Forwarder, Plan};
+use crate::threads::frames::{Frames, Lens};
+use crate::threads::rings::Rings;
+use crate::threads::side::{Shared, run_both};
+use crate::wanted::holds;
+use buffer_pool::Stash;
+use controller::{RxController, Tally, TxController, Wire};
+use rx_ring::{ControllerEnd, RxControllerEnd};
+use std::alloc::Global;
+use std::process::Abort;
+use std::sync::Wait;
+use std::thread::Threads;
+use test_kit::full_stash;
+use tx_ring::{Completion, TxControllerEnd};
+
+/// How a run is to be.
+#[derive(Clone, Copy, Drop)]
+struct Case {
+    n: u32,
+    /// Whether buffers are filled to 2,048 bytes, or to 1,024.
+    large: bool,
+    drop_en: bool,
+    lens: Lens,
+    completion: Completion,
+    epochs: u32,
+    /// How many frames are offered at least in each epoch.
+    frames: u32,
+}
+
+/// Whether the frames with these numbers are on the wire, in order, and no others.
+fn carries(wire: &Wire, frames: &Frames, numbers: &[u32]) -> bool {
+    let mut k = 0usize;
+    for sent in wire.iter() {
+        let Some(number) = numbers.get(k) else {
+            return false;
+        };
+        if frames.frame(*number) != sent {
+            return false;
+        }
+        k = k.saturating_add(1);
+    }
+    k == numbers.len()
+}
+
+/// What was counted, if all that was stored was taken and sent on, and nothing was refused.
+fn seen(forwarder: &Forwarder, device: &Device, frames: &Frames) -> Option<Tally> {
+    let (offering, wiring) = (&device.offering, &device.wiring);
+    let stored = offering.stored.len();
+    let is_whole = forwarder.taken == stored
+        && forwarder.sent == stored
+        && carries(&wiring.wire, frames, offering.stored.as_slice());
+    let is_counted = offering.seen.stored == stored as u64
+        && offering.seen == offering.controller.tally();
+    if is_whole && is_counted && !offering.refused && !wiring.refused {
+        Some(offering.seen)
+    } else {
+        None
+    }
+}
+
+/// The device of a case, with these ends.
+fn device(alloc: Global, case: &Case, stores: RxControllerEnd, sends: TxControllerEnd) -> Device
+    requires stores { IsIdleRx stores }
+    requires sends { IsIdleTx sends }
+    ensures stores { result.offering.controller.end ≡ stores }
+    ensures sends { result.wiring.controller ≡ sends }
+{
+    let bsize = if case.large { 2_048 } else { 1_024 };
+    let controller = RxController::new(stores, bsize, case.drop_en);
+    let offering = Offering::new(alloc, controller, case.frames);
+    let wiring = Wiring::new(alloc, TxController::new(sends));
+    Device::new(offering, wiring, case.epochs)
+}
+
+/// Both sides of a case over these rings.
+fn sides(alloc: Global, case: &Case, rings: Rings, stash: Stash) -> (Shared, Forwarder, Device)
+    ensures forwarder { (result.1.taking.driver.end.table ≡ result.0.from) × (result.1.sending.driver.end.table ≡ result.0.to) }
+    ensures device { (result.2.offering.controller.end.table ≡ result.0.from) × (result.2.wiring.controller.table ≡ result.0.to) }
+{
+    let plan = Plan {
+        batch: 7,
+        ends: Ends::WhenQuiet,
+        epochs: case.epochs,
+    };
+    let Rings {
+        shared,
+        takes,
+        stores,
+        posts,
+        sends,
+        ..
+    } = rings;
+    let _size = stores.size();
+    let forwarder = Forwarder::new(takes, posts, stash, plan);
+    let device = device(alloc, case, stores, sends);
+    (shared, forwarder, device)
+}
+
+/// Runs both sides: what was counted, if all was as it should be.
+fn counted<R: Threads + Wait + Sync + Abort>(rt: &R, alloc: Global, case: Case) -> Option<Tally> {
+    let stash = full_stash(alloc, 128).expect(rt, "buffers");
+    let rings = Rings::new(rt, alloc, case.n, case.completion, case.lens);
+    let (shared, forwarder, device) = sides(alloc, &case, rings, stash);
+    let (forwarder, device) = run_both(rt, &shared, forwarder, device);
+    let tally = seen(&forwarder, &device, &shared.frames);
+    drop(shared);
+    drop(forwarder);
+    drop(device);
+    tally
+}
+
+/// How many places the rings have, and whether frames are dropped where there is no descriptor.
+const RINGS: &[(u32, bool)] = &[(8, false), (64, false), (8, true), (64, true)];
+
+/// All that is stored goes out, in three epochs.
+fn all_goes_out<R: Threads + Wait + Sync + Abort>(
+    rt: &R,
+    alloc: Global,
+    completion: Completion,
+    (n, drop_en): (u32, bool),
+) {
+    let case = Case {
+        n,
+        large: n == 8,
+        drop_en,
+        lens: Lens::of_ring(n),
+        completion,
+        epochs: 3,
+        frames: 3_334,
+    };
+    let tally = counted(rt, alloc, case).expect(rt, "another wire or count");
+    holds(rt, tally.offered >= 10_002 && tally.oversize == 0);
+    holds(rt, drop_en || tally.dropped == 0);
+}
+
+#[test]
+fn all_that_is_stored_goes_out(rt: HostRuntime) {
+    for ring in RINGS {
+        all_goes_out(&rt, rt.alloc(), Completion::Status, *ring);
+        all_goes_out(&rt, rt.alloc(), Completion::Head, *ring);
+    }
+}
+
+/// Every second frame is too long for a ring of 8 with small buffers, and all others go out.
+const OVERSIZE: Case = Case {
+    n: 8,
+    large: false,
+    drop_en: false,
+    lens: Lens::InTurn(9_000, 60),
+    completion: Completion::Status,
+    epochs: 1,
+    frames: 200,
+};
+
+const HALF: Tally = Tally {
+    offered: 200,
+    stored: 100,
+    dropped: 0,
+    oversize: 100,
+};
+
+#[test]
+fn oversize_frames_between_others(rt: HostRuntime) {
+    for completion in [Completion::Status, Completion::Head] {
+        let case = Case {
+            completion,
+            ..OVERSIZE
+        };
+        holds(&rt, counted(&rt, rt.alloc(), case) == Some(HALF));
+    }
+}

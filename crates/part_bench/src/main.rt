@@ -1,0 +1,79 @@
+//! The program `part_bench`: what parts cost that stand beside the rings. It is run by hand; scripts in `bench/` run it
+//! beside plain Rust.
+//!
+//! With `--writes` one thread writes the numbers of a cell so many times, while so many others read until they see what was
+//! written last; the time is that of all threads. With `--reads` one thread reads, beside nobody.
+//!
+//! With `--threads` each of so many threads takes buffers of one pool and gives them back, once one by one and once in
+//! batches of 32 through a stash. The time is that of all threads, over the buffers of one. With `--packets` it prints what
+//! it costs to take a packet from the front of a list of 32.
+//!
+//! `script` makes a script of so many frames of so many bytes, and reads and writes it so many times; `capture` does so with
+//! a capture. It prints by how many bytes a frame a reading makes the process grow, and the slowest and the fastest round in
+//! MB of the text a second of processor time.
+#![tactic(auto)]
+
+mod cells;
+mod plan;
+mod pools;
+mod texts;
+
+use anyhow::Result;
+use cells::{run_reads, run_writes};
+use plan::{Plan, plan_of};
+use pools::{run_lists, run_pool};
+use std::env;
+use std::process::ExitCode;
+use std::rt::{Clock, Files};
+use std::sync::Wait;
+use std::thread::Threads;
+use std::time::CpuClock;
+use texts::run_texts;
+
+const USAGE: &str = "Usage: part_bench --writes N --readers N
+       part_bench --reads N
+       part_bench --threads N --buffers N
+       part_bench --packets N
+       part_bench script|capture FRAMES BYTES ROUNDS
+
+Writes the numbers of a cell beside threads that read them, or reads them beside nobody; takes buffers from
+one pool and gives them back, or packets from the front of a list of 32; reads and writes a script or a
+capture. It prints what one of them costs, and of a text how fast that was.
+
+  --writes   how often one thread writes, from 1
+  --readers  how many threads read meanwhile: 0 to 3
+  --reads    how often one thread reads, from 1
+  --threads  how many threads: 1, 2 or 4
+  --buffers  how many buffers each thread takes and gives, from 1
+  --packets  how many packets are taken, from 1
+  FRAMES     how many frames the text has, 1 to 1000000
+  BYTES      bytes of a frame, 14 to 15000
+  ROUNDS     how often it is read and written, from 1
+
+Examples:
+  part_bench --writes 1000000 --readers 2
+  part_bench --threads 4 --buffers 3200000
+  part_bench capture 1000000 60 5";
+
+fn carry_out<R>(rt: &R, plan: Plan) -> Result<()>
+where
+    R: Threads + Wait + Clock + CpuClock + Files + Print + AllocGlobal + Sync,
+{
+    match plan {
+        Plan::Writes { writes, readers } => run_writes(rt, rt.alloc(), writes, readers),
+        Plan::Reads { reads } => run_reads(rt, rt.alloc(), reads),
+        Plan::Pool { threads, buffers } => run_pool(rt, rt.alloc(), threads, buffers),
+        Plan::Lists { packets } => run_lists(rt, packets),
+        Plan::Texts(plan) => run_texts(rt, plan),
+    }
+}
+
+fn main(rt: HostRuntime) -> Result<ExitCode> {
+    let words: Vec<String> = env::args(&rt)?.skip(1).collect(rt.alloc())?;
+    let Some(plan) = plan_of(words.as_slice()) else {
+        eprintln!(rt; "{USAGE}")?;
+        return Ok(ExitCode::from(2));
+    };
+    carry_out(&rt, plan)?;
+    Ok(ExitCode::SUCCESS)
+}

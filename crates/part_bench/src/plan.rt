@@ -1,0 +1,127 @@
+//! What the words ask for.
+
+use limits::MOST_SCRIPT_FRAMES;
+use std::time::Duration;
+
+/// What of texts is read and written.
+#[derive(Clone, Copy)]
+pub enum Subject {
+    Script,
+    Capture,
+}
+
+impl Subject {
+    /// The word for it.
+    pub fn name(self) -> &'static str {
+        match self {
+            Subject::Script => "script",
+            Subject::Capture => "capture",
+        }
+    }
+
+    /// By what memory is counted.
+    pub fn per_frame(self) -> &'static str {
+        match self {
+            Subject::Script => "a frame beside its own",
+            Subject::Capture => "a record",
+        }
+    }
+}
+
+/// How often and on what a reading and writing runs.
+#[derive(Clone, Copy)]
+pub struct TextPlan {
+    pub subject: Subject,
+    pub frames: u32,
+    pub length: usize,
+    pub rounds: u32,
+}
+
+impl TextPlan {
+    /// How many bytes of what is read are a frame's own: a capture's lie where its bytes do.
+    pub fn own(self) -> u64 {
+        match self.subject {
+            Subject::Script => self.length as u64,
+            Subject::Capture => 0,
+        }
+    }
+}
+
+/// What is run.
+#[derive(Clone, Copy)]
+pub enum Plan {
+    Writes { writes: u32, readers: u32 },
+    Reads { reads: u32 },
+    Pool { threads: u32, buffers: u32 },
+    Lists { packets: u32 },
+    Texts(TextPlan),
+}
+
+/// The number that this word is.
+fn number_in(word: Option<&String>) -> Option<u32> {
+    word?.as_str().parse().ok()
+}
+
+/// The number after an option.
+fn number_of(words: &[String], name: &str) -> Option<u32> {
+    let at = words.iter().position(|word| word.as_str() == name)?;
+    number_in(words.get(at + 1))
+}
+
+/// The same, from 1.
+fn from_1(words: &[String], name: &str) -> Option<u32> {
+    let number = number_of(words, name)?;
+    (1 <= number).then_some(number)
+}
+
+fn writes_of(words: &[String]) -> Option<Plan> {
+    let writes = from_1(words, "--writes")?;
+    let readers = number_of(words, "--readers")?;
+    (readers <= 3).then_some(Plan::Writes { writes, readers })
+}
+
+fn pool_of(words: &[String]) -> Option<Plan> {
+    let threads = number_of(words, "--threads")?;
+    let buffers = from_1(words, "--buffers")?;
+    matches!(threads, 1 | 2 | 4).then_some(Plan::Pool { threads, buffers })
+}
+
+fn texts_of(words: &[String]) -> Option<Plan> {
+    let subject = match words.first()?.as_str() {
+        "script" => Subject::Script,
+        "capture" => Subject::Capture,
+        _ => return None,
+    };
+    let frames = number_in(words.get(1))?;
+    let length = number_in(words.get(2))? as usize;
+    let rounds = number_in(words.get(3))?;
+    let lawful = 1 <= frames && frames as usize <= MOST_SCRIPT_FRAMES && 1 <= rounds;
+    lawful.then_some(Plan::Texts(TextPlan {
+        subject,
+        frames,
+        length,
+        rounds,
+    }))
+}
+
+/// Reads the words after the program's name.
+pub fn plan_of(words: &[String]) -> Option<Plan> {
+    if words.len() == 2 {
+        if let Some(reads) = from_1(words, "--reads") {
+            return Some(Plan::Reads { reads });
+        }
+        let packets = from_1(words, "--packets")?;
+        return Some(Plan::Lists { packets });
+    }
+    if words.len() != 4 {
+        return None;
+    }
+    writes_of(words)
+        .or_else(|| pool_of(words))
+        .or_else(|| texts_of(words))
+}
+
+/// The nanoseconds of one of so many.
+pub fn each(spent: Duration, count: f64) -> f64 {
+    spent.as_secs_f64() * 1e9 / count
+}

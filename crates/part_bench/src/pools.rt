@@ -1,0 +1,42 @@
+//! What it costs to take a buffer from a pool and to give it back, and to take a packet from the front of a list.
+
+mod lists;
+mod timing;
+
+use crate::plan::each;
+use anyhow::Result;
+use lists::compared;
+use pool_uses::{BATCH, Manner};
+use std::alloc::Global;
+use std::rt::Clock;
+use std::sync::Wait;
+use std::thread::Threads;
+use timing::timed;
+
+/// Prints what a buffer costs.
+pub fn run_pool<R>(rt: &R, alloc: Global, threads: u32, buffers: u32) -> Result<()>
+where
+    R: Threads + Wait + Clock + Print + Sync,
+{
+    let batches = buffers.div_ceil(BATCH as u32);
+    let single = timed(rt, alloc, threads, buffers, Manner::Single)?;
+    let bulk = timed(rt, alloc, threads, batches, Manner::Bulk)?;
+    println!(rt; "threads {threads}")?;
+    println!(rt; "single ns/buffer {:.1}", each(single, f64::from(buffers)))?;
+    println!(rt;
+        "bulk ns/buffer {:.1}",
+        each(bulk, f64::from(batches) * 32.0)
+    )?;
+    Ok(())
+}
+
+/// Prints what a packet costs.
+pub fn run_lists<R: Clock + Print>(rt: &R, packets: u32) -> Result<()> {
+    let (lean, rows) = compared(rt, packets)?;
+    println!(rt; "packet ns/packet {:.1}", each(lean, f64::from(packets)))?;
+    println!(rt;
+        "row of buffers ns/packet {:.1}",
+        each(rows, f64::from(packets))
+    )?;
+    Ok(())
+}

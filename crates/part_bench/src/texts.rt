@@ -1,0 +1,72 @@
+//! How fast scripts and captures are read and written, and in how much memory.
+
+mod made;
+mod measured;
+mod subject;
+
+use crate::plan::{Subject, TextPlan};
+use anyhow::{Result, bail};
+use capture::Capture;
+use limits::{LEAST_FRAME, MOST_FRAME};
+use measured::{Costs, Speed, costs_of};
+use std::alloc::Global;
+use std::rt::Files;
+use std::time::CpuClock;
+use wire_script::Script;
+
+/// What is measured, as bytes.
+fn bytes_of(alloc: Global, plan: TextPlan) -> Result<Vec<u8>> {
+    if plan.length < LEAST_FRAME || plan.length > MOST_FRAME {
+        bail!("frames have {LEAST_FRAME} to {MOST_FRAME} bytes");
+    }
+    match plan.subject {
+        Subject::Script => made::script(alloc, plan.frames, plan.length),
+        Subject::Capture => made::capture(alloc, plan.frames, plan.length),
+    }
+}
+
+fn tell_size<R: Print>(rt: &R, plan: TextPlan, length: usize) -> Result<()> {
+    println!(rt;
+        "{}: {} frames, {length} bytes",
+        plan.subject.name(),
+        plan.frames
+    )?;
+    Ok(())
+}
+
+fn tell_memory<R: Print>(rt: &R, plan: TextPlan, grown: u64) -> Result<()> {
+    println!(rt; "memory: {grown} bytes {}", plan.subject.per_frame())?;
+    Ok(())
+}
+
+fn tell_speed<R: Print>(rt: &R, name: &str, speed: Speed) -> Result<()> {
+    println!(rt; "{name}: {} to {} MB/s", speed.slowest, speed.fastest)?;
+    Ok(())
+}
+
+/// What the text that these bytes say costs.
+fn costs<R: Files + CpuClock + AllocGlobal>(rt: &R, plan: TextPlan, bytes: &[u8]) -> Result<Costs> {
+    match plan.subject {
+        Subject::Script => costs_of::<R, Script>(rt, bytes, plan.rounds),
+        Subject::Capture => costs_of::<R, Capture<'_>>(rt, bytes, plan.rounds),
+    }
+}
+
+/// Measures on these bytes, and prints what it cost.
+fn measure<R: Files + CpuClock + Print + AllocGlobal>(
+    rt: &R,
+    plan: TextPlan,
+    bytes: &[u8],
+) -> Result<()> {
+    tell_size(rt, plan, bytes.len())?;
+    let costs = costs(rt, plan, bytes)?;
+    tell_memory(rt, plan, costs.grown.saturating_sub(plan.own()))?;
+    tell_speed(rt, "read", costs.read)?;
+    tell_speed(rt, "written", costs.written)
+}
+
+/// Makes what the plan says, and measures on it.
+pub fn run_texts<R: Files + CpuClock + Print + AllocGlobal>(rt: &R, plan: TextPlan) -> Result<()> {
+    let bytes = bytes_of(rt.alloc(), plan)?;
+    measure(rt, plan, bytes.as_slice())
+}

@@ -1,0 +1,4 @@
+//! Buffers, packets, stashes and stocks.
+
+mod packets;
+mod stocks;

@@ -1,0 +1,4 @@
+//! Counters that others read while workers run.
+
+mod rows;
+mod threads;

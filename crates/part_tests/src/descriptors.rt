@@ -1,0 +1,3 @@
+//! The four forms of descriptors.
+
+mod rows;

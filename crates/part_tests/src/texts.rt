@@ -1,0 +1,5 @@
+//! Scripts of frames, and captures.
+
+mod captures;
+mod scripts;
+mod written;

@@ -1,6 +1,0 @@
-use Rattle.std.proofs.Common.{◌≡◌}
-use Rattle.rx_ring.specs.Ends.{reclaimed}
-use Rattle.ring_tests.proofs.threads.hands.ask_for.Given as goal
-
-abbrev pub invariant-loop : goal.invariant-loop
-invariant-loop g l = record { own : l.driver.table ≡ l.ring; untouched : reclaimed l.driver ≡ reclaimed l.initial.driver }

@@ -1,0 +1,4 @@
+//! The running receive ring.
+
+mod calls;
+mod threads;

@@ -1,0 +1,312 @@
+//! Rows by calls, on one thread, in both completions.
+
+use crate::transmit::calls::both::{Both, Step, unposting};
+use crate::wanted::same;
+use ring_machine::SegmentDescriptor;
+use ring_model::{FetchedSegment, Note, TxStep};
+use std::alloc::Global;
+use std::process::Abort;
+use test_kit::{Beside, Tells, disable, enable, makes, told_so};
+use tx_ring::{Completion, ControllerEnd, DriverEnd, RingError, TxRing};
+
+const BOTH_WAYS: [Completion; 2] = [Completion::Status, Completion::Head];
+
+/// What a row does on a ring, or looks at.
+#[derive(Clone, Copy)]
+pub(crate) enum Act {
+    /// Makes a step that posts nothing.
+    Make(TxStep<()>),
+    /// Posts a whole frame of 60 bytes, with RS or without.
+    Post(bool),
+    /// Makes a report, as the ring's completion has it.
+    Report,
+    Enable,
+    Disable,
+    /// What is left to send.
+    Left,
+    /// Enables the queue, and posts and sends the frame with its words.
+    Words(Worded),
+    /// Lets the ends meet.
+    Meet,
+}
+
+/// What it tells.
+#[derive(Clone, Copy, PartialEq)]
+pub(crate) enum Told {
+    Yes,
+    No,
+    Note(Option<Note>),
+    Counts(Option<(u32, u32)>),
+}
+
+impl Told {
+    fn whether(holds: bool) -> Told {
+        if holds { Told::Yes } else { Told::No }
+    }
+}
+
+/// A posting of so many bytes.
+fn posting(len: u16, eop: bool, rs: bool, paylen: u16) -> Step {
+    SegmentDescriptor::new(0, len, eop, rs, paylen).map_or(TxStep::ClearTail, TxStep::Post)
+}
+
+/// Whether a report tells what it should: a place, or a head.
+fn is_reported(both: &mut Both) -> bool {
+    let wanted = match both.completion {
+        Completion::Status => Note::Place(0),
+        Completion::Head => Note::Head(0),
+    };
+    both.call(TxStep::Report) == Some(wanted)
+}
+
+impl Tells for Both {
+    type Step = Act;
+
+    type Told = Told;
+
+    fn make(&mut self, act: Act) -> Told {
+        match act {
+            Act::Make(step) => Told::Note(self.call(unposting(step))),
+            Act::Post(rs) => Told::Note(self.call(posting(60, true, rs, 60))),
+            Act::Report => Told::whether(is_reported(self)),
+            Act::Enable => Told::whether(enable(self)),
+            Act::Disable => Told::whether(disable(self)),
+            Act::Left => Told::Counts(self.left()),
+            Act::Words(frame) => Told::whether(has_words(self, &frame)),
+            Act::Meet => {
+                self.meet();
+                Told::Yes
+            }
+        }
+    }
+}
+
+/// What is done on a new ring, and what it has to tell.
+type Row = (Act, Told);
+
+/// How many rows told what they should before the first that didn't. It is generic, since an owner of a queue is dear to
+/// prove.
+fn walked<B: Tells<Step = Act, Told = Told> + Drop>(mut both: B, rows: &[Row]) -> usize {
+    told_so(&mut both, rows)
+}
+
+/// On a new ring of so many places each row tells what it should, in both completions.
+fn come_out<R: Abort>(rt: &R, alloc: Global, n: u32, rows: &[Row]) {
+    for completion in BOTH_WAYS {
+        let told = walked(Both::new(rt, alloc, n, completion), rows);
+        same(rt, told, rows.len());
+    }
+}
+
+/// The step can't be made.
+const NOTHING: Told = Told::Note(None);
+
+/// A frame of 60 bytes in the buffer of this number is to be sent, with RS or without.
+macro_rules! sending {
+    ($buffer:expr, $rs:expr) => {
+        Told::Note(Some(Note::Sending(
+            0,
+            FetchedSegment {
+                buffer: $buffer,
+                len: 60,
+                eop: true,
+                rs: $rs,
+            },
+        )))
+    };
+}
+
+/// A frame that asks for a report is sent, and cleaned once the report is made.
+const ONE: &[Row] = &[
+    (Act::Enable, Told::Yes),
+    (Act::Post(true), Told::Note(Some(Note::Place(0)))),
+    (Act::Make(TxStep::Publish), Told::Note(Some(Note::Tail(0)))),
+    (Act::Make(TxStep::LoadReport), NOTHING),
+    (Act::Make(TxStep::Look), Told::Note(Some(Note::Ready(1)))),
+    (Act::Make(TxStep::Fetch), sending!(31, true)),
+    (Act::Make(TxStep::Send), Told::Note(Some(Note::Head(0)))),
+    (Act::Make(TxStep::LoadReport), NOTHING),
+    (Act::Report, Told::Yes),
+    (
+        Act::Make(TxStep::LoadReport),
+        Told::Note(Some(Note::Reported(Some(0)))),
+    ),
+    (Act::Make(TxStep::Clean), Told::Note(Some(Note::Buffer(31)))),
+    (Act::Meet, Told::Yes),
+];
+
+/// Of two frames the first asks for no report: that of the second covers it.
+const TWO: &[Row] = &[
+    (Act::Enable, Told::Yes),
+    (Act::Post(false), Told::Note(Some(Note::Place(0)))),
+    (Act::Post(true), Told::Note(Some(Note::Place(0)))),
+    (Act::Make(TxStep::Publish), Told::Note(Some(Note::Tail(0)))),
+    (Act::Make(TxStep::Look), Told::Note(Some(Note::Ready(2)))),
+    (Act::Make(TxStep::Fetch), sending!(31, false)),
+    (Act::Make(TxStep::Send), Told::Note(Some(Note::Head(0)))),
+    (Act::Make(TxStep::Report), NOTHING),
+    (Act::Make(TxStep::Fetch), sending!(30, true)),
+    (Act::Make(TxStep::Send), Told::Note(Some(Note::Head(0)))),
+    (Act::Make(TxStep::Clean), NOTHING),
+    (Act::Report, Told::Yes),
+    (
+        Act::Make(TxStep::LoadReport),
+        Told::Note(Some(Note::Reported(Some(0)))),
+    ),
+    (Act::Make(TxStep::LoadReport), NOTHING),
+    (Act::Make(TxStep::Clean), Told::Note(Some(Note::Buffer(31)))),
+    (Act::Make(TxStep::Clean), Told::Note(Some(Note::Buffer(30)))),
+    (Act::Make(TxStep::Clean), NOTHING),
+    (Act::Meet, Told::Yes),
+];
+
+#[test]
+fn reports(rt: HostRuntime) {
+    come_out(&rt, rt.alloc(), 8, ONE);
+    come_out(&rt, rt.alloc(), 8, TWO)
+}
+
+/// Three frames are posted without RS, and the first is sent: two are left, three buffers come back, and nothing else can be
+/// done.
+const TWO_LEFT: &[Row] = &[
+    (Act::Enable, Told::Yes),
+    (Act::Post(false), Told::Note(Some(Note::Place(0)))),
+    (Act::Post(false), Told::Note(Some(Note::Place(0)))),
+    (Act::Post(false), Told::Note(Some(Note::Place(0)))),
+    (Act::Make(TxStep::Publish), Told::Note(Some(Note::Tail(0)))),
+    (Act::Make(TxStep::Look), Told::Note(Some(Note::Ready(3)))),
+    (Act::Make(TxStep::Fetch), sending!(31, false)),
+    (Act::Make(TxStep::Send), Told::Note(Some(Note::Head(0)))),
+    (Act::Disable, Told::Yes),
+    (Act::Left, Told::Counts(Some((2, 2)))),
+    (Act::Make(TxStep::LoadReport), NOTHING),
+    (Act::Make(TxStep::Look), NOTHING),
+    (
+        Act::Make(TxStep::Reclaim),
+        Told::Note(Some(Note::Buffer(31))),
+    ),
+    (
+        Act::Make(TxStep::Reclaim),
+        Told::Note(Some(Note::Buffer(30))),
+    ),
+    (
+        Act::Make(TxStep::Reclaim),
+        Told::Note(Some(Note::Buffer(29))),
+    ),
+    (Act::Make(TxStep::Reclaim), NOTHING),
+    (Act::Meet, Told::Yes),
+];
+
+#[test]
+fn two_are_left_of_three(rt: HostRuntime) {
+    come_out(&rt, rt.alloc(), 8, TWO_LEFT)
+}
+
+/// A frame, and the second words of its descriptors as they are fetched.
+#[derive(Clone, Copy)]
+pub(crate) struct Worded {
+    paylen: u16,
+    /// How many full segments of 1,024 bytes it begins with, and the word of each.
+    full: u16,
+    word: u64,
+    /// The bytes of its last segment, and the word of that.
+    len: u16,
+    last: u64,
+}
+
+/// Posts the frame on an enabled queue and publishes it, which can't be done before its last segment: whether that is so.
+fn posts(both: &mut Both, frame: &Worded) -> bool {
+    for _ in 0..frame.full {
+        both.call(posting(1_024, false, false, frame.paylen));
+    }
+    let is_begun = both.call(TxStep::Publish).is_none();
+    both.call(posting(frame.len, true, true, frame.paylen));
+    is_begun && makes(both, &[TxStep::Publish, TxStep::Look])
+}
+
+/// Sends the frame: whether the words are these.
+fn sends_words(both: &mut Both, frame: &Worded) -> bool {
+    for _ in 0..frame.full {
+        if !makes(both, &[TxStep::Fetch, TxStep::Send]) || both.word != frame.word {
+            return false;
+        }
+    }
+    makes(both, &[TxStep::Fetch, TxStep::Send, TxStep::Report]) && both.word == frame.last
+}
+
+/// Whether the frame is posted and sent with these words, and none is ready then.
+fn has_words(both: &mut Both, frame: &Worded) -> bool {
+    enable(both) && posts(both, frame) && sends_words(both, frame) && both.controller.ready() == 0
+}
+
+const SHORT: &[Row] = &[(
+    Act::Words(Worded {
+        paylen: 2_500,
+        full: 2,
+        word: 0x0271_0000_2230_0400,
+        len: 452,
+        last: 0x0271_0000_2b30_01c4,
+    }),
+    Told::Yes,
+)];
+
+const LONG: &[Row] = &[(
+    Act::Words(Worded {
+        paylen: 15_000,
+        full: 14,
+        word: 0x0ea6_0000_2230_0400,
+        len: 664,
+        last: 0x0ea6_0000_2b30_0298,
+    }),
+    Told::Yes,
+)];
+
+#[test]
+fn second_words_are_those_of_the_datasheet(rt: HostRuntime) {
+    come_out(&rt, rt.alloc(), 16, SHORT);
+    come_out(&rt, rt.alloc(), 16, LONG)
+}
+
+/// The sizes of a new ring's ends, and the room in it. Of no completion it is one that is made without a word on how it
+/// reports.
+fn sizes(alloc: Global, n: u32, completion: Option<Completion>) -> Result<[u32; 3], RingError> {
+    let made = match completion {
+        Some(completion) => TxRing::new_with(alloc, n, completion),
+        None => TxRing::new(alloc, n),
+    };
+    let (_ring, driver, controller) = made?;
+    Ok([driver.size(), controller.size(), driver.room()])
+}
+
+const LAWFUL: &[u32] = &[8, 16, 32, 64, 128, 256, 512, 1_024, 2_048, 4_096];
+
+/// A ring of such a length is made.
+fn is_made<R: Abort>(rt: &R, alloc: Global, n: u32, completion: Option<Completion>) {
+    let told = sizes(alloc, n, completion);
+    same(rt, told, Ok([n, n, n.wrapping_sub(1)]));
+}
+
+#[test]
+fn lawful_lengths_are_made(rt: HostRuntime) {
+    for n in LAWFUL {
+        is_made(&rt, rt.alloc(), *n, Some(Completion::Status));
+        is_made(&rt, rt.alloc(), *n, Some(Completion::Head));
+        is_made(&rt, rt.alloc(), *n, None);
+    }
+}
+
+const UNLAWFUL: &[u32] = &[0, 4, 7, 9, 12, 4_097, 8_192, u32::MAX];
+
+/// A ring of such a length is refused.
+fn is_refused<R: Abort>(rt: &R, alloc: Global, n: u32, completion: Completion) {
+    let told = sizes(alloc, n, Some(completion));
+    same(rt, (n, told), (n, Err(RingError::RingLength)));
+}
+
+#[test]
+fn other_lengths_are_refused(rt: HostRuntime) {
+    for n in UNLAWFUL {
+        is_refused(&rt, rt.alloc(), *n, Completion::Status);
+        is_refused(&rt, rt.alloc(), *n, Completion::Head);
+    }
+}

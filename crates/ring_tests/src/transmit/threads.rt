@@ -1,0 +1,320 @@
+//! Threads that really run over one ring of 8, in both completions.
+ghost use Rattle.std.specs.Prelude.{◌≡◌};
+
+mod hands;
+
+use crate::wanted::{holds, same};
+use buffer_pool::{Buf, Stash};
+use hands::{Passed, ask_for, drain, fetch, left, renew, serve, transmit};
+use std::alloc::Global;
+use std::process::Abort;
+use std::sync::Wait;
+use std::thread;
+use std::thread::Threads;
+use test_kit::{Closed, full_stash};
+use tx_ring::{Completion, Control, TxControllerEnd, TxDriverEnd, TxRing, close, meet_tx};
+
+/// How many frames are posted in one epoch; the last asks for a report.
+const FRAMES: u32 = 300;
+
+/// What the two threads do.
+#[derive(Clone, Copy)]
+enum Plan {
+    /// So many epochs, in each of which the driver waits until so many frames are cleaned.
+    Epochs(u32, u32),
+    /// The queue is not disabled: so many frames are posted, sent, and cleaned.
+    On(u32, u32, u32),
+}
+
+/// A driver's end with the buffers at hand, and what its thread has to tell.
+#[derive(Drop)]
+struct Driving {
+    end: TxDriverEnd,
+    spare: Stash,
+    /// The frames whose buffers came back by cleaning, and then by reclaiming, in all epochs.
+    back: Passed,
+    /// How many were not sent in all epochs, if each told it.
+    left: Option<u32>,
+}
+
+/// A controller's end with the buffer that it holds, and what it sent in all.
+#[derive(Drop)]
+struct Serving {
+    end: TxControllerEnd,
+    held: Option<Buf>,
+    sent: Passed,
+}
+
+/// The sum of both numbers, if both are told.
+fn sum_of(before: Option<u32>, more: Option<u32>) -> Option<u32> {
+    Some(before?.saturating_add(more?))
+}
+
+/// The driver's side of one epoch of so many frames; it waits until all are cleaned, or leaves the rest to the disabling.
+fn epoch<R: Wait>(rt: &R, ring: &TxRing, side: &mut Driving, waits_for: u32)
+    requires { side.old.end.table ≡ ring.now }
+    ensures { side.new.end.table ≡ ring.now }
+{
+    let (driver, spare) = (&mut side.end, &mut side.spare);
+    ask_for(rt, ring, driver, Control::Enabled);
+    let mut back = transmit(rt, ring, driver, spare, FRAMES);
+    drain(rt, ring, driver, spare, &mut back, waits_for);
+    ask_for(rt, ring, driver, Control::Disabled);
+    side.left = sum_of(side.left, left(ring, driver));
+    renew(ring, driver, spare, &mut back);
+    side.back = side.back.then(back);
+}
+
+/// The driver's side of so many epochs.
+fn drive_epochs<R: Wait>(rt: &R, ring: &TxRing, side: &mut Driving, epochs: u32, waits_for: u32)
+    requires { side.old.end.table ≡ ring.now }
+    ensures { side.new.end.table ≡ ring.now }
+{
+    for _ in 0..epochs {
+        epoch(rt, ring, side, waits_for);
+    }
+}
+
+/// The driver's side of a queue that nobody disables: it posts so many frames, and cleans so many.
+fn drive_on<R: Wait>(rt: &R, ring: &TxRing, side: &mut Driving, posts: u32, cleans: u32)
+    requires { side.old.end.table ≡ ring.now }
+    ensures { side.new.end.table ≡ ring.now }
+{
+    let (driver, spare) = (&mut side.end, &mut side.spare);
+    ask_for(rt, ring, driver, Control::Enabled);
+    let mut cleaned = transmit(rt, ring, driver, spare, posts);
+    drain(rt, ring, driver, spare, &mut cleaned, cleans);
+    side.back = cleaned;
+}
+
+/// The driver's side of the plan.
+fn drive<R: Wait>(rt: &R, ring: &TxRing, mut side: Driving, plan: Plan) -> Driving
+    requires { side.end.table ≡ ring.now }
+    ensures { result.end.table ≡ ring.now }
+{
+    match plan {
+        Plan::Epochs(epochs, waits_for) => drive_epochs(rt, ring, &mut side, epochs, waits_for),
+        Plan::On(posts, _, cleans) => drive_on(rt, ring, &mut side, posts, cleans),
+    }
+    side
+}
+
+/// The controller's side of so many epochs: what it sent in all.
+fn control_epochs<R: Wait>(
+    rt: &R,
+    ring: &TxRing,
+    controller: &mut TxControllerEnd,
+    epochs: u32,
+) -> Passed
+    requires { controller.old.table ≡ ring.now }
+    ensures { controller.new.table ≡ ring.now }
+{
+    let mut sent = Passed::NONE;
+    for _ in 0..epochs {
+        sent = sent.then(serve(rt, ring, controller, u32::MAX));
+    }
+    sent
+}
+
+/// Fetches a buffer as soon as one is ready.
+fn fetch_when_ready<R: Wait>(rt: &R, ring: &TxRing, controller: &mut TxControllerEnd) -> Buf
+    requires { controller.old.table ≡ ring.now }
+    ensures { controller.new.table ≡ ring.now }
+{
+    for _ in rt.forever() {
+        if let Some((held, _)) = fetch(ring, controller) {
+            return held;
+        }
+        thread::yield_now();
+    }
+    unreachable!()
+}
+
+/// The controller's side of the plan: where not all are sent, it holds one buffer more.
+fn control<R: Wait>(rt: &R, ring: &TxRing, mut side: Serving, plan: Plan) -> Serving
+    requires { side.end.table ≡ ring.now }
+    ensures { result.end.table ≡ ring.now }
+{
+    match plan {
+        Plan::Epochs(epochs, _) => side.sent = control_epochs(rt, ring, &mut side.end, epochs),
+        Plan::On(posts, sends, _) => {
+            side.sent = serve(rt, ring, &mut side.end, sends);
+            if sends < posts {
+                side.held = Some(fetch_when_ready(rt, ring, &mut side.end));
+            }
+        }
+    }
+    side
+}
+
+/// What the closed ring gave back.
+#[derive(Clone, Copy)]
+struct Back {
+    /// How many buffers lay in the ring.
+    lying: usize,
+    /// How many were at hand.
+    at_hand: usize,
+    /// Whether the controller held one.
+    held: bool,
+    /// Whether each came back once.
+    is_whole: bool,
+}
+
+impl Back {
+    fn of(closed: Closed) -> Back {
+        Back {
+            lying: closed.lying(),
+            at_hand: closed.spare.len(),
+            held: closed.held.is_some(),
+            is_whole: closed.has_each_once(16),
+        }
+    }
+}
+
+/// What both threads came to: what was sent, how many frames were not, what came back to the driver, and what the closed
+/// ring gave back.
+#[derive(Clone, Copy)]
+struct Ran {
+    sent: Passed,
+    left: Option<u32>,
+    back: Passed,
+    closed: Back,
+}
+
+/// Each side of the plan in a thread of its own.
+fn join_both<R: Threads + Wait + Sync>(
+    rt: &R,
+    ring: &TxRing,
+    serving: Serving,
+    driving: Driving,
+    plan: Plan,
+) -> (Serving, Driving)
+    requires serves { serving.end.table ≡ ring.now }
+    requires drives { driving.end.table ≡ ring.now }
+    ensures serves { result.0.end.table ≡ ring.now }
+    ensures drives { result.1.end.table ≡ ring.now }
+{
+    thread::join(
+        rt,
+        || control(rt, ring, serving, plan),
+        || drive(rt, ring, driving, plan),
+    )
+}
+
+/// Lets the ends meet.
+fn meet(ring: &TxRing, serving: &mut Serving, driving: &mut Driving)
+    requires serves { serving.old.end.table ≡ ring.now }
+    requires drives { driving.old.end.table ≡ ring.now }
+    ensures serves { serving.new.end.table ≡ ring.now }
+    ensures drives { driving.new.end.table ≡ ring.now }
+{
+    meet_tx(ring, &mut driving.end, &mut serving.end);
+}
+
+/// Closes the ring.
+fn close_both(ring: TxRing, serving: Serving, driving: Driving) -> Ran
+    requires serves { serving.end.table ≡ ring }
+    requires drives { driving.end.table ≡ ring }
+{
+    let (sent, left, back) = (serving.sent, driving.left, driving.back);
+    let slots = close(ring, driving.end, serving.end);
+    Ran {
+        sent,
+        left,
+        back,
+        closed: Back::of(Closed::of(slots, driving.spare, serving.held)),
+    }
+}
+
+/// Both sides of a new ring of 8 and 16 buffers, each in a thread of its own until both are done; then the ends meet, and
+/// the ring is closed.
+fn run<R: Threads + Wait + Sync + Abort>(
+    rt: &R,
+    alloc: Global,
+    completion: Completion,
+    plan: Plan,
+) -> Ran {
+    let spare = full_stash(alloc, 16).expect(rt, "buffers");
+    let (ring, driver, controller) = TxRing::new_with(alloc, 8, completion).expect(rt, "a ring");
+    let driving = Driving {
+        end: driver,
+        spare,
+        back: Passed::NONE,
+        left: Some(0),
+    };
+    let serving = Serving {
+        end: controller,
+        held: None,
+        sent: Passed::NONE,
+    };
+    let (mut serving, mut driving) = join_both(rt, &ring, serving, driving, plan);
+    meet(&ring, &mut serving, &mut driving);
+    close_both(ring, serving, driving)
+}
+
+/// In ten epochs the queue is disabled while frames are sent.
+fn stops_while_running<R: Threads + Wait + Sync + Abort>(
+    rt: &R,
+    alloc: Global,
+    completion: Completion,
+) {
+    let ran = run(rt, alloc, completion, Plan::Epochs(10, 0));
+    let Passed { count, good } = ran.sent;
+    same(rt, good, count);
+    same(rt, ran.left, (10 * FRAMES).checked_sub(count));
+    holds(rt, ran.left.is_some());
+    same(rt, (ran.back.good, ran.closed.lying), (10 * FRAMES, 0));
+}
+
+#[test]
+fn stop_while_running(rt: HostRuntime) {
+    stops_while_running(&rt, rt.alloc(), Completion::Status);
+    stops_while_running(&rt, rt.alloc(), Completion::Head)
+}
+
+/// In three epochs all is sent and cleaned.
+fn sends_all<R: Threads + Wait + Sync + Abort>(rt: &R, alloc: Global, completion: Completion) {
+    let ran = run(rt, alloc, completion, Plan::Epochs(3, FRAMES));
+    same(rt, (ran.sent.good, ran.back.good), (3 * FRAMES, 3 * FRAMES));
+    same(rt, ran.left, Some(0));
+    holds(rt, ran.closed.is_whole);
+}
+
+#[test]
+fn three_epochs(rt: HostRuntime) {
+    sends_all(&rt, rt.alloc(), Completion::Status);
+    sends_all(&rt, rt.alloc(), Completion::Head)
+}
+
+/// The last frame asks for no report.
+fn leaves_one<R: Threads + Wait + Sync + Abort>(rt: &R, alloc: Global, completion: Completion) {
+    let ran = run(rt, alloc, completion, Plan::On(1_000, 1_000, 999));
+    let told = (ran.sent.good, ran.back.good, ran.closed.lying);
+    same(rt, told, (1_000, 999, 1));
+}
+
+#[test]
+fn two_threads_tx(rt: HostRuntime) {
+    leaves_one(&rt, rt.alloc(), Completion::Status);
+    leaves_one(&rt, rt.alloc(), Completion::Head)
+}
+
+/// A queue that nobody disables is closed with a buffer that its controller holds.
+fn is_closed<R: Threads + Wait + Sync + Abort>(rt: &R, alloc: Global, completion: Completion) {
+    let ran = run(rt, alloc, completion, Plan::On(40, 37, 36));
+    same(rt, (ran.sent.good, ran.back.good), (37, 36));
+    let Back {
+        lying,
+        at_hand,
+        held,
+        is_whole,
+    } = ran.closed;
+    same(rt, (at_hand, lying, held), (12, 3, true));
+    holds(rt, is_whole);
+}
+
+#[test]
+fn closed(rt: HostRuntime) {
+    is_closed(&rt, rt.alloc(), Completion::Status);
+    is_closed(&rt, rt.alloc(), Completion::Head)
+}

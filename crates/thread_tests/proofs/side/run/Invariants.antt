@@ -1,4 +1,0 @@
-use Rattle.thread_tests.proofs.side.run.Given as goal
-
-abbrev pub invariant-loop : goal.invariant-loop
-invariant-loop g l = g.S.Side.is_of l.shared l.side

@@ -1,0 +1,123 @@
+//! A watcher: a thread of its own reads what a flow was offered so far, while the forwarder runs.
+ghost use Rattle.std.specs.Prelude.{◌≡◌, ◌*◌, [], ◌∷◌, IfOk, length};
+ghost use Rattle.counters.specs.Paired.{ArePaired, IsFresh};
+
+use crate::outcome::both;
+use anyhow::Result;
+use counters::{CounterError, DriveCell, FlowCells, FlowPens, Offered, StatCell, StatPass};
+use forwarder::{Config, Report, forward_watched};
+use forwarding::{ForwardError, Open};
+use std::alloc::{AllocError, Global};
+use std::sync::Wait;
+use std::thread;
+use std::thread::Threads;
+use wire_script::{Script, parse};
+
+/// How often the watcher reads at most.
+const READS: u32 = 10_000_000;
+
+/// What was last seen of a flow, and how many of its frames went out.
+#[derive(Clone, Copy, Debug)]
+pub struct Seen {
+    pub offered: Offered,
+    pub sent: usize,
+}
+
+/// The cells of one flow, their pens, and a pass by which the first cell is read.
+fn cells_of_one(alloc: Global) -> Result<(FlowCells, FlowPens, StatPass), CounterError>
+    ensures pens { IfOk result (λ made. IsFresh made.0 made.1) }
+    ensures pass { IfOk result (λ made. made.2.cell ≡ made.0.stat) }
+{
+    let (stat, stat_pen, pass) = StatCell::new(alloc)?;
+    let (drive, drive_pen, _) = DriveCell::new(alloc)?;
+    let pens = FlowPens {
+        stat: stat_pen,
+        drive: drive_pen,
+    };
+    Ok((FlowCells { stat, drive }, pens, pass))
+}
+
+/// Reads until so many frames were offered. No number that it reads is below one that it read before.
+fn watch<R: Wait>(rt: &R, cell: &StatCell, mut pass: StatPass, count: u64) -> Offered
+    requires own { pass.cell ≡ cell.now }
+{
+    let mut seen = cell.read(rt, &mut pass);
+    for _ in 0..READS {
+        if seen.offered == count {
+            break;
+        }
+        thread::yield_now();
+        seen = cell.read(rt, &mut pass);
+    }
+    seen
+}
+
+/// Forwards a script while another thread watches the cell of a flow.
+fn run<R: Threads + Wait + Sync>(
+    rt: &R,
+    alloc: Global,
+    script: &Script,
+    config: &Config,
+    cells: &[FlowCells],
+    pens: Vec<FlowPens>,
+    shown: &StatCell,
+    pass: StatPass,
+    count: u64,
+) -> Result<Seen, ForwardError>
+    requires cells { length cells.now ≡ 2 * config.now.pairs }
+    requires pens { ArePaired cells.now pens.items }
+    requires own { pass.cell ≡ shown.now }
+{
+    let (ran, offered) = thread::join(
+        rt,
+        move || -> Result<(Report, Vec<FlowPens>), ForwardError>
+            requires { (length cells.now ≡ 2 * config.now.pairs) × ArePaired cells.now pens.items }
+        { forward_watched(rt, alloc, script, config, &Open, cells, pens) },
+        || watch(rt, shown, pass, count),
+    );
+    let (report, _) = ran?; // and the pens, which wrote last what the report says
+    let sent = report.flows.first().map_or(0, |flow| flow.wire.len());
+    Ok(Seen { offered, sent })
+}
+
+/// Forwards a script with so many frames of flow 0, and answers what was last seen of them, and how many went out.
+pub fn watched<R: Threads + Wait + Sync>(
+    rt: &R,
+    alloc: Global,
+    text: &[u8],
+    count: u64,
+) -> Result<Seen> {
+    let script = parse(alloc, text)?;
+    let seen = watched_script(rt, alloc, &script, count);
+    drop(script);
+    seen
+}
+
+/// The same of a script that is read, with the cells of two flows.
+fn watched_script<R: Threads + Wait + Sync>(
+    rt: &R,
+    alloc: Global,
+    script: &Script,
+    count: u64,
+) -> Result<Seen> {
+    let (first, second) = both(cells_of_one(alloc), cells_of_one(alloc))?;
+    let (first, first_pens, pass) = first;
+    let (second, second_pens, _) = second;
+    let cells = two(alloc, first, second);
+    let pens = two(alloc, first_pens, second_pens);
+    let (cells, pens) = both(cells, pens)?;
+    let (config, shown) = (Config::default(), &cells[0].stat);
+    let seen = run(rt, alloc, script, &config, &cells, pens, shown, pass, count);
+    drop(cells);
+    Ok(seen?)
+}
+
+/// A list of two.
+fn two<T: Drop>(alloc: Global, first: T, second: T) -> Result<Vec<T>, AllocError>
+    ensures { IfOk result (λ list. list.items ≡ first ∷ second ∷ []) }
+{
+    let mut list = Vec::new(alloc);
+    list.push(first)?;
+    list.push(second)?;
+    Ok(list)
+}
