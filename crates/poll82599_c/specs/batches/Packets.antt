@@ -7,6 +7,7 @@ use Rattle.driver.specs.declared.rx_driver.TheConstants.{MOST_BATCH}
 use Rattle.limits.specs.declared.profile.TheConstants.{BUFFER_BYTES}
 use Rattle.ring_model.specs.shared.Frames.{Bytes, HasFrameLength}
 use Rattle.poll82599_c.specs.Stashes.{AreBuffers}
+use Rattle.poll82599_c.specs.declared.call.Poll82599Packet.{Poll82599Packet}
 use Rattle.poll82599_c.specs.Held.{Of, There}
 
 -- A worker's empty buffers, by their numbers, the next one to be taken first; and the packets that it has, the oldest first
@@ -140,3 +141,30 @@ pub record Counted (packets buffers : ℕ) (old new : Worked) : Type 0 where
   pub packets_are : packets ≡ length old.packets
   pub buffers_are : buffers ≡ length old.stash
   pub same : new ≡ old
+
+-- 1: it was replaced; 0: there is none
+abbrev pub TriedTouch : ℕ → ℕ → ℕ → ℕ → Worked → Worked → Type 0
+TriedTouch zero i at byte old new = HasNoByte i at old.packets × (new ≡ old)
+TriedTouch (suc zero) i at byte old new = WroteByte i at byte old new
+TriedTouch _ i at byte old new = ⊥
+
+-- 1: it is gone; 0: there is none; 2: the stash has no room for its buffers
+abbrev pub TriedRelease : ℕ → ℕ → Worked → Worked → Type 0
+TriedRelease zero i old new = IsAbsent i old × (new ≡ old)
+TriedRelease (suc zero) i old new = Released i old new
+TriedRelease (suc (suc zero)) i old new = IsCrowded i old × (new ≡ old)
+TriedRelease _ i old new = ⊥
+
+-- 1: these were counted
+abbrev pub TriedCount : ℕ → ℕ → ℕ → Worked → Worked → Type 0
+TriedCount (suc zero) packets buffers old new = Counted packets buffers old new
+TriedCount _ packets buffers old new = ⊥
+
+-- the step of an operation, by its number, with what was asked and what is told; the room changes only where a packet is copied
+abbrev pub Handled : ℕ → Poll82599Packet → Poll82599Packet → Bytes → Bytes → Worked → Worked → Type 0
+Handled zero asked told before after old new = TriedCopy told.answer asked.packet told.len before after old new
+Handled (suc zero) asked told before after old new = TriedRead told.answer asked.packet asked.at told.byte old new × (after ≡ before)
+Handled (suc (suc zero)) asked told before after old new = TriedTouch told.answer asked.packet asked.at asked.byte old new × (after ≡ before)
+Handled (suc (suc (suc zero))) asked told before after old new = TriedRelease told.answer asked.packet old new × (after ≡ before)
+Handled (suc (suc (suc (suc zero)))) asked told before after old new = TriedCount told.answer told.packet told.len old new × (after ≡ before)
+Handled _ asked told before after old new = (told.answer ≡ 4294967295) × (new ≡ old) × (after ≡ before)

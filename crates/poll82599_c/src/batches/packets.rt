@@ -1,10 +1,10 @@
 //! A worker's buffers: those that are empty, and the packets that it has.
-ghost use Rattle.std.specs.Prelude.{◌≡◌, ◌≢◌, ◌+◌, ◌*◌, ◌<◌, ◌≤◌, ◌++◌, ◌⊎◌, true, false, [], length, reverse, Some, IfErr, IfOk};
+ghost use Rattle.std.specs.Prelude.{◌≡◌, ◌+◌, ◌*◌, ◌<◌, ◌≤◌, ◌++◌, ◌⊎◌, true, false, [], length, reverse, Some, IfErr, IfOk};
 ghost use Rattle.poll82599_c.specs.Handles.{as_packets};
 ghost use Rattle.buffer_pool.specs.declared.stash.TheConstants.{STASH_BUFFERS};
 ghost use Rattle.limits.specs.declared.profile.TheConstants.{BUFFER_BYTES, MOST_SEGMENTS};
 ghost use Rattle.ring_model.specs.shared.Frames.{HasFrameLength};
-ghost use Rattle.poll82599_c.specs.batches.Packets.{HasNoByte, IsAbsent, IsCrowded, IsMade, Packed, Pushed, Released, SetIn, TriedCopy, TriedPut, TriedRead, WroteByte, numbers_of};
+ghost use Rattle.poll82599_c.specs.batches.Packets.{HasNoByte, IsMade, Packed, Pushed, SetIn, TriedCopy, TriedPut, TriedRead, TriedRelease, TriedTouch, numbers_of};
 
 use crate::batches::found::Found;
 use crate::end::End;
@@ -98,9 +98,7 @@ impl Packets {
 
     /// Puts a byte into packet `i`, in place of the one that stood there: 1; 0 where there is no such packet or byte.
     pub(crate) fn touch(&mut self, i: usize, at: usize, byte: u8) -> u32
-        ensures step { (result ≡ 1) → WroteByte i at byte self.old self.new }
-        ensures absent { (result ≢ 1) → HasNoByte i at self.old.packets }
-        ensures kept { (result ≢ 1) → self.new ≡ self.old }
+        ensures step { TriedTouch result i at byte self.old self.new }
     {
         if set_in(self.list.as_mut_slice(), i, at, byte) {
             return 1;
@@ -111,11 +109,7 @@ impl Packets {
     /// Lets packet `i` go, and has its buffers in the stash again: 1; 0 where there is no such packet; 2 where the stash has no
     /// room for them.
     pub(crate) fn release(&mut self, i: usize) -> u32
-        ensures step { (result ≡ 1) → Released i self.old self.new }
-        ensures absent { (result ≡ 0) → IsAbsent i self.old }
-        ensures crowded { (result ≡ 2) → IsCrowded i self.old }
-        ensures answers { result ≤ 2 }
-        ensures kept { (result ≢ 1) → self.new ≡ self.old }
+        ensures step { TriedRelease result i self.old self.new }
     {
         if self.list.len() <= i {
             return 0;

@@ -1,8 +1,8 @@
 //! The exports of a worker's packets.
 ghost use Rattle.std.specs.Prelude.{◌≡◌, ◌≢◌, ◌<◌, ◌⊎◌, None, IsSome, pos};
 ghost use Rattle.poll82599_c.specs.Handles.{as_packets};
-ghost use Rattle.poll82599_c.specs.Held.{Between, Of};
-ghost use Rattle.poll82599_c.specs.batches.Packets.{Counted, HadPackets, HasNoByte, IsAbsent, IsCrowded, IsMade, Released, TriedCopy, TriedPut, TriedRead, WroteByte};
+ghost use Rattle.poll82599_c.specs.Held.{Between};
+ghost use Rattle.poll82599_c.specs.batches.Packets.{HadPackets, Handled, IsMade, TriedPut};
 
 use crate::batches::packets::make;
 use crate::call::{NO_OPERATION, Poll82599Packet};
@@ -55,15 +55,7 @@ pub extern "C" fn poll82599_packets_do(
 )
     requires { IsSome packets.old.held }
     ensures other { as_packets packets.old.held ≡ None → (call.new.answer ≡ 4294967295) × (packets.new.held ≡ packets.old.held) × (room.new ≡ room.old) }
-    ensures copied { (call.old.operation ≡ 0) → Between (TriedCopy call.new.answer call.old.packet call.new.len room.old room.new) (as_packets packets.old.held) (as_packets packets.new.held) }
-    ensures read { (call.old.operation ≡ 1) → Between (TriedRead call.new.answer call.old.packet call.old.at call.new.byte) (as_packets packets.old.held) (as_packets packets.new.held) }
-    ensures touched { (call.old.operation ≡ 2) → (call.new.answer ≡ 1) → Between (WroteByte call.old.packet call.old.at call.old.byte) (as_packets packets.old.held) (as_packets packets.new.held) }
-    ensures untouched { (call.old.operation ≡ 2) → (call.new.answer ≢ 1) → Of (λ w. HasNoByte call.old.packet call.old.at w.packets) (as_packets packets.old.held) }
-    ensures released { (call.old.operation ≡ 3) → (call.new.answer ≡ 1) → Between (Released call.old.packet) (as_packets packets.old.held) (as_packets packets.new.held) }
-    ensures gone { (call.old.operation ≡ 3) → (call.new.answer ≡ 0) → Of (IsAbsent call.old.packet) (as_packets packets.old.held) }
-    ensures crowded { (call.old.operation ≡ 3) → (call.new.answer ≢ 0) → (call.new.answer ≢ 1) → Of (IsCrowded call.old.packet) (as_packets packets.old.held) }
-    ensures counted { (call.old.operation ≡ 4) → Between (Counted call.new.packet call.new.len) (as_packets packets.old.held) (as_packets packets.new.held) }
-    ensures room { (call.old.operation ≢ 0) → room.new ≡ room.old }
+    ensures step { Between (Handled call.old.operation call.old call.new room.old room.new) (as_packets packets.old.held) (as_packets packets.new.held) }
     ensures kept { (call.new.answer ≢ 1) → packets.new.held ≡ packets.old.held }
 {
     let mut end = packets.take(alloc);
