@@ -13,13 +13,13 @@
 //! MB of the text a second of processor time.
 #![tactic(auto)]
 
-mod cells;
+mod counting;
 mod plan;
 mod pools;
 mod texts;
 
 use anyhow::Result;
-use cells::{run_reads, run_writes};
+use counting::{run_reads, run_writes};
 use plan::{Plan, plan_of};
 use pools::{run_lists, run_pool};
 use std::env;

@@ -1,15 +1,15 @@
 //! Both ends of a receive ring, each in a thread of its own: the device stores frames, and the driver takes them.
 //!
-//! `device` is the controller's thread, and `driver` the driver's.
+//! `device_thread` is the controller's, and `driver_thread` the driver's.
 ghost use Rattle.std.specs.Prelude.{◌≤◌, length};
 
-mod device;
-mod driver;
+mod device_thread;
+mod driver_thread;
 
 use crate::stash::filled;
 use anyhow::Result;
-use device::serve;
-use driver::drive;
+use device_thread::serve;
+use driver_thread::drive;
 use rx_ring::{RxRing, meet_rx};
 use std::alloc::Global;
 use std::sync::Wait;

@@ -1,5 +1,5 @@
 use Rattle.std.proofs.Common.{◌≡◌}
-use Rattle.part_bench.proofs.cells.measured.read_all.Given as goal
+use Rattle.part_bench.proofs.counting.measured.read_all.Given as goal
 
 abbrev pub invariant-loop : goal.invariant-loop
 invariant-loop g l = record {

@@ -1,5 +1,5 @@
 use Rattle.std.proofs.Common.{◌≡◌}
-use Rattle.part_bench.proofs.cells.measured.write_all.Given as goal
+use Rattle.part_bench.proofs.counting.measured.write_all.Given as goal
 
 -- what was written last are the numbers after so many frames
 abbrev pub invariant-loop-written : goal.invariant-loop-written
