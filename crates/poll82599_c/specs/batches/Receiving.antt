@@ -1,5 +1,5 @@
 -- What the exports say of a receive queue's driver and of its device, and of their steps.
-use Rattle.std.specs.Prelude.{◌≡◌, ◌≢◌, ⊤, ℕ, zero, suc, ◌+◌, ◌++◌, Bool, true, false, Option, Some, None, [], ◌∷◌, length}
+use Rattle.std.specs.Prelude.{◌≡◌, ◌≢◌, ℕ, zero, suc, ◌+◌, ◌++◌, Bool, true, false, Option, Some, None, [], ◌∷◌, length}
 use Rattle.buffer_pool.specs.declared.stash.TheConstants.{STASH_BUFFERS}
 use Rattle.ring_model.specs.receive.Lawful.{IsLawfulRxLedger}
 use Rattle.ring_model.specs.shared.Frames.{Bytes, frames}
@@ -153,7 +153,7 @@ TriedRenewal _ old new = ⊥
 abbrev pub Moved : ℕ → ℕ → ℕ → Receiver → Worked → Receiver → Worked → Type 0
 Moved zero answer count old had new has = TriedBatch answer count old had new has
 Moved (suc zero) answer count old had new has = TriedReclaim answer count old had new has
-Moved _ answer count old had new has = ⊤
+Moved _ answer count old had new has = answer ≡ 4294967295
 
 -- the step of an operation, by its number, with this answer
 abbrev pub Did : ℕ → ℕ → ℕ → Receiver → Receiver → Type 0
@@ -162,7 +162,7 @@ Did (suc zero) answer count old new = TriedDisable answer old new
 Did (suc (suc zero)) answer count old new = TriedLeft answer count old new
 Did (suc (suc (suc zero))) answer count old new = TriedRenewal answer old new
 Did (suc (suc (suc (suc zero)))) answer count old new = FoundQuiet answer old new
-Did _ answer count old new = ⊤
+Did _ answer count old new = answer ≡ 4294967295
 
 -- ---- a device's calls
 
@@ -198,4 +198,5 @@ abbrev pub Played : ℕ → ℕ → Bytes → Receiving → Receiving → Type 0
 Played zero answer frame old new = TriedOffer answer frame old new
 Played (suc zero) answer frame old new = Turned answer old new
 Played (suc (suc zero)) answer frame old new = (answer ≡ 1 → TriedQuiet true old new) × (answer ≢ 1 → TriedQuiet false old new)
-Played _ answer frame old new = ⊤
+Played (suc (suc (suc zero))) answer frame old new = (answer ≡ 1) × (new ≡ old)
+Played _ answer frame old new = answer ≡ 4294967295

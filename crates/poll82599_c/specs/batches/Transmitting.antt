@@ -1,5 +1,5 @@
 -- What the exports say of a transmit queue's driver and of its device, and of their steps.
-use Rattle.std.specs.Prelude.{◌≡◌, ⊤, ℕ, zero, suc, ◌+◌, ◌++◌, ◌<◌, Bool, true, false, Option, Some, None, List, [], ◌∷◌, length, take, drop, map, slice_get}
+use Rattle.std.specs.Prelude.{◌≡◌, ℕ, zero, suc, ◌+◌, ◌++◌, ◌<◌, Bool, true, false, Option, Some, None, List, [], ◌∷◌, length, take, drop, map, slice_get}
 use Rattle.buffer_pool.specs.declared.stash.TheConstants.{STASH_BUFFERS}
 use Rattle.buffer_pool.specs.Packed.{bytes_of}
 use Rattle.ring_model.specs.declared.states.Completion.{Completion}
@@ -161,7 +161,7 @@ abbrev pub Moved : ℕ → ℕ → ℕ → Transmitter → Worked → Transmitte
 Moved zero answer count old had new has = TriedBatch answer count old had new has
 Moved (suc zero) answer count old had new has = TriedCleaning answer count old had new has
 Moved (suc (suc zero)) answer count old had new has = TriedReclaim answer count old had new has
-Moved _ answer count old had new has = ⊤
+Moved _ answer count old had new has = answer ≡ 4294967295
 
 -- the step of an operation, by its number, with this answer
 abbrev pub Did : ℕ → ℕ → ℕ → Transmitter → Transmitter → Type 0
@@ -169,7 +169,7 @@ Did zero answer count old new = TriedEnable answer old new
 Did (suc zero) answer count old new = TriedDisable answer old new
 Did (suc (suc zero)) answer count old new = TriedLeft answer count old new
 Did (suc (suc (suc zero))) answer count old new = TriedRenewal answer old new
-Did _ answer count old new = ⊤
+Did _ answer count old new = answer ≡ 4294967295
 
 -- ---- a device's calls
 
@@ -238,4 +238,4 @@ pub record Turned (value : ℕ) (old new : ControllerSide) : Type 0 where
 abbrev pub Played : ℕ → ℕ → ℕ → Bytes → Bytes → ControllerSide → ControllerSide → Type 0
 Played zero answer count before after old new = TriedTurn answer count before after old new
 Played (suc zero) answer count before after old new = Turned answer old new
-Played _ answer count before after old new = ⊤
+Played _ answer count before after old new = answer ≡ 4294967295

@@ -1,5 +1,5 @@
 -- What the exports of a receive ring say of the two ends that handles hold, and of their steps.
-use Rattle.std.specs.Prelude.{◌≡◌, ◌≢◌, ⊤, ℕ, zero, suc, ◌⊎◌, Option, Bool, false, if◌then◌else◌, ◌++◌, length, drop, [], ◌∷◌}
+use Rattle.std.specs.Prelude.{◌≡◌, ◌≢◌, ℕ, zero, suc, ◌⊎◌, Option, Bool, false, if◌then◌else◌, ◌++◌, length, drop, [], ◌∷◌}
 use Rattle.std.specs.Int.{from_bool}
 use Rattle.atomic_table.specs.Seated.{TableId}
 use Rattle.buffer_pool.specs.Buffer.{Buffer, buffer}
@@ -73,7 +73,7 @@ Drove (suc (suc (suc (suc (suc (suc zero)))))) answer len eop before after old n
 Drove (suc (suc (suc (suc (suc (suc (suc zero))))))) answer len eop before after old new = Tried ReclaimedOne answer old new
 Drove (suc (suc (suc (suc (suc (suc (suc (suc zero)))))))) answer len eop before after old new = Tried GoneOver answer old new
 Drove (suc (suc (suc (suc (suc (suc (suc (suc (suc zero))))))))) answer len eop before after old new = Tried (λ d e. FoundLeft d len e) answer old new
-Drove _ answer len eop before after old new = ⊤
+Drove _ answer len eop before after old new = answer ≡ 4294967295
 
 -- ---- a controller's steps
 
@@ -111,7 +111,7 @@ abbrev pub Served : ℕ → ℕ → Bytes → Bool → ControllerSide → Contro
 Served zero answer bytes eop old new = TriedAnswer answer old new
 Served (suc zero) answer bytes eop old new = TriedStore answer bytes eop old new
 Served (suc (suc zero)) answer bytes eop old new = Tried SaidNoMore answer old new
-Served _ answer bytes eop old new = ⊤
+Served _ answer bytes eop old new = answer ≡ 4294967295
 
 -- ---- what the objects behind the handles keep
 

@@ -1,5 +1,5 @@
 -- What the exports of a transmit ring say of the two ends that handles hold, and of their steps.
-use Rattle.std.specs.Prelude.{◌≡◌, ◌≢◌, ⊤, ℕ, zero, suc, Option, Bool, true, false, ◌++◌, length, drop, [], ◌∷◌}
+use Rattle.std.specs.Prelude.{◌≡◌, ◌≢◌, ℕ, zero, suc, Option, Bool, true, false, ◌++◌, length, drop, [], ◌∷◌}
 use Rattle.std.specs.Int.{from_bool}
 use Rattle.atomic_table.specs.Seated.{TableId}
 use Rattle.buffer_pool.specs.Buffer.{Buffer, buffer}
@@ -64,7 +64,7 @@ Drove (suc (suc (suc (suc (suc (suc zero)))))) answer len bytes eop rs paylen ol
 Drove (suc (suc (suc (suc (suc (suc (suc zero))))))) answer len bytes eop rs paylen old new = Tried ReclaimedOne answer old new
 Drove (suc (suc (suc (suc (suc (suc (suc (suc zero)))))))) answer len bytes eop rs paylen old new = Tried GoneOver answer old new
 Drove (suc (suc (suc (suc (suc (suc (suc (suc (suc zero))))))))) answer len bytes eop rs paylen old new = Tried (λ d e. FoundLeft d len e) answer old new
-Drove _ answer len bytes eop rs paylen old new = ⊤
+Drove _ answer len bytes eop rs paylen old new = answer ≡ 4294967295
 
 -- ---- a controller's steps
 
@@ -99,7 +99,7 @@ TriedSend answer len eop before after old new = (answer ≡ 1 → SentOne len eo
 abbrev pub Served : ℕ → ℕ → ℕ → ℕ → Bytes → Bytes → ControllerSide → ControllerSide → Type 0
 Served zero answer len eop before after old new = TriedAnswer answer old new
 Served (suc zero) answer len eop before after old new = TriedSend answer len eop before after old new
-Served _ answer len eop before after old new = ⊤
+Served _ answer len eop before after old new = answer ≡ 4294967295
 
 -- ---- what the object behind a driver's handle keeps: the end is of its ring, and of a frame that is begun so many segments and bytes are posted, each with this PAYLEN
 pub record IsDriving (ring : TableId) (d : DriverSide) (begun : Begun) (paylen : ℕ) : Type 0 where
