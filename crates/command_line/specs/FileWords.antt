@@ -3,7 +3,7 @@ use Rattle.std.specs.Prelude.{◌≡◌, List, [], ◌∷◌, ◌++◌, All, cod
 use Rattle.std.specs.List.{flat_map}
 use Rattle.clap.specs.Words.{App, Row, Rule, Text, all_of, new_rule, with_rule}
 use Rattle.clap.specs.declared.builder.action.ArgAction.TheVariants.{Append}
-use Rattle.forward_captures.specs.Words.{IsSource, IsWireFile, PortFile, SourceFile, source_word, wire_file_word}
+use Rattle.capture_commands.specs.Words.{IsSource, IsWireFile, PortFile, SourceFile, source_word, wire_file_word}
 use Rattle.command_line.specs.declared.files.ForwardFiles.{ForwardFiles}
 
 -- an option that may stand any number of times, each time with a word

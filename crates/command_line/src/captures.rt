@@ -2,12 +2,12 @@
 ghost use Rattle.std.specs.Prelude.{◌≡◌, ℕ, Some, false, codes, IfOk, IfSome};
 ghost use Rattle.clap.specs.Words.{found_of, rows_of, rule_of};
 ghost use Rattle.command_line.specs.Building.{IsNew};
-ghost use Rattle.capture_command.specs.Requests.{IsPlaced};
-ghost use Rattle.capture_command.specs.declared.request.CaptureRequest.TheVariants.{FromCapture, ToCapture};
+ghost use Rattle.capture_commands.specs.Requests.{IsPlaced};
+ghost use Rattle.capture_commands.specs.declared.piped.request.CaptureRequest.TheVariants.{FromCapture, ToCapture};
 ghost use Rattle.command_line.specs.CaptureWords.{HasFromCapture, HasToCapture, from_capture_app, port_rule, queue_rule, to_capture_app};
 
 use crate::building::{named, with};
-use capture_command::CaptureRequest;
+use capture_commands::piped::CaptureRequest;
 use clap::{Arg, ArgMatches, Command, value_parser};
 use std::alloc::{AllocError, Global};
 

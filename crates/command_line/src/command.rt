@@ -20,7 +20,7 @@ use crate::captures::{from_capture, from_capture_in, to_capture, to_capture_in};
 use crate::drawings::{draws_any, pictures_in};
 use crate::files::with_files;
 use crate::lists::{lists_in, schedules};
-use capture_command::CaptureRequest;
+use capture_commands::piped::CaptureRequest;
 use clap::error::ErrorKind;
 use clap::{ArgMatches, Command, Error};
 use commands::{Form, QueuePlan, Request, Shown};

@@ -5,16 +5,16 @@ ghost use Rattle.clap.specs.Words.{Row, found_of, kind_of, rows_of, rule_of, sub
 ghost use Rattle.clap.specs.declared.error.kind.ErrorKind.TheVariants.{OutOfMemory};
 ghost use Rattle.forwarder.specs.declared.config.Config.{Config as ForwardConfig};
 ghost use Rattle.forward_command.specs.declared.printing.Printing.{Printing as Printed};
-ghost use Rattle.forward_captures.specs.Words.{IsSource, IsWireFile, PortFile, SourceFile, source_word, wire_file_word};
+ghost use Rattle.capture_commands.specs.Words.{IsSource, IsWireFile, PortFile, SourceFile, source_word, wire_file_word};
 ghost use Rattle.command_line.specs.Building.{Grows};
 ghost use Rattle.command_line.specs.CommandLine.{SaysForward};
 ghost use Rattle.command_line.specs.FileWords.{AreFiles, FileOptions, HasFiles, HoldsFiles, file_rule, file_values, with_file_rules};
 
 use crate::building::with;
 use crate::command::program;
+use capture_commands::{Source, WireFile, source_of, wire_file_of};
 use clap::error::ErrorKind;
 use clap::{Arg, ArgAction, ArgMatches, Command, Error};
-use forward_captures::{Source, WireFile, source_of, wire_file_of};
 use std::alloc::{AllocError, Global};
 
 /// What is told where a word of the options is none.

@@ -2,8 +2,8 @@
 
 use crate::told::Row;
 
-/// Each list that a table of the machine's moves gives.
-pub const ROWS: &[Row] = &[
+/// Each list that a table of the machine's moves gives: of frames that are received and sent.
+pub const FRAMES: &[Row] = &[
     // one frame is received
     Row {
         words: &["replay"],
@@ -195,6 +195,23 @@ pub const ROWS: &[Row] = &[
          t0 B8 buffer 7\n\
          moves 10 of 10\n",
     },
+    // the last queue of eight pairs, of the greatest ring
+    Row {
+        words: &["replay", "--pairs", "8", "--ring", "4096"],
+        input: "r7 A2\n\
+         t7 B2\n\
+         r7 C7\n\
+         r7 C8\n",
+        output: "r7 A2 tail 0\n\
+         t7 B2 tail 0\n\
+         r7 C7 quiet 1\n\
+         r7 C8 quiet 1\n\
+         moves 4 of 4\n",
+    },
+];
+
+/// And of queues that are enabled, disabled and renewed.
+pub const EPOCHS: &[Row] = &[
     // a disabling is asked in the middle of a frame
     Row {
         words: &["replay"],
@@ -431,19 +448,6 @@ pub const ROWS: &[Row] = &[
          r0 A6 not enabled\n\
          r0 C6 buffer 3\n\
          moves 19 of 20\n",
-    },
-    // the last queue of eight pairs, of the greatest ring
-    Row {
-        words: &["replay", "--pairs", "8", "--ring", "4096"],
-        input: "r7 A2\n\
-         t7 B2\n\
-         r7 C7\n\
-         r7 C8\n",
-        output: "r7 A2 tail 0\n\
-         t7 B2 tail 0\n\
-         r7 C7 quiet 1\n\
-         r7 C8 quiet 1\n\
-         moves 4 of 4\n",
     },
     // clearing the report word needs one
     Row {

@@ -3,7 +3,7 @@
 use crate::object_rows::OBJECTS;
 use crate::picture_rows::PICTURES;
 use crate::register_rows::REGISTERS;
-use crate::replay_rows::{ENDS, MIDDLE, ROWS};
+use crate::replay_rows::{ENDS, EPOCHS, FRAMES, MIDDLE};
 use crate::runs::outcome_of;
 use crate::told::{Row, comes_to, each_comes_to, times};
 use crate::wanted::same;
@@ -107,8 +107,13 @@ const PAIRS: &[(&str, &str, &str, &str)] = &[
 ];
 
 #[test]
-fn lists_of_moves_are_answered(rt: HostRuntime) {
-    each_comes_to(&rt, rt.alloc(), ROWS)
+fn lists_of_moves_of_frames_are_answered(rt: HostRuntime) {
+    each_comes_to(&rt, rt.alloc(), FRAMES)
+}
+
+#[test]
+fn lists_of_moves_of_epochs_are_answered(rt: HostRuntime) {
+    each_comes_to(&rt, rt.alloc(), EPOCHS)
 }
 
 #[test]

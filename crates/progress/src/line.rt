@@ -1,6 +1,6 @@
 //! What is shown of a run, and its text.
 ghost use Rattle.std.specs.Prelude.{◌≡◌, Some};
-ghost use Rattle.progress.specs.Lines.{line_text, members_of};
+ghost use Rattle.progress.specs.Lines.{line_text, members_of, words_of};
 
 use std::fmt;
 
@@ -39,6 +39,25 @@ impl fmt::Display for Line {
     ghost output = { λ l. Some (line_text l.form l.shown) };
 
     fn fmt<W: fmt::Write>(&self, f: &mut fmt::Formatter<W>) -> fmt::Result {
+        let shown = self.shown;
+        match self.form {
+            Form::Lines => write!(f, "{}", Words { shown }),
+            Form::Rewritten => write!(f, "\r\u{1b}[K{}", Words { shown }),
+            Form::Objects => write!(f, "{{{}}}", Members { shown }),
+        }
+    }
+}
+
+/// The numbers, each behind its word.
+#[derive(Clone, Copy)]
+struct Words {
+    shown: Shown,
+}
+
+impl fmt::Display for Words {
+    ghost output = { λ w. Some (words_of w.shown) };
+
+    fn fmt<W: fmt::Write>(&self, f: &mut fmt::Formatter<W>) -> fmt::Result {
         let Shown {
             offered,
             frames,
@@ -46,17 +65,10 @@ impl fmt::Display for Line {
             posted,
             per_second,
         } = self.shown;
-        match self.form {
-            Form::Lines => write!(
-                f,
-                "offered {offered} of {frames} taken {taken} posted {posted} per-second {per_second}"
-            ),
-            Form::Rewritten => write!(
-                f,
-                "\r\u{1b}[Koffered {offered} of {frames} taken {taken} posted {posted} per-second {per_second}"
-            ),
-            Form::Objects => write!(f, "{{{}}}", Members { shown: self.shown }),
-        }
+        write!(
+            f,
+            "offered {offered} of {frames} taken {taken} posted {posted} per-second {per_second}"
+        )
     }
 }
 

@@ -1,12 +1,10 @@
 //! Streams of `from-capture` and `to-capture` that fail, and want of memory.
 
-use crate::forward::captured::Content::Capture;
-use crate::forward::captured::Part::{At0, Fives, Header};
-use crate::forward::captured::bytes_of;
+use crate::forward::captured::{AT_0, FIVES, HEADER, joined};
 use crate::forward::streams::{each_beginning, each_cut};
 use crate::streams::Narrow;
 use crate::wanted::{holds, same};
-use capture_command::{CaptureRequest, perform};
+use capture_commands::piped::{CaptureRequest, perform};
 use std::alloc::Global;
 use std::process::Abort;
 
@@ -18,7 +16,7 @@ const SCRIPT: &str = "1 0 0506050505050505050505050505\n";
 
 #[test]
 fn an_output_that_fails_has_a_beginning(rt: HostRuntime) {
-    let whole = bytes_of(rt.alloc(), Capture(&[Header, At0, Fives])).expect(&rt, "memory");
+    let whole = joined(rt.alloc(), &[HEADER, AT_0, FIVES]).expect(&rt, "memory");
     let rooms = [0, 1, 23, 24, 25, 40];
     each_beginning(&rt, rt.alloc(), (TO, SCRIPT), whole.as_slice(), &rooms)
 }

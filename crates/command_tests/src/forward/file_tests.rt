@@ -1,8 +1,8 @@
 //! Forwarding from captures and to captures, with files.
 
-use crate::forward::captured::Content::{Capture, Text};
-use crate::forward::captured::Part::{At0, At1, At2, Bytes, Fives, Header, Letters, Raw, Short};
-use crate::forward::captured::{Content, bytes_of, is_told};
+use crate::forward::captured::{
+    AT_0, AT_1, AT_2, BYTES, Content, FIVES, HEADER, LETTERS, RAW, SHORT, is_told, joined,
+};
 use crate::runs::{outcome_of, told_by};
 use crate::streams::Broken;
 use crate::told::each_is_mistaken;
@@ -26,7 +26,7 @@ struct Row {
 /// Puts these files where the tests run.
 fn put<R: Abort + Files>(rt: &R, alloc: Global, files: &[(&str, Content)]) {
     for (name, content) in files {
-        let bytes = bytes_of(alloc, *content).expect(rt, "memory");
+        let bytes = joined(alloc, content).expect(rt, "memory");
         fs::write(rt, name, bytes.as_slice()).expect(rt, "the file");
     }
 }
@@ -50,17 +50,14 @@ fn each_comes_to<R: Abort + Threads + Wait + Clock + Sync + Files>(
 /// The file has this content.
 fn has<R: Abort + Files + AllocGlobal>(rt: &R, alloc: Global, name: &str, content: Content) {
     let held = fs::read(rt, name).expect(rt, "the file");
-    let wanted = bytes_of(alloc, content).expect(rt, "memory");
+    let wanted = joined(alloc, content).expect(rt, "memory");
     same(rt, (name, held.as_slice()), (name, wanted.as_slice()));
 }
 
 const ONE_QUEUE: &[Row] = &[Row {
     files: &[
-        (
-            "one_queue_two.pcap",
-            Capture(&[Header, At0, Letters, At1, Bytes]),
-        ),
-        ("one_queue_one.pcap", Capture(&[Header, At0, Fives])),
+        ("one_queue_two.pcap", &[HEADER, AT_0, LETTERS, AT_1, BYTES]),
+        ("one_queue_one.pcap", &[HEADER, AT_0, FIVES]),
     ],
     words: &[
         "forward",
@@ -80,8 +77,8 @@ fn captures_of_one_queue_stand_behind_one_another(rt: HostRuntime) {
 
 const PLACED: &[Row] = &[Row {
     files: &[
-        ("placed_letters.pcap", Capture(&[Header, At0, Letters])),
-        ("placed_fives.pcap", Capture(&[Header, At0, Fives])),
+        ("placed_letters.pcap", &[HEADER, AT_0, LETTERS]),
+        ("placed_fives.pcap", &[HEADER, AT_0, FIVES]),
     ],
     words: &[
         "forward",
@@ -143,7 +140,7 @@ const CHAIN: &[Row] = &[
     Row {
         files: &[(
             "chain_0.pcap",
-            Capture(&[Header, At0, Letters, At1, Bytes, At2, Fives]),
+            &[HEADER, AT_0, LETTERS, AT_1, BYTES, AT_2, FIVES],
         )],
         words: &[
             "forward",
@@ -185,11 +182,8 @@ fn a_file_that_cannot_be_read_is_named(rt: HostRuntime) {
 const FAULTY: &[Row] = &[
     Row {
         files: &[
-            ("faulty_good.pcap", Capture(&[Header, At0, Letters])),
-            (
-                "faulty_short.pcap",
-                Capture(&[Header, At0, Letters, Short, Bytes]),
-            ),
+            ("faulty_good.pcap", &[HEADER, AT_0, LETTERS]),
+            ("faulty_short.pcap", &[HEADER, AT_0, LETTERS, SHORT, BYTES]),
         ],
         words: &[
             "forward",
@@ -204,7 +198,7 @@ const FAULTY: &[Row] = &[
         faults: "faulty_short.pcap: record 2: refused 94 captured short\n",
     },
     Row {
-        files: &[("faulty_raw.pcap", Capture(&[Raw]))],
+        files: &[("faulty_raw.pcap", &[RAW])],
         words: &[
             "forward",
             "--capture",
@@ -224,11 +218,11 @@ fn a_faulty_capture_is_named_with_its_record(rt: HostRuntime) {
     each_comes_to(&rt, rt.alloc(), FAULTY)
 }
 
-const OLD: Content = Text("what stood there");
+const OLD: Content = &[b"what stood there"];
 
 const NO_FOLDER: &[Row] = &[Row {
     files: &[
-        ("kept_in.pcap", Capture(&[Header, At0, Letters])),
+        ("kept_in.pcap", &[HEADER, AT_0, LETTERS]),
         ("kept_old.pcap", OLD),
     ],
     words: &[

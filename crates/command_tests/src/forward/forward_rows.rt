@@ -10,8 +10,8 @@ pub struct Row {
     pub faults: &'static str,
 }
 
-/// Scripts that are forwarded, and scripts and configurations that are refused.
-pub const ROWS: &[Row] = &[
+/// Scripts that are forwarded.
+pub const FORWARDED: &[Row] = &[
     Row {
         words: &["forward", "--pairs", "2"],
         input: "",
@@ -68,6 +68,10 @@ pub const ROWS: &[Row] = &[
         output: "0 0 0b0c0b0b0b0b0b0b0b0b0b0b0b0b\n0 1 0a0b0a0a0a0a0a0a0a0a0a0a0a0a\n0 1 0c0d0c0c0c0c0c0c0c0c0c0c0c0c\n1 1 000202030405060708090a0b0c0d\nflow 0 0 offered 0 stored 0 dropped 0 oversize 0 taken 0 posted 0 tx-dropped 0 wire 0 left 0 ended drained\nflow 0 1 offered 1 stored 1 dropped 0 oversize 0 taken 1 posted 1 tx-dropped 0 wire 1 left 0 ended drained\nflow 1 0 offered 1 stored 1 dropped 0 oversize 0 taken 1 posted 1 tx-dropped 0 wire 1 left 0 ended drained\nflow 1 1 offered 2 stored 2 dropped 0 oversize 0 taken 2 posted 2 tx-dropped 0 wire 2 left 0 ended drained\n",
         faults: "",
     },
+];
+
+/// Scripts and configurations that are refused.
+pub const REFUSED: &[Row] = &[
     Row {
         words: &["forward"],
         input: "0 0",
@@ -222,6 +226,10 @@ pub const ROWS: &[Row] = &[
         output: "",
         faults: "refused 64 config\n",
     },
+];
+
+/// Scripts whose wires are left out, or whose flows are told as objects.
+pub const SHAPED: &[Row] = &[
     Row {
         words: &["forward", "--json"],
         input: "0 0 fill 14 05\n1 0 fill 60 ff\n",

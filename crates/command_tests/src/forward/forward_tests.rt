@@ -2,7 +2,7 @@
 
 use crate::forward::crowd::{FLOWS, crowd, crowd_forwarded};
 use crate::forward::forty::{forty, forty_forwarded, forty_words};
-use crate::forward::forward_rows::{ROWS, Row};
+use crate::forward::forward_rows::{FORWARDED, REFUSED, Row, SHAPED};
 use crate::runs::outcome_of;
 use crate::told::comes_to;
 use crate::wanted::same;
@@ -40,8 +40,18 @@ fn each_comes_to<R: Abort + Threads + Wait + Clock + Sync + Files>(
 }
 
 #[test]
-fn rows_come_to_their_text(rt: HostRuntime) {
-    each_comes_to(&rt, rt.alloc(), ROWS)
+fn what_is_forwarded_comes_to_its_text(rt: HostRuntime) {
+    each_comes_to(&rt, rt.alloc(), FORWARDED)
+}
+
+#[test]
+fn what_is_refused_comes_to_its_line(rt: HostRuntime) {
+    each_comes_to(&rt, rt.alloc(), REFUSED)
+}
+
+#[test]
+fn without_wires_and_as_objects_it_comes_to_its_text(rt: HostRuntime) {
+    each_comes_to(&rt, rt.alloc(), SHAPED)
 }
 
 /// With these options the 40 frames are printed so.

@@ -1,78 +1,73 @@
 //! From captures to lines.
 
-use crate::forward::captured::Content::{Capture, Text};
-use crate::forward::captured::Part::{
-    At0, At1, BigNanos, BigSome, Bytes, Header, Letters, Next, Raw, Short, Small, Thirteen,
+use crate::forward::captured::{
+    AT_0, AT_1, BIG_NANOS, BIG_SOME, BYTES, HEADER, LETTERS, NEXT, RAW, Refusing, SHORT, SMALL,
+    THIRTEEN, Writing, each_is_refused, each_writes,
 };
-use crate::forward::captured::{Refusing, Writing, each_is_refused, each_writes};
 
 /// A capture of two frames, at each of some ports and queues.
 const PLACED: &[Writing] = &[
     (
         &["from-capture", "0", "0"],
-        Capture(&[Header, At0, Letters, At1, Bytes]),
-        Text("0 0 6162636465666768696a6b6c6d6e\n0 0 00010a0d23667f80feff0000000a\n"),
+        &[HEADER, AT_0, LETTERS, AT_1, BYTES],
+        &[b"0 0 6162636465666768696a6b6c6d6e\n0 0 00010a0d23667f80feff0000000a\n"],
     ),
     (
         &["from-capture", "0", "7"],
-        Capture(&[Header, At0, Letters, At1, Bytes]),
-        Text("0 7 6162636465666768696a6b6c6d6e\n0 7 00010a0d23667f80feff0000000a\n"),
+        &[HEADER, AT_0, LETTERS, AT_1, BYTES],
+        &[b"0 7 6162636465666768696a6b6c6d6e\n0 7 00010a0d23667f80feff0000000a\n"],
     ),
     (
         &["from-capture", "1", "0"],
-        Capture(&[Header, At0, Letters, At1, Bytes]),
-        Text("1 0 6162636465666768696a6b6c6d6e\n1 0 00010a0d23667f80feff0000000a\n"),
+        &[HEADER, AT_0, LETTERS, AT_1, BYTES],
+        &[b"1 0 6162636465666768696a6b6c6d6e\n1 0 00010a0d23667f80feff0000000a\n"],
     ),
     (
         &["from-capture", "1", "3"],
-        Capture(&[Header, At0, Letters, At1, Bytes]),
-        Text("1 3 6162636465666768696a6b6c6d6e\n1 3 00010a0d23667f80feff0000000a\n"),
+        &[HEADER, AT_0, LETTERS, AT_1, BYTES],
+        &[b"1 3 6162636465666768696a6b6c6d6e\n1 3 00010a0d23667f80feff0000000a\n"],
     ),
 ];
 
 const OTHER: &[Writing] = &[(
     &["from-capture", "1", "2"],
-    Capture(&[BigNanos, BigSome, Letters]),
-    Text("1 2 6162636465666768696a6b6c6d6e\n"),
+    &[BIG_NANOS, BIG_SOME, LETTERS],
+    &[b"1 2 6162636465666768696a6b6c6d6e\n"],
 )];
 
-const NONE: &[Writing] = &[(&["from-capture", "0", "0"], Capture(&[Header]), Text(""))];
+const NONE: &[Writing] = &[(&["from-capture", "0", "0"], &[HEADER], &[b""])];
 
 const WORDS: &[&str] = &["from-capture", "0", "0"];
 
 const NOT_CAPTURE: &str = "refused 91 not a capture in classic pcap (pcapng is not read)\n";
 
 const REFUSED: &[Refusing] = &[
-    (WORDS, Capture(&[]), NOT_CAPTURE),
-    (WORDS, Capture(&[Next, At0, Letters]), NOT_CAPTURE),
+    (WORDS, &[], NOT_CAPTURE),
+    (WORDS, &[NEXT, AT_0, LETTERS], NOT_CAPTURE),
+    (WORDS, &[RAW, AT_0, LETTERS], "refused 92 link type\n"),
     (
         WORDS,
-        Capture(&[Raw, At0, Letters]),
-        "refused 92 link type\n",
-    ),
-    (
-        WORDS,
-        Capture(&[Header, At0, Thirteen]),
+        &[HEADER, AT_0, THIRTEEN],
         "record 1: refused 93 cut short\n",
     ),
     (
         WORDS,
-        Capture(&[Header, At0, Letters, At1, Thirteen]),
+        &[HEADER, AT_0, LETTERS, AT_1, THIRTEEN],
         "record 2: refused 93 cut short\n",
     ),
     (
         WORDS,
-        Capture(&[Header, At0, Letters, Short, Letters]),
+        &[HEADER, AT_0, LETTERS, SHORT, LETTERS],
         "record 2: refused 94 captured short\n",
     ),
     (
         WORDS,
-        Capture(&[Header, Small, Thirteen, At1, Letters]),
+        &[HEADER, SMALL, THIRTEEN, AT_1, LETTERS],
         "record 1: refused 95 frame length\n",
     ),
     (
         WORDS,
-        Capture(&[Header, At0, Letters, Small, Thirteen]),
+        &[HEADER, AT_0, LETTERS, SMALL, THIRTEEN],
         "record 2: refused 95 frame length\n",
     ),
 ];

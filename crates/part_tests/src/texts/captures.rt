@@ -8,63 +8,44 @@ use std::process::Abort;
 /// A frame of 14 bytes.
 const FRAME: &[u8] = b"abcdefghijklmn";
 
-/// A part of a file.
-#[derive(Clone, Copy, Debug, PartialEq)]
-enum Part {
-    /// Headers of version 2.4 and Ethernet: of microseconds in each order, and of nanoseconds.
-    Little,
-    Big,
-    BigNanos,
-    /// Headers that are refused: of a pcapng file; of version 2.3; of raw IP; of Ethernet with checksums; of version 2.3
-    /// and raw IP.
-    Next,
-    Old,
-    Raw,
-    Checked,
-    OldRaw,
-    /// Headers of records of 1 second and 2 parts of one: 14 bytes of 14, in each order.
-    Whole,
-    WholeBig,
-    /// The same with other lengths, little-endian: 14 bytes of 15, and of 3; 13 of 13, and of 14; 15 of 16.
-    Short,
-    LessOnWire,
-    Thirteen,
-    ThirteenShort,
-    FifteenShort,
-    /// [`FRAME`], and its first 13 bytes.
-    Frame,
-    Frame13,
-}
+/// Its first 13 bytes.
+const FRAME_13: &[u8] = b"abcdefghijklm";
 
-use Part::{
-    Big, BigNanos, Checked, FifteenShort, Frame, Frame13, LessOnWire, Little, Next, Old, OldRaw,
-    Raw, Short, Thirteen, ThirteenShort, Whole, WholeBig,
-};
+/// Headers of version 2.4 and Ethernet: of microseconds in each order, and of nanoseconds.
+const LITTLE: &[u8] = b"\xd4\xc3\xb2\xa1\x02\x00\x04\x00\0\0\0\0\0\0\0\0\xff\xff\0\0\x01\0\0\0";
 
-impl Part {
-    fn bytes(self) -> &'static [u8] {
-        match self {
-            Little => b"\xd4\xc3\xb2\xa1\x02\x00\x04\x00\0\0\0\0\0\0\0\0\xff\xff\0\0\x01\0\0\0",
-            Big => b"\xa1\xb2\xc3\xd4\x00\x02\x00\x04\0\0\0\0\0\0\0\0\0\0\xff\xff\0\0\0\x01",
-            BigNanos => b"\xa1\xb2\x3c\x4d\x00\x02\x00\x04\0\0\0\0\0\0\0\0\0\0\xff\xff\0\0\0\x01",
-            Next =>
-                b"\x0a\x0d\x0d\x0a\x84\0\0\0\x4d\x3c\x2b\x1a\x01\0\0\0\xff\xff\xff\xff\xff\xff\xff\xff",
-            Old => b"\xd4\xc3\xb2\xa1\x02\x00\x03\x00\0\0\0\0\0\0\0\0\xff\xff\0\0\x01\0\0\0",
-            Raw => b"\xd4\xc3\xb2\xa1\x02\x00\x04\x00\0\0\0\0\0\0\0\0\xff\xff\0\0\x65\0\0\0",
-            Checked => b"\xd4\xc3\xb2\xa1\x02\x00\x04\x00\0\0\0\0\0\0\0\0\xff\xff\0\0\x01\0\0\x24",
-            OldRaw => b"\xd4\xc3\xb2\xa1\x02\x00\x03\x00\0\0\0\0\0\0\0\0\xff\xff\0\0\x65\0\0\0",
-            Whole => b"\x01\0\0\0\x02\0\0\0\x0e\0\0\0\x0e\0\0\0",
-            WholeBig => b"\0\0\0\x01\0\0\0\x02\0\0\0\x0e\0\0\0\x0e",
-            Short => b"\x01\0\0\0\x02\0\0\0\x0e\0\0\0\x0f\0\0\0",
-            LessOnWire => b"\x01\0\0\0\x02\0\0\0\x0e\0\0\0\x03\0\0\0",
-            Thirteen => b"\x01\0\0\0\x02\0\0\0\x0d\0\0\0\x0d\0\0\0",
-            ThirteenShort => b"\x01\0\0\0\x02\0\0\0\x0d\0\0\0\x0e\0\0\0",
-            FifteenShort => b"\x01\0\0\0\x02\0\0\0\x0f\0\0\0\x10\0\0\0",
-            Frame => FRAME,
-            Frame13 => b"abcdefghijklm",
-        }
-    }
-}
+const BIG: &[u8] = b"\xa1\xb2\xc3\xd4\x00\x02\x00\x04\0\0\0\0\0\0\0\0\0\0\xff\xff\0\0\0\x01";
+
+const BIG_NANOS: &[u8] = b"\xa1\xb2\x3c\x4d\x00\x02\x00\x04\0\0\0\0\0\0\0\0\0\0\xff\xff\0\0\0\x01";
+
+/// Headers that are refused: of a pcapng file; of version 2.3; of raw IP; of Ethernet with checksums; of version 2.3 and
+/// raw IP.
+const NEXT: &[u8] =
+    b"\x0a\x0d\x0d\x0a\x84\0\0\0\x4d\x3c\x2b\x1a\x01\0\0\0\xff\xff\xff\xff\xff\xff\xff\xff";
+
+const OLD: &[u8] = b"\xd4\xc3\xb2\xa1\x02\x00\x03\x00\0\0\0\0\0\0\0\0\xff\xff\0\0\x01\0\0\0";
+
+const RAW: &[u8] = b"\xd4\xc3\xb2\xa1\x02\x00\x04\x00\0\0\0\0\0\0\0\0\xff\xff\0\0\x65\0\0\0";
+
+const CHECKED: &[u8] = b"\xd4\xc3\xb2\xa1\x02\x00\x04\x00\0\0\0\0\0\0\0\0\xff\xff\0\0\x01\0\0\x24";
+
+const OLD_RAW: &[u8] = b"\xd4\xc3\xb2\xa1\x02\x00\x03\x00\0\0\0\0\0\0\0\0\xff\xff\0\0\x65\0\0\0";
+
+/// Headers of records of 1 second and 2 parts of one: 14 bytes of 14, in each order.
+const WHOLE: &[u8] = b"\x01\0\0\0\x02\0\0\0\x0e\0\0\0\x0e\0\0\0";
+
+const WHOLE_BIG: &[u8] = b"\0\0\0\x01\0\0\0\x02\0\0\0\x0e\0\0\0\x0e";
+
+/// The same with other lengths, little-endian: 14 bytes of 15, and of 3; 13 of 13, and of 14; 15 of 16.
+const SHORT: &[u8] = b"\x01\0\0\0\x02\0\0\0\x0e\0\0\0\x0f\0\0\0";
+
+const LESS_ON_WIRE: &[u8] = b"\x01\0\0\0\x02\0\0\0\x0e\0\0\0\x03\0\0\0";
+
+const THIRTEEN: &[u8] = b"\x01\0\0\0\x02\0\0\0\x0d\0\0\0\x0d\0\0\0";
+
+const THIRTEEN_SHORT: &[u8] = b"\x01\0\0\0\x02\0\0\0\x0d\0\0\0\x0e\0\0\0";
+
+const FIFTEEN_SHORT: &[u8] = b"\x01\0\0\0\x02\0\0\0\x0f\0\0\0\x10\0\0\0";
 
 /// A refusal's number and that of its record, or 0 and how many records were read.
 type Answer = (u8, u64);
@@ -78,37 +59,37 @@ fn answer(alloc: Global, bytes: &[u8]) -> Answer {
 
 /// Parts of a file, and what is answered. Of a header's faults the lower number comes first, and so in a record; an earlier
 /// record comes before a later one. In another order of bytes lengths are too great.
-const FILES: &[(&[Part], Answer)] = &[
+const FILES: &[(&[&[u8]], Answer)] = &[
     (&[], (91, 0)),
-    (&[Little], (0, 0)),
-    (&[Big], (0, 0)),
-    (&[Little, Whole, Frame], (0, 1)),
-    (&[Big, WholeBig, Frame], (0, 1)),
-    (&[BigNanos, WholeBig, Frame], (0, 1)),
-    (&[Next, Whole, Frame], (91, 0)),
-    (&[Old], (91, 0)),
-    (&[Raw], (92, 0)),
-    (&[Checked], (92, 0)),
-    (&[OldRaw], (91, 0)),
-    (&[Big, Whole, Frame], (93, 1)),
-    (&[Little, Short, Frame], (94, 1)),
-    (&[Little, LessOnWire, Frame], (0, 1)),
-    (&[Little, Whole, Frame, Thirteen, Frame13], (95, 2)),
-    (&[Little, ThirteenShort, Frame13], (94, 1)),
-    (&[Little, FifteenShort, Frame], (93, 1)),
-    (&[Little, Whole, Frame, Short, Frame], (94, 2)),
+    (&[LITTLE], (0, 0)),
+    (&[BIG], (0, 0)),
+    (&[LITTLE, WHOLE, FRAME], (0, 1)),
+    (&[BIG, WHOLE_BIG, FRAME], (0, 1)),
+    (&[BIG_NANOS, WHOLE_BIG, FRAME], (0, 1)),
+    (&[NEXT, WHOLE, FRAME], (91, 0)),
+    (&[OLD], (91, 0)),
+    (&[RAW], (92, 0)),
+    (&[CHECKED], (92, 0)),
+    (&[OLD_RAW], (91, 0)),
+    (&[BIG, WHOLE, FRAME], (93, 1)),
+    (&[LITTLE, SHORT, FRAME], (94, 1)),
+    (&[LITTLE, LESS_ON_WIRE, FRAME], (0, 1)),
+    (&[LITTLE, WHOLE, FRAME, THIRTEEN, FRAME_13], (95, 2)),
+    (&[LITTLE, THIRTEEN_SHORT, FRAME_13], (94, 1)),
+    (&[LITTLE, FIFTEEN_SHORT, FRAME], (93, 1)),
+    (&[LITTLE, WHOLE, FRAME, SHORT, FRAME], (94, 2)),
 ];
 
-fn joined(alloc: Global, parts: &[Part]) -> Result<Vec<u8>, AllocError> {
+fn joined(alloc: Global, parts: &[&[u8]]) -> Result<Vec<u8>, AllocError> {
     let mut bytes = Vec::new(alloc);
     for part in parts {
-        bytes.extend_from_slice(part.bytes())?;
+        bytes.extend_from_slice(part)?;
     }
     Ok(bytes)
 }
 
 /// So is answered of the file of these parts.
-fn is_answered<R: Abort>(rt: &R, alloc: Global, parts: &[Part], wanted: Answer) {
+fn is_answered<R: Abort>(rt: &R, alloc: Global, parts: &[&[u8]], wanted: Answer) {
     let bytes = joined(alloc, parts).expect(rt, "memory");
     same(
         rt,
@@ -125,11 +106,11 @@ fn the_first_fault_is_named(rt: HostRuntime) {
 }
 
 /// Parts of a file of one record, of 1 second and 2 parts of one: the unit of those, and the length on the wire.
-const RECORDS: &[(&[Part], TimeUnit, u32)] = &[
-    (&[Little, Whole, Frame], TimeUnit::Micros, 14),
-    (&[Big, WholeBig, Frame], TimeUnit::Micros, 14),
-    (&[BigNanos, WholeBig, Frame], TimeUnit::Nanos, 14),
-    (&[Little, LessOnWire, Frame], TimeUnit::Micros, 3),
+const RECORDS: &[(&[&[u8]], TimeUnit, u32)] = &[
+    (&[LITTLE, WHOLE, FRAME], TimeUnit::Micros, 14),
+    (&[BIG, WHOLE_BIG, FRAME], TimeUnit::Micros, 14),
+    (&[BIG_NANOS, WHOLE_BIG, FRAME], TimeUnit::Nanos, 14),
+    (&[LITTLE, LESS_ON_WIRE, FRAME], TimeUnit::Micros, 3),
 ];
 
 fn is_record<R: Abort>(rt: &R, found: &CaptureRecord<'_>, wire_len: u32) {
@@ -139,7 +120,7 @@ fn is_record<R: Abort>(rt: &R, found: &CaptureRecord<'_>, wire_len: u32) {
 }
 
 /// The file of these parts has that record.
-fn has_record<R: Abort>(rt: &R, alloc: Global, (parts, unit, wire_len): (&[Part], TimeUnit, u32)) {
+fn has_record<R: Abort>(rt: &R, alloc: Global, (parts, unit, wire_len): (&[&[u8]], TimeUnit, u32)) {
     let bytes = joined(alloc, parts).expect(rt, "memory");
     let capture = read(alloc, bytes.as_slice()).expect(rt, "a capture");
     same(rt, (parts, capture.unit()), (parts, unit));

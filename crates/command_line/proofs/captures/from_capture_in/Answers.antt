@@ -1,9 +1,9 @@
 use Rattle.std.proofs.Common.{◌≡◌, ◌∙◌, ap, ap₂, codes, sym, subst, ℕ, Option, Some, None, unwrap_or}
 use Rattle.std.specs.Prelude.{decimal}
 use Rattle.clap.specs.Words.{found_of}
-use Rattle.capture_command.specs.Requests.{IsPlaced}
-use Rattle.capture_command.specs.declared.request.CaptureRequest.{CaptureRequest}
-use Rattle.capture_command.specs.declared.request.CaptureRequest.TheVariants.{FromCapture}
+use Rattle.capture_commands.specs.Requests.{IsPlaced}
+use Rattle.capture_commands.specs.declared.piped.request.CaptureRequest.{CaptureRequest}
+use Rattle.capture_commands.specs.declared.piped.request.CaptureRequest.TheVariants.{FromCapture}
 use Rattle.command_line.proofs.CaptureWords.{port-is-place, reads_place}
 use Rattle.command_line.proofs.CommandLine.{text_is}
 use Rattle.command_line.proofs.captures.from_capture_in.Goals as goal

@@ -1,6 +1,6 @@
 use Rattle.std.proofs.Common.{◌≡◌, List, map, take}
 use Rattle.std.specs.Prelude.{All}
-use Rattle.forward_captures.specs.Words.{IsSource, SourceFile, source_word}
+use Rattle.capture_commands.specs.Words.{IsSource, SourceFile, source_word}
 use Rattle.command_line.proofs.files.sources_said.Given as goal
 
 abbrev pub invariant-loop-word : goal.invariant-loop-word

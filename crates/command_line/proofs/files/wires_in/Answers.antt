@@ -1,7 +1,7 @@
 use Rattle.std.proofs.Common.{◌∙◌, codes, sym}
 use Rattle.clap.specs.Words.{found_of}
 use Rattle.clap.proofs.WalkLemmas.{raw_values-rows}
-use Rattle.forward_captures.specs.Words.{wire_file_word}
+use Rattle.capture_commands.specs.Words.{wire_file_word}
 use Rattle.command_line.proofs.SaidWords.{nothing-said, values-said}
 use Rattle.command_line.proofs.files.wires_in.Goals as goal
 

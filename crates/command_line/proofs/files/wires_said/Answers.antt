@@ -1,5 +1,5 @@
 use Rattle.std.proofs.Common.{◌≡◌, ◌∙◌, ap, Option, None, Some, unwrap_or}
-use Rattle.forward_captures.specs.Words.{IsWireFile, PortFile, wire_file_word}
+use Rattle.capture_commands.specs.Words.{IsWireFile, PortFile, wire_file_word}
 use Rattle.command_line.proofs.SaidWords.{no-word, one-more}
 use Rattle.command_line.proofs.files.wires_said.Goals as goal
 

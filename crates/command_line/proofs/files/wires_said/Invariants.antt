@@ -1,6 +1,6 @@
 use Rattle.std.proofs.Common.{◌≡◌, List, map, take}
 use Rattle.std.specs.Prelude.{All}
-use Rattle.forward_captures.specs.Words.{IsWireFile, PortFile, wire_file_word}
+use Rattle.capture_commands.specs.Words.{IsWireFile, PortFile, wire_file_word}
 use Rattle.command_line.proofs.files.wires_said.Given as goal
 
 abbrev pub invariant-loop-word : goal.invariant-loop-word

@@ -1,0 +1,5 @@
+pub mod Piping
+mod Passing
+mod Captures
+mod Records
+pub mod Endings

@@ -1,3 +1,0 @@
-mod Captures
-mod Records
-pub mod Endings
