@@ -5,7 +5,7 @@
 //! text; [`answer`] does the same for a caller who wants an exit status.
 
 mod answering;
-mod flows;
+mod flow_lines;
 mod page;
 mod request;
 

@@ -8,7 +8,7 @@ ghost use Rattle.capture_commands.specs.Meanings.{IsRefusedAs, Makes, Refuses, c
 ghost use Rattle.capture_commands.specs.Requests.{IsPlaced};
 ghost use Rattle.limits.specs.declared.profile.TheConstants.{MOST_PAIRS, PORTS};
 
-use crate::piped::flows::pass_flows;
+use crate::piped::flow_lines::pass_flows;
 use crate::piped::request::CaptureRequest;
 use capture::{capture_of, lines_at, read};
 use commands::{Refusal, read_text};

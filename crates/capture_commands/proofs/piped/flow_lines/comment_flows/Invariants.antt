@@ -1,6 +1,6 @@
 use Rattle.std.proofs.Common.{◌≡◌, ◌++◌, true, drop, length, take}
 use Rattle.capture_commands.specs.Flows.{without_flows}
-use Rattle.capture_commands.proofs.piped.flows.comment_flows.Given as goal
+use Rattle.capture_commands.proofs.piped.flow_lines.comment_flows.Given as goal
 
 abbrev pub invariant-loop-at : goal.invariant-loop-at
 invariant-loop-at l = record {
