@@ -1,16 +1,17 @@
 //! Whether the constants of the C header are those of the library.
 
 use anyhow::Result;
+use buffer_pool::STASH_BUFFERS;
 use driver::MOST_BATCH;
 use limits::{
-    BUFFER_BYTES, LEAST_FRAME, LEAST_RING, MOST_FRAME, MOST_PAIRS, MOST_RING, MOST_RS_EVERY,
-    MOST_SEGMENTS,
+    BUFFER_BYTES, FEWEST_BUFFERS, LEAST_FRAME, LEAST_RING, MOST_FRAME, MOST_PAIRS, MOST_RING,
+    MOST_RS_EVERY, MOST_SEGMENTS,
 };
 use shared_ring::Control;
 use std::str;
 
 /// The constants of the header that are the library's, with their values there.
-fn constants() -> [(&'static str, usize); 13] {
+fn constants() -> [(&'static str, usize); 15] {
     [
         ("LEAST_RING", LEAST_RING),
         ("MOST_RING", MOST_RING),
@@ -19,6 +20,8 @@ fn constants() -> [(&'static str, usize); 13] {
         ("MOST_FRAME", MOST_FRAME),
         ("MOST_SEGMENTS", MOST_SEGMENTS),
         ("MOST_PAIRS", MOST_PAIRS),
+        ("LEAST_BUFFERS", FEWEST_BUFFERS as usize),
+        ("MOST_BUFFERS", STASH_BUFFERS),
         ("MOST_BATCH", MOST_BATCH),
         ("MOST_RS_EVERY", usize::from(MOST_RS_EVERY)),
         ("OFF", usize::from(Control::Disabled.word())),
