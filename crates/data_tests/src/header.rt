@@ -7,6 +7,7 @@ use limits::{
     BUFFER_BYTES, FEWEST_BUFFERS, LEAST_FRAME, LEAST_RING, MOST_FRAME, MOST_PAIRS, MOST_RING,
     MOST_RS_EVERY, MOST_SEGMENTS,
 };
+use ring_machine::{QUEUE_STRIDE, RDH, RDT, RXDCTL, TDH, TDT, TXDCTL};
 use shared_ring::Control;
 use std::str;
 
@@ -31,16 +32,61 @@ fn constants() -> [(&'static str, usize); 15] {
     ]
 }
 
+/// The registers of the header, with their offsets in the library.
+fn offsets() -> [(&'static str, u32); 7] {
+    [
+        ("RDH", RDH),
+        ("RDT", RDT),
+        ("RXDCTL", RXDCTL),
+        ("TDH", TDH),
+        ("TDT", TDT),
+        ("TXDCTL", TXDCTL),
+        ("QUEUE_STRIDE", QUEUE_STRIDE),
+    ]
+}
+
+/// Whether the header has this text, and no letter or digit behind it.
+fn says(header: &str, wanted: &str) -> bool {
+    match header.split_once(wanted) {
+        Some((_, behind)) => {
+            let next = behind.as_bytes().first();
+            next.is_none_or(|byte| !byte.is_ascii_alphanumeric())
+        }
+        None => false,
+    }
+}
+
+/// Prints what the header is to say, or that it does not.
+fn tell_line<R: Print>(rt: &R, header: &str, wanted: &str) -> Result<()> {
+    if says(header, wanted) {
+        println!(rt; "{wanted}")?;
+    } else {
+        println!(rt; "the header does not say {wanted}")?;
+    }
+    Ok(())
+}
+
+/// Prints a line for each constant of `constants`.
+fn tell_constants<R: Print + AllocGlobal>(rt: &R, header: &str) -> Result<()> {
+    for (name, value) in constants() {
+        let wanted = format!(in rt.alloc(); "POLL82599_{name} = {value}")?;
+        tell_line(rt, header, wanted.as_str())?;
+    }
+    Ok(())
+}
+
+/// Prints a line for each register of `offsets`.
+fn tell_offsets<R: Print + AllocGlobal>(rt: &R, header: &str) -> Result<()> {
+    for (name, offset) in offsets() {
+        let wanted = format!(in rt.alloc(); "POLL82599_{name} = {offset:#x}")?;
+        tell_line(rt, header, wanted.as_str())?;
+    }
+    Ok(())
+}
+
 /// Prints a line for each constant that this header has with the library's value, or says that it has not.
 pub fn tell_header<R: Print + AllocGlobal>(rt: &R, bytes: &[u8]) -> Result<()> {
     let header = str::from_utf8(bytes).unwrap_or("");
-    for (name, value) in constants() {
-        let wanted = format!(in rt.alloc(); "POLL82599_{name} = {value}")?;
-        if header.contains(wanted.as_str()) {
-            println!(rt; "{wanted}")?;
-        } else {
-            println!(rt; "the header does not say {wanted}")?;
-        }
-    }
-    Ok(())
+    tell_constants(rt, header)?;
+    tell_offsets(rt, header)
 }

@@ -19,7 +19,7 @@ pub use machine::{QueueMachine, RxMachine, TxMachine};
 pub use moves::arguments::{SegmentDescriptor, SegmentLength};
 pub use moves::{Move, MoveName, QueueNumber};
 pub use queues::Queues;
-pub use registers::{Registers, Side};
+pub use registers::{QUEUE_STRIDE, RDH, RDT, RXDCTL, Registers, Side, TDH, TDT, TXDCTL};
 pub use ring_model::{
     Completion, ControlStep, ControllerState, DriverState, FetchedSegment, Note, Owner, RxStep,
     TakenSegment, TxStep,

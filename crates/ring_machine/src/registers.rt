@@ -6,6 +6,42 @@ ghost use Rattle.ring_machine.specs.text.RegisterTexts.{registers_text};
 
 use std::fmt;
 
+/// RDH of receive queue 0: its offset among the device's registers, in bytes. That of queue q below 64 is
+/// `RDH + QUEUE_STRIDE * q`, and so it is with the registers below.
+pub const RDH: u32 = 0x1010;
+
+const _: () = prove!(RDH == 0x1010);
+
+/// RDT of receive queue 0.
+pub const RDT: u32 = 0x1018;
+
+const _: () = prove!(RDT == 0x1018);
+
+/// RXDCTL of receive queue 0, whose bit 25 is ENABLE.
+pub const RXDCTL: u32 = 0x1028;
+
+const _: () = prove!(RXDCTL == 0x1028);
+
+/// TDH of transmit queue 0.
+pub const TDH: u32 = 0x6010;
+
+const _: () = prove!(TDH == 0x6010);
+
+/// TDT of transmit queue 0.
+pub const TDT: u32 = 0x6018;
+
+const _: () = prove!(TDT == 0x6018);
+
+/// TXDCTL of transmit queue 0, whose bit 25 is ENABLE.
+pub const TXDCTL: u32 = 0x6028;
+
+const _: () = prove!(TXDCTL == 0x6028);
+
+/// From a register of one queue to that of the next, in bytes, of the queues below 64.
+pub const QUEUE_STRIDE: u32 = 0x40;
+
+const _: () = prove!(QUEUE_STRIDE == 0x40);
+
 /// Whether a queue receives or transmits.
 #[derive(Clone, Copy, PartialEq, Eq)]
 pub enum Side {
