@@ -1,24 +1,19 @@
 -- How a forwarding with captures ends, from what it did to the output.
 use Rattle.std.proofs.Common.{◌≡◌, ◌⊎◌, inl, inr, ℕ, List, [], Option, Some, None, refl, subst}
 use Rattle.std.specs.Io.KnownBytes.{Keeps}
-use Rattle.std.specs.Prelude.{Result, Err, true, false}
 use Rattle.commands.specs.declared.answering.TheConstants.{DONE, REFUSED}
 use Rattle.commands.specs.declared.refusal.Refusal.TheVariants as refusal
 use Rattle.flows.specs.declared.report.FlowReport.{FlowReport}
-use Rattle.forward_command.specs.Forwards.{EndsForward, IsForwarded}
+use Rattle.forward_command.specs.Forwards.{AreReports, EndsForward, IsForwarded}
 use Rattle.forward_command.specs.Text.{report_text}
 use Rattle.forward_command.specs.declared.printing.Printing.{Printing}
 use Rattle.forward_command.proofs.Endings.{done-ends, kept, refused-ends}
 use Rattle.forwarder.specs.declared.config.Config.{Config}
-use Rattle.teams.specs.Refusals.{Halted}
 use Rattle.capture_commands.specs.Refusals.{refused_itself}
-use Rattle.forwarder.specs.Configs.{FitsIn}
-use Rattle.forwarding.specs.declared.error.ForwardError.{ForwardError}
-use Rattle.forwarding.specs.declared.error.ForwardError.TheVariants as forward
 use Rattle.capture_commands.specs.Words.{PortFile, SourceFile}
 use Rattle.capture_commands.specs.declared.refused.Refused.{Refused}
 use Rattle.wire_script.specs.Frame.{Frame}
-use Rattle.capture_commands.specs.Endings.{AreReports, EndsRefused, IsPage, IsScript, IsUnforwarded, IsUnpaged, PrintsPage, WithholdsPage}
+use Rattle.capture_commands.specs.Endings.{EndsRefused, IsPage, IsScript, IsUnpaged, PrintsPage, WithholdsPage}
 
 -- an output that is not touched
 unchanged : (old : Option (List ℕ)) → Keeps old old
@@ -45,21 +40,19 @@ unprinted config printing sources wires input old new e page is out = inr (page,
 
 -- with no source it is a forwarding of the input's script
 as-forwarded : (config : Config) (printing : Printing) (input : Option (List ℕ)) (page : List ℕ) → IsPage config printing [] input page → IsForwarded config printing input page
-as-forwarded config printing input page is =
-    let reports = is.reports.reports in (
-      is.reports.says.0,
-      is.reports.says.1,
-      record {
-        flows = is.flows;
-        report = record {
-          script = is.reports.script;
-          forwardable = record { says = is.reports.says.2; fits = reports.fits };
-          count = reports.count;
-          reports = reports.reports;
-        };
-        printed = is.printed;
-      },
-    )
+as-forwarded config printing input page is = (
+  is.reports.says.0,
+  is.reports.says.1,
+  record {
+    flows = is.flows;
+    report = record {
+      script = is.reports.script;
+      says = is.reports.says.2;
+      reports = is.reports.reports;
+    };
+    printed = is.printed;
+  },
+)
 
 pub script-done : (config : Config) (printing : Printing) (sources : List SourceFile) (input old new : Option (List ℕ)) (text : List ℕ) → sources ≡ []
     → PrintsPage config printing sources input old new → input ≡ Some text → EndsForward config printing text DONE old new
@@ -79,16 +72,3 @@ pub sources-refused : (config : Config) (printing : Printing) (sources : List So
     → WithholdsPage config printing sources wires input e old new → EndsRefused config printing sources input old new
 sources-refused config printing sources wires input old new e (inl withheld) = inl withheld.1
 sources-refused config printing sources wires input old new e (inr was) = inr (was.0, was.1)
-
--- the configuration, or what a forwarding wants that may begin
-pub unforwarded : {A : Type 0} (config : Config) (script : List Frame) (e : ForwardError)
-    → (◌≡◌ {A = Result A ForwardError} (Err e) (Err forward.Config) → ¬ (FitsIn script config))
-    → ◌≡◌ {A = Result A ForwardError} (Err e) (Err forward.Config) ⊎ FitsIn script config
-    → {G : Type 0} (gate : G) → (FitsIn script config → Halted {G = G} (λ _ _ _ b. b ≡ true) gate e) → IsUnforwarded config script (refusal.Forward e)
-unforwarded config script forward.Config unfit either gate halted = unfit refl
-unforwarded config script forward.Memory unfit (inl bad) gate halted = cc bad
-unforwarded config script forward.Memory unfit (inr fits) gate halted = fits
-unforwarded config script forward.Thread unfit (inl bad) gate halted = cc bad
-unforwarded config script forward.Thread unfit (inr fits) gate halted = fits
-unforwarded config script forward.Gate unfit (inl bad) gate halted = cc bad
-unforwarded config script forward.Gate unfit (inr fits) gate halted = let never : false ≡ true = (halted fits).1.1 in cc never

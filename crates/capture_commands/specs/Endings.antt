@@ -1,17 +1,13 @@
 -- What `forward` with captures reads, prints and refuses.
-use Rattle.std.specs.Prelude.{◌≡◌, ◌⊎◌, ℕ, ◌*◌, ◌<◌, List, [], ◌∷◌, length, slice_index_or, Option, Ok, IfSome}
+use Rattle.std.specs.Prelude.{◌≡◌, ◌⊎◌, ℕ, ◌<◌, List, [], ◌∷◌, length, Option, Ok, IfSome}
 use Rattle.std.specs.Io.KnownBytes.{Appends, Keeps}
-use Rattle.limits.specs.declared.profile.TheConstants.{PORTS}
 use Rattle.commands.specs.declared.refusal.Refusal.{Refusal}
 use Rattle.commands.specs.declared.refusal.Refusal.TheVariants as refusal
-use Rattle.flows.specs.Reports.{IsReport}
 use Rattle.flows.specs.declared.report.FlowReport.{FlowReport}
+use Rattle.forward_command.specs.Forwards.{AreReports, IsUnforwarded}
 use Rattle.forward_command.specs.Text.{report_text}
 use Rattle.forward_command.specs.declared.printing.Printing.{Printing}
-use Rattle.forwarder.specs.Configs.{FitsIn}
-use Rattle.forwarder.specs.Plans.{plan}
 use Rattle.forwarder.specs.declared.config.Config.{Config}
-use Rattle.forwarding.specs.declared.error.ForwardError.TheVariants as forward
 use Rattle.wire_script.specs.Frame.{Frame}
 use Rattle.wire_script.specs.Script.{script_of}
 use Rattle.wire_script.specs.ScriptError.{Fails}
@@ -39,24 +35,11 @@ abbrev pub IsNoScript : List SourceFile → Option (List ℕ) → Refused → Ty
 IsNoScript [] input e = (e.place ≡ Command) × IsFaulty input e.refusal
 IsNoScript (s ∷ ss) input e = IsUngathered (s ∷ ss) e
 
--- these are the reports of a script's flows, which fits
-pub record AreReports (config : Config) (script : List Frame) (flows : List FlowReport) : Type 0 where
-  pub fits : FitsIn script config
-  pub count : length flows ≡ PORTS * config.pairs
-  pub reports : (flow : ℕ) (d : FlowReport) → flow < PORTS * config.pairs → IsReport (plan config script flow) (slice_index_or flows flow d)
-
 -- these are the reports of the flows of the sources' script, or of the input's
 pub record HasReports (config : Config) (sources : List SourceFile) (input : Option (List ℕ)) (flows : List FlowReport) : Type 0 where
   pub script : List Frame
   pub says : IsScript sources input script
   pub reports : AreReports config script flows
-
--- why a script is not forwarded: it doesn't fit; or it does, and the run wants memory or a thread
-abbrev pub IsUnforwarded : Config → List Frame → Refusal → Type 0
-IsUnforwarded config script (refusal.Forward forward.Config) = ¬ (FitsIn script config)
-IsUnforwarded config script (refusal.Forward forward.Memory) = FitsIn script config
-IsUnforwarded config script (refusal.Forward forward.Thread) = FitsIn script config
-IsUnforwarded config script e = ⊥
 
 -- why there are no reports: there is no script, or it is not forwarded
 abbrev pub HasNoReports : Config → List SourceFile → Option (List ℕ) → Refused → Type 0

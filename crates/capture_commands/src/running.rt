@@ -2,9 +2,10 @@
 ghost use Rattle.std.specs.Prelude.{◌≡◌, ◌≢◌, ◌⊎◌, ◌+◌, ◌*◌, ◌≤◌, [], length, None, IfErr, IfOk, OnOk};
 ghost use Rattle.std.specs.String.{string_bytes};
 ghost use Rattle.commands.specs.declared.refusal.Refusal.TheVariants as refusal;
+ghost use Rattle.forward_command.specs.Forwards.{AreReports, IsUnforwarded};
 ghost use Rattle.forward_command.specs.Text.{report_text};
 ghost use Rattle.limits.specs.declared.profile.TheConstants.{MOST_PAIRS, PORTS};
-ghost use Rattle.capture_commands.specs.Endings.{AreReports, IsFaulty, IsNoScript, IsScript, IsUnforwarded, IsUnpaged};
+ghost use Rattle.capture_commands.specs.Endings.{IsFaulty, IsNoScript, IsScript, IsUnpaged};
 ghost use Rattle.capture_commands.specs.Wires.{IsUncaptured};
 
 use crate::files::{remove, rename, write_file};
@@ -14,9 +15,8 @@ use crate::wires::wire_capture;
 use crate::words::{Source, WireFile};
 use commands::{Refusal, read_text};
 use flows::FlowReport;
-use forward_command::{Printing, text_of};
+use forward_command::{Printing, forward_script, text_of};
 use forwarder::{Config, Report};
-use forwarding::Open;
 use progress::Form;
 use std::alloc::{AllocError, Global};
 use std::io::{Read, Write};
@@ -67,9 +67,9 @@ pub(crate) fn forwarded<R: Threads + Wait + Clock + Sync, M: Write + Send>(
     ensures refused { IfErr result (λ e. IsUnforwarded config.now script e) }
     ensures screen { form ≡ None → screen.new ≡ screen.old }
 {
-    let forwarded = progress::forward(rt, alloc, &script, config, &Open, screen, form);
+    let forwarded = forward_script(rt, alloc, config, &script, screen, form);
     drop(script);
-    Ok(forwarded?)
+    forwarded
 }
 
 /// The page of reports, after the wire files were written.

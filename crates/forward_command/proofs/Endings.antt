@@ -4,22 +4,24 @@ use Rattle.std.specs.Prelude.{Ok, Err}
 use Rattle.std.specs.Io.KnownBytes.{Appends, Keeps}
 use Rattle.commands.specs.declared.answering.TheConstants.{DONE, REFUSED}
 use Rattle.commands.specs.declared.refusal.Refusal.{Refusal}
+use Rattle.flows.specs.declared.report.FlowReport.{FlowReport}
 use Rattle.forwarder.specs.Configs.{FitsIn}
 use Rattle.forwarder.specs.declared.config.Config.{Config}
 use Rattle.wire_script.specs.Frame.{Frame}
 use Rattle.wire_script.specs.Script.{script_of}
 use Rattle.wire_script.specs.declared.error.ScriptError.{ScriptError}
 use Rattle.forward_command.specs.declared.printing.Printing.{Printing}
-use Rattle.forward_command.specs.Forwards.{EndsForward, HasForwarded, IsForwardable, IsForwarded, PrintsForward, WithholdsForward}
+use Rattle.forward_command.specs.Forwards.{EndsForward, HasForwarded, HasReport, IsForwarded, PrintsForward, WithholdsForward}
 
--- a script that can be forwarded has no fault
-no-fault : (config : Config) (text : List ℕ) (script : List Frame) (e : ScriptError) → IsForwardable config text script → script_of text ≡ Err e → ⊥
-no-fault config text script e is bad = let says = is.says in cc
+-- a text that was forwarded has no fault
+no-fault : (config : Config) (text : List ℕ) (flows : List FlowReport) (e : ScriptError) → HasReport config text flows → script_of text ≡ Err e → ⊥
+no-fault config text flows e report bad = let says = report.says in cc
 
 -- and fits
-no-misfit : (config : Config) (text : List ℕ) (script other : List Frame) → IsForwardable config text script → script_of text ≡ Ok other
+no-misfit : (config : Config) (text : List ℕ) (flows : List FlowReport) (other : List Frame) → HasReport config text flows → script_of text ≡ Ok other
     → ¬ (FitsIn other config) → ⊥
-no-misfit config text script other is says not = let same : script ≡ other = (let mine = is.says in cc) in not (subst (λ (s : List Frame). FitsIn s config) same is.fits)
+no-misfit config text flows other report says not =
+    let same : report.script ≡ other = (let mine = report.says in cc) in not (subst (λ (s : List Frame). FitsIn s config) same report.reports.fits)
 
 -- refused is not done
 undone : (config : Config) (printing : Printing) (text : List ℕ) (old new : Option (List ℕ)) → REFUSED ≡ DONE → HasForwarded config printing text old new
@@ -30,8 +32,8 @@ done : (config : Config) (printing : Printing) (text page : List ℕ) (old new :
 done config printing text page old new (read, same, has) printed = subst (λ (t : List ℕ). EndsForward config printing t DONE old new) same (record {
   done = λ e. record { flows = has.flows; report = has.report; printed = subst (λ (t : List ℕ). Appends old new t) has.printed printed };
   either = inl refl;
-  faulty = λ e bad. absurd (no-fault config read has.report.script e has.report.forwardable bad);
-  unfit = λ script says not. absurd (no-misfit config read has.report.script script has.report.forwardable says not);
+  faulty = λ e bad. absurd (no-fault config read has.flows e has.report bad);
+  unfit = λ script says not. absurd (no-misfit config read has.flows script has.report says not);
 })
 
 -- a refusal that prints nothing ends it, whatever the text is
@@ -43,8 +45,8 @@ unprinted : (config : Config) (printing : Printing) (text page : List ℕ) (old 
 unprinted config printing text page old new (read, same, has) = subst (λ (t : List ℕ). EndsForward config printing t REFUSED old new) same (record {
   done = undone config printing read old new;
   either = inr refl;
-  faulty = λ e bad. absurd (no-fault config read has.report.script e has.report.forwardable bad);
-  unfit = λ script says not. absurd (no-misfit config read has.report.script script has.report.forwardable says not);
+  faulty = λ e bad. absurd (no-fault config read has.flows e has.report bad);
+  unfit = λ script says not. absurd (no-misfit config read has.flows script has.report says not);
 })
 
 pub done-ends : (config : Config) (printing : Printing) (input old new : Option (List ℕ)) (text : List ℕ) → PrintsForward config printing input old new → input ≡ Some text

@@ -13,7 +13,7 @@ use Rattle.wire_script.specs.ScriptError.{Fails}
 use Rattle.wire_script.specs.declared.error.ScriptError.{ScriptError}
 use Rattle.commands.specs.declared.refusal.Refusal.{Refusal}
 use Rattle.commands.specs.declared.refusal.Refusal.TheVariants as refusal
-use Rattle.forward_command.specs.Forwards.{ForwardRefused, HasReport}
+use Rattle.forward_command.specs.Forwards.{ForwardRefused, HasReport, IsUnforwarded, IsUnrun}
 
 -- a fault of the script
 pub by-script : (config : Config) (text : List ℕ) (e : Refusal) (fault : ScriptError) → e ≡ refusal.Script fault → Fails fault (script_of text)
@@ -21,21 +21,26 @@ pub by-script : (config : Config) (text : List ℕ) (e : Refusal) (fault : Scrip
 by-script config text e fault is fails = subst (ForwardRefused config text) (sym is) fails
 
 -- the configuration, or what a forwarding wants that may begin
-pub by-forward : {A : Type 0} (config : Config) (text : List ℕ) (script : List Frame) (e : ForwardError) → script_of text ≡ Ok script
+pub unrun : {A : Type 0} (config : Config) (script : List Frame) (e : ForwardError)
     → (◌≡◌ {A = Result A ForwardError} (Err e) (Err forward.Config) → ¬ (FitsIn script config))
     → ◌≡◌ {A = Result A ForwardError} (Err e) (Err forward.Config) ⊎ FitsIn script config
-    → {G : Type 0} (gate : G) → (FitsIn script config → Halted {G = G} (λ _ _ _ b. b ≡ true) gate e) → ForwardRefused config text (refusal.Forward e)
-by-forward config text script forward.Config says unfit either gate halted = (script, says, unfit refl)
-by-forward config text script forward.Memory says unfit (inl bad) gate halted = cc bad
-by-forward config text script forward.Memory says unfit (inr fits) gate halted = (script, record { says = says; fits = fits })
-by-forward config text script forward.Thread says unfit (inl bad) gate halted = cc bad
-by-forward config text script forward.Thread says unfit (inr fits) gate halted = (script, record { says = says; fits = fits })
-by-forward config text script forward.Gate says unfit (inl bad) gate halted = cc bad
-by-forward config text script forward.Gate says unfit (inr fits) gate halted = let never : false ≡ true = (halted fits).1.1 in cc never
+    → {G : Type 0} (gate : G) → (FitsIn script config → Halted {G = G} (λ _ _ _ b. b ≡ true) gate e) → IsUnrun config script e
+unrun config script forward.Config unfit either gate halted = unfit refl
+unrun config script forward.Memory unfit (inl bad) gate halted = cc bad
+unrun config script forward.Memory unfit (inr fits) gate halted = fits
+unrun config script forward.Thread unfit (inl bad) gate halted = cc bad
+unrun config script forward.Thread unfit (inr fits) gate halted = fits
+unrun config script forward.Gate unfit (inl bad) gate halted = cc bad
+unrun config script forward.Gate unfit (inr fits) gate halted = let never : false ≡ true = (halted fits).1.1 in cc never
+
+-- a script that is not forwarded
+pub by-forward : (config : Config) (text : List ℕ) (script : List Frame) (e : Refusal) → script_of text ≡ Ok script → IsUnforwarded config script e
+    → ForwardRefused config text e
+by-forward config text script e says (why, is, unrun) = subst (ForwardRefused config text) (sym is) (script, says, unrun)
 
 -- and want of memory for its text
 pub by-text : (config : Config) (text : List ℕ) (flows : List FlowReport) (e : Refusal) → e ≡ refusal.Memory → HasReport config text flows → ForwardRefused config text e
-by-text config text flows e is report = subst (ForwardRefused config text) (sym is) (report.script, report.forwardable)
+by-text config text flows e is report = subst (ForwardRefused config text) (sym is) (report.script, report.says, report.reports.fits)
 
 -- a forwarding that was not refused for its configuration began with one that fits
 pub fits-then : {A : Type 0} (x : A) (P : Type 0) → ◌≡◌ {A = Result A ForwardError} (Ok x) (Err forward.Config) ⊎ P → P

@@ -10,6 +10,7 @@ use Rattle.flows.specs.declared.report.FlowReport.{FlowReport}
 use Rattle.forwarder.specs.Configs.{FitsIn}
 use Rattle.forwarder.specs.Plans.{plan}
 use Rattle.forwarder.specs.declared.config.Config.{Config}
+use Rattle.forwarding.specs.declared.error.ForwardError.{ForwardError}
 use Rattle.forwarding.specs.declared.error.ForwardError.TheVariants as forward
 use Rattle.wire_script.specs.Frame.{Frame}
 use Rattle.wire_script.specs.Script.{script_of}
@@ -18,17 +19,27 @@ use Rattle.wire_script.specs.declared.error.ScriptError.{ScriptError}
 use Rattle.forward_command.specs.Text.{report_text}
 use Rattle.forward_command.specs.declared.printing.Printing.{Printing}
 
--- the text is a script that can be forwarded so
-pub record IsForwardable (config : Config) (text : List ℕ) (script : List Frame) : Type 0 where
-  pub says : script_of text ≡ Ok script
+-- these are the reports of a script's flows, which fits
+pub record AreReports (config : Config) (script : List Frame) (flows : List FlowReport) : Type 0 where
   pub fits : FitsIn script config
-
--- and these are the reports of its flows
-pub record HasReport (config : Config) (text : List ℕ) (flows : List FlowReport) : Type 0 where
-  pub script : List Frame
-  pub forwardable : IsForwardable config text script
   pub count : length flows ≡ PORTS * config.pairs
   pub reports : (flow : ℕ) (d : FlowReport) → flow < PORTS * config.pairs → IsReport (plan config script flow) (slice_index_or flows flow d)
+
+-- why a script has none: it doesn't fit; or it does, and the run wants memory or a thread. No gate refuses
+abbrev pub IsUnrun : Config → List Frame → ForwardError → Type 0
+IsUnrun config script forward.Config = ¬ (FitsIn script config)
+IsUnrun config script forward.Memory = FitsIn script config
+IsUnrun config script forward.Thread = FitsIn script config
+IsUnrun config script forward.Gate = ⊥
+
+abbrev pub IsUnforwarded : Config → List Frame → Refusal → Type 0
+IsUnforwarded config script e = (why : ForwardError) × (e ≡ refusal.Forward why) × IsUnrun config script why
+
+-- these are the reports of the flows of the script that a text is
+pub record HasReport (config : Config) (text : List ℕ) (flows : List FlowReport) : Type 0 where
+  pub script : List Frame
+  pub says : script_of text ≡ Ok script
+  pub reports : AreReports config script flows
 
 -- the page is what a report of it prints
 pub record HasPage (config : Config) (printing : Printing) (text page : List ℕ) : Type 0 where
@@ -43,13 +54,11 @@ pub record HasForwarded (config : Config) (printing : Printing) (text : List ℕ
   pub printed : Appends old new (report_text printing config.pairs flows)
 
 -- Why a text that was read is refused, the first that applies: its own fault comes before a configuration that doesn't fit,
--- and that before what the run wants. No gate refuses
+-- and that before what the run, or the text of what came of it, wants
 abbrev pub ForwardRefused : Config → List ℕ → Refusal → Type 0
 ForwardRefused config text (refusal.Script e) = Fails e (script_of text)
-ForwardRefused config text (refusal.Forward forward.Config) = (script : List Frame) × (script_of text ≡ Ok script) × ¬ (FitsIn script config)
-ForwardRefused config text (refusal.Forward forward.Memory) = (script : List Frame) × IsForwardable config text script
-ForwardRefused config text (refusal.Forward forward.Thread) = (script : List Frame) × IsForwardable config text script
-ForwardRefused config text refusal.Memory = (script : List Frame) × IsForwardable config text script
+ForwardRefused config text (refusal.Forward why) = (script : List Frame) × (script_of text ≡ Ok script) × IsUnrun config script why
+ForwardRefused config text refusal.Memory = (script : List Frame) × (script_of text ≡ Ok script) × FitsIn script config
 ForwardRefused config text e = ⊥
 
 -- a text was read, which is the input's where that is known, and the page is what a report of it prints

@@ -1,8 +1,8 @@
 //! The command `forward` of the program `poll82599`: a script's frames forwarded between two ports, from text to text.
 //!
 //! [`forward`] makes the text of an input and a configuration: what went onto the wires, as a script's lines, and then a
-//! line of counts a flow, or a JSON object of them ([`Printing`]). [`perform`] prints it, and [`answer`] does the same for a caller who wants an exit status. It
-//! stands beside the crate `commands`, whose refusals it answers, so that those commands need no forwarder.
+//! line of counts a flow, or a JSON object of them ([`Printing`]). [`perform`] prints it, and [`answer`] does the same for a
+//! caller who wants an exit status; [`forward_script`] is for those who have a script. It stands beside the crate `commands`, whose refusals it answers, so that those commands need no forwarder.
 #![tactic(auto)]
 
 mod answering;
@@ -12,6 +12,6 @@ mod printing;
 mod text;
 
 pub use answering::{answer, perform};
-pub use page::forward;
+pub use page::{forward, forward_script};
 pub use printing::Printing;
 pub use text::text_of;

@@ -5,7 +5,7 @@ ghost use Rattle.commands.specs.declared.refusal.Refusal.TheVariants as refusal;
 ghost use Rattle.wire_script.specs.Script.{script_of};
 ghost use Rattle.wire_script.specs.ScriptError.{Fails};
 ghost use Rattle.wire_script.specs.declared.error.ScriptError.{ScriptError};
-ghost use Rattle.forward_command.specs.Forwards.{ForwardRefused, HasPage, HasReport, IsForwarded, RefusesForward};
+ghost use Rattle.forward_command.specs.Forwards.{AreReports, ForwardRefused, HasPage, HasReport, IsForwarded, IsUnforwarded, RefusesForward};
 
 use crate::printing::Printing;
 use crate::text::text_of;
@@ -76,7 +76,26 @@ fn report_for<R: Threads + Wait + Clock + Sync, M: Write + Send>(
     ensures screen { form ≡ None → screen.new ≡ screen.old }
 {
     let script = script_in(alloc, text)?;
-    Ok(progress::forward(rt, alloc, &script, config, &Open, screen, form)?)
+    forward_script(rt, alloc, config, &script, screen, form)
+}
+
+/// Forwards a script, and answers what became of its flows. How far it is goes to `screen` in this form, if it is shown; a
+/// screen that fails changes nothing.
+///
+/// It answers the forwarder's `Config`, else its `Memory` or `Thread`.
+pub fn forward_script<R: Threads + Wait + Clock + Sync, M: Write + Send>(
+    rt: &R,
+    alloc: Global,
+    config: &Config,
+    script: &Script,
+    screen: &mut M,
+    form: Option<Form>,
+) -> Result<Report, Refusal>
+    ensures report { IfOk result (λ r. AreReports config.now script.now r.flows.items) }
+    ensures refused { IfErr result (λ e. IsUnforwarded config.now script.now e) }
+    ensures screen { form ≡ None → screen.new ≡ screen.old }
+{
+    Ok(progress::forward(rt, alloc, script, config, &Open, screen, form)?)
 }
 
 /// The script that a text says.
