@@ -2,20 +2,12 @@
 use Rattle.ring_model.proofs.receive.Reached.{rx_kept, rx_lawful, rx_concluded}
 use Rattle.ring_model.proofs.laws.rx_rings_are_lawful.Goals as goal
 
-pub returns-clause-bytes : goal.returns-clause-bytes
-returns-clause-bytes c = λ n r h e. rx_lawful n r (rx_kept n r h e)
-
-pub returns-clause-lengths : goal.returns-clause-lengths
-returns-clause-lengths c = λ n r h e. rx_lawful n r (rx_kept n r h e)
-
-pub returns-clause-concluded_bytes : goal.returns-clause-concluded_bytes
-returns-clause-concluded_bytes c = λ n r h e. rx_concluded n r (rx_kept n r h e)
-
-pub returns-clause-concluded_lengths : goal.returns-clause-concluded_lengths
-returns-clause-concluded_lengths c = λ n r h e. rx_concluded n r (rx_kept n r h e)
-
-pub returns-clause-kept_bytes : goal.returns-clause-kept_bytes
-returns-clause-kept_bytes c = λ n r h e. rx_kept n r h e
-
-pub returns-clause-kept_lengths : goal.returns-clause-kept_lengths
-returns-clause-kept_lengths c = λ n r h e. rx_kept n r h e
+pub returns : goal.returns
+returns c = record {
+  bytes = λ n r h e. rx_lawful n r (rx_kept n r h e);
+  lengths = λ n r h e. rx_lawful n r (rx_kept n r h e);
+  concluded_bytes = λ n r h e. rx_concluded n r (rx_kept n r h e);
+  concluded_lengths = λ n r h e. rx_concluded n r (rx_kept n r h e);
+  kept_bytes = rx_kept;
+  kept_lengths = rx_kept;
+}

@@ -1,5 +1,5 @@
 -- Each row is computed.
-use Rattle.std.proofs.Common.{true, false, refl, arith}
+use Rattle.std.proofs.Common.{true, false, refl, rules, arith}
 use Rattle.std.proofs.lemmas.Bool.{false≢true}
 use Rattle.ring_model.proofs.shared.Shapes.{shapes-cut}
 use Rattle.ring_model.proofs.transmit.PostingRows.{begins, begun, goes_on, went_on}
@@ -34,97 +34,19 @@ returns-clause-follow c = record {
 }
 
 pub returns-clause-receive : goal.returns-clause-receive
-returns-clause-receive c = record {
-  one_frame = refl;
-  early_and_late_loads = refl;
-  seven_places = refl;
-  seven_fit = refl;
-  twenty_one = refl;
-  twenty_first = refl;
-  twenty_one_head = refl;
-  head_alone = refl;
-  looks = refl;
-  never_enabled = refl;
-  disabling_in_a_frame = refl;
-  renewed = refl;
-  renewal_steps = refl;
-  renewal_count = refl;
-  second_disabled = refl;
-  two_epochs = refl;
-  asked_at_every_step = refl;
-  on_and_off = refl;
-  asked_too_early = refl;
-  answered_once = refl;
-  cleared_once = refl;
-  head_before_clearing = refl;
-  head_after_clearing = refl;
-  quiet_between_frames = refl;
-  quiet_and_renewed = refl;
-}
+returns-clause-receive c = search rules
 
 pub returns-clause-transmit : goal.returns-clause-transmit
-returns-clause-transmit c = record {
-  one_frame_by_status = refl;
-  one_frame_by_head = refl;
-  two_frames_by_status = refl;
-  two_frames_by_head = refl;
-  two_frames_count = refl;
-  two_frames_count_by_head = refl;
-  two_reports_by_status = refl;
-  two_reports_by_head = refl;
-  in_turn = refl;
-  seven_places = refl;
-  seven_fit = refl;
-  looks = refl;
-  enabled_late = refl;
-  wrapped_report = refl;
-  disabled_by_status = refl;
-  renewed_by_status = refl;
-  renewed_by_head = refl;
-  second_disabled_by_status = refl;
-  second_disabled_by_head = refl;
-  two_epochs = refl;
-}
+returns-clause-transmit c = search rules
 
 pub returns-clause-receive_states : goal.returns-clause-receive_states
-returns-clause-receive_states c = record {
-  asked = refl;
-  full_before_asking = refl;
-  served_while_asked = refl;
-  within_a_frame = refl;
-  stopping = refl;
-  answered = refl;
-  quiet_first = refl;
-  nothing_posted = refl;
-  not_published = refl;
-  full_ring = refl;
-  third_epoch = refl;
-}
+returns-clause-receive_states c = search rules
 
 pub returns-clause-transmit_states : goal.returns-clause-transmit_states
-returns-clause-transmit_states c = record {
-  asked = refl;
-  full_before_asking = refl;
-  within_a_frame = refl;
-  half_sent = refl;
-  stopping = refl;
-  answered = refl;
-  nothing_posted = refl;
-  nothing_posted_by_head = refl;
-  not_published = refl;
-  full_ring = refl;
-  third_epoch = refl;
-}
+returns-clause-transmit_states c = search rules
 
 pub returns-clause-worlds : goal.returns-clause-worlds
-returns-clause-worlds c = record {
-  mixed_notes = refl;
-  mixed_count = refl;
-  posted = refl;
-  taken_lengths = refl;
-  sent = refl;
-  enabling_notes = refl;
-}
+returns-clause-worlds c = search rules
 
 pub returns-clause-postings : goal.returns-clause-postings
 returns-clause-postings c = record {
