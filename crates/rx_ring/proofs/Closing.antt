@@ -68,7 +68,7 @@ module _ (d : DriverSide) (c : ControllerSide) (at : DriverPlaces) (e : IsPoster
     number = f.4.0;
   }
 
-  pub closed-by : IsClosed d c buffers
+  closed-by : IsClosed d c buffers
   closed-by = let l = t.left in let a = l.of_one_ring in let b = a.lawful in let k = kept in let p = placed in
       subst (λ (bs : List (Option Buffer)). IsClosed d c bs) (sym t.kept) (record {
         of_one_ring = l.of_one_ring;
@@ -78,7 +78,7 @@ module _ (d : DriverSide) (c : ControllerSide) (at : DriverPlaces) (e : IsPoster
         others = kept-else q.queue (driver_size d) ends_segment k.queue q.owners b.map a.size_is at.next at.out places.serve places.holding big p.next_is p.out_is p.held_is p.serve_is t.slots Lies Is buffer-of l.buffers;
       })
 
-  pub closed-real : AllReal buffers
+  closed-real : AllReal buffers
   closed-real = let l = t.left in let a = l.of_one_ring in let b = a.lawful in let k = kept in let p = placed in
       subst AllReal (sym t.kept) (kept-all q.queue (driver_size d) ends_segment k.queue q.owners b.map a.size_is at.next at.out places.serve places.holding big p.next_is p.out_is p.held_is p.serve_is t.slots Lies Is buffer-of l.buffers
       IsReal (λ j past. let y = buffer-of j past in y.1.1.1))
@@ -87,7 +87,7 @@ module _ (d : DriverSide) (c : ControllerSide) (at : DriverPlaces) (e : IsPoster
   held-here : number_at (held c) ≡ number_at (if q.held then lies_there (slice_get q.ledger.posted (served_count q.queue)) None else None)
   held-here = let l = t.left in let a = l.of_one_ring in let o = a.controller in ap (λ (z : TableId). number_at (controlling z.slots c.events).held) same ∙ ap number_at o.held
 
-  pub closed-once : AllCameBack d c buffers
+  closed-once : AllCameBack d c buffers
   closed-once = let l = t.left in let a = l.of_one_ring in let b = a.lawful in let k = kept in let p = placed in
       subst (λ (bs : List (Option Buffer)). AllCameBack d c bs) (sym t.kept)
       (subst (λ (x : RxDriven). IsPermutation (map (λ (j : ℕ). j) (drop (length x.given + x.reclaimed) x.posted)) (numbers_at (kept_upto (kept_at (driver_size d) at.next at.out places.serve places.holding t.slots) (driver_size d)) ++ number_at (held c))) (sym a.driver)
@@ -96,3 +96,13 @@ module _ (d : DriverSide) (c : ControllerSide) (at : DriverPlaces) (e : IsPoster
       (number_at (held c))
       (λ no. held-here ∙ ap (λ (h : Bool). number_at (if h then lies_there (slice_get q.ledger.posted (served_count q.queue)) None else None)) no)
       (λ yes x e. held-here ∙ ap (λ (h : Bool). number_at (if h then lies_there (slice_get q.ledger.posted (served_count q.queue)) None else None)) yes ∙ ap (λ (o : Option ℕ). number_at (lies_there o None)) e)))
+
+-- the same of the two ends as a caller sees them
+pub closed : (d seen : DriverSide) (c other : ControllerSide) (at : DriverPlaces) (places : ControllerPlaces) (buffers : List (Option Buffer)) → d ≡ seen → c ≡ other → other.table ≡ seen.table
+    → IsPoster (driver_size d) (driver_record d) at → IsServer piece_of (controller_size c) (controller_record c) places → TakenApart d c at.next at.out places.serve places.holding buffers
+    → IsClosed seen other buffers × AllReal buffers × AllCameBack seen other buffers
+closed d seen c other at places buffers e f one p s t =
+    let same : c.table ≡ d.table = ap (λ (x : ControllerSide). x.table) f ∙ one ∙ sym (ap (λ (x : DriverSide). x.table) e) in
+    subst (λ (x : DriverSide). IsClosed x other buffers × AllReal buffers × AllCameBack x other buffers) e
+    (subst (λ (x : ControllerSide). IsClosed d x buffers × AllReal buffers × AllCameBack d x buffers) f
+    (closed-by d c at p same places s buffers t, closed-real d c at p same places s buffers t, closed-once d c at p same places s buffers t))
