@@ -1,14 +1,15 @@
 -- What clap makes of `from-capture` and `to-capture` and their places.
 use Rattle.std.proofs.Common.{◌≡◌, ◌∙◌, ◌+◌, ap, ap₂, sym, refl, arith, ℕ, suc, zero, true, List, [], ◌∷◌, codes, Option, Some, None, option_map}
-use Rattle.std.specs.Prelude.{◌<◌, decimal, Result, Ok, Err}
+use Rattle.std.specs.Prelude.{◌<◌, IsSomeAnd, decimal, Result, Ok, Err}
 use Rattle.std.specs.Str.Parse.{ExplainsUnsignedError, HasUnsignedDigitsIfOk, ParsesUnsigned}
 use Rattle.std.proofs.lemmas.Fmt.{decimal_digit, parse-decimal}
-use Rattle.clap.specs.Words.{App, ReadsOne, Row, Text, one_of, subcommand_of, takes}
+use Rattle.clap.specs.Words.{App, ReadsOne, Row, Text, one_of, one_text, rows_of, subcommand_of, takes}
+use Rattle.clap.specs.declared.parser.matches.Found.{Found}
 use Rattle.clap.proofs.OnLiterals.{clap_on_literals}
 use Rattle.limits.specs.declared.profile.TheConstants.{MOST_PAIRS, PORTS}
-use Rattle.command_line.specs.CaptureWords.{HasFromCapture, HasToCapture, SaysFromCapture, SaysToCapture}
+use Rattle.command_line.specs.CaptureWords.{HasFromCapture, HasPlace, HasToCapture, SaysFromCapture, SaysToCapture}
 use Rattle.command_line.specs.CommandLine.{Choices, IsProgram, program_app}
-use Rattle.command_line.proofs.CommandLine.{rows_in}
+use Rattle.command_line.proofs.CommandLine.{is_there, rows_in, text_is}
 
 -- ---- a port, and a queue
 
@@ -28,8 +29,14 @@ each-queue P (suc (suc (suc (suc (suc (suc zero)))))) low p0 p1 p2 p3 p4 p5 p6 p
 each-queue P (suc (suc (suc (suc (suc (suc (suc zero))))))) low p0 p1 p2 p3 p4 p5 p6 p7 = p7
 each-queue P (suc (suc (suc (suc (suc (suc (suc (suc n)))))))) low p0 p1 p2 p3 p4 p5 p6 p7 = absurd (omega (arith, low))
 
+-- a queue of a port
+each-place : (P : ℕ → ℕ → Type 0) (n k : ℕ) → n < PORTS → k < MOST_PAIRS → P 0 0 → P 0 1 → P 0 2 → P 0 3 → P 0 4 → P 0 5 → P 0 6 → P 0 7
+    → P 1 0 → P 1 1 → P 1 2 → P 1 3 → P 1 4 → P 1 5 → P 1 6 → P 1 7 → P n k
+each-place P n k port queue a0 a1 a2 a3 a4 a5 a6 a7 b0 b1 b2 b3 b4 b5 b6 b7 =
+    each-port (λ m. P m k) n port (each-queue (P 0) k queue a0 a1 a2 a3 a4 a5 a6 a7) (each-queue (P 1) k queue b0 b1 b2 b3 b4 b5 b6 b7)
+
 -- as ports are fewer than queues
-pub port-is-place : (n : ℕ) → n < PORTS → n < MOST_PAIRS
+port-is-place : (n : ℕ) → n < PORTS → n < MOST_PAIRS
 port-is-place n low = omega (arith, low)
 
 reads_by : {E : Type 0} (G : List ℕ → Result ℕ E → Type 0) (n : ℕ) (r : Option ℕ) → n < MOST_PAIRS
@@ -41,14 +48,22 @@ reads_by {E} G n None low parses reads =
     parse-decimal 8 n (decimal n) (Err reads.0) (omega (arith, low)) (omega (arith, low)) refl (parses (decimal n) (Err reads.0) reads.1) in cc
 
 -- what `get_one` reads of it
-pub reads_place : (n : ℕ) (r : Option ℕ) → n < MOST_PAIRS
+reads_place : (n : ℕ) (r : Option ℕ) → n < MOST_PAIRS
     → ReadsOne (λ bs x. ParsesUnsigned 8 10 bs x × ExplainsUnsignedError 10 bs x × HasUnsignedDigitsIfOk bs x) (decimal n) r → r ≡ Some n
 reads_place n r low reads =
     reads_by (λ bs x. ParsesUnsigned 8 10 bs x × ExplainsUnsignedError 10 bs x × HasUnsignedDigitsIfOk bs x) n r low (λ u x g. g.0) reads
 
+pub place_is : (found : Found) (id : Text) (n : ℕ) (r : Option ℕ) → HasPlace (rows_of found) id n
+    → ((text : Text) → one_text found id ≡ Some text
+    → ReadsOne (λ bs x. ParsesUnsigned 8 10 bs x × ExplainsUnsignedError 10 bs x × HasUnsignedDigitsIfOk bs x) text r) → IsSomeAnd r (λ m. m ≡ n)
+place_is found id n r has reads = is_there n r (reads_place n r has.low (reads (decimal n) (text_is found id (decimal n) has.value)))
+
 -- its one digit
 abbrev digit : ℕ → Text
 digit n = (48 + n) ∷ []
+
+has_place : (rows : List Row) (id : Text) (n : ℕ) → n < MOST_PAIRS → one_of id rows ≡ Some (digit n) → HasPlace rows id n
+has_place rows id n low is = record { value = is ∙ ap (λ (t : Text). Some t) (sym (decimal_digit n (omega (arith, low)))); low = low }
 
 -- ---- from a capture
 
@@ -65,9 +80,7 @@ TakesFrom rings formats port queue = takes (program_app rings formats) (from_wor
 takes_from : (rings formats : Choices) (port queue : ℕ) → port < PORTS → queue < MOST_PAIRS → TakesFrom rings formats port queue
 unfolding clap_on_literals
 takes_from rings formats port queue port_is queue_is =
-    each-port (λ p. TakesFrom rings formats p queue) port port_is
-    (each-queue (TakesFrom rings formats 0) queue queue_is refl refl refl refl refl refl refl refl)
-    (each-queue (TakesFrom rings formats 1) queue queue_is refl refl refl refl refl refl refl refl)
+    each-place (TakesFrom rings formats) port queue port_is queue_is refl refl refl refl refl refl refl refl refl refl refl refl refl refl refl refl
 
 abbrev Places : Type 0
 Places = Option Text × Option Text
@@ -83,9 +96,7 @@ FindsFrom rings formats port queue =
 finds_from : (rings formats : Choices) (port queue : ℕ) → port < PORTS → queue < MOST_PAIRS → FindsFrom rings formats port queue
 unfolding clap_on_literals
 finds_from rings formats port queue port_is queue_is =
-    each-port (λ p. FindsFrom rings formats p queue) port port_is
-    (each-queue (FindsFrom rings formats 0) queue queue_is refl refl refl refl refl refl refl refl)
-    (each-queue (FindsFrom rings formats 1) queue queue_is refl refl refl refl refl refl refl refl)
+    each-place (FindsFrom rings formats) port queue port_is queue_is refl refl refl refl refl refl refl refl refl refl refl refl refl refl refl refl
 
 pub from_taken : (app : App) (words : List Text) (port queue : ℕ) → IsProgram app → SaysFromCapture words port queue → takes app words ≡ true
 from_taken app words port queue program says =
@@ -102,10 +113,9 @@ from_found app words port queue program says =
       found.0,
       found.1,
       record {
-        port_text = ap (λ (v : Places). v.0) found.2 ∙ ap (λ (t : Text). Some t) (sym (decimal_digit port (omega (arith, says.port_is))));
-        queue_text = ap (λ (v : Places). v.1) found.2 ∙ ap (λ (t : Text). Some t) (sym (decimal_digit queue (omega (arith, says.queue_is))));
+        has_port = has_place found.0 (codes "port") port (port-is-place port says.port_is) (ap (λ (v : Places). v.0) found.2);
+        has_queue = has_place found.0 (codes "queue") queue says.queue_is (ap (λ (v : Places). v.1) found.2);
         port_is = says.port_is;
-        queue_is = says.queue_is;
       },
     )
 
@@ -145,4 +155,4 @@ to_found app words port program says =
     ∙ ap (subcommand_of (program_app program.rings program.formats)) (says.words_are ∙ to_words_are port says.port_is) in
     let found = rows_in (one_of (codes "port")) (subcommand_of app words) (codes "to-capture") (Some (digit port))
     (ap (option_map {U = Text × Option Text} (λ p. (p.0, one_of (codes "port") p.1))) same ∙ finds_to program.rings program.formats port says.port_is) in
-    (found.0, found.1, record { port_text = found.2 ∙ ap (λ (t : Text). Some t) (sym (decimal_digit port (omega (arith, says.port_is)))); port_is = says.port_is })
+    (found.0, found.1, record { has_port = has_place found.0 (codes "port") port (port-is-place port says.port_is) found.2; port_is = says.port_is })

@@ -1,6 +1,6 @@
 -- What clap makes of the program's words: the program as a whole, and words that are no command line.
 use Rattle.std.proofs.Common.{◌≡◌, ◌≢◌, ◌∙◌, ap, ap₂, sym, subst, refl, inl, inr, arith, ℕ, pos, Bool, true, false, List, [], ◌∷◌, ◌==◌, codes, map, drop, slice_index, slice_index_or, Option, Some, None, option_map, unwrap_or}
-use Rattle.std.specs.Prelude.{◌⊎◌, ◌<◌, ◌≤◌, ◌^◌, ◌||◌, if◌then◌else◌, All, cond, decimal, find, neg_ℤ, option_and_then, Result, Ok, Err}
+use Rattle.std.specs.Prelude.{◌⊎◌, ◌<◌, ◌≤◌, ◌^◌, ◌||◌, if◌then◌else◌, All, IsSomeAnd, cond, decimal, find, neg_ℤ, option_and_then, Result, Ok, Err}
 use Rattle.std.specs.Borrow.{Bor}
 use Rattle.std.specs.Option.{option_map_or}
 use Rattle.std.specs.Str.{bytes_eq}
@@ -27,6 +27,7 @@ use Rattle.clap.proofs.OnLiterals.{clap_on_literals}
 use Rattle.clap.proofs.ValueTestLemmas.{Accepts-accepts}
 use Rattle.clap.proofs.WalkLemmas.{find_row, first_value-rows, one_text-rows}
 use Rattle.command_line.specs.CommandLine.{AreMistakes, Choices, IsMistake, IsMisuse, IsProgram, program_app}
+use Rattle.command_line.specs.OptionWords.{HasFlag, HasNumber}
 use Rattle.command_line.specs.ScheduleWords.{by_words, is_said}
 
 -- ---- the program
@@ -60,18 +61,18 @@ rows_in {V} read (Some p) name seen is =
     (p.1, ap (λ (q : Text × V). Some (q.0, p.1)) same, ap (λ (q : Text × V). q.1) same)
 
 -- an argument's value, as `get_str` gives it
-pub value_is : (found : Found) (id seen : Text) → first_of id (rows_of found) ≡ Some seen → first_value found id ≡ Some seen
+value_is : (found : Found) (id seen : Text) → first_of id (rows_of found) ≡ Some seen → first_value found id ≡ Some seen
 value_is found id seen is = first_value-rows found id ∙ is
 
 -- and as `get_one` and `get_flag` do
 pub text_is : (found : Found) (id seen : Text) → one_of id (rows_of found) ≡ Some seen → one_text found id ≡ Some seen
 text_is found id seen is = one_text-rows found id ∙ is
 
-pub texts_equal : (a b : Text) (o : Option Text) → Some a ≡ o → o ≡ Some b → a ≡ b
-texts_equal a b o left right = ap (λ (p : Option Text). unwrap_or p a) (left ∙ right)
-
-pub none_is_none : (b : Text) (o : Option Text) → None ≡ o → o ≡ Some b → ⊥
-none_is_none b o left right = let bad : None ≡ Some b = left ∙ right in cc bad
+-- so the word of an argument is this one
+pub word_is : (found : Found) (id text : Text) (r : Option (Bor Text)) → option_map (λ word. word.now) r ≡ first_value found id → first_of id (rows_of found) ≡ Some text
+    → IsSomeAnd r (λ word. word.now ≡ text)
+word_is found id text None is said = let bad : None ≡ Some text = is ∙ value_is found id text said in cc bad
+word_is found id text (Some word) is said = ap (λ (o : Option Text). unwrap_or o word.now) (is ∙ value_is found id text said)
 
 -- a word that clap takes for no option
 pub record IsPlain (word : Text) : Type 0 where
@@ -159,22 +160,31 @@ reads_by {E} G n None fits parses reads =
     parse-decimal 32 n (decimal n) (Err reads.0) (omega arith) (omega arith) refl (parses (decimal n) (Err reads.0) reads.1) in cc
 
 -- what `get_one` reads of a number
-pub reads_number : (n : ℕ) (r : Option ℕ) → n < 2 ^ 32
+reads_number : (n : ℕ) (r : Option ℕ) → n < 2 ^ 32
     → ReadsOne (λ bs x. ParsesUnsigned 32 10 bs x × ExplainsUnsignedError 10 bs x × HasUnsignedDigitsIfOk bs x) (decimal n) r → r ≡ Some n
 reads_number n r fits reads =
     reads_by (λ bs x. ParsesUnsigned 32 10 bs x × ExplainsUnsignedError 10 bs x × HasUnsignedDigitsIfOk bs x) n r fits (λ u x g. g.0) reads
 
--- the number of an option, and that it has one
-pub number_is : (found : Found) (id : Text) (n : ℕ) (r : Option ℕ) → one_of id (rows_of found) ≡ Some (decimal n) → n < 2 ^ 32
+-- what is read is there, and is this
+pub is_there : (n : ℕ) (r : Option ℕ) → r ≡ Some n → IsSomeAnd r (λ m. m ≡ n)
+is_there n None is = cc is
+is_there n (Some m) is = cc is
+
+-- the number of an option
+pub number_is : (found : Found) (id : Text) (n : ℕ) (r : Option ℕ) → HasNumber (rows_of found) id n
     → ((text : Text) → one_text found id ≡ Some text
-    → ReadsOne (λ bs x. ParsesUnsigned 32 10 bs x × ExplainsUnsignedError 10 bs x × HasUnsignedDigitsIfOk bs x) text r) → r ≡ Some n
-number_is found id n r is fits reads = reads_number n r fits (reads (decimal n) (text_is found id (decimal n) is))
+    → ReadsOne (λ bs x. ParsesUnsigned 32 10 bs x × ExplainsUnsignedError 10 bs x × HasUnsignedDigitsIfOk bs x) text r) → IsSomeAnd r (λ m. m ≡ n)
+number_is found id n r has reads = is_there n r (reads_number n r has.fits (reads (decimal n) (text_is found id (decimal n) has.value)))
 
 -- and what `get_flag` does of a flag
-pub reads_flag : (b read : Bool) (o : Option Text) → (o ≡ Some (codes "true") → read ≡ true) → (o ≡ Some (codes "false") → read ≡ false)
+reads_flag : (b read : Bool) (o : Option Text) → (o ≡ Some (codes "true") → read ≡ true) → (o ≡ Some (codes "false") → read ≡ false)
     → o ≡ Some (bool_text b) → read ≡ b
 reads_flag true read o as_true as_false is = as_true is
 reads_flag false read o as_true as_false is = as_false is
+
+pub flag_is : (found : Found) (id : Text) (b read : Bool) → HasFlag (rows_of found) id b → (one_text found id ≡ Some (codes "true") → read ≡ true)
+    → (one_text found id ≡ Some (codes "false") → read ≡ false) → read ≡ b
+flag_is found id b read has as_true as_false = reads_flag b read (one_text found id) as_true as_false (text_is found id (bool_text b) has)
 
 -- ---- whether an option stands among the words
 

@@ -126,19 +126,17 @@ forward_found app words config printing files program says =
       found.0,
       found.1,
       record {
-        pairs = found.2 0 none (omega arith) ∙ are.pairs.value;
-        ring = found.2 1 none (omega arith) ∙ are.ring.value;
-        buffers = found.2 2 none (omega arith) ∙ are.buffers.value;
-        bsize = found.2 3 none (omega arith) ∙ are.bsize.value;
-        batch = found.2 4 none (omega arith) ∙ are.batch.value;
-        rs_every = found.2 5 none (omega arith) ∙ are.rs_every.value;
-        workers = found.2 6 none (omega arith) ∙ are.workers.value;
-        turns = found.2 7 none (omega arith) ∙ are.turns.value;
+        pairs = record { value = found.2 0 none (omega arith) ∙ are.pairs.value; fits = are.pairs.fits };
+        ring = record { value = found.2 1 none (omega arith) ∙ are.ring.value; fits = are.ring.fits };
+        buffers = record { value = found.2 2 none (omega arith) ∙ are.buffers.value; fits = are.buffers.fits };
+        bsize = record { value = found.2 3 none (omega arith) ∙ are.bsize.value; fits = are.bsize.fits };
+        batch = record { value = found.2 4 none (omega arith) ∙ are.batch.value; fits = are.batch.fits };
+        rs_every = record { value = found.2 5 none (omega arith) ∙ are.rs_every.value; fits = are.rs_every.fits };
+        workers = record { value = found.2 6 none (omega arith) ∙ are.workers.value; fits = are.workers.fits };
+        turns = record { value = found.2 7 none (omega arith) ∙ are.turns.value; fits = are.turns.fits };
         drop = found.2 8 none (omega arith);
         no_retry = found.2 9 none (omega arith);
         head = found.2 10 none (omega arith);
-        queues_fit = (are.pairs.fits, are.ring.fits, are.buffers.fits, are.bsize.fits);
-        work_fits = (are.batch.fits, are.rs_every.fits, are.workers.fits, are.turns.fits);
       },
       record {
         quiet = found.2 11 none (omega arith);

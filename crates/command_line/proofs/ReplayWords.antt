@@ -6,13 +6,12 @@ use Rattle.clap.specs.Simple.{Shape, new_shape}
 use Rattle.clap.specs.Words.{App, Row, Text, built, subcommand_of, takes}
 use Rattle.clap.proofs.OnLiterals.{clap_on_literals}
 use Rattle.ring_model.specs.declared.states.Completion.{Completion}
-use Rattle.ring_model.specs.declared.states.Completion.TheVariants.{Head, Status}
 use Rattle.commands.specs.declared.replay.Pictures.{Pictures}
 use Rattle.commands.specs.declared.replay.Pictures.TheVariants.{Never, Each, Last}
 use Rattle.commands.specs.declared.replay.QueuePlan.{QueuePlan}
 use Rattle.commands.specs.declared.replay.Shown.{Shown}
 use Rattle.command_line.specs.CommandLine.{Choices, HasReplay, IsProgram, SaysReplay, program_app}
-use Rattle.command_line.specs.OptionWords.{completion_of, is_head, picture_value, picture_words}
+use Rattle.command_line.specs.OptionWords.{is_head, picture_value, picture_words}
 use Rattle.command_line.proofs.Options.{Given, IsLawful, Shown as ValueShown, optional_said, words_of}
 use Rattle.command_line.proofs.Options.Given.{flag, number, optional}
 use Rattle.command_line.proofs.Options.Shown.{alone, with_word}
@@ -110,16 +109,14 @@ replay_found app words plan program says =
       found.0,
       found.1,
       record {
-        ring = found.2 0 none (omega arith) ∙ ring.value;
-        pairs = found.2 1 none (omega arith) ∙ pairs.value;
+        ring = record { value = found.2 0 none (omega arith) ∙ ring.value; fits = ring.fits };
+        pairs = record { value = found.2 1 none (omega arith) ∙ pairs.value; fits = pairs.fits };
         off = found.2 2 none (omega arith);
         head = found.2 3 none (omega arith);
         json = found.2 4 none (omega arith);
         registers = found.2 5 none (omega arith);
         picture = found.2 6 none (omega arith) ∙ picture_value_is plan.shown.pictures;
         all_lines = says.all_lines;
-        ring_fits = ring.fits;
-        pairs_fits = pairs.fits;
       },
     )
 
@@ -127,10 +124,6 @@ replay_found app words plan program says =
 pub begins_as : (b read : Bool) → read ≡ not b → not read ≡ b
 begins_as true read is = ap not is
 begins_as false read is = ap not is
-
-pub completion_is : (c : Completion) → completion_of (is_head c) ≡ c
-completion_is Head = refl
-completion_is Status = refl
 
 pub shown_is : (shown : Shown) (j r : Bool) (p : Pictures) → j ≡ shown.json → r ≡ shown.registers → p ≡ shown.pictures
     → ◌≡◌ {A = Shown} (record { json = j; registers = r; pictures = p }) shown

@@ -97,17 +97,15 @@ schedules_found app words request program says =
       found.1,
       record {
         cover = found.2 0 none (omega arith);
-        seed = found.2 1 none (omega arith) ∙ reads_itself request.seed says.seed_fits;
-        moves = found.2 2 none (omega arith) ∙ reads_itself request.plan.moves says.moves_fits;
-        count = found.2 3 none (omega arith) ∙ are.count.value;
-        ring = found.2 4 none (omega arith) ∙ are.ring.value;
-        pairs = found.2 5 none (omega arith) ∙ are.pairs.value;
+        seed = record { value = found.2 1 none (omega arith) ∙ reads_itself request.seed says.seed_fits; fits = says.seed_fits };
+        moves = record { value = found.2 2 none (omega arith) ∙ reads_itself request.plan.moves says.moves_fits; fits = says.moves_fits };
+        count = record { value = found.2 3 none (omega arith) ∙ are.count.value; fits = are.count.fits };
+        ring = record { value = found.2 4 none (omega arith) ∙ are.ring.value; fits = are.ring.fits };
+        pairs = record { value = found.2 5 none (omega arith) ∙ are.pairs.value; fits = are.pairs.fits };
         off = found.2 6 none (omega arith);
         head = found.2 7 none (omega arith);
-        refused = found.2 8 none (omega arith) ∙ are.refused.value;
+        refused = record { value = found.2 8 none (omega arith) ∙ are.refused.value; fits = are.refused.fits };
         expect = found.2 9 none (omega arith);
         device_only = found.2 10 none (omega arith);
-        list_fits = (says.seed_fits, says.moves_fits, are.count.fits, are.refused.fits);
-        queues_fit = (are.ring.fits, are.pairs.fits);
       },
     )

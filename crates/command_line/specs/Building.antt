@@ -1,21 +1,36 @@
 -- How commands are built, each of one that there may be none of, since memory was refused for it.
-use Rattle.std.specs.Prelude.{◌≡◌, false, Result, IsOkAnd}
-use Rattle.clap.specs.Words.{App, app_of, with_subcommand}
+use Rattle.std.specs.Prelude.{◌≡◌, false, List, fold, map, Result, IsOkAnd}
+use Rattle.clap.specs.Words.{App, Rule, app_of, with_rule, with_subcommand}
 use Rattle.clap.specs.declared.builder.command.Command.{Command}
 use Rattle.clap.specs.declared.builder.command.Command.TheViews.{out-Command}
+use Rattle.command_line.specs.CommandLine.{bare_app}
+use Rattle.command_line.specs.OptionWords.{with_rules}
+use Rattle.command_line.specs.Params.{rule_for}
+use Rattle.command_line.specs.declared.building.Entry.{Entry}
 
--- a command is as it should be, and none of its options is one of its subcommands' too
-pub record IsNew (is : App → Type 0) (command : Command) : Type 0 where
-  pub app : is (app_of command)
+-- the command of an entry
+abbrev pub entry_app : Entry → App
+entry_app entry = with_rules entry.name.now (map rule_for entry.params.now)
+
+-- the program with the commands of entries
+abbrev pub with_entries : List Entry → App
+with_entries entries = fold (λ app entry. with_subcommand app (entry_app entry).top) bare_app entries
+
+pub record IsJoined (entries : List Entry) (command : Command) : Type 0 where
+  pub app_is : app_of command ≡ with_entries entries
+
+-- a command is this one, and none of its options is one of its subcommands' too
+pub record IsNew (app : App) (command : Command) : Type 0 where
+  pub app_is : app_of command ≡ app
   pub local : (out-Command command).has_globals ≡ false
 
--- one is made of another by these rules, with no such option more
-pub record IsGrown (rules : App → App) (old new : Command) : Type 0 where
-  pub app : app_of new ≡ rules (app_of old)
+-- one is made of another by a rule more, of no such option
+pub record IsGrown (rule : Rule) (old new : Command) : Type 0 where
+  pub app_is : app_of new ≡ with_rule (app_of old) rule
   pub local : (out-Command new).has_globals ≡ (out-Command old).has_globals
 
-abbrev pub Grows : {E : Type 0} → (App → App) → Result Command E → Command → Type 0
-Grows rules command new = IsOkAnd command (λ old. IsGrown rules old new)
+abbrev pub Grows : {E : Type 0} → Rule → Result Command E → Command → Type 0
+Grows rule command new = IsOkAnd command (λ old. IsGrown rule old new)
 
 -- a program is made of another and of a command that has no such option
 abbrev pub Joins : {E F : Type 0} → Result Command E → Result Command F → Command → Type 0

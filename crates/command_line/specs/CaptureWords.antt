@@ -1,7 +1,8 @@
 -- The words of `from-capture` and `to-capture`.
 use Rattle.std.specs.Prelude.{◌≡◌, ℕ, ◌<◌, true, pos, List, [], ◌∷◌, codes, decimal, Some}
-use Rattle.clap.specs.Words.{App, Row, Rule, Text, new_app, new_rule, one_of, with_rule}
+use Rattle.clap.specs.Words.{App, Row, Rule, Text, new_rule, one_of}
 use Rattle.clap.specs.declared.builder.value_parser.ValueParser.TheVariants.{Signed}
+use Rattle.command_line.specs.OptionWords.{with_rules}
 use Rattle.limits.specs.declared.profile.TheConstants.{MOST_PAIRS, PORTS}
 
 -- an argument that is a number up to this one
@@ -16,11 +17,11 @@ queue_rule = place_rule (codes "queue") 7
 
 -- the command `from-capture`
 abbrev pub from_capture_app : App
-from_capture_app = with_rule (with_rule (new_app (codes "from-capture")) port_rule) queue_rule
+from_capture_app = with_rules (codes "from-capture") (port_rule ∷ queue_rule ∷ [])
 
 -- the command `to-capture`
 abbrev pub to_capture_app : App
-to_capture_app = with_rule (new_app (codes "to-capture")) port_rule
+to_capture_app = with_rules (codes "to-capture") (port_rule ∷ [])
 
 -- the words are `from-capture`, a port and a queue
 pub record SaysFromCapture (words : List Text) (port queue : ℕ) : Type 0 where
@@ -33,13 +34,17 @@ pub record SaysToCapture (words : List Text) (port : ℕ) : Type 0 where
   pub words_are : words ≡ codes "to-capture" ∷ decimal port ∷ []
   pub port_is : port < PORTS
 
+-- an argument's value is this port or queue
+pub record HasPlace (rows : List Row) (id : Text) (n : ℕ) : Type 0 where
+  pub value : one_of id rows ≡ Some (decimal n)
+  pub low : n < MOST_PAIRS
+
 -- the values of the arguments
 pub record HasFromCapture (rows : List Row) (port queue : ℕ) : Type 0 where
-  pub port_text : one_of (codes "port") rows ≡ Some (decimal port)
-  pub queue_text : one_of (codes "queue") rows ≡ Some (decimal queue)
+  pub has_port : HasPlace rows (codes "port") port
+  pub has_queue : HasPlace rows (codes "queue") queue
   pub port_is : port < PORTS
-  pub queue_is : queue < MOST_PAIRS
 
 pub record HasToCapture (rows : List Row) (port : ℕ) : Type 0 where
-  pub port_text : one_of (codes "port") rows ≡ Some (decimal port)
+  pub has_port : HasPlace rows (codes "port") port
   pub port_is : port < PORTS

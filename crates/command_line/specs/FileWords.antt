@@ -1,7 +1,8 @@
 -- The options of `forward` for files.
 use Rattle.std.specs.Prelude.{◌≡◌, List, [], ◌∷◌, ◌++◌, All, codes, map, Option, Some, None}
-use Rattle.std.specs.List.{flat_map}
-use Rattle.clap.specs.Words.{App, Row, Rule, Text, all_of, new_rule, with_rule}
+use Rattle.std.specs.Borrow.{Bor}
+use Rattle.std.specs.List.{AllZip, flat_map}
+use Rattle.clap.specs.Words.{Row, Rule, Text, all_of, new_rule}
 use Rattle.clap.specs.declared.builder.action.ArgAction.TheVariants.{Append}
 use Rattle.capture_commands.specs.Words.{IsSource, IsWireFile, PortFile, SourceFile, source_word, wire_file_word}
 use Rattle.command_line.specs.declared.files.ForwardFiles.{ForwardFiles}
@@ -9,9 +10,6 @@ use Rattle.command_line.specs.declared.files.ForwardFiles.{ForwardFiles}
 -- an option that may stand any number of times, each time with a word
 abbrev pub file_rule : Text → Rule
 file_rule id = record (new_rule id) { long = Some id; value_names = 1; action = Some Append }
-
-abbrev pub with_file_rules : App → App
-with_file_rules app = with_rule (with_rule app (file_rule (codes "capture"))) (file_rule (codes "wire-capture"))
 
 -- captures whose frames come in, and files for what leaves a port, each in the order of their words
 pub record FileOptions : Type 0 where
@@ -35,6 +33,10 @@ words_of_files files =
 abbrev pub file_values : List Text → Option (List Text)
 file_values [] = None
 file_values (word ∷ words) = Some (word ∷ words)
+
+-- each of these words tells one of these
+abbrev pub AreTold : {X : Type 0} → (Bor Text → Option X → Type 0) → List Text → List X → Type 0
+AreTold {X} told words xs = AllZip (λ text x. (word : Bor Text) (found : Option X) → word.now ≡ text → told word found → found ≡ Some x) words xs
 
 -- the values of the options
 pub record HasFiles (rows : List Row) (files : FileOptions) : Type 0 where

@@ -6,3 +6,4 @@ pub mod Forwarding
 pub mod CommandLine
 pub mod Sayings
 pub mod Building
+pub mod Params

@@ -1,12 +1,17 @@
--- An option with a number, and one without a value: the argument that clap has for it, and its words.
-use Rattle.std.specs.Prelude.{◌≡◌, ◌⊎◌, ℕ, ◌^◌, ◌<◌, Bool, true, false, if◌then◌else◌, pos, List, [], ◌∷◌, codes, decimal, Option, Some, None}
-use Rattle.clap.specs.Words.{Rule, Text, new_rule}
+-- A command with its arguments. An option with a number, and one without a value: the argument that clap has for it, and its words.
+use Rattle.std.specs.Prelude.{◌≡◌, ◌⊎◌, ℕ, ◌^◌, ◌<◌, Bool, true, false, if◌then◌else◌, pos, List, [], ◌∷◌, codes, decimal, fold, Option, Some, None}
+use Rattle.clap.specs.Words.{App, Row, Rule, Text, new_app, new_rule, one_of, with_rule}
+use Rattle.clap.specs.Values.{bool_text}
 use Rattle.clap.specs.declared.builder.action.ArgAction.TheVariants.{SetTrue}
 use Rattle.clap.specs.declared.builder.value_parser.ValueParser.TheVariants.{Signed}
 use Rattle.ring_model.specs.declared.states.Completion.{Completion}
 use Rattle.ring_model.specs.declared.states.Completion.TheVariants.{Head, Status}
 use Rattle.commands.specs.declared.replay.Pictures.{Pictures}
 use Rattle.commands.specs.declared.replay.Pictures.TheVariants.{Never, Each, Last}
+
+-- a command of this name with these arguments
+abbrev pub with_rules : Text → List Rule → App
+with_rules name rules = fold with_rule (new_app name) rules
 
 -- an option
 abbrev pub named_rule : Text → Rule
@@ -33,6 +38,18 @@ optional_rule id value = record (new_rule id) {
   missing = value ∷ [];
 }
 
+-- the options of a list of moves for its queues
+abbrev pub queue_rules : List Rule
+queue_rules = number_rule (codes "ring") (codes "8") ∷ number_rule (codes "pairs") (codes "1") ∷ flag_rule (codes "off") ∷ flag_rule (codes "head") ∷ []
+
+-- an option's value is this number, or whether it stands
+pub record HasNumber (rows : List Row) (id : Text) (n : ℕ) : Type 0 where
+  pub value : one_of id rows ≡ Some (decimal n)
+  pub fits : n < 2 ^ 32
+
+abbrev pub HasFlag : List Row → Text → Bool → Type 0
+HasFlag rows id stands = one_of id rows ≡ Some (bool_text stands)
+
 -- an option stands with a number below a bound, or is left out where the number is its default
 abbrev pub SaysNumberBelow : ℕ → Text → ℕ → List Text → ℕ → Type 0
 SaysNumberBelow bound option default words n = ((words ≡ option ∷ decimal n ∷ []) × (n < bound)) ⊎ ((words ≡ []) × (n ≡ default))
@@ -47,10 +64,6 @@ flag_words option stands = if stands then option ∷ [] else []
 abbrev pub is_head : Completion → Bool
 is_head Head = true
 is_head Status = false
-
-abbrev pub completion_of : Bool → Completion
-completion_of true = Head
-completion_of false = Status
 
 -- the words of pictures, and the option's value
 abbrev pub picture_words : Pictures → List Text

@@ -1,13 +1,12 @@
 -- The words of `schedules`.
 use Rattle.std.specs.Prelude.{◌≡◌, ◌^◌, ◌<◌, ◌||◌, Bool, true, false, not, List, [], ◌∷◌, ◌++◌, codes, decimal, find, option_and_then, Option, Some, None}
 use Rattle.std.specs.Str.{bytes_eq}
-use Rattle.clap.specs.Words.{App, Row, Rule, Text, new_app, one_of, with_rule}
-use Rattle.clap.specs.Values.{bool_text}
+use Rattle.clap.specs.Words.{App, Row, Rule, Text}
 use Rattle.clap.specs.declared.parser.matches.ValueSource.{ValueSource}
 use Rattle.clap.specs.declared.parser.matches.ValueSource.TheVariants.{CommandLine, DefaultValue}
 use Rattle.cover_command.specs.declared.request.CoverRequest.{CoverRequest}
 use Rattle.schedule_command.specs.declared.request.ScheduleRequest.{ScheduleRequest}
-use Rattle.command_line.specs.OptionWords.{SaysNumber, SaysNumberBelow, bounded_rule, flag_rule, flag_words, is_head, number_rule}
+use Rattle.command_line.specs.OptionWords.{HasFlag, HasNumber, SaysNumber, SaysNumberBelow, bounded_rule, flag_rule, flag_words, is_head, number_rule, queue_rules, with_rules}
 
 -- a number that has to be said, and how many of a hundred
 abbrev pub said_rule : Text → Rule
@@ -16,23 +15,13 @@ said_rule id = bounded_rule id 4294967295 []
 abbrev pub share_rule : Text → Rule
 share_rule id = bounded_rule id 100 (codes "0" ∷ [])
 
--- the options of `schedules` for its lists and their queues
-abbrev pub with_list_rules : App → App
-with_list_rules app =
-    let with_moves = with_rule (with_rule app (said_rule (codes "seed"))) (said_rule (codes "moves")) in
-    let with_count = with_rule with_moves (number_rule (codes "count") (codes "1")) in
-    with_rule (with_rule with_count (number_rule (codes "ring") (codes "8"))) (number_rule (codes "pairs") (codes "1"))
-
--- and for how a list is drawn and what follows it
-abbrev pub with_drawing_rules : App → App
-with_drawing_rules app =
-    let with_refused = with_rule (with_rule (with_rule app (flag_rule (codes "off"))) (flag_rule (codes "head"))) (share_rule (codes "refused")) in
-    let with_expect = with_rule with_refused (flag_rule (codes "expect")) in
-    with_rule (with_rule with_expect (flag_rule (codes "device-only-real"))) (flag_rule (codes "cover"))
-
 -- the command `schedules`
 abbrev pub schedules_app : App
-schedules_app = with_drawing_rules (with_list_rules (new_app (codes "schedules")))
+schedules_app = with_rules (codes "schedules") (said_rule (codes "seed")
+    ∷ said_rule (codes "moves")
+    ∷ number_rule (codes "count") (codes "1")
+    ∷ queue_rules
+    ++ share_rule (codes "refused") ∷ flag_rule (codes "expect") ∷ flag_rule (codes "device-only-real") ∷ flag_rule (codes "cover") ∷ [])
 
 -- the words are `schedules` and its options in this order: the seed and the moves of a list always, `--off` where the queues
 -- begin disabled, `--head` where they report by a head word, `--expect` where each list is followed by what `replay` prints of
@@ -80,23 +69,21 @@ draws rows =
 
 -- the values of the arguments
 pub record HasSchedules (rows : List Row) (request : ScheduleRequest) : Type 0 where
-  pub cover : one_of (codes "cover") rows ≡ Some (bool_text false)
-  pub seed : one_of (codes "seed") rows ≡ Some (decimal request.seed)
-  pub moves : one_of (codes "moves") rows ≡ Some (decimal request.plan.moves)
-  pub count : one_of (codes "count") rows ≡ Some (decimal request.count)
-  pub ring : one_of (codes "ring") rows ≡ Some (decimal request.plan.ring)
-  pub pairs : one_of (codes "pairs") rows ≡ Some (decimal request.plan.pairs)
-  pub off : one_of (codes "off") rows ≡ Some (bool_text (not request.plan.enabled))
-  pub head : one_of (codes "head") rows ≡ Some (bool_text (is_head request.plan.completion))
-  pub refused : one_of (codes "refused") rows ≡ Some (decimal request.plan.refused)
-  pub expect : one_of (codes "expect") rows ≡ Some (bool_text request.expect)
-  pub device_only : one_of (codes "device-only-real") rows ≡ Some (bool_text request.plan.device_only)
-  pub list_fits : (request.seed < 2 ^ 32) × (request.plan.moves < 2 ^ 32) × (request.count < 2 ^ 32) × (request.plan.refused < 2 ^ 32)
-  pub queues_fit : (request.plan.ring < 2 ^ 32) × (request.plan.pairs < 2 ^ 32)
+  pub cover : HasFlag rows (codes "cover") false
+  pub seed : HasNumber rows (codes "seed") request.seed
+  pub moves : HasNumber rows (codes "moves") request.plan.moves
+  pub count : HasNumber rows (codes "count") request.count
+  pub ring : HasNumber rows (codes "ring") request.plan.ring
+  pub pairs : HasNumber rows (codes "pairs") request.plan.pairs
+  pub off : HasFlag rows (codes "off") (not request.plan.enabled)
+  pub head : HasFlag rows (codes "head") (is_head request.plan.completion)
+  pub refused : HasNumber rows (codes "refused") request.plan.refused
+  pub expect : HasFlag rows (codes "expect") request.expect
+  pub device_only : HasFlag rows (codes "device-only-real") request.plan.device_only
 
 pub record HasCover (rows : List Row) (request : CoverRequest) : Type 0 where
-  pub cover : one_of (codes "cover") rows ≡ Some (bool_text true)
-  pub head : one_of (codes "head") rows ≡ Some (bool_text (is_head request.completion))
-  pub expect : one_of (codes "expect") rows ≡ Some (bool_text request.expect)
-  pub device_only : one_of (codes "device-only-real") rows ≡ Some (bool_text request.device_only)
+  pub cover : HasFlag rows (codes "cover") true
+  pub head : HasFlag rows (codes "head") (is_head request.completion)
+  pub expect : HasFlag rows (codes "expect") request.expect
+  pub device_only : HasFlag rows (codes "device-only-real") request.device_only
   pub undrawn : draws rows ≡ false

@@ -1,12 +1,103 @@
-//! The arguments that commands are built of.
-ghost use Rattle.std.specs.Prelude.{◌≡◌, false};
-ghost use Rattle.clap.specs.Words.{rule_of};
+//! What a command takes among its words, as data, and the argument of `clap` for each.
+ghost use Rattle.std.specs.Prelude.{◌≡◌, false, true};
+ghost use Rattle.clap.specs.Words.{new_rule, rule_of};
+ghost use Rattle.command_line.specs.CaptureWords.{port_rule, queue_rule};
 ghost use Rattle.command_line.specs.CommandLine.{choice_rule, hex_rule};
+ghost use Rattle.command_line.specs.FileWords.{file_rule};
 ghost use Rattle.command_line.specs.OptionWords.{flag_rule, named_rule, number_rule, optional_rule};
+ghost use Rattle.command_line.specs.Params.{rule_for};
 ghost use Rattle.command_line.specs.ScheduleWords.{said_rule, share_rule};
 
 use clap::{Arg, ArgAction, value_parser};
 use std::alloc::Global;
+
+/// An option or an argument of a command.
+pub(crate) enum Param<'a> {
+    /// An option with a number, which has this one where it is left out.
+    Number {
+        id: &'a str,
+        default: &'a str,
+        help: &'a str,
+    },
+    /// An option with a number that has to be said.
+    Said {
+        id: &'a str,
+        help: &'a str,
+    },
+    /// An option with how many of a hundred, which is none where it is left out.
+    Share {
+        id: &'a str,
+        help: &'a str,
+    },
+    /// An option whose value may be left out, where it has this one.
+    Optional {
+        id: &'a str,
+        name: &'a str,
+        value: &'a str,
+        help: &'a str,
+    },
+    /// An option without a value.
+    Flag {
+        id: &'a str,
+        help: &'a str,
+    },
+    /// An option with a file, which may be repeated.
+    File {
+        id: &'a str,
+        name: &'a str,
+        help: &'a str,
+    },
+    /// An argument of hex digits.
+    Hex {
+        help: &'a str,
+    },
+    /// An argument that is one of these words.
+    Choice {
+        id: &'a str,
+        name: &'a str,
+        words: &'a [&'a str],
+        help: &'a str,
+    },
+    /// An argument that is a port.
+    Port {
+        help: &'a str,
+    },
+    /// An argument that is a queue.
+    Queue {
+        help: &'a str,
+    },
+}
+
+impl<'a> Param<'a> {
+    /// The argument of `clap` for it.
+    pub(crate) fn arg(&self, alloc: Global) -> Arg<'a>
+        ensures rule { rule_of result ≡ rule_for self.now }
+        ensures local { result.global ≡ false }
+    {
+        match *self {
+            Param::Number { id, default, help } => number(alloc, id, default, help),
+            Param::Said { id, help } => said(alloc, id, help),
+            Param::Share { id, help } => share(alloc, id, help),
+            Param::Optional {
+                id,
+                name,
+                value,
+                help,
+            } => optional(alloc, id, name, value, help),
+            Param::Flag { id, help } => flag(alloc, id, help),
+            Param::File { id, name, help } => file(alloc, id, name, help),
+            Param::Hex { help } => hex(alloc, help),
+            Param::Choice {
+                id,
+                name,
+                words,
+                help,
+            } => choice(alloc, id, name, words, help),
+            Param::Port { help } => port(alloc, help),
+            Param::Queue { help } => queue(alloc, help),
+        }
+    }
+}
 
 /// An option of this name.
 fn named<'a>(alloc: Global, id: &'a str, help: &'a str) -> Arg<'a>
@@ -24,8 +115,7 @@ fn numeric<'a>(alloc: Global, id: &'a str, help: &'a str) -> Arg<'a>
     named(alloc, id, help).value_name("N")
 }
 
-/// An option with a number, which has this one where it is left out.
-pub(crate) fn number<'a>(alloc: Global, id: &'a str, default: &'a str, help: &'a str) -> Arg<'a>
+fn number<'a>(alloc: Global, id: &'a str, default: &'a str, help: &'a str) -> Arg<'a>
     ensures rule { rule_of result ≡ number_rule id.entry.now default.entry.now }
     ensures local { result.global ≡ false }
 {
@@ -34,16 +124,14 @@ pub(crate) fn number<'a>(alloc: Global, id: &'a str, default: &'a str, help: &'a
         .default_value(default)
 }
 
-/// An option with a number that has to be said.
-pub(crate) fn said<'a>(alloc: Global, id: &'a str, help: &'a str) -> Arg<'a>
+fn said<'a>(alloc: Global, id: &'a str, help: &'a str) -> Arg<'a>
     ensures rule { rule_of result ≡ said_rule id.entry.now }
     ensures local { result.global ≡ false }
 {
     numeric(alloc, id, help).value_parser(value_parser!(u32))
 }
 
-/// An option with how many of a hundred, which is none where it is left out.
-pub(crate) fn share<'a>(alloc: Global, id: &'a str, help: &'a str) -> Arg<'a>
+fn share<'a>(alloc: Global, id: &'a str, help: &'a str) -> Arg<'a>
     ensures rule { rule_of result ≡ share_rule id.entry.now }
     ensures local { result.global ≡ false }
 {
@@ -52,14 +140,7 @@ pub(crate) fn share<'a>(alloc: Global, id: &'a str, help: &'a str) -> Arg<'a>
         .default_value("0")
 }
 
-/// An option whose value may be left out, where it has this one.
-pub(crate) fn optional<'a>(
-    alloc: Global,
-    id: &'a str,
-    name: &'a str,
-    value: &'a str,
-    help: &'a str,
-) -> Arg<'a>
+fn optional<'a>(alloc: Global, id: &'a str, name: &'a str, value: &'a str, help: &'a str) -> Arg<'a>
     ensures rule { rule_of result ≡ optional_rule id.entry.now value.entry.now }
     ensures local { result.global ≡ false }
 {
@@ -69,27 +150,41 @@ pub(crate) fn optional<'a>(
         .default_missing_value(value)
 }
 
-/// An option without a value.
-pub(crate) fn flag<'a>(alloc: Global, id: &'a str, help: &'a str) -> Arg<'a>
+fn flag<'a>(alloc: Global, id: &'a str, help: &'a str) -> Arg<'a>
     ensures rule { rule_of result ≡ flag_rule id.entry.now }
     ensures local { result.global ≡ false }
 {
     named(alloc, id, help).action(ArgAction::SetTrue)
 }
 
-/// An argument of hex digits.
-pub(crate) fn hex<'a>(alloc: Global, help: &'a str) -> Arg<'a>
-    ensures rule { rule_of result ≡ hex_rule }
+fn file<'a>(alloc: Global, id: &'a str, name: &'a str, help: &'a str) -> Arg<'a>
+    ensures rule { rule_of result ≡ file_rule id.entry.now }
     ensures local { result.global ≡ false }
 {
-    Arg::new(alloc, "hex")
+    named(alloc, id, help)
+        .action(ArgAction::Append)
+        .value_name(name)
+}
+
+/// An argument that has to be there.
+fn required<'a>(alloc: Global, id: &'a str, name: &'a str, help: &'a str) -> Arg<'a>
+    ensures rule { rule_of result ≡ record (new_rule id.entry.now) { value_names = 1; required = true } }
+    ensures local { result.global ≡ false }
+{
+    Arg::new(alloc, id)
         .required(true)
-        .value_name("HEX")
+        .value_name(name)
         .help(help)
 }
 
-/// An argument that is one of these words.
-pub(crate) fn choice<'a>(
+fn hex<'a>(alloc: Global, help: &'a str) -> Arg<'a>
+    ensures rule { rule_of result ≡ hex_rule }
+    ensures local { result.global ≡ false }
+{
+    required(alloc, "hex", "HEX", help)
+}
+
+fn choice<'a>(
     alloc: Global,
     id: &'a str,
     name: &'a str,
@@ -99,9 +194,19 @@ pub(crate) fn choice<'a>(
     ensures rule { rule_of result ≡ choice_rule id.entry.now words.entry }
     ensures local { result.global ≡ false }
 {
-    Arg::new(alloc, id)
-        .value_name(name)
-        .value_parser(words)
-        .required(true)
-        .help(help)
+    required(alloc, id, name, help).value_parser(words)
+}
+
+fn port<'a>(alloc: Global, help: &'a str) -> Arg<'a>
+    ensures rule { rule_of result ≡ port_rule }
+    ensures local { result.global ≡ false }
+{
+    required(alloc, "port", "PORT", help).value_parser(value_parser!(u8).range(0..=1))
+}
+
+fn queue<'a>(alloc: Global, help: &'a str) -> Arg<'a>
+    ensures rule { rule_of result ≡ queue_rule }
+    ensures local { result.global ≡ false }
+{
+    required(alloc, "queue", "QUEUE", help).value_parser(value_parser!(u8).range(0..=7))
 }

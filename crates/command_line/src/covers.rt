@@ -5,6 +5,7 @@ ghost use Rattle.cover_command.specs.declared.request.CoverRequest.{CoverRequest
 ghost use Rattle.command_line.specs.ScheduleWords.{HasCover, by_words, draws, is_said};
 
 use crate::command::completion_in;
+use crate::reading::flag_in;
 use clap::ArgMatches;
 use clap::parser::ValueSource;
 use cover_command::CoverRequest;
@@ -17,8 +18,8 @@ pub(crate) fn cover_in<'a>(matches: &ArgMatches<'a>) -> Option<CoverRequest>
         return None;
     }
     let completion = completion_in(matches);
-    let expect = matches.get_flag("expect");
-    let device_only = matches.get_flag("device-only-real");
+    let expect = flag_in(matches, "expect");
+    let device_only = flag_in(matches, "device-only-real");
     Some(CoverRequest {
         completion,
         expect,

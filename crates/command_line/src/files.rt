@@ -1,20 +1,17 @@
-//! The options of `forward` for files, and the files in their matches.
-ghost use Rattle.std.specs.Prelude.{◌≡◌, ◌||◌, List, Some, All, IfOk, IsSomeAnd, MatchResult, codes, false, map};
+//! The files in matches of `forward`.
+ghost use Rattle.std.specs.Prelude.{◌≡◌, List, Some, IfOk, IsSomeAnd, MatchResult, codes, map};
 ghost use Rattle.std.specs.String.{string_bytes};
-ghost use Rattle.clap.specs.Words.{Row, found_of, kind_of, rows_of, rule_of, subcommand_rows_of};
+ghost use Rattle.clap.specs.Words.{Row, Text, all_of, found_of, kind_of, rows_of, subcommand_rows_of};
 ghost use Rattle.clap.specs.declared.error.kind.ErrorKind.TheVariants.{OutOfMemory};
 ghost use Rattle.forwarder.specs.declared.config.Config.{Config as ForwardConfig};
 ghost use Rattle.forward_command.specs.declared.printing.Printing.{Printing as Printed};
-ghost use Rattle.capture_commands.specs.Words.{IsSource, IsWireFile, PortFile, SourceFile, source_word, wire_file_word};
-ghost use Rattle.command_line.specs.Building.{Grows};
 ghost use Rattle.command_line.specs.CommandLine.{SaysForward};
-ghost use Rattle.command_line.specs.FileWords.{AreFiles, FileOptions, HasFiles, HoldsFiles, file_rule, file_values, with_file_rules};
+ghost use Rattle.command_line.specs.FileWords.{AreFiles, AreTold, FileOptions, HasFiles, HoldsFiles, file_values};
 
-use crate::building::with;
-use crate::command::program;
+use crate::program::program;
 use capture_commands::{Source, WireFile, source_of, wire_file_of};
 use clap::error::ErrorKind;
-use clap::{Arg, ArgAction, ArgMatches, Command, Error};
+use clap::{ArgMatches, Error};
 use std::alloc::{AllocError, Global};
 
 /// What is told where a word of the options is none.
@@ -64,108 +61,32 @@ fn files_said<'a>(
     ensures { (files : FileOptions) → HasFiles (rows_of (found_of forward.now)) files → AreFiles files
         → IfOk result (λ found. IsSomeAnd found (λ held. HoldsFiles held files)) }
 {
-    let Some(sources) = sources_in(alloc, forward)? else {
+    let Some(sources) = told_in(alloc, forward, "capture", |word| source_of(word))? else {
         return Ok(None);
     };
-    let Some(wires) = wires_in(alloc, forward)? else {
+    let Some(wires) = told_in(alloc, forward, "wire-capture", |word| wire_file_of(word))? else {
         return Ok(None);
     };
     Ok(Some(ForwardFiles { sources, wires }))
 }
 
-/// The sources in matches of `forward`, if each can be read.
-fn sources_in<'a>(
+/// What the words of an option tell, if each tells something.
+fn told_in<'a, T: Drop, F: Fn(&'a str) -> Option<T>>(
     alloc: Global,
-    forward: &ArgMatches<'a>,
-) -> Result<Option<Vec<Source<'a>>>, AllocError>
-    ensures { (files : FileOptions) → HasFiles (rows_of (found_of forward.now)) files → AreFiles files
-        → IfOk result (λ found. IsSomeAnd found (λ held. held.items ≡ files.sources)) }
+    matches: &ArgMatches<'a>,
+    id: &str,
+    told: F,
+) -> Result<Option<Vec<T>>, AllocError>
+    requires { F.IsAlwaysCallable told }
+    ensures { (texts : List Text) (xs : List T) → all_of id.now (rows_of (found_of matches.now)) ≡ file_values texts
+        → AreTold (F.post told) texts xs → IfOk result (λ found. IsSomeAnd found (λ held. held.items ≡ xs)) }
 {
-    match forward.get_strs("capture") {
-        Some(words) => sources_said(alloc, words),
-        None => Ok(Some(Vec::new(alloc))),
-    }
-}
-
-/// The wire files in matches of `forward`, if each can be read.
-fn wires_in<'a>(
-    alloc: Global,
-    forward: &ArgMatches<'a>,
-) -> Result<Option<Vec<WireFile<'a>>>, AllocError>
-    ensures { (files : FileOptions) → HasFiles (rows_of (found_of forward.now)) files → AreFiles files
-        → IfOk result (λ found. IsSomeAnd found (λ held. held.items ≡ files.wires)) }
-{
-    match forward.get_strs("wire-capture") {
-        Some(words) => wires_said(alloc, words),
-        None => Ok(Some(Vec::new(alloc))),
-    }
-}
-
-/// The sources that these words tell, if each tells one.
-fn sources_said<'a>(alloc: Global, words: &[&'a str]) -> Result<Option<Vec<Source<'a>>>, AllocError>
-    ensures { (sources : List SourceFile) → All IsSource sources → map (λ word. word.now) words.now ≡ map source_word sources
-        → IfOk result (λ found. IsSomeAnd found (λ held. held.items ≡ sources)) }
-{
-    let mut sources = Vec::new(alloc);
-    for word in words {
-        let Some(source) = source_of(word) else {
+    let mut all = Vec::new(alloc);
+    for word in matches.get_strs(id).unwrap_or(&[]) {
+        let Some(one) = told(word) else {
             return Ok(None);
         };
-        sources.push(source)?;
+        all.push(one)?;
     }
-    Ok(Some(sources))
-}
-
-/// The wire files that these words tell, if each tells one.
-fn wires_said<'a>(alloc: Global, words: &[&'a str]) -> Result<Option<Vec<WireFile<'a>>>, AllocError>
-    ensures { (wires : List PortFile) → All IsWireFile wires → map (λ word. word.now) words.now ≡ map wire_file_word wires
-        → IfOk result (λ found. IsSomeAnd found (λ held. held.items ≡ wires)) }
-{
-    let mut wires = Vec::new(alloc);
-    for word in words {
-        let Some(wire) = wire_file_of(word) else {
-            return Ok(None);
-        };
-        wires.push(wire)?;
-    }
-    Ok(Some(wires))
-}
-
-/// A command with the options of `forward` for files.
-pub(crate) fn with_files<'a>(
-    alloc: Global,
-    command: Result<Command<'a>, AllocError>,
-) -> Result<Command<'a>, AllocError>
-    ensures { IfOk result (Grows with_file_rules command.entry) }
-{
-    let command = with(
-        command,
-        file(
-            alloc,
-            "capture",
-            "P:Q=FILE",
-            "Takes the frames of a capture, which come in at port P, queue Q, in place of standard input; may be repeated",
-        ),
-    );
-    with(
-        command,
-        file(
-            alloc,
-            "wire-capture",
-            "P=FILE",
-            "Writes what leaves port P as a capture, by queue, frame k at k microseconds; may be repeated",
-        ),
-    )
-}
-
-/// An option with a file, which may be repeated.
-fn file<'a>(alloc: Global, id: &'a str, name: &'a str, help: &'a str) -> Arg<'a>
-    ensures rule { rule_of result ≡ file_rule id.entry.now }
-    ensures local { result.global ≡ false }
-{
-    Arg::new(alloc, id)
-        .long(id)
-        .action(ArgAction::Append)
-        .value_name(name)
-        .help(help)
+    Ok(Some(all))
 }

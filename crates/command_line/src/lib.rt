@@ -14,6 +14,8 @@ mod covers;
 mod drawings;
 mod files;
 mod lists;
+mod program;
+mod reading;
 mod running;
 
 pub use command::{Asked, asked_of};

@@ -1,15 +1,19 @@
-use Rattle.std.proofs.Common.{◌∙◌, ap, sym, codes}
-use Rattle.clap.specs.Words.{found_of}
-use Rattle.command_line.specs.OptionWords.{completion_of}
-use Rattle.command_line.proofs.CommandLine.{reads_flag, text_is}
+use Rattle.std.proofs.Common.{◌≡◌, ◌∙◌, refl, sym, true, false}
+use Rattle.ring_model.specs.declared.states.Completion.{Completion}
+use Rattle.ring_model.specs.declared.states.Completion.TheVariants.{Head, Status}
+use Rattle.command_line.specs.OptionWords.{is_head}
 use Rattle.command_line.proofs.command.completion_in.Goals as goal
 
-pub returns-then-get_flag : goal.returns-then-get_flag
-returns-then-get_flag c by_head is =
-    let read = reads_flag by_head c.get_flag.result _ c.get_flag.ensures.value c.get_flag.ensures.other (text_is (found_of c.args.matches.now) (codes "head") _ is) in
-    ap completion_of (sym c.if-get_flag.true ∙ read)
+by_head : (c : Completion) → is_head c ≡ true → Head ≡ c
+by_head Head is = refl
+by_head Status is = cc is
 
-pub returns-else-get_flag : goal.returns-else-get_flag
-returns-else-get_flag c by_head is =
-    let read = reads_flag by_head c.get_flag.result _ c.get_flag.ensures.value c.get_flag.ensures.other (text_is (found_of c.args.matches.now) (codes "head") _ is) in
-    ap completion_of (sym c.if-get_flag.false ∙ read)
+by_status : (c : Completion) → is_head c ≡ false → Status ≡ c
+by_status Head is = cc is
+by_status Status is = refl
+
+pub returns-then-flag_in : goal.returns-then-flag_in
+returns-then-flag_in c said has = by_head said (sym (c.flag_in.ensures (is_head said) has) ∙ c.if-flag_in.true)
+
+pub returns-else-flag_in : goal.returns-else-flag_in
+returns-else-flag_in c said has = by_status said (sym (c.flag_in.ensures (is_head said) has) ∙ c.if-flag_in.false)

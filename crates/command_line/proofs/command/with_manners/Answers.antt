@@ -1,8 +1,0 @@
-use Rattle.command_line.proofs.Built.{added, begun}
-use Rattle.command_line.proofs.command.with_manners.Goals as goal
-
-pub returns : goal.returns
-returns c =
-    let drop = added _ c.flag.result _ _ _ _ (begun c.args.command) c.flag.ensures.rule c.with-command.ensures in
-    let no_retry = added _ c.flag-2.result _ _ _ _ drop c.flag-2.ensures.rule c.with-command-2.ensures in
-    added _ c.flag-3.result _ _ _ _ no_retry c.flag-3.ensures.rule c.with.ensures

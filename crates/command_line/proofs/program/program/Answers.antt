@@ -1,0 +1,6 @@
+use Rattle.std.proofs.Common.{refl}
+use Rattle.command_line.proofs.Built.{program_is}
+use Rattle.command_line.proofs.program.program.Goals as goal
+
+pub returns : goal.returns
+returns c = program_is _ _ refl refl refl c.joined.ensures
