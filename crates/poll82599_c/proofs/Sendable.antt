@@ -15,16 +15,26 @@ use Rattle.shared_ring.proofs.ends.ControllerPlaces.TheSendSync as controller_pl
 use Rattle.shared_ring.proofs.ends.DriverPlaces.TheSendSync as driver_places
 use Rattle.std.proofs.Crossing.{crosses}
 use Rattle.std_heap.proofs.Global.TheSendSync as heap
+use Rattle.controller.specs.contracts.receiving.RxController as RxController
+use Rattle.controller.specs.contracts.transmitting.TxController as TxController
+use Rattle.driver.specs.contracts.rx_driver.RxDriver as RxDriver
+use Rattle.driver.specs.contracts.tx_driver.TxDriver as TxDriver
+use Rattle.rx_ring.specs.contracts.ring.RxRing as RxRing
+use Rattle.rx_ring.specs.contracts.ring.RxRingSharedRing.TheImpl as rx_ring
+use Rattle.tx_ring.specs.contracts.controller.TxControllerEnd as TxControllerEnd
+use Rattle.tx_ring.specs.contracts.ring.TxRing as TxRing
+use Rattle.tx_ring.specs.contracts.ring.TxRingSharedRing.TheImpl as tx_ring
 use Rattle.poll82599_c.specs.contracts.end.End as End
+use Rattle.poll82599_c.specs.contracts.half.Half as Half
+use Rattle.poll82599_c.specs.contracts.half.RxControllerOfRing.TheImpl as rx_device_of
+use Rattle.poll82599_c.specs.contracts.half.RxDriverOfRing.TheImpl as rx_queue_of
+use Rattle.poll82599_c.specs.contracts.half.TxControllerEndOfRing.TheImpl as tx_serving_of
+use Rattle.poll82599_c.specs.contracts.half.TxControllerOfRing.TheImpl as tx_device_of
+use Rattle.poll82599_c.specs.contracts.half.TxDriverOfRing.TheImpl as tx_queue_of
 use Rattle.poll82599_c.specs.contracts.rings.rx_driving.RxDriving as RxDriving
 use Rattle.poll82599_c.specs.contracts.rings.rx_serving.RxServing as RxServing
 use Rattle.poll82599_c.specs.contracts.rings.tx_driving.TxDriving as TxDriving
-use Rattle.poll82599_c.specs.contracts.rings.tx_serving.TxServing as TxServing
 use Rattle.poll82599_c.specs.contracts.batches.packets.Packets as Packets
-use Rattle.poll82599_c.specs.contracts.batches.rx_device.RxDevice as RxDevice
-use Rattle.poll82599_c.specs.contracts.batches.rx_queue.RxQueue as RxQueue
-use Rattle.poll82599_c.specs.contracts.batches.tx_device.TxDevice as TxDevice
-use Rattle.poll82599_c.specs.contracts.batches.tx_queue.TxQueue as TxQueue
 
 ruleset parts = (sendable, crosses, cells.the_field_send, lease.the_send, lease.the_sync, seat.the_send, shared.the_send, shared.the_sync, send-Chain, sync-Chain, room.the_field_send, room.the_field_sync, tally.the_field_send, phantom.the_field_send, option.the_send, option.the_sync, begun.the_field_send, completion.the_field_send, controller_places.the_field_send, driver_places.the_field_send, heap.the_send, heap.the_sync)
 
@@ -37,22 +47,22 @@ rx_serving = search parts depth 60
 pub tx_driving : IsSend TxDriving.the_row
 tx_driving = search parts depth 60
 
-pub tx_serving : IsSend TxServing.the_row
+pub tx_serving : IsSend (Half.the_row TxRing.the_row TxControllerEnd.the_row tx_ring.ghosts tx_serving_of.ghosts)
 tx_serving = search parts depth 60
 
 pub packets : IsSend Packets.the_row
 packets = search parts depth 60
 
-pub rx_device : IsSend RxDevice.the_row
+pub rx_device : IsSend (Half.the_row RxRing.the_row RxController.the_row rx_ring.ghosts rx_device_of.ghosts)
 rx_device = search parts depth 60
 
-pub rx_queue : IsSend RxQueue.the_row
+pub rx_queue : IsSend (Half.the_row RxRing.the_row RxDriver.the_row rx_ring.ghosts rx_queue_of.ghosts)
 rx_queue = search parts depth 60
 
-pub tx_device : IsSend TxDevice.the_row
+pub tx_device : IsSend (Half.the_row TxRing.the_row TxController.the_row tx_ring.ghosts tx_device_of.ghosts)
 tx_device = search parts depth 60
 
-pub tx_queue : IsSend TxQueue.the_row
+pub tx_queue : IsSend (Half.the_row TxRing.the_row TxDriver.the_row tx_ring.ghosts tx_queue_of.ghosts)
 tx_queue = search parts depth 60
 
 pub end : IsSend End.the_row

@@ -1,3 +1,4 @@
 pub mod Packets
+pub mod Queues
 pub mod Receiving
 pub mod Transmitting

@@ -10,6 +10,7 @@
 mod batches;
 mod call;
 mod end;
+mod half;
 mod handle;
 mod makings;
 mod rings;

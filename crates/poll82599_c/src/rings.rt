@@ -2,6 +2,7 @@
 
 mod begun;
 mod handed;
+mod handshake;
 mod rx;
 mod rx_driving;
 mod rx_making;

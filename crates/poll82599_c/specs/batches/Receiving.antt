@@ -1,9 +1,8 @@
 -- What the exports say of a receive queue's driver and of its device, and of their steps.
-use Rattle.std.specs.Prelude.{◌≡◌, ◌≢◌, ℕ, zero, suc, ◌+◌, ◌++◌, Bool, true, false, Option, Some, None, [], ◌∷◌, length}
-use Rattle.buffer_pool.specs.declared.stash.TheConstants.{STASH_BUFFERS}
+use Rattle.std.specs.Prelude.{◌≡◌, ◌≢◌, ℕ, zero, suc, ◌+◌, ◌++◌, Bool, true, false, Option, [], ◌∷◌, length}
 use Rattle.ring_model.specs.receive.Lawful.{IsLawfulRxLedger}
 use Rattle.ring_model.specs.shared.Frames.{Bytes, frames}
-use Rattle.ring_model.specs.shared.Handshakes.{is_live, is_on, is_open, is_stopped}
+use Rattle.ring_model.specs.shared.Handshakes.{is_open}
 use Rattle.ring_model.specs.shared.Segments.{piece_of}
 use Rattle.shared_ring.specs.declared.control.Control.{Control}
 use Rattle.shared_ring.specs.declared.events.DriverEvent.TheVariants as driver
@@ -11,9 +10,9 @@ use Rattle.shared_ring.specs.Words.{control_word}
 use Rattle.rx_ring.specs.declared.events.RxDriverOwn.TheVariants.{LoadedQuiet}
 use Rattle.rx_ring.specs.Calls.{GoneOver, IsTold, told_left}
 use Rattle.rx_ring.specs.Ends.{appended, driver_size, driver_state, stored, taken}
+use Rattle.rx_ring.specs.Form.{rx}
 use Rattle.rx_ring.specs.Meeting.{MadeSeats, ledger_of, stored_now}
 use Rattle.driver.specs.declared.rx_driver.TheConstants.{MOST_BATCH}
-use Rattle.driver.specs.Handshake.{AskedEnabling, Finishes}
 use Rattle.driver.specs.receive.Batches.{Batched, IsFilled}
 use Rattle.driver.specs.receive.Receiver.{Receiver, hands}
 use Rattle.driver.specs.receive.Returns.{GaveBack, IsEmptied}
@@ -22,6 +21,7 @@ use Rattle.controller.specs.Receiving.{Finished, Receiving, WasDropped, WasHeld,
 use Rattle.controller.specs.Tallying.{nothing}
 use Rattle.poll82599_c.specs.Held.{Between, Both, Of}
 use Rattle.poll82599_c.specs.batches.Packets.{Worked}
+use Rattle.poll82599_c.specs.batches.Queues.{IsOff, Kind, TriedDisable, TriedEnable, TriedLeft, TriedReclaim, TriedRenewal}
 
 -- A driver and a device of one fresh ring of n descriptors: a batch has so many packets, buffers are filled to so many bytes, and a frame for which too few descriptors are free is dropped or held
 pub record ArePair (n batch fill : ℕ) (drop_en : Bool) (q : Receiver) (d : Receiving) : Type 0 where
@@ -40,9 +40,6 @@ abbrev pub AreOfOne : Option Receiver → Option Receiving → Type 0
 AreOfOne = Both (λ q d. q.end.table ≡ d.end.table)
 
 -- it is there before and after, and of the same ring
-abbrev pub SameQueue : Option Receiver → Option Receiver → Type 0
-SameQueue = Between (λ old new. new.end.table ≡ old.end.table)
-
 abbrev pub SameDevice : Option Receiving → Option Receiving → Type 0
 SameDevice = Between (λ old new. new.end.table ≡ old.end.table)
 
@@ -71,39 +68,15 @@ pub record CameInto (old : Receiver) (had : Worked) (new : Receiver) (has : Work
   pub back : GaveBack old had.stash new has.stash
   pub kept : has.packets ≡ had.packets
 
--- all of them, and so many
-pub record AllCame (count : ℕ) (old : Receiver) (had : Worked) (new : Receiver) (has : Worked) : Type 0 where
-  pub came : CameInto old had new has
-  pub count_is : length has.stash ≡ length had.stash + count
-  pub emptied : IsEmptied new
-
--- as many as the stash had room for, and some are left
-pub record FilledUp (old : Receiver) (had : Worked) (new : Receiver) (has : Worked) : Type 0 where
-  pub came : CameInto old had new has
-  pub full : length has.stash ≡ STASH_BUFFERS
-  pub some_left : ¬ IsEmptied new
-
--- An enabling was asked if nothing was asked yet, and the control word loaded; where a disabling is asked nothing was done. Whether the queue is on is answered
-pub record TriedEnabling (on : Bool) (old new : Receiver) : Type 0 where
-  pub asked : is_open (driver_state old.end) ≡ true → AskedEnabling old.end new.end
-  pub shut : is_open (driver_state old.end) ≡ false → new ≡ old
-  pub on_is : on ≡ is_on (driver_state new.end)
-  pub rest : new ≡ record old { end = new.end }
-
--- C5
-abbrev pub AskedDisable : Receiver → Receiver → Type 0
-AskedDisable old new = new ≡ record old { end = appended old.end driver.AskedDisable }
-
--- the control word was loaded, and where it showed the disabling answered the head; it is told how many segments were stored and not taken
-pub record TriedFinish (told : Option ℕ) (old new : Receiver) : Type 0 where
-  pub finishes : Finishes told_left old.end told new.end
-  pub rest : new ≡ record old { end = new.end }
-
 -- a queue from which all buffers came back begins a new epoch
 pub record Renewed (old new : Receiver) : Type 0 where
   pub emptied : IsEmptied old
   pub begun : GoneOver old.end new.end
   pub rest : new ≡ record old { end = new.end }
+
+-- so it is a driver of queues
+abbrev pub receiver : Kind rx Receiver
+receiver = record { end_of = λ q. q.end; with_end = λ q e. record q { end = e }; told_left = told_left; IsEmptied = IsEmptied; CameInto = CameInto; Renewed = Renewed }
 
 -- C8: the quiet word had this value
 abbrev pub FoundQuiet : ℕ → Receiver → Receiver → Type 0
@@ -113,54 +86,22 @@ FoundQuiet value old new = new ≡ record old { end = appended old.end (driver.O
 
 -- 1: a batch of so many was taken; 0: it was not seen on, or was seen disabled
 abbrev pub TriedBatch : ℕ → ℕ → Receiver → Worked → Receiver → Worked → Type 0
-TriedBatch zero count old had new has = (is_live (driver_state old.end) ≡ false) × (new ≡ old) × (has ≡ had)
+TriedBatch zero count old had new has = IsOff receiver old had new has
 TriedBatch (suc zero) count old had new has = TookBatch count old had new has
 TriedBatch _ count old had new has = ⊥
-
--- 1: all buffers came back, and so many; 0: as many as the stash had room for; 2: no disabling was seen answered
-abbrev pub TriedReclaim : ℕ → ℕ → Receiver → Worked → Receiver → Worked → Type 0
-TriedReclaim zero count old had new has = FilledUp old had new has
-TriedReclaim (suc zero) count old had new has = AllCame count old had new has
-TriedReclaim (suc (suc zero)) count old had new has = (is_stopped (driver_state old.end) ≡ false) × (new ≡ old) × (has ≡ had)
-TriedReclaim _ count old had new has = ⊥
-
--- 1: it is on; 0: it is not; 2: it was seen disabled
-abbrev pub TriedEnable : ℕ → Receiver → Receiver → Type 0
-TriedEnable zero old new = TriedEnabling false old new
-TriedEnable (suc zero) old new = TriedEnabling true old new
-TriedEnable (suc (suc zero)) old new = (is_stopped (driver_state old.end) ≡ true) × (new ≡ old)
-TriedEnable _ old new = ⊥
-
--- 1: it was asked for; 0: it is not on
-abbrev pub TriedDisable : ℕ → Receiver → Receiver → Type 0
-TriedDisable zero old new = (is_on (driver_state old.end) ≡ false) × (new ≡ old)
-TriedDisable (suc zero) old new = AskedDisable old new
-TriedDisable _ old new = ⊥
-
--- 1: so many segments are left; 0: that is not known yet, or was told
-abbrev pub TriedLeft : ℕ → ℕ → Receiver → Receiver → Type 0
-TriedLeft zero count old new = TriedFinish None old new
-TriedLeft (suc zero) count old new = TriedFinish (Some count) old new
-TriedLeft _ count old new = ⊥
-
--- 1: it was renewed; 0: buffers are left, or it was not seen disabled
-abbrev pub TriedRenewal : ℕ → Receiver → Receiver → Type 0
-TriedRenewal zero old new = (¬ IsEmptied old) × (new ≡ old)
-TriedRenewal (suc zero) old new = Renewed old new
-TriedRenewal _ old new = ⊥
 
 -- the step of an operation, by its number, with this answer
 abbrev pub Moved : ℕ → ℕ → ℕ → Receiver → Worked → Receiver → Worked → Type 0
 Moved zero answer count old had new has = TriedBatch answer count old had new has
-Moved (suc zero) answer count old had new has = TriedReclaim answer count old had new has
+Moved (suc zero) answer count old had new has = TriedReclaim receiver answer count old had new has
 Moved _ answer count old had new has = answer ≡ 4294967295
 
 -- the step of an operation, by its number, with this answer
 abbrev pub Did : ℕ → ℕ → ℕ → Receiver → Receiver → Type 0
-Did zero answer count old new = TriedEnable answer old new
-Did (suc zero) answer count old new = TriedDisable answer old new
-Did (suc (suc zero)) answer count old new = TriedLeft answer count old new
-Did (suc (suc (suc zero))) answer count old new = TriedRenewal answer old new
+Did zero answer count old new = TriedEnable receiver answer old new
+Did (suc zero) answer count old new = TriedDisable receiver answer old new
+Did (suc (suc zero)) answer count old new = TriedLeft receiver answer count old new
+Did (suc (suc (suc zero))) answer count old new = TriedRenewal receiver answer old new
 Did (suc (suc (suc (suc zero)))) answer count old new = FoundQuiet answer old new
 Did _ answer count old new = answer ≡ 4294967295
 

@@ -1,19 +1,16 @@
 -- What the exports say of a transmit queue's driver and of its device, and of their steps.
-use Rattle.std.specs.Prelude.{◌≡◌, ℕ, zero, suc, ◌+◌, ◌++◌, ◌<◌, Bool, true, false, Option, Some, None, List, [], ◌∷◌, length, take, drop, map, slice_get}
-use Rattle.buffer_pool.specs.declared.stash.TheConstants.{STASH_BUFFERS}
+use Rattle.std.specs.Prelude.{◌≡◌, ℕ, zero, suc, ◌+◌, ◌++◌, ◌<◌, Option, Some, List, [], ◌∷◌, length, take, drop, map, slice_get}
 use Rattle.buffer_pool.specs.Packed.{bytes_of}
 use Rattle.ring_model.specs.declared.states.Completion.{Completion}
 use Rattle.ring_model.specs.shared.Frames.{Bytes, frames}
-use Rattle.ring_model.specs.shared.Handshakes.{is_live, is_on, is_open, is_stopped}
 use Rattle.ring_model.specs.transmit.Lawful.{IsLawfulTxLedger}
 use Rattle.ring_model.specs.transmit.Ring.{carried, number_of_posting}
 use Rattle.shared_ring.specs.declared.control.Control.{Control}
-use Rattle.shared_ring.specs.declared.events.DriverEvent.TheVariants as driver
 use Rattle.shared_ring.specs.Words.{control_word}
 use Rattle.tx_ring.specs.Calls.{GoneOver}
-use Rattle.tx_ring.specs.Ends.{ControllerSide, appended, driver_size, driver_state, posted, sent}
+use Rattle.tx_ring.specs.Ends.{ControllerSide, driver_size, posted, sent}
+use Rattle.tx_ring.specs.Form.{tx}
 use Rattle.tx_ring.specs.Meeting.{IsTold, MadeSeats, ledger_of, sent_now, told_left}
-use Rattle.driver.specs.Handshake.{AskedEnabling, Finishes}
 use Rattle.driver.specs.Reclaiming.{CameBack}
 use Rattle.driver.specs.transmit.Batches.{Batched, CleanedAll, OnlyCleaned}
 use Rattle.driver.specs.transmit.Returns.{IsEmptied}
@@ -22,6 +19,7 @@ use Rattle.controller.specs.Handshaking.{TurnedControl}
 use Rattle.controller.specs.Transmitting.{WasIdle, WasOff, WasRefused, WasSent}
 use Rattle.poll82599_c.specs.Held.{Between, Both}
 use Rattle.poll82599_c.specs.batches.Packets.{Worked}
+use Rattle.poll82599_c.specs.batches.Queues.{IsOff, Kind, TriedDisable, TriedEnable, TriedLeft, TriedReclaim, TriedRenewal}
 
 -- A driver and a device of one fresh ring of n descriptors that reports so: of so many frames one asks for a report
 pub record ArePair (n every : ℕ) (by : Completion) (q : Transmitter) (d : ControllerSide) : Type 0 where
@@ -37,9 +35,6 @@ abbrev pub AreOfOne : Option Transmitter → Option ControllerSide → Type 0
 AreOfOne = Both (λ q d. q.end.table ≡ d.table)
 
 -- it is there before and after, and of the same ring
-abbrev pub SameQueue : Option Transmitter → Option Transmitter → Type 0
-SameQueue = Between (λ old new. new.end.table ≡ old.end.table)
-
 abbrev pub SameDevice : Option ControllerSide → Option ControllerSide → Type 0
 SameDevice = Between (λ old new. new.table ≡ old.table)
 
@@ -75,100 +70,44 @@ pub record CameInto (old : Transmitter) (had : Worked) (new : Transmitter) (has 
   pub rest : new ≡ record old { end = new.end }
   pub kept : has.packets ≡ had.packets
 
--- all of them, and so many
-pub record AllCame (count : ℕ) (old : Transmitter) (had : Worked) (new : Transmitter) (has : Worked) : Type 0 where
-  pub came : CameInto old had new has
-  pub count_is : length has.stash ≡ length had.stash + count
-  pub emptied : IsEmptied new
-
--- as many as the stash had room for, and some are left
-pub record FilledUp (old : Transmitter) (had : Worked) (new : Transmitter) (has : Worked) : Type 0 where
-  pub came : CameInto old had new has
-  pub full : length has.stash ≡ STASH_BUFFERS
-  pub some_left : ¬ IsEmptied new
-
--- An enabling was asked if nothing was asked yet, and the control word loaded; where a disabling is asked nothing was done. Whether the queue is on is answered
-pub record TriedEnabling (on : Bool) (old new : Transmitter) : Type 0 where
-  pub asked : is_open (driver_state old.end) ≡ true → AskedEnabling old.end new.end
-  pub shut : is_open (driver_state old.end) ≡ false → new ≡ old
-  pub on_is : on ≡ is_on (driver_state new.end)
-  pub rest : new ≡ record old { end = new.end }
-
--- C5
-abbrev pub AskedDisable : Transmitter → Transmitter → Type 0
-AskedDisable old new = new ≡ record old { end = appended old.end driver.AskedDisable }
-
--- the control word was loaded, and where it showed the disabling answered the head; it is told how many segments were posted and not sent
-pub record TriedFinish (told : Option ℕ) (old new : Transmitter) : Type 0 where
-  pub finishes : Finishes told_left old.end told new.end
-  pub rest : new ≡ record old { end = new.end }
-
 -- a queue from which all buffers came back begins a new epoch, and counts its frames anew
 pub record Renewed (old new : Transmitter) : Type 0 where
   pub emptied : IsEmptied old
   pub begun : GoneOver old.end new.end
   pub rest : new ≡ record old { end = new.end; frames = 0 }
 
+-- so it is a driver of queues
+abbrev pub transmitter : Kind tx Transmitter
+transmitter = record { end_of = λ q. q.end; with_end = λ q e. record q { end = e }; told_left = told_left; IsEmptied = IsEmptied; CameInto = CameInto; Renewed = Renewed }
+
 -- ---- what a driver's calls answer, and what they did then
 
 -- 1: so many packets were posted; 0: it was not seen on, or was seen disabled; 3: the oldest packet is too long, and reported buffers came back alone
 abbrev pub TriedBatch : ℕ → ℕ → Transmitter → Worked → Transmitter → Worked → Type 0
-TriedBatch zero count old had new has = (is_live (driver_state old.end) ≡ false) × (new ≡ old) × (has ≡ had)
+TriedBatch zero count old had new has = IsOff transmitter old had new has
 TriedBatch (suc zero) count old had new has = PostedBatch count old had new has
 TriedBatch (suc (suc (suc zero))) count old had new has = CleanedAlone old had new has
 TriedBatch _ count old had new has = ⊥
 
 -- 1: so many reported buffers came back; 0: it was not seen on, or was seen disabled
 abbrev pub TriedCleaning : ℕ → ℕ → Transmitter → Worked → Transmitter → Worked → Type 0
-TriedCleaning zero count old had new has = (is_live (driver_state old.end) ≡ false) × (new ≡ old) × (has ≡ had)
+TriedCleaning zero count old had new has = IsOff transmitter old had new has
 TriedCleaning (suc zero) count old had new has = CleanedSome count old had new has
 TriedCleaning _ count old had new has = ⊥
-
--- 1: all buffers came back, and so many; 0: as many as the stash had room for; 2: no disabling was seen answered
-abbrev pub TriedReclaim : ℕ → ℕ → Transmitter → Worked → Transmitter → Worked → Type 0
-TriedReclaim zero count old had new has = FilledUp old had new has
-TriedReclaim (suc zero) count old had new has = AllCame count old had new has
-TriedReclaim (suc (suc zero)) count old had new has = (is_stopped (driver_state old.end) ≡ false) × (new ≡ old) × (has ≡ had)
-TriedReclaim _ count old had new has = ⊥
-
--- 1: it is on; 0: it is not; 2: it was seen disabled
-abbrev pub TriedEnable : ℕ → Transmitter → Transmitter → Type 0
-TriedEnable zero old new = TriedEnabling false old new
-TriedEnable (suc zero) old new = TriedEnabling true old new
-TriedEnable (suc (suc zero)) old new = (is_stopped (driver_state old.end) ≡ true) × (new ≡ old)
-TriedEnable _ old new = ⊥
-
--- 1: it was asked for; 0: it is not on
-abbrev pub TriedDisable : ℕ → Transmitter → Transmitter → Type 0
-TriedDisable zero old new = (is_on (driver_state old.end) ≡ false) × (new ≡ old)
-TriedDisable (suc zero) old new = AskedDisable old new
-TriedDisable _ old new = ⊥
-
--- 1: so many segments are left; 0: that is not known yet, or was told
-abbrev pub TriedLeft : ℕ → ℕ → Transmitter → Transmitter → Type 0
-TriedLeft zero count old new = TriedFinish None old new
-TriedLeft (suc zero) count old new = TriedFinish (Some count) old new
-TriedLeft _ count old new = ⊥
-
--- 1: it was renewed; 0: buffers are out, or it was not seen disabled
-abbrev pub TriedRenewal : ℕ → Transmitter → Transmitter → Type 0
-TriedRenewal zero old new = (¬ IsEmptied old) × (new ≡ old)
-TriedRenewal (suc zero) old new = Renewed old new
-TriedRenewal _ old new = ⊥
 
 -- the step of an operation, by its number, with this answer
 abbrev pub Moved : ℕ → ℕ → ℕ → Transmitter → Worked → Transmitter → Worked → Type 0
 Moved zero answer count old had new has = TriedBatch answer count old had new has
 Moved (suc zero) answer count old had new has = TriedCleaning answer count old had new has
-Moved (suc (suc zero)) answer count old had new has = TriedReclaim answer count old had new has
+Moved (suc (suc zero)) answer count old had new has = TriedReclaim transmitter answer count old had new has
 Moved _ answer count old had new has = answer ≡ 4294967295
 
 -- the step of an operation, by its number, with this answer
 abbrev pub Did : ℕ → ℕ → ℕ → Transmitter → Transmitter → Type 0
-Did zero answer count old new = TriedEnable answer old new
-Did (suc zero) answer count old new = TriedDisable answer old new
-Did (suc (suc zero)) answer count old new = TriedLeft answer count old new
-Did (suc (suc (suc zero))) answer count old new = TriedRenewal answer old new
+Did zero answer count old new = TriedEnable transmitter answer old new
+Did (suc zero) answer count old new = TriedDisable transmitter answer old new
+Did (suc (suc zero)) answer count old new = TriedLeft transmitter answer count old new
+Did (suc (suc (suc zero))) answer count old new = TriedRenewal transmitter answer old new
 Did _ answer count old new = answer ≡ 4294967295
 
 -- ---- a device's calls

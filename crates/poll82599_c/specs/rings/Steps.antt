@@ -1,12 +1,14 @@
 -- What the exports of both kinds of rings say alike of the two ends that handles hold, and of their steps.
 use Rattle.std.specs.Prelude.{◌≡◌, ◌≢◌, ℕ, Option}
 use Rattle.buffer_pool.specs.Buffer.{Buffer}
+use Rattle.shared_ring.specs.declared.ends.HandshakeStep.{HandshakeStep}
+use Rattle.shared_ring.specs.declared.ends.HandshakeStep.TheVariants.{AskEnable, LoadControl, AskDisable}
 use Rattle.shared_ring.specs.declared.events.DriverEvent.TheVariants as driver
 use Rattle.shared_ring.specs.declared.events.ControllerEvent.TheVariants as controller
 use Rattle.shared_ring.specs.Calls.{Answered}
 use Rattle.shared_ring.specs.Ends.{ControllerSide, DriverSide, answered, appended, fill_place, next_place}
 use Rattle.shared_ring.specs.Forms.{Form}
-use Rattle.poll82599_c.specs.Held.{Between, Both}
+use Rattle.poll82599_c.specs.Held.{Between, Both, Tried}
 
 module _ {Ring Posted Served Given D C : Type 0} {form : Form Ring Posted Served Given D C} where
   -- both are ends of one ring
@@ -36,6 +38,12 @@ module _ {Ring Posted Served Given D C : Type 0} {form : Form Ring Posted Served
   -- C4: the control word had this value
   abbrev pub LoadedControl : ℕ → DriverSide form → DriverSide form → Type 0
   LoadedControl value old new = new ≡ appended old (driver.LoadedControl value)
+
+  -- a step of the handshake with this answer
+  abbrev pub TriedShake : HandshakeStep → ℕ → DriverSide form → DriverSide form → Type 0
+  TriedShake AskEnable answer old new = Tried AskedEnable answer old new
+  TriedShake LoadControl answer old new = LoadedControl answer old new
+  TriedShake AskDisable answer old new = Tried AskedDisable answer old new
 
   -- C6: the oldest buffer that was out is back
   pub record ReclaimedOne (old new : DriverSide form) : Type 0 where

@@ -68,10 +68,7 @@ impl Packets {
         ensures step { TriedCopy result.answer i result.count room.old room.new self.now self.now }
     {
         match self.list.as_slice().get(i) {
-            None => Found {
-                answer: 0,
-                count: 0,
-            },
+            None => Found::nothing(0),
             Some(packet) if room.len() < packet.len() => Found {
                 answer: 4,
                 count: packet.len(),

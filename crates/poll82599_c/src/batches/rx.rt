@@ -5,13 +5,15 @@ ghost use Rattle.controller.specs.FillSize.{IsFillSize};
 ghost use Rattle.opaque.specs.Words.{is_set};
 ghost use Rattle.poll82599_c.specs.Handles.{as_packets, as_rx_device, as_rx_queue};
 ghost use Rattle.poll82599_c.specs.Held.{Among, Between};
-ghost use Rattle.poll82599_c.specs.batches.Receiving.{AreCounts, AreLawful, AreMade, AreOfOne, AreTold, Did, Moved, Played, SameDevice, SameQueue};
+ghost use Rattle.poll82599_c.specs.batches.Queues.{SameQueue};
+ghost use Rattle.poll82599_c.specs.batches.Receiving.{AreCounts, AreLawful, AreMade, AreOfOne, AreTold, Did, Moved, Played, SameDevice, receiver};
 
 use crate::batches::found::Found;
 use crate::batches::rx_making::{make, unmake};
 use crate::call::{NO_OPERATION, Poll82599Device, Poll82599Queue};
 use crate::end::End;
 use crate::handle::Handle;
+use crate::makings::put_both;
 use opaque::is_set;
 use std::alloc::Global;
 
@@ -36,14 +38,11 @@ pub extern "C" fn poll82599_rx_queue_new(
     ensures queue { (result ≢ pos 0) → queue.new ≡ queue.old }
     ensures device { (result ≢ pos 0) → device.new ≡ device.old }
 {
-    match make(alloc, descriptors, batch, fill, is_set(drop_en)) {
-        Ok((driving, serving)) => {
-            queue.put(driving);
-            device.put(serving);
-            0
-        }
-        Err(why) => why.number(),
-    }
+    put_both(
+        make(alloc, descriptors, batch, fill, is_set(drop_en)),
+        queue,
+        device,
+    )
 }
 
 /// Moves buffers between a receive queue and a worker: 0 takes a batch of packets and posts empty buffers, and 1 has the buffers of
@@ -58,7 +57,7 @@ pub extern "C" fn poll82599_rx_queue_move(
     requires queue { IsSome queue.old.held }
     requires packets { IsSome packets.old.held }
     ensures other { (as_rx_queue queue.old.held ≡ None) ⊎ (as_packets packets.old.held ≡ None) → (call.new.answer ≡ 4294967295) × (queue.new.held ≡ queue.old.held) × (packets.new.held ≡ packets.old.held) }
-    ensures own { SameQueue (as_rx_queue queue.old.held) (as_rx_queue queue.new.held) }
+    ensures own { SameQueue receiver (as_rx_queue queue.old.held) (as_rx_queue queue.new.held) }
     ensures step { Among (Moved call.old.operation call.new.answer call.new.count) (as_rx_queue queue.old.held) (as_packets packets.old.held) (as_rx_queue queue.new.held) (as_packets packets.new.held) }
     ensures kept { (1 < call.old.operation) → (queue.new.held ≡ queue.old.held) × (packets.new.held ≡ packets.old.held) }
 {
@@ -88,7 +87,7 @@ pub extern "C" fn poll82599_rx_queue_do(
 )
     requires { IsSome queue.old.held }
     ensures other { as_rx_queue queue.old.held ≡ None → (call.new.answer ≡ 4294967295) × (queue.new.held ≡ queue.old.held) }
-    ensures own { SameQueue (as_rx_queue queue.old.held) (as_rx_queue queue.new.held) }
+    ensures own { SameQueue receiver (as_rx_queue queue.old.held) (as_rx_queue queue.new.held) }
     ensures step { Between (Did call.old.operation call.new.answer call.new.count) (as_rx_queue queue.old.held) (as_rx_queue queue.new.held) }
     ensures kept { (4 < call.old.operation) → queue.new.held ≡ queue.old.held }
 {
@@ -162,7 +161,7 @@ pub extern "C" fn poll82599_rx_queue_close(
     ensures queue { queue.new.held ≡ None }
     ensures device { device.new.held ≡ None }
 {
-    let queue = Box::into_inner(queue.take(alloc)).rx_queue();
-    let device = Box::into_inner(device.take(alloc)).rx_device();
+    let queue = Box::into_inner(queue.take(alloc));
+    let device = Box::into_inner(device.take(alloc));
     unmake(queue, device)
 }

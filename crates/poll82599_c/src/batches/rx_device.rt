@@ -3,32 +3,14 @@ ghost use Rattle.std.specs.Prelude.{◌≡◌, ◌≢◌, true, false};
 ghost use Rattle.controller.specs.Tallying.{AddsUp};
 ghost use Rattle.poll82599_c.specs.batches.Receiving.{TriedOffer, TriedQuiet, Turned};
 
+use crate::half::Half;
 use controller::{Offer, RxController, Tally};
 use rx_ring::RxRing;
-use std::alloc::Global;
-use std::marker::Model;
-use std::sync::Arc;
 
 /// What a thread has that plays the device of a receive queue.
-#[derive(Drop)]
-pub struct RxDevice {
-    pub(crate) ring: Arc<RxRing, Global>,
-    pub(crate) controller: RxController,
-}
+pub(crate) type RxDevice = Half<RxRing, RxController>;
 
-impl Model for RxDevice {
-    ghost use Rattle.std.specs.Prelude.{◌≡◌};
-    ghost use Rattle.std.specs.Arc.{arc_value};
-    ghost use Rattle.controller.specs.Receiving.{Receiving};
-
-    ghost Value = { Receiving };
-
-    ghost view = { λ d. d.controller };
-
-    ghost invariant = { λ d. d.controller.end.table ≡ arc_value d.ring };
-}
-
-impl RxDevice {
+impl Half<RxRing, RxController> {
     /// Offers a frame that came in: 1 where it is stored, cut into segments; 0 where too few descriptors are free, and it is to be
     /// offered again; 2 where no frame has so many bytes; 3 where the queue is not served, or quiet; 4 where the ring is too short
     /// for it; 5 where too few descriptors are free, and it is dropped.
@@ -36,7 +18,7 @@ impl RxDevice {
         ensures own { self.new.end.table ≡ self.old.end.table }
         ensures step { TriedOffer result frame.now self.old self.new }
     {
-        match self.controller.offer(&self.ring, frame) {
+        match self.end.offer(&self.ring, frame) {
             Ok(Offer::Stored) => 1,
             Ok(Offer::Held) => 0,
             Ok(Offer::Off) => 3,
@@ -52,7 +34,7 @@ impl RxDevice {
         ensures own { self.new.end.table ≡ self.old.end.table }
         ensures step { Turned result self.old self.new }
     {
-        u32::from(self.controller.turn_control(&self.ring).word())
+        u32::from(self.end.turn_control(&self.ring).word())
     }
 
     /// Says that no more is stored in this epoch: 1, or 0 where the queue is not served, or that was said.
@@ -61,7 +43,7 @@ impl RxDevice {
         ensures step { (result ≡ 1) → TriedQuiet true self.old self.new }
         ensures kept { (result ≢ 1) → TriedQuiet false self.old self.new }
     {
-        u32::from(self.controller.finish(&self.ring))
+        u32::from(self.end.finish(&self.ring))
     }
 
     /// How many frames were offered, and what became of them.
@@ -69,6 +51,6 @@ impl RxDevice {
         ensures value { result ≡ self.now.tally }
         ensures adds { AddsUp result }
     {
-        self.controller.tally()
+        self.end.tally()
     }
 }

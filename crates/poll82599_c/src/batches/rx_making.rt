@@ -5,10 +5,9 @@ ghost use Rattle.controller.specs.FillSize.{IsFillSize};
 ghost use Rattle.poll82599_c.specs.batches.Receiving.{AreLawful, AreMade, AreOfOne, AreTold};
 ghost use Rattle.poll82599_c.specs.Handles.{as_rx_device, as_rx_queue};
 
-use crate::batches::rx_device::RxDevice;
-use crate::batches::rx_queue::RxQueue;
 use crate::end::End;
-use crate::makings::{Unmade, both_boxed, rx_close, rx_halves};
+use crate::half::Half;
+use crate::makings::{Unmade, both_boxed, rx_close, rx_halves, unclosed};
 use controller::{RxController, is_fill_size};
 use driver::{MOST_BATCH, RxDriver};
 use std::alloc::Global;
@@ -30,33 +29,29 @@ pub(crate) fn make(
     if batch == 0 || MOST_BATCH < batch || !is_fill_size(fill) {
         return Err(Unmade::Settings);
     }
-    let ((ring, driver), (other, controller)) = rx_halves(alloc, ring)?;
-    let queue = RxQueue {
-        ring,
-        driver: RxDriver::new(driver, batch),
-    };
-    let device = RxDevice {
-        ring: other,
-        controller: RxController::new(controller, fill, drop_en),
-    };
+    let (driver, controller) = rx_halves(alloc, ring)?;
+    let queue = Half::of(driver.ring, RxDriver::new(driver.end, batch));
+    let serving = RxController::new(controller.end, fill, drop_en);
+    let device = Half::of(controller.ring, serving);
     both_boxed(alloc, End::RxQueue(queue), End::RxDevice(device))
 }
 
-/// Closes a receive queue: how many buffers lay in its ring, or -1 where another owner of the ring is left.
-pub(crate) fn unmake(queue: Option<RxQueue>, device: Option<RxDevice>) -> i64
-    requires { AreOfOne queue device }
-    ensures lawful { AreLawful queue device }
-    ensures told { AreTold queue device }
+/// Closes a receive queue by its two objects: how many buffers lay in its ring, or -1 where another owner of the ring is left.
+pub(crate) fn unmake(queue: End, device: End) -> i64
+    requires { AreOfOne (as_rx_queue (Some queue)) (as_rx_device (Some device)) }
+    ensures lawful { AreLawful (as_rx_queue (Some queue)) (as_rx_device (Some device)) }
+    ensures told { AreTold (as_rx_queue (Some queue)) (as_rx_device (Some device)) }
 {
-    match queue.zip(device) {
-        None => -1,
-        Some((queue, device)) => {
-            let (end, chain) = queue.driver.into_end();
-            drop(chain);
-            rx_close(
-                (queue.ring, end),
-                (device.ring, device.controller.into_end()),
-            )
-        }
+    match queue {
+        End::RxQueue(queue) => match device {
+            End::RxDevice(device) => {
+                let (end, chain) = queue.end.into_end();
+                drop(chain);
+                let serving = Half::of(device.ring, device.end.into_end());
+                rx_close(Half::of(queue.ring, end), serving)
+            }
+            other => unclosed(queue, other),
+        },
+        other => unclosed(other, device),
     }
 }

@@ -1,35 +1,18 @@
 //! The driver of a receive queue, and the ring that it shares.
 ghost use Rattle.std.specs.Prelude.{◌≡◌};
-ghost use Rattle.poll82599_c.specs.batches.Receiving.{FoundQuiet, TriedBatch, TriedDisable, TriedEnable, TriedLeft, TriedReclaim, TriedRenewal};
+ghost use Rattle.poll82599_c.specs.batches.Queues.{TriedDisable, TriedEnable, TriedLeft, TriedReclaim, TriedRenewal};
+ghost use Rattle.poll82599_c.specs.batches.Receiving.{FoundQuiet, TriedBatch, receiver};
 
 use crate::batches::found::Found;
 use crate::batches::packets::Packets;
+use crate::half::Half;
 use driver::RxDriver;
 use rx_ring::RxRing;
-use std::alloc::Global;
-use std::marker::Model;
-use std::sync::Arc;
 
 /// What a thread has that drives a receive queue in batches.
-#[derive(Drop)]
-pub struct RxQueue {
-    pub(crate) ring: Arc<RxRing, Global>,
-    pub(crate) driver: RxDriver,
-}
+pub(crate) type RxQueue = Half<RxRing, RxDriver>;
 
-impl Model for RxQueue {
-    ghost use Rattle.std.specs.Prelude.{◌≡◌};
-    ghost use Rattle.std.specs.Arc.{arc_value};
-    ghost use Rattle.driver.specs.receive.Receiver.{Receiver};
-
-    ghost Value = { Receiver };
-
-    ghost view = { λ q. q.driver };
-
-    ghost invariant = { λ q. q.driver.end.table ≡ arc_value q.ring };
-}
-
-impl RxQueue {
+impl Half<RxRing, RxDriver> {
     /// Takes the packets that are done, up to a batch of them and as many as the worker has room for, and posts empty buffers
     /// of its stash: 1, and how many packets these were; 0 where the queue was not seen enabled, or was seen disabled.
     pub(crate) fn batch(&mut self, packets: &mut Packets) -> Found
@@ -37,14 +20,11 @@ impl RxQueue {
         ensures step { TriedBatch result.answer result.count self.old packets.old self.new packets.new }
     {
         match self
-            .driver
+            .end
             .rx_batch(&self.ring, &mut packets.stash, &mut packets.list)
         {
             Ok(count) => Found { answer: 1, count },
-            Err(_) => Found {
-                answer: 0,
-                count: 0,
-            },
+            Err(_) => Found::nothing(0),
         }
     }
 
@@ -52,20 +32,14 @@ impl RxQueue {
     /// and as many came as fit; 2 where no disabling was seen answered.
     pub(crate) fn reclaim(&mut self, packets: &mut Packets) -> Found
         ensures own { self.new.end.table ≡ self.old.end.table }
-        ensures step { TriedReclaim result.answer result.count self.old packets.old self.new packets.new }
+        ensures step { TriedReclaim receiver result.answer result.count self.old packets.old self.new packets.new }
     {
-        if !self.driver.is_stopped() {
-            return Found {
-                answer: 2,
-                count: 0,
-            };
+        if !self.end.is_stopped() {
+            return Found::nothing(2);
         }
-        match self.driver.reclaim_into(&self.ring, &mut packets.stash) {
+        match self.end.reclaim_into(&self.ring, &mut packets.stash) {
             Ok(count) => Found { answer: 1, count },
-            Err(_) => Found {
-                answer: 0,
-                count: 0,
-            },
+            Err(_) => Found::nothing(0),
         }
     }
 
@@ -73,9 +47,9 @@ impl RxQueue {
     /// not; 2 where it was seen disabled, and has to be renewed first.
     pub(crate) fn enable(&mut self) -> u32
         ensures own { self.new.end.table ≡ self.old.end.table }
-        ensures step { TriedEnable result self.old self.new }
+        ensures step { TriedEnable receiver result self.old self.new }
     {
-        match self.driver.enable(&self.ring) {
+        match self.end.enable(&self.ring) {
             Ok(true) => 1,
             Ok(false) => 0,
             Err(_) => 2,
@@ -85,9 +59,9 @@ impl RxQueue {
     /// Asks for the queue to be disabled: 1, or 0 where it is not on.
     pub(crate) fn ask_disable(&mut self) -> u32
         ensures own { self.new.end.table ≡ self.old.end.table }
-        ensures step { TriedDisable result self.old self.new }
+        ensures step { TriedDisable receiver result self.old self.new }
     {
-        match self.driver.ask_disable(&self.ring) {
+        match self.end.ask_disable(&self.ring) {
             Ok(()) => 1,
             Err(_) => 0,
         }
@@ -97,17 +71,14 @@ impl RxQueue {
     /// once; else 0.
     pub(crate) fn finish_disable(&mut self) -> Found
         ensures own { self.new.end.table ≡ self.old.end.table }
-        ensures step { TriedLeft result.answer result.count self.old self.new }
+        ensures step { TriedLeft receiver result.answer result.count self.old self.new }
     {
-        match self.driver.finish_disable(&self.ring) {
+        match self.end.finish_disable(&self.ring) {
             Some(left) => Found {
                 answer: 1,
                 count: left as usize,
             },
-            None => Found {
-                answer: 0,
-                count: 0,
-            },
+            None => Found::nothing(0),
         }
     }
 
@@ -115,9 +86,9 @@ impl RxQueue {
     /// buffers are left.
     pub(crate) fn renew(&mut self) -> u32
         ensures own { self.new.end.table ≡ self.old.end.table }
-        ensures step { TriedRenewal result self.old self.new }
+        ensures step { TriedRenewal receiver result self.old self.new }
     {
-        match self.driver.renew(&self.ring) {
+        match self.end.renew(&self.ring) {
             Ok(()) => 1,
             Err(_) => 0,
         }
@@ -128,6 +99,6 @@ impl RxQueue {
         ensures own { self.new.end.table ≡ self.old.end.table }
         ensures step { FoundQuiet result self.old self.new }
     {
-        u32::from(self.driver.is_quiet(&self.ring))
+        u32::from(self.end.is_quiet(&self.ring))
     }
 }

@@ -4,15 +4,16 @@ ghost use Rattle.limits.specs.RingLength.{IsRingLength};
 ghost use Rattle.ring_model.specs.declared.states.Completion.TheVariants as by;
 ghost use Rattle.poll82599_c.specs.Handles.{as_packets, as_tx_device, as_tx_queue};
 ghost use Rattle.poll82599_c.specs.Held.{Among, Between};
-ghost use Rattle.poll82599_c.specs.batches.Transmitting.{AreLawful, AreMade, AreOfOne, AreTold, Did, Moved, Played, SameDevice, SameQueue};
+ghost use Rattle.poll82599_c.specs.batches.Queues.{SameQueue};
+ghost use Rattle.poll82599_c.specs.batches.Transmitting.{AreLawful, AreMade, AreOfOne, AreTold, Did, Moved, Played, SameDevice, transmitter};
 
 use crate::batches::found::Found;
 use crate::batches::tx_making::{make, unmake};
 use crate::call::{NO_OPERATION, Poll82599Queue};
 use crate::end::End;
 use crate::handle::Handle;
+use crate::makings::{completion_of, put_both};
 use std::alloc::Global;
-use tx_ring::Completion;
 
 /// Makes a transmit queue of so many descriptors, which reports by DD in its descriptors, or where `by_head` is not 0 by a head word,
 /// and whose driver asks for a report with each `every`th frame, and its device: 0; 1 where the length is no power of two from 8 to
@@ -34,19 +35,8 @@ pub extern "C" fn poll82599_tx_queue_new(
     ensures queue { (result ≢ pos 0) → queue.new ≡ queue.old }
     ensures device { (result ≢ pos 0) → device.new ≡ device.old }
 {
-    let completion = if by_head == 0 {
-        Completion::Status
-    } else {
-        Completion::Head
-    };
-    match make(alloc, descriptors, every, completion) {
-        Ok((driving, serving)) => {
-            queue.put(driving);
-            device.put(serving);
-            0
-        }
-        Err(why) => why.number(),
-    }
+    let made = make(alloc, descriptors, every, completion_of(by_head));
+    put_both(made, queue, device)
 }
 
 /// Moves buffers between a worker and a transmit queue: 0 has reported buffers back and posts packets, 1 has the reported buffers
@@ -61,7 +51,7 @@ pub extern "C" fn poll82599_tx_queue_move(
     requires queue { IsSome queue.old.held }
     requires packets { IsSome packets.old.held }
     ensures other { (as_tx_queue queue.old.held ≡ None) ⊎ (as_packets packets.old.held ≡ None) → (call.new.answer ≡ 4294967295) × (queue.new.held ≡ queue.old.held) × (packets.new.held ≡ packets.old.held) }
-    ensures own { SameQueue (as_tx_queue queue.old.held) (as_tx_queue queue.new.held) }
+    ensures own { SameQueue transmitter (as_tx_queue queue.old.held) (as_tx_queue queue.new.held) }
     ensures step { Among (Moved call.old.operation call.new.answer call.new.count) (as_tx_queue queue.old.held) (as_packets packets.old.held) (as_tx_queue queue.new.held) (as_packets packets.new.held) }
     ensures kept { (2 < call.old.operation) → (queue.new.held ≡ queue.old.held) × (packets.new.held ≡ packets.old.held) }
 {
@@ -92,7 +82,7 @@ pub extern "C" fn poll82599_tx_queue_do(
 )
     requires { IsSome queue.old.held }
     ensures other { as_tx_queue queue.old.held ≡ None → (call.new.answer ≡ 4294967295) × (queue.new.held ≡ queue.old.held) }
-    ensures own { SameQueue (as_tx_queue queue.old.held) (as_tx_queue queue.new.held) }
+    ensures own { SameQueue transmitter (as_tx_queue queue.old.held) (as_tx_queue queue.new.held) }
     ensures step { Between (Did call.old.operation call.new.answer call.new.count) (as_tx_queue queue.old.held) (as_tx_queue queue.new.held) }
     ensures kept { (3 < call.old.operation) → queue.new.held ≡ queue.old.held }
 {
@@ -159,7 +149,7 @@ pub extern "C" fn poll82599_tx_queue_close(
     ensures queue { queue.new.held ≡ None }
     ensures device { device.new.held ≡ None }
 {
-    let queue = Box::into_inner(queue.take(alloc)).tx_queue();
-    let device = Box::into_inner(device.take(alloc)).tx_device();
+    let queue = Box::into_inner(queue.take(alloc));
+    let device = Box::into_inner(device.take(alloc));
     unmake(queue, device)
 }

@@ -3,34 +3,17 @@ ghost use Rattle.std.specs.Prelude.{◌≡◌, ◌<◌, IfErr, IfOk, length};
 ghost use Rattle.poll82599_c.specs.batches.Transmitting.{CopiedFirst, IsBeyond, TriedTurn, Turned};
 
 use crate::batches::found::Found;
+use crate::half::Half;
 use controller::{Turn, TxController, Wire};
 use limits::MOST_FRAME;
 use opaque::overwrite;
 use std::alloc::Global;
-use std::marker::Model;
-use std::sync::Arc;
 use tx_ring::TxRing;
 
 /// What a thread has that plays the device of a transmit queue.
-#[derive(Drop)]
-pub struct TxDevice {
-    pub(crate) ring: Arc<TxRing, Global>,
-    pub(crate) controller: TxController,
-}
+pub(crate) type TxDevice = Half<TxRing, TxController>;
 
-impl Model for TxDevice {
-    ghost use Rattle.std.specs.Prelude.{◌≡◌};
-    ghost use Rattle.std.specs.Arc.{arc_value};
-    ghost use Rattle.tx_ring.specs.Ends.{ControllerSide};
-
-    ghost Value = { ControllerSide };
-
-    ghost view = { λ d. d.controller };
-
-    ghost invariant = { λ d. d.controller.table ≡ arc_value d.ring };
-}
-
-impl TxDevice {
+impl Half<TxRing, TxController> {
     /// Sends the next frame into a room of 15,000 bytes, and reports it where that is asked for: 1, and its length; 0 where none is
     /// ready; 3 where the queue is not served; 4 where the room is too small, which sends nothing; 5 where memory was refused, which
     /// sends nothing; 6, and its length, where it is longer than the room, into which nothing is put then.
@@ -39,29 +22,17 @@ impl TxDevice {
         ensures step { TriedTurn result.answer result.count room.old room.new self.old self.new }
     {
         if room.len() < MOST_FRAME {
-            return Found {
-                answer: 4,
-                count: 0,
-            };
+            return Found::nothing(4);
         }
         let mut wire = Wire::new(alloc);
-        match self.controller.turn(&self.ring, &mut wire) {
+        match self.end.turn(&self.ring, &mut wire) {
             Ok(Turn::Sent) => match copied(&wire, room) {
                 Ok(count) => Found { answer: 1, count },
                 Err(count) => Found { answer: 6, count },
             },
-            Ok(Turn::Idle) => Found {
-                answer: 0,
-                count: 0,
-            },
-            Ok(Turn::Off) => Found {
-                answer: 3,
-                count: 0,
-            },
-            Err(_) => Found {
-                answer: 5,
-                count: 0,
-            },
+            Ok(Turn::Idle) => Found::nothing(0),
+            Ok(Turn::Off) => Found::nothing(3),
+            Err(_) => Found::nothing(5),
         }
     }
 
@@ -71,7 +42,7 @@ impl TxDevice {
         ensures own { self.new.table ≡ self.old.table }
         ensures step { Turned result self.old self.new }
     {
-        u32::from(self.controller.turn_control(&self.ring).word())
+        u32::from(self.end.turn_control(&self.ring).word())
     }
 }
 

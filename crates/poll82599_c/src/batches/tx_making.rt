@@ -4,10 +4,9 @@ ghost use Rattle.limits.specs.RingLength.{IsRingLength};
 ghost use Rattle.poll82599_c.specs.batches.Transmitting.{AreLawful, AreMade, AreOfOne, AreTold};
 ghost use Rattle.poll82599_c.specs.Handles.{as_tx_device, as_tx_queue};
 
-use crate::batches::tx_device::TxDevice;
-use crate::batches::tx_queue::TxQueue;
 use crate::end::End;
-use crate::makings::{Unmade, both_boxed, tx_close, tx_halves};
+use crate::half::Half;
+use crate::makings::{Unmade, both_boxed, tx_close, tx_halves, unclosed};
 use controller::TxController;
 use driver::{MOST_RS_EVERY, TxDriver};
 use std::alloc::Global;
@@ -28,29 +27,27 @@ pub(crate) fn make(
     if every == 0 || MOST_RS_EVERY < every {
         return Err(Unmade::Settings);
     }
-    let ((ring, driver), (other, controller)) = tx_halves(alloc, ring, completion)?;
-    let queue = TxQueue {
-        ring,
-        driver: TxDriver::new(driver, every),
-    };
-    let device = TxDevice {
-        ring: other,
-        controller: TxController::new(controller),
-    };
+    let (driver, controller) = tx_halves(alloc, ring, completion)?;
+    let queue = Half::of(driver.ring, TxDriver::new(driver.end, every));
+    let device = Half::of(controller.ring, TxController::new(controller.end));
     both_boxed(alloc, End::TxQueue(queue), End::TxDevice(device))
 }
 
-/// Closes a transmit queue: how many buffers lay in its ring, or -1 where another owner of the ring is left.
-pub(crate) fn unmake(queue: Option<TxQueue>, device: Option<TxDevice>) -> i64
-    requires { AreOfOne queue device }
-    ensures lawful { AreLawful queue device }
-    ensures told { AreTold queue device }
+/// Closes a transmit queue by its two objects: how many buffers lay in its ring, or -1 where another owner of the ring is left.
+pub(crate) fn unmake(queue: End, device: End) -> i64
+    requires { AreOfOne (as_tx_queue (Some queue)) (as_tx_device (Some device)) }
+    ensures lawful { AreLawful (as_tx_queue (Some queue)) (as_tx_device (Some device)) }
+    ensures told { AreTold (as_tx_queue (Some queue)) (as_tx_device (Some device)) }
 {
-    match queue.zip(device) {
-        None => -1,
-        Some((queue, device)) => tx_close(
-            (queue.ring, queue.driver.into_end()),
-            (device.ring, device.controller.into_end()),
-        ),
+    match queue {
+        End::TxQueue(queue) => match device {
+            End::TxDevice(device) => {
+                let driving = Half::of(queue.ring, queue.end.into_end());
+                let serving = Half::of(device.ring, device.end.into_end());
+                tx_close(driving, serving)
+            }
+            other => unclosed(queue, other),
+        },
+        other => unclosed(other, device),
     }
 }

@@ -1,35 +1,18 @@
 //! The driver of a transmit queue, and the ring that it shares.
 ghost use Rattle.std.specs.Prelude.{◌≡◌};
-ghost use Rattle.poll82599_c.specs.batches.Transmitting.{TriedBatch, TriedCleaning, TriedDisable, TriedEnable, TriedLeft, TriedReclaim, TriedRenewal};
+ghost use Rattle.poll82599_c.specs.batches.Queues.{TriedDisable, TriedEnable, TriedLeft, TriedReclaim, TriedRenewal};
+ghost use Rattle.poll82599_c.specs.batches.Transmitting.{TriedBatch, TriedCleaning, transmitter};
 
 use crate::batches::found::Found;
 use crate::batches::packets::Packets;
+use crate::half::Half;
 use driver::{DriverError, TxDriver};
-use std::alloc::Global;
-use std::marker::Model;
-use std::sync::Arc;
 use tx_ring::TxRing;
 
 /// What a thread has that drives a transmit queue in batches.
-#[derive(Drop)]
-pub struct TxQueue {
-    pub(crate) ring: Arc<TxRing, Global>,
-    pub(crate) driver: TxDriver,
-}
+pub(crate) type TxQueue = Half<TxRing, TxDriver>;
 
-impl Model for TxQueue {
-    ghost use Rattle.std.specs.Prelude.{◌≡◌};
-    ghost use Rattle.std.specs.Arc.{arc_value};
-    ghost use Rattle.driver.specs.transmit.Transmitter.{Transmitter};
-
-    ghost Value = { Transmitter };
-
-    ghost view = { λ q. q.driver };
-
-    ghost invariant = { λ q. q.driver.end.table ≡ arc_value q.ring };
-}
-
-impl TxQueue {
+impl Half<TxRing, TxDriver> {
     /// Has reported buffers in the stash again, and posts and publishes the worker's packets from the oldest on, as long as they
     /// fit: 1, and how many these were; 0 where the queue was not seen enabled, or was seen disabled; 3 where the oldest packet is
     /// too long for the ring, and reported buffers came back alone.
@@ -38,18 +21,12 @@ impl TxQueue {
         ensures step { TriedBatch result.answer result.count self.old packets.old self.new packets.new }
     {
         match self
-            .driver
+            .end
             .tx_batch(&self.ring, &mut packets.stash, &mut packets.list)
         {
             Ok(count) => Found { answer: 1, count },
-            Err(DriverError::TooLong) => Found {
-                answer: 3,
-                count: 0,
-            },
-            Err(_) => Found {
-                answer: 0,
-                count: 0,
-            },
+            Err(DriverError::TooLong) => Found::nothing(3),
+            Err(_) => Found::nothing(0),
         }
     }
 
@@ -59,13 +36,10 @@ impl TxQueue {
         ensures own { self.new.end.table ≡ self.old.end.table }
         ensures step { TriedCleaning result.answer result.count self.old packets.old self.new packets.new }
     {
-        if !self.driver.is_live() {
-            return Found {
-                answer: 0,
-                count: 0,
-            };
+        if !self.end.is_live() {
+            return Found::nothing(0);
         }
-        let count = self.driver.clean(&self.ring, &mut packets.stash);
+        let count = self.end.clean(&self.ring, &mut packets.stash);
         Found { answer: 1, count }
     }
 
@@ -73,20 +47,14 @@ impl TxQueue {
     /// and as many came as fit; 2 where no disabling was seen answered.
     pub(crate) fn reclaim(&mut self, packets: &mut Packets) -> Found
         ensures own { self.new.end.table ≡ self.old.end.table }
-        ensures step { TriedReclaim result.answer result.count self.old packets.old self.new packets.new }
+        ensures step { TriedReclaim transmitter result.answer result.count self.old packets.old self.new packets.new }
     {
-        if !self.driver.is_stopped() {
-            return Found {
-                answer: 2,
-                count: 0,
-            };
+        if !self.end.is_stopped() {
+            return Found::nothing(2);
         }
-        match self.driver.reclaim_into(&self.ring, &mut packets.stash) {
+        match self.end.reclaim_into(&self.ring, &mut packets.stash) {
             Ok(count) => Found { answer: 1, count },
-            Err(_) => Found {
-                answer: 0,
-                count: 0,
-            },
+            Err(_) => Found::nothing(0),
         }
     }
 
@@ -94,9 +62,9 @@ impl TxQueue {
     /// not; 2 where it was seen disabled, and has to be renewed first.
     pub(crate) fn enable(&mut self) -> u32
         ensures own { self.new.end.table ≡ self.old.end.table }
-        ensures step { TriedEnable result self.old self.new }
+        ensures step { TriedEnable transmitter result self.old self.new }
     {
-        match self.driver.enable(&self.ring) {
+        match self.end.enable(&self.ring) {
             Ok(true) => 1,
             Ok(false) => 0,
             Err(_) => 2,
@@ -106,9 +74,9 @@ impl TxQueue {
     /// Asks for the queue to be disabled: 1, or 0 where it is not on.
     pub(crate) fn ask_disable(&mut self) -> u32
         ensures own { self.new.end.table ≡ self.old.end.table }
-        ensures step { TriedDisable result self.old self.new }
+        ensures step { TriedDisable transmitter result self.old self.new }
     {
-        match self.driver.ask_disable(&self.ring) {
+        match self.end.ask_disable(&self.ring) {
             Ok(()) => 1,
             Err(_) => 0,
         }
@@ -118,17 +86,14 @@ impl TxQueue {
     /// once; else 0.
     pub(crate) fn finish_disable(&mut self) -> Found
         ensures own { self.new.end.table ≡ self.old.end.table }
-        ensures step { TriedLeft result.answer result.count self.old self.new }
+        ensures step { TriedLeft transmitter result.answer result.count self.old self.new }
     {
-        match self.driver.finish_disable(&self.ring) {
+        match self.end.finish_disable(&self.ring) {
             Some(left) => Found {
                 answer: 1,
                 count: left as usize,
             },
-            None => Found {
-                answer: 0,
-                count: 0,
-            },
+            None => Found::nothing(0),
         }
     }
 
@@ -136,9 +101,9 @@ impl TxQueue {
     /// buffers are out.
     pub(crate) fn renew(&mut self) -> u32
         ensures own { self.new.end.table ≡ self.old.end.table }
-        ensures step { TriedRenewal result self.old self.new }
+        ensures step { TriedRenewal transmitter result self.old self.new }
     {
-        match self.driver.renew(&self.ring) {
+        match self.end.renew(&self.ring) {
             Ok(()) => 1,
             Err(_) => 0,
         }

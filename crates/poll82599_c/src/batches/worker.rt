@@ -92,8 +92,11 @@ pub extern "C" fn poll82599_packets_close(alloc: Global, packets: &mut Handle) -
     ensures count { HadPackets result (as_packets packets.old.held) }
     ensures empty { packets.new.held ≡ None }
 {
-    match Box::into_inner(packets.take(alloc)).packets() {
-        Some(held) => held.list.len(),
-        None => 0,
+    match Box::into_inner(packets.take(alloc)) {
+        End::Packets(held) => held.list.len(),
+        other => {
+            drop(other);
+            0
+        }
     }
 }

@@ -2,8 +2,10 @@
 ghost use Rattle.std.specs.Prelude.{◌≡◌, IfErr, IfOk, IfSome};
 ghost use Rattle.std.specs.Arc.{arc_value};
 
+use crate::half::{Half, OfRing};
 use crate::makings::Unmade;
 use buffer_pool::Buf;
+use shared_ring::SharedRing;
 use std::alloc::Global;
 use std::sync::Arc;
 
@@ -23,20 +25,20 @@ fn shared<T: Drop>(alloc: Global, ring: T) -> Result<(Arc<T, Global>, Arc<T, Glo
 }
 
 /// The two halves of a ring: an owner of it with each end.
-pub(crate) fn halves<T: Drop, D: Drop, C: Drop>(
+pub(crate) fn halves<R: SharedRing + Drop, D: OfRing + Drop, C: OfRing + Drop>(
     alloc: Global,
-    ring: T,
+    ring: R,
     driver: D,
     controller: C,
-) -> Result<((Arc<T, Global>, D), (Arc<T, Global>, C)), Unmade>
-    ensures one { IfOk result (λ r. arc_value r.0.0 ≡ ring) }
-    ensures driver { IfOk result (λ r. r.0.1 ≡ driver) }
-    ensures other { IfOk result (λ r. arc_value r.1.0 ≡ ring) }
-    ensures controller { IfOk result (λ r. r.1.1 ≡ controller) }
+) -> Result<(Half<R, D>, Half<R, C>), Unmade>
+    requires driver { D.table driver ≡ R.table ring }
+    requires controller { C.table controller ≡ R.table ring }
+    ensures driver { IfOk result (λ r. r.0 ≡ driver) }
+    ensures controller { IfOk result (λ r. r.1 ≡ controller) }
     ensures refusal { IfErr result (λ e. e ≡ Unmade.Memory) }
 {
-    let (one, other) = shared(alloc, ring)?;
-    Ok(((one, driver), (other, controller)))
+    let (ring, other) = shared(alloc, ring)?;
+    Ok((Half::of(ring, driver), Half::of(other, controller)))
 }
 
 /// The ring of two owners, if there is no other.
@@ -45,6 +47,13 @@ pub(crate) fn sole<T: Drop>(one: Arc<T, Global>, other: Arc<T, Global>) -> Optio
 {
     drop(other);
     Arc::into_inner(one)
+}
+
+/// Lets two go that close no ring: -1.
+pub(crate) fn unclosed<T: Drop, U: Drop>(one: T, other: U) -> i64 {
+    drop(one);
+    drop(other);
+    -1
 }
 
 /// How many buffers lie in the places of a closed ring.

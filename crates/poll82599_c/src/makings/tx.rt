@@ -1,33 +1,37 @@
 //! The two halves of a transmit ring.
-ghost use Rattle.std.specs.Prelude.{◌≡◌, ◌⊎◌, IfErr, IfOk, length};
-ghost use Rattle.std.specs.Arc.{arc_value};
+ghost use Rattle.std.specs.Prelude.{◌≡◌, ◌≢◌, ◌⊎◌, IfErr, IfOk, length};
 ghost use Rattle.limits.specs.RingLength.{IsRingLength};
+ghost use Rattle.ring_model.specs.declared.states.Completion.TheVariants as by;
 ghost use Rattle.ring_model.specs.transmit.Lawful.{IsLawfulTxLedger};
 ghost use Rattle.ring_model.specs.shared.Frames.{Bytes};
 ghost use Rattle.tx_ring.specs.Ends.{driver_size, posted};
 ghost use Rattle.tx_ring.specs.Meeting.{IsTold, MadeSeats, ledger_of, sent_now, told_left};
 
+use crate::half::Half;
 use crate::makings::Unmade;
-use crate::makings::owners::{halves, lying, sole};
+use crate::makings::owners::{halves, lying, sole, unclosed};
 use std::alloc::Global;
-use std::sync::Arc;
 use tx_ring::{Completion, RingError, TxControllerEnd, TxDriverEnd, TxRing, close, meet_tx};
+
+/// How a transmit ring reports: by DD in its descriptors, or where the word is not 0 by a head word.
+pub(crate) fn completion_of(by_head: u32) -> Completion
+    ensures status { by_head ≡ 0 → result ≡ by.Status }
+    ensures head { by_head ≢ 0 → result ≡ by.Head }
+{
+    if by_head == 0 {
+        Completion::Status
+    } else {
+        Completion::Head
+    }
+}
 
 /// A transmit ring of so many descriptors that reports so, by its two halves: an owner of it with each end.
 pub(crate) fn tx_halves(
     alloc: Global,
     ring: u32,
     completion: Completion,
-) -> Result<
-    (
-        (Arc<TxRing, Global>, TxDriverEnd),
-        (Arc<TxRing, Global>, TxControllerEnd),
-    ),
-    Unmade,
->
-    ensures made { IfOk result (λ r. MadeSeats ring completion r.0.1.table r.0.1 r.1.1) }
-    ensures driver { IfOk result (λ r. r.0.1.table ≡ arc_value r.0.0) }
-    ensures controller { IfOk result (λ r. r.1.1.table ≡ arc_value r.1.0) }
+) -> Result<(Half<TxRing, TxDriverEnd>, Half<TxRing, TxControllerEnd>), Unmade>
+    ensures made { IfOk result (λ r. MadeSeats ring completion r.0.table r.0 r.1) }
     ensures length { IfErr result (λ e. e ≡ Unmade.Length → ¬ IsRingLength ring) }
     ensures refusals { IfErr result (λ e. (e ≡ Unmade.Length) ⊎ (e ≡ Unmade.Memory)) }
 {
@@ -40,24 +44,24 @@ pub(crate) fn tx_halves(
 
 /// Closes a transmit ring by its two halves: how many buffers lay in it, or -1 where another owner of the ring is left.
 pub(crate) fn tx_close(
-    driving: (Arc<TxRing, Global>, TxDriverEnd),
-    serving: (Arc<TxRing, Global>, TxControllerEnd),
+    driving: Half<TxRing, TxDriverEnd>,
+    serving: Half<TxRing, TxControllerEnd>,
 ) -> i64
-    requires driver { driving.1.table ≡ arc_value driving.0 }
-    requires controller { serving.1.table ≡ arc_value serving.0 }
-    requires one { driving.1.table ≡ serving.1.table }
-    ensures lawful { IsLawfulTxLedger Bytes (driver_size driving.1) (ledger_of driving.1 serving.1) }
-    ensures told { IsTold (told_left driving.1) (length (sent_now driving.1 serving.1)) (length (posted driving.1)) }
+    requires { driving.table ≡ serving.table }
+    ensures lawful { IsLawfulTxLedger Bytes (driver_size driving) (ledger_of driving serving) }
+    ensures told { IsTold (told_left driving) (length (sent_now driving serving)) (length (posted driving)) }
 {
-    let (ring, mut driver) = driving;
-    let (other, mut controller) = serving;
+    let Half {
+        ring,
+        end: mut driver,
+    } = driving;
+    let Half {
+        ring: other,
+        end: mut controller,
+    } = serving;
     meet_tx(&other, &mut driver, &mut controller);
     match sole(ring, other) {
         Some(ring) => lying(close(ring, driver, controller)),
-        None => {
-            drop(driver);
-            drop(controller);
-            -1
-        }
+        None => unclosed(driver, controller),
     }
 }

@@ -10,8 +10,10 @@ ghost use Rattle.poll82599_c.specs.Held.{Between};
 use crate::call::{NO_OPERATION, Poll82599Call};
 use crate::end::End;
 use crate::handle::Handle;
+use crate::makings::put_both;
 use crate::rings::rx_making::{make, unmake};
 use opaque::is_set;
+use shared_ring::HandshakeStep;
 use std::alloc::Global;
 
 /// Makes a receive ring of so many descriptors, and its driver with so many buffers and its controller: 0; 1 where the length
@@ -32,14 +34,7 @@ pub extern "C" fn poll82599_rx_new(
     ensures driver { (result ≢ pos 0) → driver.new ≡ driver.old }
     ensures controller { (result ≢ pos 0) → controller.new ≡ controller.old }
 {
-    match make(alloc, descriptors, buffers) {
-        Ok((driving, serving)) => {
-            driver.put(driving);
-            controller.put(serving);
-            0
-        }
-        Err(why) => why.number(),
-    }
+    put_both(make(alloc, descriptors, buffers), driver, controller)
 }
 
 /// Makes a driver's step: 0 posts a buffer, 1 stores the tail, 2 polls into `bytes`, 3 asks for the queue to be enabled, 4
@@ -70,9 +65,9 @@ pub extern "C" fn poll82599_rx_drive(
                 call.eop = found.eop;
                 found.answer
             }
-            3 => driving.ask_enable(),
-            4 => driving.state(),
-            5 => driving.ask_disable(),
+            3 => driving.shake(HandshakeStep::AskEnable),
+            4 => driving.shake(HandshakeStep::LoadControl),
+            5 => driving.shake(HandshakeStep::AskDisable),
             6 => driving.is_quiet(),
             7 => driving.reclaim(),
             8 => driving.renew(),
@@ -129,7 +124,7 @@ pub extern "C" fn poll82599_rx_close(
     ensures driver { driver.new.held ≡ None }
     ensures controller { controller.new.held ≡ None }
 {
-    let driver = Box::into_inner(driver.take(alloc)).rx_driver();
-    let controller = Box::into_inner(controller.take(alloc)).rx_controller();
+    let driver = Box::into_inner(driver.take(alloc));
+    let controller = Box::into_inner(controller.take(alloc));
     unmake(driver, controller)
 }

@@ -6,7 +6,8 @@ ghost use Rattle.poll82599_c.specs.rings.RxEnds.{AreLawful, AreMade, AreTold};
 ghost use Rattle.poll82599_c.specs.rings.Steps.{AreOfOne};
 
 use crate::end::End;
-use crate::makings::{Unmade, both_boxed, rx_close, rx_halves, stash_of};
+use crate::half::Half;
+use crate::makings::{Unmade, both_boxed, rx_close, rx_halves, stash_of, unclosed};
 use crate::rings::begun::Begun;
 use crate::rings::rx_driving::RxDriving;
 use crate::rings::rx_serving::RxServing;
@@ -32,16 +33,16 @@ fn ends_of(alloc: Global, ring: u32, stash: Stash) -> Result<(RxDriving, RxServi
     ensures refusals { IfErr result (λ e. (e ≡ Unmade.Length) ⊎ (e ≡ Unmade.Memory)) }
 {
     match rx_halves(alloc, ring) {
-        Ok(((ring, driver), (other, controller))) => Ok((
+        Ok((driver, controller)) => Ok((
             RxDriving {
-                ring,
-                end: driver,
+                ring: driver.ring,
+                end: driver.end,
                 stash,
                 reclaiming: false,
             },
             RxServing {
-                ring: other,
-                end: controller,
+                ring: controller.ring,
+                end: controller.end,
                 begun: Begun::none(),
             },
         )),
@@ -52,23 +53,27 @@ fn ends_of(alloc: Global, ring: u32, stash: Stash) -> Result<(RxDriving, RxServi
     }
 }
 
-/// Closes a ring: how many buffers lay in it, or -1 where another owner of the ring is left.
-pub(crate) fn unmake(driving: Option<RxDriving>, serving: Option<RxServing>) -> i64
-    requires { AreOfOne driving serving }
-    ensures lawful { AreLawful driving serving }
-    ensures told { AreTold driving serving }
+/// Closes a ring by its two objects: how many buffers lay in it, or -1 where another owner of the ring is left.
+pub(crate) fn unmake(driver: End, controller: End) -> i64
+    requires { AreOfOne (as_rx_driver (Some driver)) (as_rx_controller (Some controller)) }
+    ensures lawful { AreLawful (as_rx_driver (Some driver)) (as_rx_controller (Some controller)) }
+    ensures told { AreTold (as_rx_driver (Some driver)) (as_rx_controller (Some controller)) }
 {
-    match driving.zip(serving) {
-        None => -1,
-        Some((driving, serving)) => {
-            let RxDriving {
-                ring,
-                end,
-                stash,
-                ..
-            } = driving;
-            drop(stash);
-            rx_close((ring, end), (serving.ring, serving.end))
-        }
+    match driver {
+        End::RxDriver(driving) => match controller {
+            End::RxController(serving) => {
+                let RxDriving {
+                    ring,
+                    end,
+                    stash,
+                    ..
+                } = driving;
+                drop(stash);
+                let serving = Half::of(serving.ring, serving.end);
+                rx_close(Half::of(ring, end), serving)
+            }
+            other => unclosed(driving, other),
+        },
+        other => unclosed(other, controller),
     }
 }

@@ -1,6 +1,5 @@
 //! The controller's object: its end, and the ring that it shares.
 ghost use Rattle.std.specs.Prelude.{◌≡◌, ◌≢◌, ◌<◌, true, false, length, None};
-ghost use Rattle.ring_model.specs.shared.Frames.{Follows, unfinished};
 ghost use Rattle.ring_model.specs.shared.Handshakes.{is_serving};
 ghost use Rattle.ring_model.specs.shared.Segments.{piece_of};
 ghost use Rattle.rx_ring.specs.Ends.{controller_size, controller_state, held, is_quiet, known_free, stored};

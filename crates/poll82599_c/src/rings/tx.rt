@@ -11,11 +11,12 @@ ghost use Rattle.poll82599_c.specs.Held.{Between};
 use crate::call::{NO_OPERATION, Poll82599Call};
 use crate::end::End;
 use crate::handle::Handle;
+use crate::makings::{completion_of, put_both};
 use crate::rings::begun::Asking;
 use crate::rings::tx_making::{make, unmake};
 use opaque::is_set;
+use shared_ring::HandshakeStep;
 use std::alloc::Global;
-use tx_ring::Completion;
 
 /// Makes a transmit ring of so many descriptors, which reports by DD in its descriptors, or where `by_head` is not 0 by a head
 /// word, and its driver with so many buffers and its controller: 0; 1 where the length is no power of two from 8 to 4,096; 2
@@ -37,19 +38,8 @@ pub extern "C" fn poll82599_tx_new(
     ensures driver { (result ≢ pos 0) → driver.new ≡ driver.old }
     ensures controller { (result ≢ pos 0) → controller.new ≡ controller.old }
 {
-    let completion = if by_head == 0 {
-        Completion::Status
-    } else {
-        Completion::Head
-    };
-    match make(alloc, descriptors, buffers, completion) {
-        Ok((driving, serving)) => {
-            driver.put(driving);
-            controller.put(serving);
-            0
-        }
-        Err(why) => why.number(),
-    }
+    let made = make(alloc, descriptors, buffers, completion_of(by_head));
+    put_both(made, driver, controller)
 }
 
 /// Makes a driver's step: 0 posts a segment with EOP, RS and PAYLEN, 1 stores the tail, 2 loads a report, 3 asks for the queue to be enabled, 4 loads the
@@ -81,9 +71,9 @@ pub extern "C" fn poll82599_tx_drive(
             }
             1 => driving.publish(),
             2 => driving.poll_report(),
-            3 => driving.ask_enable(),
-            4 => driving.state(),
-            5 => driving.ask_disable(),
+            3 => driving.shake(HandshakeStep::AskEnable),
+            4 => driving.shake(HandshakeStep::LoadControl),
+            5 => driving.shake(HandshakeStep::AskDisable),
             6 => driving.clean(),
             7 => driving.reclaim(),
             8 => driving.renew(),
@@ -145,7 +135,7 @@ pub extern "C" fn poll82599_tx_close(
     ensures driver { driver.new.held ≡ None }
     ensures controller { controller.new.held ≡ None }
 {
-    let driver = Box::into_inner(driver.take(alloc)).tx_driver();
-    let controller = Box::into_inner(controller.take(alloc)).tx_controller();
+    let driver = Box::into_inner(driver.take(alloc));
+    let controller = Box::into_inner(controller.take(alloc));
     unmake(driver, controller)
 }

@@ -4,11 +4,13 @@ ghost use Rattle.tx_ring.specs.Calls.{FoundLeft, GoneOver, SawReported};
 ghost use Rattle.tx_ring.specs.Ends.{posted};
 ghost use Rattle.poll82599_c.specs.rings.Following.{IsPosting};
 ghost use Rattle.poll82599_c.specs.rings.TxEnds.{CleanedBuffer, PostedSegment, SawNoReport};
-ghost use Rattle.poll82599_c.specs.rings.Steps.{AskedDisable, AskedEnable, LoadedControl, PublishedAll, ReclaimedOne};
+ghost use Rattle.poll82599_c.specs.rings.Steps.{PublishedAll, ReclaimedOne, TriedShake};
 
 use crate::rings::begun::{Asking, Begun};
 use crate::rings::handed::Handed;
+use crate::rings::handshake::shake;
 use buffer_pool::Stash;
+use shared_ring::HandshakeStep;
 use std::alloc::Global;
 use std::marker::Model;
 use std::sync::Arc;
@@ -120,38 +122,12 @@ impl TxDriving {
         1
     }
 
-    /// Asks for the queue to be enabled: 1, or 0 where that was asked before.
-    pub(crate) fn ask_enable(&mut self) -> u32
+    /// Makes a step of the handshake: what it answers stands in `handshake`.
+    pub(crate) fn shake(&mut self, step: HandshakeStep) -> u32
         ensures own { self.new.table ≡ self.old.table }
-        ensures step { (result ≡ 1) → AskedEnable self.old self.new }
-        ensures kept { (result ≢ 1) → self.new ≡ self.old }
+        ensures step { TriedShake step result self.old self.new }
     {
-        if !self.end.is_new() {
-            return 0;
-        }
-        self.end.ask_enable(&self.ring);
-        1
-    }
-
-    /// Loads the control word: 0 off, 1 an enabling is asked for, 2 on, 3 a disabling is asked for.
-    pub(crate) fn state(&mut self) -> u32
-        ensures own { self.new.table ≡ self.old.table }
-        ensures step { LoadedControl result self.old self.new }
-    {
-        u32::from(self.end.state(&self.ring).word())
-    }
-
-    /// Asks for the queue to be disabled: 1, or 0 where it is not on.
-    pub(crate) fn ask_disable(&mut self) -> u32
-        ensures own { self.new.table ≡ self.old.table }
-        ensures step { (result ≡ 1) → AskedDisable self.old self.new }
-        ensures kept { (result ≢ 1) → self.new ≡ self.old }
-    {
-        if !self.end.is_on() {
-            return 0;
-        }
-        self.end.ask_disable(&self.ring);
-        1
+        shake(&mut self.end, &self.ring, step)
     }
 
     /// Loads the head, and hands out as `len` how many of the postings were not sent when the disabling was answered: 1; 2 where

@@ -6,7 +6,8 @@ ghost use Rattle.poll82599_c.specs.rings.TxEnds.{AreLawful, AreMade, AreTold};
 ghost use Rattle.poll82599_c.specs.rings.Steps.{AreOfOne};
 
 use crate::end::End;
-use crate::makings::{Unmade, both_boxed, stash_of, tx_close, tx_halves};
+use crate::half::Half;
+use crate::makings::{Unmade, both_boxed, stash_of, tx_close, tx_halves, unclosed};
 use crate::rings::begun::Begun;
 use crate::rings::tx_driving::TxDriving;
 use crate::rings::tx_serving::TxServing;
@@ -43,18 +44,15 @@ fn ends_of(
     ensures refusals { IfErr result (λ e. (e ≡ Unmade.Length) ⊎ (e ≡ Unmade.Memory)) }
 {
     match tx_halves(alloc, ring, completion) {
-        Ok(((ring, driver), (other, controller))) => Ok((
+        Ok((driver, serving)) => Ok((
             TxDriving {
-                ring,
-                end: driver,
+                ring: driver.ring,
+                end: driver.end,
                 stash,
                 begun: Begun::none(),
                 paylen: 0,
             },
-            TxServing {
-                ring: other,
-                end: controller,
-            },
+            serving,
         )),
         Err(why) => {
             drop(stash);
@@ -63,23 +61,26 @@ fn ends_of(
     }
 }
 
-/// Closes a ring: how many buffers lay in it, or -1 where another owner of the ring is left.
-pub(crate) fn unmake(driving: Option<TxDriving>, serving: Option<TxServing>) -> i64
-    requires { AreOfOne driving serving }
-    ensures lawful { AreLawful driving serving }
-    ensures told { AreTold driving serving }
+/// Closes a ring by its two objects: how many buffers lay in it, or -1 where another owner of the ring is left.
+pub(crate) fn unmake(driver: End, controller: End) -> i64
+    requires { AreOfOne (as_tx_driver (Some driver)) (as_tx_controller (Some controller)) }
+    ensures lawful { AreLawful (as_tx_driver (Some driver)) (as_tx_controller (Some controller)) }
+    ensures told { AreTold (as_tx_driver (Some driver)) (as_tx_controller (Some controller)) }
 {
-    match driving.zip(serving) {
-        None => -1,
-        Some((driving, serving)) => {
-            let TxDriving {
-                ring,
-                end,
-                stash,
-                ..
-            } = driving;
-            drop(stash);
-            tx_close((ring, end), (serving.ring, serving.end))
-        }
+    match driver {
+        End::TxDriver(driving) => match controller {
+            End::TxController(serving) => {
+                let TxDriving {
+                    ring,
+                    end,
+                    stash,
+                    ..
+                } = driving;
+                drop(stash);
+                tx_close(Half::of(ring, end), serving)
+            }
+            other => unclosed(driving, other),
+        },
+        other => unclosed(other, controller),
     }
 }

@@ -3,34 +3,16 @@ ghost use Rattle.std.specs.Prelude.{◌≡◌, ◌≢◌};
 ghost use Rattle.poll82599_c.specs.rings.TxEnds.{SentNone, SentOne};
 ghost use Rattle.poll82599_c.specs.rings.Steps.{AnsweredAsked, LookedAsked};
 
+use crate::half::Half;
 use crate::rings::handed::Handed;
 use limits::BUFFER_BYTES;
 use opaque::overwrite;
-use std::alloc::Global;
-use std::marker::Model;
-use std::sync::Arc;
 use tx_ring::{ControllerEnd, TxControllerEnd, TxRing};
 
 /// What a C thread has that serves a transmit ring.
-#[derive(Drop)]
-pub struct TxServing {
-    pub(crate) ring: Arc<TxRing, Global>,
-    pub(crate) end: TxControllerEnd,
-}
+pub(crate) type TxServing = Half<TxRing, TxControllerEnd>;
 
-impl Model for TxServing {
-    ghost use Rattle.std.specs.Prelude.{◌≡◌};
-    ghost use Rattle.std.specs.Arc.{arc_value};
-    ghost use Rattle.tx_ring.specs.Ends.{ControllerSide};
-
-    ghost Value = { ControllerSide };
-
-    ghost view = { λ s. s.end };
-
-    ghost invariant = { λ s. s.end.table ≡ arc_value s.ring };
-}
-
-impl TxServing {
+impl Half<TxRing, TxControllerEnd> {
     /// Loads what is asked, and answers it where it may: 1 where it answered, else 0.
     pub(crate) fn answer(&mut self) -> u32
         ensures own { self.new.table ≡ self.old.table }

@@ -1,0 +1,90 @@
+-- What the exports say alike of the drivers of receive and of transmit queues, and of their steps.
+use Rattle.std.specs.Prelude.{◌≡◌, ℕ, zero, suc, ◌+◌, Bool, true, false, Option, Some, None, length}
+use Rattle.buffer_pool.specs.declared.stash.TheConstants.{STASH_BUFFERS}
+use Rattle.ring_model.specs.shared.Handshakes.{is_live, is_on, is_open, is_stopped}
+use Rattle.shared_ring.specs.declared.events.DriverEvent.TheVariants as driver
+use Rattle.shared_ring.specs.Ends.{DriverSide, appended, driver_state}
+use Rattle.shared_ring.specs.Forms.{Form}
+use Rattle.driver.specs.Handshake.{AskedEnabling, Finishes}
+use Rattle.poll82599_c.specs.Held.{Between}
+use Rattle.poll82599_c.specs.batches.Packets.{Worked}
+
+-- A driver of one direction: its end, and the driver with another; what a load of the head tells it is left; that nothing is left of a disabled queue; how buffers come back into a worker's stash; and how a new epoch begins
+pub record Kind {Ring Posted Served Given D C : Type 0} (form : Form Ring Posted Served Given D C) (Q : Type 0) : Type 1 where
+  pub end_of : Q → DriverSide form
+  pub with_end : Q → DriverSide form → Q
+  pub told_left : DriverSide form → Option ℕ
+  pub IsEmptied : Q → Type 0
+  pub CameInto : Q → Worked → Q → Worked → Type 0
+  pub Renewed : Q → Q → Type 0
+
+module _ {Ring Posted Served Given D C : Type 0} {form : Form Ring Posted Served Given D C} {Q : Type 0} (kind : Kind form Q) where
+  -- it is there before and after, and of the same ring
+  abbrev pub SameQueue : Option Q → Option Q → Type 0
+  SameQueue = Between (λ old new. (kind.end_of new).table ≡ (kind.end_of old).table)
+
+  -- the queue was not seen on, or was seen disabled, and nothing was done
+  abbrev pub IsOff : Q → Worked → Q → Worked → Type 0
+  IsOff old had new has = (is_live (driver_state (kind.end_of old)) ≡ false) × (new ≡ old) × (has ≡ had)
+
+  -- all buffers of a disabled queue came back into the stash, and so many
+  pub record AllCame (count : ℕ) (old : Q) (had : Worked) (new : Q) (has : Worked) : Type 0 where
+    pub came : kind.CameInto old had new has
+    pub count_is : length has.stash ≡ length had.stash + count
+    pub emptied : kind.IsEmptied new
+
+  -- as many as the stash had room for, and some are left
+  pub record FilledUp (old : Q) (had : Worked) (new : Q) (has : Worked) : Type 0 where
+    pub came : kind.CameInto old had new has
+    pub full : length has.stash ≡ STASH_BUFFERS
+    pub some_left : ¬ kind.IsEmptied new
+
+  -- An enabling was asked if nothing was asked yet, and the control word loaded; where a disabling is asked nothing was done. Whether the queue is on is answered
+  pub record TriedEnabling (on : Bool) (old new : Q) : Type 0 where
+    pub asked : is_open (driver_state (kind.end_of old)) ≡ true → AskedEnabling (kind.end_of old) (kind.end_of new)
+    pub shut : is_open (driver_state (kind.end_of old)) ≡ false → new ≡ old
+    pub on_is : on ≡ is_on (driver_state (kind.end_of new))
+    pub rest : new ≡ kind.with_end old (kind.end_of new)
+
+  -- C5
+  abbrev pub AskedDisable : Q → Q → Type 0
+  AskedDisable old new = new ≡ kind.with_end old (appended (kind.end_of old) driver.AskedDisable)
+
+  -- the control word was loaded, and where it showed the disabling answered the head; it is told how many segments are left
+  pub record TriedFinish (told : Option ℕ) (old new : Q) : Type 0 where
+    pub finishes : Finishes kind.told_left (kind.end_of old) told (kind.end_of new)
+    pub rest : new ≡ kind.with_end old (kind.end_of new)
+
+  -- ---- what a driver's calls answer, and what they did then
+
+  -- 1: all buffers came back, and so many; 0: as many as the stash had room for; 2: no disabling was seen answered
+  abbrev pub TriedReclaim : ℕ → ℕ → Q → Worked → Q → Worked → Type 0
+  TriedReclaim zero count old had new has = FilledUp old had new has
+  TriedReclaim (suc zero) count old had new has = AllCame count old had new has
+  TriedReclaim (suc (suc zero)) count old had new has = (is_stopped (driver_state (kind.end_of old)) ≡ false) × (new ≡ old) × (has ≡ had)
+  TriedReclaim _ count old had new has = ⊥
+
+  -- 1: it is on; 0: it is not; 2: it was seen disabled
+  abbrev pub TriedEnable : ℕ → Q → Q → Type 0
+  TriedEnable zero old new = TriedEnabling false old new
+  TriedEnable (suc zero) old new = TriedEnabling true old new
+  TriedEnable (suc (suc zero)) old new = (is_stopped (driver_state (kind.end_of old)) ≡ true) × (new ≡ old)
+  TriedEnable _ old new = ⊥
+
+  -- 1: it was asked for; 0: it is not on
+  abbrev pub TriedDisable : ℕ → Q → Q → Type 0
+  TriedDisable zero old new = (is_on (driver_state (kind.end_of old)) ≡ false) × (new ≡ old)
+  TriedDisable (suc zero) old new = AskedDisable old new
+  TriedDisable _ old new = ⊥
+
+  -- 1: so many segments are left; 0: that is not known yet, or was told
+  abbrev pub TriedLeft : ℕ → ℕ → Q → Q → Type 0
+  TriedLeft zero count old new = TriedFinish None old new
+  TriedLeft (suc zero) count old new = TriedFinish (Some count) old new
+  TriedLeft _ count old new = ⊥
+
+  -- 1: it was renewed; 0: buffers are left, or it was not seen disabled
+  abbrev pub TriedRenewal : ℕ → Q → Q → Type 0
+  TriedRenewal zero old new = (¬ kind.IsEmptied old) × (new ≡ old)
+  TriedRenewal (suc zero) old new = kind.Renewed old new
+  TriedRenewal _ old new = ⊥

@@ -1,0 +1,32 @@
+//! The driver's half of the handshake, in which both kinds of rings are alike.
+ghost use Rattle.std.specs.Prelude.{◌≡◌};
+ghost use Rattle.shared_ring.specs.Ends.{driver_of, driver_record, driver_state};
+ghost use Rattle.poll82599_c.specs.rings.Steps.{TriedShake};
+
+use shared_ring::{Direction, DriverEnd, HandshakeStep};
+
+/// Makes a step of the handshake: of a load of the control word what it was, 0 off, 1 an enabling is asked for, 2 on, 3 a
+/// disabling is asked for; of an asking 1, or 0 where nothing is stored: an enabling was asked before, or the queue to be
+/// disabled is not on.
+pub(crate) fn shake<D, C, R: Direction<D, C>, E: DriverEnd<D, C, R>>(
+    end: &mut E,
+    ring: &E::Ring,
+    step: HandshakeStep,
+) -> u32
+    requires own { (E.side end.old).table ≡ E.Ring.table ring.now }
+    ensures step { TriedShake step result (driver_of R.form (E.side end.old)) (driver_of R.form (E.side end.new)) }
+    ensures rest { driver_record (driver_of R.form (E.side end.new)) ≡ record (driver_record (driver_of R.form (E.side end.old))) { state = driver_state (driver_of R.form (E.side end.new)) } }
+{
+    match step {
+        HandshakeStep::AskEnable if end.is_new() => {
+            end.ask_enable(ring);
+            1
+        }
+        HandshakeStep::LoadControl => u32::from(end.state(ring).word()),
+        HandshakeStep::AskDisable if end.is_on() => {
+            end.ask_disable(ring);
+            1
+        }
+        _ => 0,
+    }
+}
