@@ -32,7 +32,7 @@ use Rattle.shared_ring.specs.Lies.{driven, is_early, IsControlled, LiesIn}
 use Rattle.shared_ring.proofs.Lying.{lies-post, lies-publish, lies-give, lies-reclaim, lies-ask_enable, lies-ask_disable, lies-look_answered, lies-clear_head, lies-clear_tail}
 use Rattle.shared_ring.proofs.Controlling.{ctl-post, ctl-publish, ctl-give, ctl-reclaim, ctl-ask_enable, ctl-look_answered, ctl-ask_disable, ctl-clear_head, ctl-clear_tail, ctl-renew}
 use Rattle.tx_ring.specs.declared.events.TxDriverOwn.TheVariants.{NoReport, SawReport, Cleaned, EndedEpoch, ClearedReport}
-use Rattle.tx_ring.specs.Records.{Posting, TxDriven, TxControlled, DriverStep, ControllerStep, controlling, drive, Knowing, knowing, outstanding, seen_after, fetched_word}
+use Rattle.tx_ring.specs.Records.{Posting, TxDriven, TxControlled, DriverStep, ControllerStep, controlling, drive, know, Knowing, knowing, outstanding, seen_after, fetched_word}
 use Rattle.shared_ring.specs.Tables.{words_of}
 use Rattle.tx_ring.specs.Rule.{LiesAs, Learnt, IsFetched, IsReady, TellsReports, filled, says, lies_there, word_of}
 use Rattle.tx_ring.proofs.Words.{posting-posted}
@@ -102,39 +102,36 @@ module _ (n : ℕ) (mode : Completion) (q : TxRing Bytes) (ds : List DriverStep)
       (lies-publish (says q) lies_there ends_posting n (words_of n mode) q.queue k.queue 0 words homes l.lies wide t at)
       (reports-else n mode q.reported words (n + 1) t (λ e. omega arith) l.reports)
 
-  -- B7, that shows nothing
-  pub no_report-lies : (p r : ℕ) → LiesAs n mode q (ds ++ driver.Own (NoReport p r) ∷ []) cs words homes
-  no_report-lies p r = record {
-    reachable = l.reachable;
+  -- a load of the driver's that leaves words and slots, and changes of the ring at most what is seen
+  loaded : (seen : ℕ) (e : DriverStep) → drive (driven q.queue) e ≡ driven q.queue → IsTxReachable Bytes n (record q { seen_reported = seen }) → Learnt n (record q { seen_reported = seen }) (know (driven q.queue) x e)
+      → LiesAs n mode (record q { seen_reported = seen }) (ds ++ e ∷ []) cs words homes
+  loaded seen e same reached learns = record {
+    reachable = reached;
     completion = l.completion;
-    driver = drove n mode q ds cs words homes pos l (driver.Own (NoReport p r));
+    driver = drove n mode q ds cs words homes pos l e ∙ same;
     controller = l.controller;
     lies = l.lies;
     reports = l.reports;
     fetched = l.fetched;
     ready = l.ready;
     follow = l.follow;
-    learnt = knows_is n mode q ds cs words homes pos l q (driver.Own (NoReport p r)) l.learnt;
+    learnt = knows_is n mode q ds cs words homes pos l (record q { seen_reported = seen }) e learns;
   }
+
+  -- B7, that shows nothing
+  pub no_report-lies : (p r : ℕ) → LiesAs n mode q (ds ++ driver.Own (NoReport p r) ∷ []) cs words homes
+  no_report-lies p r = loaded q.seen_reported (driver.Own (NoReport p r)) refl l.reachable l.learnt
 
   -- B7, that shows the report
   saw-knows : (j : ℕ) → oldest_report q ≡ Some j → seen_after x (outstanding (driven q.queue) x.seen) ≡ record x { seen = j + 1 }
   saw-knows j is = let s = l.learnt.seen in ap (λ (m : ℕ). seen_after x (outstanding (driven q.queue) m)) s ∙ ap (λ (o : Option ℕ). seen_after x o) is
 
   pub saw_report-lies : (j p r : ℕ) → oldest_report q ≡ Some j → is_live q.handshake.driver ≡ true → j < q.reported → LiesAs n mode (record q { seen_reported = j + 1 }) (ds ++ driver.Own (SawReport p r) ∷ []) cs words homes
-  saw_report-lies j p r is live below = let later : TxRing Bytes = record q { seen_reported = j + 1 } in record {
-    reachable = subst (λ (b : Bool). IsTxReachable Bytes n (if b then record q { seen_reported = j + 1 } else q)) (lt-ltb j q.reported below)
-        (subst (λ (o : Option ℕ). IsTxReachable Bytes n (loaded_report q o)) is (goes_on n mode q ds cs words homes pos l tx.LoadReport (and_from _ _ live (ap is_there is))));
-    completion = l.completion;
-    driver = drove n mode q ds cs words homes pos l (driver.Own (SawReport p r));
-    controller = l.controller;
-    lies = l.lies;
-    reports = l.reports;
-    fetched = l.fetched;
-    ready = l.ready;
-    follow = l.follow;
-    learnt = knows_is n mode q ds cs words homes pos l later (driver.Own (SawReport p r)) (subst (λ (y : Knowing). Learnt n later y) (sym (saw-knows j is)) (learnt-report n q k x l.learnt j));
-  }
+  saw_report-lies j p r is live below = let later : TxRing Bytes = record q { seen_reported = j + 1 } in
+      loaded (j + 1) (driver.Own (SawReport p r)) refl
+      (subst (λ (b : Bool). IsTxReachable Bytes n (if b then record q { seen_reported = j + 1 } else q)) (lt-ltb j q.reported below)
+      (subst (λ (o : Option ℕ). IsTxReachable Bytes n (loaded_report q o)) is (goes_on n mode q ds cs words homes pos l tx.LoadReport (and_from _ _ live (ap is_there is)))))
+      (subst (λ (y : Knowing). Learnt n later y) (sym (saw-knows j is)) (learnt-report n q k x l.learnt j))
 
   -- B8
   cleaned-past : (o : Option Posting) → (cleaned_one q o).past ≡ q.past
@@ -164,18 +161,7 @@ module _ (n : ℕ) (mode : Completion) (q : TxRing Bytes) (ds : List DriverStep)
 
   -- the driver's load of the head
   pub head_loaded-lies : (r : ℕ) → r ≡ q.head → is_stopped q.handshake.driver ≡ true → LiesAs n mode q (ds ++ driver.LoadedHead r ∷ []) cs words homes
-  head_loaded-lies r e stopped = record {
-    reachable = l.reachable;
-    completion = l.completion;
-    driver = drove n mode q ds cs words homes pos l (driver.LoadedHead r);
-    controller = l.controller;
-    lies = l.lies;
-    reports = l.reports;
-    fetched = l.fetched;
-    ready = l.ready;
-    follow = l.follow;
-    learnt = knows_is n mode q ds cs words homes pos l q (driver.LoadedHead r) (learnt-head n q k x l.learnt r stopped e);
-  }
+  head_loaded-lies r e stopped = loaded q.seen_reported (driver.LoadedHead r) refl l.reachable (learnt-head n q k x l.learnt r stopped e)
 
   -- C1
   pub ask_enable-lies : is_new q.handshake.driver ≡ true → LiesAs n mode (tx_changed q (tx.Control AskEnable)) (ds ++ driver.AskedEnable ∷ []) cs (slice_set words (n + 2) 1) homes
