@@ -1,5 +1,5 @@
 -- What every step of a receive ring keeps.
-use Rattle.std.proofs.Common.{◌≡◌, ℕ, ◌<◌, Bool, true, false, not, ◌&&◌, [], ◌∷◌, ◌++◌, map, Option, Some, None, refl, subst, ⊎_elim, arith, if◌then◌else◌}
+use Rattle.std.proofs.Common.{◌≡◌, ℕ, ◌<◌, Bool, true, false, not, ◌&&◌, [], ◌∷◌, ◌++◌, map, Option, Some, None, refl, ap, subst, ⊎_elim, arith, if◌then◌else◌}
 use Rattle.std.specs.Prelude.{nat_lt, slice_get}
 use Rattle.std.proofs.lemmas.Bool.{both_ways, and_parts, and_from, not-true, lt-ltb, false≢true}
 use Rattle.std.proofs.lemmas.Option.{none-some, slice_get_within}
@@ -10,6 +10,7 @@ use Rattle.ring_model.specs.declared.steps.ControlStep.TheVariants.{AskEnable, L
 use Rattle.ring_model.specs.declared.steps.RxStep.{RxStep}
 use Rattle.ring_model.specs.declared.steps.RxStep.TheVariants as rx
 use Rattle.ring_model.specs.shared.Handshakes.{is_live, is_serving, can_enable, enable, disable, shaken, enables}
+use Rattle.ring_model.specs.shared.Lists.{IsBeginning}
 use Rattle.ring_model.specs.shared.QueueSteps.{QueueStep, Post, Publish, Look, Fetch, Serve, Head, Give, Shake, Reclaim, ClearHead, ClearTail, Renew}
 use Rattle.ring_model.specs.shared.Queue.{posted_count, served_count, given_count, may, by}
 use Rattle.ring_model.specs.receive.Ring.{RxLedger, RxRing, rx_opening, due, is_whole, next_segment}
@@ -41,26 +42,13 @@ module _ {Payload : Type 0} (n : ℕ) (r : RxRing Payload) (k : IsRxKept Payload
   pub rx_ledger : IsLawfulRxLedger Payload n r.ledger
   rx_ledger = let q = k.queue in let o = q.order in let h = o.room in let p = q.places in record { taken = k.taken; stored = k.stored; room = omega arith }
 
-  rx_kept-post : (b : ℕ) → may r.queue (Post b) ≡ true → IsRxKept Payload n (record r { queue = by r.queue (Post b) })
-  rx_kept-post b e = record {
-    queue = kept-by n ends_segment r.queue k.queue (Post b) tt e;
-    taken = k.taken;
-    stored = beginning-append (map number_of_segment r.ledger.served) r.ledger.posted (b ∷ []) k.stored;
-    past = k.past;
-    at_rest = k.at_rest;
-    finished = k.finished;
-    bit = k.bit;
-    quiet = k.quiet;
-    said = k.said;
-  }
-
-  -- a step that leaves the ledger, the handshake and what is held
-  rx_kept-rest : (s : QueueStep ℕ (Segment Payload) (Segment Payload)) → IsKept n ends_segment (by r.queue s) → (by r.queue s).ledger ≡ r.ledger → (by r.queue s).past ≡ r.past → (by r.queue s).handshake ≡ r.handshake
-      → (r.still ≡ true → (by r.queue s).held ≡ false) → IsRxKept Payload n (record r { queue = by r.queue s })
-  rx_kept-rest s kept l p h rest = record {
+  -- a step that leaves what is stored, the handshake and what is held
+  rx_kept-lists : (s : QueueStep ℕ (Segment Payload) (Segment Payload)) → IsKept n ends_segment (by r.queue s) → IsBeginning (by r.queue s).ledger.given (by r.queue s).ledger.served → IsBeginning (map number_of_segment (by r.queue s).ledger.served) (by r.queue s).ledger.posted
+      → (by r.queue s).ledger.served ≡ r.ledger.served → (by r.queue s).past ≡ r.past → (by r.queue s).handshake ≡ r.handshake → (r.still ≡ true → (by r.queue s).held ≡ false) → IsRxKept Payload n (record r { queue = by r.queue s })
+  rx_kept-lists s kept taken stored l p h rest = record {
     queue = kept;
-    taken = rw l k.taken;
-    stored = rw l k.stored;
+    taken = taken;
+    stored = stored;
     past = rw p k.past;
     at_rest = rest;
     finished = rw (h, l) k.finished;
@@ -68,6 +56,14 @@ module _ {Payload : Type 0} (n : ℕ) (r : RxRing Payload) (k : IsRxKept Payload
     quiet = rw h k.quiet;
     said = k.said;
   }
+
+  rx_kept-post : (b : ℕ) → may r.queue (Post b) ≡ true → IsRxKept Payload n (record r { queue = by r.queue (Post b) })
+  rx_kept-post b e = rx_kept-lists (Post b) (kept-by n ends_segment r.queue k.queue (Post b) tt e) k.taken (beginning-append (map number_of_segment r.ledger.served) r.ledger.posted (b ∷ []) k.stored) refl refl refl k.at_rest
+
+  -- a step that leaves the ledger, the handshake and what is held
+  rx_kept-rest : (s : QueueStep ℕ (Segment Payload) (Segment Payload)) → IsKept n ends_segment (by r.queue s) → (by r.queue s).ledger ≡ r.ledger → (by r.queue s).past ≡ r.past → (by r.queue s).handshake ≡ r.handshake
+      → (r.still ≡ true → (by r.queue s).held ≡ false) → IsRxKept Payload n (record r { queue = by r.queue s })
+  rx_kept-rest s kept l p h rest = rx_kept-lists s kept (rw l k.taken) (rw l k.stored) (ap (λ (x : RxLedger Payload). x.served) l) p h rest
 
   rx_kept-store : (x : Payload) (eop : Bool) → r.held ≡ true → IsRxKept Payload n (record r { queue = by r.queue (Serve (next_segment r x eop)) })
   rx_kept-store x eop e = let s : Segment Payload = next_segment r x eop in record {
@@ -84,17 +80,9 @@ module _ {Payload : Type 0} (n : ℕ) (r : RxRing Payload) (k : IsRxKept Payload
 
   rx_kept-took : (found : Option (Segment Payload)) → due r ≡ found → is_live r.handshake.driver ≡ true → IsRxKept Payload n (took r found)
   rx_kept-took None e live = k
-  rx_kept-took (Some s) e live = let more = slice_get_within r.ledger.served (given_count r.queue) s e in record {
-    queue = kept-by n ends_segment r.queue k.queue (Give s) tt (and_from (is_live r.handshake.driver) (nat_lt (given_count r.queue) (served_count r.queue)) live (lt-ltb (given_count r.queue) (served_count r.queue) more));
-    taken = beginning-snoc r.ledger.given r.ledger.served s k.taken e;
-    stored = k.stored;
-    past = k.past;
-    at_rest = k.at_rest;
-    finished = k.finished;
-    bit = k.bit;
-    quiet = k.quiet;
-    said = k.said;
-  }
+  rx_kept-took (Some s) e live = let more = slice_get_within r.ledger.served (given_count r.queue) s e in
+      rx_kept-lists (Give s) (kept-by n ends_segment r.queue k.queue (Give s) tt (and_from (is_live r.handshake.driver) (nat_lt (given_count r.queue) (served_count r.queue)) live (lt-ltb (given_count r.queue) (served_count r.queue) more)))
+      (beginning-snoc r.ledger.given r.ledger.served s k.taken e) k.stored refl refl refl k.at_rest
 
   -- a controller that serves after its answer was enabled by it, and then it isn't still
   answered_still : (on : Bool) → is_serving (if on then enable r.handshake else disable r.handshake).controller ≡ true → (not on && r.still) ≡ true → is_whole r ≡ true

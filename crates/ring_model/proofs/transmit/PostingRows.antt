@@ -18,14 +18,7 @@ pub record Begins (len : ℕ) (eop rs : Bool) (paylen : ℕ) : Type 0 where
 
 pub begins : (len : ℕ) (eop rs : Bool) (paylen : ℕ) → Begins len eop rs paylen → (f : Bytes) → length f ≡ len → MayFollow 8 [] (new_posting 0 f eop rs paylen)
 begins len eop rs paylen b f l = let some = b.some_bytes in let few = b.few_bytes in let low = b.long_enough in let high = b.short_enough in let in_it = b.within in record {
-  follows = record {
-    some_bytes = omega arith;
-    few_bytes = omega arith;
-    segments = omega arith;
-    descriptors = omega arith;
-    most = omega arith;
-    least = λ e. let w = b.whole e in omega arith;
-  };
+  follows = record { some_bytes = omega arith; few_bytes = omega arith; segments = omega arith; descriptors = omega arith; most = omega arith; least = λ e. let w = b.whole e in omega arith };
   asks_at_end = b.asks_at_end;
   long_enough = b.long_enough;
   short_enough = b.short_enough;
@@ -64,14 +57,7 @@ one_before g (suc k) q e = absurd (none-some q e)
 
 pub goes_on : (len : ℕ) (eop rs : Bool) (paylen : ℕ) → GoesOn len eop rs paylen → (g f : Bytes) → length g ≡ 60 → length f ≡ len → MayFollow 8 (new_posting 0 g false false 120 ∷ []) (new_posting 1 f eop rs paylen)
 goes_on len eop rs paylen b g f l m = let j = joined g l in let some = b.some_bytes in let few = b.few_bytes in let same = b.same_frame in let in_it = b.within in record {
-  follows = record {
-    some_bytes = omega arith;
-    few_bytes = omega arith;
-    segments = omega arith;
-    descriptors = omega arith;
-    most = omega arith;
-    least = λ e. omega arith;
-  };
+  follows = record { some_bytes = omega arith; few_bytes = omega arith; segments = omega arith; descriptors = omega arith; most = omega arith; least = λ e. omega arith };
   asks_at_end = b.asks_at_end;
   long_enough = omega arith;
   short_enough = omega arith;
