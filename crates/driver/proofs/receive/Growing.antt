@@ -183,28 +183,34 @@ or_left true b e = refl
 or_left false b e = absurd (cc)
 
 module _ (d new : DriverSide) (buf : Buffer) (stash : List ℕ) (list : List (List Buffer)) (chain : List Buffer) where
-  -- a segment that does not end its frame
-  pub grew-more : TookSegment d buf false new → IsRest d chain → GrewBy (at d chain stash list) (at new (chain ++ buf ∷ []) stash list)
-  grew-more t r = let k = known-after d new (driver.Own (Taken (next_place d) _ buf)) t.step in record {
+  -- what a segment that was taken leaves of the chain, and which packets it adds to the list
+  grew-taken : (eop : Bool) (left : List Buffer) (packets longer : List (List Buffer)) → TookSegment d buf eop new → longer ≡ list ++ packets → going_on chain ++ segment buf eop ∷ [] ≡ segments_in packets ++ going_on left
+      → frames piece_of (taken new) ≡ frames piece_of (taken d) ++ map bytes_of packets → All (IsTaken (driver_size d)) packets → GrewBy (at d chain stash list) (at new left stash longer)
+  grew-taken eop left packets longer t appended chained framed lawful = let k = known-after d new (driver.Own (Taken (next_place d) _ buf)) t.step in record {
     own = ap (λ (s : DriverSide). s.table) t.step;
-    segments = segment buf false ∷ [];
+    segments = segment buf eop ∷ [];
     numbers = [];
-    packets = [];
+    packets = packets;
     took = ap (λ (x : RxDriven). x.given) t.grew;
     posts = ap (λ (x : RxDriven). x.posted) t.grew ∙ sym (append-nil (posted d));
-    appended = sym (append-nil list);
+    appended = appended;
     stash = refl;
-    chained = sym (going_on-push chain buf);
-    framed = frames-more (driver_size d) (taken d) (taken new) chain buf r.rest (ap (λ (x : RxDriven). x.given) t.grew);
-    lawful = All-nil (IsTaken (driver_size d));
+    chained = chained;
+    framed = framed;
+    lawful = lawful;
     shut = λ e. refl;
     none_back = ap (λ (x : RxDriven). x.reclaimed) t.grew;
-    out = out-taken d new buf false t;
+    out = out-taken d new buf eop t;
     state = ap (λ (x : RxDriven). x.state) t.grew;
     head = ap (λ (x : Knowing). x.head) k;
     quiet = ap (λ (x : Knowing). x.quiet) k;
     drained = λ e. ap (λ (x : Knowing). x.drained) k ∙ or_left (known_of d).drained _ e;
   }
+
+  -- one that does not end its frame
+  pub grew-more : TookSegment d buf false new → IsRest d chain → GrewBy (at d chain stash list) (at new (chain ++ buf ∷ []) stash list)
+  grew-more t r = grew-taken false (chain ++ buf ∷ []) [] list t (sym (append-nil list)) (sym (going_on-push chain buf))
+      (frames-more (driver_size d) (taken d) (taken new) chain buf r.rest (ap (λ (x : RxDriven). x.given) t.grew)) (All-nil (IsTaken (driver_size d)))
 
   pub rest-grows : TookSegment d buf false new → IsRest d chain → IsRest new (chain ++ buf ∷ [])
   rest-grows t r = record {
@@ -214,26 +220,10 @@ module _ (d new : DriverSide) (buf : Buffer) (stash : List ℕ) (list : List (Li
 
   -- one that does
   pub grew-ended : TookSegment d buf true new → IsRest d chain → GrewBy (at d chain stash list) (at new [] stash (list ++ (chain ++ buf ∷ []) ∷ []))
-  grew-ended t r = let k = known-after d new (driver.Own (Taken (next_place d) _ buf)) t.step in record {
-    own = ap (λ (s : DriverSide). s.table) t.step;
-    segments = segment buf true ∷ [];
-    numbers = [];
-    packets = (chain ++ buf ∷ []) ∷ [];
-    took = ap (λ (x : RxDriven). x.given) t.grew;
-    posts = ap (λ (x : RxDriven). x.posted) t.grew ∙ sym (append-nil (posted d));
-    appended = refl;
-    stash = refl;
-    chained = sym (append-nil ((segments_of (chain ++ buf ∷ [])) ++ []) ∙ (append-nil (segments_of (chain ++ buf ∷ [])) ∙ segments_of-push chain buf));
-    framed = frames-ended (driver_size d) (taken d) (taken new) chain buf r.rest (ap (λ (x : RxDriven). x.given) t.grew);
-    lawful = All-push (IsTaken (driver_size d)) [] (chain ++ buf ∷ []) (All-nil (IsTaken (driver_size d))) (packet-ended (driver_size d) (taken d) (taken new) chain buf r.rest true t.follows refl r.each);
-    shut = λ e. refl;
-    none_back = ap (λ (x : RxDriven). x.reclaimed) t.grew;
-    out = out-taken d new buf true t;
-    state = ap (λ (x : RxDriven). x.state) t.grew;
-    head = ap (λ (x : Knowing). x.head) k;
-    quiet = ap (λ (x : Knowing). x.quiet) k;
-    drained = λ e. ap (λ (x : Knowing). x.drained) k ∙ or_left (known_of d).drained _ e;
-  }
+  grew-ended t r = grew-taken true [] ((chain ++ buf ∷ []) ∷ []) (list ++ (chain ++ buf ∷ []) ∷ []) t refl
+      (sym (append-nil ((segments_of (chain ++ buf ∷ [])) ++ []) ∙ (append-nil (segments_of (chain ++ buf ∷ [])) ∙ segments_of-push chain buf)))
+      (frames-ended (driver_size d) (taken d) (taken new) chain buf r.rest (ap (λ (x : RxDriven). x.given) t.grew))
+      (All-push (IsTaken (driver_size d)) [] (chain ++ buf ∷ []) (All-nil (IsTaken (driver_size d))) (packet-ended (driver_size d) (taken d) (taken new) chain buf r.rest true t.follows refl r.each))
 
   pub rest-ends : TookSegment d buf true new → IsRest d chain → IsRest new []
   rest-ends t r = record {

@@ -87,22 +87,10 @@ module _ (every before : ℕ) (had : List (List Buffer)) (old new : DriverSide) 
     stays = λ _. subst (λ (ps : List (List Buffer)). NeedsMore (room_of new) ps) (sym left) (subst (λ (n : ℕ). NeedsMore n (drop (suc k) had)) (sym (room_left (suc k) filled went step same room_is)) stays);
   }
 
--- publishing leaves both lists
-after_posted : (count : ℕ) (d : DriverSide) → posted (published_after count d) ≡ posted d
-after_posted zero d = refl
-after_posted (suc k) d = ap (λ (x : TxDriven). x.posted) (record-after d (appended d (Published (fill_place d))) (Published (fill_place d)) refl)
-
-after_cleaned : (count : ℕ) (d : DriverSide) → cleaned (published_after count d) ≡ cleaned d
-after_cleaned zero d = refl
-after_cleaned (suc k) d = ap (λ (x : TxDriven). x.given) (record-after d (appended d (Published (fill_place d))) (Published (fill_place d)) refl)
-
-after_state : (count : ℕ) (d : DriverSide) → driver_state (published_after count d) ≡ driver_state d
-after_state zero d = refl
-after_state (suc k) d = ap (λ (x : TxDriven). x.state) (record-after d (appended d (Published (fill_place d))) (Published (fill_place d)) refl)
-
-after_reclaimed : (count : ℕ) (d : DriverSide) → reclaimed (published_after count d) ≡ reclaimed d
-after_reclaimed zero d = refl
-after_reclaimed (suc k) d = ap (λ (x : TxDriven). x.reclaimed) (record-after d (appended d (Published (fill_place d))) (Published (fill_place d)) refl)
+-- publishing leaves all of the record but how much is published
+after : {Y : Type 0} (of : TxDriven → Y) → ((x : TxDriven) (k : ℕ) → of (record x { published = k }) ≡ of x) → (count : ℕ) (d : DriverSide) → of (driver_record (published_after count d)) ≡ of (driver_record d)
+after of same zero d = refl
+after of same (suc k) d = ap of (record-after d (appended d (Published (fill_place d))) (Published (fill_place d)) refl) ∙ same (driver_record d) (length (posted d))
 
 pub batched : (count every frames frames' : ℕ) (old between new : DriverSide) (had has : List ℕ) (ps qs : List (List Buffer)) → CleanedAll old had between has → PostedFront every frames count between ps new qs → frames' ≡ (frames + count) % every
     → Batched count (sending (record { end = old; every = every; frames = frames }) had ps) (sending (record { end = new; every = every; frames = frames' }) has qs)
@@ -115,15 +103,15 @@ batched count every frames frames' old between new had has ps qs cleaning postin
       between = between;
       cleaning = cleaning;
       posting = posting;
-      posts = ap posted posting.publishing ∙ after_posted count posting.filled ∙ ap (λ (x : TxDriven). x.posted) posting.posting.did
+      posts = ap posted posting.publishing ∙ after (λ x. x.posted) (λ x k. refl) count posting.filled ∙ ap (λ (x : TxDriven). x.posted) posting.posting.did
           ∙ ap (λ (l : List Posting). l ++ fr) (ap (λ (x : TxDriven). x.posted) cleaning.went.did ∙ append-nil (posted old));
       out = ap (λ (l : List ℕ). l ++ numbers_in (take count ps)) cleaning.out
           ∙ (append_assoc cleaning.numbers (out_of number_of_posting between) (numbers_in (take count ps))
           ∙ ap (λ (l : List ℕ). cleaning.numbers ++ l) (sym posting.out));
-      state = ap driver_state posting.publishing ∙ (after_state count posting.filled ∙ (ap (λ (x : TxDriven). x.state) posting.posting.did ∙ cleaning.state));
-      none_back = ap reclaimed posting.publishing ∙ (after_reclaimed count posting.filled ∙ (ap (λ (x : TxDriven). x.reclaimed) posting.posting.did ∙ cleaning.none_back));
+      state = ap driver_state posting.publishing ∙ (after (λ x. x.state) (λ x k. refl) count posting.filled ∙ (ap (λ (x : TxDriven). x.state) posting.posting.did ∙ cleaning.state));
+      none_back = ap reclaimed posting.publishing ∙ (after (λ x. x.reclaimed) (λ x k. refl) count posting.filled ∙ (ap (λ (x : TxDriven). x.reclaimed) posting.posting.did ∙ cleaning.none_back));
       known = posting.known;
-      cleans = ap cleaned posting.publishing ∙ after_cleaned count posting.filled ∙ ap (λ (x : TxDriven). x.given) posting.posting.did
+      cleans = ap cleaned posting.publishing ∙ after (λ x. x.given) (λ x k. refl) count posting.filled ∙ ap (λ (x : TxDriven). x.given) posting.posting.did
           ∙ append-nil (cleaned between) ∙ ap (λ (x : TxDriven). x.given) cleaning.went.did;
       counted = ap (λ (n : ℕ). record { end = new; every = every; frames = n }) counts;
     }
