@@ -1,7 +1,7 @@
 -- The controller's seat: what each of its steps asks of the table, and what the seat keeps.
-use Rattle.std.proofs.Common.{◌≡◌, ℕ, ◌+◌, ◌-◌, ◌%◌, ◌<◌, ◌≤◌, true, false, List, [], ◌∷◌, ◌++◌, length, Some, None, sym, refl, ap, ◌∙◌, subst, arith, mod-lt}
+use Rattle.std.proofs.Common.{◌≡◌, ℕ, ◌+◌, ◌-◌, ◌%◌, ◌<◌, ◌≤◌, true, false, List, [], ◌∷◌, ◌++◌, length, Some, None, sym, refl, ap, ◌∙◌, subst, arith}
 use mathlib.Core.Option.{none}
-use Rattle.atomic_table.specs.Table.{Allows, Step, step, rest}
+use Rattle.atomic_table.specs.Table.{Allows, step, rest}
 use Rattle.atomic_table.specs.Seated.{TableId}
 use Rattle.buffer_pool.specs.Buffer.{Buffer, blank}
 use Rattle.ring_model.specs.declared.states.Completion.{Completion}
@@ -23,7 +23,7 @@ use Rattle.shared_ring.specs.Steps.{FoundTail, CameOut}
 use Rattle.shared_ring.specs.Tables.{IsTableOf, words_of}
 use Rattle.shared_ring.proofs.Allowed.{controller-store, controller-load, controller-take, controller-give}
 use Rattle.shared_ring.proofs.Standing as standing
-use Rattle.shared_ring.proofs.Standing.{words-big, front-is}
+use Rattle.shared_ring.proofs.Standing.{Asks, LoadAsks, front-is}
 use Rattle.shared_ring.proofs.Folds.{controlling-snoc}
 
 module _ {Ring Posted Served Given D C : Type 0} (form : Form Ring Posted Served Given D C) where
@@ -51,9 +51,6 @@ module _ {Ring Posted Served Given D C : Type 0} (form : Form Ring Posted Served
 
     abbrev side : TableId → It → End
     side t m = record { table = t; completion = mode; events = controller_part m.0 }
-
-    big : 8 ≤ size
-    big = inv.lawful.0
 
     view-is : me.0 ≡ Controller (controller_part me.0)
     view-is = ap (λ (m : It). m.0) inv.me_is
@@ -102,39 +99,18 @@ module _ {Ring Posted Served Given D C : Type 0} (form : Form Ring Posted Served
       unheld e = sym (words-are (λ y n. y.held)) ∙ e
 
       below : (place : ℕ) → place ≡ length x.served % size → place < words_of size mode
-      below place e = let b = big in let w = words-big size mode in let m : length x.served % size < size = mod-lt (length x.served) (omega arith) in omega arith
+      below place e = standing.below size mode place (length x.served) inv.lawful.0 e
 
       module _ (ring : TableId) (key : ℕ × Completion) (ruled : IsTableOf ring key.0 key.1) (ring_now : TableId) (ring_is : ring ≡ ring_now) (mine : now.table ≡ ring_now) where
-        own : table ≡ ring
-        own = ap (λ (s : End). s.table) was ∙ mine ∙ sym ring_is
+        stands : standing.StandsAt table size mode ring key me (Controller es, its)
+        stands = record { size_is = inv.size_is; words = inv.words; ruled = ruled; own = ap (λ (s : End). s.table) was ∙ mine ∙ sym ring_is; me_is = inv.me_is }
 
         counts : ring.slots ≡ size
-        counts = standing.counts form table size mode inv.size_is inv.words ring key ruled own
-
-        within : (i : ℕ) → i < words_of size mode → i < ring.words
-        within = standing.within form table size mode inv.size_is inv.words ring key ruled own
-
-        low : (i : ℕ) → i < size + 4 → i < words_of size mode
-        low = standing.low size mode
-
-        allow-at : (T : ℕ → It → ℕ → It → Type 0) (id i : ℕ) (f : ℕ → ℕ) (m m' : It) → m' ≡ m → Allows (IsRuled form size mode) size id m i f (T size m) → Allows (IsRuled form key.0 key.1) ring.slots id m' i f (T ring.slots m')
-        allow-at = standing.allow-at form table size mode inv.size_is inv.words ring key ruled own
-
-        abbrev Asks : (Step Buffer → It → ℕ → It → Type 0) → ℕ → ℕ → ℕ → Type 0
-        Asks T id i v = (table ≡ ring) × (i < ring.words) × Allows (IsRuled form key.0 key.1) ring.slots id me i (λ _. v) (λ _. T (step ring.slots i v 0 none) me v)
-
-        abbrev LoadAsks : (Step Buffer → It → ℕ → It → Type 0) → ℕ → ℕ → Type 0
-        LoadAsks T id i = (table ≡ ring) × (i < ring.words) × Allows (IsRuled form key.0 key.1) ring.slots id me i (λ y. y) (T (step ring.slots i 0 0 none) me)
-
-        store-asks : (T : Step Buffer → It → ℕ → It → Type 0) (id i v : ℕ) → i < words_of size mode → Allows (IsRuled form size mode) size id (Controller es, its) i (λ _. v) (λ _ m. T (step size i v 0 none) (Controller es, its) v m) → Asks T id i v
-        store-asks T id i v h a = (own, within i h, allow-at (λ n m r m'. T (step n i v 0 none) m v m') id i (λ _. v) (Controller es, its) me inv.me_is a)
-
-        load-asks : (T : Step Buffer → It → ℕ → It → Type 0) (id i : ℕ) → i < words_of size mode → Allows (IsRuled form size mode) size id (Controller es, its) i (λ y. y) (T (step size i 0 0 none) (Controller es, its)) → LoadAsks T id i
-        load-asks T id i h a = (own, within i h, allow-at (λ n m r m'. T (step n i 0 0 none) m r m') id i (λ y. y) (Controller es, its) me inv.me_is a)
+        counts = standing.counts stands
 
         -- A3, B3
-        pub look-asks : (id : ℕ) → is_serving (done_by now).state ≡ true → LoadAsks (LoadsTail form) id (size + 1)
-        look-asks id serving = load-asks (LoadsTail form) id (size + 1) (low (size + 1) (omega arith)) (controller-load form size mode es id its (LoadsTail form) (size + 1) controller.Looked (λ r. (r < size) × (x.known ≤ count_at size (length x.served) r))
+        pub look-asks : (id : ℕ) → is_serving (done_by now).state ≡ true → LoadAsks form table ring key me (LoadsTail form) id (size + 1)
+        look-asks id serving = standing.load-asks stands form (LoadsTail form) id (size + 1) (standing.low size mode (size + 1) (omega arith)) (controller-load form size mode es id its (LoadsTail form) (size + 1) controller.Looked (λ r. (r < size) × (x.known ≤ count_at size (length x.served) r))
             (λ q ds words homes pos l. let a = inv.law.allowed size mode q ds es words homes pos l in let f = a.controller in let g = f.look (serves serving) in ((g.0, g.1), g.2)) (λ r t. record { adds = record { seat = refl; names = refl }; below = t.0; grows = t.1 }))
 
         -- a tail is a place
@@ -150,10 +126,10 @@ module _ {Ring Posted Served Given D C : Type 0} (form : Form Ring Posted Served
 
         -- A4, B4
         pub fetch-asks : (id place : ℕ) → place ≡ length (done_by now).served % now.table.slots → is_serving (done_by now).state ≡ true → 0 < (done_by now).known - length (done_by now).served → (done_by now).held ≡ None → (done_by now).barred ≡ false
-            → LoadAsks (LoadsNext form) id place
+            → LoadAsks form table ring key me (LoadsNext form) id place
         fetch-asks id place at serving some none_held free = let f : (done_by now).known - length (done_by now).served ≡ x.known - length x.served = words-are (λ y n. y.known - length y.served) in
             let more : length x.served < x.known = omega arith in
-            load-asks (LoadsNext form) id place (below place (at-serve place at)) (controller-take form size mode es id its (LoadsNext form) place (λ r b. controller.Fetched place r b) (λ r b. form.IsFetched size x r b)
+            standing.load-asks stands form (LoadsNext form) id place (below place (at-serve place at)) (controller-take form size mode es id its (LoadsNext form) place (λ r b. controller.Fetched place r b) (λ r b. form.IsFetched size x r b)
             (λ q ds words homes pos l. let a = inv.law.allowed size mode q ds es words homes pos l in let f = a.controller in
             let g = f.fetch place (at-serve place at) (serves serving) more (unheld none_held) (sym (words-are (λ y n. y.barred)) ∙ free) in (g.buf, g.home, g.fetched, g.agrees)) (λ r b t. record { buf = b; adds = record { seat = refl; names = refl }; fetched = t }))
 
@@ -176,20 +152,20 @@ module _ {Ring Posted Served Given D C : Type 0} (form : Form Ring Posted Served
           })
 
         -- C2
-        pub request-asks : (id : ℕ) → LoadAsks (LoadsRequest form) id (size + 2)
-        request-asks id = load-asks (LoadsRequest form) id (size + 2) (low (size + 2) (omega arith)) (controller-load form size mode es id its (LoadsRequest form) (size + 2) controller.LoadedRequest (λ r. r ≤ 3)
+        pub request-asks : (id : ℕ) → LoadAsks form table ring key me (LoadsRequest form) id (size + 2)
+        request-asks id = standing.load-asks stands form (LoadsRequest form) id (size + 2) (standing.low size mode (size + 2) (omega arith)) (controller-load form size mode es id its (LoadsRequest form) (size + 2) controller.LoadedRequest (λ r. r ≤ 3)
             (λ q ds words homes pos l. let a = inv.law.allowed size mode q ds es words homes pos l in let f = a.controller in f.request) (λ r v. record { adds = record { seat = refl; names = refl }; value = v }))
 
         -- C3
-        pub enable-asks : (id : ℕ) → (done_by now).seen ≡ 1 → is_serving (done_by now).state ≡ false → Asks (enables form) id (size + 2) 2
-        enable-asks id asked idle = store-asks (enables form) id (size + 2) 2 (low (size + 2) (omega arith)) (controller-store form size mode es id its (enables form) (size + 2) 2 controller.Enabled
+        pub enable-asks : (id : ℕ) → (done_by now).seen ≡ 1 → is_serving (done_by now).state ≡ false → Asks form table ring key me (enables form) id (size + 2) 2
+        enable-asks id asked idle = standing.store-asks stands form (enables form) id (size + 2) 2 (standing.low size mode (size + 2) (omega arith)) (controller-store form size mode es id its (enables form) (size + 2) 2 controller.Enabled
             (λ q ds words homes pos l. let a = inv.law.allowed size mode q ds es words homes pos l in let f = a.controller in f.enable (sym (words-are (λ y n. y.seen)) ∙ asked) (sym (words-are (λ y n. is_serving y.state)) ∙ idle)) (record { seat = refl; names = refl }))
 
         pub enable-slots : (done_by now).held ≡ None → controller_slots size x ≡ controller_slots size (control form size x controller.Enabled)
         enable-slots e = ap (slots_while (length x.served % size)) (unheld e) ∙ sym (ap (slots_while (0 % size)) (unheld e))
 
-        pub disable-asks : (id : ℕ) → (done_by now).seen ≡ 3 → is_serving (done_by now).state ≡ true → (done_by now).held ≡ None → (done_by now).head ≡ length (done_by now).served % now.table.slots → form.MayDisable (done_by now) → Asks (disables form) id (size + 2) 0
-        disable-asks id asked serving none_held head may = store-asks (disables form) id (size + 2) 0 (low (size + 2) (omega arith)) (controller-store form size mode es id its (disables form) (size + 2) 0 controller.Disabled
+        pub disable-asks : (id : ℕ) → (done_by now).seen ≡ 3 → is_serving (done_by now).state ≡ true → (done_by now).held ≡ None → (done_by now).head ≡ length (done_by now).served % now.table.slots → form.MayDisable (done_by now) → Asks form table ring key me (disables form) id (size + 2) 0
+        disable-asks id asked serving none_held head may = standing.store-asks stands form (disables form) id (size + 2) 0 (standing.low size mode (size + 2) (omega arith)) (controller-store form size mode es id its (disables form) (size + 2) 0 controller.Disabled
             (λ q ds words homes pos l. let a = inv.law.allowed size mode q ds es words homes pos l in let f = a.controller in f.disable (sym (words-are (λ y n. y.seen)) ∙ asked) (serves serving) (unheld none_held)
             (sym (words-are (λ y n. y.head)) ∙ head ∙ words-are (λ y n. length y.served % n)) (here (λ n m xs. form.MayDisable (controlling form n xs)) may)) (record { seat = refl; names = refl }))
 
@@ -199,8 +175,8 @@ module _ {Ring Posted Served Given D C : Type 0} (form : Form Ring Posted Served
             store-may : MayStore form event size mode (controller_part me.0) word v
             store-may = here (λ n m xs. MayStore form event n m xs word v) may
 
-            pub store_own-asks : (id : ℕ) → Asks (controller_stores form event) id word v
-            store_own-asks id = let m = store-may in store-asks (controller_stores form event) id word v m.word_is (controller-store form size mode es id its (controller_stores form event) word v (event size es word v blank) m.goes (record { seat = refl; names = m.names }))
+            pub store_own-asks : (id : ℕ) → Asks form table ring key me (controller_stores form event) id word v
+            store_own-asks id = let m = store-may in standing.store-asks stands form (controller_stores form event) id word v m.word_is (controller-store form size mode es id its (controller_stores form event) word v (event size es word v blank) m.goes (record { seat = refl; names = m.names }))
 
             module _ (table' : TableId) (me' : It) (t : table' ≡ table) (stored : me' ≡ (controller_does me (event ring.slots es word v blank), me.1)) where
               store_own-seat : me' ≡ (controller_does me (event size es word v blank), me.1)
@@ -228,9 +204,9 @@ module _ {Ring Posted Served Given D C : Type 0} (form : Form Ring Posted Served
               pub give_own-asks : (id : ℕ) (table' : TableId) (me' : It) → table' ≡ table → me' ≡ (me.0, (place, b) ∷ rest me.1)
                   → (table' ≡ ring) × (word < ring.words) × Allows (IsRuled form key.0 key.1) ring.slots id me' word (λ _. v) (λ _. controller_gives form event (step ring.slots word v 0 none) me' v)
               give_own-asks id table' me' t m = let k = give-may in (
-                t ∙ own,
-                within word k.word_is,
-                allow-at (λ n z r z'. controller_gives form event (step n word v 0 none) z v z') id word (λ _. v) (Controller es, (place, b) ∷ rest me.1) me'
+                t ∙ stands.own,
+                standing.within stands word k.word_is,
+                standing.allow-at stands form (λ n z r z'. controller_gives form event (step n word v 0 none) z v z') id word (λ _. v) (Controller es, (place, b) ∷ rest me.1) me'
                     (m ∙ ap (λ (w : View (DriverEvent D) (ControllerEvent C)). let z : It = (w, (place, b) ∷ rest me.1) in z) view-is)
                     (controller-give form size mode es id (rest me.1) (controller_gives form event) word v place b (event size es word v b) k.goes (record { seat = refl; names = k.names })),
               )

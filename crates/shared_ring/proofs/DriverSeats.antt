@@ -3,7 +3,7 @@ use Rattle.std.proofs.Common.{◌≡◌, ℕ, ◌+◌, ◌-◌, ◌%◌, ◌<◌
 use Rattle.std.proofs.Math.Nat.{mod-mod}
 use Rattle.std.proofs.lemmas.Bool.{false≢true}
 use mathlib.Core.Option.{none}
-use Rattle.atomic_table.specs.Table.{Allows, Step, step, rest, turned}
+use Rattle.atomic_table.specs.Table.{Allows, step, rest, turned}
 use Rattle.atomic_table.specs.Seated.{TableId}
 use Rattle.buffer_pool.specs.Buffer.{Buffer, blank}
 use Rattle.ring_model.specs.declared.states.Completion.{Completion}
@@ -24,7 +24,7 @@ use Rattle.shared_ring.specs.Slots.{empty_slots, front_buffer}
 use Rattle.shared_ring.specs.Tables.{IsTableOf, words_of}
 use Rattle.shared_ring.proofs.Allowed.{driver-store, driver-load, driver-clear, driver-find, driver-give}
 use Rattle.shared_ring.proofs.Standing as standing
-use Rattle.shared_ring.proofs.Standing.{words-big, front-is}
+use Rattle.shared_ring.proofs.Standing.{Asks, LoadAsks, front-is}
 use Rattle.shared_ring.proofs.Folds.{driving-snoc, slots-post, slots-return, slots-alike}
 
 module _ {Ring Posted Served Given D C : Type 0} (form : Form Ring Posted Served Given D C) where
@@ -113,38 +113,17 @@ module _ {Ring Posted Served Given D C : Type 0} (form : Form Ring Posted Served
       out-is h = subst (λ (x : Driven Posted Given). length x.given + x.reclaimed < length x.posted) (words-are (λ x n. x)) h
 
       below : (place i : ℕ) → place ≡ i % size → place < words_of size mode
-      below place i e = let b = big in let w = words-big size mode in let m : i % size < size = mod-lt i (omega arith) in omega arith
+      below place i e = standing.below size mode place i big e
 
       pub turn-below : (place : ℕ) → place ≡ length (done_by now).posted % now.table.slots → place < size
       turn-below place at = let b = big in let f = filled place at in let m : length d.posted % size < size = mod-lt (length d.posted) (omega arith) in omega arith
 
       module _ (ring : TableId) (key : ℕ × Completion) (ruled : IsTableOf ring key.0 key.1) (ring_now : TableId) (ring_is : ring ≡ ring_now) (mine : now.table ≡ ring_now) where
-        own : table ≡ ring
-        own = ap (λ (s : End). s.table) was ∙ mine ∙ sym ring_is
+        stands : standing.StandsAt table size mode ring key me (Driver es, its)
+        stands = record { size_is = inv.size_is; words = inv.words; ruled = ruled; own = ap (λ (s : End). s.table) was ∙ mine ∙ sym ring_is; me_is = inv.me_is }
 
         pub counts : ring.slots ≡ size
-        counts = standing.counts form table size mode inv.size_is inv.words ring key ruled own
-
-        within : (i : ℕ) → i < words_of size mode → i < ring.words
-        within = standing.within form table size mode inv.size_is inv.words ring key ruled own
-
-        low : (i : ℕ) → i < size + 4 → i < words_of size mode
-        low = standing.low size mode
-
-        allow-at : (T : ℕ → It → ℕ → It → Type 0) (id i : ℕ) (f : ℕ → ℕ) (m m' : It) → m' ≡ m → Allows (IsRuled form size mode) size id m i f (T size m) → Allows (IsRuled form key.0 key.1) ring.slots id m' i f (T ring.slots m')
-        allow-at = standing.allow-at form table size mode inv.size_is inv.words ring key ruled own
-
-        abbrev Asks : (Step Buffer → It → ℕ → It → Type 0) → ℕ → ℕ → ℕ → Type 0
-        Asks T id i v = (table ≡ ring) × (i < ring.words) × Allows (IsRuled form key.0 key.1) ring.slots id me i (λ _. v) (λ _. T (step ring.slots i v 0 none) me v)
-
-        abbrev LoadAsks : (Step Buffer → It → ℕ → It → Type 0) → ℕ → ℕ → Type 0
-        LoadAsks T id i = (table ≡ ring) × (i < ring.words) × Allows (IsRuled form key.0 key.1) ring.slots id me i (λ x. x) (T (step ring.slots i 0 0 none) me)
-
-        store-asks : (T : Step Buffer → It → ℕ → It → Type 0) (id i v : ℕ) → i < words_of size mode → Allows (IsRuled form size mode) size id (Driver es, its) i (λ _. v) (λ _ m. T (step size i v 0 none) (Driver es, its) v m) → Asks T id i v
-        store-asks T id i v h a = (own, within i h, allow-at (λ n m r m'. T (step n i v 0 none) m v m') id i (λ _. v) (Driver es, its) me inv.me_is a)
-
-        load-asks : (T : Step Buffer → It → ℕ → It → Type 0) (id i : ℕ) → i < words_of size mode → Allows (IsRuled form size mode) size id (Driver es, its) i (λ x. x) (T (step size i 0 0 none) (Driver es, its)) → LoadAsks T id i
-        load-asks T id i h a = (own, within i h, allow-at (λ n m r m'. T (step n i 0 0 none) m r m') id i (λ x. x) (Driver es, its) me inv.me_is a)
+        counts = standing.counts stands
 
         -- A1, B1
         module _ (place word : ℕ) (b : Buffer) (at : place ≡ length (done_by now).posted % now.table.slots)
@@ -162,9 +141,9 @@ module _ {Ring Posted Served Given D C : Type 0} (form : Form Ring Posted Served
           pub post-asks : (id : ℕ) (table' : TableId) (me' : It) → table' ≡ table → me' ≡ (me.0, (place, b) ∷ rest me.1) → is_open (done_by now).state ≡ true → form.MayPost now.table.slots (done_by now).posted word b
               → (table' ≡ ring) × (place < ring.words) × Allows (IsRuled form key.0 key.1) ring.slots id me' place (λ _. word) (λ _. posts form (step ring.slots place word 0 none) me' word)
           post-asks id table' me' t m opened may = (
-            t ∙ own,
-            within place (below place (length d.posted) (filled place at)),
-            allow-at (λ n z r z'. posts form (step n place word 0 none) z word z') id place (λ _. word) (Driver es, (place, b) ∷ rest me.1) me'
+            t ∙ stands.own,
+            standing.within stands place (below place (length d.posted) (filled place at)),
+            standing.allow-at stands form (λ n z r z'. posts form (step n place word 0 none) z word z') id place (λ _. word) (Driver es, (place, b) ∷ rest me.1) me'
                 (m ∙ ap (λ (v : View (DriverEvent D) (ControllerEvent C)). let x : It = (v, (place, b) ∷ rest me.1) in x) view-is)
                 (driver-give form size mode es id (rest me.1) (posts form) place word place b (driver.Posted place word b)
                 (λ q cs words homes pos l. let a = inv.law.allowed size mode q es cs words homes pos l in let f = a.driver in
@@ -184,40 +163,40 @@ module _ {Ring Posted Served Given D C : Type 0} (form : Form Ring Posted Served
           post-steps table' me' me'' t put stored = one-more (driver.Posted place word b) table' me'' (rest me.1) t (post-seat me' me'' put stored)
 
         -- A2, B2
-        pub publish-asks : (id t : ℕ) → t ≡ length (done_by now).posted % now.table.slots → is_open (done_by now).state ≡ true → form.MayPublish (done_by now).posted → Asks (publishes form) id (size + 1) t
-        publish-asks id t at opened may = store-asks (publishes form) id (size + 1) t (low (size + 1) (omega arith)) (driver-store form size mode es id its (publishes form) (size + 1) t (driver.Published t)
+        pub publish-asks : (id t : ℕ) → t ≡ length (done_by now).posted % now.table.slots → is_open (done_by now).state ≡ true → form.MayPublish (done_by now).posted → Asks form table ring key me (publishes form) id (size + 1) t
+        publish-asks id t at opened may = standing.store-asks stands form (publishes form) id (size + 1) t (standing.low size mode (size + 1) (omega arith)) (driver-store form size mode es id its (publishes form) (size + 1) t (driver.Published t)
             (λ q cs words homes pos l. let a = inv.law.allowed size mode q es cs words homes pos l in let f = a.driver in
             f.publish t (filled t at) (sym (words-are (λ x n. is_open x.state)) ∙ opened) (here (λ n m xs. form.MayPublish (driving form xs).posted) may)) (record { seat = refl; names = refl }))
 
         -- C1
-        pub ask_enable-asks : (id : ℕ) → is_new (done_by now).state ≡ true → Asks (asks_enable form) id (size + 2) 1
-        ask_enable-asks id new = store-asks (asks_enable form) id (size + 2) 1 (low (size + 2) (omega arith)) (driver-store form size mode es id its (asks_enable form) (size + 2) 1 driver.AskedEnable
+        pub ask_enable-asks : (id : ℕ) → is_new (done_by now).state ≡ true → Asks form table ring key me (asks_enable form) id (size + 2) 1
+        ask_enable-asks id new = standing.store-asks stands form (asks_enable form) id (size + 2) 1 (standing.low size mode (size + 2) (omega arith)) (driver-store form size mode es id its (asks_enable form) (size + 2) 1 driver.AskedEnable
             (λ q cs words homes pos l. let a = inv.law.allowed size mode q es cs words homes pos l in let f = a.driver in f.ask_enable (sym (words-are (λ x n. is_new x.state)) ∙ new)) (record { seat = refl; names = refl }))
 
         -- C4
-        pub control-asks : (id : ℕ) → LoadAsks (LoadsControl form) id (size + 2)
-        control-asks id = load-asks (LoadsControl form) id (size + 2) (low (size + 2) (omega arith)) (driver-load form size mode es id its (LoadsControl form) (size + 2) driver.LoadedControl (λ r. r ≤ 3)
+        pub control-asks : (id : ℕ) → LoadAsks form table ring key me (LoadsControl form) id (size + 2)
+        control-asks id = standing.load-asks stands form (LoadsControl form) id (size + 2) (standing.low size mode (size + 2) (omega arith)) (driver-load form size mode es id its (LoadsControl form) (size + 2) driver.LoadedControl (λ r. r ≤ 3)
             (λ q cs words homes pos l. let a = inv.law.allowed size mode q es cs words homes pos l in let f = a.driver in f.control) (λ r v. record { adds = record { seat = refl; names = refl }; value = v }))
 
         -- C5
-        pub ask_disable-asks : (id : ℕ) → is_on (done_by now).state ≡ true → Asks (asks_disable form) id (size + 2) 3
-        ask_disable-asks id on = store-asks (asks_disable form) id (size + 2) 3 (low (size + 2) (omega arith)) (driver-store form size mode es id its (asks_disable form) (size + 2) 3 driver.AskedDisable
+        pub ask_disable-asks : (id : ℕ) → is_on (done_by now).state ≡ true → Asks form table ring key me (asks_disable form) id (size + 2) 3
+        ask_disable-asks id on = standing.store-asks stands form (asks_disable form) id (size + 2) 3 (standing.low size mode (size + 2) (omega arith)) (driver-store form size mode es id its (asks_disable form) (size + 2) 3 driver.AskedDisable
             (λ q cs words homes pos l. let a = inv.law.allowed size mode q es cs words homes pos l in let f = a.driver in f.ask_disable (sym (words-are (λ x n. is_on x.state)) ∙ on)) (record { seat = refl; names = refl }))
 
         -- the load of the head
-        pub head-asks : (id : ℕ) → is_stopped (done_by now).state ≡ true → LoadAsks (LoadsHead form) id size
-        head-asks id stopped = load-asks (LoadsHead form) id size (low size (omega arith)) (driver-load form size mode es id its (LoadsHead form) size driver.LoadedHead (λ r. r < size)
+        pub head-asks : (id : ℕ) → is_stopped (done_by now).state ≡ true → LoadAsks form table ring key me (LoadsHead form) id size
+        head-asks id stopped = standing.load-asks stands form (LoadsHead form) id size (standing.low size mode size (omega arith)) (driver-load form size mode es id its (LoadsHead form) size driver.LoadedHead (λ r. r < size)
             (λ q cs words homes pos l. let a = inv.law.allowed size mode q es cs words homes pos l in let f = a.driver in f.head (sym (words-are (λ x n. is_stopped x.state)) ∙ stopped)) (λ r v. record { adds = record { seat = refl; names = refl }; below = v }))
 
         -- C9
-        pub clear_head-asks : (id : ℕ) → is_stopped (done_by now).state ≡ true → length (done_by now).given + (done_by now).reclaimed ≡ length (done_by now).posted → Asks (clears_head form) id size 0
-        clear_head-asks id stopped back = store-asks (clears_head form) id size 0 (low size (omega arith)) (driver-store form size mode es id its (clears_head form) size 0 driver.ClearedHead
+        pub clear_head-asks : (id : ℕ) → is_stopped (done_by now).state ≡ true → length (done_by now).given + (done_by now).reclaimed ≡ length (done_by now).posted → Asks form table ring key me (clears_head form) id size 0
+        clear_head-asks id stopped back = standing.store-asks stands form (clears_head form) id size 0 (standing.low size mode size (omega arith)) (driver-store form size mode es id its (clears_head form) size 0 driver.ClearedHead
             (λ q cs words homes pos l. let a = inv.law.allowed size mode q es cs words homes pos l in let f = a.driver in f.clear_head (sym (words-are (λ x n. is_stopped x.state)) ∙ stopped)
             (sym (words-are (λ x n. length x.given + x.reclaimed)) ∙ back ∙ words-are (λ x n. length x.posted))) (record { seat = refl; names = refl }))
 
         -- C10
-        pub clear_tail-asks : (id : ℕ) → form.MayClearTail now.completion → is_cleared (done_by now).state ≡ true → Asks (clears_tail form) id (size + 1) 0
-        clear_tail-asks id may cleared = store-asks (clears_tail form) id (size + 1) 0 (low (size + 1) (omega arith)) (driver-store form size mode es id its (clears_tail form) (size + 1) 0 driver.ClearedTail
+        pub clear_tail-asks : (id : ℕ) → form.MayClearTail now.completion → is_cleared (done_by now).state ≡ true → Asks form table ring key me (clears_tail form) id (size + 1) 0
+        clear_tail-asks id may cleared = standing.store-asks stands form (clears_tail form) id (size + 1) 0 (standing.low size mode (size + 1) (omega arith)) (driver-store form size mode es id its (clears_tail form) (size + 1) 0 driver.ClearedTail
             (λ q cs words homes pos l. let a = inv.law.allowed size mode q es cs words homes pos l in let f = a.driver in f.clear_tail (here (λ n m xs. form.MayClearTail m) may) (sym (words-are (λ x n. is_cleared x.state)) ∙ cleared)) (record { seat = refl; names = refl }))
 
         -- Steps of one direction's own
@@ -227,8 +206,8 @@ module _ {Ring Posted Served Given D C : Type 0} (form : Form Ring Posted Served
             load-may : MayLoad form event tells size mode (driver_part me.0) word
             load-may = here (λ n m xs. MayLoad form event tells n m xs word) may
 
-            pub load_own-asks : (id : ℕ) → LoadAsks (DriverDoes form event tells) id word
-            load_own-asks id = let m = load-may in load-asks (DriverDoes form event tells) id word m.word_is
+            pub load_own-asks : (id : ℕ) → LoadAsks form table ring key me (DriverDoes form event tells) id word
+            load_own-asks id = let m = load-may in standing.load-asks stands form (DriverDoes form event tells) id word m.word_is
                 (driver-load form size mode es id its (DriverDoes form event tells) word (λ r. event size es word r blank) (λ r. tells size es word r blank) m.goes (λ r t. record { adds = record { seat = refl; names = m.names r }; told = t }))
 
             module _ (r : ℕ) (me' : It) (told : DriverDoes form event tells (step ring.slots word 0 0 none) me r me') where
@@ -280,8 +259,8 @@ module _ {Ring Posted Served Given D C : Type 0} (form : Form Ring Posted Served
               clear-may : MayClear form event tells size mode (driver_part me.0) place
               clear-may = here (λ n m xs. MayClear form event tells n m xs place) may
 
-              pub clear_own-asks : (id : ℕ) → Asks (DriverTakes form event tells) id place 0
-              clear_own-asks id = let m = clear-may in store-asks (DriverTakes form event tells) id place 0 (below place (length d.given + d.reclaimed) (next-is place at))
+              pub clear_own-asks : (id : ℕ) → Asks form table ring key me (DriverTakes form event tells) id place 0
+              clear_own-asks id = let m = clear-may in standing.store-asks stands form (DriverTakes form event tells) id place 0 (below place (length d.given + d.reclaimed) (next-is place at))
                   (driver-clear form size mode es id its (DriverTakes form event tells) place (λ b. event size es place 0 b) (λ b. tells size es place 0 b)
                   (λ q cs words homes pos l. let o = m.goes q cs words homes pos l in (o.buf, o.home, o.told, o.agrees)) (λ b t. record { buf = b; adds = record { seat = refl; names = m.names b }; told = t }))
 
@@ -300,8 +279,8 @@ module _ {Ring Posted Served Given D C : Type 0} (form : Form Ring Posted Served
               take-may : MayTake form event tells size mode (driver_part me.0) missed done place
               take-may = here (λ n m xs. MayTake form event tells n m xs missed done place) may
 
-              pub take_own-asks : (id : ℕ) → LoadAsks (DriverFinds form event tells missed done) id place
-              take_own-asks id = let m = take-may in load-asks (DriverFinds form event tells missed done) id place (below place (length d.given + d.reclaimed) (next-is place at))
+              pub take_own-asks : (id : ℕ) → LoadAsks form table ring key me (DriverFinds form event tells missed done) id place
+              take_own-asks id = let m = take-may in standing.load-asks stands form (DriverFinds form event tells missed done) id place (below place (length d.given + d.reclaimed) (next-is place at))
                   (driver-find form size mode es id its (DriverFinds form event tells missed done) place done (missed place) (λ r b. event size es place r b) (λ r b. tells size es place r b)
                   m.undone (λ q cs words homes pos l f. let o = m.goes q cs words homes pos l f in (o.buf, o.home, o.told, o.agrees))
                   (λ r f. record { undone = λ e. record { seat = refl; names = m.names_missed r }; taken = λ e. absurd (false≢true (sym f ∙ e)) })
@@ -326,8 +305,8 @@ module _ {Ring Posted Served Given D C : Type 0} (form : Form Ring Posted Served
             end-may : MayEnd form event size mode (driver_part me.0) word
             end-may = here (λ n m xs. MayEnd form event n m xs word) may
 
-            pub end_own-asks : (id : ℕ) → Asks (driver_ends form event) id word 0
-            end_own-asks id = let m = end-may in store-asks (driver_ends form event) id word 0 m.word_is (driver-store form size mode es id its (driver_ends form event) word 0 (event size es word 0 blank) m.goes (record { seat = refl; names = m.names }))
+            pub end_own-asks : (id : ℕ) → Asks form table ring key me (driver_ends form event) id word 0
+            end_own-asks id = let m = end-may in standing.store-asks stands form (driver_ends form event) id word 0 m.word_is (driver-store form size mode es id its (driver_ends form event) word 0 (event size es word 0 blank) m.goes (record { seat = refl; names = m.names }))
 
             module _ (me1 : It) (ends : me1 ≡ (driver_does me (event ring.slots es word 0 blank), me.1)) where
               end-seat : me1 ≡ (driver_does me (event size es word 0 blank), me.1)

@@ -1,6 +1,7 @@
 -- A seat at a ring's table: what the table asks of a step, over what the seat keeps.
-use Rattle.std.proofs.Common.{◌≡◌, ℕ, ◌+◌, ◌<◌, ◌≤◌, List, ◌∷◌, sym, refl, ap, ◌∙◌, subst, arith}
-use Rattle.atomic_table.specs.Table.{Allows, rest}
+use Rattle.std.proofs.Common.{◌≡◌, ℕ, ◌+◌, ◌%◌, ◌<◌, ◌≤◌, List, ◌∷◌, sym, refl, ap, ◌∙◌, subst, arith, mod-lt}
+use mathlib.Core.Option.{none}
+use Rattle.atomic_table.specs.Table.{Allows, Step, rest, step}
 use Rattle.atomic_table.specs.Seated.{TableId}
 use Rattle.buffer_pool.specs.Buffer.{Buffer}
 use Rattle.ring_model.specs.declared.states.Completion.{Completion}
@@ -23,6 +24,10 @@ pub words-big : (n : ℕ) (mode : Completion) → n + 4 ≤ words_of n mode
 words-big n Status = omega arith
 words-big n Head = omega arith
 
+-- a place's word is one of the table's
+pub below : (n : ℕ) (mode : Completion) (place i : ℕ) → 8 ≤ n → place ≡ i % n → place < words_of n mode
+below n mode place i big e = let w = words-big n mode in let m : i % n < n = mod-lt i (omega arith) in omega arith
+
 pub low : (n : ℕ) (mode : Completion) (i : ℕ) → i < n + 4 → i < words_of n mode
 low n mode i h = let w = words-big n mode in omega arith
 
@@ -30,27 +35,49 @@ low n mode i h = let w = words-big n mode in omega arith
 pub front-is : (xs ys : List (ℕ × Buffer)) (x : ℕ × Buffer) → xs ≡ x ∷ ys → xs ≡ x ∷ rest xs
 front-is xs ys x e = subst (λ (zs : List (ℕ × Buffer)). zs ≡ x ∷ rest zs) (sym e) refl
 
--- the table of the ring is that of the seat
-module _ {Ring Posted Served Given D C : Type 0} (form : Form Ring Posted Served Given D C) (table : TableId) (size : ℕ) (mode : Completion) (size_is : table.slots ≡ size) (words : table.words ≡ words_of size mode)
-    (ring : TableId) (key : ℕ × Completion) (ruled : IsTableOf ring key.0 key.1) (own : table ≡ ring) where
+-- what the ring's table asks of a store and of a load that a seat makes
+module _ {Ring Posted Served Given D C : Type 0} (form : Form Ring Posted Served Given D C) (table ring : TableId) (key : ℕ × Completion) (me : Seated (DriverEvent D) (ControllerEvent C)) where
+  abbrev pub Asks : (Step Buffer → Seated (DriverEvent D) (ControllerEvent C) → ℕ → Seated (DriverEvent D) (ControllerEvent C) → Type 0) → ℕ → ℕ → ℕ → Type 0
+  Asks T id i v = (table ≡ ring) × (i < ring.words) × Allows (IsRuled form key.0 key.1) ring.slots id me i (λ _. v) (λ _. T (step ring.slots i v 0 none) me v)
+
+  abbrev pub LoadAsks : (Step Buffer → Seated (DriverEvent D) (ControllerEvent C) → ℕ → Seated (DriverEvent D) (ControllerEvent C) → Type 0) → ℕ → ℕ → Type 0
+  LoadAsks T id i = (table ≡ ring) × (i < ring.words) × Allows (IsRuled form key.0 key.1) ring.slots id me i (λ r. r) (T (step ring.slots i 0 0 none) me)
+
+-- A seat at a ring's table: the table is the ring's, and the seat is `it`
+pub record StandsAt {D C : Type 0} (table : TableId) (size : ℕ) (mode : Completion) (ring : TableId) (key : ℕ × Completion) (me it : Seated (DriverEvent D) (ControllerEvent C)) : Type 0 where
+  pub size_is : table.slots ≡ size
+  pub words : table.words ≡ words_of size mode
+  pub ruled : IsTableOf ring key.0 key.1
+  pub own : table ≡ ring
+  pub me_is : me ≡ it
+
+module _ {D C : Type 0} {table : TableId} {size : ℕ} {mode : Completion} {ring : TableId} {key : ℕ × Completion} {me it : Seated (DriverEvent D) (ControllerEvent C)} (at : StandsAt table size mode ring key me it) where
   abbrev It : Type 0
   It = Seated (DriverEvent D) (ControllerEvent C)
 
   pub counts : ring.slots ≡ size
-  counts = ap (λ (z : TableId). z.slots) (sym own) ∙ size_is
+  counts = ap (λ (z : TableId). z.slots) (sym at.own) ∙ at.size_is
 
   key-is : key.0 ≡ size
-  key-is = sym ruled.slots ∙ counts
+  key-is = let r = at.ruled in sym r.slots ∙ counts
 
   mode-is : key.1 ≡ mode
-  mode-is = same-words size key.1 mode (ap (λ (n : ℕ). words_of n key.1) (sym key-is) ∙ sym ruled.words ∙ ap (λ (z : TableId). z.words) (sym own) ∙ words)
+  mode-is = let r = at.ruled in same-words size key.1 mode (ap (λ (n : ℕ). words_of n key.1) (sym key-is) ∙ sym r.words ∙ ap (λ (z : TableId). z.words) (sym at.own) ∙ at.words)
 
   pub within : (i : ℕ) → i < words_of size mode → i < ring.words
-  within i h = let b : ring.words ≡ words_of size mode = ap (λ (z : TableId). z.words) (sym own) ∙ words in omega arith
+  within i h = let b : ring.words ≡ words_of size mode = ap (λ (z : TableId). z.words) (sym at.own) ∙ at.words in omega arith
 
-  pub allow-at : (T : ℕ → It → ℕ → It → Type 0) (id i : ℕ) (f : ℕ → ℕ) (m m' : It) → m' ≡ m → Allows (IsRuled form size mode) size id m i f (T size m) → Allows (IsRuled form key.0 key.1) ring.slots id m' i f (T ring.slots m')
-  allow-at T id i f m m' e a =
-      subst (λ (x : ℕ). Allows (IsRuled form x key.1) ring.slots id m' i f (T ring.slots m')) (sym key-is)
-      (subst (λ (x : Completion). Allows (IsRuled form size x) ring.slots id m' i f (T ring.slots m')) (sym mode-is)
-      (subst (λ (x : ℕ). Allows (IsRuled form size mode) x id m' i f (T x m')) (sym counts)
-      (subst (λ (x : It). Allows (IsRuled form size mode) size id x i f (T size x)) (sym e) a)))
+  module _ {Ring Posted Served Given : Type 0} (form : Form Ring Posted Served Given D C) where
+    pub allow-at : (T : ℕ → It → ℕ → It → Type 0) (id i : ℕ) (f : ℕ → ℕ) (m m' : It) → m' ≡ m → Allows (IsRuled form size mode) size id m i f (T size m) → Allows (IsRuled form key.0 key.1) ring.slots id m' i f (T ring.slots m')
+    allow-at T id i f m m' e a =
+        subst (λ (x : ℕ). Allows (IsRuled form x key.1) ring.slots id m' i f (T ring.slots m')) (sym key-is)
+        (subst (λ (x : Completion). Allows (IsRuled form size x) ring.slots id m' i f (T ring.slots m')) (sym mode-is)
+        (subst (λ (x : ℕ). Allows (IsRuled form size mode) x id m' i f (T x m')) (sym counts)
+        (subst (λ (x : It). Allows (IsRuled form size mode) size id x i f (T size x)) (sym e) a)))
+
+    -- what a store and a load ask
+    pub store-asks : (T : Step Buffer → It → ℕ → It → Type 0) (id i v : ℕ) → i < words_of size mode → Allows (IsRuled form size mode) size id it i (λ _. v) (λ _ m. T (step size i v 0 none) it v m) → Asks form table ring key me T id i v
+    store-asks T id i v h a = (at.own, within i h, allow-at (λ n m r m'. T (step n i v 0 none) m v m') id i (λ _. v) it me at.me_is a)
+
+    pub load-asks : (T : Step Buffer → It → ℕ → It → Type 0) (id i : ℕ) → i < words_of size mode → Allows (IsRuled form size mode) size id it i (λ r. r) (T (step size i 0 0 none) it) → LoadAsks form table ring key me T id i
+    load-asks T id i h a = (at.own, within i h, allow-at (λ n m r m'. T (step n i 0 0 none) m r m') id i (λ r. r) it me at.me_is a)
