@@ -1,9 +1,10 @@
 -- Buffers of a stopped flow on their way to the pool.
-use Rattle.std.proofs.Common.{◌≡◌, ℕ, ◌+◌, List, [], ◌∷◌, ◌++◌, length, subst, arith, IsPermutation, refl}
+use Rattle.std.proofs.Common.{◌≡◌, ℕ, List, [], ◌∷◌, ◌++◌, Option, None, subst, arith, IsPermutation, refl}
 use Rattle.std.proofs.lemmas.List.Sorted.{length_permutation}
-use Rattle.pool.specs.Hands.{total}
+use Rattle.buffer_pool.specs.Buffer.{Buffer}
 use Rattle.pool.proofs.Totals.{total-append}
 use Rattle.pool.proofs.Moving.{total-shuffled}
+use Rattle.shared_ring.specs.Meeting.{number_at}
 use Rattle.flows.specs.Holding.{HoldsJust}
 use Rattle.lending.proofs.Giving.{shuffled}
 
@@ -23,16 +24,18 @@ at-hand-first held stash out_rx chain packets out_tx just = shuffled held ((stas
   total-append h out_rx out_tx,
 ))
 
--- what was out in a ring is what lay in its places
-pub places-first : (held out others places : List ℕ) → IsPermutation held (out ++ others) → IsPermutation out (places ++ []) → IsPermutation held (places ++ others)
-places-first held out others places all came = shuffled held (places ++ others) (λ h. omega (
-  arith,
-  total-shuffled h held (out ++ others) all,
-  total-shuffled h out (places ++ []) came,
-  total-append h out others,
-  total-append h places [],
-  total-append h places others,
-))
+-- what was out in a ring is what lay in its places, where none is held beside them
+pub places-first : (held out others places : List ℕ) (o : Option Buffer) → o ≡ None → IsPermutation held (out ++ others) → IsPermutation out (places ++ number_at o)
+    → IsPermutation held (places ++ others)
+places-first held out others places o none all came = let once : IsPermutation out (places ++ []) = subst (λ (o : Option Buffer). IsPermutation out (places ++ number_at o)) none came in
+    shuffled held (places ++ others) (λ h. omega (
+      arith,
+      total-shuffled h held (out ++ others) all,
+      total-shuffled h out (places ++ []) once,
+      total-append h out others,
+      total-append h places [],
+      total-append h places others,
+    ))
 
 pub holds-none : (held : List ℕ) → IsPermutation held [] → held ≡ []
 holds-none [] p = refl
