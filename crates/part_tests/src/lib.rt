@@ -3,14 +3,4 @@
 #![tactic(auto)]
 
 #[cfg(test)]
-mod buffers;
-#[cfg(test)]
-mod counting;
-#[cfg(test)]
-mod descriptors;
-#[cfg(test)]
-mod pools;
-#[cfg(test)]
-mod texts;
-#[cfg(test)]
-mod wanted;
+mod tests;

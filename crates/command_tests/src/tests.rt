@@ -1,0 +1,19 @@
+//! TODO
+
+mod decode_tests;
+mod forward;
+mod lists;
+mod object_rows;
+mod once_tests;
+mod picture_rows;
+mod register_rows;
+mod replay_rows;
+mod replay_tests;
+mod runs;
+mod schedules_tests;
+mod search;
+mod stream_tests;
+mod streams;
+mod told;
+mod wanted;
+mod words_tests;

@@ -1,0 +1,7 @@
+//! TODO
+
+mod controllers;
+mod drivers;
+mod teamed;
+mod threads;
+mod wanted;

@@ -1,5 +1,0 @@
-use Rattle.pool.specs.Owned.{IsOf}
-use Rattle.part_tests.proofs.pools.drained.Given as goal
-
-abbrev pub invariant-loop-turn : goal.invariant-loop-turn
-invariant-loop-turn g l = IsOf l.pool l.pass

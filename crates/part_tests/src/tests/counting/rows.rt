@@ -1,0 +1,124 @@
+//! What is written is read, numbers that can't stand together are told, and memory may be refused.
+ghost use Rattle.std.specs.Prelude.{◌≡◌};
+ghost use Rattle.moments.specs.Moments.{NoneFalls};
+
+use crate::tests::wanted::holds;
+use counters::{
+    ByteCell, Bytes, CounterError, Driven, FlowCells, Moment, MomentCell, MomentPass, Offered,
+};
+use std::alloc::Global;
+use std::fmt::Debug;
+use std::process::Abort;
+use std::sync::Wait;
+
+/// The next read of this pass shows these numbers.
+pub fn shows<R: Abort + Wait, T: Moment<N> + PartialEq + Debug, const N: usize>(
+    rt: &R,
+    cell: &MomentCell<T, N>,
+    pass: &mut MomentPass<T>,
+    numbers: T,
+)
+    requires own { pass.old.cell ≡ cell.now }
+    ensures own { pass.new.cell ≡ pass.old.cell }
+{
+    assert_eq!(rt; cell.read(rt, pass), numbers);
+}
+
+/// A pass shows the opening first, and then what is written, as one does that is told afterwards.
+fn what_is_written_is_read<R: Abort + Wait, T: Moment<N> + PartialEq + Debug, const N: usize>(
+    rt: &R,
+    alloc: Global,
+    numbers: T,
+)
+    requires lawful { T.lawful numbers }
+    requires none_falls { NoneFalls (T.words T.opening) (T.words numbers) }
+{
+    let (cell, mut pen, mut told_before) = MomentCell::<T, N>::new(alloc).expect(rt, "a cell");
+    shows(rt, &cell, &mut told_before, T::opening());
+    cell.write(rt, &mut pen, numbers);
+    let mut told_after = pen.pass();
+    shows(rt, &cell, &mut told_after, numbers);
+    shows(rt, &cell, &mut told_before, numbers);
+}
+
+#[test]
+fn what_was_offered_is_read(rt: HostRuntime) {
+    let numbers = Offered {
+        offered: 8,
+        stored: 7,
+        dropped: 1,
+        oversize: 0,
+    };
+    what_is_written_is_read::<HostRuntime, Offered, 4>(&rt, rt.alloc(), numbers);
+}
+
+#[test]
+fn what_was_driven_is_read(rt: HostRuntime) {
+    let numbers = Driven {
+        taken: 8,
+        posted: 7,
+        tx_dropped: 0,
+    };
+    what_is_written_is_read::<HostRuntime, Driven, 3>(&rt, rt.alloc(), numbers);
+}
+
+#[test]
+fn frames_and_bytes_are_read(rt: HostRuntime) {
+    let numbers = Bytes {
+        frames: 2,
+        bytes: 15_014,
+    };
+    what_is_written_is_read::<HostRuntime, Bytes, 2>(&rt, rt.alloc(), numbers);
+}
+
+fn can_be(frames: u64, bytes: u64) -> bool {
+    Bytes { frames, bytes }.is_lawful()
+}
+
+fn adds_up(offered: u64, stored: u64, dropped: u64, oversize: u64) -> bool {
+    Offered {
+        offered,
+        stored,
+        dropped,
+        oversize,
+    }
+    .is_lawful()
+}
+
+fn was_taken(taken: u64, posted: u64, tx_dropped: u64) -> bool {
+    Driven {
+        taken,
+        posted,
+        tx_dropped,
+    }
+    .is_lawful()
+}
+
+#[test]
+fn numbers_that_fit_are_told(rt: HostRuntime) {
+    holds(&rt, can_be(0, 0) && can_be(2, 28) && can_be(2, 30_000));
+    holds(&rt, !can_be(0, 1) && !can_be(2, 27) && !can_be(2, 30_001));
+    holds(&rt, !can_be(u64::MAX, u64::MAX));
+    holds(
+        &rt,
+        adds_up(8, 7, 1, 0) && !adds_up(8, 7, 0, 0) && !adds_up(0, u64::MAX, 1, 0),
+    );
+    holds(&rt, was_taken(8, 7, 1) && was_taken(8, 0, 0));
+    holds(&rt, !was_taken(8, 7, 2) && !was_taken(0, 0, 1));
+}
+
+fn is_of_memory(refused: CounterError) -> bool {
+    refused == CounterError::Memory && refused.number() == 61
+}
+
+// With any one allocation refused, as `rt try --test --fail-alloc N` does, this passes too.
+#[test]
+fn want_of_memory(rt: HostRuntime) {
+    match FlowCells::of(rt.alloc(), 2) {
+        Ok((cells, pens)) => holds(&rt, cells.len() == 2 && pens.len() == 2),
+        Err(refused) => holds(&rt, is_of_memory(refused)),
+    }
+    if let Err(refused) = ByteCell::new(rt.alloc()) {
+        holds(&rt, is_of_memory(refused));
+    }
+}

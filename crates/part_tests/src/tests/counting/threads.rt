@@ -1,0 +1,89 @@
+//! One thread writes and two read: no number falls, and each read adds up.
+ghost use Rattle.std.specs.Prelude.{◌≡◌, ◌*◌, ◌≤◌};
+ghost use Rattle.counters.specs.Kinds.{none_offered};
+
+use crate::tests::counting::rows::shows;
+use crate::tests::wanted::holds;
+use counters::{Moment, Offered, StatCell, StatPass, StatPen};
+use std::sync::Wait;
+use std::thread;
+use std::thread::Threads;
+
+/// How often the writing thread writes, and how often a reading thread reads at most.
+const WRITES: u64 = 100_000;
+
+const _: () = prove!(WRITES == 100_000);
+
+/// The numbers after so many writes.
+fn row(writes: u64) -> Offered
+    requires { writes ≤ WRITES }
+    ensures { result ≡ record { offered = 6 * writes; stored = 3 * writes; dropped = 2 * writes; oversize = writes } }
+{
+    Offered {
+        offered: 6 * writes,
+        stored: 3 * writes,
+        dropped: 2 * writes,
+        oversize: writes,
+    }
+}
+
+fn write_all<R: Wait>(rt: &R, cell: &StatCell, mut pen: StatPen) -> StatPen
+    requires own { pen.cell ≡ cell.now }
+    requires opening { pen.last ≡ none_offered }
+    ensures own { result.cell ≡ cell.now }
+{
+    for writes in 0..WRITES {
+        cell.write(rt, &mut pen, row(writes + 1));
+    }
+    pen
+}
+
+/// Whether each moment that was read is one that was written or the opening, and none is older than
+/// the one before.
+fn read_all<R: Wait>(rt: &R, cell: &StatCell, mut pass: StatPass) -> bool
+    requires own { pass.cell ≡ cell.now }
+{
+    let mut last = 0;
+    for _ in 0..WRITES {
+        let now = cell.read(rt, &mut pass);
+        let writes = now.oversize;
+        if writes < last || writes > WRITES || now != row(writes) || !now.is_lawful() {
+            return false;
+        }
+        last = writes;
+    }
+    true
+}
+
+fn read_in_two<R: Threads + Wait + Sync>(
+    rt: &R,
+    cell: &StatCell,
+    first: StatPass,
+    second: StatPass,
+) -> bool
+    requires first { first.cell ≡ cell.now }
+    requires second { second.cell ≡ cell.now }
+{
+    let (first, second) = thread::join(
+        rt,
+        || read_all(rt, cell, first),
+        || read_all(rt, cell, second),
+    );
+    first && second
+}
+
+#[test]
+fn no_number_falls_and_each_read_adds_up(rt: HostRuntime) {
+    let (cell, mut pen, mut first) = StatCell::new(rt.alloc()).expect(&rt, "a cell");
+    let second = cell.split(&mut first);
+    let mut told_before = pen.pass();
+    let (mut pen, good) = thread::join(
+        &rt,
+        || write_all(&rt, &cell, pen),
+        || read_in_two(&rt, &cell, first, second),
+    );
+    holds(&rt, good);
+    let mut told_after = pen.pass();
+    shows(&rt, &cell, &mut told_after, row(WRITES));
+    shows(&rt, &cell, &mut told_before, row(WRITES));
+}

@@ -1,0 +1,8 @@
+//! TODO
+
+mod machine_tests;
+mod receive;
+mod steps;
+mod text_tests;
+mod transmit;
+mod wanted;
