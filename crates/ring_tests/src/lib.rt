@@ -3,14 +3,4 @@
 #![tactic(auto)]
 
 #[cfg(test)]
-mod machine_tests;
-#[cfg(test)]
-mod receive;
-#[cfg(test)]
-mod steps;
-#[cfg(test)]
-mod text_tests;
-#[cfg(test)]
-mod transmit;
-#[cfg(test)]
-mod wanted;
+mod tests;

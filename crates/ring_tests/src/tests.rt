@@ -1,4 +1,4 @@
-//! TODO
+//! The tests: `receive` and `transmit` of the running rings, the others of machines and their texts.
 
 mod machine_tests;
 mod receive;

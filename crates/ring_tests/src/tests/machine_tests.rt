@@ -1,6 +1,6 @@
 //! Rows of machines and queues: which are made, what each move prints, and who has a place after it.
 
-use crate::wanted::{holds, same};
+use crate::tests::wanted::{holds, same};
 use ring_machine::{
     Completion, MachineError, Move, Owner, QueueNumber, Queues, RxMachine, RxStep, TxMachine,
 };

@@ -1,7 +1,7 @@
 //! Rows of the texts of moves and notes: what each line means, which lines are refused, and the printed words.
 
-use crate::steps::{RxNamed, TxNamed, rx_step, tx_step};
-use crate::wanted::{holds, same};
+use crate::tests::steps::{RxNamed, TxNamed, rx_step, tx_step};
+use crate::tests::wanted::{holds, same};
 use ring_machine::{
     ControlStep, FetchedSegment, MachineError, Move, Note, QueueNumber, RxStep, SegmentDescriptor,
     SegmentLength, TakenSegment, TxStep,

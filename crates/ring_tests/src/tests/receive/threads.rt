@@ -4,7 +4,7 @@ ghost use Rattle.rx_ring.specs.Ends.{reclaimed};
 
 mod hands;
 
-use crate::wanted::{holds, same};
+use crate::tests::wanted::{holds, same};
 use buffer_pool::{Buf, Stash};
 use hands::{ask_for, fetch, fill_ring, left, receive, reclaim_all, renew, serve};
 use rx_ring::{Control, RxControllerEnd, RxDriverEnd, RxRing, close, meet_rx};

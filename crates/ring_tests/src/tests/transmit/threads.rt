@@ -3,7 +3,7 @@ ghost use Rattle.std.specs.Prelude.{◌≡◌};
 
 mod hands;
 
-use crate::wanted::{holds, same};
+use crate::tests::wanted::{holds, same};
 use buffer_pool::{Buf, Stash};
 use hands::{Passed, ask_for, drain, fetch, left, renew, serve, transmit};
 use std::alloc::Global;

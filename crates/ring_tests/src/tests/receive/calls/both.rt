@@ -8,7 +8,7 @@ ghost use Rattle.ring_model.specs.shared.Frames.{join, unfinished};
 ghost use Rattle.rx_ring.specs.Ends.{controller_size, held as held_by, reclaimed, stored};
 ghost use Rattle.ring_tests.specs.Holding.{held_as};
 
-use crate::steps::{RxNamed, rx_step};
+use crate::tests::steps::{RxNamed, rx_step};
 use buffer_pool::{Buf, Stash};
 use limits::{LEAST_FRAME, MOST_FRAME, MOST_SEGMENTS};
 use ring_machine::{RxMachine, SegmentLength};

@@ -1,8 +1,8 @@
 //! Worked rows of a receive ring, by calls.
 
-use crate::receive::calls::both::Both;
-use crate::steps::{RxNamed, rx_step};
-use crate::wanted::same;
+use crate::tests::receive::calls::both::Both;
+use crate::tests::steps::{RxNamed, rx_step};
+use crate::tests::wanted::same;
 use buffer_pool::Buf;
 use ring_model::{ControlStep, Note, RxStep, TakenSegment};
 use rx_ring::{ControllerEnd, DriverEnd, RingError, RxDriverEnd, RxRing};

@@ -1,8 +1,8 @@
 //! Schedules of a running ring by calls in one thread, beside the pure machine that makes the same moves.
 
-use crate::receive::calls::both::{Both, Step};
-use crate::steps::{RxNamed, rx_step};
-use crate::wanted::{holds, same};
+use crate::tests::receive::calls::both::{Both, Step};
+use crate::tests::steps::{RxNamed, rx_step};
+use crate::tests::wanted::{holds, same};
 use ring_model::{ControlStep, RxStep};
 use std::alloc::Global;
 use std::process::Abort;

@@ -1,7 +1,7 @@
 //! Rows by calls, on one thread, in both completions.
 
-use crate::transmit::calls::both::{Both, Step, unposting};
-use crate::wanted::same;
+use crate::tests::transmit::calls::both::{Both, Step, unposting};
+use crate::tests::wanted::same;
 use ring_machine::SegmentDescriptor;
 use ring_model::{FetchedSegment, Note, TxStep};
 use std::alloc::Global;

@@ -1,7 +1,7 @@
 //! Random schedules of a running ring by calls in one thread, beside the pure machine that makes the same moves.
 
-use crate::transmit::calls::both::Both;
-use crate::wanted::{holds, same};
+use crate::tests::transmit::calls::both::Both;
+use crate::tests::wanted::{holds, same};
 use std::alloc::Global;
 use std::process::Abort;
 use test_kit::{Random, Survey};

@@ -1,5 +1,5 @@
 use Rattle.std.proofs.Common.{◌≡◌}
-use Rattle.ring_tests.proofs.receive.threads.hands.serve.Given as goal
+use Rattle.ring_tests.proofs.tests.receive.threads.hands.serve.Given as goal
 
 abbrev pub invariant-loop-k : goal.invariant-loop-k
 invariant-loop-k g l = l.controller.table ≡ l.ring

@@ -3,7 +3,7 @@ use Rattle.ring_model.specs.shared.Segments.{piece_of}
 use Rattle.ring_model.specs.shared.Frames.{join}
 use Rattle.rx_ring.specs.Records.{RxControlled}
 use Rattle.test_kit.proofs.Begun.{begun_ends, begun_count, begun_bytes}
-use Rattle.ring_tests.proofs.receive.calls.both.Both.store.Goals as goal
+use Rattle.ring_tests.proofs.tests.receive.calls.both.Both.store.Goals as goal
 
 pub invariant_of-self-then-eop-clause-counts : goal.invariant_of-self-then-eop-clause-counts
 invariant_of-self-then-eop-clause-counts c = ap length (begun_ends piece_of _ _ _ (ap (λ (x : RxControlled). x.served) c.write_back.ensures.record) c.if-eop.true)
