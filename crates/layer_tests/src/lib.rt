@@ -3,12 +3,4 @@
 #![tactic(auto)]
 
 #[cfg(test)]
-mod controllers;
-#[cfg(test)]
-mod drivers;
-#[cfg(test)]
-mod teamed;
-#[cfg(test)]
-mod threads;
-#[cfg(test)]
-mod wanted;
+mod tests;

@@ -1,4 +1,4 @@
-//! TODO
+//! The tests, a folder for each layer.
 
 mod controllers;
 mod drivers;

@@ -1,7 +1,7 @@
 //! Wires that grow by many frames.
 ghost use Rattle.std.specs.Prelude.{◌≤◌};
 
-use crate::controllers::transmit::Transmit;
+use crate::tests::controllers::transmit::Transmit;
 use controller::{CtlError, Turn};
 
 /// How long frame `k` of a wire is.

@@ -1,7 +1,7 @@
 //! A receive queue whose driver the test plays.
 ghost use Rattle.std.specs.Prelude.{◌≡◌};
 
-use crate::controllers::told::{Bytes, Told, Walked};
+use crate::tests::controllers::told::{Bytes, Told, Walked};
 use buffer_pool::Stash;
 use controller::{RxController, Tally};
 use rx_ring::{Control, ControllerEnd, DriverEnd, Poll, RxDriverEnd, RxRing};

@@ -1,8 +1,8 @@
 //! Worked rows of a receive queue's controller.
 
-use crate::controllers::receive::{Receive, Step};
-use crate::controllers::told::{Told, Walked, add};
-use crate::wanted::same;
+use crate::tests::controllers::receive::{Receive, Step};
+use crate::tests::controllers::told::{Told, Walked, add};
+use crate::tests::wanted::same;
 use controller::{CtlError, Offer, is_fill_size};
 use std::alloc::Global;
 use std::process::Abort;

@@ -6,8 +6,8 @@ ghost use Rattle.ring_model.specs.transmit.Ring.{carried};
 ghost use Rattle.tx_ring.specs.Ends.{posted};
 ghost use Rattle.ring_tests.specs.Begun.{AreOfFrame};
 
-use crate::controllers::growing::{len_of, send, send_seldom_growing};
-use crate::controllers::told::{Bytes, Told, Walked};
+use crate::tests::controllers::growing::{len_of, send, send_seldom_growing};
+use crate::tests::controllers::told::{Bytes, Told, Walked};
 use buffer_pool::Stash;
 use controller::{CtlError, Turn, TxController, Wire};
 use limits::{LEAST_FRAME, MOST_FRAME, MOST_SEGMENTS};

@@ -1,8 +1,8 @@
 //! Worked rows of a transmit queue's controller, and of the wire.
 
-use crate::controllers::told::{Told, Walked, add};
-use crate::controllers::transmit::{Step, Transmit};
-use crate::wanted::same;
+use crate::tests::controllers::told::{Told, Walked, add};
+use crate::tests::controllers::transmit::{Step, Transmit};
+use crate::tests::wanted::same;
 use controller::Turn;
 use std::alloc::Global;
 use std::process::Abort;

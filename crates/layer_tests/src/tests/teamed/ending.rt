@@ -1,6 +1,6 @@
 //! How work of both teams ends.
-use crate::teamed::turns::{AllBut, ENDLESS, dealt, digits_of};
-use crate::wanted::{holds, same};
+use crate::tests::teamed::turns::{AllBut, ENDLESS, dealt, digits_of};
+use crate::tests::wanted::{holds, same};
 use forwarding::{ForwardError, Open};
 use teams::run_teams;
 

@@ -1,8 +1,8 @@
 //! The device's side with controllers: frames are offered, and what is sent goes onto a wire.
 ghost use Rattle.std.specs.Prelude.{◌≡◌};
 
-use crate::threads::frames::Frames;
-use crate::threads::side::{Epochs, Shared, Side};
+use crate::tests::threads::frames::Frames;
+use crate::tests::threads::side::{Epochs, Shared, Side};
 use controller::{Offer, RxController, Tally, Turn, TxController, Wire};
 use rx_ring::{Control, RxRing};
 use std::alloc::Global;

@@ -4,7 +4,7 @@ ghost use Rattle.buffer_pool.specs.Packed.{IsPacket};
 ghost use Rattle.driver.specs.receive.Receiver.{IsReady as IsReadyRx};
 ghost use Rattle.driver.specs.transmit.Transmitter.{IsReady as IsReadyTx};
 
-use crate::threads::side::{Shared, Side};
+use crate::tests::threads::side::{Shared, Side};
 use arrayvec::ArrayVec;
 use buffer_pool::{Packet, Stash};
 use driver::{MOST_BATCH, RxDriver, TxDriver};

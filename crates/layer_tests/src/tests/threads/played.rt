@@ -2,8 +2,8 @@
 //! and what is sent is compared with what was stored.
 ghost use Rattle.std.specs.Prelude.{◌≡◌};
 
-use crate::threads::frames::Frames;
-use crate::threads::side::{Epochs, Shared, Side};
+use crate::tests::threads::frames::Frames;
+use crate::tests::threads::side::{Epochs, Shared, Side};
 use descriptor::TxRead;
 use limits::{BUFFER_BYTES, MOST_SEGMENTS};
 use rx_ring::{ControllerEnd, RxRing};

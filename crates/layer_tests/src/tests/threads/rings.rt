@@ -2,8 +2,8 @@
 ghost use Rattle.rx_ring.specs.Meeting.{MadeSeats as MadeRx};
 ghost use Rattle.tx_ring.specs.Meeting.{MadeSeats as MadeTx};
 
-use crate::threads::frames::{Frames, Lens};
-use crate::threads::side::Shared;
+use crate::tests::threads::frames::{Frames, Lens};
+use crate::tests::threads::side::Shared;
 use rx_ring::{RxControllerEnd, RxDriverEnd, RxRing};
 use std::alloc::Global;
 use std::process::Abort;

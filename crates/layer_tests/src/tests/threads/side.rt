@@ -1,6 +1,6 @@
 //! Two sides of two rings, each in a thread.
 
-use crate::threads::frames::Frames;
+use crate::tests::threads::frames::Frames;
 use rx_ring::RxRing;
 use std::sync::Wait;
 use std::thread;
@@ -21,7 +21,7 @@ const TRIES: u32 = 10_000;
 
 /// What one thread does with its ends of both rings.
 pub(crate) trait Side {
-    ghost use Rattle.layer_tests.specs.declared.threads.side.Shared.{Shared};
+    ghost use Rattle.layer_tests.specs.declared.tests.threads.side.Shared.{Shared};
 
     /// Its ends are of these rings.
     ghost is_of: { Shared → Self → Type 0 };

@@ -3,12 +3,12 @@ ghost use Rattle.std.specs.Prelude.{◌≡◌, ◌<◌, ◌≤◌, ◌⊎◌};
 ghost use Rattle.controller.specs.Receiving.{IsIdle as IsIdleRx};
 ghost use Rattle.controller.specs.Transmitting.{IsIdle as IsIdleTx};
 
-use crate::threads::device::{Device, Offering, Wiring};
-use crate::threads::forwarder::{Ends, Forwarder, Plan};
-use crate::threads::frames::{Frames, Lens};
-use crate::threads::rings::Rings;
-use crate::threads::side::{Shared, run_both};
-use crate::wanted::holds;
+use crate::tests::threads::device::{Device, Offering, Wiring};
+use crate::tests::threads::forwarder::{Ends, Forwarder, Plan};
+use crate::tests::threads::frames::{Frames, Lens};
+use crate::tests::threads::rings::Rings;
+use crate::tests::threads::side::{Shared, run_both};
+use crate::tests::wanted::holds;
 use buffer_pool::Stash;
 use controller::{RxController, Tally, TxController, Wire};
 use rx_ring::{ControllerEnd, RxControllerEnd};

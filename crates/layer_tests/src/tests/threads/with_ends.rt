@@ -1,12 +1,12 @@
 //! Drivers beside a device that is played with the rings' own ends.
 ghost use Rattle.std.specs.Prelude.{◌≡◌, ◌<◌, ◌≤◌};
 
-use crate::threads::forwarder::{Ends, Forwarder, Plan};
-use crate::threads::frames::Lens;
-use crate::threads::played::{Hearing, Played, Storing};
-use crate::threads::rings::Rings;
-use crate::threads::side::{Shared, run_both};
-use crate::wanted::same;
+use crate::tests::threads::forwarder::{Ends, Forwarder, Plan};
+use crate::tests::threads::frames::Lens;
+use crate::tests::threads::played::{Hearing, Played, Storing};
+use crate::tests::threads::rings::Rings;
+use crate::tests::threads::side::{Shared, run_both};
+use crate::tests::wanted::same;
 use buffer_pool::Stash;
 use std::alloc::Global;
 use std::process::Abort;

@@ -1,9 +1,9 @@
 //! A receive driver and a controller's end of one ring, in one thread.
 ghost use Rattle.std.specs.Prelude.{◌≡◌, ◌<◌, ◌≤◌};
 
-use crate::drivers::stashes::cut;
-use crate::drivers::told::{Call, Told};
 use crate::made;
+use crate::tests::drivers::stashes::cut;
+use crate::tests::drivers::told::{Call, Told};
 use arrayvec::ArrayVec;
 use buffer_pool::{Packet, Stash};
 use driver::{DriverError, MOST_BATCH, RxDriver};

@@ -1,9 +1,9 @@
 //! Worked rows of a receive driver.
 ghost use Rattle.std.specs.Prelude.{◌<◌, ◌≤◌};
 
-use crate::drivers::rx_tests::both::{Both, RxCall};
-use crate::drivers::told::{Call, Told};
-use crate::wanted::same;
+use crate::tests::drivers::rx_tests::both::{Both, RxCall};
+use crate::tests::drivers::told::{Call, Told};
+use crate::tests::wanted::same;
 use driver::DriverError;
 use std::alloc::Global;
 use std::process::Abort;

@@ -2,9 +2,9 @@
 ghost use Rattle.std.specs.Prelude.{◌≡◌, ◌≤◌, All};
 ghost use Rattle.buffer_pool.specs.Packed.{IsPacket};
 
-use crate::drivers::stashes::cut;
-use crate::drivers::told::{Call, Told};
 use crate::made;
+use crate::tests::drivers::stashes::cut;
+use crate::tests::drivers::told::{Call, Told};
 use arrayvec::ArrayVec;
 use buffer_pool::{Buf, Packet, STASH_BUFFERS, Stash, Stock};
 use descriptor::TxRead;

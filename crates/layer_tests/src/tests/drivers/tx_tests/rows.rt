@@ -1,8 +1,8 @@
 //! Worked rows of a transmit driver.
 
-use crate::drivers::told::{Call, Told};
-use crate::drivers::tx_tests::queue::{Places, Queue, TxCall};
-use crate::wanted::same;
+use crate::tests::drivers::told::{Call, Told};
+use crate::tests::drivers::tx_tests::queue::{Places, Queue, TxCall};
+use crate::tests::wanted::same;
 use driver::DriverError;
 use std::alloc::Global;
 use std::process::Abort;

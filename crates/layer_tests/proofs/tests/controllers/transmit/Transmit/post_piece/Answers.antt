@@ -5,7 +5,7 @@ use Rattle.ring_model.specs.transmit.Ring.{carried}
 use Rattle.tx_ring.specs.Records.{TxDriven}
 use Rattle.test_kit.proofs.Begun.{begun_ends, begun_count, begun_bytes}
 use Rattle.ring_tests.proofs.Begun.{none_of_frame, same_frame, frame_grows}
-use Rattle.layer_tests.proofs.controllers.transmit.Transmit.post_piece.Goals as goal
+use Rattle.layer_tests.proofs.tests.controllers.transmit.Transmit.post_piece.Goals as goal
 
 pub invariant_of-self-then-eop-2-clause-counts : goal.invariant_of-self-then-eop-2-clause-counts
 invariant_of-self-then-eop-2-clause-counts c = ap length (begun_ends carried _ _ _ (ap (λ (x : TxDriven). x.posted) c.post.ensures.record) c.if-eop-2.true)
