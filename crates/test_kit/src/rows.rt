@@ -22,8 +22,3 @@ pub fn told_so<T: Tells>(tells: &mut T, rows: &[(T::Step, T::Told)]) -> usize {
     }
     count
 }
-
-/// Whether each step of the rows tells what its row says.
-pub fn all_told_so<T: Tells>(tells: &mut T, rows: &[(T::Step, T::Told)]) -> bool {
-    told_so(tells, rows) == rows.len()
-}
