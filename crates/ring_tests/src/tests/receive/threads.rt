@@ -4,6 +4,7 @@ ghost use Rattle.rx_ring.specs.Ends.{reclaimed};
 
 mod hands;
 
+use crate::tests::back::Back;
 use crate::tests::wanted::{holds, same};
 use buffer_pool::{Buf, Stash};
 use hands::{ask_for, fetch, fill_ring, left, receive, reclaim_all, renew, serve};
@@ -109,21 +110,13 @@ fn drive_epochs<R: Wait>(
 }
 
 /// The driver's side of a queue that nobody disables: it takes so many frames.
-fn drive_on<R: Wait>(
-    rt: &R,
-    ring: &RxRing,
-    driver: &mut RxDriverEnd,
-    spare: &mut Stash,
-    most: u32,
-) -> Driven
-    requires { driver.old.table ≡ ring.now }
-    ensures { driver.new.table ≡ ring.now }
+fn drive_on<R: Wait>(rt: &R, ring: &RxRing, side: &mut Driving, takes: u32)
+    requires { side.old.end.table ≡ ring.now }
+    ensures { side.new.end.table ≡ ring.now }
 {
-    fill_ring(ring, driver, spare);
-    ask_for(rt, ring, driver, Control::Enabled);
-    let mut told = Driven::NOTHING;
-    told.good = receive(rt, ring, driver, most);
-    told
+    fill_ring(ring, &mut side.end, &mut side.spare);
+    ask_for(rt, ring, &mut side.end, Control::Enabled);
+    side.told.good = receive(rt, ring, &mut side.end, takes);
 }
 
 /// The driver's side of the plan.
@@ -132,26 +125,23 @@ fn drive<R: Wait>(rt: &R, ring: &RxRing, mut side: Driving, plan: Plan) -> Drivi
     requires fresh { reclaimed side.end ≡ 0 }
     ensures { result.end.table ≡ ring.now }
 {
-    side.told = match plan {
-        Plan::Epochs(epochs) => drive_epochs(rt, ring, &mut side.end, &mut side.spare, epochs),
-        Plan::On(_, takes) => drive_on(rt, ring, &mut side.end, &mut side.spare, takes),
-    };
+    match plan {
+        Plan::Epochs(epochs) => {
+            side.told = drive_epochs(rt, ring, &mut side.end, &mut side.spare, epochs);
+        }
+        Plan::On(_, takes) => drive_on(rt, ring, &mut side, takes),
+    }
     side
 }
 
 /// The controller's side of so many epochs: how many frames it stored in the last.
-fn control_epochs<R: Wait>(
-    rt: &R,
-    ring: &RxRing,
-    controller: &mut RxControllerEnd,
-    epochs: u32,
-) -> u32
-    requires { controller.old.table ≡ ring.now }
-    ensures { controller.new.table ≡ ring.now }
+fn control_epochs<R: Wait>(rt: &R, ring: &RxRing, end: &mut RxControllerEnd, epochs: u32) -> u32
+    requires { end.old.table ≡ ring.now }
+    ensures { end.new.table ≡ ring.now }
 {
     let mut stored = 0;
     for _ in 0..epochs {
-        stored = serve(rt, ring, controller, u32::MAX);
+        stored = serve(rt, ring, end, u32::MAX);
     }
     stored
 }
@@ -183,30 +173,6 @@ fn control<R: Wait>(rt: &R, ring: &RxRing, mut side: Serving, plan: Plan) -> Ser
         }
     }
     side
-}
-
-/// What the closed ring gave back.
-#[derive(Clone, Copy)]
-struct Back {
-    /// How many buffers lay in the ring.
-    lying: usize,
-    /// How many were at hand.
-    at_hand: usize,
-    /// Whether the controller held one.
-    held: bool,
-    /// Whether each came back once.
-    is_whole: bool,
-}
-
-impl Back {
-    fn of(closed: Closed) -> Back {
-        Back {
-            lying: closed.lying(),
-            at_hand: closed.spare.len(),
-            held: closed.held.is_some(),
-            is_whole: closed.has_each_once(16),
-        }
-    }
 }
 
 /// What both threads came to.

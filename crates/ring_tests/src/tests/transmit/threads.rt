@@ -3,6 +3,7 @@ ghost use Rattle.std.specs.Prelude.{◌≡◌};
 
 mod hands;
 
+use crate::tests::back::Back;
 use crate::tests::wanted::{holds, same};
 use buffer_pool::{Buf, Stash};
 use hands::{Passed, ask_for, drain, fetch, left, renew, serve, transmit};
@@ -50,15 +51,25 @@ fn sum_of(before: Option<u32>, more: Option<u32>) -> Option<u32> {
     Some(before?.saturating_add(more?))
 }
 
-/// The driver's side of one epoch of so many frames; it waits until all are cleaned, or leaves the rest to the disabling.
-fn epoch<R: Wait>(rt: &R, ring: &TxRing, side: &mut Driving, waits_for: u32)
+/// Has the queue enabled, posts so many frames, and cleans so many: what was cleaned.
+fn posts_on<R: Wait>(rt: &R, ring: &TxRing, side: &mut Driving, posts: u32, cleans: u32) -> Passed
     requires { side.old.end.table ≡ ring.now }
     ensures { side.new.end.table ≡ ring.now }
 {
     let (driver, spare) = (&mut side.end, &mut side.spare);
     ask_for(rt, ring, driver, Control::Enabled);
-    let mut back = transmit(rt, ring, driver, spare, FRAMES);
-    drain(rt, ring, driver, spare, &mut back, waits_for);
+    let mut cleaned = transmit(rt, ring, driver, spare, posts);
+    drain(rt, ring, driver, spare, &mut cleaned, cleans);
+    cleaned
+}
+
+/// The driver's side of one epoch of so many frames; it waits until all are cleaned, or leaves the rest to the disabling.
+fn epoch<R: Wait>(rt: &R, ring: &TxRing, side: &mut Driving, waits_for: u32)
+    requires { side.old.end.table ≡ ring.now }
+    ensures { side.new.end.table ≡ ring.now }
+{
+    let mut back = posts_on(rt, ring, side, FRAMES, waits_for);
+    let (driver, spare) = (&mut side.end, &mut side.spare);
     ask_for(rt, ring, driver, Control::Disabled);
     side.left = sum_of(side.left, left(ring, driver));
     renew(ring, driver, spare, &mut back);
@@ -75,43 +86,26 @@ fn drive_epochs<R: Wait>(rt: &R, ring: &TxRing, side: &mut Driving, epochs: u32,
     }
 }
 
-/// The driver's side of a queue that nobody disables: it posts so many frames, and cleans so many.
-fn drive_on<R: Wait>(rt: &R, ring: &TxRing, side: &mut Driving, posts: u32, cleans: u32)
-    requires { side.old.end.table ≡ ring.now }
-    ensures { side.new.end.table ≡ ring.now }
-{
-    let (driver, spare) = (&mut side.end, &mut side.spare);
-    ask_for(rt, ring, driver, Control::Enabled);
-    let mut cleaned = transmit(rt, ring, driver, spare, posts);
-    drain(rt, ring, driver, spare, &mut cleaned, cleans);
-    side.back = cleaned;
-}
-
-/// The driver's side of the plan.
+/// The driver's side of the plan; where nobody disables the queue, it posts so many frames, and cleans so many.
 fn drive<R: Wait>(rt: &R, ring: &TxRing, mut side: Driving, plan: Plan) -> Driving
     requires { side.end.table ≡ ring.now }
     ensures { result.end.table ≡ ring.now }
 {
     match plan {
         Plan::Epochs(epochs, waits_for) => drive_epochs(rt, ring, &mut side, epochs, waits_for),
-        Plan::On(posts, _, cleans) => drive_on(rt, ring, &mut side, posts, cleans),
+        Plan::On(posts, _, cleans) => side.back = posts_on(rt, ring, &mut side, posts, cleans),
     }
     side
 }
 
 /// The controller's side of so many epochs: what it sent in all.
-fn control_epochs<R: Wait>(
-    rt: &R,
-    ring: &TxRing,
-    controller: &mut TxControllerEnd,
-    epochs: u32,
-) -> Passed
-    requires { controller.old.table ≡ ring.now }
-    ensures { controller.new.table ≡ ring.now }
+fn control_epochs<R: Wait>(rt: &R, ring: &TxRing, end: &mut TxControllerEnd, epochs: u32) -> Passed
+    requires { end.old.table ≡ ring.now }
+    ensures { end.new.table ≡ ring.now }
 {
     let mut sent = Passed::NONE;
     for _ in 0..epochs {
-        sent = sent.then(serve(rt, ring, controller, u32::MAX));
+        sent = sent.then(serve(rt, ring, end, u32::MAX));
     }
     sent
 }
@@ -145,30 +139,6 @@ fn control<R: Wait>(rt: &R, ring: &TxRing, mut side: Serving, plan: Plan) -> Ser
         }
     }
     side
-}
-
-/// What the closed ring gave back.
-#[derive(Clone, Copy)]
-struct Back {
-    /// How many buffers lay in the ring.
-    lying: usize,
-    /// How many were at hand.
-    at_hand: usize,
-    /// Whether the controller held one.
-    held: bool,
-    /// Whether each came back once.
-    is_whole: bool,
-}
-
-impl Back {
-    fn of(closed: Closed) -> Back {
-        Back {
-            lying: closed.lying(),
-            at_hand: closed.spare.len(),
-            held: closed.held.is_some(),
-            is_whole: closed.has_each_once(16),
-        }
-    }
 }
 
 /// What both threads came to: what was sent, how many frames were not, what came back to the driver, and what the closed
@@ -252,69 +222,59 @@ fn run<R: Threads + Wait + Sync + Abort>(
     close_both(ring, serving, driving)
 }
 
-/// In ten epochs the queue is disabled while frames are sent.
-fn stops_while_running<R: Threads + Wait + Sync + Abort>(
-    rt: &R,
-    alloc: Global,
-    completion: Completion,
-) {
-    let ran = run(rt, alloc, completion, Plan::Epochs(10, 0));
-    let Passed { count, good } = ran.sent;
-    same(rt, good, count);
-    same(rt, ran.left, (10 * FRAMES).checked_sub(count));
-    holds(rt, ran.left.is_some());
-    same(rt, (ran.back.good, ran.closed.lying), (10 * FRAMES, 0));
-}
+const BOTH_WAYS: [Completion; 2] = [Completion::Status, Completion::Head];
 
+/// In ten epochs the queue is disabled while frames are sent.
 #[test]
 fn stop_while_running(rt: HostRuntime) {
-    stops_while_running(&rt, rt.alloc(), Completion::Status);
-    stops_while_running(&rt, rt.alloc(), Completion::Head)
+    for completion in BOTH_WAYS {
+        let ran = run(&rt, rt.alloc(), completion, Plan::Epochs(10, 0));
+        let Passed { count, good } = ran.sent;
+        same(&rt, good, count);
+        same(&rt, ran.left, (10 * FRAMES).checked_sub(count));
+        holds(&rt, ran.left.is_some());
+        same(&rt, (ran.back.good, ran.closed.lying), (10 * FRAMES, 0));
+    }
 }
 
 /// In three epochs all is sent and cleaned.
-fn sends_all<R: Threads + Wait + Sync + Abort>(rt: &R, alloc: Global, completion: Completion) {
-    let ran = run(rt, alloc, completion, Plan::Epochs(3, FRAMES));
-    same(rt, (ran.sent.good, ran.back.good), (3 * FRAMES, 3 * FRAMES));
-    same(rt, ran.left, Some(0));
-    holds(rt, ran.closed.is_whole);
-}
-
 #[test]
 fn three_epochs(rt: HostRuntime) {
-    sends_all(&rt, rt.alloc(), Completion::Status);
-    sends_all(&rt, rt.alloc(), Completion::Head)
+    for completion in BOTH_WAYS {
+        let ran = run(&rt, rt.alloc(), completion, Plan::Epochs(3, FRAMES));
+        same(
+            &rt,
+            (ran.sent.good, ran.back.good),
+            (3 * FRAMES, 3 * FRAMES),
+        );
+        same(&rt, ran.left, Some(0));
+        holds(&rt, ran.closed.is_whole);
+    }
 }
 
 /// The last frame asks for no report.
-fn leaves_one<R: Threads + Wait + Sync + Abort>(rt: &R, alloc: Global, completion: Completion) {
-    let ran = run(rt, alloc, completion, Plan::On(1_000, 1_000, 999));
-    let told = (ran.sent.good, ran.back.good, ran.closed.lying);
-    same(rt, told, (1_000, 999, 1));
-}
-
 #[test]
 fn two_threads_tx(rt: HostRuntime) {
-    leaves_one(&rt, rt.alloc(), Completion::Status);
-    leaves_one(&rt, rt.alloc(), Completion::Head)
+    for completion in BOTH_WAYS {
+        let ran = run(&rt, rt.alloc(), completion, Plan::On(1_000, 1_000, 999));
+        let told = (ran.sent.good, ran.back.good, ran.closed.lying);
+        same(&rt, told, (1_000, 999, 1));
+    }
 }
 
 /// A queue that nobody disables is closed with a buffer that its controller holds.
-fn is_closed<R: Threads + Wait + Sync + Abort>(rt: &R, alloc: Global, completion: Completion) {
-    let ran = run(rt, alloc, completion, Plan::On(40, 37, 36));
-    same(rt, (ran.sent.good, ran.back.good), (37, 36));
-    let Back {
-        lying,
-        at_hand,
-        held,
-        is_whole,
-    } = ran.closed;
-    same(rt, (at_hand, lying, held), (12, 3, true));
-    holds(rt, is_whole);
-}
-
 #[test]
 fn closed(rt: HostRuntime) {
-    is_closed(&rt, rt.alloc(), Completion::Status);
-    is_closed(&rt, rt.alloc(), Completion::Head)
+    for completion in BOTH_WAYS {
+        let ran = run(&rt, rt.alloc(), completion, Plan::On(40, 37, 36));
+        same(&rt, (ran.sent.good, ran.back.good), (37, 36));
+        let Back {
+            lying,
+            at_hand,
+            held,
+            is_whole,
+        } = ran.closed;
+        same(&rt, (at_hand, lying, held), (12, 3, true));
+        holds(&rt, is_whole);
+    }
 }

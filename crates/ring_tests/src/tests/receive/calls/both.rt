@@ -8,7 +8,7 @@ ghost use Rattle.ring_model.specs.shared.Frames.{join, unfinished};
 ghost use Rattle.rx_ring.specs.Ends.{controller_size, held as held_by, reclaimed, stored};
 ghost use Rattle.ring_tests.specs.Holding.{held_as};
 
-use crate::tests::steps::{RxNamed, rx_step};
+use crate::tests::steps::{RxNamed, named_at, rx_step};
 use buffer_pool::{Buf, Stash};
 use limits::{LEAST_FRAME, MOST_FRAME, MOST_SEGMENTS};
 use ring_machine::{RxMachine, SegmentLength};
@@ -148,6 +148,14 @@ impl Both {
         }
     }
 
+    fn look(&mut self) -> Option<Note> {
+        if !self.controller.is_serving() {
+            return None;
+        }
+        let free = self.controller.look(&self.ring);
+        u16::try_from(free).ok().map(Note::Free)
+    }
+
     fn answer(&mut self) {
         if !self.controller.can_answer() {
             return;
@@ -194,14 +202,6 @@ impl Both {
         Some(Note::Tail(0))
     }
 
-    fn look(&mut self) -> Option<Note> {
-        if !self.controller.is_serving() {
-            return None;
-        }
-        let free = self.controller.look(&self.ring);
-        u16::try_from(free).ok().map(Note::Free)
-    }
-
     fn set_head(&mut self) -> Option<Note> {
         if !self.controller.is_serving() || self.controller.is_holding() {
             return None;
@@ -226,9 +226,9 @@ impl Both {
 
     fn renew(&mut self) -> Option<Note> {
         renewed!(self);
-        self.untouched = true;
         self.stored_count = 0;
         self.taken_count = 0;
+        self.untouched = true;
         Some(Note::Head(0))
     }
 }
@@ -312,6 +312,11 @@ impl Beside for Both {
     }
 }
 
+fn step_at(at: u64) -> Step {
+    let named = named_at(STEPS, at).unwrap_or(RxStep::Head);
+    rx_step(named).unwrap_or(RxStep::Head)
+}
+
 /// Of random numbers those below the first, and not below that of the row before, stand for the step.
 const STEPS: &[(u64, RxNamed)] = &[
     (7, RxStep::Post(0)),
@@ -327,15 +332,6 @@ const STEPS: &[(u64, RxNamed)] = &[
     (50, RxStep::ClearTail),
     (51, RxStep::ClearQuiet),
 ];
-
-fn step_at(at: u64) -> Step {
-    for (below, step) in STEPS {
-        if at < *below {
-            return rx_step(*step).unwrap_or(RxStep::Head);
-        }
-    }
-    RxStep::Head
-}
 
 fn random_store(random: &mut Random) -> Step {
     let len = match random.below(6) {

@@ -205,51 +205,31 @@ fn frames_with_heads_go_round(rt: HostRuntime) {
 /// The step can't be made.
 const NOTHING: Told = Told::Note(None);
 
+/// This step of the handshake brings the driver to this state, and the control word has this value.
+macro_rules! shaken {
+    ($step:ident, $state:ident, $value:expr) => {
+        (
+            Act::Shake(ControlStep::$step, State::$state),
+            Told::Note(Some(Note::Control($value))),
+        )
+    };
+}
+
 /// Enabled as it should be, and then disabled, and nothing else can be done.
 const SHAKEN: &[Row] = &[
-    (
-        Act::Shake(ControlStep::LookAnswered, State::New),
-        Told::Note(Some(Note::Control(0))),
-    ),
+    shaken!(LookAnswered, New, 0),
     (Act::Shake(ControlStep::AskDisable, State::New), NOTHING),
     (Act::Shake(ControlStep::Answer, State::New), NOTHING),
-    (
-        Act::Shake(ControlStep::AskEnable, State::Asked),
-        Told::Note(Some(Note::Control(1))),
-    ),
-    (
-        Act::Shake(ControlStep::LookAsked, State::Asked),
-        Told::Note(Some(Note::Control(1))),
-    ),
-    (
-        Act::Shake(ControlStep::Answer, State::Asked),
-        Told::Note(Some(Note::Control(2))),
-    ),
+    shaken!(AskEnable, Asked, 1),
+    shaken!(LookAsked, Asked, 1),
+    shaken!(Answer, Asked, 2),
     (Act::Shake(ControlStep::Answer, State::Asked), NOTHING),
-    (
-        Act::Shake(ControlStep::LookAnswered, State::On),
-        Told::Note(Some(Note::Control(2))),
-    ),
-    (
-        Act::Shake(ControlStep::AskDisable, State::Stopping),
-        Told::Note(Some(Note::Control(3))),
-    ),
-    (
-        Act::Shake(ControlStep::LookAsked, State::Stopping),
-        Told::Note(Some(Note::Control(3))),
-    ),
-    (
-        Act::Shake(ControlStep::LookAnswered, State::Stopping),
-        Told::Note(Some(Note::Control(3))),
-    ),
-    (
-        Act::Shake(ControlStep::Answer, State::Stopping),
-        Told::Note(Some(Note::Control(0))),
-    ),
-    (
-        Act::Shake(ControlStep::LookAnswered, State::Disabled),
-        Told::Note(Some(Note::Control(0))),
-    ),
+    shaken!(LookAnswered, On, 2),
+    shaken!(AskDisable, Stopping, 3),
+    shaken!(LookAsked, Stopping, 3),
+    shaken!(LookAnswered, Stopping, 3),
+    shaken!(Answer, Stopping, 0),
+    shaken!(LookAnswered, Disabled, 0),
     (Act::Shake(ControlStep::AskEnable, State::Disabled), NOTHING),
 ];
 

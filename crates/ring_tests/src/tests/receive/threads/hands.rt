@@ -186,13 +186,12 @@ fn store_frame(ring: &RxRing, controller: &mut RxControllerEnd, frame: &[u8]) ->
     ensures { controller.new.table ≡ ring.now }
 {
     let _size = controller.size();
-    if !controller.is_serving() || controller.is_holding() {
-        return false;
-    }
-    if controller.has_finished() || !controller.is_between_frames() {
-        return false;
-    }
-    if controller.look(ring) == 0 {
+    if !controller.is_serving()
+        || controller.is_holding()
+        || controller.has_finished()
+        || !controller.is_between_frames()
+        || controller.look(ring) == 0
+    {
         return false;
     }
     let mut buf = controller.fetch(ring);
@@ -234,17 +233,12 @@ fn store_when_free<R: Wait>(rt: &R, ring: &RxRing, controller: &mut RxController
 }
 
 /// Serves the queue until it is disabled, or so many frames are stored: how many were.
-pub(crate) fn serve<R: Wait>(
-    rt: &R,
-    ring: &RxRing,
-    controller: &mut RxControllerEnd,
-    most: u32,
-) -> u32
-    requires { controller.old.table ≡ ring.now }
-    ensures { controller.new.table ≡ ring.now }
+pub(crate) fn serve<R: Wait>(rt: &R, ring: &RxRing, end: &mut RxControllerEnd, most: u32) -> u32
+    requires { end.old.table ≡ ring.now }
+    ensures { end.new.table ≡ ring.now }
 {
     for k in 0..most {
-        if !store_when_free(rt, ring, controller, k) {
+        if !store_when_free(rt, ring, end, k) {
             return k;
         }
     }

@@ -8,6 +8,7 @@ ghost use Rattle.tx_ring.specs.Ends.{driver_size, posted};
 ghost use Rattle.tx_ring.specs.Ends.{held as held_by};
 ghost use Rattle.ring_tests.specs.Begun.{AreOfFrame};
 
+use crate::tests::steps::{TxNamed, named_at, tx_step};
 use buffer_pool::{Buf, Stash};
 use limits::{LEAST_FRAME, MOST_FRAME, MOST_SEGMENTS};
 use ring_machine::{SegmentDescriptor, TxMachine};
@@ -63,9 +64,9 @@ pub(crate) struct Both {
     held_buf: Option<Buf>,
     ghost drives: { driver.table ≡ ring },
     ghost serves: { controller.table ≡ ring },
-    ghost holds: { held_buf ≡ held_by controller },
     ghost counts: { length (unfinished carried (posted driver)) ≡ begun.segments },
     ghost adds: { length (join carried (unfinished carried (posted driver))) ≡ begun.bytes },
+    ghost holds: { held_buf ≡ held_by controller },
     ghost few: { begun.bytes ≤ MOST_FRAME },
     ghost of_frame: { AreOfFrame begun.paylen (unfinished carried (posted driver)) },
 }
@@ -390,7 +391,7 @@ impl Beside for Both {
 }
 
 /// Of random numbers those below the first, and not below that of the row before, stand for the step.
-const STEPS: &[(u64, TxStep<()>)] = &[
+const STEPS: &[(u64, TxNamed)] = &[
     (13, TxStep::Publish),
     (17, TxStep::Look),
     (23, TxStep::Fetch),
@@ -405,29 +406,10 @@ const STEPS: &[(u64, TxStep<()>)] = &[
 ];
 
 fn step_at(at: u64) -> Step {
-    for (below, step) in STEPS {
-        if at < *below {
-            return unposting(*step);
-        }
-    }
-    TxStep::ClearReport
+    step_of(named_at(STEPS, at).unwrap_or(TxStep::ClearReport))
 }
 
-/// A step as rows name it: where it posts, it is none that can be made. A row of a step that has a segment in it would be
-/// made by statements, and proved one by one.
-pub(crate) fn unposting(named: TxStep<()>) -> Step {
-    match named {
-        TxStep::Publish => TxStep::Publish,
-        TxStep::Look => TxStep::Look,
-        TxStep::Fetch => TxStep::Fetch,
-        TxStep::Send => TxStep::Send,
-        TxStep::Report => TxStep::Report,
-        TxStep::LoadReport => TxStep::LoadReport,
-        TxStep::Clean => TxStep::Clean,
-        TxStep::Control(step) => TxStep::Control(step),
-        TxStep::Reclaim => TxStep::Reclaim,
-        TxStep::ClearHead => TxStep::ClearHead,
-        TxStep::ClearTail => TxStep::ClearTail,
-        TxStep::Post(()) | TxStep::ClearReport => TxStep::ClearReport,
-    }
+/// A step as rows name it: where it posts no lawful segment, it is none that can be made.
+pub(crate) fn step_of(named: TxNamed) -> Step {
+    tx_step(named).unwrap_or(TxStep::ClearReport)
 }

@@ -1,6 +1,7 @@
 //! Rows by calls, on one thread, in both completions.
 
-use crate::tests::transmit::calls::both::{Both, Step, unposting};
+use crate::tests::steps::TxNamed;
+use crate::tests::transmit::calls::both::{Both, Step, step_of};
 use crate::tests::wanted::same;
 use ring_machine::SegmentDescriptor;
 use ring_model::{FetchedSegment, Note, TxStep};
@@ -15,7 +16,7 @@ const BOTH_WAYS: [Completion; 2] = [Completion::Status, Completion::Head];
 #[derive(Clone, Copy)]
 pub(crate) enum Act {
     /// Makes a step that posts nothing.
-    Make(TxStep<()>),
+    Make(TxNamed),
     /// Posts a whole frame of 60 bytes, with RS or without.
     Post(bool),
     /// Makes a report, as the ring's completion has it.
@@ -66,7 +67,7 @@ impl Tells for Both {
 
     fn make(&mut self, act: Act) -> Told {
         match act {
-            Act::Make(step) => Told::Note(self.call(unposting(step))),
+            Act::Make(step) => Told::Note(self.call(step_of(step))),
             Act::Post(rs) => Told::Note(self.call(posting(60, true, rs, 60))),
             Act::Report => Told::whether(is_reported(self)),
             Act::Enable => Told::whether(enable(self)),
@@ -101,6 +102,9 @@ fn come_out<R: Abort>(rt: &R, alloc: Global, n: u32, rows: &[Row]) {
 /// The step can't be made.
 const NOTHING: Told = Told::Note(None);
 
+/// The report covers the first place.
+const REPORTED: Told = Told::Note(Some(Note::Reported(Some(0))));
+
 /// A frame of 60 bytes in the buffer of this number is to be sent, with RS or without.
 macro_rules! sending {
     ($buffer:expr, $rs:expr) => {
@@ -127,10 +131,7 @@ const ONE: &[Row] = &[
     (Act::Make(TxStep::Send), Told::Note(Some(Note::Head(0)))),
     (Act::Make(TxStep::LoadReport), NOTHING),
     (Act::Report, Told::Yes),
-    (
-        Act::Make(TxStep::LoadReport),
-        Told::Note(Some(Note::Reported(Some(0)))),
-    ),
+    (Act::Make(TxStep::LoadReport), REPORTED),
     (Act::Make(TxStep::Clean), Told::Note(Some(Note::Buffer(31)))),
     (Act::Meet, Told::Yes),
 ];
@@ -149,10 +150,7 @@ const TWO: &[Row] = &[
     (Act::Make(TxStep::Send), Told::Note(Some(Note::Head(0)))),
     (Act::Make(TxStep::Clean), NOTHING),
     (Act::Report, Told::Yes),
-    (
-        Act::Make(TxStep::LoadReport),
-        Told::Note(Some(Note::Reported(Some(0)))),
-    ),
+    (Act::Make(TxStep::LoadReport), REPORTED),
     (Act::Make(TxStep::LoadReport), NOTHING),
     (Act::Make(TxStep::Clean), Told::Note(Some(Note::Buffer(31)))),
     (Act::Make(TxStep::Clean), Told::Note(Some(Note::Buffer(30)))),
@@ -166,13 +164,16 @@ fn reports(rt: HostRuntime) {
     come_out(&rt, rt.alloc(), 8, TWO)
 }
 
+/// A frame is posted without RS.
+const POSTED: Row = (Act::Post(false), Told::Note(Some(Note::Place(0))));
+
 /// Three frames are posted without RS, and the first is sent: two are left, three buffers come back, and nothing else can be
 /// done.
 const TWO_LEFT: &[Row] = &[
     (Act::Enable, Told::Yes),
-    (Act::Post(false), Told::Note(Some(Note::Place(0)))),
-    (Act::Post(false), Told::Note(Some(Note::Place(0)))),
-    (Act::Post(false), Told::Note(Some(Note::Place(0)))),
+    POSTED,
+    POSTED,
+    POSTED,
     (Act::Make(TxStep::Publish), Told::Note(Some(Note::Tail(0)))),
     (Act::Make(TxStep::Look), Told::Note(Some(Note::Ready(3)))),
     (Act::Make(TxStep::Fetch), sending!(31, false)),

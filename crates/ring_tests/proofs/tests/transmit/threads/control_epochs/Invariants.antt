@@ -2,4 +2,4 @@ use Rattle.std.proofs.Common.{◌≡◌}
 use Rattle.ring_tests.proofs.tests.transmit.threads.control_epochs.Given as goal
 
 abbrev pub invariant-loop : goal.invariant-loop
-invariant-loop g l = l.controller.table ≡ l.ring
+invariant-loop g l = l.end.table ≡ l.ring
