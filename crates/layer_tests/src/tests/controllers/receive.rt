@@ -2,6 +2,7 @@
 ghost use Rattle.std.specs.Prelude.{◌≡◌};
 
 use crate::tests::controllers::told::{Bytes, Told, Walked};
+use crate::walked;
 use buffer_pool::Stash;
 use controller::{RxController, Tally};
 use rx_ring::{Control, ControllerEnd, DriverEnd, Poll, RxDriverEnd, RxRing};
@@ -181,12 +182,7 @@ impl Receive {
 
     /// Makes the rows' steps.
     pub(crate) fn walk(mut self, rows: &[(Step, Told)]) -> Walked {
-        let told = told_so(&mut self, rows);
-        let end = self.controller.into_end();
-        Walked {
-            told,
-            ends_between_frames: end.is_serving() && end.is_between_frames() && !end.is_holding(),
-        }
+        walked!(self, rows, is_holding)
     }
 }
 

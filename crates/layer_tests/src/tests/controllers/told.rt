@@ -77,3 +77,17 @@ impl Bytes {
         self.frame(from, bytes.len()) == bytes
     }
 }
+
+/// Makes the rows' steps on a queue, a struct with a field `controller`: what they told, and where the controller's end
+/// stood afterwards, which may be busy so.
+#[macro_export]
+macro_rules! walked {
+    ($queue:expr, $rows:expr, $is_busy:ident) => {{
+        let told = told_so(&mut $queue, $rows);
+        let end = $queue.controller.into_end();
+        Walked {
+            told,
+            ends_between_frames: end.is_serving() && end.is_between_frames() && !end.$is_busy(),
+        }
+    }};
+}

@@ -8,6 +8,7 @@ ghost use Rattle.ring_tests.specs.Begun.{AreOfFrame};
 
 use crate::tests::controllers::growing::{len_of, send, send_seldom_growing};
 use crate::tests::controllers::told::{Bytes, Told, Walked};
+use crate::walked;
 use buffer_pool::Stash;
 use controller::{CtlError, Turn, TxController, Wire};
 use limits::{LEAST_FRAME, MOST_FRAME, MOST_SEGMENTS};
@@ -98,6 +99,11 @@ impl Transmit {
         }
     }
 
+    /// Makes the rows' steps.
+    pub(crate) fn walk(mut self, rows: &[(Step, Told)]) -> Walked {
+        walked!(self, rows, owes_report)
+    }
+
     fn enable(&mut self) -> bool {
         asked!(self, is_new, ask_enable, Control::Enabled, is_on)
     }
@@ -121,10 +127,10 @@ impl Transmit {
             if !self.driver.is_stopped() {
                 return false;
             }
-            let Some(buf) = self.driver.reclaim(&self.ring) else {
-                break;
-            };
-            put_back(&mut self.spare, buf);
+            match self.driver.reclaim(&self.ring) {
+                Some(buf) => put_back(&mut self.spare, buf),
+                None => break,
+            }
         }
         true
     }
@@ -243,16 +249,6 @@ impl Transmit {
         }
         k == count && self.wire.is_empty() == (count == 0)
     }
-
-    /// Makes the rows' steps.
-    pub(crate) fn walk(mut self, rows: &[(Step, Told)]) -> Walked {
-        let told = told_so(&mut self, rows);
-        let end = self.controller.into_end();
-        Walked {
-            told,
-            ends_between_frames: end.is_serving() && end.is_between_frames() && !end.owes_report(),
-        }
-    }
 }
 
 impl Tells for Transmit {
@@ -262,11 +258,11 @@ impl Tells for Transmit {
 
     fn make(&mut self, step: Step) -> Told {
         match step {
+            Step::Post(len, from, bsize, rs) => Told::whether(self.post(len, from, bsize, rs)),
+            Step::Turn => Told::turned(self.turn()),
             Step::Enable => Told::whether(self.enable()),
             Step::Disable => Told::whether(self.disable()),
             Step::Renew => Told::whether(self.renew().is_some()),
-            Step::Post(len, from, bsize, rs) => Told::whether(self.post(len, from, bsize, rs)),
-            Step::Turn => Told::turned(self.turn()),
             Step::HasReport => Told::whether(self.driver.poll_report(&self.ring)),
             Step::Clean => Told::Count(self.clean()),
             Step::HasSent(count) => Told::whether(self.has_sent(count)),

@@ -99,9 +99,9 @@ impl Offering {
 /// The transmit queue's controller, and its wire.
 #[derive(Drop)]
 pub(crate) struct Wiring {
+    epochs: Epochs,
     pub controller: TxController,
     pub wire: Wire,
-    epochs: Epochs,
     pub refused: bool,
 }
 
@@ -139,20 +139,7 @@ pub(crate) struct Device {
     pub offering: Offering,
     pub wiring: Wiring,
     /// How many epochs there are to be.
-    most: u32,
-}
-
-impl Device {
-    /// Both, for so many epochs.
-    pub(crate) fn new(offering: Offering, wiring: Wiring, epochs: u32) -> Device
-        ensures { (result.offering ≡ offering) × (result.wiring ≡ wiring) }
-    {
-        Device {
-            offering,
-            wiring,
-            most: epochs,
-        }
-    }
+    pub most: u32,
 }
 
 impl Side for Device {

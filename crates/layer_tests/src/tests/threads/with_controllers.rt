@@ -75,7 +75,11 @@ fn device(alloc: Global, case: &Case, stores: RxControllerEnd, sends: TxControll
     let controller = RxController::new(stores, bsize, case.drop_en);
     let offering = Offering::new(alloc, controller, case.frames);
     let wiring = Wiring::new(alloc, TxController::new(sends));
-    Device::new(offering, wiring, case.epochs)
+    Device {
+        offering,
+        wiring,
+        most: case.epochs,
+    }
 }
 
 /// Both sides of a case over these rings.
@@ -90,10 +94,10 @@ fn sides(alloc: Global, case: &Case, rings: Rings, stash: Stash) -> (Shared, For
     };
     let Rings {
         shared,
-        takes,
         stores,
-        posts,
         sends,
+        takes,
+        posts,
         ..
     } = rings;
     let _size = stores.size();

@@ -45,7 +45,11 @@ fn sides(rings: Rings, stash: Stash, batch: usize) -> (Shared, Forwarder, Played
     } = rings;
     let forwarder = Forwarder::new(takes, posts, stash, plan);
     let storing = Storing::new(Storer::new(stores));
-    let played = Played::new(storing, Hearing::new(sends), EPOCHS);
+    let played = Played {
+        most: EPOCHS,
+        storing,
+        hearing: Hearing::new(sends),
+    };
     (shared, forwarder, played)
 }
 
