@@ -41,34 +41,37 @@ fn what_is_written_is_read<R: Abort + Wait, T: Moment<N> + PartialEq + Debug, co
     shows(rt, &cell, &mut told_before, numbers);
 }
 
+const OFFERED: Offered = Offered {
+    offered: 8,
+    stored: 7,
+    dropped: 1,
+    oversize: 0,
+};
+
+const DRIVEN: Driven = Driven {
+    taken: 8,
+    posted: 7,
+    tx_dropped: 0,
+};
+
+const BYTES: Bytes = Bytes {
+    frames: 2,
+    bytes: 15_014,
+};
+
 #[test]
 fn what_was_offered_is_read(rt: HostRuntime) {
-    let numbers = Offered {
-        offered: 8,
-        stored: 7,
-        dropped: 1,
-        oversize: 0,
-    };
-    what_is_written_is_read::<HostRuntime, Offered, 4>(&rt, rt.alloc(), numbers);
+    what_is_written_is_read::<HostRuntime, Offered, 4>(&rt, rt.alloc(), OFFERED);
 }
 
 #[test]
 fn what_was_driven_is_read(rt: HostRuntime) {
-    let numbers = Driven {
-        taken: 8,
-        posted: 7,
-        tx_dropped: 0,
-    };
-    what_is_written_is_read::<HostRuntime, Driven, 3>(&rt, rt.alloc(), numbers);
+    what_is_written_is_read::<HostRuntime, Driven, 3>(&rt, rt.alloc(), DRIVEN);
 }
 
 #[test]
 fn frames_and_bytes_are_read(rt: HostRuntime) {
-    let numbers = Bytes {
-        frames: 2,
-        bytes: 15_014,
-    };
-    what_is_written_is_read::<HostRuntime, Bytes, 2>(&rt, rt.alloc(), numbers);
+    what_is_written_is_read::<HostRuntime, Bytes, 2>(&rt, rt.alloc(), BYTES);
 }
 
 fn can_be(frames: u64, bytes: u64) -> bool {

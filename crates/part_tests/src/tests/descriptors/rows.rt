@@ -127,23 +127,20 @@ fn the_lowest_refusal_is_answered(rt: HostRuntime) {
 #[test]
 fn lengths_are_judged_at_their_limits(rt: HostRuntime) {
     let buffer: u64 = 2_048 * 65_535;
-    for (len, paylen, wanted) in [
-        (0u16, 60u16, 4),
-        (1, 60, 0),
-        (2_048, 60, 0),
-        (2_049, 60, 4),
-        (1, 13, 4),
-        (1, 14, 0),
-        (2_048, 15_000, 0),
-        (2_048, 15_001, 4),
+    for (lens, wanted) in [
+        ((0u16, 60u16), 4),
+        ((1, 60), 0),
+        ((2_048, 60), 0),
+        ((2_049, 60), 4),
+        ((1, 13), 4),
+        ((1, 14), 0),
+        ((2_048, 15_000), 0),
+        ((2_048, 15_001), 4),
     ] {
+        let (len, paylen) = lens;
         let posted = 0x2b30_0000 + u64::from(len) + u64::from(paylen) * (1 << 46);
         let answer = TxRead::from_words(buffer, posted);
-        same(
-            &rt,
-            ((len, paylen), refusal(answer)),
-            ((len, paylen), wanted),
-        );
+        same(&rt, (lens, refusal(answer)), (lens, wanted));
     }
     for (len, wanted) in [(0u16, 4), (1, 0), (2_048, 0), (2_049, 4)] {
         let back = 3 + u64::from(len) * (1 << 32);
