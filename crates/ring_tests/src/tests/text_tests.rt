@@ -390,18 +390,18 @@ fn notes_of_a_segment_are_printed(rt: HostRuntime) {
 }
 
 // Each of these refusals has this number, and is printed so.
-fn are_refusals<R: Abort>(rt: &R, alloc: Global, rows: &[(u8, MachineError, &str)]) {
-    for (number, refusal, words) in rows {
+fn are_refusals<R: Abort>(rt: &R, alloc: Global, rows: &[(MachineError, u8, &str)]) {
+    for (refusal, number, words) in rows {
         same(rt, refusal.number(), *number);
         is_printed(rt, alloc, refusal, words);
     }
 }
 
-const REFUSALS: &[(u8, MachineError, &str)] = &[
-    (11, MachineError::NotEnabled, "not enabled"),
-    (12, MachineError::RingLength, "ring length"),
-    (13, MachineError::Memory, "memory"),
-    (14, MachineError::Text, "move"),
+const REFUSALS: &[(MachineError, u8, &str)] = &[
+    (MachineError::NotEnabled, 11, "not enabled"),
+    (MachineError::RingLength, 12, "ring length"),
+    (MachineError::Memory, 13, "memory"),
+    (MachineError::Text, 14, "move"),
 ];
 
 #[test]

@@ -99,11 +99,6 @@ impl Transmit {
         }
     }
 
-    /// Makes the rows' steps.
-    pub(crate) fn walk(mut self, rows: &[(Step, Told)]) -> Walked {
-        walked!(self, rows, owes_report)
-    }
-
     fn enable(&mut self) -> bool {
         asked!(self, is_new, ask_enable, Control::Enabled, is_on)
     }
@@ -127,10 +122,10 @@ impl Transmit {
             if !self.driver.is_stopped() {
                 return false;
             }
-            match self.driver.reclaim(&self.ring) {
-                Some(buf) => put_back(&mut self.spare, buf),
-                None => break,
-            }
+            let Some(buf) = self.driver.reclaim(&self.ring) else {
+                break;
+            };
+            put_back(&mut self.spare, buf);
         }
         true
     }
@@ -249,6 +244,11 @@ impl Transmit {
         }
         k == count && self.wire.is_empty() == (count == 0)
     }
+
+    /// Makes the rows' steps.
+    pub(crate) fn walk(mut self, rows: &[(Step, Told)]) -> Walked {
+        walked!(self, rows, owes_report)
+    }
 }
 
 impl Tells for Transmit {
@@ -258,11 +258,11 @@ impl Tells for Transmit {
 
     fn make(&mut self, step: Step) -> Told {
         match step {
-            Step::Post(len, from, bsize, rs) => Told::whether(self.post(len, from, bsize, rs)),
-            Step::Turn => Told::turned(self.turn()),
             Step::Enable => Told::whether(self.enable()),
             Step::Disable => Told::whether(self.disable()),
             Step::Renew => Told::whether(self.renew().is_some()),
+            Step::Post(len, from, bsize, rs) => Told::whether(self.post(len, from, bsize, rs)),
+            Step::Turn => Told::turned(self.turn()),
             Step::HasReport => Told::whether(self.driver.poll_report(&self.ring)),
             Step::Clean => Told::Count(self.clean()),
             Step::HasSent(count) => Told::whether(self.has_sent(count)),

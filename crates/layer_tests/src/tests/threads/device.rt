@@ -99,9 +99,9 @@ impl Offering {
 /// The transmit queue's controller, and its wire.
 #[derive(Drop)]
 pub(crate) struct Wiring {
-    epochs: Epochs,
     pub controller: TxController,
     pub wire: Wire,
+    epochs: Epochs,
     pub refused: bool,
 }
 

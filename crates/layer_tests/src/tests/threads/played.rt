@@ -27,9 +27,9 @@ impl Storing {
     {
         Storing {
             storer,
-            epochs: Epochs::new(),
             next: 0,
             first: 0,
+            epochs: Epochs::new(),
         }
     }
 
@@ -88,12 +88,12 @@ impl Hearing {
         ensures { result.end ≡ end }
     {
         Hearing {
-            epochs: Epochs::new(),
             end,
             sent: 0,
             at: 0,
             frames: 0,
             bad: 0,
+            epochs: Epochs::new(),
         }
     }
 
@@ -167,18 +167,14 @@ impl Hearing {
 /// Both in one thread.
 #[derive(Drop)]
 pub(crate) struct Played {
-    /// How many epochs there are to be.
-    pub most: u32,
     pub storing: Storing,
     pub hearing: Hearing,
+    /// How many epochs there are to be.
+    pub most: u32,
 }
 
 impl Side for Played {
     ghost is_of = { λ shared d. (d.storing.storer.controller.table ≡ shared.from) × (d.hearing.end.table ≡ shared.to) };
-
-    fn is_over(&self) -> bool {
-        self.storing.epochs.ended == self.most && self.hearing.epochs.ended == self.most
-    }
 
     fn turn(&mut self, shared: &Shared) -> bool {
         let stored = self.storing.turn(&shared.from, &shared.frames);
@@ -186,5 +182,9 @@ impl Side for Played {
             .hearing
             .turn(&shared.to, &shared.frames, self.storing.first);
         stored || sent
+    }
+
+    fn is_over(&self) -> bool {
+        self.storing.epochs.ended == self.most && self.hearing.epochs.ended == self.most
     }
 }

@@ -94,10 +94,10 @@ fn sides(alloc: Global, case: &Case, rings: Rings, stash: Stash) -> (Shared, For
     };
     let Rings {
         shared,
-        stores,
-        sends,
         takes,
+        stores,
         posts,
+        sends,
         ..
     } = rings;
     let _size = stores.size();

@@ -46,9 +46,9 @@ fn sides(rings: Rings, stash: Stash, batch: usize) -> (Shared, Forwarder, Played
     let forwarder = Forwarder::new(takes, posts, stash, plan);
     let storing = Storing::new(Storer::new(stores));
     let played = Played {
-        most: EPOCHS,
         storing,
         hearing: Hearing::new(sends),
+        most: EPOCHS,
     };
     (shared, forwarder, played)
 }

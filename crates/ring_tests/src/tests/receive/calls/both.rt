@@ -148,14 +148,6 @@ impl Both {
         }
     }
 
-    fn look(&mut self) -> Option<Note> {
-        if !self.controller.is_serving() {
-            return None;
-        }
-        let free = self.controller.look(&self.ring);
-        u16::try_from(free).ok().map(Note::Free)
-    }
-
     fn answer(&mut self) {
         if !self.controller.can_answer() {
             return;
@@ -202,6 +194,14 @@ impl Both {
         Some(Note::Tail(0))
     }
 
+    fn look(&mut self) -> Option<Note> {
+        if !self.controller.is_serving() {
+            return None;
+        }
+        let free = self.controller.look(&self.ring);
+        u16::try_from(free).ok().map(Note::Free)
+    }
+
     fn set_head(&mut self) -> Option<Note> {
         if !self.controller.is_serving() || self.controller.is_holding() {
             return None;
@@ -226,9 +226,9 @@ impl Both {
 
     fn renew(&mut self) -> Option<Note> {
         renewed!(self);
+        self.untouched = true;
         self.stored_count = 0;
         self.taken_count = 0;
-        self.untouched = true;
         Some(Note::Head(0))
     }
 }
@@ -312,11 +312,6 @@ impl Beside for Both {
     }
 }
 
-fn step_at(at: u64) -> Step {
-    let named = named_at(STEPS, at).unwrap_or(RxStep::Head);
-    rx_step(named).unwrap_or(RxStep::Head)
-}
-
 /// Of random numbers those below the first, and not below that of the row before, stand for the step.
 const STEPS: &[(u64, RxNamed)] = &[
     (7, RxStep::Post(0)),
@@ -332,6 +327,11 @@ const STEPS: &[(u64, RxNamed)] = &[
     (50, RxStep::ClearTail),
     (51, RxStep::ClearQuiet),
 ];
+
+fn step_at(at: u64) -> Step {
+    let named = named_at(STEPS, at).unwrap_or(RxStep::Head);
+    rx_step(named).unwrap_or(RxStep::Head)
+}
 
 fn random_store(random: &mut Random) -> Step {
     let len = match random.below(6) {

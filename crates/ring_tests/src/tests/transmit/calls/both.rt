@@ -64,9 +64,9 @@ pub(crate) struct Both {
     held_buf: Option<Buf>,
     ghost drives: { driver.table ≡ ring },
     ghost serves: { controller.table ≡ ring },
+    ghost holds: { held_buf ≡ held_by controller },
     ghost counts: { length (unfinished carried (posted driver)) ≡ begun.segments },
     ghost adds: { length (join carried (unfinished carried (posted driver))) ≡ begun.bytes },
-    ghost holds: { held_buf ≡ held_by controller },
     ghost few: { begun.bytes ≤ MOST_FRAME },
     ghost of_frame: { AreOfFrame begun.paylen (unfinished carried (posted driver)) },
 }
