@@ -1,4 +1,4 @@
-//! TODO
+//! The tests, and what they run forwarders with: `configs`, `gates`, `readers`, `bursts` and `counted`.
 
 mod bounds;
 mod bursts;

@@ -1,10 +1,10 @@
 //! Configurations that are refused, and those at the edge of what is not.
 
-use crate::bursts::{Burst, script_of};
-use crate::configs::DEFAULT;
-use crate::counted::{Counts, NONE, comes_to};
-use crate::gates::Shuts;
-use crate::wanted::{holds, same};
+use crate::tests::bursts::{Burst, script_of};
+use crate::tests::configs::DEFAULT;
+use crate::tests::counted::{Counts, NONE, comes_to};
+use crate::tests::gates::Shuts;
+use crate::tests::wanted::{holds, same};
 use forwarder::{Config, forward};
 use forwarding::{ForwardError, Open};
 use std::alloc::Global;

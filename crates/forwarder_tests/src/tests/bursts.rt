@@ -1,6 +1,6 @@
 //! Scripts of frames that are told apart by their bytes.
 
-use crate::counted::{Counts, NONE};
+use crate::tests::counted::{Counts, NONE};
 use std::alloc::Global;
 use std::process::Abort;
 use wire_script::{Script, WireFrame};

@@ -1,9 +1,9 @@
 //! All flows of 8 pairs, by each number of workers.
 
-use crate::bursts::script_with;
-use crate::configs::DEFAULT;
-use crate::counted::counts_of;
-use crate::wanted::same;
+use crate::tests::bursts::script_with;
+use crate::tests::configs::DEFAULT;
+use crate::tests::counted::counts_of;
+use crate::tests::wanted::same;
 use controller::Wire;
 use flows::{Ended, FlowReport};
 use forwarder::{Config, forward};

@@ -1,9 +1,9 @@
 //! Flows that are cut after their turns.
 
-use crate::bursts::{FORTY, FORTY_COUNTS, script_of};
-use crate::configs::SHORT;
-use crate::counted::{carries, comes_to};
-use crate::wanted::{holds, same};
+use crate::tests::bursts::{FORTY, FORTY_COUNTS, script_of};
+use crate::tests::configs::SHORT;
+use crate::tests::counted::{carries, comes_to};
+use crate::tests::wanted::{holds, same};
 use flows::{Ended, FlowReport};
 use forwarder::{Config, forward};
 use forwarding::Open;

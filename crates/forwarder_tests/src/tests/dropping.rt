@@ -1,9 +1,9 @@
 //! What is dropped is counted, and all else goes out in order.
 
-use crate::bursts::{Burst, script_of};
-use crate::configs::SHORT;
-use crate::counted::is_touched;
-use crate::wanted::same;
+use crate::tests::bursts::{Burst, script_of};
+use crate::tests::configs::SHORT;
+use crate::tests::counted::is_touched;
+use crate::tests::wanted::same;
 use controller::Wire;
 use flows::{Ended, FlowReport};
 use forwarder::{Config, forward};

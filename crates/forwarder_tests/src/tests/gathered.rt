@@ -4,10 +4,10 @@ ghost use Rattle.forwarder.specs.Configs.{FitsIn};
 ghost use Rattle.pool.specs.Owned.{IsOf};
 ghost use Rattle.pool.specs.declared.hand.TheConstants.{WHOLE_SHARE};
 
-use crate::bursts::{Burst, FORTY, script_of};
-use crate::configs::DEFAULT;
-use crate::gates::{Midway, Shuts, Stops};
-use crate::wanted::{holds, same};
+use crate::tests::bursts::{Burst, FORTY, script_of};
+use crate::tests::configs::DEFAULT;
+use crate::tests::gates::{Midway, Shuts, Stops};
+use crate::tests::wanted::{holds, same};
 use buffer_pool::Stash;
 use forwarder::{Config, forward_in};
 use forwarding::{ForwardError, Gate, Open};

@@ -1,9 +1,9 @@
 //! Gates that refuse.
 
-use crate::bursts::{Burst, FORTY, script_of};
-use crate::configs::SHORT;
-use crate::gates::{Leaving, Shuts};
-use crate::wanted::same;
+use crate::tests::bursts::{Burst, FORTY, script_of};
+use crate::tests::configs::SHORT;
+use crate::tests::gates::{Leaving, Shuts};
+use crate::tests::wanted::same;
 use forwarder::{Config, forward};
 use forwarding::ForwardError;
 use std::alloc::Global;

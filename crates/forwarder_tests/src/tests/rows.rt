@@ -1,9 +1,9 @@
 //! Worked rows.
 
-use crate::bursts::{Burst, FORTY, FORTY_COUNTS, script_of};
-use crate::configs::{DEFAULT, SHORT};
-use crate::counted::{Counts, NONE, comes_to};
-use crate::wanted::{holds, same};
+use crate::tests::bursts::{Burst, FORTY, FORTY_COUNTS, script_of};
+use crate::tests::configs::{DEFAULT, SHORT};
+use crate::tests::counted::{Counts, NONE, comes_to};
+use crate::tests::wanted::{holds, same};
 use controller::Wire;
 use flows::FlowReport;
 use forwarder::{Config, forward};

@@ -1,10 +1,10 @@
 //! Drivers and controllers run in threads of their own, over rings that have so much room and no more.
 
-use crate::bursts::{Burst, script_of};
-use crate::configs::DEFAULT;
-use crate::counted::{Counts, NONE, comes_to};
-use crate::gates::{After, Meeting};
-use crate::wanted::holds;
+use crate::tests::bursts::{Burst, script_of};
+use crate::tests::configs::DEFAULT;
+use crate::tests::counted::{Counts, NONE, comes_to};
+use crate::tests::gates::{After, Meeting};
+use crate::tests::wanted::holds;
 use forwarder::Config;
 use std::alloc::Global;
 use std::process::Abort;

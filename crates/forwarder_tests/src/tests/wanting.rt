@@ -1,10 +1,10 @@
 //! Want of memory and of threads. With any one allocation refused, as `rt try --test --fail-alloc 1..` does, these pass too,
 //! and so they do where a thread can't be started.
 
-use crate::configs::SHORT;
-use crate::counted::{Counts, NONE, is_drained};
-use crate::gathered::{BUFFERS, ended_over};
-use crate::wanted::holds;
+use crate::tests::configs::SHORT;
+use crate::tests::counted::{Counts, NONE, is_drained};
+use crate::tests::gathered::{BUFFERS, ended_over};
+use crate::tests::wanted::holds;
 use forwarder::{Config, forward};
 use forwarding::{ForwardError, Open};
 use pool::Pool;

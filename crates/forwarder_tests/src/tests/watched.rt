@@ -2,12 +2,12 @@
 ghost use Rattle.std.specs.Prelude.{◌≡◌, ◌*◌, length};
 ghost use Rattle.counters.specs.Paired.{ArePaired};
 
-use crate::bursts::{FORTY, FORTY_COUNTS, script_of};
-use crate::configs::SHORT;
-use crate::counted::is_drained;
-use crate::gates::Paced;
-use crate::readers::{Reader, readers_of};
-use crate::wanted::{holds, same};
+use crate::tests::bursts::{FORTY, FORTY_COUNTS, script_of};
+use crate::tests::configs::SHORT;
+use crate::tests::counted::is_drained;
+use crate::tests::gates::Paced;
+use crate::tests::readers::{Reader, readers_of};
+use crate::tests::wanted::{holds, same};
 use counters::{DriveCell, DrivePass, Driven, FlowCells, FlowPens, Moment, StatCell, StatPass};
 use flows::FlowReport;
 use forwarder::{Config, Report, forward_watched};

@@ -3,7 +3,7 @@ use Rattle.std.proofs.lemmas.Slice.Zip.{AllZip-long}
 use Rattle.counters.specs.Paired.{ArePaired, IsFresh}
 use Rattle.counters.specs.declared.flows.FlowPens.{FlowPens}
 use Rattle.forwarder_tests.proofs.Pairs.{zip-at}
-use Rattle.forwarder_tests.proofs.readers.readers_of.Goals as goal
+use Rattle.forwarder_tests.proofs.tests.readers.readers_of.Goals as goal
 
 pub bounds-pens-k : goal.bounds-pens-k
 bounds-pens-k g c =

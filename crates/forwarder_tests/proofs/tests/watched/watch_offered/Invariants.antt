@@ -1,5 +1,5 @@
 use Rattle.std.proofs.Common.{◌≡◌}
-use Rattle.forwarder_tests.proofs.watched.watch_offered.Given as goal
+use Rattle.forwarder_tests.proofs.tests.watched.watch_offered.Given as goal
 
 abbrev pub invariant-loop : goal.invariant-loop
 invariant-loop g l = record {
