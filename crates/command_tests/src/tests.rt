@@ -1,4 +1,5 @@
-//! TODO
+//! The tests. Most are tables of rows, a run of the program with all that it has to come to, which `told` walks. `runs` runs
+//! it on words and streams, and `streams` has inputs and outputs that fail, and a screen.
 
 mod decode_tests;
 mod forward;

@@ -1,6 +1,6 @@
 //! The command `decode`, row after row.
 
-use crate::told::comes_to;
+use crate::tests::told::comes_to;
 use std::alloc::Global;
 use std::process::Abort;
 use std::rt::Files;

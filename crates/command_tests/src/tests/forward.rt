@@ -1,6 +1,6 @@
 //! The command `forward`, captures beside it, and what is shown meanwhile.
 //!
-//! Most are tables of rows, a run with all that it has to come to, which `crate::told`, `captured` and `streams` walk.
+//! Most are tables of rows, a run with all that it has to come to, which `crate::tests::told`, `captured` and `streams` walk.
 
 mod capture_streams;
 mod capture_words;

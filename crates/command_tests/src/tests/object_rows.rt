@@ -1,6 +1,6 @@
 //! Lists of moves with the objects that `replay --json` prints of them.
 
-use crate::told::Row;
+use crate::tests::told::Row;
 
 /// Each kind of note, a move that there isn't, and the count.
 pub const OBJECTS: &[Row] = &[

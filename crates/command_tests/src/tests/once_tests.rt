@@ -1,6 +1,6 @@
 //! The command `once`, row after row.
 
-use crate::told::{comes_to, times};
+use crate::tests::told::{comes_to, times};
 use std::alloc::{AllocError, Global};
 use std::process::Abort;
 use std::rt::Files;

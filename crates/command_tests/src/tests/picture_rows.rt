@@ -1,6 +1,6 @@
 //! Lists of moves with what `replay --picture` prints of them.
 
-use crate::told::Row;
+use crate::tests::told::Row;
 
 /// Each move's queue and the last move's alone, of both directions, a longer ring, no queue and no move.
 pub const PICTURES: &[Row] = &[

@@ -1,6 +1,6 @@
 //! Lists of moves with what `replay --registers` prints of them.
 
-use crate::told::Row;
+use crate::tests::told::Row;
 
 /// Both directions, a move that there isn't, a queue that isn't there, and objects.
 pub const REGISTERS: &[Row] = &[

@@ -1,6 +1,6 @@
 //! Lists of moves with what `replay` prints of them.
 
-use crate::told::Row;
+use crate::tests::told::Row;
 
 /// Each list that a table of the machine's moves gives: of frames that are received and sent.
 pub const FRAMES: &[Row] = &[

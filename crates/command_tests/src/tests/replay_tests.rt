@@ -1,12 +1,12 @@
 //! The command `replay`, row after row.
 
-use crate::object_rows::OBJECTS;
-use crate::picture_rows::PICTURES;
-use crate::register_rows::REGISTERS;
-use crate::replay_rows::{ENDS, EPOCHS, FRAMES, MIDDLE};
-use crate::runs::outcome_of;
-use crate::told::{Row, comes_to, each_comes_to, times};
-use crate::wanted::same;
+use crate::tests::object_rows::OBJECTS;
+use crate::tests::picture_rows::PICTURES;
+use crate::tests::register_rows::REGISTERS;
+use crate::tests::replay_rows::{ENDS, EPOCHS, FRAMES, MIDDLE};
+use crate::tests::runs::outcome_of;
+use crate::tests::told::{Row, comes_to, each_comes_to, times};
+use crate::tests::wanted::same;
 use std::alloc::{AllocError, Global};
 use std::process::Abort;
 use std::rt::Files;

@@ -1,6 +1,6 @@
 //! Runs of the program, and what they came to.
 
-use crate::streams::Screen;
+use crate::tests::streams::Screen;
 use command_line::run;
 use std::alloc::{AllocError, Global};
 use std::io::{Read, Write};

@@ -1,8 +1,8 @@
 //! The command `schedules`, from its words to its lists.
 
-use crate::runs::outcome_of;
-use crate::told::comes_to;
-use crate::wanted::{holds, same};
+use crate::tests::runs::outcome_of;
+use crate::tests::told::comes_to;
+use crate::tests::wanted::{holds, same};
 use std::alloc::Global;
 use std::process::Abort;
 use std::rt::Files;

@@ -1,8 +1,8 @@
 //! Streams that fail, and want of memory.
 
-use crate::runs::{refusal_of, status_of, text_of};
-use crate::streams::{Broken, Narrow, Screen, Unflushed};
-use crate::wanted::{holds, same};
+use crate::tests::runs::{refusal_of, status_of, text_of};
+use crate::tests::streams::{Broken, Narrow, Screen, Unflushed};
+use crate::tests::wanted::{holds, same};
 use commands::{NOTES, QueuePlan, Request, perform};
 use ring_machine::Completion;
 use std::alloc::Global;

@@ -1,8 +1,8 @@
 //! What runs of the program on words and an input have to come to.
 
-use crate::runs::{Told, is_page, outcome_of, told_by};
-use crate::streams::Broken;
-use crate::wanted::same;
+use crate::tests::runs::{Told, is_page, outcome_of, told_by};
+use crate::tests::streams::Broken;
+use crate::tests::wanted::same;
 use std::alloc::{AllocError, Global};
 use std::process::Abort;
 use std::rt::Files;

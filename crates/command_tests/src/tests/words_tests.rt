@@ -1,7 +1,7 @@
 //! Words that ask for help, and words that are wrong.
 
-use crate::told::{Row, each_comes_to, each_is_helped, each_is_mistaken};
-use crate::wanted::same;
+use crate::tests::told::{Row, each_comes_to, each_is_helped, each_is_mistaken};
+use crate::tests::wanted::same;
 use buffer_pool::PoolError;
 use commands::{REFUSED, Refusal, refuse};
 use descriptor::DescError;

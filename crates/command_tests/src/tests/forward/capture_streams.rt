@@ -1,9 +1,9 @@
 //! Streams of `from-capture` and `to-capture` that fail, and want of memory.
 
-use crate::forward::captured::{AT_0, FIVES, HEADER, joined};
-use crate::forward::streams::{each_beginning, each_cut};
-use crate::streams::Narrow;
-use crate::wanted::{holds, same};
+use crate::tests::forward::captured::{AT_0, FIVES, HEADER, joined};
+use crate::tests::forward::streams::{each_beginning, each_cut};
+use crate::tests::streams::Narrow;
+use crate::tests::wanted::{holds, same};
 use capture_commands::piped::{CaptureRequest, perform};
 use std::alloc::Global;
 use std::process::Abort;

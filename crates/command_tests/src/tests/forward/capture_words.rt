@@ -1,6 +1,6 @@
 //! The help of `from-capture` and `to-capture`, and words that are wrong.
 
-use crate::told::{each_is_helped, each_is_mistaken};
+use crate::tests::told::{each_is_helped, each_is_mistaken};
 
 /// Words that ask for help, and what it has to say.
 const HELPED: &[(&[&str], &str)] = &[

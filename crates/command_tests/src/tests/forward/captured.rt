@@ -1,7 +1,7 @@
 //! Captures by their parts, and runs that read or write them.
 
-use crate::runs::{Told, outcome_of};
-use crate::wanted::same;
+use crate::tests::runs::{Told, outcome_of};
+use crate::tests::wanted::same;
 use std::alloc::{AllocError, Global};
 use std::process::Abort;
 use std::rt::Files;

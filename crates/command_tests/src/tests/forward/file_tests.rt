@@ -1,12 +1,12 @@
 //! Forwarding from captures and to captures, with files.
 
-use crate::forward::captured::{
+use crate::tests::forward::captured::{
     AT_0, AT_1, AT_2, BYTES, Content, FIVES, HEADER, LETTERS, RAW, SHORT, is_told, joined,
 };
-use crate::runs::{outcome_of, told_by};
-use crate::streams::Broken;
-use crate::told::each_is_mistaken;
-use crate::wanted::{holds, same};
+use crate::tests::runs::{outcome_of, told_by};
+use crate::tests::streams::Broken;
+use crate::tests::told::each_is_mistaken;
+use crate::tests::wanted::{holds, same};
 use std::alloc::Global;
 use std::fs;
 use std::process::Abort;

@@ -1,7 +1,7 @@
 //! What `progress` shows of a short run, in each form, and a screen that fails.
 
-use crate::runs::text_of;
-use crate::wanted::{holds, same};
+use crate::tests::runs::text_of;
+use crate::tests::wanted::{holds, same};
 use forwarder::{Config, Report};
 use forwarding::Open;
 use progress::{Form, forward, forward_shown};

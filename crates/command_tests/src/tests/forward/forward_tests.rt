@@ -1,11 +1,11 @@
 //! Scripts from text to text.
 
-use crate::forward::crowd::{FLOWS, crowd, crowd_forwarded};
-use crate::forward::forty::{forty, forty_forwarded, forty_words};
-use crate::forward::forward_rows::{FORWARDED, REFUSED, Row, SHAPED};
-use crate::runs::outcome_of;
-use crate::told::comes_to;
-use crate::wanted::same;
+use crate::tests::forward::crowd::{FLOWS, crowd, crowd_forwarded};
+use crate::tests::forward::forty::{forty, forty_forwarded, forty_words};
+use crate::tests::forward::forward_rows::{FORWARDED, REFUSED, Row, SHAPED};
+use crate::tests::runs::outcome_of;
+use crate::tests::told::comes_to;
+use crate::tests::wanted::same;
 use std::alloc::Global;
 use std::process::Abort;
 use std::rt::Files;

@@ -1,6 +1,6 @@
 //! From captures to lines.
 
-use crate::forward::captured::{
+use crate::tests::forward::captured::{
     AT_0, AT_1, BIG_NANOS, BIG_SOME, BYTES, HEADER, LETTERS, NEXT, RAW, Refusing, SHORT, SMALL,
     THIRTEEN, Writing, each_is_refused, each_writes,
 };

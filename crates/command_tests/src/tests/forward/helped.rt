@@ -1,8 +1,8 @@
 //! The help of `forward`, words that are wrong, and refusals.
 
-use crate::runs::outcome_of;
-use crate::told::{each_is_helped, each_is_mistaken};
-use crate::wanted::same;
+use crate::tests::runs::outcome_of;
+use crate::tests::told::{each_is_helped, each_is_mistaken};
+use crate::tests::wanted::same;
 use commands::{REFUSED, Refusal, refuse};
 use forwarding::ForwardError;
 use std::alloc::Global;

@@ -1,9 +1,9 @@
 //! With `--progress` it is shown how far it is, and the output is the same.
 
-use crate::forward::forty::{forty, forty_words};
-use crate::runs::{Told, outcome_of, outcome_on};
-use crate::streams::Screen;
-use crate::wanted::same;
+use crate::tests::forward::forty::{forty, forty_words};
+use crate::tests::runs::{Told, outcome_of, outcome_on};
+use crate::tests::streams::Screen;
+use crate::tests::wanted::same;
 use std::alloc::Global;
 use std::process::Abort;
 use std::rt::Files;

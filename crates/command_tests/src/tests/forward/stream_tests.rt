@@ -1,9 +1,9 @@
 //! Streams that fail, and want of memory.
 
-use crate::forward::forty::{FORTY_WORDS, forty, forty_forwarded};
-use crate::forward::streams::{each_beginning, each_cut, is_refused};
-use crate::streams::{Halting, Narrow, PIECE, Piecemeal, Screen};
-use crate::wanted::{holds, same};
+use crate::tests::forward::forty::{FORTY_WORDS, forty, forty_forwarded};
+use crate::tests::forward::streams::{each_beginning, each_cut, is_refused};
+use crate::tests::streams::{Halting, Narrow, PIECE, Piecemeal, Screen};
+use crate::tests::wanted::{holds, same};
 use forward_command::{Printing, perform};
 use forwarder::Config;
 use std::alloc::Global;

@@ -1,8 +1,8 @@
 //! Runs on streams that fail.
 
-use crate::runs::{refusal_of, text_of};
-use crate::streams::{Broken, Narrow, Unflushed};
-use crate::wanted::{holds, same};
+use crate::tests::runs::{refusal_of, text_of};
+use crate::tests::streams::{Broken, Narrow, Unflushed};
+use crate::tests::wanted::{holds, same};
 use std::alloc::Global;
 use std::io::{Read, Write};
 use std::process::Abort;

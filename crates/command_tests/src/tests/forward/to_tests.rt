@@ -1,6 +1,6 @@
 //! From lines to captures, and back.
 
-use crate::forward::captured::{
+use crate::tests::forward::captured::{
     AT_0, AT_1, AT_2, BIG_NANOS, BIG_SOME, BYTES, Content, FIVES, HEADER, LETTERS, Refusing,
     TOUCHED, Writing, each_is_refused, each_writes, is_piped,
 };

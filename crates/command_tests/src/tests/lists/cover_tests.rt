@@ -1,7 +1,7 @@
 //! What is printed of lists that together meet all that a queue can do.
 
-use crate::streams::Narrow;
-use crate::wanted::{holds, same};
+use crate::tests::streams::Narrow;
+use crate::tests::wanted::{holds, same};
 use commands::{NOTES, QueuePlan, replay_text};
 use cover_command::{CoverRequest, answer};
 use ring_machine::Completion;

@@ -1,6 +1,6 @@
 //! What a list of moves has.
 
-use crate::wanted::{holds, same};
+use crate::tests::wanted::{holds, same};
 use ring_machine::{Completion, ControlStep, Move, RxStep, TxStep};
 use schedules::{Drawn, SchedulePlan, draw};
 use std::alloc::{AllocError, Global};

@@ -1,7 +1,7 @@
 //! What is printed of lists.
 
-use crate::streams::Narrow;
-use crate::wanted::{holds, same};
+use crate::tests::streams::Narrow;
+use crate::tests::wanted::{holds, same};
 use commands::{NOTES, QueuePlan, replay_text};
 use ring_machine::Completion;
 use schedule_command::{ScheduleRequest, answer};

@@ -1,6 +1,6 @@
 //! A search ends, leaves nothing out, and its lists meet all that it has met.
-use crate::search::second::{meet_along, second_search};
-use crate::wanted::{holds, same};
+use crate::tests::search::second::{meet_along, second_search};
+use crate::tests::wanted::{holds, same};
 use coverage::{CoverList, Pair, Scope, Search, Side, is_data};
 use ring_machine::Completion;
 use std::alloc::Global;
