@@ -1,8 +1,8 @@
 -- A receive machine follows its ring, step by step and through every schedule.
-use Rattle.std.proofs.Common.{◌≡◌, ℕ, ◌+◌, ◌<◌, Bool, true, false, List, [], ◌∷◌, ◌++◌, Option, Some, None, sym, refl, ◌∙◌, subst, arith}
-use Rattle.std.specs.Prelude.{Result, Ok, Err}
+use Rattle.std.proofs.Common.{◌≡◌, ℕ, ◌+◌, ◌<◌, Bool, true, false, List, [], ◌∷◌, ◌++◌, Option, Some, None, sym, refl, ◌∙◌}
+use Rattle.std.specs.Prelude.{Result, Err}
 use Rattle.ring_model.specs.declared.steps.RxStep.{RxStep}
-use Rattle.ring_model.specs.declared.steps.RxStep.TheVariants.{Post, Publish, Look, Fetch, Store, Take, Head, Control, Reclaim, StoreQuiet, LoadQuiet, ClearHead, ClearTail, ClearQuiet}
+use Rattle.ring_model.specs.declared.steps.RxStep.TheVariants.{Take}
 use Rattle.ring_model.specs.declared.notes.Note.{Note}
 use Rattle.ring_model.specs.receive.Ring.{RxRing, due, rx_opening}
 use Rattle.ring_model.specs.shared.Segments.{Segment, ends_segment}
@@ -18,7 +18,7 @@ use Rattle.ring_machine.specs.code.Sound.{IsSound}
 use Rattle.ring_machine.specs.shared.Machine.{told_owner}
 use Rattle.ring_machine.specs.receive.Machine.{RxAgrees, RxFollows, RxOwns, RxParts, RxRuns, lies_rx, says_rx}
 use Rattle.ring_machine.specs.code.Receive.{rx_begun, rx_may, rx_moved, rx_told}
-use Rattle.ring_machine.proofs.shared.Running.{did-made, did-refused, runs-append, runs-nil, runs-none, runs-one}
+use Rattle.ring_machine.proofs.shared.Running.{did-made, did-refused, kept-there, runs-answer, runs-append, runs-nil}
 use Rattle.ring_machine.proofs.shared.Shaking.{fits-begun}
 use Rattle.ring_machine.proofs.shared.Owning.{owns}
 use Rattle.ring_machine.proofs.receive.Telling.{itself, named, rx_may_is, rx_told_is}
@@ -29,20 +29,8 @@ took-size r None = refl
 took-size r (Some s) = refl
 
 changed-size : (r : RxRing ℕ) (s : RxStep ℕ) → (rx_changed r s).size ≡ r.size
-changed-size r (Post b) = refl
-changed-size r Publish = refl
-changed-size r Look = refl
-changed-size r Fetch = refl
-changed-size r (Store x eop) = refl
 changed-size r Take = took-size r (due r)
-changed-size r Head = refl
-changed-size r (Control c) = refl
-changed-size r Reclaim = refl
-changed-size r StoreQuiet = refl
-changed-size r LoadQuiet = refl
-changed-size r ClearHead = refl
-changed-size r ClearTail = refl
-changed-size r ClearQuiet = refl
+changed-size r _ = refl
 
 -- a ring has as many places as the one that its schedule began with
 pub rx_reached-size : (n : ℕ) (r : RxRing ℕ) → IsRxReachable ℕ n r → r.size ≡ n
@@ -50,8 +38,7 @@ rx_reached-size n r e = kept-reached rx_can rx_changed (λ (q : RxRing ℕ). q.s
 
 -- a ring that a schedule gave and that a machine agrees with is kept
 pub rx_meets : (p : RxParts) (n : ℕ) (r : RxRing ℕ) → IsSound p.queue → IsRxReachable ℕ n r → RxAgrees p r → IsRxKept ℕ r.size r
-rx_meets p n r sound e a = let q = a.queue in let same = rx_reached-size n r e in let some = sound.some_places in let size = q.size_is in
-    subst (λ (m : ℕ). IsRxKept ℕ m r) (sym same) (rx_kept n r (omega arith) e)
+rx_meets p n r sound e a = let q = a.queue in kept-there (λ m. IsRxKept ℕ m r) n r.size p.queue.size (rx_reached-size n r e) sound.some_places q.size_is (λ some. rx_kept n r some e)
 
 pub rx_moves-on : (p : RxParts) (s : RxStep ℕ) → IsSound p.queue → rx_may p s ≡ true → RxFollows p s (rx_told p s) (rx_moved p s)
 unfolding RxFollows
@@ -66,18 +53,10 @@ rx_refuses p s sound may n r e a = let k = rx_meets p n r sound e a in did-refus
 pub rx_begun-agrees : (n : ℕ) (enabled : Bool) → 0 < n → RxAgrees (rx_begun n enabled) (rx_opening n enabled)
 rx_begun-agrees n enabled some = record { queue = fits-begun ends_segment says_rx lies_rx n enabled some; quiet = refl; still = refl }
 
-rx_runs-one : (a b : RxParts) (s : RxStep ℕ) (told : Note) → RxFollows a s (Ok told) b → RxRuns a (s ∷ []) 1 b
-unfolding RxFollows RxRuns
-rx_runs-one a b s told follows = runs-one RxAgrees (IsRxReachable ℕ) rx_can rx_changed rx_note_of a b s told follows
-
-rx_runs-none : (a b : RxParts) (s : RxStep ℕ) (why : MachineError) → RxFollows a s (Err why) b → RxRuns a (s ∷ []) 0 b
-unfolding RxFollows RxRuns
-rx_runs-none a b s why follows = runs-none RxAgrees (IsRxReachable ℕ) rx_can rx_changed rx_note_of a b s why follows
-
 -- whatever a step answers, it is a schedule of one step, which is counted where it was made
 pub rx_runs-answer : (a b : RxParts) (s : RxStep ℕ) (told : Result Note MachineError) → RxFollows a s told b → RxRuns a (s ∷ []) (count_of told) b
-rx_runs-answer a b s (Ok note) follows = rx_runs-one a b s note follows
-rx_runs-answer a b s (Err why) follows = rx_runs-none a b s why follows
+unfolding RxFollows RxRuns
+rx_runs-answer a b s told follows = runs-answer RxAgrees (IsRxReachable ℕ) rx_can rx_changed rx_note_of a b s told follows
 
 pub rx_runs-nil : (a : RxParts) → RxRuns a [] 0 a
 unfolding RxRuns

@@ -1,31 +1,25 @@
 -- A machine that follows its ring step by step follows it through every schedule.
 use Rattle.std.proofs.Common.{◌≡◌, ℕ, suc, ◌+◌, ◌<◌, Bool, true, false, List, [], ◌∷◌, ◌++◌, length, take, get_or, Some, None, sym, refl, ap, ◌∙◌, subst, arith, if◌then◌else◌}
-use Rattle.std.specs.Prelude.{Ok, Err}
+use Rattle.std.specs.Prelude.{Result, Ok, Err}
 use Rattle.std.specs.Option.{ok_or}
 use Rattle.std.proofs.lemmas.List.{take_more}
 use Rattle.ring_model.specs.declared.notes.Note.{Note}
-use Rattle.ring_model.specs.shared.QueueSteps.{QueueStep, Post, Publish, Look, Fetch, Serve, Head, Give, Shake, Reclaim, ClearHead, ClearTail, Renew}
+use Rattle.ring_model.specs.shared.QueueSteps.{QueueStep, Post}
 use Rattle.ring_model.specs.shared.Queue.{Queue, by}
 use Rattle.ring_model.specs.shared.Schedules.{after_all, happened, next}
 use Rattle.ring_laws.specs.Schedules.{after-append}
 use Rattle.ring_machine.specs.declared.error.MachineError.{MachineError}
 use Rattle.ring_machine.specs.declared.error.MachineError.TheVariants as refusal
-use Rattle.ring_machine.specs.shared.Following.{Did, Follows, Runs}
+use Rattle.ring_machine.specs.shared.Following.{Did, Follows, Runs, count_of}
 
 -- no step changes how many places a queue has
 pub by-size : {Posted Served Given : Type 0} (q : Queue Posted Served Given) (s : QueueStep Posted Served Given) → (by q s).size ≡ q.size
 by-size q (Post x) = refl
-by-size q Publish = refl
-by-size q Look = refl
-by-size q Fetch = refl
-by-size q (Serve x) = refl
-by-size q Head = refl
-by-size q (Give x) = refl
-by-size q (Shake c settled) = refl
-by-size q Reclaim = refl
-by-size q ClearHead = refl
-by-size q ClearTail = refl
-by-size q Renew = refl
+by-size q _ = refl
+
+-- what is kept of a ring of n places is kept of one of as many; its machine tells that they are two or more
+pub kept-there : (Kept : ℕ → Type 0) (n size places : ℕ) → size ≡ n → 1 < places → places ≡ size → (1 < n → Kept n) → Kept size
+kept-there Kept n size places same some is kept = subst Kept (sym same) (kept (omega arith))
 
 module _ {State Step : Type 0} (can : State → Step → Bool) (changed : State → Step → State) where
   counted : (x y : ℕ) (happens : Bool) → (if happens then suc (x + y) else (x + y)) ≡ (if happens then suc x else x) + y
@@ -56,11 +50,10 @@ module _ {State Step : Type 0} (can : State → Step → Bool) (changed : State 
   counts-none tells why false e = refl
 
 module _ {Parts State Step : Type 0} (Agree : Parts → State → Type 0) (Reached : ℕ → State → Type 0) (can : State → Step → Bool) (changed : State → Step → State) (tells : State → Step → Note) where
-  pub runs-one : (a b : Parts) (s : Step) (told : Note) → Follows Agree Reached can changed tells a s (Ok told) b → Runs Agree Reached can changed tells a (s ∷ []) 1 b
-  runs-one a b s told follows n r e g = let d = follows n r e g in (d.agrees, counts-one can changed (tells r s) told (can r s) d.answer)
-
-  pub runs-none : (a b : Parts) (s : Step) (why : MachineError) → Follows Agree Reached can changed tells a s (Err why) b → Runs Agree Reached can changed tells a (s ∷ []) 0 b
-  runs-none a b s why follows n r e g = let d = follows n r e g in (d.agrees, counts-none can changed (tells r s) why (can r s) d.answer)
+  -- whatever a step answers, it is a schedule of one step, which is counted where it was made
+  pub runs-answer : (a b : Parts) (s : Step) (told : Result Note MachineError) → Follows Agree Reached can changed tells a s told b → Runs Agree Reached can changed tells a (s ∷ []) (count_of told) b
+  runs-answer a b s (Ok note) follows n r e g = let d = follows n r e g in (d.agrees, counts-one can changed (tells r s) note (can r s) d.answer)
+  runs-answer a b s (Err why) follows n r e g = let d = follows n r e g in (d.agrees, counts-none can changed (tells r s) why (can r s) d.answer)
 
   pub runs-nil : (a : Parts) → Runs Agree Reached can changed tells a [] 0 a
   runs-nil a n r e g = (g, refl)

@@ -1,9 +1,9 @@
 -- A transmit machine follows its ring, step by step and through every schedule.
-use Rattle.std.proofs.Common.{◌≡◌, ℕ, ◌+◌, ◌<◌, Bool, true, false, List, [], ◌∷◌, ◌++◌, Option, Some, None, sym, refl, ◌∙◌, subst, arith, if◌then◌else◌, mod-eq_of_lt}
-use Rattle.std.specs.Prelude.{Result, nat_lt, Ok, Err}
+use Rattle.std.proofs.Common.{◌≡◌, ℕ, ◌+◌, ◌<◌, Bool, true, false, List, [], ◌∷◌, ◌++◌, Option, Some, None, sym, refl, ◌∙◌, if◌then◌else◌, mod-eq_of_lt}
+use Rattle.std.specs.Prelude.{Result, nat_lt, Err}
 use Rattle.std.proofs.lemmas.Option.{none-some}
 use Rattle.ring_model.specs.declared.steps.TxStep.{TxStep}
-use Rattle.ring_model.specs.declared.steps.TxStep.TheVariants.{Post, Publish, Look, Fetch, Send, Report, LoadReport, Clean, Control, Reclaim, ClearHead, ClearTail, ClearReport}
+use Rattle.ring_model.specs.declared.steps.TxStep.TheVariants.{Send, LoadReport, Clean, ClearTail}
 use Rattle.ring_model.specs.declared.notes.Note.{Note}
 use Rattle.ring_model.specs.transmit.Ring.{Posting, TxBeginning, TxRing, ends_posting, next_posting, next_sent, number_of_posting, tx_opening}
 use Rattle.ring_model.specs.transmit.Steps.{IsTxReachable, by_head, cleaned_one, loaded_report, oldest_report, sent_one, tx_can, tx_changed, tx_cleared, tx_note_of}
@@ -20,7 +20,7 @@ use Rattle.ring_machine.specs.transmit.Machine.{TxAgrees, TxFollows, TxOwns, TxP
 use Rattle.ring_machine.specs.code.Sound.{IsSound}
 use Rattle.ring_machine.specs.code.TxSound.{IsTxSound, StepFits}
 use Rattle.ring_machine.specs.code.Transmit.{tx_begun, tx_may, tx_moved, tx_told}
-use Rattle.ring_machine.proofs.shared.Running.{did-made, did-refused, runs-append, runs-nil, runs-none, runs-one}
+use Rattle.ring_machine.proofs.shared.Running.{did-made, did-refused, kept-there, runs-answer, runs-append, runs-nil}
 use Rattle.ring_machine.proofs.shared.Shaking.{fits-begun}
 use Rattle.ring_machine.proofs.shared.Owning.{owns}
 use Rattle.ring_machine.proofs.transmit.Telling.{named, tx_may_is, tx_told_is}
@@ -47,19 +47,11 @@ cleared-size r true = refl
 cleared-size r false = refl
 
 changed-size : (r : TxRing ℕ) (s : TxStep (Posting ℕ)) → (tx_changed r s).size ≡ r.size
-changed-size r (Post b) = refl
-changed-size r Publish = refl
-changed-size r Look = refl
-changed-size r Fetch = refl
 changed-size r Send = sent-size r (next_posting r)
-changed-size r Report = refl
 changed-size r LoadReport = loaded-size r (oldest_report r)
 changed-size r Clean = cleaned-size r (next_sent r)
-changed-size r (Control c) = refl
-changed-size r Reclaim = refl
-changed-size r ClearHead = refl
 changed-size r ClearTail = cleared-size r (by_head r.completion)
-changed-size r ClearReport = refl
+changed-size r _ = refl
 
 -- a ring has as many places as the one that its schedule began with
 pub tx_reached-size : (n : ℕ) (r : TxRing ℕ) → IsTxReachable ℕ n r → r.size ≡ n
@@ -67,8 +59,7 @@ tx_reached-size n r e = kept-reached tx_can tx_changed (λ (q : TxRing ℕ). q.s
 
 -- a ring that a schedule gave and that a machine agrees with is kept
 pub tx_meets : (p : TxParts) (n : ℕ) (r : TxRing ℕ) → IsSound p.queue → IsTxReachable ℕ n r → TxAgrees p r → IsTxKept ℕ r.size r
-tx_meets p n r sound e a = let q = a.queue in let same = tx_reached-size n r e in let some = sound.some_places in let size = q.size_is in
-    subst (λ (m : ℕ). IsTxKept ℕ m r) (sym same) (tx_kept n r (omega arith) e)
+tx_meets p n r sound e a = let q = a.queue in kept-there (λ m. IsTxKept ℕ m r) n r.size p.queue.size (tx_reached-size n r e) sound.some_places q.size_is (λ some. tx_kept n r some e)
 
 pub tx_moves-on : (p : TxParts) (s : TxStep (Posting ℕ)) → IsTxSound p → StepFits s → tx_may p s ≡ true → TxFollows p s (tx_told p s) (tx_moved p s)
 unfolding TxFollows
@@ -91,18 +82,10 @@ tx_begun-agrees n b some = record {
   lengths = λ j q x e. absurd (none-some q e);
 }
 
-tx_runs-one : (a b : TxParts) (s : TxStep (Posting ℕ)) (told : Note) → TxFollows a s (Ok told) b → TxRuns a (s ∷ []) 1 b
-unfolding TxFollows TxRuns
-tx_runs-one a b s told follows = runs-one TxAgrees (IsTxReachable ℕ) tx_can tx_changed tx_note_of a b s told follows
-
-tx_runs-none : (a b : TxParts) (s : TxStep (Posting ℕ)) (why : MachineError) → TxFollows a s (Err why) b → TxRuns a (s ∷ []) 0 b
-unfolding TxFollows TxRuns
-tx_runs-none a b s why follows = runs-none TxAgrees (IsTxReachable ℕ) tx_can tx_changed tx_note_of a b s why follows
-
 -- whatever a step answers, it is a schedule of one step, which is counted where it was made
 pub tx_runs-answer : (a b : TxParts) (s : TxStep (Posting ℕ)) (told : Result Note MachineError) → TxFollows a s told b → TxRuns a (s ∷ []) (count_of told) b
-tx_runs-answer a b s (Ok note) follows = tx_runs-one a b s note follows
-tx_runs-answer a b s (Err why) follows = tx_runs-none a b s why follows
+unfolding TxFollows TxRuns
+tx_runs-answer a b s told follows = runs-answer TxAgrees (IsTxReachable ℕ) tx_can tx_changed tx_note_of a b s told follows
 
 pub tx_runs-nil : (a : TxParts) → TxRuns a [] 0 a
 unfolding TxRuns
