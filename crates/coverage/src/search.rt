@@ -202,15 +202,19 @@ impl Search {
         Ok(())
     }
 
+    // How many moves lead to a state.
+    fn depth(&self, at: usize) -> usize {
+        match self.nodes.get(at) {
+            Some(node) => node.depth,
+            None => 0,
+        }
+    }
+
     // The moves that lead to a state, in their order.
     pub(crate) fn path_to(&self, alloc: Global, at: usize) -> Result<Vec<Move>, AllocError> {
         let mut path = Vec::new(alloc);
         let mut at = at;
-        let depth = match self.nodes.get(at) {
-            Some(node) => node.depth,
-            None => 0,
-        };
-        for _ in 0..depth {
+        for _ in 0..self.depth(at) {
             if let Some(node) = self.nodes.get(at) {
                 if let Some(action) = node.action {
                     path.push(action)?;
@@ -241,11 +245,7 @@ impl Search {
     // Marks the pairs that are met on the way to a state.
     fn cover(&self, covered: &mut Vec<bool>, at: usize) {
         let mut at = at;
-        let depth = match self.nodes.get(at) {
-            Some(node) => node.depth,
-            None => 0,
-        };
-        for _ in 0..depth {
+        for _ in 0..self.depth(at) {
             if let Some(node) = self.nodes.get(at) {
                 set(covered, node.pair);
                 at = node.from;

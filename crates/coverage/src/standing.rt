@@ -157,15 +157,9 @@ impl Standing {
         let _transmit: Option<TxStep<SegmentDescriptor>> = None;
         match step {
             RxStep::Post(_) => self.posted(false, false),
-            RxStep::Publish => Standing {
-                tail: self.out,
-                ..self
-            },
-            RxStep::Look => Standing {
-                known: self.tail,
-                ..self
-            },
-            RxStep::Fetch => Standing { held: true, ..self },
+            RxStep::Publish => self.published(),
+            RxStep::Look => self.looked(),
+            RxStep::Fetch => self.fetched(),
             RxStep::Store(_, eop) => Standing {
                 ends: with_bit(self.ends, self.used, eop),
                 used: behind(self.used),
@@ -202,15 +196,9 @@ impl Standing {
         let _receive: Option<RxStep<SegmentLength>> = None;
         match step {
             TxStep::Post(posted) => self.posted(posted.eop(), posted.rs()),
-            TxStep::Publish => Standing {
-                tail: self.out,
-                ..self
-            },
-            TxStep::Look => Standing {
-                known: self.tail,
-                ..self
-            },
-            TxStep::Fetch => Standing { held: true, ..self },
+            TxStep::Publish => self.published(),
+            TxStep::Look => self.looked(),
+            TxStep::Fetch => self.fetched(),
             TxStep::Send => Standing {
                 whole: has_bit(self.ends, self.used),
                 owed: has_bit(self.asks, self.used),
@@ -238,6 +226,27 @@ impl Standing {
             }),
             TxStep::ClearReport => self.cleared(DriverState::New),
         }
+    }
+
+    // The tail is behind the last that is out.
+    fn published(self) -> Standing {
+        Standing {
+            tail: self.out,
+            ..self
+        }
+    }
+
+    // The controller knows the tail as it is.
+    fn looked(self) -> Standing {
+        Standing {
+            known: self.tail,
+            ..self
+        }
+    }
+
+    // The controller holds what it read.
+    fn fetched(self) -> Standing {
+        Standing { held: true, ..self }
     }
 
     // One descriptor more is out.
