@@ -36,8 +36,9 @@ module _ {A F K C : Type 0} (key : F → K) (flow : A → F) (mark : A → C) (b
   abbrev seen : A → K × C
   seen w = (key (flow w), mark w)
 
-  pub as-many : length back ≡ length given
-  as-many = let a = length-map back seen in let b = length-map given seen in let e = ap length same in omega (arith, a, b, e)
+  -- as many came back as were given
+  pub as-many : (fs : List F) → map flow given ≡ fs → length back ≡ length fs
+  as-many fs of = let a = length-map back seen in let b = length-map given seen in let e = ap length same in let c = length-map given flow in let f = ap length of in omega (arith, a, b, c, e, f)
 
   -- the keys of what came back are those of what was given
   pub keys-of : (fs bs : List F) → map flow given ≡ fs → bs ≡ map flow back → map key bs ≡ map key fs

@@ -1,5 +1,4 @@
-use Rattle.std.proofs.Common.{rules, arith, ◌≡◌, ◌∙◌, ◌≤◌, true, All, length, map, sym, subst, ap, vec_capacity}
-use Rattle.std.proofs.lemmas.List.{length-map}
+use Rattle.std.proofs.Common.{rules, arith, ◌≡◌, ◌≤◌, true, All, length, map, sym, subst, ap, vec_capacity}
 use Rattle.std.proofs.lemmas.Slice.Zip.{AllZip-long}
 use denote.Param.Send.{sendable}
 use Rattle.std.proofs.Crossing.{crosses}
@@ -14,6 +13,7 @@ use Rattle.watching.specs.Watching.{driven_shown, offered_shown}
 use Rattle.watching.proofs.Fresh.{alike, none-shown, pens-of}
 use Rattle.watching.proofs.Moving.{all-map, as-many, keys-of, marks-by, marks-of}
 use Rattle.watching.proofs.serving.serve_watched.Goals as goal
+use Rattle.watching.proofs.serving.serve_watched.Goals.{After-serve_flows-served}
 
 ruleset watched = (sendable, crosses, driver_flow, controller_flow, Cell.the_send, Cell.the_sync, Pen.the_send)
 
@@ -26,29 +26,32 @@ serve_flows-served-requires-send-C g c κs = search watched depth 60 fits 20000
 pub wrap_all-flows-requires-clause-count : goal.wrap_all-flows-requires-clause-count
 wrap_all-flows-requires-clause-count g c = let long = AllZip-long IsFresh c.args.cells.now c.args.pens.items c.requires.pens in omega (arith, long)
 
+-- as many came back as there are cells
+back-drivers : (g : _) (c : After-serve_flows-served g) → length c.serve_flows-served.result.drivers.items ≡ length c.args.cells.now
+back-drivers g c =
+    let back = as-many (λ f. f.key) (λ w. w.flow) (λ w. w.pen.cell) c.serve_flows-served.result.drivers.items c.wrap_all-flows.result.drivers.items c.serve_flows-served.ensures.drivers c.args.drivers.items c.wrap_all-flows.ensures.drivers in
+    omega (arith, back, c.requires.flows.0)
+
+back-controllers : (g : _) (c : After-serve_flows-served g) → length c.serve_flows-served.result.controllers.items ≡ length c.args.cells.now
+back-controllers g c =
+    let back = as-many (λ f. f.key) (λ w. w.flow) (λ w. w.pen.cell) c.serve_flows-served.result.controllers.items c.wrap_all-flows.result.controllers.items c.serve_flows-served.ensures.controllers c.args.controllers.items c.wrap_all-flows.ensures.controllers in
+    omega (arith, back, c.requires.flows.1)
+
 pub unwrap_all-back-requires-clause-flows : goal.unwrap_all-back-requires-clause-flows
 unwrap_all-back-requires-clause-flows g c =
-    let served = c.serve_flows-served in
-    let given = c.wrap_all-flows.result in
-    let back = as-many (λ f. f.key) (λ w. w.flow) (λ w. w.pen.cell) served.result.drivers.items given.drivers.items served.ensures.drivers in
-    let back' = as-many (λ f. f.key) (λ w. w.flow) (λ w. w.pen.cell) served.result.controllers.items given.controllers.items served.ensures.controllers in
-    let all = sym (length-map given.drivers.items (λ w. w.flow)) ∙ ap length c.wrap_all-flows.ensures.drivers in
-    let all' = sym (length-map given.controllers.items (λ w. w.flow)) ∙ ap length c.wrap_all-flows.ensures.controllers in
-    omega (arith, back, back', all, all', c.requires.flows.0, c.requires.flows.1)
+    let served = (goal.at.unwrap_all-back-requires-clause-flows g c).After-serve_flows-served in
+    let drivers = back-drivers g served in
+    let controllers = back-controllers g served in
+    omega (arith, drivers, controllers)
 
 pub unwrap_all-back-requires-clause-room : goal.unwrap_all-back-requires-clause-room
 unwrap_all-back-requires-clause-room g c =
-    let served = c.serve_flows-served in
-    let given = c.wrap_all-flows.result in
-    let back = as-many (λ f. f.key) (λ w. w.flow) (λ w. w.pen.cell) served.result.drivers.items given.drivers.items served.ensures.drivers in
-    let back' = as-many (λ f. f.key) (λ w. w.flow) (λ w. w.pen.cell) served.result.controllers.items given.controllers.items served.ensures.controllers in
-    let all = sym (length-map given.drivers.items (λ w. w.flow)) ∙ ap length c.wrap_all-flows.ensures.drivers in
-    let all' = sym (length-map given.controllers.items (λ w. w.flow)) ∙ ap length c.wrap_all-flows.ensures.controllers in
+    let back = back-drivers g (goal.at.unwrap_all-back-requires-clause-room g c).After-serve_flows-served in
     let room = c.in-Ok-Ok.back in
     let ds : length c.args.cells.now ≤ vec_capacity room.drivers = search rules in
     let cs : length c.args.cells.now ≤ vec_capacity room.controllers = search rules in
     let ps : length c.args.cells.now ≤ vec_capacity room.pens = search rules in
-    (omega (arith, back, all, c.requires.flows.0, ds), omega (arith, back, all, c.requires.flows.0, cs), omega (arith, back, all, c.requires.flows.0, ps))
+    (omega (arith, back, ds), omega (arith, back, cs), omega (arith, back, ps))
 
 pub returns-clause-drivers : goal.returns-clause-drivers
 returns-clause-drivers g c =

@@ -4,11 +4,12 @@ use Rattle.std.proofs.lemmas.List.{drop_more}
 use Rattle.std.proofs.lemmas.List.Elements.{All-head, All-rest}
 use denote.Param.Send.{sendable}
 use Rattle.controller.specs.Tallying.{nothing}
-use Rattle.counters.specs.Paired.{IsFresh}
+use Rattle.counters.specs.Paired.{ArePaired, IsFresh}
 use Rattle.flows.proofs.Sent.{controller_flow, driver_flow}
 use Rattle.flows.specs.Counting.{driven, none, offered}
 use Rattle.watching.proofs.Moving.{moved-as, zip-first}
 use Rattle.watching.proofs.wrapping.wrap_all.Goals as goal
+use Rattle.watching.proofs.wrapping.wrap_all.Goals.{After-index-cells-number}
 
 pub new-requires-send-F : goal.new-requires-send-F
 new-requires-send-F c κs = search (sendable, driver_flow)
@@ -16,33 +17,38 @@ new-requires-send-F c κs = search (sendable, driver_flow)
 pub new-requires-in-loop-driver-send-F : goal.new-requires-in-loop-driver-send-F
 new-requires-in-loop-driver-send-F c κs = search (sendable, controller_flow)
 
-pub new-requires-after_bounds : goal.new-requires-after_bounds
-new-requires-after_bounds c κs =
-    let was = c.loop-driver.invariant in
+-- the cell of this number is the first of those that are left
+cell-first : (c : After-index-cells-number) → drop c.loop-driver.number c.args.cells.now ≡ c.index-cells-number.result ∷ drop (c.loop-driver.number + 1) c.args.cells.now
+cell-first c =
     let n = c.loop-driver.number in
     let cells = c.args.cells.now in
     let cell = c.index-cells-number.result in
-    let own = c.in-Some-next-2.own in
     let here : get_or cells n cell ≡ cell = search rules in
-    let first : into_iter_items c.loop-driver.pens ≡ own ∷ into_iter_items c.next-in-loop-driver-2.new.self = search rules in
     let low : n < length cells = search rules in
-    let fresh = (zip-first IsFresh (drop n cells) (drop (n + 1) cells) cell (into_iter_items c.loop-driver.pens) (into_iter_items c.next-in-loop-driver-2.new.self) own (drop_more cells n cell low ∙ ap (λ x. x ∷ drop (n + 1) cells) here) first was.pens).0 in
-    let counts = All-head (λ f. f.counts ≡ none) c.in-Some.driver (into_iter_items c.next.new.self) (subst (All (λ f. f.counts ≡ none)) c.in-Some.ensures.steps.0 was.counts) in
+    drop_more cells n cell low ∙ ap (λ x. x ∷ drop (n + 1) cells) here
+
+-- its pens are the first of those that are left, and the others are those of the other cells
+pens-first : (c : After-index-cells-number)
+    → IsFresh c.index-cells-number.result c.in-Some-next-2.own × ArePaired (drop (c.loop-driver.number + 1) c.args.cells.now) (into_iter_items c.next-in-loop-driver-2.new.self)
+pens-first c =
+    let n = c.loop-driver.number in
+    let cells = c.args.cells.now in
+    let pens = into_iter_items c.loop-driver.pens in
+    let pens' = into_iter_items c.next-in-loop-driver-2.new.self in
+    let pen : pens ≡ c.in-Some-next-2.own ∷ pens' = search rules in
+    zip-first IsFresh (drop n cells) (drop (n + 1) cells) c.index-cells-number.result pens pens' c.in-Some-next-2.own (cell-first c) pen c.loop-driver.invariant.pens
+
+pub new-requires-after_bounds : goal.new-requires-after_bounds
+new-requires-after_bounds c κs =
+    let fresh = (pens-first (goal.at.new-requires-after_bounds c).After-index-cells-number).0 in
+    let counts = All-head (λ f. f.counts ≡ none) c.in-Some.driver (into_iter_items c.next.new.self) (subst (All (λ f. f.counts ≡ none)) c.in-Some.ensures.steps.0 c.loop-driver.invariant.counts) in
     (omega arith, (omega arith, (omega arith, (ap (λ k. k.cell) fresh.drive, ap (λ k. k.last.taken ∷ k.last.posted ∷ k.last.tx_dropped ∷ []) fresh.drive ∙ sym (ap driven counts)))))
 
 pub new-requires-in-loop-driver-after_bounds : goal.new-requires-in-loop-driver-after_bounds
 new-requires-in-loop-driver-after_bounds c κs =
-    let was = c.loop-driver.invariant in
-    let n = c.loop-driver.number in
-    let cells = c.args.cells.now in
-    let cell = c.index-cells-number.result in
-    let own = c.in-Some-next-2.own in
-    let here : get_or cells n cell ≡ cell = search rules in
-    let first : into_iter_items c.loop-driver.pens ≡ own ∷ into_iter_items c.next-in-loop-driver-2.new.self = search rules in
+    let fresh = (pens-first (goal.at.new-requires-in-loop-driver-after_bounds c).After-index-cells-number).0 in
     let other : into_iter_items c.loop-driver.controllers ≡ c.in-Some-next.controller ∷ into_iter_items c.next-in-loop-driver.new.self = search rules in
-    let low : n < length cells = search rules in
-    let fresh = (zip-first IsFresh (drop n cells) (drop (n + 1) cells) cell (into_iter_items c.loop-driver.pens) (into_iter_items c.next-in-loop-driver-2.new.self) own (drop_more cells n cell low ∙ ap (λ x. x ∷ drop (n + 1) cells) here) first was.pens).0 in
-    let tally = All-head (λ f. f.tally ≡ nothing) c.in-Some-next.controller (into_iter_items c.next-in-loop-driver.new.self) (subst (All (λ f. f.tally ≡ nothing)) other was.tallies) in
+    let tally = All-head (λ f. f.tally ≡ nothing) c.in-Some-next.controller (into_iter_items c.next-in-loop-driver.new.self) (subst (All (λ f. f.tally ≡ nothing)) other c.loop-driver.invariant.tallies) in
     (omega arith, (omega arith, (omega arith, (ap (λ k. k.cell) fresh.stat, ap (λ k. k.last.offered ∷ k.last.stored ∷ k.last.dropped ∷ k.last.oversize ∷ []) fresh.stat ∙ sym (ap offered tally)))))
 
 pub loop-driver-preserved : goal.loop-driver-preserved
@@ -51,20 +57,15 @@ loop-driver-preserved c =
     let n = c.loop-driver.number in
     let cells = c.args.cells.now in
     let cell = c.index-cells-number.result in
-    let own = c.in-Some-next-2.own in
-    let here : get_or cells n cell ≡ cell = search rules in
-    let low : n < length cells = search rules in
-    let at : drop n cells ≡ cell ∷ drop (n + 1) cells = drop_more cells n cell low ∙ ap (λ x. x ∷ drop (n + 1) cells) here in
+    let next = (goal.at.loop-driver-preserved c).After-index-cells-number in
+    let at = cell-first next in
+    let paired = pens-first next in
     let rest = into_iter_items c.loop-driver.driver-iterator in
     let rest' = into_iter_items c.next.new.self in
     let others = into_iter_items c.loop-driver.controllers in
     let others' = into_iter_items c.next-in-loop-driver.new.self in
-    let pens = into_iter_items c.loop-driver.pens in
-    let pens' = into_iter_items c.next-in-loop-driver-2.new.self in
     let first : rest ≡ c.in-Some.driver ∷ rest' = c.in-Some.ensures.steps.0 in
     let other : others ≡ c.in-Some-next.controller ∷ others' = search rules in
-    let pen : pens ≡ own ∷ pens' = search rules in
-    let paired = zip-first IsFresh (drop n cells) (drop (n + 1) cells) cell pens pens' own at pen was.pens in
     let watched = c.loop-driver.rooms.drivers.items in
     let watched' = c.push_reserved.new.self.items in
     let shown = c.loop-driver.rooms.controllers.items in
