@@ -77,4 +77,12 @@ impl<R: SharedRing, E: OfRing> Half<R, E> {
     {
         Half { ring, end }
     }
+
+    /// The owner of the ring, and what is of it.
+    pub(crate) fn parts(self) -> (Arc<R, Global>, E)
+        ensures ring { R.table (arc_value result.0) ≡ E.table self }
+        ensures end { result.1 ≡ self }
+    {
+        (self.ring, self.end)
+    }
 }

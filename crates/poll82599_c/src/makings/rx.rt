@@ -10,7 +10,7 @@ ghost use Rattle.rx_ring.specs.Meeting.{MadeSeats, ledger_of, stored_now};
 use crate::half::Half;
 use crate::makings::Unmade;
 use crate::makings::owners::{halves, lying, sole, unclosed};
-use rx_ring::{RingError, RxControllerEnd, RxDriverEnd, RxRing, close, meet_rx};
+use rx_ring::{RxControllerEnd, RxDriverEnd, RxRing, close, meet_rx};
 use std::alloc::Global;
 
 /// A receive ring of so many descriptors, by its two halves: an owner of it with each end.
@@ -24,8 +24,7 @@ pub(crate) fn rx_halves(
 {
     match RxRing::new(alloc, ring) {
         Ok((ring, driver, controller)) => halves(alloc, ring, driver, controller),
-        Err(RingError::RingLength) => Err(Unmade::Length),
-        Err(RingError::Memory) => Err(Unmade::Memory),
+        Err(why) => Err(Unmade::of(why)),
     }
 }
 
@@ -38,14 +37,8 @@ pub(crate) fn rx_close(
     ensures lawful { IsLawfulRxLedger Bytes (driver_size driving) (ledger_of driving serving) }
     ensures told { IsTold (told_left driving) (length (taken driving)) (length (stored_now driving serving)) }
 {
-    let Half {
-        ring,
-        end: mut driver,
-    } = driving;
-    let Half {
-        ring: other,
-        end: mut controller,
-    } = serving;
+    let (ring, mut driver) = driving.parts();
+    let (other, mut controller) = serving.parts();
     meet_rx(&other, &mut driver, &mut controller);
     match sole(ring, other) {
         Some(ring) => lying(close(ring, driver, controller)),

@@ -11,7 +11,7 @@ use crate::half::Half;
 use crate::makings::Unmade;
 use crate::makings::owners::{halves, lying, sole, unclosed};
 use std::alloc::Global;
-use tx_ring::{Completion, RingError, TxControllerEnd, TxDriverEnd, TxRing, close, meet_tx};
+use tx_ring::{Completion, TxControllerEnd, TxDriverEnd, TxRing, close, meet_tx};
 
 /// How a transmit ring reports: by DD in its descriptors, or where the word is not 0 by a head word.
 pub(crate) fn completion_of(by_head: u32) -> Completion
@@ -37,8 +37,7 @@ pub(crate) fn tx_halves(
 {
     match TxRing::new_with(alloc, ring, completion) {
         Ok((ring, driver, controller)) => halves(alloc, ring, driver, controller),
-        Err(RingError::RingLength) => Err(Unmade::Length),
-        Err(RingError::Memory) => Err(Unmade::Memory),
+        Err(why) => Err(Unmade::of(why)),
     }
 }
 
@@ -51,14 +50,8 @@ pub(crate) fn tx_close(
     ensures lawful { IsLawfulTxLedger Bytes (driver_size driving) (ledger_of driving serving) }
     ensures told { IsTold (told_left driving) (length (sent_now driving serving)) (length (posted driving)) }
 {
-    let Half {
-        ring,
-        end: mut driver,
-    } = driving;
-    let Half {
-        ring: other,
-        end: mut controller,
-    } = serving;
+    let (ring, mut driver) = driving.parts();
+    let (other, mut controller) = serving.parts();
     meet_tx(&other, &mut driver, &mut controller);
     match sole(ring, other) {
         Some(ring) => lying(close(ring, driver, controller)),

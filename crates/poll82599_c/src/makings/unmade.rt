@@ -1,5 +1,8 @@
 //! Why nothing was made.
-ghost use Rattle.std.specs.Prelude.{◌≡◌, ◌≢◌, pos};
+ghost use Rattle.std.specs.Prelude.{◌≡◌, ◌≢◌, ◌⊎◌, pos};
+ghost use Rattle.shared_ring.specs.declared.error.RingError.TheVariants.{RingLength};
+
+use shared_ring::RingError;
 
 /// Why an export that makes an end, a queue or a worker's packets made none.
 #[derive(Drop)]
@@ -15,6 +18,17 @@ pub(crate) enum Unmade {
 }
 
 impl Unmade {
+    /// Why a ring was not made.
+    pub(crate) fn of(why: RingError) -> Unmade
+        ensures length { result ≡ Unmade.Length → why ≡ RingLength }
+        ensures refusals { (result ≡ Unmade.Length) ⊎ (result ≡ Unmade.Memory) }
+    {
+        match why {
+            RingError::RingLength => Unmade::Length,
+            RingError::Memory => Unmade::Memory,
+        }
+    }
+
     /// What an export answers for it: 1 to 4, in the order of the variants.
     pub(crate) fn number(self) -> i32
         ensures some { result ≢ pos 0 }
