@@ -72,15 +72,15 @@ module _ (d : DriverSide) (c : ControllerSide) (at : DriverPlaces) (e : IsPoster
   closed-by = let l = t.left in let a = l.of_one_ring in let b = a.lawful in let k = kept in let p = placed in
       subst (λ (bs : List (Option Buffer)). IsClosed d c bs) (sym t.kept) (record {
         of_one_ring = l.of_one_ring;
-        count = kept-count q.queue (driver_size d) ends_segment k.queue q.owners b.map a.size_is at.next at.out places.serve places.holding big p.next_is p.out_is p.held_is p.serve_is t.slots Lies Is buffer-of l.buffers;
+        count = kept-count k.queue b.map a.size_is big p t.slots Lies Is buffer-of l.buffers;
         ring = λ place e. gave-back place (kept_upto (kept_at (driver_size d) at.next at.out places.serve places.holding t.slots) (driver_size d))
-            (kept-there q.queue (driver_size d) ends_segment k.queue q.owners b.map a.size_is at.next at.out places.serve places.holding big p.next_is p.out_is p.held_is p.serve_is t.slots Lies Is buffer-of l.buffers place e);
-        others = kept-else q.queue (driver_size d) ends_segment k.queue q.owners b.map a.size_is at.next at.out places.serve places.holding big p.next_is p.out_is p.held_is p.serve_is t.slots Lies Is buffer-of l.buffers;
+            (kept-there k.queue b.map a.size_is big p t.slots Lies Is buffer-of l.buffers place e);
+        others = kept-else k.queue b.map a.size_is big p t.slots Lies Is buffer-of l.buffers;
       })
 
   closed-real : AllReal buffers
   closed-real = let l = t.left in let a = l.of_one_ring in let b = a.lawful in let k = kept in let p = placed in
-      subst AllReal (sym t.kept) (kept-all q.queue (driver_size d) ends_segment k.queue q.owners b.map a.size_is at.next at.out places.serve places.holding big p.next_is p.out_is p.held_is p.serve_is t.slots Lies Is buffer-of l.buffers
+      subst AllReal (sym t.kept) (kept-all k.queue b.map a.size_is big p t.slots Lies Is buffer-of l.buffers
       IsReal (λ j past. let y = buffer-of j past in y.1.1.1))
 
   -- what the controller's record says that it holds
@@ -91,7 +91,7 @@ module _ (d : DriverSide) (c : ControllerSide) (at : DriverPlaces) (e : IsPoster
   closed-once = let l = t.left in let a = l.of_one_ring in let b = a.lawful in let k = kept in let p = placed in
       subst (λ (bs : List (Option Buffer)). AllCameBack d c bs) (sym t.kept)
       (subst (λ (x : RxDriven). IsPermutation (map (λ (j : ℕ). j) (drop (length x.given + x.reclaimed) x.posted)) (numbers_at (kept_upto (kept_at (driver_size d) at.next at.out places.serve places.holding t.slots) (driver_size d)) ++ number_at (held c))) (sym a.driver)
-      (kept-once q.queue (driver_size d) ends_segment k.queue q.owners b.map a.size_is at.next at.out places.serve places.holding big p.next_is p.out_is p.held_is p.serve_is t.slots Lies Is buffer-of l.buffers
+      (kept-once k.queue b.map a.size_is big p t.slots Lies Is buffer-of l.buffers
       (λ j. j) (λ j past x e. let y = buffer-of j past in same_Some y.0.number x (sym y.1.1.0 ∙ ap (λ (z : RxDriven). slice_get z.posted j) a.driver ∙ e))
       (number_at (held c))
       (λ no. held-here ∙ ap (λ (h : Bool). number_at (if h then lies_there (slice_get q.ledger.posted (served_count q.queue)) None else None)) no)

@@ -46,10 +46,16 @@ kept-every : (P : Option Buffer → Type 0) (f : ℕ → Option Buffer) (n : ℕ
 kept-every P f zero h = All-nil P
 kept-every P f (suc n) h = All-push P (kept_upto f n) (f n) (kept-every P f n (λ p below. h p (omega arith))) (h n (omega arith))
 
+-- where both ends stand, in words of the ring
+pub record IsPlaced {Posted Served Given : Type 0} (n : ℕ) (q : Queue Posted Served Given) (next out serve : ℕ) (holding : Bool) : Type 0 where
+  pub next_is : next ≡ returned_count q % n
+  pub out_is : out + returned_count q ≡ posted_count q
+  pub held_is : holding ≡ q.held
+  pub serve_is : holding ≡ true → serve ≡ served_count q % n
+
 -- What a closed ring gives back, by the places of its two ends
-module _ {Posted Served Given : Type 0} (q : Queue Posted Served Given) (n : ℕ) (ends : Served → Bool) (kept : IsKept n ends q) (owners : List Owner) (map : IsLawfulMap (window q) owners) (size_is : q.size ≡ n)
-    (next out serve : ℕ) (holding : Bool) (big : 1 < n) (next_is : next ≡ returned_count q % n) (out_is : out + returned_count q ≡ posted_count q)
-    (held_is : holding ≡ q.held) (serve_is : holding ≡ true → serve ≡ served_count q % n) where
+module _ {Posted Served Given : Type 0} {q : Queue Posted Served Given} {n : ℕ} {ends : Served → Bool} {owners : List Owner} {next out serve : ℕ} {holding : Bool}
+    (kept : IsKept n ends q) (map : IsLawfulMap (window q) owners) (size_is : q.size ≡ n) (big : 1 < n) (placed : IsPlaced n q next out serve holding) where
   window-is : posted_count q < returned_count q + n
   window-is = let o = kept.order in let r = o.room in omega arith
 
@@ -58,11 +64,11 @@ module _ {Posted Served Given : Type 0} (q : Queue Posted Served Given) (n : ℕ
 
   item-place : (p : ℕ) → p < n → item p % n ≡ p
   unfolding item
-  item-place p below = ap (λ (j : ℕ). (returned_count q + (p + n - j) % n) % n) next_is ∙ around n (returned_count q) p (omega arith) below
+  item-place p below = ap (λ (j : ℕ). (returned_count q + (p + n - j) % n) % n) placed.next_is ∙ around n (returned_count q) p (omega arith) below
 
   -- the place of an item that is out is as far on as the item
   item-back : (k : ℕ) → returned_count q ≤ k → k < posted_count q → between_places n next (k % n) ≡ k - returned_count q
-  item-back k first past = let w = window-is in ap (λ (j : ℕ). (k % n + n - j) % n) next_is
+  item-back k first past = let w = window-is in ap (λ (j : ℕ). (k % n + n - j) % n) placed.next_is
       ∙ ahead n (returned_count q) k (omega arith) first (omega arith)
 
   -- the owner of the place of an item that is out
@@ -79,13 +85,13 @@ module _ {Posted Served Given : Type 0} (q : Queue Posted Served Given) (n : ℕ
   -- an item that is out, by its place
   nth : (p : ℕ) → nat_lt (between_places n next p) out ≡ true → (returned_count q ≤ item p) × (item p < posted_count q)
   unfolding item
-  nth p e = let h = ltb-true (between_places n next p) out e in let c = out_is in (omega arith, omega arith)
+  nth p e = let h = ltb-true (between_places n next p) out e in let c = placed.out_is in (omega arith, omega arith)
 
   -- a place that is kept is with Ring
   kept-ring : (p : ℕ) → p < n → is_kept n next out serve holding p ≡ true → slice_get owners p ≡ Some Ring
   kept-ring p below e = let t = and_parts (nat_lt (between_places n next p) out) (not (holding && (p == serve))) e in let w = nth p t.0 in let at = item-place p below in
       ap (slice_get owners) (sym at) ∙ owner-out (item p) w.0 w.1 ∙ ap Some (holder-ring (item p) (λ h same. both_ways (holding && (p == serve)) (not-true (holding && (p == serve)) t.1)
-      (and_from holding (p == serve) (held_is ∙ h) (eq-eqb p serve (sym at ∙ ap (λ (j : ℕ). j % n) same ∙ sym (serve_is (held_is ∙ h)))))))
+      (and_from holding (p == serve) (placed.held_is ∙ h) (eq-eqb p serve (sym at ∙ ap (λ (j : ℕ). j % n) same ∙ sym (placed.serve_is (placed.held_is ∙ h)))))))
 
   -- and one with Ring is kept
   ring-kept : (p : ℕ) → p < n → slice_get owners p ≡ Some Ring → is_kept n next out serve holding p ≡ true
@@ -95,14 +101,14 @@ module _ {Posted Served Given : Type 0} (q : Queue Posted Served Given) (n : ℕ
       within = ⊎_elim (λ lt. lt-ltb (between_places n next p) out lt)
           (λ le. let m = map in absurd (ring_not Driver Driver refl (λ x. cc)
           (sym (m.home p (subst (λ (j : ℕ). p < j) (sym size_is) below) (λ k first past at. let a = subst (λ (j : ℕ). (k % j) ≡ p) size_is at in let b = item-back k first past in
-          let f : between_places n next p ≡ k - returned_count q = ap (between_places n next) (sym a) ∙ b in let z = out_is in omega arith)) ∙ e)))
+          let f : between_places n next p ≡ k - returned_count q = ap (between_places n next) (sym a) ∙ b in let z = placed.out_is in omega arith)) ∙ e)))
           (cases_lt (between_places n next p) out)
 
       free : not (holding && (p == serve)) ≡ true
       free = ⊎_elim
-          (λ both. let t = and_parts holding (p == serve) both in let w = nth p within in let at = item-place p below in let hold : q.held ≡ true = sym held_is ∙ t.0 in
+          (λ both. let t = and_parts holding (p == serve) both in let w = nth p within in let at = item-place p below in let hold : q.held ≡ true = sym placed.held_is ∙ t.0 in
           let o = kept.order in let a = o.held_known hold in let b = o.known_published (o.held_serving hold) in let x = o.published_posted in let rs = returned_served n ends q kept (o.held_serving hold) in
-          let same : served_count q ≡ item p = sole (served_count q) (item p) rs (omega arith) w.0 w.1 (sym (serve_is t.0) ∙ sym (eqb-true p serve t.1) ∙ sym at) in
+          let same : served_count q ≡ item p = sole (served_count q) (item p) rs (omega arith) w.0 w.1 (sym (placed.serve_is t.0) ∙ sym (eqb-true p serve t.1) ∙ sym at) in
           absurd (ring_not (holder (window q) (item p)) Controller (holder-held q.held (item p) (served_count q) hold (sym same)) (λ y. cc) (sym (owner-out (item p) w.0 w.1) ∙ ap (slice_get owners) at ∙ e)))
           (λ no. not_from_false (holding && (p == serve)) no)
           (cases_Bool (holding && (p == serve)))
@@ -116,7 +122,7 @@ module _ {Posted Served Given : Type 0} (q : Queue Posted Served Given) (n : ℕ
 
   free-item : (p : ℕ) → p < n → is_kept n next out serve holding p ≡ true → q.held ≡ true → ¬ (item p ≡ served_count q)
   free-item p below e h same = let t = and_parts (nat_lt (between_places n next p) out) (not (holding && (p == serve))) e in let at = item-place p below in
-      both_ways (holding && (p == serve)) (not-true (holding && (p == serve)) t.1) (and_from holding (p == serve) (held_is ∙ h) (eq-eqb p serve (sym at ∙ ap (λ (j : ℕ). j % n) same ∙ sym (serve_is (held_is ∙ h)))))
+      both_ways (holding && (p == serve)) (not-true (holding && (p == serve)) t.1) (and_from holding (p == serve) (placed.held_is ∙ h) (eq-eqb p serve (sym at ∙ ap (λ (j : ℕ). j % n) same ∙ sym (placed.serve_is (placed.held_is ∙ h)))))
 
   -- What a list of the kept buffers has at each place, where what lies at an item is known to be `Is`
   module _ (slots : List Buffer) (Lies : ℕ → Buffer → Type 0) (Is : ℕ → Buffer → Type 0) (lies : (k : ℕ) → k < posted_count q → (b : Buffer) × (Lies k b × Is k b))
@@ -201,13 +207,6 @@ module _ {Posted Served Given : Type 0} (says : ℕ → Option Posted → Option
 
   pub serves-is : holding ≡ true → length c.served ≡ served_count q
   serves-is e = let o = kept.order in let serving : is_serving q.handshake.controller ≡ true = o.held_serving (sym holds-is ∙ e) in ap length (l.served (serving_settled q.handshake serving))
-
--- where both ends stand, in words of the ring
-pub record IsPlaced {Posted Served Given : Type 0} (n : ℕ) (q : Queue Posted Served Given) (next out serve : ℕ) (holding : Bool) : Type 0 where
-  pub next_is : next ≡ returned_count q % n
-  pub out_is : out + returned_count q ≡ posted_count q
-  pub held_is : holding ≡ q.held
-  pub serve_is : holding ≡ true → serve ≡ served_count q % n
 
 module _ {Ring Posted Served Given D C : Type 0} {form : Form Ring Posted Served Given D C} (d : DriverSide form) (c : ControllerSide form) (at : DriverPlaces) (e : IsPoster (driver_size d) (driver_record d) at) (same : c.table ≡ d.table)
     (places : ControllerPlaces) (h : IsServer form.carries (controller_size c) (controller_record c) places)

@@ -6,9 +6,7 @@ use Rattle.tx_ring.proofs.Closing.{closed}
 use Rattle.tx_ring.proofs.making.close.Goals as goal
 
 pub returns : goal.returns
-returns c =
-    let i = c.driver.inside in
-    let j = c.controller.inside in
+returns c = let i = c.driver.inside in let j = c.controller.inside in
     let all = closed (driver_of tx i.seat) c.args.driver (controller_of tx j.seat) c.args.controller i.at j.at c.take_apart.result.items c.driver.view_is c.controller.view_is
-        (c.requires.controller ∙ sym c.requires.driver) c.driver.invariant.poster c.controller.invariant.server c.take_apart.ensures in
+    (c.requires.controller ∙ sym c.requires.driver) c.driver.invariant.poster c.controller.invariant.server c.take_apart.ensures in
     record { places = all.0; real = all.1; once = all.2 }
