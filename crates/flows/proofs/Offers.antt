@@ -44,66 +44,57 @@ module _ (i : Input) (old new : Receiving) (f : Bytes) (next : ℕ) (o : Offered
   exactly : (t : Tally) → exact old.tally t ≡ t
   exactly t = exact-few old.tally t (let a = o.offered in let b = o.few in let c = o.few_frames in omega (arith, a, b, c))
 
+  -- a frame that is decided is one more that was offered
+  decided : new.bsize ≡ old.bsize → new.drop_en ≡ old.drop_en → new.tally.offered ≡ old.tally.offered + 1 → Chosen (frames piece_of (stored new.end)) (take next i.frames ++ f ∷ [])
+      → new.tally.stored ≡ length (frames piece_of (stored new.end)) → (i.drops ≡ false → frames piece_of (stored new.end) ≡ fitting i.from.slots i.fill (take (next + 1) i.frames))
+      → (i.drops ≡ false → new.tally.dropped ≡ 0) → OfferedSoFar i new (next + 1)
+  decided fill drops offered chosen count full none_dropped = record {
+    own = own ∙ o.own;
+    fill = fill ∙ o.fill;
+    drops = drops ∙ o.drops;
+    few_frames = o.few_frames;
+    few = omega (arith, here);
+    offered = offered ∙ ap (λ (k : ℕ). k + 1) o.offered;
+    chosen = subst (λ (l : List Bytes). Chosen (frames piece_of (stored new.end)) l) (sym more) chosen;
+    stored = count;
+    full = full;
+    none_dropped = none_dropped;
+  }
+
   pub offers-stored : frames piece_of (stored new.end) ≡ frames piece_of (stored old.end) ++ f ∷ [] → WasStored old f new → OfferedSoFar i new (next + 1)
   offers-stored ready w =
       let tally : new.tally ≡ record old.tally { offered = old.tally.offered + 1; stored = old.tally.stored + 1 } = ap (λ (r : Receiving). r.tally) w.same ∙ exactly (record old.tally { offered = old.tally.offered + 1; stored = old.tally.stored + 1 }) in
-      let was = o.offered in let count = o.stored in
-      record {
-        own = own ∙ o.own;
-        fill = ap (λ (r : Receiving). r.bsize) w.same ∙ o.fill;
-        drops = ap (λ (r : Receiving). r.drop_en) w.same ∙ o.drops;
-        few_frames = o.few_frames;
-        few = omega (arith, here);
-        offered = ap (λ (t : Tally). t.offered) tally ∙ ap (λ (k : ℕ). k + 1) was;
-        chosen = subst (λ (l : List Bytes). Chosen (frames piece_of (stored new.end)) l) (sym more) (subst (λ (l : List Bytes). Chosen l (take next i.frames ++ f ∷ [])) (sym ready) (chosen-both (frames piece_of (stored old.end)) (take next i.frames) (f ∷ []) o.chosen));
-        stored = ap (λ (t : Tally). t.stored) tally ∙ (ap (λ (k : ℕ). k + 1) count ∙ sym (ap length ready ∙ length-append (frames piece_of (stored old.end)) (f ∷ [])));
-        full = λ holds. ready ∙ (ap (λ (l : List Bytes). l ++ f ∷ []) (o.full holds) ∙ sym (more_fitting true (lt-ltb (piece_count i.fill (length f)) i.from.slots
-            (let h = w.fits in let a = o.fill in let b = ap (λ (t : TableId). t.slots) o.own in subst (λ (k : ℕ). piece_count k (length f) < i.from.slots) a (subst (λ (k : ℕ). piece_count old.bsize (length f) < k) b h)))));
-        none_dropped = λ holds. ap (λ (t : Tally). t.dropped) tally ∙ o.none_dropped holds;
-      }
+      decided (ap (λ (r : Receiving). r.bsize) w.same) (ap (λ (r : Receiving). r.drop_en) w.same) (ap (λ (t : Tally). t.offered) tally)
+      (subst (λ (l : List Bytes). Chosen l (take next i.frames ++ f ∷ [])) (sym ready) (chosen-both (frames piece_of (stored old.end)) (take next i.frames) (f ∷ []) o.chosen))
+      (ap (λ (t : Tally). t.stored) tally ∙ (ap (λ (k : ℕ). k + 1) o.stored ∙ sym (ap length ready ∙ length-append (frames piece_of (stored old.end)) (f ∷ []))))
+      (λ holds. ready ∙ (ap (λ (l : List Bytes). l ++ f ∷ []) (o.full holds) ∙ sym (more_fitting true (lt-ltb (piece_count i.fill (length f)) i.from.slots
+      (let h = w.fits in let a = o.fill in let b = ap (λ (t : TableId). t.slots) o.own in subst (λ (k : ℕ). piece_count k (length f) < i.from.slots) a (subst (λ (k : ℕ). piece_count old.bsize (length f) < k) b h))))))
+      (λ holds. ap (λ (t : Tally). t.dropped) tally ∙ o.none_dropped holds)
 
   -- the frames are told by `frames` of `offer`, at each of its answers
   module _ (same : frames piece_of (stored new.end) ≡ frames piece_of (stored old.end) ++ []) where
     kept : frames piece_of (stored new.end) ≡ frames piece_of (stored old.end)
     kept = same ∙ append-nil (frames piece_of (stored old.end))
 
-    still : Chosen (frames piece_of (stored new.end)) (take (next + 1) i.frames)
-    still = subst (λ (l : List Bytes). Chosen (frames piece_of (stored new.end)) l) (sym more) (subst (λ (l : List Bytes). Chosen l (take next i.frames ++ f ∷ [])) (sym kept) (chosen-of-more (frames piece_of (stored old.end)) (take next i.frames) (f ∷ []) o.chosen))
+    still : Chosen (frames piece_of (stored new.end)) (take next i.frames ++ f ∷ [])
+    still = subst (λ (l : List Bytes). Chosen l (take next i.frames ++ f ∷ [])) (sym kept) (chosen-of-more (frames piece_of (stored old.end)) (take next i.frames) (f ∷ []) o.chosen)
 
     pub offers-dropped : WasDropped old f new → OfferedSoFar i new (next + 1)
     offers-dropped w =
         let same_new = w.scarce.same in
         let tally : new.tally ≡ record old.tally { offered = old.tally.offered + 1; dropped = old.tally.dropped + 1 } = ap (λ (r : Receiving). r.tally) same_new ∙ exactly (record old.tally { offered = old.tally.offered + 1; dropped = old.tally.dropped + 1 }) in
         let never : (i.drops ≡ false → ⊥) = λ holds. false≢true (sym (o.drops ∙ holds) ∙ w.drops) in
-        record {
-          own = own ∙ o.own;
-          fill = ap (λ (r : Receiving). r.bsize) same_new ∙ o.fill;
-          drops = ap (λ (r : Receiving). r.drop_en) same_new ∙ o.drops;
-          few_frames = o.few_frames;
-          few = omega (arith, here);
-          offered = ap (λ (t : Tally). t.offered) tally ∙ ap (λ (k : ℕ). k + 1) o.offered;
-          chosen = still;
-          stored = ap (λ (t : Tally). t.stored) tally ∙ (o.stored ∙ sym (ap length kept));
-          full = λ holds. absurd (never holds);
-          none_dropped = λ holds. absurd (never holds);
-        }
+        decided (ap (λ (r : Receiving). r.bsize) same_new) (ap (λ (r : Receiving). r.drop_en) same_new) (ap (λ (t : Tally). t.offered) tally) still
+        (ap (λ (t : Tally). t.stored) tally ∙ (o.stored ∙ sym (ap length kept))) (λ holds. absurd (never holds)) (λ holds. absurd (never holds))
 
     pub offers-oversize : WasOversize old f new → OfferedSoFar i new (next + 1)
     offers-oversize w =
         let tally : new.tally ≡ record old.tally { offered = old.tally.offered + 1; oversize = old.tally.oversize + 1 } = ap (λ (r : Receiving). r.tally) w.same ∙ exactly (record old.tally { offered = old.tally.offered + 1; oversize = old.tally.oversize + 1 }) in
-        record {
-          own = own ∙ o.own;
-          fill = ap (λ (r : Receiving). r.bsize) w.same ∙ o.fill;
-          drops = ap (λ (r : Receiving). r.drop_en) w.same ∙ o.drops;
-          few_frames = o.few_frames;
-          few = omega (arith, here);
-          offered = ap (λ (t : Tally). t.offered) tally ∙ ap (λ (k : ℕ). k + 1) o.offered;
-          chosen = still;
-          stored = ap (λ (t : Tally). t.stored) tally ∙ (o.stored ∙ sym (ap length kept));
-          full = λ holds. kept ∙ (o.full holds ∙ sym (more_fitting false (le-ltb (piece_count i.fill (length f)) i.from.slots
-              (let h = w.many in let a = o.fill in let b = ap (λ (t : TableId). t.slots) o.own in subst (λ (k : ℕ). i.from.slots ≤ piece_count k (length f)) a (subst (λ (k : ℕ). k ≤ piece_count old.bsize (length f)) b h))) ∙ append-nil (fitting i.from.slots i.fill (take next i.frames))));
-          none_dropped = λ holds. ap (λ (t : Tally). t.dropped) tally ∙ o.none_dropped holds;
-        }
+        decided (ap (λ (r : Receiving). r.bsize) w.same) (ap (λ (r : Receiving). r.drop_en) w.same) (ap (λ (t : Tally). t.offered) tally) still
+        (ap (λ (t : Tally). t.stored) tally ∙ (o.stored ∙ sym (ap length kept)))
+        (λ holds. kept ∙ (o.full holds ∙ sym (more_fitting false (le-ltb (piece_count i.fill (length f)) i.from.slots
+        (let h = w.many in let a = o.fill in let b = ap (λ (t : TableId). t.slots) o.own in subst (λ (k : ℕ). i.from.slots ≤ piece_count k (length f)) a (subst (λ (k : ℕ). k ≤ piece_count old.bsize (length f)) b h))) ∙ append-nil (fitting i.from.slots i.fill (take next i.frames)))))
+        (λ holds. ap (λ (t : Tally). t.dropped) tally ∙ o.none_dropped holds)
 
     -- nothing is counted of a frame that is held, or offered to a queue that is off
     uncounted : new.tally ≡ old.tally → new.bsize ≡ old.bsize → new.drop_en ≡ old.drop_en → OfferedSoFar i new next

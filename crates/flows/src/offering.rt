@@ -78,10 +78,8 @@ impl<'a> Offering<'a> {
             return false;
         }
         self.controller.turn_control(self.ring);
-        let service = self.service.after(self.controller.is_serving());
-        let moved = service != self.service;
-        self.service = service;
-        moved
+        let serves = self.controller.is_serving();
+        self.service.go_on(serves)
     }
 
     /// Offers the next frame where the queue is enabled, and tells whether that decided on it. Once all are decided it

@@ -27,6 +27,17 @@ impl Service {
             (service, _) => service,
         }
     }
+
+    /// Becomes that, and tells whether it is another.
+    #[inline]
+    pub(crate) fn go_on(&mut self, serves: bool) -> bool
+        ensures { self.new ≡ after self.old serves }
+    {
+        let next = self.after(serves);
+        let moved = next != *self;
+        *self = next;
+        moved
+    }
 }
 
 /// Whether the offer decides on its frame, so that it isn't offered again.

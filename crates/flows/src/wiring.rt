@@ -55,10 +55,8 @@ impl<'a> Wiring<'a> {
             return false;
         }
         self.controller.turn_control(self.ring);
-        let service = self.service.after(self.controller.is_serving());
-        let moved = service != self.service;
-        self.service = service;
-        moved
+        let serves = self.controller.is_serving();
+        self.service.go_on(serves)
     }
 
     /// Sends the next frame where the queue is enabled, and tells whether there was one. `Memory` where the wire couldn't
