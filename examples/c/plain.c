@@ -1,5 +1,5 @@
 /* Plain data, for whoever keeps rings of their own: a descriptor between its 16 bytes and numbers, and a list of moves answered by
- * the machines of queues, as an oracle for a driver or a device in C. It prints a line of each call, and ends with status 1 where one
+ * the machines of queues, as an oracle for a driver or a device in C; and a frame through a ring of eight. It prints a line of each call, and ends with status 1 where one
  * is not as it should be. */
 #include <poll82599.h>
 
@@ -43,9 +43,22 @@ static void moves(void)
     check(poll82599_moves(&plan, (const uint8_t *)faulty, sizeof faulty - 1, room, sizeof room, &moved) == 14 && moved.line == 2, "line 2 is no move");
 }
 
+static void once(void)
+{
+    static uint8_t frame[14336], taken[14337];
+    for (size_t at = 0; at < sizeof frame; at++)
+        frame[at] = (uint8_t)(at * 7 + at / 256);
+    taken[14] = taken[14336] = 0xa5;
+    check(poll82599_once(frame, 14, taken, 14) == 0 && memcmp(frame, taken, 14) == 0 && taken[14] == 0xa5, "14 bytes pass through a ring");
+    check(poll82599_once(frame, sizeof frame, taken, sizeof taken) == 0 && memcmp(frame, taken, sizeof frame) == 0 && taken[14336] == 0xa5, "and 14,336 bytes");
+    check(poll82599_once(frame, 13, taken, sizeof taken) == 1 && poll82599_once(taken, sizeof taken, frame, sizeof frame) == 1, "no frame has 13 bytes, or 14,337");
+    check(poll82599_once(frame, 60, taken, 59) == 4, "59 bytes are no room for 60");
+}
+
 int main(void)
 {
     descriptors();
     moves();
+    once();
     return failed;
 }

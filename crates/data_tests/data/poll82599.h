@@ -584,6 +584,11 @@ struct poll82599_moved {
  * names, 12 where there can be no such queues, and others where memory was refused. Only 0 changes the page. */
 uint32_t poll82599_moves(const struct poll82599_plan *plan, const uint8_t *text, size_t len, uint8_t *page, size_t room, struct poll82599_moved *moved);
 
+/* Passes a frame through a receive ring of 8 descriptors, whose controller and driver take turns on this thread, and copies what the
+ * driver took to the beginning of a place with `room` bytes: 0; 1 where no frame has `len` bytes, which are 14 to 14,336; 4 where
+ * `room` is less than `len`; or 2 where memory was refused. Only 0 changes the place. */
+uint32_t poll82599_once(const uint8_t *frame, size_t len, uint8_t *taken, size_t room);
+
 #ifdef __cplusplus
 }
 #endif

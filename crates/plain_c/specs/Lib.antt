@@ -1,2 +1,3 @@
 pub mod Descriptors
 pub mod Moves
+pub mod Once

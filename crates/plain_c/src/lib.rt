@@ -7,3 +7,4 @@
 
 mod descriptors;
 mod moves;
+mod once;
