@@ -22,6 +22,32 @@ static uint8_t frame[POLL82599_MOST_FRAME + 1], got[POLL82599_MOST_FRAME];
 static size_t count, len, empty;
 static uint8_t byte;
 
+/* Ends that are empty, before anything is made and after all is closed. */
+static void hold_nothing(void)
+{
+    is("a packet for nobody", poll82599_packets_put(&packets, frame, 60), POLL82599_NO_END);
+    is("nobody's packets", poll82599_packets_count(&packets, NULL) == SIZE_MAX, 1);
+    is("a batch of nothing", poll82599_rx_batch(&rx, &packets, &count), POLL82599_NO_END);
+    is("an enabling of nothing", poll82599_rx_queue_enable(&rx), POLL82599_NO_END);
+    is("an offer to nothing", poll82599_offer(&rx_device, frame, 60), POLL82599_NO_END);
+    is("a batch for nothing", poll82599_tx_batch(&tx, &packets, &count), POLL82599_NO_END);
+    is("a renewal of nothing", poll82599_tx_queue_renew(&tx), POLL82599_NO_END);
+    is("a turn of nothing", poll82599_turn(&tx_device, got, sizeof got, &len), POLL82599_NO_END);
+    is("a closing of nothing", poll82599_rx_queue_close(&rx, &rx_device), POLL82599_NOT_CLOSED);
+    is("another", poll82599_tx_queue_close(&tx, &tx_device), POLL82599_NOT_CLOSED);
+    is("nobody's packets back", poll82599_packets_close(&packets) == SIZE_MAX, 1);
+}
+
+/* Two ends of different kinds, which a cast makes one of the other's kind, and one that is there beside one that is empty. */
+static void mix(void)
+{
+    struct poll82599_packets none = {0};
+    is("a receive queue with an empty worker", poll82599_rx_batch(&rx, &none, &count), POLL82599_NO_END);
+    is("a transmit device cast to a receive device", poll82599_offer((struct poll82599_rx_device *)&tx_device, frame, 60), POLL82599_NO_END);
+    is("a closing of a receive queue with it", poll82599_rx_queue_close(&rx, (struct poll82599_rx_device *)&tx_device), POLL82599_NOT_CLOSED);
+    is("a closing of it cast to packets", poll82599_packets_close((struct poll82599_packets *)&tx_device) == SIZE_MAX, 1);
+}
+
 static void make(void)
 {
     is("15 buffers", poll82599_packets_new(15, &packets), 3);
@@ -136,10 +162,13 @@ int main(void)
 {
     for (size_t at = 0; at < sizeof frame; at++)
         frame[at] = (uint8_t)(at * 7 + at / 256);
+    hold_nothing();
     make();
+    mix();
     hold();
     receive();
     transmit();
     stop();
+    hold_nothing();
     return wrong != 0;
 }

@@ -84,6 +84,29 @@ static void transmit(const uint8_t *frame)
     check(poll82599_tx_close(&driver, &controller) == 1, "its buffer lay in the ring");
 }
 
+/* Ends that are empty, and an end of another kind. */
+static void hold_nothing(const uint8_t *frame)
+{
+    struct poll82599_rx_driver driver = {0};
+    struct poll82599_rx_controller controller = {0};
+    struct poll82599_tx_driver tx_driver = {0};
+    struct poll82599_tx_controller tx_controller = {0};
+    uint8_t got[POLL82599_BUFFER_BYTES];
+    uint32_t len, eop;
+    check(poll82599_rx_post(&driver) == POLL82599_NO_END, "nothing posts no buffer");
+    check(poll82599_rx_poll(&driver, got, sizeof got, &len, &eop) == POLL82599_NO_END, "and takes none");
+    check(poll82599_rx_store(&controller, frame, 60) == POLL82599_NO_END, "nothing stores no frame");
+    check(poll82599_tx_post(&tx_driver, frame, 60) == POLL82599_NO_END, "nothing posts no frame");
+    check(poll82599_tx_send(&tx_controller, got, sizeof got, &len, &eop) == POLL82599_NO_END, "and sends none");
+    check(poll82599_rx_close(&driver, &controller) == POLL82599_NOT_CLOSED, "nothing is no receive ring to close");
+    check(poll82599_tx_close(&tx_driver, &tx_controller) == POLL82599_NOT_CLOSED, "nor a transmit ring");
+    check(poll82599_rx_new(8, 16, &driver, &controller) == 0, "a receive ring of 8");
+    check(poll82599_tx_post((struct poll82599_tx_driver *)&driver, frame, 60) == POLL82599_NO_END, "its driver posts no frame");
+    check(poll82599_tx_close((struct poll82599_tx_driver *)&driver, &tx_controller) == POLL82599_NOT_CLOSED, "and is closed with nothing no more than");
+    check(poll82599_tx_close((struct poll82599_tx_driver *)&driver, (struct poll82599_tx_controller *)&controller) == POLL82599_NOT_CLOSED, "as a transmit ring");
+    check(poll82599_rx_close(&driver, &controller) == 0, "it is closed, and no buffer lay in it");
+}
+
 int main(void)
 {
     uint8_t frame[FRAME];
@@ -91,5 +114,6 @@ int main(void)
         frame[at] = (uint8_t)(at * 7 + at / 256);
     receive(frame);
     transmit(frame);
+    hold_nothing(frame);
     return failed;
 }

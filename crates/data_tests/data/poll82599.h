@@ -5,9 +5,11 @@
  * - one call at a time takes an end. Two ends of one ring may be in calls of two threads at once;
  * - an end may go to another thread between two calls, which is proved of it, where a lock, a thread's start or join, or a
  *   sequentially consistent atomic orders the two calls;
- * - poll82599_rx_new and poll82599_tx_new are given two empty ends, each other call ends that they have filled, and
- *   poll82599_rx_close and poll82599_tx_close both ends of one ring, which no other thread uses any more;
- * - a pointer to bytes has as many bytes as the call is told, and is not null. */
+ * - poll82599_rx_new and poll82599_tx_new are given two empty ends, and poll82599_rx_close and poll82599_tx_close no two ends of
+ *   different rings, nor one that another thread still uses;
+ * - a pointer to bytes has as many bytes as the call is told, and it and the address of an end are not null.
+ * An end that is empty, never filled or closed before, or one of another kind, is no debt: a call answers POLL82599_NO_END, a closing
+ * POLL82599_NOT_CLOSED (poll82599_packets_close SIZE_MAX), and nothing is done. */
 #ifndef POLL82599_H
 #define POLL82599_H
 
@@ -30,6 +32,10 @@ enum {
     POLL82599_LEAST_BUFFERS = 16,   /* that a driver may have .. */
     POLL82599_MOST_BUFFERS = 256
 };
+
+/* What answers for an end that is empty or of another kind, and for an operation that there is not; and for two such at a closing. */
+#define POLL82599_NO_END UINT32_C(0xFFFFFFFF)
+#define POLL82599_NOT_CLOSED INT64_C(-2)
 
 /* What a driver's or a controller's call is to do, and what it answers. */
 struct poll82599_call {
@@ -69,7 +75,8 @@ int64_t poll82599_rx_close(struct poll82599_rx_driver *driver, struct poll82599_
 /* poll82599_rx_new makes a ring of so many descriptors, its driver with so many buffers, and its controller: 0, or 1 where the
  * length is not lawful, 2 where memory was refused, 3 where there are not 16 to 256 buffers. Only 0 changes the ends.
  *
- * poll82599_rx_close gives all of it back: how many buffers lay in the ring, or -1. Both ends are empty then. */
+ * poll82599_rx_close gives all of it back: how many buffers lay in the ring, or -1 where another owner of it is left. Both ends are empty
+ * then. With POLL82599_NOT_CLOSED they are as they were. */
 
 static inline uint32_t poll82599_rx_do(struct poll82599_rx_driver *driver, uint32_t operation)
 {
@@ -389,14 +396,15 @@ static inline uint32_t poll82599_packet_free(struct poll82599_packets *packets, 
     return poll82599_packets_step(packets, &call);
 }
 
-/* How many packets the worker has, and with `empty`, where it is not null, how many empty buffers. */
+/* How many packets the worker has, and with `empty`, where it is not null, how many empty buffers; SIZE_MAX for an end that is empty or of
+ * another kind. */
 static inline size_t poll82599_packets_count(struct poll82599_packets *packets, size_t *empty)
 {
     struct poll82599_packet call = {4, 0, 0, 0, 0, 0};
-    poll82599_packets_step(packets, &call);
+    uint32_t answer = poll82599_packets_step(packets, &call);
     if (empty)
         *empty = call.len;
-    return call.packet;
+    return answer == 1 ? call.packet : SIZE_MAX;
 }
 
 /* ---- The driver's thread. */

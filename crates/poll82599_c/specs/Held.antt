@@ -1,10 +1,20 @@
 -- Words on what may be held.
-use Rattle.std.specs.Prelude.{◌≡◌, ◌≢◌, ⊤, ℕ, Option, Some, None}
+use Rattle.std.specs.Prelude.{◌≡◌, ◌≢◌, ⊤, ℕ, ℤ, negsuc, Option, Some, None}
 
 -- both are there, and this holds of them
 abbrev pub Both : {A B : Type 0} → (A → B → Type 0) → Option A → Option B → Type 0
 Both Holds (Some a) (Some b) = Holds a b
 Both Holds _ _ = ⊥
+
+-- this holds of both, if both are there
+abbrev pub OfBoth : {A B : Type 0} → (A → B → Type 0) → Option A → Option B → Type 0
+OfBoth Holds (Some a) (Some b) = Holds a b
+OfBoth Holds (Some a) None = ⊤
+OfBoth Holds None b = ⊤
+
+-- where both were there a closing doesn't answer that one was not, and neither handle holds anything after it
+abbrev pub AreClosed : {A B X : Type 0} → Option A → Option B → ℤ → Option X → Option X → Type 0
+AreClosed one other answer new has = OfBoth (λ a b. (answer ≢ negsuc 1) × (new ≡ None) × (has ≡ None)) one other
 
 -- it is there, and this holds of it
 abbrev pub There : {A : Type 0} → (A → Type 0) → Option A → Type 0

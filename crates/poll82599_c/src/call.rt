@@ -47,5 +47,8 @@ pub struct Poll82599Device {
     pub oversize: u64,
 }
 
-/// What answers an operation that there is not.
+/// What answers an operation that there is not, and a handle that holds nothing, or something of another kind.
 pub(crate) const NO_OPERATION: u32 = 0xFFFF_FFFF;
+
+/// What a closing answers where a handle holds nothing, or something of another kind.
+pub(crate) const UNHELD: i64 = -2;

@@ -1,5 +1,5 @@
 //! What C has of an end or of a worker's packets: a pointer.
-ghost use Rattle.std.specs.Prelude.{◌≡◌, Option, Some, None, IsSome};
+ghost use Rattle.std.specs.Prelude.{◌≡◌, ◌⊎◌, Option, Some, None, IfNone, IfSome, MatchOption};
 ghost use Rattle.poll82599_c.specs.declared.end.End.{End as Held};
 
 use crate::end::End;
@@ -46,24 +46,30 @@ impl Handle {
         }
     }
 
-    fn into_parts(self) -> Parts<End, Global>
-        requires { IsSome self.held }
-        ensures { self.held ≡ Some result.value }
+    /// What it owns, if it owns anything.
+    fn into_parts(self) -> Option<Parts<End, Global>>
+        ensures { MatchOption result (self.held ≡ None) (λ p. self.held ≡ Some p.value) }
     {
         let Handle { ptr, alloc } = self;
-        Parts {
-            ptr: ptr as *mut End,
-            alloc,
+        if ptr.is_null() {
+            None
+        } else {
+            Some(Parts {
+                ptr: ptr as *mut End,
+                alloc,
+            })
         }
     }
 
-    /// Takes the object, and leaves none.
-    pub(crate) fn take(&mut self, alloc: Global) -> Box<End>
-        requires { IsSome self.old.held }
-        ensures value { self.old.held ≡ Some result.value }
+    /// Takes the object, if it holds one, and leaves none.
+    pub(crate) fn take(&mut self, alloc: Global) -> Option<Box<End>>
+        ensures value { MatchOption result (self.old.held ≡ None) (λ b. self.old.held ≡ Some b.value) }
         ensures left { self.new.held ≡ None }
     {
-        replace(self, Handle::empty(alloc)).into_parts().into_box()
+        match replace(self, Handle::empty(alloc)).into_parts() {
+            None => None,
+            Some(parts) => Some(parts.into_box()),
+        }
     }
 
     /// Puts an object in.
@@ -71,6 +77,28 @@ impl Handle {
         ensures { self.new.held ≡ Some made.value }
     {
         *self = Handle::of_parts(Parts::of(made));
+    }
+}
+
+/// Takes the objects of two handles; or where one holds none, leaves both as they were.
+pub(crate) fn take_both(
+    alloc: Global,
+    one: &mut Handle,
+    other: &mut Handle,
+) -> Option<(Box<End>, Box<End>)>
+    ensures one { IfSome result (λ r. one.old.held ≡ Some r.0.value) }
+    ensures other { IfSome result (λ r. other.old.held ≡ Some r.1.value) }
+    ensures left { IfSome result (λ _. (one.new.held ≡ None) × (other.new.held ≡ None)) }
+    ensures none { IfNone result ((one.old.held ≡ None) ⊎ (other.old.held ≡ None)) }
+    ensures kept { IfNone result ((one.new.held ≡ one.old.held) × (other.new.held ≡ other.old.held)) }
+{
+    let first = one.take(alloc)?;
+    match other.take(alloc) {
+        Some(second) => Some((first, second)),
+        None => {
+            one.put(first);
+            None
+        }
     }
 }
 

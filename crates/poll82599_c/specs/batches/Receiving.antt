@@ -19,7 +19,7 @@ use Rattle.driver.specs.receive.Returns.{GaveBack, IsEmptied}
 use Rattle.controller.specs.Handshaking.{TurnedControl}
 use Rattle.controller.specs.Receiving.{Finished, Receiving, WasDropped, WasHeld, WasOff, WasOversize, WasRefused, WasStored}
 use Rattle.controller.specs.Tallying.{nothing}
-use Rattle.poll82599_c.specs.Held.{Between, Both, Of}
+use Rattle.poll82599_c.specs.Held.{Between, Both, Of, OfBoth}
 use Rattle.poll82599_c.specs.batches.Packets.{Worked}
 use Rattle.poll82599_c.specs.batches.Queues.{IsOff, Kind, TriedDisable, TriedEnable, TriedLeft, TriedReclaim, TriedRenewal}
 
@@ -35,21 +35,21 @@ pub record ArePair (n batch fill : ℕ) (drop_en : Bool) (q : Receiver) (d : Rec
 abbrev pub AreMade : ℕ → ℕ → ℕ → Bool → Option Receiver → Option Receiving → Type 0
 AreMade n batch fill drop_en = Both (ArePair n batch fill drop_en)
 
--- both are of one ring
+-- both are of one ring, if both are there
 abbrev pub AreOfOne : Option Receiver → Option Receiving → Type 0
-AreOfOne = Both (λ q d. q.end.table ≡ d.end.table)
+AreOfOne = OfBoth (λ q d. q.end.table ≡ d.end.table)
 
 -- it is there before and after, and of the same ring
 abbrev pub SameDevice : Option Receiving → Option Receiving → Type 0
 SameDevice = Between (λ old new. new.end.table ≡ old.end.table)
 
--- the records of both are those of one lawful ring: what is taken is a beginning of what is stored
+-- the records of both, if both are there, are those of one lawful ring: what is taken is a beginning of what is stored
 abbrev pub AreLawful : Option Receiver → Option Receiving → Type 0
-AreLawful = Both (λ q d. IsLawfulRxLedger Bytes (driver_size q.end) (ledger_of q.end d.end))
+AreLawful = OfBoth (λ q d. IsLawfulRxLedger Bytes (driver_size q.end) (ledger_of q.end d.end))
 
 -- where the head was loaded, what was said to be left is what of the stored is not taken
 abbrev pub AreTold : Option Receiver → Option Receiving → Type 0
-AreTold = Both (λ q d. IsTold (told_left q.end) (length (taken q.end)) (length (stored_now q.end d.end)))
+AreTold = OfBoth (λ q d. IsTold (told_left q.end) (length (taken q.end)) (length (stored_now q.end d.end)))
 
 -- these are a device's counts, and each frame that was offered was stored, dropped or oversize
 abbrev pub AreCounts : ℕ → ℕ → ℕ → ℕ → Option Receiving → Type 0

@@ -17,7 +17,7 @@ use Rattle.driver.specs.transmit.Returns.{IsEmptied}
 use Rattle.driver.specs.transmit.Transmitter.{Transmitter, sending}
 use Rattle.controller.specs.Handshaking.{TurnedControl}
 use Rattle.controller.specs.Transmitting.{WasIdle, WasOff, WasRefused, WasSent}
-use Rattle.poll82599_c.specs.Held.{Between, Both}
+use Rattle.poll82599_c.specs.Held.{Between, Both, OfBoth}
 use Rattle.poll82599_c.specs.batches.Packets.{Worked}
 use Rattle.poll82599_c.specs.batches.Queues.{IsOff, Kind, TriedDisable, TriedEnable, TriedLeft, TriedReclaim, TriedRenewal}
 
@@ -30,21 +30,21 @@ pub record ArePair (n every : ℕ) (by : Completion) (q : Transmitter) (d : Cont
 abbrev pub AreMade : ℕ → ℕ → Completion → Option Transmitter → Option ControllerSide → Type 0
 AreMade n every by = Both (ArePair n every by)
 
--- both are of one ring
+-- both are of one ring, if both are there
 abbrev pub AreOfOne : Option Transmitter → Option ControllerSide → Type 0
-AreOfOne = Both (λ q d. q.end.table ≡ d.table)
+AreOfOne = OfBoth (λ q d. q.end.table ≡ d.table)
 
 -- it is there before and after, and of the same ring
 abbrev pub SameDevice : Option ControllerSide → Option ControllerSide → Type 0
 SameDevice = Between (λ old new. new.table ≡ old.table)
 
--- the records of both are those of one lawful ring: what is sent is a beginning of what is posted
+-- the records of both, if both are there, are those of one lawful ring: what is sent is a beginning of what is posted
 abbrev pub AreLawful : Option Transmitter → Option ControllerSide → Type 0
-AreLawful = Both (λ q d. IsLawfulTxLedger Bytes (driver_size q.end) (ledger_of q.end d))
+AreLawful = OfBoth (λ q d. IsLawfulTxLedger Bytes (driver_size q.end) (ledger_of q.end d))
 
 -- where the head was loaded, what was said to be left is what of the posted is not sent
 abbrev pub AreTold : Option Transmitter → Option ControllerSide → Type 0
-AreTold = Both (λ q d. IsTold (told_left q.end) (length (sent_now q.end d)) (length (posted q.end)))
+AreTold = OfBoth (λ q d. IsTold (told_left q.end) (length (sent_now q.end d)) (length (posted q.end)))
 
 -- ---- a driver's calls
 

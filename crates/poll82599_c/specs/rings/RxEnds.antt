@@ -14,7 +14,7 @@ use Rattle.rx_ring.specs.declared.events.RxDriverOwn.TheVariants.{LoadedQuiet}
 use Rattle.rx_ring.specs.declared.events.RxControllerOwn.TheVariants.{SaidQuiet, WroteBack}
 use Rattle.rx_ring.specs.Ends.{DriverSide, ControllerSide, answered, appended, driver_size, fill_place, is_between, known_free, reclaimed, serve_place, stored, taken}
 use Rattle.rx_ring.specs.Meeting.{MadeSeats, ledger_of, stored_now}
-use Rattle.poll82599_c.specs.Held.{Both, Tried}
+use Rattle.poll82599_c.specs.Held.{Both, OfBoth, Tried}
 use Rattle.poll82599_c.specs.rings.Following.{IsBegun}
 use Rattle.poll82599_c.specs.rings.Steps.{AskedDisable, AskedEnable, LoadedControl, PublishedAll, ReclaimedOne, TriedAnswer}
 use Rattle.poll82599_c.specs.declared.rings.begun.Begun.{Begun}
@@ -23,13 +23,13 @@ use Rattle.poll82599_c.specs.declared.rings.begun.Begun.{Begun}
 abbrev pub AreMade : ℕ → Option DriverSide → Option ControllerSide → Type 0
 AreMade n = Both (λ d c. MadeSeats n d.table d c)
 
--- the records of both are those of one lawful ring: what is taken is a beginning of what is stored
+-- the records of both, if both are there, are those of one lawful ring: what is taken is a beginning of what is stored
 abbrev pub AreLawful : Option DriverSide → Option ControllerSide → Type 0
-AreLawful = Both (λ d c. IsLawfulRxLedger Bytes (driver_size d) (ledger_of d c))
+AreLawful = OfBoth (λ d c. IsLawfulRxLedger Bytes (driver_size d) (ledger_of d c))
 
 -- where the head was loaded, what was said to be left is what of the stored is not taken
 abbrev pub AreTold : Option DriverSide → Option ControllerSide → Type 0
-AreTold = Both (λ d c. IsTold (told_left d) (length (taken d)) (length (stored_now d c)))
+AreTold = OfBoth (λ d c. IsTold (told_left d) (length (taken d)) (length (stored_now d c)))
 
 -- ---- a driver's steps
 

@@ -8,12 +8,12 @@ use Rattle.shared_ring.specs.declared.events.ControllerEvent.TheVariants as cont
 use Rattle.shared_ring.specs.Calls.{Answered}
 use Rattle.shared_ring.specs.Ends.{ControllerSide, DriverSide, answered, appended, fill_place, next_place}
 use Rattle.shared_ring.specs.Forms.{Form}
-use Rattle.poll82599_c.specs.Held.{Between, Both, Tried}
+use Rattle.poll82599_c.specs.Held.{Between, OfBoth, Tried}
 
 module _ {Ring Posted Served Given D C : Type 0} {form : Form Ring Posted Served Given D C} where
-  -- both are ends of one ring
+  -- both are ends of one ring, if both are there
   abbrev pub AreOfOne : Option (DriverSide form) → Option (ControllerSide form) → Type 0
-  AreOfOne = Both (λ d c. d.table ≡ c.table)
+  AreOfOne = OfBoth (λ d c. d.table ≡ c.table)
 
   -- the end is there before and after, and of the same ring
   abbrev pub SameDriven : Option (DriverSide form) → Option (DriverSide form) → Type 0

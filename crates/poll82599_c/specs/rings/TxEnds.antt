@@ -14,7 +14,7 @@ use Rattle.tx_ring.specs.Calls.{CleanedOne, FoundLeft, FoundReady, GoneOver, Pol
 use Rattle.tx_ring.specs.Ends.{DriverSide, ControllerSide, answered, appended, controller_size, driver_size, fill_place, known_ready, posted, sent}
 use Rattle.tx_ring.specs.Meeting.{IsTold, MadeSeats, ledger_of, sent_now, told_left}
 use Rattle.tx_ring.specs.Records.{Posting}
-use Rattle.poll82599_c.specs.Held.{Both, Tried}
+use Rattle.poll82599_c.specs.Held.{Both, OfBoth, Tried}
 use Rattle.poll82599_c.specs.rings.Following.{IsPosting}
 use Rattle.poll82599_c.specs.rings.Steps.{AskedDisable, AskedEnable, LoadedControl, PublishedAll, ReclaimedOne, TriedAnswer}
 use Rattle.poll82599_c.specs.declared.rings.begun.Begun.{Begun}
@@ -23,13 +23,13 @@ use Rattle.poll82599_c.specs.declared.rings.begun.Begun.{Begun}
 abbrev pub AreMade : ℕ → Completion → Option DriverSide → Option ControllerSide → Type 0
 AreMade n by = Both (λ d c. MadeSeats n by d.table d c)
 
--- the records of both are those of one lawful ring: what is sent is a beginning of what is posted
+-- the records of both, if both are there, are those of one lawful ring: what is sent is a beginning of what is posted
 abbrev pub AreLawful : Option DriverSide → Option ControllerSide → Type 0
-AreLawful = Both (λ d c. IsLawfulTxLedger Bytes (driver_size d) (ledger_of d c))
+AreLawful = OfBoth (λ d c. IsLawfulTxLedger Bytes (driver_size d) (ledger_of d c))
 
 -- where the head was loaded, what was said to be left is what of the posted is not sent
 abbrev pub AreTold : Option DriverSide → Option ControllerSide → Type 0
-AreTold = Both (λ d c. IsTold (told_left d) (length (sent_now d c)) (length (posted d)))
+AreTold = OfBoth (λ d c. IsTold (told_left d) (length (sent_now d c)) (length (posted d)))
 
 -- ---- a driver's steps
 

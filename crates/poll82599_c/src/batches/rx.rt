@@ -1,18 +1,18 @@
 //! The exports of a receive queue.
-ghost use Rattle.std.specs.Prelude.{◌≡◌, ◌≢◌, ◌<◌, ◌⊎◌, None, IsSome, pos};
+ghost use Rattle.std.specs.Prelude.{◌≡◌, ◌≢◌, ◌<◌, ◌⊎◌, None, negsuc, pos};
 ghost use Rattle.limits.specs.RingLength.{IsRingLength};
 ghost use Rattle.controller.specs.FillSize.{IsFillSize};
 ghost use Rattle.opaque.specs.Words.{is_set};
 ghost use Rattle.poll82599_c.specs.Handles.{as_packets, as_rx_device, as_rx_queue};
-ghost use Rattle.poll82599_c.specs.Held.{Among, Between};
+ghost use Rattle.poll82599_c.specs.Held.{Among, AreClosed, Between};
 ghost use Rattle.poll82599_c.specs.batches.Queues.{SameQueue};
 ghost use Rattle.poll82599_c.specs.batches.Receiving.{AreCounts, AreLawful, AreMade, AreOfOne, AreTold, Did, Moved, Played, SameDevice, receiver};
 
 use crate::batches::found::Found;
 use crate::batches::rx_making::{make, unmake};
-use crate::call::{NO_OPERATION, Poll82599Device, Poll82599Queue};
+use crate::call::{NO_OPERATION, UNHELD, Poll82599Device, Poll82599Queue};
 use crate::end::End;
-use crate::handle::Handle;
+use crate::handle::{Handle, take_both};
 use crate::makings::put_both;
 use opaque::is_set;
 use std::alloc::Global;
@@ -54,15 +54,15 @@ pub extern "C" fn poll82599_rx_queue_move(
     packets: &mut Handle,
     call: &mut Poll82599Queue,
 )
-    requires queue { IsSome queue.old.held }
-    requires packets { IsSome packets.old.held }
     ensures other { (as_rx_queue queue.old.held ≡ None) ⊎ (as_packets packets.old.held ≡ None) → (call.new.answer ≡ 4294967295) × (queue.new.held ≡ queue.old.held) × (packets.new.held ≡ packets.old.held) }
     ensures own { SameQueue receiver (as_rx_queue queue.old.held) (as_rx_queue queue.new.held) }
     ensures step { Among (Moved call.old.operation call.new.answer call.new.count) (as_rx_queue queue.old.held) (as_packets packets.old.held) (as_rx_queue queue.new.held) (as_packets packets.new.held) }
     ensures kept { (1 < call.old.operation) → (queue.new.held ≡ queue.old.held) × (packets.new.held ≡ packets.old.held) }
 {
-    let mut end = queue.take(alloc);
-    let mut worker = packets.take(alloc);
+    let Some((mut end, mut worker)) = take_both(alloc, queue, packets) else {
+        call.answer = NO_OPERATION;
+        return;
+    };
     let found = match (&mut *end, &mut *worker) {
         (End::RxQueue(driving), End::Packets(held)) => match call.operation {
             0 => driving.batch(held),
@@ -85,13 +85,15 @@ pub extern "C" fn poll82599_rx_queue_do(
     queue: &mut Handle,
     call: &mut Poll82599Queue,
 )
-    requires { IsSome queue.old.held }
     ensures other { as_rx_queue queue.old.held ≡ None → (call.new.answer ≡ 4294967295) × (queue.new.held ≡ queue.old.held) }
     ensures own { SameQueue receiver (as_rx_queue queue.old.held) (as_rx_queue queue.new.held) }
     ensures step { Between (Did call.old.operation call.new.answer call.new.count) (as_rx_queue queue.old.held) (as_rx_queue queue.new.held) }
     ensures kept { (4 < call.old.operation) → queue.new.held ≡ queue.old.held }
 {
-    let mut end = queue.take(alloc);
+    let Some(mut end) = queue.take(alloc) else {
+        call.answer = NO_OPERATION;
+        return;
+    };
     call.answer = match &mut *end {
         End::RxQueue(driving) => match call.operation {
             0 => driving.enable(),
@@ -119,14 +121,16 @@ pub extern "C" fn poll82599_rx_device_do(
     call: &mut Poll82599Device,
     frame: &[u8],
 )
-    requires { IsSome device.old.held }
     ensures other { as_rx_device device.old.held ≡ None → (call.new.answer ≡ 4294967295) × (device.new.held ≡ device.old.held) }
     ensures own { SameDevice (as_rx_device device.old.held) (as_rx_device device.new.held) }
     ensures step { Between (Played call.old.operation call.new.answer frame.now) (as_rx_device device.old.held) (as_rx_device device.new.held) }
     ensures told { (call.old.operation ≡ 3) → AreCounts call.new.offered call.new.stored call.new.dropped call.new.oversize (as_rx_device device.old.held) }
     ensures kept { (2 < call.old.operation) → device.new.held ≡ device.old.held }
 {
-    let mut end = device.take(alloc);
+    let Some(mut end) = device.take(alloc) else {
+        call.answer = NO_OPERATION;
+        return;
+    };
     call.answer = match &mut *end {
         End::RxDevice(serving) => match call.operation {
             0 => serving.offer(frame),
@@ -148,7 +152,7 @@ pub extern "C" fn poll82599_rx_device_do(
 }
 
 /// Closes a receive queue by its driver and its device: how many buffers lay in its ring, or -1 where another owner of the ring is
-/// left.
+/// left, or -2 where a handle holds nothing, or something of another kind, which leaves both handles.
 #[unsafe(no_mangle)]
 pub extern "C" fn poll82599_rx_queue_close(
     alloc: Global,
@@ -158,10 +162,18 @@ pub extern "C" fn poll82599_rx_queue_close(
     requires { AreOfOne (as_rx_queue queue.old.held) (as_rx_device device.old.held) }
     ensures lawful { AreLawful (as_rx_queue queue.old.held) (as_rx_device device.old.held) }
     ensures told { AreTold (as_rx_queue queue.old.held) (as_rx_device device.old.held) }
-    ensures queue { queue.new.held ≡ None }
-    ensures device { device.new.held ≡ None }
+    ensures other { (as_rx_queue queue.old.held ≡ None) ⊎ (as_rx_device device.old.held ≡ None) → (result ≡ negsuc 1) × (queue.new.held ≡ queue.old.held) × (device.new.held ≡ device.old.held) }
+    ensures closed { AreClosed (as_rx_queue queue.old.held) (as_rx_device device.old.held) result queue.new.held device.new.held }
 {
-    let queue = Box::into_inner(queue.take(alloc));
-    let device = Box::into_inner(device.take(alloc));
-    unmake(queue, device)
+    let Some((one, other)) = take_both(alloc, queue, device) else {
+        return UNHELD;
+    };
+    match (&*one, &*other) {
+        (End::RxQueue(_), End::RxDevice(_)) => unmake(Box::into_inner(one), Box::into_inner(other)),
+        _ => {
+            queue.put(one);
+            device.put(other);
+            UNHELD
+        }
+    }
 }

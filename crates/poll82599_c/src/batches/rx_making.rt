@@ -1,5 +1,5 @@
 //! The making of a receive queue with its driver and its device, and its closing.
-ghost use Rattle.std.specs.Prelude.{◌≡◌, ◌≢◌, ◌<◌, ◌⊎◌, Some, IfErr, IfOk};
+ghost use Rattle.std.specs.Prelude.{◌≡◌, ◌≢◌, ◌<◌, ◌⊎◌, Some, IfErr, IfOk, negsuc};
 ghost use Rattle.limits.specs.RingLength.{IsRingLength};
 ghost use Rattle.controller.specs.FillSize.{IsFillSize};
 ghost use Rattle.poll82599_c.specs.batches.Receiving.{AreLawful, AreMade, AreOfOne, AreTold};
@@ -41,6 +41,7 @@ pub(crate) fn unmake(queue: End, device: End) -> i64
     requires { AreOfOne (as_rx_queue (Some queue)) (as_rx_device (Some device)) }
     ensures lawful { AreLawful (as_rx_queue (Some queue)) (as_rx_device (Some device)) }
     ensures told { AreTold (as_rx_queue (Some queue)) (as_rx_device (Some device)) }
+    ensures closed { result ≢ negsuc 1 }
 {
     match queue {
         End::RxQueue(queue) => match device {

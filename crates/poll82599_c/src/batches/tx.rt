@@ -1,17 +1,17 @@
 //! The exports of a transmit queue.
-ghost use Rattle.std.specs.Prelude.{◌≡◌, ◌≢◌, ◌<◌, ◌⊎◌, None, IsSome, pos};
+ghost use Rattle.std.specs.Prelude.{◌≡◌, ◌≢◌, ◌<◌, ◌⊎◌, None, negsuc, pos};
 ghost use Rattle.limits.specs.RingLength.{IsRingLength};
 ghost use Rattle.ring_model.specs.declared.states.Completion.TheVariants as by;
 ghost use Rattle.poll82599_c.specs.Handles.{as_packets, as_tx_device, as_tx_queue};
-ghost use Rattle.poll82599_c.specs.Held.{Among, Between};
+ghost use Rattle.poll82599_c.specs.Held.{Among, AreClosed, Between};
 ghost use Rattle.poll82599_c.specs.batches.Queues.{SameQueue};
 ghost use Rattle.poll82599_c.specs.batches.Transmitting.{AreLawful, AreMade, AreOfOne, AreTold, Did, Moved, Played, SameDevice, transmitter};
 
 use crate::batches::found::Found;
 use crate::batches::tx_making::{make, unmake};
-use crate::call::{NO_OPERATION, Poll82599Queue};
+use crate::call::{NO_OPERATION, UNHELD, Poll82599Queue};
 use crate::end::End;
-use crate::handle::Handle;
+use crate::handle::{Handle, take_both};
 use crate::makings::{completion_of, put_both};
 use std::alloc::Global;
 
@@ -48,15 +48,15 @@ pub extern "C" fn poll82599_tx_queue_move(
     packets: &mut Handle,
     call: &mut Poll82599Queue,
 )
-    requires queue { IsSome queue.old.held }
-    requires packets { IsSome packets.old.held }
     ensures other { (as_tx_queue queue.old.held ≡ None) ⊎ (as_packets packets.old.held ≡ None) → (call.new.answer ≡ 4294967295) × (queue.new.held ≡ queue.old.held) × (packets.new.held ≡ packets.old.held) }
     ensures own { SameQueue transmitter (as_tx_queue queue.old.held) (as_tx_queue queue.new.held) }
     ensures step { Among (Moved call.old.operation call.new.answer call.new.count) (as_tx_queue queue.old.held) (as_packets packets.old.held) (as_tx_queue queue.new.held) (as_packets packets.new.held) }
     ensures kept { (2 < call.old.operation) → (queue.new.held ≡ queue.old.held) × (packets.new.held ≡ packets.old.held) }
 {
-    let mut end = queue.take(alloc);
-    let mut worker = packets.take(alloc);
+    let Some((mut end, mut worker)) = take_both(alloc, queue, packets) else {
+        call.answer = NO_OPERATION;
+        return;
+    };
     let found = match (&mut *end, &mut *worker) {
         (End::TxQueue(driving), End::Packets(held)) => match call.operation {
             0 => driving.batch(held),
@@ -80,13 +80,15 @@ pub extern "C" fn poll82599_tx_queue_do(
     queue: &mut Handle,
     call: &mut Poll82599Queue,
 )
-    requires { IsSome queue.old.held }
     ensures other { as_tx_queue queue.old.held ≡ None → (call.new.answer ≡ 4294967295) × (queue.new.held ≡ queue.old.held) }
     ensures own { SameQueue transmitter (as_tx_queue queue.old.held) (as_tx_queue queue.new.held) }
     ensures step { Between (Did call.old.operation call.new.answer call.new.count) (as_tx_queue queue.old.held) (as_tx_queue queue.new.held) }
     ensures kept { (3 < call.old.operation) → queue.new.held ≡ queue.old.held }
 {
-    let mut end = queue.take(alloc);
+    let Some(mut end) = queue.take(alloc) else {
+        call.answer = NO_OPERATION;
+        return;
+    };
     call.answer = match &mut *end {
         End::TxQueue(driving) => match call.operation {
             0 => driving.enable(),
@@ -112,14 +114,16 @@ pub extern "C" fn poll82599_tx_device_do(
     call: &mut Poll82599Queue,
     room: &mut [u8],
 )
-    requires { IsSome device.old.held }
     ensures other { as_tx_device device.old.held ≡ None → (call.new.answer ≡ 4294967295) × (device.new.held ≡ device.old.held) × (room.new ≡ room.old) }
     ensures own { SameDevice (as_tx_device device.old.held) (as_tx_device device.new.held) }
     ensures step { Between (Played call.old.operation call.new.answer call.new.count room.old room.new) (as_tx_device device.old.held) (as_tx_device device.new.held) }
     ensures room { (call.old.operation ≢ 0) → room.new ≡ room.old }
     ensures kept { (1 < call.old.operation) → device.new.held ≡ device.old.held }
 {
-    let mut end = device.take(alloc);
+    let Some(mut end) = device.take(alloc) else {
+        call.answer = NO_OPERATION;
+        return;
+    };
     call.answer = match &mut *end {
         End::TxDevice(serving) => match call.operation {
             0 => {
@@ -136,7 +140,7 @@ pub extern "C" fn poll82599_tx_device_do(
 }
 
 /// Closes a transmit queue by its driver and its device: how many buffers lay in its ring, or -1 where another owner of the ring is
-/// left.
+/// left, or -2 where a handle holds nothing, or something of another kind, which leaves both handles.
 #[unsafe(no_mangle)]
 pub extern "C" fn poll82599_tx_queue_close(
     alloc: Global,
@@ -146,10 +150,18 @@ pub extern "C" fn poll82599_tx_queue_close(
     requires { AreOfOne (as_tx_queue queue.old.held) (as_tx_device device.old.held) }
     ensures lawful { AreLawful (as_tx_queue queue.old.held) (as_tx_device device.old.held) }
     ensures told { AreTold (as_tx_queue queue.old.held) (as_tx_device device.old.held) }
-    ensures queue { queue.new.held ≡ None }
-    ensures device { device.new.held ≡ None }
+    ensures other { (as_tx_queue queue.old.held ≡ None) ⊎ (as_tx_device device.old.held ≡ None) → (result ≡ negsuc 1) × (queue.new.held ≡ queue.old.held) × (device.new.held ≡ device.old.held) }
+    ensures closed { AreClosed (as_tx_queue queue.old.held) (as_tx_device device.old.held) result queue.new.held device.new.held }
 {
-    let queue = Box::into_inner(queue.take(alloc));
-    let device = Box::into_inner(device.take(alloc));
-    unmake(queue, device)
+    let Some((one, other)) = take_both(alloc, queue, device) else {
+        return UNHELD;
+    };
+    match (&*one, &*other) {
+        (End::TxQueue(_), End::TxDevice(_)) => unmake(Box::into_inner(one), Box::into_inner(other)),
+        _ => {
+            queue.put(one);
+            device.put(other);
+            UNHELD
+        }
+    }
 }

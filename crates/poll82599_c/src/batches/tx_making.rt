@@ -1,5 +1,5 @@
 //! The making of a transmit queue with its driver and its device, and its closing.
-ghost use Rattle.std.specs.Prelude.{◌≡◌, ◌≢◌, ◌<◌, ◌⊎◌, Some, IfErr, IfOk};
+ghost use Rattle.std.specs.Prelude.{◌≡◌, ◌≢◌, ◌<◌, ◌⊎◌, Some, IfErr, IfOk, negsuc};
 ghost use Rattle.limits.specs.RingLength.{IsRingLength};
 ghost use Rattle.poll82599_c.specs.batches.Transmitting.{AreLawful, AreMade, AreOfOne, AreTold};
 ghost use Rattle.poll82599_c.specs.Handles.{as_tx_device, as_tx_queue};
@@ -38,6 +38,7 @@ pub(crate) fn unmake(queue: End, device: End) -> i64
     requires { AreOfOne (as_tx_queue (Some queue)) (as_tx_device (Some device)) }
     ensures lawful { AreLawful (as_tx_queue (Some queue)) (as_tx_device (Some device)) }
     ensures told { AreTold (as_tx_queue (Some queue)) (as_tx_device (Some device)) }
+    ensures closed { result ≢ negsuc 1 }
 {
     match queue {
         End::TxQueue(queue) => match device {

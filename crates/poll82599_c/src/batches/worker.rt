@@ -1,7 +1,7 @@
 //! The exports of a worker's packets.
-ghost use Rattle.std.specs.Prelude.{◌≡◌, ◌≢◌, ◌<◌, ◌⊎◌, None, IsSome, pos};
+ghost use Rattle.std.specs.Prelude.{◌≡◌, ◌≢◌, ◌<◌, ◌⊎◌, None, pos};
 ghost use Rattle.poll82599_c.specs.Handles.{as_packets};
-ghost use Rattle.poll82599_c.specs.Held.{Between};
+ghost use Rattle.poll82599_c.specs.Held.{Between, Of};
 ghost use Rattle.poll82599_c.specs.batches.Packets.{HadPackets, Handled, IsMade, TriedPut};
 
 use crate::batches::packets::make;
@@ -31,11 +31,12 @@ pub extern "C" fn poll82599_packets_new(alloc: Global, buffers: u32, packets: &m
 /// many bytes.
 #[unsafe(no_mangle)]
 pub extern "C" fn poll82599_packets_put(alloc: Global, packets: &mut Handle, frame: &[u8]) -> u32
-    requires { IsSome packets.old.held }
     ensures other { as_packets packets.old.held ≡ None → (result ≡ 4294967295) × (packets.new.held ≡ packets.old.held) }
     ensures step { Between (TriedPut result frame.now) (as_packets packets.old.held) (as_packets packets.new.held) }
 {
-    let mut end = packets.take(alloc);
+    let Some(mut end) = packets.take(alloc) else {
+        return NO_OPERATION;
+    };
     let answer = match &mut *end {
         End::Packets(held) => held.put(frame),
         _ => NO_OPERATION,
@@ -53,12 +54,14 @@ pub extern "C" fn poll82599_packets_do(
     call: &mut Poll82599Packet,
     room: &mut [u8],
 )
-    requires { IsSome packets.old.held }
     ensures other { as_packets packets.old.held ≡ None → (call.new.answer ≡ 4294967295) × (packets.new.held ≡ packets.old.held) × (room.new ≡ room.old) }
     ensures step { Between (Handled call.old.operation call.old call.new room.old room.new) (as_packets packets.old.held) (as_packets packets.new.held) }
     ensures kept { (call.new.answer ≢ 1) → packets.new.held ≡ packets.old.held }
 {
-    let mut end = packets.take(alloc);
+    let Some(mut end) = packets.take(alloc) else {
+        call.answer = NO_OPERATION;
+        return;
+    };
     call.answer = match &mut *end {
         End::Packets(held) => match call.operation {
             0 => {
@@ -85,18 +88,24 @@ pub extern "C" fn poll82599_packets_do(
     packets.put(end);
 }
 
-/// Gives a worker's packets and empty buffers back: how many packets these were.
+/// Gives a worker's packets and empty buffers back: how many packets these were, or `usize::MAX` where the handle holds nothing, or
+/// something of another kind, which leaves it.
 #[unsafe(no_mangle)]
 pub extern "C" fn poll82599_packets_close(alloc: Global, packets: &mut Handle) -> usize
-    requires { IsSome (as_packets packets.old.held) }
     ensures count { HadPackets result (as_packets packets.old.held) }
-    ensures empty { packets.new.held ≡ None }
+    ensures empty { Of (λ _. packets.new.held ≡ None) (as_packets packets.old.held) }
+    ensures other { as_packets packets.old.held ≡ None → (result ≡ 18446744073709551615) × (packets.new.held ≡ packets.old.held) }
 {
-    match Box::into_inner(packets.take(alloc)) {
+    let Some(end) = packets.take(alloc) else {
+        return usize::MAX;
+    };
+    let count = match &*end {
         End::Packets(held) => held.list.len(),
-        other => {
-            drop(other);
-            0
+        _ => {
+            packets.put(end);
+            return usize::MAX;
         }
-    }
+    };
+    drop(end);
+    count
 }

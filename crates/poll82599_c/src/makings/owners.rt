@@ -1,5 +1,5 @@
 //! Who owns what is made.
-ghost use Rattle.std.specs.Prelude.{◌≡◌, IfErr, IfOk, IfSome};
+ghost use Rattle.std.specs.Prelude.{◌≡◌, ◌≢◌, IfErr, IfOk, IfSome, negsuc};
 ghost use Rattle.std.specs.Arc.{arc_value};
 
 use crate::half::{Half, OfRing};
@@ -50,14 +50,18 @@ pub(crate) fn sole<T: Drop>(one: Arc<T, Global>, other: Arc<T, Global>) -> Optio
 }
 
 /// Lets two go that close no ring: -1.
-pub(crate) fn unclosed<T: Drop, U: Drop>(one: T, other: U) -> i64 {
+pub(crate) fn unclosed<T: Drop, U: Drop>(one: T, other: U) -> i64
+    ensures { result ≢ negsuc 1 }
+{
     drop(one);
     drop(other);
     -1
 }
 
 /// How many buffers lie in the places of a closed ring.
-pub(crate) fn lying(places: Vec<Option<Buf>>) -> i64 {
+pub(crate) fn lying(places: Vec<Option<Buf>>) -> i64
+    ensures { result ≢ negsuc 1 }
+{
     let mut left = 0u32;
     for place in places {
         if place.is_some() {

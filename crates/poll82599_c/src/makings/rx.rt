@@ -1,5 +1,5 @@
 //! The two halves of a receive ring.
-ghost use Rattle.std.specs.Prelude.{◌≡◌, ◌⊎◌, IfErr, IfOk, length};
+ghost use Rattle.std.specs.Prelude.{◌≡◌, ◌≢◌, ◌⊎◌, IfErr, IfOk, length, negsuc};
 ghost use Rattle.limits.specs.RingLength.{IsRingLength};
 ghost use Rattle.ring_model.specs.receive.Lawful.{IsLawfulRxLedger};
 ghost use Rattle.ring_model.specs.shared.Frames.{Bytes};
@@ -36,6 +36,7 @@ pub(crate) fn rx_close(
     requires { driving.table ≡ serving.table }
     ensures lawful { IsLawfulRxLedger Bytes (driver_size driving) (ledger_of driving serving) }
     ensures told { IsTold (told_left driving) (length (taken driving)) (length (stored_now driving serving)) }
+    ensures closed { result ≢ negsuc 1 }
 {
     let (ring, mut driver) = driving.parts();
     let (other, mut controller) = serving.parts();

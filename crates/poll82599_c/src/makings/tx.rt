@@ -1,5 +1,5 @@
 //! The two halves of a transmit ring.
-ghost use Rattle.std.specs.Prelude.{◌≡◌, ◌≢◌, ◌⊎◌, IfErr, IfOk, length};
+ghost use Rattle.std.specs.Prelude.{◌≡◌, ◌≢◌, ◌⊎◌, IfErr, IfOk, length, negsuc};
 ghost use Rattle.limits.specs.RingLength.{IsRingLength};
 ghost use Rattle.ring_model.specs.declared.states.Completion.TheVariants as by;
 ghost use Rattle.ring_model.specs.transmit.Lawful.{IsLawfulTxLedger};
@@ -49,6 +49,7 @@ pub(crate) fn tx_close(
     requires { driving.table ≡ serving.table }
     ensures lawful { IsLawfulTxLedger Bytes (driver_size driving) (ledger_of driving serving) }
     ensures told { IsTold (told_left driving) (length (sent_now driving serving)) (length (posted driving)) }
+    ensures closed { result ≢ negsuc 1 }
 {
     let (ring, mut driver) = driving.parts();
     let (other, mut controller) = serving.parts();

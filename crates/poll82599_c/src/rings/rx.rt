@@ -1,15 +1,15 @@
 //! The exports of a receive ring.
-ghost use Rattle.std.specs.Prelude.{◌≡◌, ◌≢◌, ◌<◌, ◌⊎◌, None, IsSome, pos};
+ghost use Rattle.std.specs.Prelude.{◌≡◌, ◌≢◌, ◌<◌, ◌⊎◌, None, negsuc, pos};
 ghost use Rattle.limits.specs.RingLength.{IsRingLength};
 ghost use Rattle.opaque.specs.Words.{is_set};
 ghost use Rattle.poll82599_c.specs.Handles.{as_rx_driver, as_rx_controller};
 ghost use Rattle.poll82599_c.specs.rings.RxEnds.{AreLawful, AreMade, AreTold, Drove, Served};
 ghost use Rattle.poll82599_c.specs.rings.Steps.{AreOfOne, SameDriven, SameServed};
-ghost use Rattle.poll82599_c.specs.Held.{Between};
+ghost use Rattle.poll82599_c.specs.Held.{AreClosed, Between};
 
-use crate::call::{NO_OPERATION, Poll82599Call};
+use crate::call::{NO_OPERATION, UNHELD, Poll82599Call};
 use crate::end::End;
-use crate::handle::Handle;
+use crate::handle::{Handle, take_both};
 use crate::makings::put_both;
 use crate::rings::rx_making::{make, unmake};
 use opaque::is_set;
@@ -47,14 +47,16 @@ pub extern "C" fn poll82599_rx_drive(
     call: &mut Poll82599Call,
     bytes: &mut [u8],
 )
-    requires { IsSome driver.old.held }
-    ensures other { as_rx_driver driver.old.held ≡ None → (call.new.answer ≡ 4294967295) × (driver.new.held ≡ driver.old.held) }
+    ensures other { as_rx_driver driver.old.held ≡ None → (call.new.answer ≡ 4294967295) × (driver.new.held ≡ driver.old.held) × (bytes.new ≡ bytes.old) }
     ensures own { SameDriven (as_rx_driver driver.old.held) (as_rx_driver driver.new.held) }
     ensures step { Between (Drove call.old.operation call.new.answer call.new.len call.new.eop bytes.old bytes.new) (as_rx_driver driver.old.held) (as_rx_driver driver.new.held) }
     ensures room { (call.old.operation ≢ 2) → bytes.new ≡ bytes.old }
     ensures kept { (9 < call.old.operation) → driver.new.held ≡ driver.old.held }
 {
-    let mut held = driver.take(alloc);
+    let Some(mut held) = driver.take(alloc) else {
+        call.answer = NO_OPERATION;
+        return;
+    };
     call.answer = match &mut *held {
         End::RxDriver(driving) => match call.operation {
             0 => driving.post(),
@@ -92,13 +94,15 @@ pub extern "C" fn poll82599_rx_serve(
     call: &mut Poll82599Call,
     segment: &[u8],
 )
-    requires { IsSome controller.old.held }
     ensures other { as_rx_controller controller.old.held ≡ None → (call.new.answer ≡ 4294967295) × (controller.new.held ≡ controller.old.held) }
     ensures own { SameServed (as_rx_controller controller.old.held) (as_rx_controller controller.new.held) }
     ensures step { Between (Served call.old.operation call.new.answer segment.now (is_set call.old.eop)) (as_rx_controller controller.old.held) (as_rx_controller controller.new.held) }
     ensures kept { (2 < call.old.operation) → controller.new.held ≡ controller.old.held }
 {
-    let mut held = controller.take(alloc);
+    let Some(mut held) = controller.take(alloc) else {
+        call.answer = NO_OPERATION;
+        return;
+    };
     call.answer = match &mut *held {
         End::RxController(serving) => match call.operation {
             0 => serving.answer(),
@@ -111,7 +115,8 @@ pub extern "C" fn poll82599_rx_serve(
     controller.put(held);
 }
 
-/// Closes a receive ring by its two ends: how many buffers lay in it, or -1 where another owner of the ring is left.
+/// Closes a receive ring by its two ends: how many buffers lay in it, or -1 where another owner of the ring is left, or -2 where a
+/// handle holds nothing, or something of another kind, which leaves both handles.
 #[unsafe(no_mangle)]
 pub extern "C" fn poll82599_rx_close(
     alloc: Global,
@@ -121,10 +126,18 @@ pub extern "C" fn poll82599_rx_close(
     requires { AreOfOne (as_rx_driver driver.old.held) (as_rx_controller controller.old.held) }
     ensures lawful { AreLawful (as_rx_driver driver.old.held) (as_rx_controller controller.old.held) }
     ensures told { AreTold (as_rx_driver driver.old.held) (as_rx_controller controller.old.held) }
-    ensures driver { driver.new.held ≡ None }
-    ensures controller { controller.new.held ≡ None }
+    ensures other { (as_rx_driver driver.old.held ≡ None) ⊎ (as_rx_controller controller.old.held ≡ None) → (result ≡ negsuc 1) × (driver.new.held ≡ driver.old.held) × (controller.new.held ≡ controller.old.held) }
+    ensures closed { AreClosed (as_rx_driver driver.old.held) (as_rx_controller controller.old.held) result driver.new.held controller.new.held }
 {
-    let driver = Box::into_inner(driver.take(alloc));
-    let controller = Box::into_inner(controller.take(alloc));
-    unmake(driver, controller)
+    let Some((one, other)) = take_both(alloc, driver, controller) else {
+        return UNHELD;
+    };
+    match (&*one, &*other) {
+        (End::RxDriver(_), End::RxController(_)) => unmake(Box::into_inner(one), Box::into_inner(other)),
+        _ => {
+            driver.put(one);
+            controller.put(other);
+            UNHELD
+        }
+    }
 }

@@ -1,5 +1,5 @@
 //! The making of a receive ring with its two objects, and its closing.
-ghost use Rattle.std.specs.Prelude.{◌≡◌, ◌≢◌, ◌<◌, ◌⊎◌, Some, IfErr, IfOk};
+ghost use Rattle.std.specs.Prelude.{◌≡◌, ◌≢◌, ◌<◌, ◌⊎◌, Some, IfErr, IfOk, negsuc};
 ghost use Rattle.limits.specs.RingLength.{IsRingLength};
 ghost use Rattle.poll82599_c.specs.Handles.{as_rx_driver, as_rx_controller};
 ghost use Rattle.poll82599_c.specs.rings.RxEnds.{AreLawful, AreMade, AreTold};
@@ -58,6 +58,7 @@ pub(crate) fn unmake(driver: End, controller: End) -> i64
     requires { AreOfOne (as_rx_driver (Some driver)) (as_rx_controller (Some controller)) }
     ensures lawful { AreLawful (as_rx_driver (Some driver)) (as_rx_controller (Some controller)) }
     ensures told { AreTold (as_rx_driver (Some driver)) (as_rx_controller (Some controller)) }
+    ensures closed { result ≢ negsuc 1 }
 {
     match driver {
         End::RxDriver(driving) => match controller {

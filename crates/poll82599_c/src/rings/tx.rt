@@ -1,16 +1,16 @@
 //! The exports of a transmit ring.
-ghost use Rattle.std.specs.Prelude.{◌≡◌, ◌≢◌, ◌<◌, ◌⊎◌, None, IsSome, pos};
+ghost use Rattle.std.specs.Prelude.{◌≡◌, ◌≢◌, ◌<◌, ◌⊎◌, None, negsuc, pos};
 ghost use Rattle.limits.specs.RingLength.{IsRingLength};
 ghost use Rattle.ring_model.specs.declared.states.Completion.TheVariants as by;
 ghost use Rattle.opaque.specs.Words.{is_set};
 ghost use Rattle.poll82599_c.specs.Handles.{as_tx_driver, as_tx_controller};
 ghost use Rattle.poll82599_c.specs.rings.TxEnds.{AreLawful, AreMade, AreTold, Drove, Served};
 ghost use Rattle.poll82599_c.specs.rings.Steps.{AreOfOne, SameDriven, SameServed};
-ghost use Rattle.poll82599_c.specs.Held.{Between};
+ghost use Rattle.poll82599_c.specs.Held.{AreClosed, Between};
 
-use crate::call::{NO_OPERATION, Poll82599Call};
+use crate::call::{NO_OPERATION, UNHELD, Poll82599Call};
 use crate::end::End;
-use crate::handle::Handle;
+use crate::handle::{Handle, take_both};
 use crate::makings::{completion_of, put_both};
 use crate::rings::begun::Asking;
 use crate::rings::tx_making::{make, unmake};
@@ -52,13 +52,15 @@ pub extern "C" fn poll82599_tx_drive(
     call: &mut Poll82599Call,
     segment: &[u8],
 )
-    requires { IsSome driver.old.held }
     ensures other { as_tx_driver driver.old.held ≡ None → (call.new.answer ≡ 4294967295) × (driver.new.held ≡ driver.old.held) }
     ensures own { SameDriven (as_tx_driver driver.old.held) (as_tx_driver driver.new.held) }
     ensures step { Between (Drove call.old.operation call.new.answer call.new.len segment.now (is_set call.old.eop) (is_set call.old.rs) call.old.paylen) (as_tx_driver driver.old.held) (as_tx_driver driver.new.held) }
     ensures kept { (9 < call.old.operation) → driver.new.held ≡ driver.old.held }
 {
-    let mut held = driver.take(alloc);
+    let Some(mut held) = driver.take(alloc) else {
+        call.answer = NO_OPERATION;
+        return;
+    };
     call.answer = match &mut *held {
         End::TxDriver(driving) => match call.operation {
             0 => {
@@ -98,14 +100,16 @@ pub extern "C" fn poll82599_tx_serve(
     call: &mut Poll82599Call,
     bytes: &mut [u8],
 )
-    requires { IsSome controller.old.held }
-    ensures other { as_tx_controller controller.old.held ≡ None → (call.new.answer ≡ 4294967295) × (controller.new.held ≡ controller.old.held) }
+    ensures other { as_tx_controller controller.old.held ≡ None → (call.new.answer ≡ 4294967295) × (controller.new.held ≡ controller.old.held) × (bytes.new ≡ bytes.old) }
     ensures own { SameServed (as_tx_controller controller.old.held) (as_tx_controller controller.new.held) }
     ensures step { Between (Served call.old.operation call.new.answer call.new.len call.new.eop bytes.old bytes.new) (as_tx_controller controller.old.held) (as_tx_controller controller.new.held) }
     ensures room { (call.old.operation ≢ 1) → bytes.new ≡ bytes.old }
     ensures kept { (1 < call.old.operation) → controller.new.held ≡ controller.old.held }
 {
-    let mut held = controller.take(alloc);
+    let Some(mut held) = controller.take(alloc) else {
+        call.answer = NO_OPERATION;
+        return;
+    };
     call.answer = match &mut *held {
         End::TxController(serving) => match call.operation {
             0 => serving.answer(),
@@ -122,7 +126,8 @@ pub extern "C" fn poll82599_tx_serve(
     controller.put(held);
 }
 
-/// Closes a transmit ring by its two ends: how many buffers lay in it, or -1 where another owner of the ring is left.
+/// Closes a transmit ring by its two ends: how many buffers lay in it, or -1 where another owner of the ring is left, or -2 where a
+/// handle holds nothing, or something of another kind, which leaves both handles.
 #[unsafe(no_mangle)]
 pub extern "C" fn poll82599_tx_close(
     alloc: Global,
@@ -132,10 +137,18 @@ pub extern "C" fn poll82599_tx_close(
     requires { AreOfOne (as_tx_driver driver.old.held) (as_tx_controller controller.old.held) }
     ensures lawful { AreLawful (as_tx_driver driver.old.held) (as_tx_controller controller.old.held) }
     ensures told { AreTold (as_tx_driver driver.old.held) (as_tx_controller controller.old.held) }
-    ensures driver { driver.new.held ≡ None }
-    ensures controller { controller.new.held ≡ None }
+    ensures other { (as_tx_driver driver.old.held ≡ None) ⊎ (as_tx_controller controller.old.held ≡ None) → (result ≡ negsuc 1) × (driver.new.held ≡ driver.old.held) × (controller.new.held ≡ controller.old.held) }
+    ensures closed { AreClosed (as_tx_driver driver.old.held) (as_tx_controller controller.old.held) result driver.new.held controller.new.held }
 {
-    let driver = Box::into_inner(driver.take(alloc));
-    let controller = Box::into_inner(controller.take(alloc));
-    unmake(driver, controller)
+    let Some((one, other)) = take_both(alloc, driver, controller) else {
+        return UNHELD;
+    };
+    match (&*one, &*other) {
+        (End::TxDriver(_), End::TxController(_)) => unmake(Box::into_inner(one), Box::into_inner(other)),
+        _ => {
+            driver.put(one);
+            controller.put(other);
+            UNHELD
+        }
+    }
 }

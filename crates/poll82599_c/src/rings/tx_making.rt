@@ -1,5 +1,5 @@
 //! The making of a transmit ring with its two objects, and its closing.
-ghost use Rattle.std.specs.Prelude.{◌≡◌, ◌≢◌, ◌<◌, ◌⊎◌, Some, IfErr, IfOk};
+ghost use Rattle.std.specs.Prelude.{◌≡◌, ◌≢◌, ◌<◌, ◌⊎◌, Some, IfErr, IfOk, negsuc};
 ghost use Rattle.limits.specs.RingLength.{IsRingLength};
 ghost use Rattle.poll82599_c.specs.Handles.{as_tx_driver, as_tx_controller};
 ghost use Rattle.poll82599_c.specs.rings.TxEnds.{AreLawful, AreMade, AreTold};
@@ -66,6 +66,7 @@ pub(crate) fn unmake(driver: End, controller: End) -> i64
     requires { AreOfOne (as_tx_driver (Some driver)) (as_tx_controller (Some controller)) }
     ensures lawful { AreLawful (as_tx_driver (Some driver)) (as_tx_controller (Some controller)) }
     ensures told { AreTold (as_tx_driver (Some driver)) (as_tx_controller (Some controller)) }
+    ensures closed { result ≢ negsuc 1 }
 {
     match driver {
         End::TxDriver(driving) => match controller {
