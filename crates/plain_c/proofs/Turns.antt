@@ -15,7 +15,7 @@ use Rattle.plain_c.specs.Once.{Drives}
 
 -- a queue that is on is live
 on_live : (s : DriverState) → is_on s ≡ true → is_live s ≡ true
-on_live state.New e = cc e
+on_live state.New e = e
 on_live state.Asked e = cc e
 on_live state.On e = e
 on_live state.Stopping e = cc e

@@ -1,5 +1,5 @@
 //! One frame through a receive ring, whose two ends take turns.
-ghost use Rattle.std.specs.Prelude.{◌≡◌, ◌≢◌, ◌<◌, ◌↔◌, true, false, length, IfSome};
+ghost use Rattle.std.specs.Prelude.{◌≡◌, ◌≢◌, ◌<◌, ◌⊎◌, ◌↔◌, true, false, length, IfSome};
 ghost use Rattle.commands.specs.Frame.{IsFrameLength};
 ghost use Rattle.commands.specs.Passing.{CanPass, Fits, HasStored, Offers, StoredOnly, TookPacket};
 ghost use Rattle.plain_c.specs.Once.{Drives, HasCome, IsWritten};
@@ -31,7 +31,8 @@ const BATCH: usize = 1;
 pub extern "C" fn poll82599_once(alloc: Global, frame: &[u8], room: &mut [u8]) -> u32
     ensures written { (result ≡ 0) → IsWritten frame.now room.old room.new }
     ensures length { (result ≡ 1) ↔ ¬ IsFrameLength (length frame.now) }
-    ensures small { (result ≡ 4) → length room.old < length frame.now }
+    ensures small { (result ≡ 4) ↔ IsFrameLength (length frame.now) × (length room.old < length frame.now) }
+    ensures answers { (result ≡ 0) ⊎ (result ≡ 1) ⊎ (result ≡ 2) ⊎ (result ≡ 4) }
     ensures kept { (result ≢ 0) → room.new ≡ room.old }
 {
     if frame.len() < LEAST_FRAME || MOST_BYTES < frame.len() {

@@ -5,6 +5,7 @@ ghost use Rattle.controller.specs.FillSize.{IsFillSize};
 ghost use Rattle.poll82599_c.specs.batches.Receiving.{AreLawful, AreMade, AreOfOne, AreTold};
 ghost use Rattle.poll82599_c.specs.Handles.{as_rx_device, as_rx_queue};
 
+use crate::batches::{RxDevice, RxQueue};
 use crate::end::End;
 use crate::half::Half;
 use crate::makings::{Unmade, both_boxed, rx_close, rx_halves, unclosed};
@@ -45,14 +46,22 @@ pub(crate) fn unmake(queue: End, device: End) -> i64
 {
     match queue {
         End::RxQueue(queue) => match device {
-            End::RxDevice(device) => {
-                let (end, chain) = queue.end.into_end();
-                drop(chain);
-                let serving = Half::of(device.ring, device.end.into_end());
-                rx_close(Half::of(queue.ring, end), serving)
-            }
+            End::RxDevice(device) => closed(queue, device),
             other => unclosed(queue, other),
         },
         other => unclosed(other, device),
     }
+}
+
+/// Closes a queue by its driver and its device.
+fn closed(queue: RxQueue, device: RxDevice) -> i64
+    requires { queue.end.table ≡ device.end.table }
+    ensures lawful { AreLawful (Some queue) (Some device) }
+    ensures told { AreTold (Some queue) (Some device) }
+    ensures closed { result ≢ negsuc 1 }
+{
+    let (end, chain) = queue.end.into_end();
+    drop(chain);
+    let serving = Half::of(device.ring, device.end.into_end());
+    rx_close(Half::of(queue.ring, end), serving)
 }

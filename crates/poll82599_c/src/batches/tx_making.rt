@@ -4,6 +4,7 @@ ghost use Rattle.limits.specs.RingLength.{IsRingLength};
 ghost use Rattle.poll82599_c.specs.batches.Transmitting.{AreLawful, AreMade, AreOfOne, AreTold};
 ghost use Rattle.poll82599_c.specs.Handles.{as_tx_device, as_tx_queue};
 
+use crate::batches::{TxDevice, TxQueue};
 use crate::end::End;
 use crate::half::Half;
 use crate::makings::{Unmade, both_boxed, tx_close, tx_halves, unclosed};
@@ -42,13 +43,21 @@ pub(crate) fn unmake(queue: End, device: End) -> i64
 {
     match queue {
         End::TxQueue(queue) => match device {
-            End::TxDevice(device) => {
-                let driving = Half::of(queue.ring, queue.end.into_end());
-                let serving = Half::of(device.ring, device.end.into_end());
-                tx_close(driving, serving)
-            }
+            End::TxDevice(device) => closed(queue, device),
             other => unclosed(queue, other),
         },
         other => unclosed(other, device),
     }
+}
+
+/// Closes a queue by its driver and its device.
+fn closed(queue: TxQueue, device: TxDevice) -> i64
+    requires { queue.end.table ≡ device.table }
+    ensures lawful { AreLawful (Some queue) (Some device) }
+    ensures told { AreTold (Some queue) (Some device) }
+    ensures closed { result ≢ negsuc 1 }
+{
+    let driving = Half::of(queue.ring, queue.end.into_end());
+    let serving = Half::of(device.ring, device.end.into_end());
+    tx_close(driving, serving)
 }

@@ -62,19 +62,27 @@ pub(crate) fn unmake(driver: End, controller: End) -> i64
 {
     match driver {
         End::RxDriver(driving) => match controller {
-            End::RxController(serving) => {
-                let RxDriving {
-                    ring,
-                    end,
-                    stash,
-                    ..
-                } = driving;
-                drop(stash);
-                let serving = Half::of(serving.ring, serving.end);
-                rx_close(Half::of(ring, end), serving)
-            }
+            End::RxController(serving) => closed(driving, serving),
             other => unclosed(driving, other),
         },
         other => unclosed(other, controller),
     }
+}
+
+/// Closes a ring by its driver's object and its controller's.
+fn closed(driving: RxDriving, serving: RxServing) -> i64
+    requires { driving.table ≡ serving.table }
+    ensures lawful { AreLawful (Some driving) (Some serving) }
+    ensures told { AreTold (Some driving) (Some serving) }
+    ensures closed { result ≢ negsuc 1 }
+{
+    let RxDriving {
+        ring,
+        end,
+        stash,
+        ..
+    } = driving;
+    drop(stash);
+    let serving = Half::of(serving.ring, serving.end);
+    rx_close(Half::of(ring, end), serving)
 }

@@ -70,18 +70,26 @@ pub(crate) fn unmake(driver: End, controller: End) -> i64
 {
     match driver {
         End::TxDriver(driving) => match controller {
-            End::TxController(serving) => {
-                let TxDriving {
-                    ring,
-                    end,
-                    stash,
-                    ..
-                } = driving;
-                drop(stash);
-                tx_close(Half::of(ring, end), serving)
-            }
+            End::TxController(serving) => closed(driving, serving),
             other => unclosed(driving, other),
         },
         other => unclosed(other, controller),
     }
+}
+
+/// Closes a ring by its driver's object and its controller's.
+fn closed(driving: TxDriving, serving: TxServing) -> i64
+    requires { driving.table ≡ serving.table }
+    ensures lawful { AreLawful (Some driving) (Some serving) }
+    ensures told { AreTold (Some driving) (Some serving) }
+    ensures closed { result ≢ negsuc 1 }
+{
+    let TxDriving {
+        ring,
+        end,
+        stash,
+        ..
+    } = driving;
+    drop(stash);
+    tx_close(Half::of(ring, end), serving)
 }
