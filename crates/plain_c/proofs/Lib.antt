@@ -1,2 +1,3 @@
+pub mod Coming
 pub mod Printing
 pub mod Turns

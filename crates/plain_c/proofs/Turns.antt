@@ -1,5 +1,5 @@
 -- What the driver's turns keep.
-use Rattle.std.proofs.Common.{◌≡◌, ◌∙◌, true, List, ap}
+use Rattle.std.proofs.Common.{◌≡◌, ◌∙◌, refl, true, List, ap}
 use Rattle.atomic_table.specs.Seated.{TableId}
 use Rattle.buffer_pool.specs.Buffer.{Buffer}
 use Rattle.ring_model.specs.declared.states.DriverState.{DriverState}
@@ -15,10 +15,10 @@ use Rattle.plain_c.specs.Once.{Drives}
 
 -- a queue that is on is live
 on_live : (s : DriverState) → is_on s ≡ true → is_live s ≡ true
-on_live state.New e = e
+on_live state.New e = cc e
 on_live state.Asked e = cc e
 on_live state.On e = e
-on_live state.Stopping e = cc e
+on_live state.Stopping e = refl
 on_live state.Stopped e = cc e
 on_live state.Cleared e = cc e
 on_live state.Tailed e = cc e

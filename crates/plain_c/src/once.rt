@@ -55,11 +55,11 @@ fn passed(alloc: Global, frame: &[u8]) -> Option<Packet>
     requires { IsFrameLength (length frame.now) }
     ensures { IfSome result (λ packet. HasCome frame.now packet) }
 {
-    let (ring, driver, controller) = RxRing::new(alloc, DESCRIPTORS).ok()?;
     let stash = full_stash(alloc)?;
-    let (mut driver, mut controller, packet) = in_turns(&ring, driver, controller, stash, frame)?;
+    let (ring, driver, controller) = RxRing::new(alloc, DESCRIPTORS).ok()?;
+    let (mut driver, mut controller, packet) = in_turns(&ring, driver, controller, stash, frame);
     meet_rx(&ring, &mut driver, &mut controller);
-    Some(packet)
+    packet
 }
 
 /// A stash of the driver's buffers, unless memory was refused.
@@ -74,7 +74,7 @@ fn full_stash(alloc: Global) -> Option<Stash> {
     Some(stash)
 }
 
-/// Both ends take turns: they, and the packet that the driver took. The driver asks for the queue to be enabled, and the
+/// Both ends take turns: they, and the packet that the driver took, if it took one. The driver asks for the queue to be enabled, and the
 /// controller answers; the driver posts its buffers, the controller stores the frame, and the driver takes it.
 fn in_turns(
     ring: &RxRing,
@@ -82,10 +82,11 @@ fn in_turns(
     controller: RxControllerEnd,
     mut stash: Stash,
     frame: &[u8],
-) -> Option<(RxDriverEnd, RxControllerEnd, Packet)>
+) -> (RxDriverEnd, RxControllerEnd, Option<Packet>)
     requires { CanPass ring.now driver controller frame.now }
-    ensures driver { IfSome result (λ ends. TookPacket ring.now ends.0 ends.2) }
-    ensures controller { IfSome result (λ ends. StoredOnly ring.now frame.now ends.1) }
+    ensures own { result.0.table ≡ ring.now }
+    ensures driver { IfSome result.2 (λ packet. TookPacket ring.now result.0 packet) }
+    ensures controller { StoredOnly ring.now frame.now result.1 }
 {
     let mut driver = RxDriver::new(driver, BATCH);
     let mut packets = ArrayVec::new();
@@ -95,9 +96,9 @@ fn in_turns(
     take(ring, &mut driver, &mut stash, &mut packets);
     let end = store(ring, controller, frame);
     take(ring, &mut driver, &mut stash, &mut packets);
-    let packet = packets.pop()?;
-    let (driver, _begun) = driver.into_end();
-    Some((driver, end, packet))
+    let (driver, begun) = driver.into_end();
+    drop(begun);
+    (driver, end, packets.pop())
 }
 
 /// A turn of the driver: it asks for the queue to be enabled, if it did not before, and takes a batch once the queue is.
