@@ -8,7 +8,6 @@ use crate::rings::handed::Handed;
 use crate::rings::handshake::shake;
 use buffer_pool::Stash;
 use limits::BUFFER_BYTES;
-use opaque::overwrite;
 use rx_ring::{DriverEnd, Poll, RxDriverEnd, RxRing};
 use shared_ring::HandshakeStep;
 use std::alloc::Global;
@@ -81,14 +80,9 @@ impl RxDriving {
         }
         match self.end.poll(&self.ring) {
             Poll::Segment { buf, eop } => {
-                overwrite(bytes, buf.bytes());
-                let len = buf.len() as u32;
+                let handed = Handed::segment(bytes, &buf, eop);
                 drop(self.stash.put(buf));
-                Handed {
-                    answer: 1,
-                    len,
-                    eop: u32::from(eop),
-                }
+                handed
             }
             Poll::NotDone => Handed::nothing(0),
             Poll::Empty => Handed::nothing(2),

@@ -1,12 +1,14 @@
 //! The controller's object of a transmit ring: its end, and the ring that it shares.
-ghost use Rattle.std.specs.Prelude.{◌≡◌, ◌≢◌};
+ghost use Rattle.std.specs.Prelude.{◌≡◌, ◌≢◌, ◌<◌, ◌≤◌, true, false, length, None};
+ghost use Rattle.limits.specs.declared.profile.TheConstants.{BUFFER_BYTES};
+ghost use Rattle.ring_model.specs.shared.Handshakes.{is_serving};
+ghost use Rattle.tx_ring.specs.Ends.{controller_state, held, is_owed, known_ready};
 ghost use Rattle.poll82599_c.specs.rings.TxEnds.{SentNone, SentOne};
 ghost use Rattle.poll82599_c.specs.rings.Steps.{AnsweredAsked, LookedAsked};
 
 use crate::half::Half;
 use crate::rings::handed::Handed;
 use limits::BUFFER_BYTES;
-use opaque::overwrite;
 use tx_ring::{ControllerEnd, TxControllerEnd, TxRing};
 
 /// What a C thread has that serves a transmit ring.
@@ -43,17 +45,26 @@ impl Half<TxRing, TxControllerEnd> {
         if self.end.ready() == 0 && self.end.look(&self.ring) == 0 {
             return Handed::nothing(0);
         }
+        self.hand_out(bytes)
+    }
+
+    // Sends the segment that is ready into the room, and reports it where a report is asked for.
+    fn hand_out(&mut self, bytes: &mut [u8]) -> Handed
+        requires room { BUFFER_BYTES ≤ length bytes.old }
+        requires serving { is_serving (controller_state self.old) ≡ true }
+        requires held { held self.old ≡ None }
+        requires paid { is_owed self.old ≡ false }
+        requires ready { 0 < known_ready self.old }
+        ensures own { self.new.table ≡ self.old.table }
+        ensures answer { result.answer ≡ 1 }
+        ensures sent { SentOne result.len result.eop bytes.old bytes.new self.old self.new }
+    {
         let (buf, read) = self.end.fetch(&self.ring);
-        overwrite(bytes, buf.bytes());
-        let len = buf.len() as u32;
+        let handed = Handed::segment(bytes, &buf, read.eop);
         self.end.give_back(&self.ring, buf);
         if self.end.owes_report() {
             self.end.report(&self.ring);
         }
-        Handed {
-            answer: 1,
-            len,
-            eop: u32::from(read.eop),
-        }
+        handed
     }
 }
