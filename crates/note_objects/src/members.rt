@@ -1,6 +1,7 @@
 //! The members of a note.
+ghost use Rattle.std.specs.Fmt.{DisplaysOnOk};
 ghost use Rattle.std.specs.Prelude.{◌≡◌, Some};
-ghost use Rattle.note_objects.specs.NoteMembers.{note_members};
+ghost use Rattle.note_objects.specs.NoteMembers.{fetched_members, member, note_members, sending_members, taken_members};
 
 use ring_model::{FetchedSegment, Note, TakenSegment};
 use std::fmt;
@@ -37,36 +38,62 @@ impl fmt::Display for NoteMembers {
 
     fn fmt<W: fmt::Write>(&self, f: &mut fmt::Formatter<W>) -> fmt::Result {
         match self.note {
-            Note::Place(place) => write!(f, ",\"place\":{place}"),
-            Note::Tail(tail) => write!(f, ",\"tail\":{tail}"),
-            Note::Free(count) => write!(f, ",\"free\":{count}"),
-            Note::Ready(count) => write!(f, ",\"ready\":{count}"),
-            Note::Fetched(place, buffer) => write!(f, ",\"place\":{place},\"buffer\":{buffer}"),
-            Note::Sending(place, segment) => {
-                let FetchedSegment {
-                    buffer,
-                    len,
-                    eop,
-                    rs,
-                } = segment;
-                let (eop, rs) = (u8::from(eop), u8::from(rs));
-                write!(
-                    f,
-                    ",\"place\":{place},\"buffer\":{buffer},\"length\":{len},\"eop\":{eop},\"rs\":{rs}"
-                )
-            }
-            Note::Taken(None) => write!(f, ",\"buffer\":null"),
-            Note::Taken(Some(segment)) => {
-                let TakenSegment { buffer, len, eop } = segment;
-                let eop = u8::from(eop);
-                write!(f, ",\"buffer\":{buffer},\"length\":{len},\"eop\":{eop}")
-            }
-            Note::Reported(None) => write!(f, ",\"reported\":null"),
-            Note::Reported(Some(place)) => write!(f, ",\"reported\":{place}"),
-            Note::Head(head) => write!(f, ",\"head\":{head}"),
-            Note::Buffer(buffer) => write!(f, ",\"buffer\":{buffer}"),
-            Note::Control(value) => write!(f, ",\"control\":{value}"),
-            Note::Quiet(value) => write!(f, ",\"quiet\":{value}"),
+            Note::Place(place) => write_member(f, "place", place),
+            Note::Tail(tail) => write_member(f, "tail", tail),
+            Note::Free(count) => write_member(f, "free", count),
+            Note::Ready(count) => write_member(f, "ready", count),
+            Note::Fetched(place, buffer) => write_fetched(f, place, buffer),
+            Note::Sending(place, segment) => write_sending(f, place, segment),
+            Note::Taken(None) => f.write_str(",\"buffer\":null"),
+            Note::Taken(Some(segment)) => write_taken(f, segment),
+            Note::Reported(None) => f.write_str(",\"reported\":null"),
+            Note::Reported(Some(place)) => write_member(f, "reported", place),
+            Note::Head(head) => write_member(f, "head", head),
+            Note::Buffer(buffer) => write_member(f, "buffer", buffer),
+            Note::Control(value) => write_member(f, "control", u16::from(value)),
+            Note::Quiet(value) => write_member(f, "quiet", u16::from(value)),
         }
     }
+}
+
+/// Writes a number under its name.
+fn write_member<W: fmt::Write>(f: &mut fmt::Formatter<W>, name: &str, number: u16) -> fmt::Result
+    ensures { DisplaysOnOk W.write_str_gives f.old result (Some (member name.now number)) f.new }
+{
+    write!(f, ",\"{name}\":{number}")
+}
+
+/// Writes the place that was fetched, and the buffer's number.
+fn write_fetched<W: fmt::Write>(f: &mut fmt::Formatter<W>, place: u16, buffer: u16) -> fmt::Result
+    ensures { DisplaysOnOk W.write_str_gives f.old result (Some (fetched_members place buffer)) f.new }
+{
+    write!(f, ",\"place\":{place},\"buffer\":{buffer}")
+}
+
+/// Writes the place that was fetched to be sent, and what its descriptor says.
+fn write_sending<W: fmt::Write>(
+    f: &mut fmt::Formatter<W>,
+    place: u16,
+    segment: FetchedSegment,
+) -> fmt::Result
+    ensures { DisplaysOnOk W.write_str_gives f.old result (Some (sending_members place segment)) f.new }
+{
+    let FetchedSegment {
+        buffer,
+        len,
+        eop,
+        rs,
+    } = segment;
+    write_fetched(f, place, buffer)?;
+    let (eop, rs) = (u8::from(eop), u8::from(rs));
+    write!(f, ",\"length\":{len},\"eop\":{eop},\"rs\":{rs}")
+}
+
+/// Writes what a taken descriptor says.
+fn write_taken<W: fmt::Write>(f: &mut fmt::Formatter<W>, segment: TakenSegment) -> fmt::Result
+    ensures { DisplaysOnOk W.write_str_gives f.old result (Some (taken_members segment)) f.new }
+{
+    let TakenSegment { buffer, len, eop } = segment;
+    let eop = u8::from(eop);
+    write!(f, ",\"buffer\":{buffer},\"length\":{len},\"eop\":{eop}")
 }
