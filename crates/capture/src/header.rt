@@ -11,14 +11,14 @@ pub enum TimeUnit {
 }
 
 /// The order of the bytes of a capture's numbers.
-#[derive(Clone, Copy, Debug, PartialEq, Eq)]
+#[derive(Clone, Copy)]
 pub enum Order {
     Big,
     Little,
 }
 
 /// What a capture's first four bytes tell.
-#[derive(Clone, Copy, Debug, PartialEq, Eq)]
+#[derive(Clone, Copy)]
 pub struct Form {
     pub order: Order,
     pub unit: TimeUnit,

@@ -33,11 +33,12 @@ fn tell_records<R: Print + AllocGlobal>(
 }
 
 fn tell_time<R: Print>(rt: &R, unit: TimeUnit, found: &CaptureRecord<'_>) -> Result<()> {
-    let (seconds, fraction) = (found.seconds(), found.fraction());
-    match unit {
-        TimeUnit::Micros => print!(rt; "{seconds}.{fraction:06}000")?,
-        TimeUnit::Nanos => print!(rt; "{seconds}.{fraction:09}")?,
-    }
+    let fraction = u64::from(found.fraction());
+    let nanos = match unit {
+        TimeUnit::Micros => fraction * 1000,
+        TimeUnit::Nanos => fraction,
+    };
+    print!(rt; "{}.{nanos:09}", found.seconds())?;
     Ok(())
 }
 
