@@ -10,14 +10,14 @@ use Rattle.commands.specs.declared.request.Request.TheVariants.{Once, Decode, Re
 use Rattle.commands.specs.Answers.{Ends, EndsAs, EndsBy, EndsDecode}
 use Rattle.commands.specs.Frame.{frame_in}
 use Rattle.commands.specs.Replay.{EndsReplay, HasReplayed}
-use Rattle.capture_commands.proofs.Piping.{kept as capture-kept-by}
-use Rattle.capture_commands.specs.Meanings.{meant}
-use Rattle.capture_commands.specs.declared.piped.request.CaptureRequest.{CaptureRequest}
+use Rattle.forward_command.proofs.Piping.{kept as capture-kept-by}
+use Rattle.forward_command.specs.Meanings.{meant}
+use Rattle.forward_command.specs.declared.piped.request.CaptureRequest.{CaptureRequest}
 use Rattle.commands.specs.declared.refusal.Refusal.{Refusal}
 use Rattle.forward_command.proofs.Endings.{kept}
 use Rattle.forwarder.specs.declared.config.Config.{Config}
 use Rattle.forward_command.specs.declared.printing.Printing.{Printing}
-use Rattle.capture_commands.specs.Words.{SourceFile}
+use Rattle.forward_command.specs.Words.{SourceFile}
 use Rattle.command_line.specs.Forwarding.{EndsForwarding}
 use Rattle.schedule_command.specs.Lists.{EndsSchedules}
 use Rattle.schedule_command.specs.declared.request.ScheduleRequest.{ScheduleRequest}

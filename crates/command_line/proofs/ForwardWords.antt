@@ -12,7 +12,7 @@ use Rattle.ring_model.specs.declared.states.Completion.{Completion}
 use Rattle.command_line.specs.CommandLine.{Choices, HasForward, HasPrinting, IsProgram, SaysForward, program_app}
 use Rattle.command_line.specs.OptionWords.{is_head}
 use Rattle.command_line.specs.FileWords.{FileOptions, HasFiles}
-use Rattle.capture_commands.specs.Words.{IsSource, IsWireFile, PortFile, SourceFile, source_word, wire_file_word}
+use Rattle.forward_command.specs.Words.{IsSource, IsWireFile, PortFile, SourceFile, source_word, wire_file_word}
 use Rattle.command_line.proofs.CommandLine.{IsPlain, is_plain}
 use Rattle.command_line.proofs.Options.{Given}
 use Rattle.command_line.proofs.Options.Given.{files as file_option, flag, number}

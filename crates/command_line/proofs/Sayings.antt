@@ -3,9 +3,9 @@ use Rattle.std.proofs.Common.{◌≡◌, ◌∙◌, ap, inr, refl, subst, true, 
 use Rattle.std.specs.Prelude.{Result, Ok, Err}
 use Rattle.std.specs.Io.KnownBytes.{Keeps}
 use Rattle.clap.specs.Words.{App, Row, Text, subcommand_of, takes}
-use Rattle.capture_commands.specs.Meanings.{capture_meant, lines_meant, meant}
-use Rattle.capture_commands.specs.declared.piped.request.CaptureRequest.{CaptureRequest}
-use Rattle.capture_commands.specs.declared.piped.request.CaptureRequest.TheVariants.{FromCapture, ToCapture}
+use Rattle.forward_command.specs.Meanings.{capture_meant, lines_meant, meant}
+use Rattle.forward_command.specs.declared.piped.request.CaptureRequest.{CaptureRequest}
+use Rattle.forward_command.specs.declared.piped.request.CaptureRequest.TheVariants.{FromCapture, ToCapture}
 use Rattle.commands.specs.Answers.{Ends, EndsAs, EndsBy}
 use Rattle.commands.specs.Frame.{frame_in}
 use Rattle.commands.specs.declared.refusal.Refusal.{Refusal}

@@ -12,8 +12,8 @@ use Rattle.commands.specs.declared.replay.QueuePlan.{QueuePlan}
 use Rattle.commands.specs.Decoding.{ring_word, format_word}
 use Rattle.forwarder.specs.declared.config.Config.{Config}
 use Rattle.forward_command.specs.declared.printing.Printing.{Printing}
-use Rattle.capture_commands.specs.Requests.{IsPlaced}
-use Rattle.capture_commands.specs.declared.piped.request.CaptureRequest.{CaptureRequest}
+use Rattle.forward_command.specs.Requests.{IsPlaced}
+use Rattle.forward_command.specs.declared.piped.request.CaptureRequest.{CaptureRequest}
 use Rattle.command_line.specs.OptionWords.{HasFlag, HasNumber, SaysNumber, draws_any, flag_rule, flag_words, is_head, number_rule, optional_rule, picture_value, picture_words, queue_rules, with_rules}
 use Rattle.command_line.specs.ScheduleWords.{schedules_app}
 use Rattle.schedule_command.specs.declared.request.ScheduleRequest.{ScheduleRequest}

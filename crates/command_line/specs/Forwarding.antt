@@ -1,11 +1,11 @@
 -- How `forward` ends, with captures or without.
 use Rattle.std.specs.Prelude.{◌≡◌, ◌≢◌, ℕ, List, [], Option, Some}
 use Rattle.commands.specs.declared.answering.TheConstants.{DONE, REFUSED}
-use Rattle.capture_commands.specs.Endings.{EndsRefused, PrintsPage}
+use Rattle.forward_command.specs.CaptureForwards.{EndsRefused, PrintsPage}
 use Rattle.forward_command.specs.Forwards.{EndsForward}
 use Rattle.forward_command.specs.declared.printing.Printing.{Printing}
 use Rattle.forwarder.specs.declared.config.Config.{Config}
-use Rattle.capture_commands.specs.Words.{SourceFile}
+use Rattle.forward_command.specs.Words.{SourceFile}
 
 -- with no source it is a script that is forwarded, that of the input, and else that of the sources
 pub record EndsForwarding (config : Config) (printing : Printing) (sources : List SourceFile) (input : Option (List ℕ)) (status : ℕ) (old new : Option (List ℕ)) : Type 0 where

@@ -1,8 +1,8 @@
 -- What a command line says, whichever its command is: its words, the values that clap reads, the request, and how its run ends.
 use Rattle.std.specs.Prelude.{◌≡◌, ℕ, Bool, true, false, List, Option, Some, codes}
 use Rattle.clap.specs.Words.{Row, Text}
-use Rattle.capture_commands.specs.Meanings.{capture_meant, lines_meant}
-use Rattle.capture_commands.specs.declared.piped.request.CaptureRequest.TheVariants.{FromCapture, ToCapture}
+use Rattle.forward_command.specs.Meanings.{capture_meant, lines_meant}
+use Rattle.forward_command.specs.declared.piped.request.CaptureRequest.TheVariants.{FromCapture, ToCapture}
 use Rattle.commands.specs.Answers.{Ends, EndsBy, EndsDecode}
 use Rattle.commands.specs.Frame.{frame_in}
 use Rattle.commands.specs.Replay.{EndsReplay}

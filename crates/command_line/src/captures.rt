@@ -1,12 +1,12 @@
 //! What is asked for in matches of `from-capture` and `to-capture`.
 ghost use Rattle.std.specs.Prelude.{◌≡◌, ℕ, Some, IfSome};
 ghost use Rattle.clap.specs.Words.{found_of, rows_of};
-ghost use Rattle.capture_commands.specs.Requests.{IsPlaced};
-ghost use Rattle.capture_commands.specs.declared.piped.request.CaptureRequest.TheVariants.{FromCapture, ToCapture};
+ghost use Rattle.forward_command.specs.Requests.{IsPlaced};
+ghost use Rattle.forward_command.specs.declared.piped.request.CaptureRequest.TheVariants.{FromCapture, ToCapture};
 ghost use Rattle.command_line.specs.CaptureWords.{HasFromCapture, HasToCapture};
 
 use crate::reading::place_in;
-use capture_commands::piped::CaptureRequest;
+use forward_command::piped::CaptureRequest;
 use clap::ArgMatches;
 
 /// The request in matches of `from-capture`.

@@ -17,7 +17,7 @@ use crate::drawings::{draws_any, pictures_in};
 use crate::lists::lists_in;
 use crate::program::program;
 use crate::reading::{flag_in, number_in, word_in};
-use capture_commands::piped::CaptureRequest;
+use forward_command::piped::CaptureRequest;
 use clap::error::ErrorKind;
 use clap::{ArgMatches, Command, Error};
 use commands::{Form, QueuePlan, Request, Shown};

@@ -9,7 +9,7 @@ ghost use Rattle.command_line.specs.CommandLine.{SaysForward};
 ghost use Rattle.command_line.specs.FileWords.{AreFiles, AreTold, FileOptions, HasFiles, HoldsFiles, file_values};
 
 use crate::program::program;
-use capture_commands::{Source, WireFile, source_of, wire_file_of};
+use forward_command::captured::{Source, WireFile, source_of, wire_file_of};
 use clap::error::ErrorKind;
 use clap::{ArgMatches, Error};
 use std::alloc::{AllocError, Global};

@@ -68,7 +68,7 @@ pub fn run<
             rt, alloc, words, &config, printing, input, output, faults, screen,
         ),
         Ok(Asked::Capture(request)) => {
-            capture_commands::piped::answer(alloc, request, input, output, faults)
+            forward_command::piped::answer(alloc, request, input, output, faults)
         }
         Ok(Asked::Schedules(request)) => {
             schedule_command::answer(alloc, &request, output, faults)
@@ -108,7 +108,7 @@ fn forward<
         → files.sources ≢ [] → input.new ≡ input.old }
 {
     match files_of(alloc, words) {
-        Ok(files) => capture_commands::answer(
+        Ok(files) => forward_command::captured::answer(
             rt,
             alloc,
             config,

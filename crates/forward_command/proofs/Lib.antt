@@ -1,3 +1,8 @@
 mod Lines
 mod Refusing
 pub mod Endings
+pub mod Piping
+mod Passing
+mod Captures
+mod Records
+pub mod CaptureEndings

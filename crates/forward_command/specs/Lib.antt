@@ -1,3 +1,11 @@
 pub mod Objects
 pub mod Text
 pub mod Forwards
+pub mod Requests
+pub mod Flows
+pub mod Meanings
+pub mod Words
+pub mod Gathering
+pub mod Refusals
+pub mod Wires
+pub mod CaptureForwards

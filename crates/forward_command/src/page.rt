@@ -76,7 +76,25 @@ fn report_for<R: Threads + Wait + Clock + Sync, M: Write + Send>(
     ensures screen { form ≡ None → screen.new ≡ screen.old }
 {
     let script = script_in(alloc, text)?;
-    forward_script(rt, alloc, config, &script, screen, form)
+    forwarded(rt, alloc, config, script, screen, form)
+}
+
+/// The reports of a script's flows. The script is given back.
+pub(crate) fn forwarded<R: Threads + Wait + Clock + Sync, M: Write + Send>(
+    rt: &R,
+    alloc: Global,
+    config: &Config,
+    script: Script,
+    screen: &mut M,
+    form: Option<Form>,
+) -> Result<Report, Refusal>
+    ensures report { IfOk result (λ r. AreReports config.now script r.flows.items) }
+    ensures refused { IfErr result (λ e. IsUnforwarded config.now script e) }
+    ensures screen { form ≡ None → screen.new ≡ screen.old }
+{
+    let forwarded = forward_script(rt, alloc, config, &script, screen, form);
+    drop(script);
+    forwarded
 }
 
 /// Forwards a script, and answers what became of its flows. How far it is goes to `screen` in this form, if it is shown; a
@@ -99,7 +117,7 @@ pub fn forward_script<R: Threads + Wait + Clock + Sync, M: Write + Send>(
 }
 
 /// The script that a text says.
-fn script_in(alloc: Global, text: Vec<u8>) -> Result<Script, Refusal>
+pub(crate) fn script_in(alloc: Global, text: Vec<u8>) -> Result<Script, Refusal>
     ensures script { IfOk result (λ script. script_of text.items ≡ Ok script) }
     ensures refused { IfErr result (λ e. (fault : ScriptError) × (e ≡ refusal.Script fault) × Fails fault (script_of text.items)) }
 {

@@ -4,7 +4,7 @@ use crate::tests::forward::captured::{AT_0, FIVES, HEADER, joined};
 use crate::tests::forward::streams::{each_beginning, each_cut};
 use crate::tests::streams::Narrow;
 use crate::tests::wanted::{holds, same};
-use capture_commands::piped::{CaptureRequest, perform};
+use forward_command::piped::{CaptureRequest, perform};
 use std::alloc::Global;
 use std::process::Abort;
 

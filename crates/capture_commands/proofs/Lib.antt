@@ -1,5 +1,0 @@
-pub mod Piping
-mod Passing
-mod Captures
-mod Records
-pub mod Endings

@@ -1,8 +1,0 @@
--- What is refused, and for what.
-use Rattle.commands.specs.declared.refusal.Refusal.{Refusal}
-use Rattle.capture_commands.specs.declared.refused.Place.TheVariants.{Command}
-use Rattle.capture_commands.specs.declared.refused.Refused.{Refused}
-
--- a refusal of the command itself, or of one of its streams
-abbrev pub refused_itself : Refusal → Refused
-refused_itself e = record { place = Command; refusal = e }

@@ -1,0 +1,19 @@
+use Rattle.std.proofs.Common.{◌∙◌, ◌++◌, ◌∷◌, [], ap, sym, subst, take, arith, rules}
+use Rattle.std.proofs.lemmas.List.{take_more}
+use Rattle.forward_command.specs.Gathering.{Gathers}
+use Rattle.forward_command.proofs.Captures.{gathers-more}
+use Rattle.forward_command.proofs.captured.gathering.gather.Goals as goal
+
+pub loop-source-preserved : goal.loop-source-preserved
+loop-source-preserved g c =
+    let sources = c.args.sources.now in
+    let source = c.source-item.result in
+    let k = c.loop-source.source-index in
+    let more = take_more sources k source (omega arith) ∙ ap (λ (s : _). take k sources ++ s ∷ []) (sym c.source-item.is) in
+    let one = c.in_default.ensures.added in
+    record {
+      gathered = subst (λ (ss : _). Gathers ss [] c.add_file-added.new.frames.items) (sym more)
+          (gathers-more (take k sources) source [] c.loop-source.frames.items _ one.0 c.loop-source.invariant.gathered one.1);
+      place = search rules;
+      room = search rules;
+    }

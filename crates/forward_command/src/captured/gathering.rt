@@ -1,0 +1,130 @@
+//! The frames of captures.
+ghost use Rattle.std.specs.Prelude.{◌≡◌, ◌++◌, ◌<◌, ◌≤◌, ℕ, List, length, Ok, IfErr, IfOk, OnOk};
+ghost use Rattle.capture.specs.CaptureError.{Fails};
+ghost use Rattle.capture.specs.declared.error.CaptureError.TheVariants.{Memory};
+ghost use Rattle.capture.specs.Frames.{frames_at};
+ghost use Rattle.limits.specs.declared.profile.TheConstants.{MOST_PAIRS, MOST_SCRIPT_FRAMES, PORTS};
+ghost use Rattle.wire_script.specs.Frame.{frame_of};
+ghost use Rattle.forward_command.specs.Gathering.{AreGathered, IsUngathered, IsUnread, with_capture};
+
+use crate::captured::files::read_file;
+use crate::captured::refused::{Place, Refused};
+use crate::captured::words::Source;
+use capture::{CaptureError, CaptureRecord, read};
+use commands::Refusal;
+use limits::MOST_SCRIPT_FRAMES;
+use std::alloc::{AllocError, Global};
+use std::rt::Files;
+use wire_script::{Script, WireFrame};
+
+/// Puts the frames of a capture behind others, each at this port, 0 or 1, and this queue, 0 to 7.
+///
+/// It answers the capture's first fault or its want of memory. More than [`MOST_SCRIPT_FRAMES`](limits::MOST_SCRIPT_FRAMES)
+/// frames with those before are too many at the record where it comes; what is wrong with the capture alone comes before
+/// that. After a refusal the frames are those before, and perhaps some of the capture's behind them.
+pub fn add_capture(
+    alloc: Global,
+    frames: &mut Vec<WireFrame>,
+    port: u8,
+    queue: u8,
+    bytes: &[u8],
+) -> Result<(), CaptureError>
+    requires port { port < PORTS }
+    requires queue { queue < MOST_PAIRS }
+    requires room { length frames.old.items ≤ MOST_SCRIPT_FRAMES }
+    ensures added { OnOk result (with_capture frames.old.items port queue bytes.now ≡ Ok frames.new.items) }
+    ensures room { OnOk result (length frames.new.items ≤ MOST_SCRIPT_FRAMES) }
+    ensures refused { IfErr result (λ e. Fails e (with_capture frames.old.items port queue bytes.now)) }
+{
+    let found = read(alloc, bytes)?;
+    let room = MOST_SCRIPT_FRAMES - frames.len();
+    if found.records().len() > room {
+        let number = room as u64 + 1;
+        return Err(CaptureError::TooMany { number });
+    }
+    push_frames(alloc, frames, port, queue, found.records())
+}
+
+/// Puts the frames of these records behind others.
+fn push_frames(
+    alloc: Global,
+    frames: &mut Vec<WireFrame>,
+    port: u8,
+    queue: u8,
+    records: &[CaptureRecord<'_>],
+) -> Result<(), CaptureError>
+    requires port { port < PORTS }
+    requires queue { queue < MOST_PAIRS }
+    ensures pushed { OnOk result (frames.new.items ≡ frames.old.items ++ frames_at port queue records.now) }
+    ensures err { IfErr result (λ e. e ≡ Memory) }
+{
+    for found in records {
+        let Ok(frame) = frame_for(alloc, port, queue, found) else {
+            return Err(CaptureError::Memory);
+        };
+        frames.push(frame).map_err(|_| CaptureError::Memory)?;
+    }
+    Ok(())
+}
+
+/// The frame of a record.
+fn frame_for(
+    alloc: Global,
+    port: u8,
+    queue: u8,
+    found: &CaptureRecord<'_>,
+) -> Result<WireFrame, AllocError>
+    requires port { port < PORTS }
+    requires queue { queue < MOST_PAIRS }
+    ensures { IfOk result (λ frame. frame ≡ frame_of port queue found.now.frame) }
+{
+    let held = found.frame();
+    let mut bytes = Vec::with_capacity(alloc, held.len())?;
+    bytes.extend_from_slice(held)?;
+    Ok(WireFrame::new(port, queue, bytes))
+}
+
+/// The frames of the captures in these files, those of the first, then those of the second and so on, each at its port and
+/// queue.
+///
+/// It answers the first source that is refused, with `FileNotRead` where its file can't be read, `Memory` where there was no
+/// memory for its bytes, or the fault of its capture. The bytes of a file are given back before the next is read.
+pub fn gather<R: Files>(rt: &R, alloc: Global, sources: &[Source<'_>]) -> Result<Script, Refused>
+    ensures frames { IfOk result (λ script. AreGathered sources.now script) }
+    ensures refused { IfErr result (λ e. IsUngathered sources.now e) }
+{
+    let mut frames = Vec::new(alloc);
+    let mut at = 0usize;
+    for source in sources {
+        let added = add_file(rt, alloc, &mut frames, source);
+        if let Err(refusal) = added {
+            drop(frames);
+            let place = Place::Source(at);
+            return Err(Refused { place, refusal });
+        }
+        at += 1;
+    }
+    Ok(Script::new(frames))
+}
+
+/// Puts the frames of a source's capture behind others.
+fn add_file<R: Files>(
+    rt: &R,
+    alloc: Global,
+    frames: &mut Vec<WireFrame>,
+    source: &Source<'_>,
+) -> Result<(), Refusal>
+    requires room { length frames.old.items ≤ MOST_SCRIPT_FRAMES }
+    ensures added { OnOk result ((bytes : List ℕ) × (with_capture frames.old.items source.now.port source.now.queue bytes ≡ Ok frames.new.items)) }
+    ensures room { OnOk result (length frames.new.items ≤ MOST_SCRIPT_FRAMES) }
+    ensures refused { IfErr result (λ e. IsUnread source.now frames.old.items e) }
+{
+    let bytes = read_file(rt, alloc, source.file())?;
+    Ok(add_capture(
+        alloc,
+        frames,
+        source.port(),
+        source.queue(),
+        bytes.as_slice(),
+    )?)
+}

@@ -1,0 +1,130 @@
+//! The words of `--capture` and of `--wire-capture`.
+ghost use Rattle.std.specs.Prelude.{◌≡◌, ◌<◌, ◌↔◌, ◌∷◌, ℕ, List, Some, IfSome, IsTrue, MatchOption};
+ghost use Rattle.limits.specs.declared.profile.TheConstants.{MOST_PAIRS, PORTS};
+ghost use Rattle.forward_command.specs.Words.{IsDigit, IsSource, IsWireFile, PortFile, SourceFile, NoFirst, source_word, wire_file_word};
+
+use limits::{MOST_PAIRS, PORTS};
+use std::marker::Model;
+
+/// A capture whose frames come in at a port, 0 or 1, and a queue, 0 to 7.
+#[derive(Debug, Drop)]
+pub struct Source<'a> {
+    port: u8,
+    queue: u8,
+    file: &'a str,
+}
+
+impl<'a> Model for Source<'a> {
+    ghost Value = { SourceFile };
+
+    ghost view = { λ s. record { port = s.port; queue = s.queue; file = s.file.now } };
+
+    ghost invariant = { λ s. IsSource (record { port = s.port; queue = s.queue; file = s.file.now }) };
+}
+
+impl<'a> Source<'a> {
+    /// The port at which the frames come in.
+    pub fn port(&self) -> u8
+        ensures value { result ≡ self.now.port }
+        ensures in_range { result < PORTS }
+    {
+        self.port
+    }
+
+    /// The queue of that port.
+    pub fn queue(&self) -> u8
+        ensures value { result ≡ self.now.queue }
+        ensures in_range { result < MOST_PAIRS }
+    {
+        self.queue
+    }
+
+    /// The capture's file.
+    pub fn file(&self) -> &'a str
+        ensures { result.now ≡ self.now.file }
+    {
+        self.file
+    }
+}
+
+/// A file that is to have what leaves a port, 0 or 1, as a capture.
+#[derive(Debug, Drop)]
+pub struct WireFile<'a> {
+    port: u8,
+    file: &'a str,
+}
+
+impl<'a> Model for WireFile<'a> {
+    ghost Value = { PortFile };
+
+    ghost view = { λ w. record { port = w.port; file = w.file.now } };
+
+    ghost invariant = { λ w. IsWireFile (record { port = w.port; file = w.file.now }) };
+}
+
+impl<'a> WireFile<'a> {
+    /// The port whose frames the file is to have.
+    pub fn port(&self) -> u8
+        ensures value { result ≡ self.now.port }
+        ensures in_range { result < PORTS }
+    {
+        self.port
+    }
+
+    /// The file.
+    pub fn file(&self) -> &'a str
+        ensures { result.now ≡ self.now.file }
+    {
+        self.file
+    }
+}
+
+/// The source that a word `PORT:QUEUE=FILE` tells, if it tells one: port and queue are one digit each, and the file's name
+/// is not empty.
+pub fn source_of(word: &str) -> Option<Source<'_>>
+    ensures said { IfSome result (λ s. IsSource s × (word.now ≡ source_word s)) }
+    ensures each { (s : SourceFile) → IsSource s → word.now ≡ source_word s → result ≡ Some s }
+{
+    let (port, after_port) = first_of(word)?;
+    let (colon, after_colon) = first_of(after_port)?;
+    let (queue, after_queue) = first_of(after_colon)?;
+    let (equals, file) = first_of(after_queue)?;
+    let placed = is_digit(port, PORTS) && is_digit(queue, MOST_PAIRS);
+    if !placed || colon != b':' || equals != b'=' || file.is_empty() {
+        return None;
+    }
+    let (port, queue) = (port - b'0', queue - b'0');
+    Some(Source { port, queue, file })
+}
+
+/// The file that a word `PORT=FILE` tells, if it tells one: the port is one digit, and the file's name is not empty.
+pub fn wire_file_of(word: &str) -> Option<WireFile<'_>>
+    ensures said { IfSome result (λ w. IsWireFile w × (word.now ≡ wire_file_word w)) }
+    ensures each { (w : PortFile) → IsWireFile w → word.now ≡ wire_file_word w → result ≡ Some w }
+{
+    let (port, after_port) = first_of(word)?;
+    let (equals, file) = first_of(after_port)?;
+    if !is_digit(port, PORTS) || equals != b'=' || file.is_empty() {
+        return None;
+    }
+    let port = port - b'0';
+    Some(WireFile { port, file })
+}
+
+/// Whether this is a digit below a number.
+fn is_digit(byte: u8, below: usize) -> bool
+    ensures { IsTrue result ↔ IsDigit below byte }
+{
+    byte >= b'0' && usize::from(byte - b'0') < below
+}
+
+/// The first byte of a word that begins in ASCII, and the rest.
+fn first_of(word: &str) -> Option<(u8, &str)>
+    ensures { MatchOption result (NoFirst word.now) (λ x. (x.0 < 128) × (word.now ≡ x.0 ∷ x.1.now)) }
+{
+    let bytes = word.as_bytes();
+    if bytes.is_empty() || bytes[0] >= 128 {
+        return None;
+    }
+    Some((bytes[0], word.split_at(1).1))
+}

@@ -1,0 +1,51 @@
+//! What a request does to the three streams, and the status that it ends with.
+ghost use Rattle.std.specs.Prelude.{◌≡◌, ◌⊎◌, ℕ, List, Some, IfErr, OnOk};
+ghost use Rattle.std.specs.Io.KnownBytes.{Keeps};
+ghost use Rattle.commands.specs.Answers.{EndsBy};
+ghost use Rattle.commands.specs.declared.answering.TheConstants.{DONE, REFUSED};
+ghost use Rattle.forward_command.specs.Meanings.{Prints, Withholds, meant};
+ghost use Rattle.forward_command.specs.Requests.{IsPlaced};
+
+use crate::piped::page::page_of;
+use crate::piped::request::CaptureRequest;
+use commands::{DONE, Refusal, put, refuse};
+use std::alloc::Global;
+use std::io::{Read, Write};
+
+/// Does what is asked for, and answers an exit status. What it makes goes to `output`, with status 0. A refusal goes to
+/// `faults` as one line, with status 1, as the other commands' do; before it stands the line or the record that it is
+/// for, if it is for one.
+pub fn answer<I: Read, W: Write, E: Write>(
+    alloc: Global,
+    request: CaptureRequest,
+    input: &mut I,
+    output: &mut W,
+    faults: &mut E,
+) -> u8
+    requires { IsPlaced request }
+    ensures status { (result ≡ DONE) ⊎ (result ≡ REFUSED) }
+    ensures done { result ≡ DONE → Keeps (E.contents faults.old) (E.contents faults.new) }
+    ensures ends { (bytes : List ℕ) → I.remaining input.old ≡ Some bytes
+        → EndsBy (meant request bytes) result (W.contents output.old) (W.contents output.new) }
+{
+    match perform(alloc, request, input, output) {
+        Ok(()) => DONE,
+        Err(refusal) => refuse(faults, refusal),
+    }
+}
+
+/// Does what is asked for. What it refuses before it writes leaves `output` as it was.
+pub fn perform<I: Read, W: Write>(
+    alloc: Global,
+    request: CaptureRequest,
+    input: &mut I,
+    output: &mut W,
+) -> Result<(), Refusal>
+    requires { IsPlaced request }
+    ensures done { OnOk result (Prints (meant request) (I.remaining input.old) (W.contents output.old) (W.contents output.new)) }
+    ensures refused { IfErr result (λ e.
+        Withholds (meant request) (I.remaining input.old) e (W.contents output.old) (W.contents output.new)) }
+{
+    let page = page_of(alloc, request, input)?;
+    put(page.as_slice(), output)
+}

@@ -1,0 +1,35 @@
+//! The lines of flows among those of wires.
+ghost use Rattle.std.specs.Prelude.{◌≡◌, true, map};
+ghost use Rattle.text_lines.specs.Parts.{lines_of};
+ghost use Rattle.forward_command.specs.Flows.{passed_line, tells_of_flow, without_flows};
+
+/// How the line of a flow begins.
+const FLOW: &[u8] = b"flow ";
+
+/// Makes each line that begins with `flow ` a comment, so that a script is read past it.
+pub(crate) fn pass_flows(text: &mut [u8])
+    ensures { lines_of text.new ≡ map passed_line (lines_of text.old) }
+{
+    comment_flows(text);
+}
+
+/// Puts `#` in place of the first byte of each such line.
+fn comment_flows(text: &mut [u8])
+    ensures { text.new ≡ without_flows true text.old }
+{
+    let mut begins = true;
+    for at in 0..text.len() {
+        let ends = text[at] == b'\n';
+        if begins && tells_of_flow(text.split_at(at).1) {
+            text[at] = b'#';
+        }
+        begins = ends;
+    }
+}
+
+/// Whether these bytes begin as the line of a flow does.
+fn tells_of_flow(bytes: &[u8]) -> bool
+    ensures { result ≡ tells_of_flow bytes.now }
+{
+    bytes.len() >= FLOW.len() && bytes.split_at(FLOW.len()).0 == FLOW
+}

@@ -1,0 +1,72 @@
+//! What the commands make of their input.
+ghost use Rattle.std.specs.Prelude.{◌≡◌, ◌<◌, IfErr, IfOk, Ok};
+ghost use Rattle.std.specs.String.{string_bytes};
+ghost use Rattle.commands.specs.declared.refusal.Refusal.TheVariants as refusal;
+ghost use Rattle.wire_script.specs.ScriptError.{Fails};
+ghost use Rattle.wire_script.specs.declared.error.ScriptError.{ScriptError};
+ghost use Rattle.forward_command.specs.Meanings.{IsRefusedAs, Makes, Refuses, capture_meant, lines_meant, meant, wires_in};
+ghost use Rattle.forward_command.specs.Requests.{IsPlaced};
+ghost use Rattle.limits.specs.declared.profile.TheConstants.{MOST_PAIRS, PORTS};
+
+use crate::piped::flow_lines::pass_flows;
+use crate::piped::request::CaptureRequest;
+use capture::{capture_of, lines_at, read};
+use commands::{Refusal, read_text};
+use std::alloc::Global;
+use std::io::Read;
+use wire_script::{Script, parse};
+
+/// What a request makes of the input.
+pub(crate) fn page_of<I: Read>(
+    alloc: Global,
+    request: CaptureRequest,
+    input: &mut I,
+) -> Result<Vec<u8>, Refusal>
+    requires { IsPlaced request }
+    ensures done { IfOk result (λ page. Makes (meant request) (I.remaining input.old) page.items) }
+    ensures refused { IfErr result (λ e. Refuses (meant request) (I.remaining input.old) e) }
+{
+    let given = read_text(alloc, input)?;
+    match request {
+        CaptureRequest::FromCapture { port, queue } => {
+            let text = lines_in(alloc, port, queue, given.as_slice())?;
+            Ok(text.into_bytes())
+        }
+        CaptureRequest::ToCapture { port } => capture_in(alloc, port, given),
+    }
+}
+
+/// The frames of a capture as lines of a script, at this port, 0 or 1, and this queue, 0 to 7.
+///
+/// It answers the capture's first fault or its want of memory, and `Memory` where the text had no room.
+pub fn lines_in(alloc: Global, port: u8, queue: u8, bytes: &[u8]) -> Result<String, Refusal>
+    requires port { port < PORTS }
+    requires queue { queue < MOST_PAIRS }
+    ensures done { IfOk result (λ text. lines_meant port queue bytes.now ≡ Ok (string_bytes text)) }
+    ensures refused { IfErr result (λ e. IsRefusedAs (lines_meant port queue bytes.now) e) }
+{
+    let found = read(alloc, bytes)?;
+    lines_at(alloc, port, queue, found.records()).map_err(|_| Refusal::Memory)
+}
+
+/// The frames of this port as a capture: those of a script's lines, past the lines of flows, as `forward` prints both.
+/// Frame k, counted from 0, has k microseconds.
+///
+/// It answers the script's first fault or its want of memory, and `Memory` where the capture had no room. The text is
+/// given back before the capture is made.
+pub fn capture_in(alloc: Global, port: u8, text: Vec<u8>) -> Result<Vec<u8>, Refusal>
+    ensures done { IfOk result (λ bytes. capture_meant port text.items ≡ Ok bytes.items) }
+    ensures refused { IfErr result (λ e. IsRefusedAs (capture_meant port text.items) e) }
+{
+    let script = script_in(alloc, text)?;
+    capture_of(alloc, port, &script).map_err(|_| Refusal::Memory)
+}
+
+/// The script that a text says past its lines of flows.
+fn script_in(alloc: Global, mut text: Vec<u8>) -> Result<Script, Refusal>
+    ensures script { IfOk result (λ script. wires_in text.items ≡ Ok script) }
+    ensures refused { IfErr result (λ e. (fault : ScriptError) × (e ≡ refusal.Script fault) × Fails fault (wires_in text.items)) }
+{
+    pass_flows(text.as_mut_slice());
+    Ok(parse(alloc, text.as_slice())?)
+}
