@@ -13,7 +13,7 @@ use Rattle.forward_command.specs.Refusals.{refused_itself}
 use Rattle.forward_command.specs.Words.{PortFile, SourceFile}
 use Rattle.forward_command.specs.declared.captured.refused.Refused.{Refused}
 use Rattle.wire_script.specs.Frame.{Frame}
-use Rattle.forward_command.specs.CaptureForwards.{EndsRefused, IsPage, IsScript, IsUnpaged, PrintsPage, WithholdsPage}
+use Rattle.forward_command.specs.CaptureForwards.{EndsRefused, HasNoPage, IsPage, IsScript, IsUnpaged, PrintsPage, WithholdsPage}
 
 -- an output that is not touched
 unchanged : (old : Option (List ℕ)) → Keeps old old
@@ -21,11 +21,15 @@ unchanged None = tt
 unchanged (Some xs) = refl
 
 -- there were reports, and no page of them
-pub unpaged : (config : Config) (printing : Printing) (sources : List SourceFile) (wires : List PortFile) (input old : Option (List ℕ)) (e : Refused)
+pub unpaged : (config : Config) (sources : List SourceFile) (wires : List PortFile) (input : Option (List ℕ)) (e : Refused)
     (script : List Frame) (flows : List FlowReport) → IsScript sources input script → AreReports config script flows → IsUnpaged wires e
-    → WithholdsPage config printing sources wires input e old old
-unpaged config printing sources wires input old e script flows says reports why =
-    inl (inr (flows, record { script = script; says = says; reports = reports }, why), unchanged old)
+    → HasNoPage config sources wires input e
+unpaged config sources wires input e script flows says reports why = inr (flows, record { script = script; says = says; reports = reports }, why)
+
+-- there is no page, and nothing was printed
+pub withheld : (config : Config) (printing : Printing) (sources : List SourceFile) (wires : List PortFile) (input old : Option (List ℕ)) (e : Refused)
+    → HasNoPage config sources wires input e → WithholdsPage config printing sources wires input e old old
+withheld config printing sources wires input old e why = inl (why, unchanged old)
 
 -- the page that reports print
 pub page-of : (config : Config) (printing : Printing) (sources : List SourceFile) (input : Option (List ℕ)) (script : List Frame) (flows : List FlowReport) (page : List ℕ)

@@ -9,3 +9,5 @@ pub mod Gathering
 pub mod Refusals
 pub mod Wires
 pub mod CaptureForwards
+pub mod ShownLines
+pub mod ShownSums

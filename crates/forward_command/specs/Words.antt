@@ -37,3 +37,7 @@ IsDigit below byte = (48 ≤ byte) × (byte < 48 + below)
 -- a word that doesn't begin with a byte of ASCII
 abbrev pub NoFirst : List ℕ → Type 0
 NoFirst word = (byte : ℕ) (rest : List ℕ) → byte < 128 → word ≢ byte ∷ rest
+
+-- a word that doesn't begin with a digit below a number and this mark
+abbrev pub NoField : ℕ → ℕ → List ℕ → Type 0
+NoField below mark word = (number : ℕ) (rest : List ℕ) → number < below → word ≢ (48 + number) ∷ mark ∷ rest

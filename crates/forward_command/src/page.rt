@@ -8,11 +8,12 @@ ghost use Rattle.wire_script.specs.declared.error.ScriptError.{ScriptError};
 ghost use Rattle.forward_command.specs.Forwards.{AreReports, ForwardRefused, HasPage, HasReport, IsForwarded, IsUnforwarded, RefusesForward};
 
 use crate::printing::Printing;
+use crate::progress;
+use crate::progress::Form;
 use crate::text::text_of;
 use commands::{Refusal, read_text};
 use forwarder::{Config, Report};
 use forwarding::Open;
-use progress::Form;
 use std::alloc::Global;
 use std::io::{IsTerminal, Read, Write};
 use std::marker::Send;

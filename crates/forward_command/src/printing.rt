@@ -1,8 +1,8 @@
 //! What of a report is printed, and whether it is shown how far the run is.
 ghost use Rattle.std.specs.Prelude.{◌≡◌, None, Some, false, true};
-ghost use Rattle.progress.specs.declared.line.Form.TheVariants.{Objects};
+ghost use Rattle.forward_command.specs.declared.progress.line.Form.TheVariants.{Objects};
 
-use progress::Form;
+use crate::progress::Form;
 
 /// What of a report is printed, and in what form; and whether it is shown how far the run is.
 #[derive(Clone, Copy, Debug, Default, PartialEq, Eq)]

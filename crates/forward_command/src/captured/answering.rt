@@ -1,9 +1,10 @@
 //! What `forward` with captures does to the streams, and the status that it ends with.
-ghost use Rattle.std.specs.Prelude.{◌≡◌, ◌≢◌, ◌⊎◌, ℕ, List, [], Some, false, IfErr, OnOk};
+ghost use Rattle.std.specs.Prelude.{◌≡◌, ◌≢◌, ◌⊎◌, ℕ, List, [], Some, false, IfErr, IfOk, OnOk};
+ghost use Rattle.std.specs.String.{string_bytes};
 ghost use Rattle.std.specs.Io.KnownBytes.{Keeps};
 ghost use Rattle.commands.specs.declared.answering.TheConstants.{DONE, REFUSED};
 ghost use Rattle.forward_command.specs.Forwards.{EndsForward};
-ghost use Rattle.forward_command.specs.CaptureForwards.{EndsRefused, PrintsPage, WithholdsPage};
+ghost use Rattle.forward_command.specs.CaptureForwards.{EndsRefused, HasNoPage, IsPage, PrintsPage, WithholdsPage};
 
 use crate::captured::refused::{Refused, tell};
 use crate::captured::running::{page_for, script_for};
@@ -88,12 +89,31 @@ pub fn perform<
     ensures unread { sources.now ≢ [] → input.new ≡ input.old }
     ensures screen { printing.progress ≡ false → screen.new ≡ screen.old }
 {
+    let page = page_of(rt, alloc, config, printing, sources, wires, input, screen)?;
+    Ok(print(page.as_str(), output)?)
+}
+
+/// The page of a forwarding with captures, after the wire files were written.
+fn page_of<R: Threads + Wait + Clock + Sync + Files, I: Read, M: Write + IsTerminal + Send>(
+    rt: &R,
+    alloc: Global,
+    config: &Config,
+    printing: Printing,
+    sources: &[Source<'_>],
+    wires: &[WireFile<'_>],
+    input: &mut I,
+    screen: &mut M,
+) -> Result<String, Refused>
+    ensures page { IfOk result (λ page. IsPage config.now printing sources.now (I.remaining input.old) (string_bytes page)) }
+    ensures refused { IfErr result (λ e. HasNoPage config.now sources.now wires.now (I.remaining input.old) e) }
+    ensures unread { sources.now ≢ [] → input.new ≡ input.old }
+    ensures screen { printing.progress ≡ false → screen.new ≡ screen.old }
+{
     let script = script_for(rt, alloc, sources, input)?;
     let form = printing.form(screen.is_terminal());
     let report = forwarded(rt, alloc, config, script, screen, form)?;
     let pairs = config.pairs as usize;
     let page = page_for(rt, alloc, pairs, printing, wires, report.flows.as_slice());
     drop(report);
-    let page = page?;
-    Ok(print(page.as_str(), output)?)
+    page
 }

@@ -1,7 +1,7 @@
 //! The words of `--capture` and of `--wire-capture`.
-ghost use Rattle.std.specs.Prelude.{◌≡◌, ◌<◌, ◌↔◌, ◌∷◌, ℕ, List, Some, IfSome, IsTrue, MatchOption};
+ghost use Rattle.std.specs.Prelude.{◌≡◌, ◌+◌, ◌<◌, ◌≤◌, ◌↔◌, ◌∷◌, ℕ, List, Some, IfSome, IsTrue, MatchOption};
 ghost use Rattle.limits.specs.declared.profile.TheConstants.{MOST_PAIRS, PORTS};
-ghost use Rattle.forward_command.specs.Words.{IsDigit, IsSource, IsWireFile, PortFile, SourceFile, NoFirst, source_word, wire_file_word};
+ghost use Rattle.forward_command.specs.Words.{IsDigit, IsSource, IsWireFile, PortFile, SourceFile, NoField, NoFirst, source_word, wire_file_word};
 
 use limits::{MOST_PAIRS, PORTS};
 use std::marker::Model;
@@ -85,15 +85,11 @@ pub fn source_of(word: &str) -> Option<Source<'_>>
     ensures said { IfSome result (λ s. IsSource s × (word.now ≡ source_word s)) }
     ensures each { (s : SourceFile) → IsSource s → word.now ≡ source_word s → result ≡ Some s }
 {
-    let (port, after_port) = first_of(word)?;
-    let (colon, after_colon) = first_of(after_port)?;
-    let (queue, after_queue) = first_of(after_colon)?;
-    let (equals, file) = first_of(after_queue)?;
-    let placed = is_digit(port, PORTS) && is_digit(queue, MOST_PAIRS);
-    if !placed || colon != b':' || equals != b'=' || file.is_empty() {
+    let (port, placed) = field_of(word, PORTS, b':')?;
+    let (queue, file) = field_of(placed, MOST_PAIRS, b'=')?;
+    if file.is_empty() {
         return None;
     }
-    let (port, queue) = (port - b'0', queue - b'0');
     Some(Source { port, queue, file })
 }
 
@@ -102,13 +98,25 @@ pub fn wire_file_of(word: &str) -> Option<WireFile<'_>>
     ensures said { IfSome result (λ w. IsWireFile w × (word.now ≡ wire_file_word w)) }
     ensures each { (w : PortFile) → IsWireFile w → word.now ≡ wire_file_word w → result ≡ Some w }
 {
-    let (port, after_port) = first_of(word)?;
-    let (equals, file) = first_of(after_port)?;
-    if !is_digit(port, PORTS) || equals != b'=' || file.is_empty() {
+    let (port, file) = field_of(word, PORTS, b'=')?;
+    if file.is_empty() {
         return None;
     }
-    let port = port - b'0';
     Some(WireFile { port, file })
+}
+
+/// The number that a word begins with, of one digit and below another, if this mark stands behind it; and the rest.
+fn field_of(word: &str, below: usize, mark: u8) -> Option<(u8, &str)>
+    requires digit { below ≤ 10 }
+    requires mark { mark < 128 }
+    ensures { MatchOption result (NoField below mark word.now) (λ x. (x.0 < below) × (word.now ≡ (48 + x.0) ∷ mark ∷ x.1.now)) }
+{
+    let (digit, marked) = first_of(word)?;
+    let (found, rest) = first_of(marked)?;
+    if !is_digit(digit, below) || found != mark {
+        return None;
+    }
+    Some((digit - b'0', rest))
 }
 
 /// Whether this is a digit below a number.

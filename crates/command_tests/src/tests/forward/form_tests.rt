@@ -4,7 +4,7 @@ use crate::tests::runs::text_of;
 use crate::tests::wanted::{holds, same};
 use forwarder::{Config, Report};
 use forwarding::Open;
-use progress::{Form, forward, forward_shown};
+use forward_command::progress::{Form, forward, forward_shown};
 use std::alloc::Global;
 use std::io;
 use std::io::{ErrorKind, Write};

@@ -1,6 +1,6 @@
 use Rattle.std.proofs.Common.{◌≡◌, take}
-use Rattle.progress.specs.Sums.{nothing_seen, sum_from}
-use Rattle.progress.proofs.reading.read_all.Given as goal
+use Rattle.forward_command.specs.ShownSums.{nothing_seen, sum_from}
+use Rattle.forward_command.proofs.progress.reading.read_all.Given as goal
 
 -- the flows so far are added up
 abbrev pub invariant-loop-reader : goal.invariant-loop-reader

@@ -8,10 +8,10 @@ ghost use Rattle.forwarding.specs.declared.error.ForwardError.TheVariants.{Confi
 ghost use Rattle.limits.specs.declared.profile.TheConstants.{PORTS};
 ghost use Rattle.teams.specs.Refusals.{Halted};
 
-use crate::line::Form;
-use crate::reader::Reader;
-use crate::reading::readers_of;
-use crate::showing::watch;
+use crate::progress::line::Form;
+use crate::progress::reader::Reader;
+use crate::progress::reading::readers_of;
+use crate::progress::showing::watch;
 use counters::{FlowCells, FlowPens};
 use forwarder::{Config, Report, forward_watched};
 use forwarding::{ForwardError, Gate};

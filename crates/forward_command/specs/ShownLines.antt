@@ -1,8 +1,8 @@
 -- What is shown of a run.
 use Rattle.std.specs.Prelude.{ℕ, List, [], ◌∷◌, ◌++◌, codes, decimal}
-use Rattle.progress.specs.declared.line.Form.{Form}
-use Rattle.progress.specs.declared.line.Form.TheVariants.{Lines, Rewritten, Objects}
-use Rattle.progress.specs.declared.line.Shown.{Shown}
+use Rattle.forward_command.specs.declared.progress.line.Form.{Form}
+use Rattle.forward_command.specs.declared.progress.line.Form.TheVariants.{Lines, Rewritten, Objects}
+use Rattle.forward_command.specs.declared.progress.line.Shown.{Shown}
 
 -- the numbers, each behind its word
 abbrev pub words_of : Shown → List ℕ

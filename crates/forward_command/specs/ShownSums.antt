@@ -1,9 +1,9 @@
 -- What is read of all flows.
 use Rattle.std.specs.Prelude.{◌≡◌, ℕ, ◌+◌, ◌-◌, ◌^◌, min, List, [], ◌∷◌}
 use Rattle.counters.specs.declared.flows.FlowCells.{FlowCells}
-use Rattle.progress.specs.declared.reader.Reader.{Reader}
-use Rattle.progress.specs.declared.reading.Seen.{Seen}
-use Rattle.progress.specs.declared.line.Shown.{Shown}
+use Rattle.forward_command.specs.declared.progress.reader.Reader.{Reader}
+use Rattle.forward_command.specs.declared.progress.reading.Seen.{Seen}
+use Rattle.forward_command.specs.declared.progress.line.Shown.{Shown}
 
 -- the cells that a reader reads
 abbrev pub read_by : Reader → FlowCells

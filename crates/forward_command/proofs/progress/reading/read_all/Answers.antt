@@ -1,9 +1,9 @@
 use Rattle.std.proofs.Common.{◌∙◌, ap, sym, ◌<◌, length, take, arith}
 use Rattle.std.proofs.lemmas.List.{take_more_set}
-use Rattle.progress.proofs.Sums.{sum-snoc}
-use Rattle.progress.specs.declared.reading.Seen.{Seen}
-use Rattle.progress.specs.Sums.{nothing_seen, sum_from, with_flow}
-use Rattle.progress.proofs.reading.read_all.Goals as goal
+use Rattle.forward_command.proofs.Sums.{sum-snoc}
+use Rattle.forward_command.specs.declared.progress.reading.Seen.{Seen}
+use Rattle.forward_command.specs.ShownSums.{nothing_seen, sum_from, with_flow}
+use Rattle.forward_command.proofs.progress.reading.read_all.Goals as goal
 
 pub loop-reader-preserved : goal.loop-reader-preserved
 loop-reader-preserved g c =

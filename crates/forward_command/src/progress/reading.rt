@@ -1,9 +1,9 @@
 //! The cells of all flows, read by a thread that doesn't write them.
 ghost use Rattle.std.specs.Prelude.{◌≡◌, IfOk, map};
 ghost use Rattle.counters.specs.Paired.{ArePaired};
-ghost use Rattle.progress.specs.Sums.{nothing_seen, read_by, sum_from, with_flow};
+ghost use Rattle.forward_command.specs.ShownSums.{nothing_seen, read_by, sum_from, with_flow};
 
-use crate::reader::Reader;
+use crate::progress::reader::Reader;
 use counters::{FlowCells, FlowPens};
 use std::alloc::{AllocError, Global};
 use std::sync::Wait;

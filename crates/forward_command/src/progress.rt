@@ -4,7 +4,6 @@
 //! writes a [`Line`] of what it read, once a second and at last when all is over. What it reads of a cell was written at one
 //! moment, and doesn't fall; a sum over cells is of as many moments as there are cells. The thread ends with the run. What
 //! it writes depends on time alone, and no clause says how often it writes.
-#![tactic(auto)]
 
 mod calls;
 mod line;

@@ -1,10 +1,10 @@
 //! The thread that shows how far a run is.
 ghost use Rattle.std.specs.Prelude.{◌≡◌};
-ghost use Rattle.progress.specs.Sums.{Shows};
+ghost use Rattle.forward_command.specs.ShownSums.{Shows};
 
-use crate::line::{Form, Line, Shown};
-use crate::reader::Reader;
-use crate::reading::{Seen, read_all};
+use crate::progress::line::{Form, Line, Shown};
+use crate::progress::reader::Reader;
+use crate::progress::reading::{Seen, read_all};
 use std::io::Write;
 use std::sync::Wait;
 use std::sync::atomic::{AtomicBool, Ordering};

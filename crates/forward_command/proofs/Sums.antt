@@ -2,9 +2,9 @@
 use Rattle.std.proofs.Common.{◌≡◌, ◌∙◌, refl, ap, sym, ℕ, ◌+◌, ◌<◌, List, [], ◌∷◌, ◌++◌, length, map, take, slice_index_or}
 use Rattle.std.proofs.lemmas.List.{map-append, take_more}
 use Rattle.counters.specs.declared.flows.FlowCells.{FlowCells}
-use Rattle.progress.specs.declared.reader.Reader.{Reader}
-use Rattle.progress.specs.declared.reading.Seen.{Seen}
-use Rattle.progress.specs.Sums.{read_by, sum_from, with_flow}
+use Rattle.forward_command.specs.declared.progress.reader.Reader.{Reader}
+use Rattle.forward_command.specs.declared.progress.reading.Seen.{Seen}
+use Rattle.forward_command.specs.ShownSums.{read_by, sum_from, with_flow}
 
 pub sum-snoc : (seen : Seen) (rs : List Reader) (r : Reader) → sum_from seen (rs ++ r ∷ []) ≡ with_flow (sum_from seen rs) r
 sum-snoc seen [] r = refl

@@ -3,11 +3,11 @@ use Rattle.std.proofs.lemmas.List.{set-get_or}
 use Rattle.std.proofs.lemmas.Slice.Zip.{AllZip-long}
 use Rattle.counters.specs.Paired.{ArePaired, IsFresh}
 use Rattle.counters.specs.declared.flows.FlowPens.{FlowPens}
-use Rattle.progress.proofs.Pairs.{zip-at}
-use Rattle.progress.proofs.Sums.{one-more}
-use Rattle.progress.specs.declared.reader.Reader.{Reader}
-use Rattle.progress.specs.Sums.{read_by}
-use Rattle.progress.proofs.reading.readers_of.Goals as goal
+use Rattle.forward_command.proofs.Pairs.{zip-at}
+use Rattle.forward_command.proofs.Sums.{one-more}
+use Rattle.forward_command.specs.declared.progress.reader.Reader.{Reader}
+use Rattle.forward_command.specs.ShownSums.{read_by}
+use Rattle.forward_command.proofs.progress.reading.readers_of.Goals as goal
 
 pub bounds-pens-k : goal.bounds-pens-k
 bounds-pens-k c =

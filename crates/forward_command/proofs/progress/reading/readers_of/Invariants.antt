@@ -1,6 +1,6 @@
 use Rattle.std.proofs.Common.{◌≡◌, map, take}
-use Rattle.progress.specs.Sums.{read_by}
-use Rattle.progress.proofs.reading.readers_of.Given as goal
+use Rattle.forward_command.specs.ShownSums.{read_by}
+use Rattle.forward_command.proofs.progress.reading.readers_of.Given as goal
 
 -- the pens stay, and the cells so far have readers
 abbrev pub invariant-loop-k : goal.invariant-loop-k
