@@ -5,12 +5,6 @@ use Rattle.ring_model.specs.declared.states.Completion.{Completion}
 use Rattle.ring_model.specs.shared.Handshakes.{is_serving}
 use Rattle.tx_ring.specs.Ends.{ControllerSide, held, controller_state, is_owed}
 
--- the controller does not serve the ring, and holds no buffer
-pub record CanServe (ring : TableId) (controller : ControllerSide) : Type 0 where
-  pub own : controller.table ≡ ring
-  pub idle : is_serving (controller_state controller) ≡ false
-  pub none_held : held controller ≡ None
-
 -- the controller serves the ring, holds no buffer and owes no report
 pub record CanFetch (ring : TableId) (controller : ControllerSide) : Type 0 where
   pub own : controller.table ≡ ring

@@ -1,3 +1,4 @@
 pub mod Copies
+pub mod Enabling
 pub mod Fetching
 pub mod Storing

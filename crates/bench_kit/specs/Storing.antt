@@ -12,20 +12,6 @@ pub record StoredOnly (ring : TableId) (frame : Bytes) (controller : ControllerS
   pub own : controller.table ≡ ring
   pub only : AllWhole piece_of frame (stored controller)
 
--- the controller does not serve the ring, and holds no buffer
-pub record CanServe (ring : TableId) (controller : ControllerSide) : Type 0 where
-  pub own : controller.table ≡ ring
-  pub idle : is_serving (controller_state controller) ≡ false
-  pub none_held : held controller ≡ None
-
--- the controller serves the ring, and has stored nothing yet
-pub record HasBegun (ring : TableId) (controller : ControllerSide) : Type 0 where
-  pub own : controller.table ≡ ring
-  pub none_stored : stored controller ≡ []
-  pub none_held : held controller ≡ None
-  pub serving : is_serving (controller_state controller) ≡ true
-  pub not_quiet : is_quiet controller ≡ false
-
 -- the controller stored nothing but the frame at the ring, and can store it again where a descriptor is free
 pub record CanStore (ring : TableId) (frame : Bytes) (controller : ControllerSide) : Type 0 where
   pub stored_only : StoredOnly ring frame controller

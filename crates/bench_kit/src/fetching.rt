@@ -1,29 +1,10 @@
-//! The steps of a transmit ring's controller.
+//! The step of a transmit ring's controller.
 ghost use Rattle.std.specs.Prelude.{◌≡◌, ◌+◌, ◌<◌};
 ghost use Rattle.tx_ring.specs.Ends.{known_ready};
-ghost use Rattle.bench_kit.specs.Fetching.{CanFetch, CanServe, HasServed};
+ghost use Rattle.bench_kit.specs.Fetching.{CanFetch, HasServed};
 
-use crate::patience::Patience;
 use crate::tally::Tally;
-use std::sync::Wait;
 use tx_ring::{ControllerEnd, TxControllerEnd, TxRing};
-
-/// Waits until the enabling is asked, and answers it.
-pub fn serve_tx<R: Wait>(rt: &R, ring: &TxRing, controller: &mut TxControllerEnd)
-    requires can { CanServe ring.now controller.old }
-    ensures { HasServed ring.now controller.old.completion controller.new }
-{
-    let mut patience = Patience::new();
-    for _ in rt.forever() {
-        controller.asked(ring);
-        if controller.can_answer() {
-            controller.answer(ring);
-            return;
-        }
-        patience.wait();
-    }
-    unreachable!()
-}
 
 /// Sends the next frame, and reports where it asks for that.
 #[inline]

@@ -1,30 +1,11 @@
-//! The steps of a receive ring's controller.
+//! The step of a receive ring's controller.
 ghost use Rattle.std.specs.Prelude.{◌<◌, length};
 ghost use Rattle.limits.specs.RingLength.{IsRingLength};
 ghost use Rattle.rx_ring.specs.Ends.{known_free};
 ghost use Rattle.bench_kit.specs.Copies.{IsFrameLength};
-ghost use Rattle.bench_kit.specs.Storing.{CanServe, CanStore, HasBegun};
+ghost use Rattle.bench_kit.specs.Storing.{CanStore};
 
-use crate::patience::Patience;
 use rx_ring::{ControllerEnd, RxControllerEnd, RxRing};
-use std::sync::Wait;
-
-/// Waits until the enabling is asked, and answers it.
-pub fn serve_rx<R: Wait>(rt: &R, ring: &RxRing, controller: &mut RxControllerEnd)
-    requires can { CanServe ring.now controller.old }
-    ensures { HasBegun ring.now controller.new }
-{
-    let mut patience = Patience::new();
-    for _ in rt.forever() {
-        controller.asked(ring);
-        if controller.can_answer() {
-            controller.answer(ring);
-            return;
-        }
-        patience.wait();
-    }
-    unreachable!()
-}
 
 /// Stores the frame in the next descriptor.
 #[inline]

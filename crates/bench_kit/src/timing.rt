@@ -1,7 +1,7 @@
-//! The time that a run takes, and what is printed of it.
+//! The time that a run takes, and what is printed of it or in place of one.
 
 use anyhow::Result;
-use std::io;
+use std::process::ExitCode;
 use std::rt::Clock;
 use std::time::{Duration, Instant};
 
@@ -22,15 +22,17 @@ pub fn since<R: Clock>(rt: &R, start: Instant) -> Result<Duration> {
     Ok(start.elapsed(rt)?)
 }
 
-/// How long it took, where it was done. What was done is let go.
-pub fn spent_on<T: Drop>(timed: Result<Timed<T>>) -> Result<Duration> {
-    Ok(timed?.spent)
-}
-
-/// Prints how many frames were passed, and what one of them cost.
-pub fn report(rt: &impl Print, frames: u32, spent: Duration) -> io::Result<()> {
-    let nanoseconds = spent.as_secs_f64() * 1e9 / f64::from(frames);
+/// Prints how many frames were passed, and what one of them cost. What was done is let go.
+pub fn report<T: Drop>(rt: &impl Print, frames: u32, timed: Result<Timed<T>>) -> Result<ExitCode> {
+    let nanoseconds = timed?.spent.as_secs_f64() * 1e9 / f64::from(frames);
     println!(rt; "frames {frames}")?;
     println!(rt; "ns/frame {nanoseconds:.1}")?;
-    println!(rt; "Mframes/s {:.2}", 1000.0 / nanoseconds)
+    println!(rt; "Mframes/s {:.2}", 1000.0 / nanoseconds)?;
+    Ok(ExitCode::SUCCESS)
+}
+
+/// Tells on the standard error what words there are, where nothing was asked for by them.
+pub fn refuse(rt: &impl Eprint, usage: &str) -> Result<ExitCode> {
+    eprintln!(rt; "{usage}")?;
+    Ok(ExitCode::from(2))
 }

@@ -1,6 +1,14 @@
 //! The words of a command line: options, each once with its value.
 
+use anyhow::Result;
 use limits::{BUFFER_BYTES, MOST_RING};
+use std::env;
+use std::rt::Env;
+
+/// The words after the program's name.
+pub fn words_of<R: Env + AllocGlobal>(rt: &R) -> Result<Vec<String>> {
+    Ok(env::args(rt)?.skip(1).collect(rt.alloc())?)
+}
 
 /// What passes: through a ring of so many descriptors so many frames, of so many bytes each.
 #[derive(Clone, Copy)]
@@ -16,6 +24,22 @@ pub fn load_of(options: &[String]) -> Option<Load> {
         ring: number_of(options, "--ring", MOST_RING as u32)?,
         frames: number_of(options, "--frames", u32::MAX)?,
         size: number_of(options, "--size", BUFFER_BYTES as u32)? as usize,
+    })
+}
+
+/// Frames that pass in batches.
+#[derive(Clone, Copy)]
+pub struct BatchPlan {
+    pub load: Load,
+    /// Of how many frames a batch has at most.
+    pub batch: u32,
+}
+
+/// What passes, and in the option `--batch` in batches of how many frames, up to `most`.
+pub fn batch_plan(options: &[String], most: u32) -> Option<BatchPlan> {
+    Some(BatchPlan {
+        load: load_of(options)?,
+        batch: number_of(options, "--batch", most)?,
     })
 }
 

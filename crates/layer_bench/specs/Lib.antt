@@ -1,2 +1,3 @@
 pub mod Forwarding
+pub mod Relaying
 pub mod Serving

@@ -2,19 +2,17 @@
 ghost use Rattle.std.specs.Prelude.{◌<◌, ◌≤◌, length, replicate, IfOk, OnOk};
 ghost use Rattle.limits.specs.RingLength.{IsRingLength};
 ghost use Rattle.bench_kit.specs.Copies.{IsFrameLength};
-ghost use Rattle.layer_bench.specs.Forwarding.{CanForward, HasRelayed, SentAtLeast};
-ghost use Rattle.bench_kit.specs.Storing as receive;
-ghost use Rattle.bench_kit.specs.Storing.{CanStore, StoredOnly};
-ghost use Rattle.bench_kit.specs.Fetching as transmit;
+ghost use Rattle.layer_bench.specs.Forwarding.{HasRelayed};
+ghost use Rattle.layer_bench.specs.Relaying.{CanBegin, CanRelay, RelayedAll};
+ghost use Rattle.bench_kit.specs.Storing.{CanStore};
 ghost use Rattle.bench_kit.specs.Fetching.{CanFetch};
 ghost use Rattle.bench_kit.specs.declared.supply.TheConstants.{BYTE};
 
 use crate::forwarding::Forwarder;
 use crate::meeting::{Ends, meet};
-use crate::track::Track;
-use crate::words::BatchPlan;
+use crate::track::{Track, Way};
 use anyhow::{Result, ensure};
-use bench_kit::{Tally, Timed, both, frame_of, now, send, serve_rx, serve_tx, since, store};
+use bench_kit::{BatchPlan, Tally, Timed, answer_enabling, both, now, send, since, store};
 use rx_ring::{ControllerEnd, RxControllerEnd, RxRing};
 use std::alloc::Global;
 use std::rt::Clock;
@@ -37,75 +35,59 @@ struct Sides {
     forwarder: Forwarder,
 }
 
-/// What a run relays: from which ring to which, the frame that is stored, and how many of it.
-#[derive(Clone, Copy)]
-struct Run<'a> {
-    from: &'a RxRing,
-    to: &'a TxRing,
-    frame: &'a [u8],
-    plan: BatchPlan,
-}
-
 /// Relays the plan's frames from one ring to another, and answers how long that took.
 pub fn relay<R: Wait + Clock>(rt: &R, alloc: Global, plan: BatchPlan) -> Result<Timed<Ends>>
     ensures { IfOk result (λ r. HasRelayed plan.load.frames (replicate plan.load.size BYTE) r.done) }
 {
-    let frame = frame_of(alloc, plan.load.size)?;
-    let Track {
-        rings,
-        rx,
-        tx,
-        forwarder,
-    } = Track::new(alloc, plan.load.ring, plan.batch)?;
-    let tally = Tally::new();
-    let device = Device { rx, tx, tally };
-    let run = Run {
-        from: &rings.from,
-        to: &rings.to,
-        frame: frame.as_slice(),
-        plan,
+    let Track { way, parts } = Track::new(alloc, plan)?;
+    let sides = Sides {
+        device: Device {
+            rx: parts.rx,
+            tx: parts.tx,
+            tally: Tally::new(),
+        },
+        forwarder: parts.forwarder,
     };
-    let relayed = relay_run(rt, alloc, run, Sides { device, forwarder });
-    drop(rings);
+    let relayed = relay_run(rt, alloc, &way, plan, sides);
+    drop(way);
     relayed
 }
 
-/// Relays the run's frames, and lets the ends meet.
+/// Relays the plan's frames, and lets the ends meet.
 fn relay_run<R: Wait + Clock>(
     rt: &R,
     alloc: Global,
-    run: Run<'_>,
+    way: &Way,
+    plan: BatchPlan,
     mut sides: Sides,
 ) -> Result<Timed<Ends>>
-    requires size { IsRingLength run.from.now.slots }
-    requires stores { receive.CanServe run.from.now sides.device.rx }
-    requires sends { transmit.CanServe run.to.now sides.device.tx }
-    requires forwards { CanForward run.from.now run.to.now sides.forwarder }
-    requires frame { IsFrameLength (length run.frame.now) }
-    ensures { IfOk result (λ r. HasRelayed run.entry.plan.load.frames run.entry.frame.now r.done) }
+    requires { CanBegin way.now.from way.now.to way.now.frame.items sides.device.rx sides.device.tx sides.forwarder }
+    ensures { IfOk result (λ r. HasRelayed plan.load.frames way.now.frame.items r.done) }
 {
-    let spent = timed(rt, alloc, run, &mut sides);
+    let spent = timed(rt, alloc, way, plan, &mut sides);
     let (spent, sides) = both(spent, Ok(sides))?;
-    let done = finish(run, sides);
+    let done = finish(way, plan, sides);
     Ok(Timed { done, spent })
 }
 
 /// Has both queues enabled, and the receive ring filled.
-fn begin<R: Wait>(rt: &R, alloc: Global, run: Run<'_>, sides: &mut Sides) -> Result<()>
-    requires stores { receive.CanServe run.from.now sides.old.device.rx }
-    requires sends { transmit.CanServe run.to.now sides.old.device.tx }
-    requires forwards { CanForward run.from.now run.to.now sides.old.forwarder }
-    ensures stores { OnOk result (CanStore run.entry.from.now run.entry.frame.now sides.new.device.rx) }
-    ensures sends { OnOk result (CanFetch run.entry.to.now sides.new.device.tx) }
-    ensures forwards { OnOk result (CanForward run.entry.from.now run.entry.to.now sides.new.forwarder) }
+fn begin<R: Wait>(
+    rt: &R,
+    alloc: Global,
+    way: &Way,
+    plan: BatchPlan,
+    sides: &mut Sides,
+) -> Result<()>
+    requires { CanBegin way.now.from way.now.to way.now.frame.items sides.old.device.rx sides.old.device.tx sides.old.forwarder }
+    ensures { OnOk result (CanRelay way.now.from way.now.to way.now.frame.items sides.new.device.rx sides.new.device.tx sides.new.forwarder) }
 {
-    sides.forwarder.enable(run.from, run.to)?;
-    serve_rx(rt, run.from, &mut sides.device.rx);
-    serve_tx(rt, run.to, &mut sides.device.tx);
-    sides.forwarder.see_enabled(run.from, run.to)?;
+    sides.forwarder.enable(&way.from, &way.to)?;
+    answer_enabling(rt, &way.from, &mut sides.device.rx);
+    answer_enabling(rt, &way.to, &mut sides.device.tx);
+    sides.forwarder.see_enabled(&way.from, &way.to)?;
     sides
         .forwarder
-        .supply(alloc, run.from, run.to, run.plan.load.ring)
+        .supply(alloc, &way.from, &way.to, plan.load.ring)
 }
 
 /// Relays all frames, answers how long that took once the queues were enabled and the receive ring full, and sees that
@@ -113,69 +95,49 @@ fn begin<R: Wait>(rt: &R, alloc: Global, run: Run<'_>, sides: &mut Sides) -> Res
 fn timed<R: Wait + Clock>(
     rt: &R,
     alloc: Global,
-    run: Run<'_>,
+    way: &Way,
+    plan: BatchPlan,
     sides: &mut Sides,
 ) -> Result<Duration>
-    requires size { IsRingLength run.from.now.slots }
-    requires stores { receive.CanServe run.from.now sides.old.device.rx }
-    requires sends { transmit.CanServe run.to.now sides.old.device.tx }
-    requires forwards { CanForward run.from.now run.to.now sides.old.forwarder }
-    requires frame { IsFrameLength (length run.frame.now) }
-    ensures stores { OnOk result (StoredOnly run.entry.from.now run.entry.frame.now sides.new.device.rx) }
-    ensures sends { OnOk result (CanFetch run.entry.to.now sides.new.device.tx) }
-    ensures forwards { OnOk result (CanForward run.entry.from.now run.entry.to.now sides.new.forwarder) }
-    ensures count { OnOk result (SentAtLeast run.entry.plan.load.frames sides.new.forwarder) }
+    requires { CanBegin way.now.from way.now.to way.now.frame.items sides.old.device.rx sides.old.device.tx sides.old.forwarder }
+    ensures { OnOk result (RelayedAll plan.load.frames way.now.from way.now.to way.now.frame.items sides.new.device.rx sides.new.device.tx sides.new.forwarder) }
 {
-    begin(rt, alloc, run, sides)?;
+    begin(rt, alloc, way, plan, sides)?;
     let start = now(rt)?;
-    relay_all(rt, run, sides)?;
+    relay_all(rt, way, plan, sides)?;
     let spent = since(rt, start)?;
     ensure!(
-        sides.device.tally == Tally::of(run.frame, run.plan.load.frames),
+        sides.device.tally == Tally::of(way.frame.as_slice(), plan.load.frames),
         "the frames that were sent are not those that were stored"
     );
     Ok(spent)
 }
 
 /// Lets the ends meet.
-fn finish(run: Run<'_>, sides: Sides) -> Ends
-    requires stores { StoredOnly run.from.now run.frame.now sides.device.rx }
-    requires sends { CanFetch run.to.now sides.device.tx }
-    requires forwards { CanForward run.from.now run.to.now sides.forwarder }
-    requires count { SentAtLeast run.plan.load.frames sides.forwarder }
-    ensures { HasRelayed run.entry.plan.load.frames run.entry.frame.now result }
+fn finish(way: &Way, plan: BatchPlan, sides: Sides) -> Ends
+    requires { RelayedAll plan.load.frames way.now.from way.now.to way.now.frame.items sides.device.rx sides.device.tx sides.forwarder }
+    ensures { HasRelayed plan.load.frames way.now.frame.items result }
 {
     let Sides { device, forwarder } = sides;
-    meet(run.from, run.to, forwarder, device.rx, device.tx)
+    meet(&way.from, &way.to, forwarder, device.rx, device.tx)
 }
 
 /// Stores, forwards and sends in turn, until so many frames as planned are sent.
-fn relay_all<R: Wait>(rt: &R, run: Run<'_>, sides: &mut Sides) -> Result<()>
-    requires size { IsRingLength run.from.now.slots }
-    requires stores { CanStore run.from.now run.frame.now sides.old.device.rx }
-    requires sends { CanFetch run.to.now sides.old.device.tx }
-    requires forwards { CanForward run.from.now run.to.now sides.old.forwarder }
-    requires frame { IsFrameLength (length run.frame.now) }
-    ensures stores { OnOk result (StoredOnly run.entry.from.now run.entry.frame.now sides.new.device.rx) }
-    ensures sends { OnOk result (CanFetch run.entry.to.now sides.new.device.tx) }
-    ensures forwards { OnOk result (CanForward run.entry.from.now run.entry.to.now sides.new.forwarder) }
-    ensures count { OnOk result (SentAtLeast run.entry.plan.load.frames sides.new.forwarder) }
+fn relay_all<R: Wait>(rt: &R, way: &Way, plan: BatchPlan, sides: &mut Sides) -> Result<()>
+    requires { CanRelay way.now.from way.now.to way.now.frame.items sides.old.device.rx sides.old.device.tx sides.old.forwarder }
+    ensures { OnOk result (RelayedAll plan.load.frames way.now.from way.now.to way.now.frame.items sides.new.device.rx sides.new.device.tx sides.new.forwarder) }
 {
-    let Run {
-        from,
-        to,
-        frame,
-        plan,
-    } = run;
+    let Sides { device, forwarder } = sides;
     let mut to_store = plan.load.frames;
     let mut to_send = plan.load.frames as usize;
     for _ in rt.forever() {
         if to_send == 0 {
             return Ok(());
         }
-        to_store -= store_more(from, &mut sides.device.rx, frame, plan.batch.min(to_store));
-        let moved = sides.forwarder.forward(from, to)?;
-        send_ready(to, &mut sides.device.tx, &mut sides.device.tally);
+        let most = plan.batch.min(to_store);
+        to_store -= store_more(&way.from, &mut device.rx, way.frame.as_slice(), most);
+        let moved = forwarder.forward(&way.from, &way.to)?;
+        send_ready(&way.to, &mut device.tx, &mut device.tally);
         to_send = to_send.saturating_sub(moved.sent);
     }
     unreachable!()

@@ -9,12 +9,11 @@ ghost use Rattle.bench_kit.specs.declared.supply.TheConstants.{BYTE};
 use crate::forwarding::Forwarder;
 use crate::meeting::{Ends, meet};
 use crate::serving::Device;
-use crate::track::Track;
-use crate::words::PassPlan;
+use crate::track::{Track, Way};
+use crate::words::Threading;
 use anyhow::{Result, bail};
-use bench_kit::{Patience, Timed, both, frame_of, no_thread, now, since};
+use bench_kit::{BatchPlan, Patience, Timed, both, no_thread, now, since};
 use controller::Wire;
-use rx_ring::RxRing;
 use std::alloc::Global;
 use std::rt::Clock;
 use std::sync::Wait;
@@ -22,7 +21,6 @@ use std::sync::atomic::{AtomicBool, Ordering};
 use std::thread;
 use std::thread::{Promise, Threads};
 use std::time::{Duration, Instant};
-use tx_ring::TxRing;
 
 /// The ends of both rings, and what is on the wire.
 #[derive(Drop)]
@@ -31,21 +29,12 @@ pub struct Gone {
     pub wire: Wire,
 }
 
-/// What a run passes: from which ring to which, the frame that is offered, and how many of it.
-#[derive(Clone, Copy)]
-struct Run<'a> {
-    from: &'a RxRing,
-    to: &'a TxRing,
-    frame: &'a [u8],
-    plan: PassPlan,
-}
-
 /// The controllers serve these rings, and stored nothing but this frame.
 #[derive(Clone, Copy)]
-struct ServesOn<'a>(&'a RxRing, &'a TxRing, &'a [u8]);
+struct ServesOn<'a>(&'a Way);
 
 impl<'a> Promise<Result<Device>> for ServesOn<'a> {
-    ghost kept_by = { λ p done. IfOk done (λ d. Serves p.0.now p.1.now p.2.now d) };
+    ghost kept_by = { λ p done. IfOk done (λ d. Serves p.0.now.from p.0.now.to p.0.now.frame.items d) };
 }
 
 /// Controllers and drivers.
@@ -59,70 +48,70 @@ struct Sides {
 pub fn pass_layers<R: Threads + Wait + Clock + Sync>(
     rt: &R,
     alloc: Global,
-    plan: PassPlan,
+    plan: BatchPlan,
+    threading: Threading,
 ) -> Result<Timed<Gone>>
     ensures { IfOk result (λ p. HasGone plan.load.frames (replicate plan.load.size BYTE) p.done.ends p.done.wire) }
 {
-    let frame = frame_of(alloc, plan.load.size)?;
-    let Track {
-        rings,
-        rx,
-        tx,
-        forwarder,
-    } = Track::new(alloc, plan.load.ring, plan.batch)?;
-    let device = Device::new(alloc, rx, tx);
-    let run = Run {
-        from: &rings.from,
-        to: &rings.to,
-        frame: frame.as_slice(),
-        plan,
+    let Track { way, parts } = Track::new(alloc, plan)?;
+    let sides = Sides {
+        device: Device::new(alloc, parts.rx, parts.tx),
+        forwarder: parts.forwarder,
     };
-    let passed = pass_run(rt, alloc, run, Sides { device, forwarder });
-    drop(rings);
+    let passed = pass_run(rt, alloc, &way, plan, threading, sides);
+    drop(way);
     passed
 }
 
-/// Passes the run's frames, and answers how long that took once the queues were enabled and the receive ring full.
+/// Passes the plan's frames, and answers how long that took once the queues were enabled and the receive ring full.
 fn pass_run<R: Threads + Wait + Clock + Sync>(
     rt: &R,
     alloc: Global,
-    run: Run<'_>,
+    way: &Way,
+    plan: BatchPlan,
+    threading: Threading,
     mut sides: Sides,
 ) -> Result<Timed<Gone>>
-    requires begun { HasNothing run.from.now run.to.now sides.device }
-    requires forwards { CanForward run.from.now run.to.now sides.forwarder }
-    ensures { IfOk result (λ p. HasGone run.entry.plan.load.frames run.entry.frame.now p.done.ends p.done.wire) }
+    requires begun { HasNothing way.now.from way.now.to sides.device }
+    requires forwards { CanForward way.now.from way.now.to sides.forwarder }
+    ensures { IfOk result (λ p. HasGone plan.load.frames way.now.frame.items p.done.ends p.done.wire) }
 {
-    let start = begin(rt, alloc, run, &mut sides);
+    let start = begin(rt, alloc, way, plan, &mut sides);
     let (start, sides) = both(start, Ok(sides))?;
-    let passed = pass_all(rt, run, sides);
+    let passed = pass_all(rt, way, plan, threading, sides);
     let (sides, spent) = both(passed, since(rt, start))?;
-    finish(run, sides, spent)
+    finish(way, plan, sides, spent)
 }
 
 /// Has both queues enabled and the receive ring filled, and answers when that was.
-fn begin<R: Clock>(rt: &R, alloc: Global, run: Run<'_>, sides: &mut Sides) -> Result<Instant>
-    requires begun { HasNothing run.from.now run.to.now sides.old.device }
-    requires forwards { CanForward run.from.now run.to.now sides.old.forwarder }
-    ensures begun { OnOk result (HasNothing run.entry.from.now run.entry.to.now sides.new.device) }
-    ensures forwards { OnOk result (CanForward run.entry.from.now run.entry.to.now sides.new.forwarder) }
+fn begin<R: Clock>(
+    rt: &R,
+    alloc: Global,
+    way: &Way,
+    plan: BatchPlan,
+    sides: &mut Sides,
+) -> Result<Instant>
+    requires begun { HasNothing way.now.from way.now.to sides.old.device }
+    requires forwards { CanForward way.now.from way.now.to sides.old.forwarder }
+    ensures begun { OnOk result (HasNothing way.now.from way.now.to sides.new.device) }
+    ensures forwards { OnOk result (CanForward way.now.from way.now.to sides.new.forwarder) }
 {
-    let Run { from, to, plan, .. } = run;
-    sides.forwarder.enable(from, to)?;
-    sides.device.answer(from, to);
-    sides.forwarder.see_enabled(from, to)?;
-    sides.forwarder.supply(alloc, from, to, plan.load.ring)?;
+    let Sides { device, forwarder } = sides;
+    forwarder.enable(&way.from, &way.to)?;
+    device.answer(&way.from, &way.to);
+    forwarder.see_enabled(&way.from, &way.to)?;
+    forwarder.supply(alloc, &way.from, &way.to, plan.load.ring)?;
     now(rt)
 }
 
 /// Sees that all frames are on the wire, and lets the ends meet.
-fn finish(run: Run<'_>, sides: Sides, spent: Duration) -> Result<Timed<Gone>>
-    requires { AreAtWork run.from.now run.to.now run.frame.now sides.device sides.forwarder }
-    ensures { IfOk result (λ p. HasGone run.entry.plan.load.frames run.entry.frame.now p.done.ends p.done.wire) }
+fn finish(way: &Way, plan: BatchPlan, sides: Sides, spent: Duration) -> Result<Timed<Gone>>
+    requires { AreAtWork way.now.from way.now.to way.now.frame.items sides.device sides.forwarder }
+    ensures { IfOk result (λ p. HasGone plan.load.frames way.now.frame.items p.done.ends p.done.wire) }
 {
-    let sent = see_all_sent(run.plan.load.frames, &sides.device);
+    let sent = see_all_sent(plan.load.frames, &sides.device);
     let (_, sides) = both(sent, Ok(sides))?;
-    let done = close(run, sides);
+    let done = close(way, plan, sides);
     Ok(Timed { done, spent })
 }
 
@@ -141,67 +130,67 @@ fn see_all_sent(frames: u32, device: &Device) -> Result<()>
 }
 
 /// Lets the ends meet.
-fn close(run: Run<'_>, sides: Sides) -> Gone
-    requires work { AreAtWork run.from.now run.to.now run.frame.now sides.device sides.forwarder }
-    requires sent { length sides.device.wire ≡ run.plan.load.frames }
+fn close(way: &Way, plan: BatchPlan, sides: Sides) -> Gone
+    requires work { AreAtWork way.now.from way.now.to way.now.frame.items sides.device sides.forwarder }
+    requires sent { length sides.device.wire ≡ plan.load.frames }
     requires serving { is_serving (controller_state sides.device.tx) ≡ true }
-    ensures { HasGone run.entry.plan.load.frames run.entry.frame.now result.ends result.wire }
+    ensures { HasGone plan.load.frames way.now.frame.items result.ends result.wire }
 {
     let Sides { device, forwarder } = sides;
     let Device { rx, tx, wire } = device;
-    let ends = meet(run.from, run.to, forwarder, rx.into_end(), tx.into_end());
+    let ends = meet(&way.from, &way.to, forwarder, rx.into_end(), tx.into_end());
     Gone { ends, wire }
 }
 
 /// Has both sides work until all frames are on the wire.
-fn pass_all<R: Threads + Wait + Sync>(rt: &R, run: Run<'_>, mut sides: Sides) -> Result<Sides>
-    requires { AreAtWork run.from.now run.to.now run.frame.now sides.device sides.forwarder }
-    ensures { IfOk result (λ s. AreAtWork run.entry.from.now run.entry.to.now run.entry.frame.now s.device s.forwarder) }
+fn pass_all<R: Threads + Wait + Sync>(
+    rt: &R,
+    way: &Way,
+    plan: BatchPlan,
+    threading: Threading,
+    mut sides: Sides,
+) -> Result<Sides>
+    requires { AreAtWork way.now.from way.now.to way.now.frame.items sides.device sides.forwarder }
+    ensures { IfOk result (λ s. AreAtWork way.now.from way.now.to way.now.frame.items s.device s.forwarder) }
 {
-    if run.plan.in_threads {
-        return in_threads(rt, run, sides);
+    match threading {
+        Threading::Apart => in_threads(rt, way, plan, sides),
+        Threading::Shared => {
+            let passed = alone(rt, way, plan, &mut sides);
+            let (_, sides) = both(passed, Ok(sides))?;
+            Ok(sides)
+        }
     }
-    let passed = alone(rt, run, &mut sides);
-    let (_, sides) = both(passed, Ok(sides))?;
-    Ok(sides)
 }
 
 /// Has both sides work in turn, until all frames are on the wire.
-fn alone<R: Wait>(rt: &R, run: Run<'_>, sides: &mut Sides) -> Result<()>
-    requires { AreAtWork run.from.now run.to.now run.frame.now sides.old.device sides.old.forwarder }
-    ensures { OnOk result (AreAtWork run.entry.from.now run.entry.to.now run.entry.frame.now sides.new.device sides.new.forwarder) }
+fn alone<R: Wait>(rt: &R, way: &Way, plan: BatchPlan, sides: &mut Sides) -> Result<()>
+    requires { AreAtWork way.now.from way.now.to way.now.frame.items sides.old.device sides.old.forwarder }
+    ensures { OnOk result (AreAtWork way.now.from way.now.to way.now.frame.items sides.new.device sides.new.forwarder) }
 {
-    let Run {
-        from,
-        to,
-        frame,
-        plan,
-    } = run;
-    let mut left = plan.load.frames;
+    let Sides { device, forwarder } = sides;
+    let frames = plan.load.frames;
+    let mut left = frames;
     for _ in rt.forever() {
-        if sides.device.wire.len() == plan.load.frames as usize {
+        if device.wire.len() == frames as usize {
             return Ok(());
         }
-        let served = sides
-            .device
-            .serve(from, to, frame, plan.batch.min(left), plan.batch)?;
-        left -= served.stored;
-        sides.forwarder.forward(from, to)?;
+        left -= device.serve(way, plan, left)?.stored;
+        forwarder.forward(&way.from, &way.to)?;
     }
     unreachable!()
 }
 
 /// Runs both sides, the controllers in a thread of their own, and joins it.
-fn in_threads<R: Threads + Wait + Sync>(rt: &R, run: Run<'_>, sides: Sides) -> Result<Sides>
-    requires { AreAtWork run.from.now run.to.now run.frame.now sides.device sides.forwarder }
-    ensures { IfOk result (λ s. AreAtWork run.entry.from.now run.entry.to.now run.entry.frame.now s.device s.forwarder) }
+fn in_threads<R: Threads + Wait + Sync>(
+    rt: &R,
+    way: &Way,
+    plan: BatchPlan,
+    sides: Sides,
+) -> Result<Sides>
+    requires { AreAtWork way.now.from way.now.to way.now.frame.items sides.device sides.forwarder }
+    ensures { IfOk result (λ s. AreAtWork way.now.from way.now.to way.now.frame.items s.device s.forwarder) }
 {
-    let Run {
-        from,
-        to,
-        frame,
-        plan,
-    } = run;
     let Sides { device, forwarder } = sides;
     let stop = AtomicBool::new(false);
     let stop = &stop;
@@ -209,27 +198,15 @@ fn in_threads<R: Threads + Wait + Sync>(rt: &R, run: Run<'_>, sides: Sides) -> R
         thread::scope_env(),
         rt,
         move |scope| -> Result<Sides>
-            requires { AreAtWork from.now to.now frame.now device forwarder }
-            ensures { IfOk result (λ s. AreAtWork from.entry.now to.entry.now frame.entry.now s.device s.forwarder) }
+            requires { AreAtWork way.now.from way.now.to way.now.frame.items device forwarder }
+            ensures { IfOk result (λ s. AreAtWork way.entry.now.from way.entry.now.to way.entry.now.frame.items s.device s.forwarder) }
         {
-            let serving = scope.spawn_with(ServesOn(from, to, frame), move || {
-                let run = Run {
-                    from,
-                    to,
-                    frame,
-                    plan,
-                };
-                serve_all(rt, run, device, stop)
+            let serving = scope.spawn_with(ServesOn(way), move || {
+                serve_all(rt, way, plan, device, stop)
             });
-            let run = Run {
-                from,
-                to,
-                frame,
-                plan,
-            };
             match serving {
                 Ok(serving) => {
-                    let forwarded = forward_all(rt, run, forwarder, stop);
+                    let forwarded = forward_all(rt, way, plan, forwarder, stop);
                     joined(serving.join(rt), forwarded)
                 }
                 Err(unmade) => no_thread(unmade, forwarder),
@@ -247,11 +224,17 @@ fn joined(device: Result<Device>, forwarder: Result<Forwarder>) -> Result<Sides>
 }
 
 /// The controllers' side: serves, and tells the other side to stop where that fails.
-fn serve_all<R: Wait>(rt: &R, run: Run<'_>, mut device: Device, stop: &AtomicBool) -> Result<Device>
-    requires { Serves run.from.now run.to.now run.frame.now device }
-    ensures { IfOk result (λ d. Serves run.entry.from.now run.entry.to.now run.entry.frame.now d) }
+fn serve_all<R: Wait>(
+    rt: &R,
+    way: &Way,
+    plan: BatchPlan,
+    mut device: Device,
+    stop: &AtomicBool,
+) -> Result<Device>
+    requires { Serves way.now.from way.now.to way.now.frame.items device }
+    ensures { IfOk result (λ d. Serves way.now.from way.now.to way.now.frame.items d) }
 {
-    let served = failing(stop, serve_until(rt, run, &mut device, stop));
+    let served = failing(stop, serve_until(rt, way, plan, &mut device, stop));
     let (_, device) = both(served, Ok(device))?;
     Ok(device)
 }
@@ -259,14 +242,15 @@ fn serve_all<R: Wait>(rt: &R, run: Run<'_>, mut device: Device, stop: &AtomicBoo
 /// The drivers' side: forwards, and tells the other side to stop where that fails.
 fn forward_all<R: Wait>(
     rt: &R,
-    run: Run<'_>,
+    way: &Way,
+    plan: BatchPlan,
     mut forwarder: Forwarder,
     stop: &AtomicBool,
 ) -> Result<Forwarder>
-    requires { CanForward run.from.now run.to.now forwarder }
-    ensures { IfOk result (λ f. CanForward run.entry.from.now run.entry.to.now f) }
+    requires { CanForward way.now.from way.now.to forwarder }
+    ensures { IfOk result (λ f. CanForward way.now.from way.now.to f) }
 {
-    let forwarded = failing(stop, forward_until(rt, run, &mut forwarder, stop));
+    let forwarded = failing(stop, forward_until(rt, way, plan, &mut forwarder, stop));
     let (_, forwarder) = both(forwarded, Ok(forwarder))?;
     Ok(forwarder)
 }
@@ -283,26 +267,27 @@ fn failing<T>(stop: &AtomicBool, done: Result<T>) -> Result<T>
 
 /// Offers the frames and serves the wire, until all frames are on it. Where there was nothing to do for long it looks
 /// whether the other side has failed.
-fn serve_until<R: Wait>(rt: &R, run: Run<'_>, device: &mut Device, stop: &AtomicBool) -> Result<()>
-    requires serves { Serves run.from.now run.to.now run.frame.now device.old }
-    ensures serves { OnOk result (Serves run.entry.from.now run.entry.to.now run.entry.frame.now device.new) }
+fn serve_until<R: Wait>(
+    rt: &R,
+    way: &Way,
+    plan: BatchPlan,
+    device: &mut Device,
+    stop: &AtomicBool,
+) -> Result<()>
+    requires serves { Serves way.now.from way.now.to way.now.frame.items device.old }
+    ensures serves { OnOk result (Serves way.now.from way.now.to way.now.frame.items device.new) }
 {
-    let Run {
-        from,
-        to,
-        frame,
-        plan,
-    } = run;
     let mut patience = Patience::new();
-    let mut left = plan.load.frames;
+    let frames = plan.load.frames;
+    let mut left = frames;
     for _ in rt.forever() {
-        let served = device.serve(from, to, frame, plan.batch.min(left), plan.batch)?;
+        let served = device.serve(way, plan, left)?;
         left -= served.stored;
         if served.stored != 0 || served.sent != 0 {
             patience.reset();
             continue;
         }
-        if device.wire.len() == plan.load.frames as usize {
+        if device.wire.len() == frames as usize {
             return Ok(());
         }
         if patience.wait() && stop.load(Ordering::SeqCst) {
@@ -316,18 +301,18 @@ fn serve_until<R: Wait>(rt: &R, run: Run<'_>, device: &mut Device, stop: &Atomic
 /// failed.
 fn forward_until<R: Wait>(
     rt: &R,
-    run: Run<'_>,
+    way: &Way,
+    plan: BatchPlan,
     forwarder: &mut Forwarder,
     stop: &AtomicBool,
 ) -> Result<()>
-    requires forwards { CanForward run.from.now run.to.now forwarder.old }
-    ensures forwards { OnOk result (CanForward run.entry.from.now run.entry.to.now forwarder.new) }
+    requires forwards { CanForward way.now.from way.now.to forwarder.old }
+    ensures forwards { OnOk result (CanForward way.now.from way.now.to forwarder.new) }
 {
-    let Run { from, to, plan, .. } = run;
     let mut patience = Patience::new();
     let mut left = plan.load.frames as usize;
     for _ in rt.forever() {
-        let moved = forwarder.forward(from, to)?;
+        let moved = forwarder.forward(&way.from, &way.to)?;
         left = left.saturating_sub(moved.sent);
         if left == 0 {
             return Ok(());

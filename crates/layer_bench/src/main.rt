@@ -17,37 +17,19 @@ mod words;
 
 use anyhow::Result;
 use batching::relay;
-use bench_kit::{report, spent_on};
+use bench_kit::{refuse, report, words_of};
 use layers::pass_layers;
-use std::alloc::Global;
-use std::env;
 use std::process::ExitCode;
-use std::rt::{Clock, Env};
-use std::sync::Wait;
-use std::thread::Threads;
-use std::time::Duration;
 use words::{Plan, USAGE, plan_of};
 
-/// What the words after the program's name ask for.
-fn asked<R: Env + AllocGlobal>(rt: &R) -> Result<Option<Plan>> {
-    let words: Vec<String> = env::args(rt)?.skip(1).collect(rt.alloc())?;
-    Ok(plan_of(words.as_slice()))
-}
-
-/// Does what is planned, and answers how long that took.
-fn run<R: Threads + Wait + Clock + Sync>(rt: &R, alloc: Global, plan: Plan) -> Result<Duration> {
-    match plan {
-        Plan::Batch(plan) => spent_on(relay(rt, alloc, plan)),
-        Plan::Pass(plan) => spent_on(pass_layers(rt, alloc, plan)),
-    }
-}
-
 fn main(rt: HostRuntime) -> Result<ExitCode> {
-    let Some(plan) = asked(&rt)? else {
-        eprintln!(rt; "{USAGE}")?;
-        return Ok(ExitCode::from(2));
-    };
-    let spent = run(&rt, rt.alloc(), plan)?;
-    report(&rt, plan.load().frames, spent)?;
-    Ok(ExitCode::SUCCESS)
+    let words = words_of(&rt)?;
+    match plan_of(words.as_slice()) {
+        Some(Plan::Batch(plan)) => report(&rt, plan.load.frames, relay(&rt, rt.alloc(), plan)),
+        Some(Plan::Pass(plan, threading)) => {
+            let passed = pass_layers(&rt, rt.alloc(), plan, threading);
+            report(&rt, plan.load.frames, passed)
+        }
+        None => refuse(&rt, USAGE),
+    }
 }

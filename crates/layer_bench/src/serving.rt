@@ -4,6 +4,8 @@ ghost use Rattle.rx_ring.specs.Calls as receive;
 ghost use Rattle.tx_ring.specs.Calls as transmit;
 ghost use Rattle.layer_bench.specs.Serving.{HasNothing, PutsOn, Serves, StoresCopies};
 
+use crate::track::Way;
+use bench_kit::BatchPlan;
 use controller::{CtlError, Offer, RxController, Turn, TxController, Wire};
 use rx_ring::{ControllerEnd, RxControllerEnd, RxRing};
 use std::alloc::Global;
@@ -51,22 +53,16 @@ impl Device {
         self.tx.turn_control(to);
     }
 
-    /// Offers the frame up to so many times, until it is not stored, and then puts up to so many frames onto the wire.
+    /// Offers the frame in a batch, of those that are left, until it is not stored, and then puts a batch onto the wire.
     #[inline]
-    pub fn serve(
-        &mut self,
-        from: &RxRing,
-        to: &TxRing,
-        frame: &[u8],
-        offers: u32,
-        turns: u32,
-    ) -> Result<Served, CtlError>
-        requires serves { Serves from.now to.now frame.now self.old }
-        ensures serves { OnOk result (Serves from.now to.now frame.now self.new) }
-        ensures few { IfOk result (λ s. s.stored ≤ offers) }
+    pub fn serve(&mut self, way: &Way, plan: BatchPlan, left: u32) -> Result<Served, CtlError>
+        requires serves { Serves way.now.from way.now.to way.now.frame.items self.old }
+        ensures serves { OnOk result (Serves way.now.from way.now.to way.now.frame.items self.new) }
+        ensures few { IfOk result (λ s. s.stored ≤ left) }
     {
-        let stored = offer(from, &mut self.rx, frame, offers)?;
-        let sent = turn(to, &mut self.tx, &mut self.wire, turns)?;
+        let most = plan.batch.min(left);
+        let stored = offer(&way.from, &mut self.rx, way.frame.as_slice(), most)?;
+        let sent = turn(&way.to, &mut self.tx, &mut self.wire, plan.batch)?;
         Ok(Served { stored, sent })
     }
 }

@@ -1,55 +1,70 @@
-//! A receive ring and a transmit ring, with drivers that forward from the one to the other.
-ghost use Rattle.std.specs.Prelude.{◌≡◌, IfOk};
+//! A receive ring and a transmit ring, with drivers that forward from the one to the other, and what passes through both.
+ghost use Rattle.std.specs.Prelude.{◌≡◌, length, replicate, IfOk};
 ghost use Rattle.limits.specs.RingLength.{IsRingLength};
 ghost use Rattle.ring_model.specs.declared.states.Completion.TheVariants.{Status};
 ghost use Rattle.rx_ring.specs.Calls as receive;
 ghost use Rattle.rx_ring.specs.Meeting as received;
 ghost use Rattle.tx_ring.specs.Calls as transmit;
 ghost use Rattle.tx_ring.specs.Meeting as transmitted;
+ghost use Rattle.bench_kit.specs.Copies.{IsFrameLength};
+ghost use Rattle.bench_kit.specs.declared.supply.TheConstants.{BYTE};
 ghost use Rattle.layer_bench.specs.Forwarding.{CanForward};
 
 use crate::forwarding::Forwarder;
 use anyhow::{Result, ensure};
-use bench_kit::both;
+use bench_kit::{BatchPlan, both, frame_of};
 use driver::MOST_BATCH;
 use rx_ring::{RxControllerEnd, RxDriverEnd, RxRing};
 use std::alloc::Global;
 use tx_ring::{TxControllerEnd, TxDriverEnd, TxRing};
 
-/// From which ring to which is forwarded.
+/// From which ring to which is forwarded, and the frame.
 #[derive(Drop)]
-pub struct Rings {
+pub struct Way {
     pub from: RxRing,
     pub to: TxRing,
+    pub frame: Vec<u8>,
 }
 
-/// Two rings, the controllers' ends of both, and drivers that forward a batch at once.
+/// What there is at the two rings: the controllers' ends of both, and drivers that forward a batch at once.
 #[derive(Drop)]
-pub struct Track {
-    pub rings: Rings,
+pub struct Parts {
     pub rx: RxControllerEnd,
     pub tx: TxControllerEnd,
     pub forwarder: Forwarder,
 }
 
+/// Two rings and the frame, with what there is at the rings.
+#[derive(Drop)]
+pub struct Track {
+    pub way: Way,
+    pub parts: Parts,
+}
+
 impl Track {
-    /// New rings of so many descriptors each.
-    pub fn new(alloc: Global, ring: u32, batch: u32) -> Result<Track>
-        ensures size { IfOk result (λ t. IsRingLength t.rings.from.slots) }
-        ensures stores { IfOk result (λ t. (t.rx.table ≡ t.rings.from) × receive.IsFreshController t.rx) }
-        ensures sends { IfOk result (λ t. (t.tx.table ≡ t.rings.to) × transmit.IsFreshController t.tx) }
-        ensures forwards { IfOk result (λ t. CanForward t.rings.from t.rings.to t.forwarder) }
+    /// New rings as the plan has them.
+    pub fn new(alloc: Global, plan: BatchPlan) -> Result<Track>
+        ensures frame { IfOk result (λ t. (t.way.frame.items ≡ replicate plan.load.size BYTE) × IsFrameLength (length t.way.frame.items)) }
+        ensures size { IfOk result (λ t. IsRingLength t.way.from.slots) }
+        ensures stores { IfOk result (λ t. (t.parts.rx.table ≡ t.way.from) × receive.IsFreshController t.parts.rx) }
+        ensures sends { IfOk result (λ t. (t.parts.tx.table ≡ t.way.to) × transmit.IsFreshController t.parts.tx) }
+        ensures forwards { IfOk result (λ t. CanForward t.way.from t.way.to t.parts.forwarder) }
     {
-        let batch = batch as usize;
+        let batch = plan.batch as usize;
         ensure!(1 <= batch && batch <= MOST_BATCH, "batch");
-        let (receiving, sending) = both(new_rx(alloc, ring), new_tx(alloc, ring))?;
+        let frame = frame_of(alloc, plan.load.size)?;
+        let ring = plan.load.ring;
+        let made = both(new_rx(alloc, ring), new_tx(alloc, ring));
+        let (frame, (receiving, sending)) = both(Ok(frame), made)?;
         let (from, driver, rx) = receiving;
         let (to, sender, tx) = sending;
         Ok(Track {
-            rings: Rings { from, to },
-            rx,
-            tx,
-            forwarder: Forwarder::new(driver, sender, batch),
+            way: Way { from, to, frame },
+            parts: Parts {
+                rx,
+                tx,
+                forwarder: Forwarder::new(driver, sender, batch),
+            },
         })
     }
 }

@@ -1,41 +1,25 @@
 //! The command line.
 
-use bench_kit::{Load, load_of, number_of};
+use bench_kit::{BatchPlan, batch_plan, number_of};
 use driver::MOST_BATCH;
 
-/// A run of frames through both drivers.
+/// Who works in which thread.
 #[derive(Clone, Copy)]
-pub struct BatchPlan {
-    pub load: Load,
-    /// How many frames are stored and received at once.
-    pub batch: u32,
-}
-
-/// A run of frames through both layers, controllers and drivers.
-#[derive(Clone, Copy)]
-pub struct PassPlan {
-    pub load: Load,
-    /// How many frames are offered, received and put onto the wire at once.
-    pub batch: u32,
-    /// Whether controllers and drivers have a thread each.
-    pub in_threads: bool,
+pub enum Threading {
+    /// Controllers and drivers in one.
+    Shared,
+    /// Controllers in one, and drivers in another.
+    Apart,
 }
 
 /// What is run.
 #[derive(Clone, Copy)]
 pub enum Plan {
+    /// Through both drivers. A batch is how many frames are stored and received at once.
     Batch(BatchPlan),
-    Pass(PassPlan),
-}
-
-impl Plan {
-    /// What passes.
-    pub fn load(self) -> Load {
-        match self {
-            Plan::Batch(plan) => plan.load,
-            Plan::Pass(plan) => plan.load,
-        }
-    }
+    /// Through both layers, controllers and drivers. A batch is how many frames are offered, received and put onto the wire
+    /// at once.
+    Pass(BatchPlan, Threading),
 }
 
 /// What is told in place of a run.
@@ -59,25 +43,20 @@ Examples:
 pub fn plan_of(words: &[String]) -> Option<Plan> {
     let (command, options) = words.split_first()?;
     match (command.as_str(), options.len()) {
-        ("batch", 8) => Some(Plan::Batch(batch_plan(options)?)),
-        ("pass", 10) => Some(Plan::Pass(pass_plan(options)?)),
+        ("batch", 8) => Some(Plan::Batch(batch_plan(options, MOST_BATCH as u32)?)),
+        ("pass", 10) => {
+            let plan = batch_plan(options, MOST_BATCH as u32)?;
+            Some(Plan::Pass(plan, threading_of(options)?))
+        }
         _ => None,
     }
 }
 
-fn batch_plan(options: &[String]) -> Option<BatchPlan> {
-    Some(BatchPlan {
-        load: load_of(options)?,
-        batch: number_of(options, "--batch", MOST_BATCH as u32)?,
-    })
-}
-
-fn pass_plan(options: &[String]) -> Option<PassPlan> {
-    let BatchPlan { load, batch } = batch_plan(options)?;
+fn threading_of(options: &[String]) -> Option<Threading> {
     let threads = number_of(options, "--threads", 2)?;
-    Some(PassPlan {
-        load,
-        batch,
-        in_threads: threads == 2,
+    Some(if threads == 1 {
+        Threading::Shared
+    } else {
+        Threading::Apart
     })
 }

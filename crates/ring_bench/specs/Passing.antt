@@ -1,21 +1,20 @@
 -- What the driver's thread of a receive ring keeps while frames are passed, and what was passed at the end.
-use Rattle.std.specs.Prelude.{◌≡◌, ℕ, true, [], length, replicate}
+use Rattle.std.specs.Prelude.{◌≡◌, ℕ, [], length, replicate}
 use Rattle.atomic_table.specs.Seated.{TableId}
 use Rattle.ring_model.specs.declared.states.DriverState.TheVariants.{On}
 use Rattle.ring_model.specs.shared.Segments.{piece_of}
-use Rattle.ring_model.specs.shared.Handshakes.{is_new}
 use Rattle.ring_model.specs.shared.Frames.{Bytes, frames}
 use Rattle.ring_model.specs.receive.Lawful.{IsLawfulRxLedger}
 use Rattle.rx_ring.specs.Ends.{DriverSide, ControllerSide, driver_size, taken, driver_state}
 use Rattle.rx_ring.specs.Meeting.{ledger_of}
 use Rattle.limits.specs.RingLength.{IsRingLength}
 use Rattle.bench_kit.specs.Copies.{IsFrameLength}
-use Rattle.bench_kit.specs.Storing.{CanServe}
+use Rattle.bench_kit.specs.Enabling as enabling
+use Rattle.bench_kit.specs.Enabling.{CanServe}
 
 -- the driver took nothing, and may ask for its queue to be enabled
 pub record CanAsk (ring : TableId) (driver : DriverSide) : Type 0 where
-  pub own : driver.table ≡ ring
-  pub new : is_new (driver_state driver) ≡ true
+  pub can : enabling.CanAsk ring driver
   pub none_taken : taken driver ≡ []
 
 -- both ends may begin to pass the frame through the ring

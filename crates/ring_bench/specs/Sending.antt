@@ -7,11 +7,11 @@ use Rattle.ring_model.specs.shared.Frames.{Bytes, frames}
 use Rattle.ring_model.specs.transmit.Lawful.{IsLawfulTxLedger}
 use Rattle.ring_model.specs.transmit.Ring.{carried, number_of_posting}
 use Rattle.tx_ring.specs.Calls.{IsFreshDriver}
-use Rattle.tx_ring.specs.Ends.{DriverSide, ControllerSide, driver_size, driver_record, driver_state, posted, cleaned, reclaimed, sent, is_owed}
+use Rattle.tx_ring.specs.Ends.{DriverSide, ControllerSide, driver_size, driver_record, driver_state, posted, cleaned, sent, is_owed}
 use Rattle.tx_ring.specs.Meeting.{ledger_of}
 use Rattle.tx_ring.specs.Records.{Posting, TxDriven}
 use Rattle.bench_kit.specs.Copies.{AllWhole, IsFrameLength}
-use Rattle.bench_kit.specs.Fetching.{CanServe}
+use Rattle.bench_kit.specs.Enabling.{CanServe}
 use Rattle.ring_bench.specs.declared.words.TxPlan.{TxPlan}
 
 -- whether a report is asked for with the frame that so many go before: with each one of the number planned, and with the last
@@ -47,14 +47,6 @@ pub record CanSend (ring : TableId) (plan : TxPlan) (frame : Bytes) (driver : Dr
   pub enough : ring.slots ≤ length stock.numbers
   pub fits : IsFrameLength (length frame)
   pub some : 0 < plan.report
-
--- the driver saw its queue enabled, and posted nothing yet
-pub record HasBegun (ring : TableId) (driver : DriverSide) : Type 0 where
-  pub own : driver.table ≡ ring
-  pub on : driver_state driver ≡ On
-  pub none_posted : posted driver ≡ []
-  pub none_cleaned : cleaned driver ≡ []
-  pub none_reclaimed : reclaimed driver ≡ 0
 
 -- all that was posted are copies of the frame, with reports as planned, and none was reclaimed
 pub record HasPosted (plan : TxPlan) (frame : Bytes) (did : TxDriven) : Type 0 where

@@ -1,7 +1,8 @@
 //! The controller's thread of a transmit ring.
-ghost use Rattle.bench_kit.specs.Fetching.{CanServe, HasServed};
+ghost use Rattle.bench_kit.specs.Enabling.{CanServe};
+ghost use Rattle.bench_kit.specs.Fetching.{HasServed};
 
-use bench_kit::{Patience, Tally, send, serve_tx};
+use bench_kit::{Patience, Tally, answer_enabling, send};
 use std::sync::Wait;
 use tx_ring::{ControllerEnd, TxControllerEnd, TxRing};
 
@@ -23,7 +24,7 @@ pub fn send_all<R: Wait>(
     requires can { CanServe ring.now controller }
     ensures { HasServed ring.now controller.completion result.controller }
 {
-    serve_tx(rt, ring, &mut controller);
+    answer_enabling(rt, ring, &mut controller);
     let mut patience = Patience::new();
     let mut tally = Tally::new();
     let mut left = frames;

@@ -18,38 +18,17 @@ mod taking;
 mod words;
 
 use anyhow::Result;
-use bench_kit::{report, spent_on};
+use bench_kit::{refuse, report, words_of};
 use passing::pass;
 use sending::send_frames;
-use std::alloc::Global;
-use std::env;
 use std::process::ExitCode;
-use std::rt::{Clock, Env};
-use std::sync::Wait;
-use std::thread::Threads;
-use std::time::Duration;
 use words::{Plan, USAGE, plan_of};
 
-/// What the words after the program's name ask for.
-fn asked<R: Env + AllocGlobal>(rt: &R) -> Result<Option<Plan>> {
-    let words: Vec<String> = env::args(rt)?.skip(1).collect(rt.alloc())?;
-    Ok(plan_of(words.as_slice()))
-}
-
-/// Does what is planned, and answers how long that took.
-fn run<R: Threads + Wait + Clock + Sync>(rt: &R, alloc: Global, plan: Plan) -> Result<Duration> {
-    match plan {
-        Plan::Ring(plan) => spent_on(pass(rt, alloc, plan)),
-        Plan::Tx(plan) => spent_on(send_frames(rt, alloc, plan)),
-    }
-}
-
 fn main(rt: HostRuntime) -> Result<ExitCode> {
-    let Some(plan) = asked(&rt)? else {
-        eprintln!(rt; "{USAGE}")?;
-        return Ok(ExitCode::from(2));
-    };
-    let spent = run(&rt, rt.alloc(), plan)?;
-    report(&rt, plan.load().frames, spent)?;
-    Ok(ExitCode::SUCCESS)
+    let words = words_of(&rt)?;
+    match plan_of(words.as_slice()) {
+        Some(Plan::Ring(plan)) => report(&rt, plan.load.frames, pass(&rt, rt.alloc(), plan)),
+        Some(Plan::Tx(plan)) => report(&rt, plan.load.frames, send_frames(&rt, rt.alloc(), plan)),
+        None => refuse(&rt, USAGE),
+    }
 }

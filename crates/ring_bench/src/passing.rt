@@ -2,15 +2,15 @@
 ghost use Rattle.std.specs.Prelude.{◌≡◌, ◌≤◌, length, replicate, IfOk};
 ghost use Rattle.limits.specs.RingLength.{IsRingLength};
 ghost use Rattle.rx_ring.specs.Calls.{IsFreshDriver};
-ghost use Rattle.bench_kit.specs.Storing.{CanServe, StoredOnly};
+ghost use Rattle.bench_kit.specs.Enabling.{CanServe};
+ghost use Rattle.bench_kit.specs.Storing.{StoredOnly};
 ghost use Rattle.bench_kit.specs.declared.supply.TheConstants.{BYTE};
 ghost use Rattle.ring_bench.specs.Passing.{CanAsk, CanPass, HasPassed, TookAll};
 
 use crate::storing::store_all;
 use crate::taking::{Reception, take_all};
-use crate::words::RingPlan;
 use anyhow::{Result, ensure};
-use bench_kit::{Tally, Timed, both, frame_of, no_thread, now, since, stock_for};
+use bench_kit::{BatchPlan, Tally, Timed, both, frame_of, no_thread, now, since, stock_for};
 use buffer_pool::Stock;
 use rx_ring::{DriverEnd, RxControllerEnd, RxDriverEnd, RxRing, meet_rx};
 use std::alloc::Global;
@@ -39,7 +39,7 @@ struct Track {
 struct Run<'a> {
     ring: &'a RxRing,
     frame: &'a [u8],
-    plan: RingPlan,
+    plan: BatchPlan,
 }
 
 /// What both threads give back.
@@ -62,7 +62,7 @@ impl<'a> Promise<RxControllerEnd> for StoresOnly<'a> {
 pub fn pass<R: Threads + Wait + Clock + Sync>(
     rt: &R,
     alloc: Global,
-    plan: RingPlan,
+    plan: BatchPlan,
 ) -> Result<Timed<Ends>>
     ensures { IfOk result (λ p. HasPassed plan.load.frames (replicate plan.load.size BYTE) p.done.driver p.done.controller) }
 {

@@ -3,11 +3,11 @@ ghost use Rattle.std.specs.Prelude.{◌≡◌, ◌+◌, ◌<◌, ◌≤◌, [], 
 ghost use Rattle.buffer_pool.specs.Stocked.{Shares};
 ghost use Rattle.tx_ring.specs.Ends.{driver_size, driver_record, posted, cleaned};
 ghost use Rattle.bench_kit.specs.Copies.{IsFrameLength};
-ghost use Rattle.ring_bench.specs.Sending.{CanEnable, HasBegun, IsUnderWay, OnlyCleaned, PostedAll, Supplies};
+ghost use Rattle.ring_bench.specs.Sending.{CanEnable, IsUnderWay, OnlyCleaned, PostedAll, Supplies};
 
 use crate::asking::Course;
 use crate::words::TxPlan;
-use bench_kit::Patience;
+use bench_kit::{Patience, await_enabling};
 use buffer_pool::Stock;
 use std::sync::Wait;
 use tx_ring::{DriverEnd, TxDriverEnd, TxRing};
@@ -37,7 +37,7 @@ pub fn post_all<R: Wait>(
     requires some { 0 < plan.report }
     ensures { PostedAll ring.now plan frame.now result.driver }
 {
-    await_on(rt, ring, &mut driver);
+    await_enabling(rt, ring, &mut driver);
     let mut course = Course::new(plan);
     let mut patience = Patience::new();
     for _ in rt.forever() {
@@ -50,24 +50,6 @@ pub fn post_all<R: Wait>(
         if course.left() == 0 && driver.room() == driver.size() - 1 {
             return Posted { driver, stock };
         }
-    }
-    unreachable!()
-}
-
-/// Asks for the queue to be enabled, and waits until it is seen enabled.
-fn await_on<R: Wait>(rt: &R, ring: &TxRing, driver: &mut TxDriverEnd)
-    requires can { CanEnable ring.now driver.old }
-    ensures begun { HasBegun ring.now driver.new }
-    ensures way { driver.new.completion ≡ driver.old.completion }
-{
-    driver.ask_enable(ring);
-    let mut patience = Patience::new();
-    for _ in rt.forever() {
-        driver.state(ring);
-        if driver.is_on() {
-            return;
-        }
-        patience.wait();
     }
     unreachable!()
 }

@@ -1,7 +1,8 @@
 //! A transmit ring is made, its two ends run in threads of their own, and the time is taken.
 ghost use Rattle.std.specs.Prelude.{◌≡◌, ◌≤◌, [], length, replicate, IfOk};
 ghost use Rattle.buffer_pool.specs.Stocked.{Shares};
-ghost use Rattle.bench_kit.specs.Fetching.{CanServe, HasServed};
+ghost use Rattle.bench_kit.specs.Enabling.{CanServe};
+ghost use Rattle.bench_kit.specs.Fetching.{HasServed};
 ghost use Rattle.bench_kit.specs.declared.supply.TheConstants.{BYTE};
 ghost use Rattle.ring_bench.specs.Sending.{CanEnable, CanSend, HasSent, PostedAll};
 

@@ -2,9 +2,10 @@
 ghost use Rattle.std.specs.Prelude.{length};
 ghost use Rattle.limits.specs.RingLength.{IsRingLength};
 ghost use Rattle.bench_kit.specs.Copies.{IsFrameLength};
-ghost use Rattle.bench_kit.specs.Storing.{CanServe, StoredOnly};
+ghost use Rattle.bench_kit.specs.Enabling.{CanServe};
+ghost use Rattle.bench_kit.specs.Storing.{StoredOnly};
 
-use bench_kit::{Patience, serve_rx, store};
+use bench_kit::{Patience, answer_enabling, store};
 use rx_ring::{ControllerEnd, RxControllerEnd, RxRing};
 use std::sync::Wait;
 
@@ -22,7 +23,7 @@ pub fn store_all<R: Wait>(
     requires frame { IsFrameLength (length frame.now) }
     ensures { StoredOnly ring.now frame.now result }
 {
-    serve_rx(rt, ring, &mut controller);
+    answer_enabling(rt, ring, &mut controller);
     let mut patience = Patience::new();
     let mut left = frames;
     for _ in rt.forever() {

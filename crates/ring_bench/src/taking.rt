@@ -1,9 +1,9 @@
 //! The driver's thread of a receive ring.
-ghost use Rattle.std.specs.Prelude.{◌≡◌, ◌+◌, ◌≤◌, [], length};
+ghost use Rattle.std.specs.Prelude.{◌≡◌, ◌+◌, ◌≤◌, length};
 ghost use Rattle.rx_ring.specs.Ends.{taken};
 ghost use Rattle.ring_bench.specs.Passing.{CanAsk, CanTake, TookAll};
 
-use bench_kit::{Patience, Tally};
+use bench_kit::{Patience, Tally, await_enabling};
 use rx_ring::{DriverEnd, Poll, RxDriverEnd, RxRing};
 use std::sync::Wait;
 
@@ -26,7 +26,7 @@ pub fn take_all<R: Wait>(
     requires can { CanAsk ring.now driver }
     ensures { TookAll ring.now frames result.driver }
 {
-    await_on(rt, ring, &mut driver);
+    await_enabling(rt, ring, &mut driver);
     let mut patience = Patience::new();
     let mut tally = Tally::new();
     let mut left = frames;
@@ -42,24 +42,6 @@ pub fn take_all<R: Wait>(
         patience.reset();
         driver.publish(ring);
         left -= got;
-    }
-    unreachable!()
-}
-
-/// Asks for the queue to be enabled, and waits until it is seen enabled.
-fn await_on<R: Wait>(rt: &R, ring: &RxRing, driver: &mut RxDriverEnd)
-    requires can { CanAsk ring.now driver.old }
-    ensures can { CanTake ring.now driver.new }
-    ensures none { taken driver.new ≡ [] }
-{
-    driver.ask_enable(ring);
-    let mut patience = Patience::new();
-    for _ in rt.forever() {
-        driver.state(ring);
-        if driver.is_on() {
-            return;
-        }
-        patience.wait();
     }
     unreachable!()
 }

@@ -1,16 +1,8 @@
 //! The command line.
 
-use bench_kit::{Load, load_of, number_of, value_of};
+use bench_kit::{BatchPlan, Load, batch_plan, load_of, number_of, value_of};
 use limits::MOST_RING;
 use ring_model::Completion;
-
-/// A run of a receive ring.
-#[derive(Clone, Copy)]
-pub struct RingPlan {
-    pub load: Load,
-    /// After how many frames at most the driver publishes the buffers that it posted again.
-    pub batch: u32,
-}
 
 /// A run of a transmit ring.
 #[derive(Clone, Copy)]
@@ -24,18 +16,10 @@ pub struct TxPlan {
 /// What is run.
 #[derive(Clone, Copy)]
 pub enum Plan {
-    Ring(RingPlan),
+    /// Through a receive ring, whose driver publishes the buffers that it posted again once a batch.
+    Ring(BatchPlan),
+    /// Through a transmit ring.
     Tx(TxPlan),
-}
-
-impl Plan {
-    /// What passes.
-    pub fn load(self) -> Load {
-        match self {
-            Plan::Ring(plan) => plan.load,
-            Plan::Tx(plan) => plan.load,
-        }
-    }
 }
 
 /// What is told in place of a run.
@@ -60,17 +44,10 @@ Examples:
 pub fn plan_of(words: &[String]) -> Option<Plan> {
     let (command, options) = words.split_first()?;
     match (command.as_str(), options.len()) {
-        ("ring", 8) => Some(Plan::Ring(ring_plan(options)?)),
+        ("ring", 8) => Some(Plan::Ring(batch_plan(options, MOST_RING as u32)?)),
         ("tx", 10) => Some(Plan::Tx(tx_plan(options)?)),
         _ => None,
     }
-}
-
-fn ring_plan(options: &[String]) -> Option<RingPlan> {
-    Some(RingPlan {
-        load: load_of(options)?,
-        batch: number_of(options, "--batch", MOST_RING as u32)?,
-    })
 }
 
 fn tx_plan(options: &[String]) -> Option<TxPlan> {

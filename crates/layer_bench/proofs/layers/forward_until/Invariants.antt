@@ -2,4 +2,4 @@ use Rattle.layer_bench.specs.Forwarding.{CanForward}
 use Rattle.layer_bench.proofs.layers.forward_until.Given as goal
 
 abbrev pub invariant-loop : goal.invariant-loop
-invariant-loop g l = CanForward l.from l.to l.forwarder
+invariant-loop g l = CanForward l.way.from l.way.to l.forwarder
