@@ -92,18 +92,10 @@ fn sides(alloc: Global, case: &Case, rings: Rings, stash: Stash) -> (Shared, For
         ends: Ends::WhenQuiet,
         epochs: case.epochs,
     };
-    let Rings {
-        shared,
-        takes,
-        stores,
-        posts,
-        sends,
-        ..
-    } = rings;
-    let _size = stores.size();
-    let forwarder = Forwarder::new(takes, posts, stash, plan);
-    let device = device(alloc, case, stores, sends);
-    (shared, forwarder, device)
+    let _size = rings.stores.size();
+    let forwarder = Forwarder::new(rings.takes, rings.posts, stash, plan);
+    let device = device(alloc, case, rings.stores, rings.sends);
+    (rings.shared, forwarder, device)
 }
 
 /// Runs both sides: what was counted, if all was as it should be.

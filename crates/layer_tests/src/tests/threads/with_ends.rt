@@ -35,22 +35,14 @@ fn sides(rings: Rings, stash: Stash, batch: usize) -> (Shared, Forwarder, Played
         ends: Ends::After(FRAMES),
         epochs: EPOCHS,
     };
-    let Rings {
-        shared,
-        takes,
-        stores,
-        posts,
-        sends,
-        ..
-    } = rings;
-    let forwarder = Forwarder::new(takes, posts, stash, plan);
-    let storing = Storing::new(Storer::new(stores));
+    let forwarder = Forwarder::new(rings.takes, rings.posts, stash, plan);
+    let storing = Storing::new(Storer::new(rings.stores));
     let played = Played {
         storing,
-        hearing: Hearing::new(sends),
+        hearing: Hearing::new(rings.sends),
         most: EPOCHS,
     };
-    (shared, forwarder, played)
+    (rings.shared, forwarder, played)
 }
 
 /// Whether as many frames as there have to be were taken, sent on and heard, none of them otherwise than it was stored.

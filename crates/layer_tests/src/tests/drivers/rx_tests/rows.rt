@@ -12,15 +12,24 @@ use test_kit::told_so;
 /// A call, and what it has to tell.
 type Row = (Call<RxCall>, Told);
 
-/// All of the rows tell so on a ring of 8 that is not enabled, in batches of so many, with so many buffers at hand. No other
-/// function here owns a driver, since each that does is dear to prove.
-fn each_tells<R: Abort>(rt: &R, alloc: Global, batch: usize, buffers: usize, rows: &[Row])
+/// All rows of the parts tell so, one part after another, on a ring of 8 that is not enabled, in batches of so many, with so
+/// many buffers at hand. No other function here owns a driver, since each that does is dear to prove.
+fn each_tells<R: Abort>(rt: &R, alloc: Global, batch: usize, buffers: usize, parts: &[&[Row]])
     requires some { 0 < batch }
     requires few { batch ≤ 32 }
 {
     let mut both = Both::new(rt, alloc, batch, buffers);
-    same(rt, told_so(&mut both, rows), rows.len());
+    for rows in parts {
+        same(rt, told_so(&mut both, rows), rows.len());
+    }
 }
+
+/// The queue is enabled.
+const ENABLED: &[Row] = &[
+    (Call::Enable, Told::No),
+    (Call::Answer, Told::Yes),
+    (Call::Enable, Told::Yes),
+];
 
 /// Each refusal, with its number and its words.
 const WORDS: &[(DriverError, &str)] = &[
@@ -42,37 +51,39 @@ fn refusals_have_a_number_and_a_text(rt: HostRuntime) {
     }
 }
 
-const FILLED: &[Row] = &[
-    (Call::Batch, Told::Refused(DriverError::QueueOff)),
-    (Call::AtHand, Told::Count(10)),
-    (Call::Enable, Told::No),
-    (Call::Answer, Told::Yes),
-    (Call::Enable, Told::Yes),
-    // seven are posted and published
-    (Call::Room, Told::Count(7)),
-    (Call::Batch, Told::Count(0)),
-    (Call::Room, Told::Count(0)),
-    (Call::AtHand, Told::Count(3)),
-    (Call::Own(RxCall::Store(60, true, 0)), Told::Yes),
-    (Call::Own(RxCall::Store(60, true, 1)), Told::Yes),
-    (Call::Own(RxCall::Store(60, true, 2)), Told::Yes),
-    // two more are posted, after the first two segments
-    (Call::Own(RxCall::Cut(2)), Told::Yes),
-    (Call::Batch, Told::Count(3)),
-    (Call::Listed, Told::Count(3)),
-    (Call::Room, Told::Count(1)),
-    (Call::AtHand, Told::Count(0)),
-    (Call::Own(RxCall::Packet(0, [60, 0, 0], 0)), Told::Yes),
-    (Call::Own(RxCall::Packet(1, [60, 0, 0], 1)), Told::Yes),
-    (Call::Own(RxCall::Packet(2, [60, 0, 0], 2)), Told::Yes),
-    // what was posted is published: six descriptors are free
-    (Call::Own(RxCall::Store(60, true, 0)), Told::Yes),
-    (Call::Own(RxCall::Store(60, true, 1)), Told::Yes),
-    (Call::Own(RxCall::Store(60, true, 2)), Told::Yes),
-    (Call::Own(RxCall::Store(60, true, 3)), Told::Yes),
-    (Call::Own(RxCall::Store(60, true, 4)), Told::Yes),
-    (Call::Own(RxCall::Store(60, true, 5)), Told::Yes),
-    (Call::Own(RxCall::Store(60, true, 6)), Told::No),
+const FILLED: &[&[Row]] = &[
+    &[
+        (Call::Batch, Told::Refused(DriverError::QueueOff)),
+        (Call::AtHand, Told::Count(10)),
+    ],
+    ENABLED,
+    &[
+        // seven are posted and published
+        (Call::Room, Told::Count(7)),
+        (Call::Batch, Told::Count(0)),
+        (Call::Room, Told::Count(0)),
+        (Call::AtHand, Told::Count(3)),
+        (Call::Own(RxCall::Store(60, true, 0)), Told::Yes),
+        (Call::Own(RxCall::Store(60, true, 1)), Told::Yes),
+        (Call::Own(RxCall::Store(60, true, 2)), Told::Yes),
+        // two more are posted, after the first two segments
+        (Call::Own(RxCall::Cut(2)), Told::Yes),
+        (Call::Batch, Told::Count(3)),
+        (Call::Listed, Told::Count(3)),
+        (Call::Room, Told::Count(1)),
+        (Call::AtHand, Told::Count(0)),
+        (Call::Own(RxCall::Packet(0, [60, 0, 0], 0)), Told::Yes),
+        (Call::Own(RxCall::Packet(1, [60, 0, 0], 1)), Told::Yes),
+        (Call::Own(RxCall::Packet(2, [60, 0, 0], 2)), Told::Yes),
+        // what was posted is published: six descriptors are free
+        (Call::Own(RxCall::Store(60, true, 0)), Told::Yes),
+        (Call::Own(RxCall::Store(60, true, 1)), Told::Yes),
+        (Call::Own(RxCall::Store(60, true, 2)), Told::Yes),
+        (Call::Own(RxCall::Store(60, true, 3)), Told::Yes),
+        (Call::Own(RxCall::Store(60, true, 4)), Told::Yes),
+        (Call::Own(RxCall::Store(60, true, 5)), Told::Yes),
+        (Call::Own(RxCall::Store(60, true, 6)), Told::No),
+    ],
 ];
 
 #[test]
@@ -80,27 +91,27 @@ fn a_batch_fills_the_ring_and_takes_what_is_done(rt: HostRuntime) {
     each_tells(&rt, rt.alloc(), 32, 10, FILLED);
 }
 
-const ENDED: &[Row] = &[
-    (Call::Enable, Told::No),
-    (Call::Answer, Told::Yes),
-    (Call::Enable, Told::Yes),
-    (Call::Batch, Told::Count(0)),
-    (Call::Own(RxCall::Store(60, true, 0)), Told::Yes),
-    (Call::Own(RxCall::Store(60, true, 1)), Told::Yes),
-    (Call::Own(RxCall::Store(60, true, 2)), Told::Yes),
-    (Call::Own(RxCall::Store(60, true, 3)), Told::Yes),
-    (Call::Own(RxCall::Store(60, true, 4)), Told::Yes),
-    (Call::Own(RxCall::Store(60, true, 5)), Told::Yes),
-    (Call::Batch, Told::Count(2)),
-    (Call::Batch, Told::Count(2)),
-    (Call::Listed, Told::Count(4)),
-    (Call::Own(RxCall::Blanks(31)), Told::Yes),
-    (Call::Batch, Told::Count(1)),
-    (Call::Listed, Told::Count(32)),
-    (Call::Batch, Told::Count(0)),
-    (Call::Own(RxCall::Clear), Told::Yes),
-    (Call::Batch, Told::Count(1)),
-    (Call::Batch, Told::Count(0)),
+const ENDED: &[&[Row]] = &[
+    ENABLED,
+    &[
+        (Call::Batch, Told::Count(0)),
+        (Call::Own(RxCall::Store(60, true, 0)), Told::Yes),
+        (Call::Own(RxCall::Store(60, true, 1)), Told::Yes),
+        (Call::Own(RxCall::Store(60, true, 2)), Told::Yes),
+        (Call::Own(RxCall::Store(60, true, 3)), Told::Yes),
+        (Call::Own(RxCall::Store(60, true, 4)), Told::Yes),
+        (Call::Own(RxCall::Store(60, true, 5)), Told::Yes),
+        (Call::Batch, Told::Count(2)),
+        (Call::Batch, Told::Count(2)),
+        (Call::Listed, Told::Count(4)),
+        (Call::Own(RxCall::Blanks(31)), Told::Yes),
+        (Call::Batch, Told::Count(1)),
+        (Call::Listed, Told::Count(32)),
+        (Call::Batch, Told::Count(0)),
+        (Call::Own(RxCall::Clear), Told::Yes),
+        (Call::Batch, Told::Count(1)),
+        (Call::Batch, Told::Count(0)),
+    ],
 ];
 
 #[test]
@@ -108,25 +119,25 @@ fn a_batch_and_a_list_have_an_end(rt: HostRuntime) {
     each_tells(&rt, rt.alloc(), 2, 7, ENDED);
 }
 
-const CHAINED: &[Row] = &[
-    (Call::Enable, Told::No),
-    (Call::Answer, Told::Yes),
-    (Call::Enable, Told::Yes),
-    (Call::Batch, Told::Count(0)),
-    (Call::Own(RxCall::Store(2_048, false, 0)), Told::Yes),
-    (Call::Own(RxCall::Store(1_000, false, 1)), Told::Yes),
-    (Call::Batch, Told::Count(0)),
-    (Call::Own(RxCall::HasChain), Told::Yes),
-    (Call::Own(RxCall::Store(60, true, 2)), Told::Yes),
-    (Call::Own(RxCall::Store(60, true, 3)), Told::Yes),
-    (Call::Batch, Told::Count(2)),
-    (Call::Own(RxCall::HasChain), Told::No),
-    (Call::Listed, Told::Count(2)),
-    (
-        Call::Own(RxCall::Packet(0, [2_048, 1_000, 60], 0)),
-        Told::Yes,
-    ),
-    (Call::Own(RxCall::Packet(1, [60, 0, 0], 3)), Told::Yes),
+const CHAINED: &[&[Row]] = &[
+    ENABLED,
+    &[
+        (Call::Batch, Told::Count(0)),
+        (Call::Own(RxCall::Store(2_048, false, 0)), Told::Yes),
+        (Call::Own(RxCall::Store(1_000, false, 1)), Told::Yes),
+        (Call::Batch, Told::Count(0)),
+        (Call::Own(RxCall::HasChain), Told::Yes),
+        (Call::Own(RxCall::Store(60, true, 2)), Told::Yes),
+        (Call::Own(RxCall::Store(60, true, 3)), Told::Yes),
+        (Call::Batch, Told::Count(2)),
+        (Call::Own(RxCall::HasChain), Told::No),
+        (Call::Listed, Told::Count(2)),
+        (
+            Call::Own(RxCall::Packet(0, [2_048, 1_000, 60], 0)),
+            Told::Yes,
+        ),
+        (Call::Own(RxCall::Packet(1, [60, 0, 0], 3)), Told::Yes),
+    ],
 ];
 
 #[test]
@@ -134,53 +145,55 @@ fn a_chain_waits_for_its_end(rt: HostRuntime) {
     each_tells(&rt, rt.alloc(), 32, 7, CHAINED);
 }
 
-const RENEWED: &[Row] = &[
-    (Call::AskDisable, Told::Refused(DriverError::QueueOff)),
-    (Call::FinishDisable, Told::No),
-    (Call::Reclaim, Told::Count(0)),
-    (Call::Enable, Told::No),
-    (Call::Answer, Told::Yes),
-    (Call::Enable, Told::Yes),
-    (Call::Batch, Told::Count(0)),
-    (Call::Renew, Told::Refused(DriverError::NotReclaimed)),
-    // a chain of two, of which the end is left
-    (Call::Own(RxCall::Store(60, false, 0)), Told::Yes),
-    (Call::Own(RxCall::Store(60, false, 1)), Told::Yes),
-    (Call::Batch, Told::Count(0)),
-    (Call::Own(RxCall::Store(60, true, 2)), Told::Yes),
-    (Call::AskDisable, Told::Yes),
-    (Call::AskDisable, Told::Refused(DriverError::QueueOff)),
-    (Call::Enable, Told::No),
-    (Call::FinishDisable, Told::No),
-    (Call::Answer, Told::No),
-    (Call::FinishDisable, Told::Count(1)),
-    (Call::FinishDisable, Told::No),
-    (Call::Batch, Told::Refused(DriverError::QueueOff)),
-    (Call::Enable, Told::Refused(DriverError::NotReclaimed)),
-    // room for two of seven: those of the chain
-    (Call::Own(RxCall::Exchange), Told::Yes),
-    (Call::Own(RxCall::Cut(254)), Told::Yes),
-    (Call::Reclaim, Told::Refused(DriverError::StashFull)),
-    (Call::AtHand, Told::Count(256)),
-    (Call::Own(RxCall::HasChain), Told::No),
-    (Call::Renew, Told::Refused(DriverError::NotReclaimed)),
-    (Call::Own(RxCall::Exchange), Told::Yes),
-    (Call::AtHand, Told::Count(0)),
-    (Call::Reclaim, Told::Count(5)),
-    (Call::Reclaim, Told::Count(0)),
-    (Call::Enable, Told::Refused(DriverError::NotReclaimed)),
-    (Call::Renew, Told::Yes),
-    (Call::Renew, Told::Refused(DriverError::NotReclaimed)),
-    (Call::Enable, Told::No),
-    (Call::Answer, Told::Yes),
-    (Call::Enable, Told::Yes),
-    (Call::Batch, Told::Count(0)),
-    (Call::Room, Told::Count(2)),
-    (Call::Own(RxCall::Store(60, true, 0)), Told::Yes),
-    (Call::Batch, Told::Count(1)),
-    (Call::AskDisable, Told::Yes),
-    (Call::Answer, Told::No),
-    (Call::FinishDisable, Told::Count(0)),
+const RENEWED: &[&[Row]] = &[
+    &[
+        (Call::AskDisable, Told::Refused(DriverError::QueueOff)),
+        (Call::FinishDisable, Told::No),
+        (Call::Reclaim, Told::Count(0)),
+    ],
+    ENABLED,
+    &[
+        (Call::Batch, Told::Count(0)),
+        (Call::Renew, Told::Refused(DriverError::NotReclaimed)),
+        // a chain of two, of which the end is left
+        (Call::Own(RxCall::Store(60, false, 0)), Told::Yes),
+        (Call::Own(RxCall::Store(60, false, 1)), Told::Yes),
+        (Call::Batch, Told::Count(0)),
+        (Call::Own(RxCall::Store(60, true, 2)), Told::Yes),
+        (Call::AskDisable, Told::Yes),
+        (Call::AskDisable, Told::Refused(DriverError::QueueOff)),
+        (Call::Enable, Told::No),
+        (Call::FinishDisable, Told::No),
+        (Call::Answer, Told::No),
+        (Call::FinishDisable, Told::Count(1)),
+        (Call::FinishDisable, Told::No),
+        (Call::Batch, Told::Refused(DriverError::QueueOff)),
+        (Call::Enable, Told::Refused(DriverError::NotReclaimed)),
+        // room for two of seven: those of the chain
+        (Call::Own(RxCall::Exchange), Told::Yes),
+        (Call::Own(RxCall::Cut(254)), Told::Yes),
+        (Call::Reclaim, Told::Refused(DriverError::StashFull)),
+        (Call::AtHand, Told::Count(256)),
+        (Call::Own(RxCall::HasChain), Told::No),
+        (Call::Renew, Told::Refused(DriverError::NotReclaimed)),
+        (Call::Own(RxCall::Exchange), Told::Yes),
+        (Call::AtHand, Told::Count(0)),
+        (Call::Reclaim, Told::Count(5)),
+        (Call::Reclaim, Told::Count(0)),
+        (Call::Enable, Told::Refused(DriverError::NotReclaimed)),
+        (Call::Renew, Told::Yes),
+        (Call::Renew, Told::Refused(DriverError::NotReclaimed)),
+    ],
+    ENABLED,
+    &[
+        (Call::Batch, Told::Count(0)),
+        (Call::Room, Told::Count(2)),
+        (Call::Own(RxCall::Store(60, true, 0)), Told::Yes),
+        (Call::Batch, Told::Count(1)),
+        (Call::AskDisable, Told::Yes),
+        (Call::Answer, Told::No),
+        (Call::FinishDisable, Told::Count(0)),
+    ],
 ];
 
 #[test]
@@ -188,18 +201,18 @@ fn disabled_reclaimed_and_renewed(rt: HostRuntime) {
     each_tells(&rt, rt.alloc(), 32, 7, RENEWED);
 }
 
-const QUIET: &[Row] = &[
-    (Call::Enable, Told::No),
-    (Call::Answer, Told::Yes),
-    (Call::Enable, Told::Yes),
-    (Call::Batch, Told::Count(0)),
-    (Call::Own(RxCall::IsQuiet), Told::No),
-    (Call::Own(RxCall::Store(60, true, 0)), Told::Yes),
-    (Call::Own(RxCall::SayQuiet), Told::Yes),
-    (Call::Own(RxCall::IsQuiet), Told::Yes),
-    (Call::Own(RxCall::Store(60, true, 1)), Told::No),
-    (Call::Batch, Told::Count(1)),
-    (Call::Batch, Told::Count(0)),
+const QUIET: &[&[Row]] = &[
+    ENABLED,
+    &[
+        (Call::Batch, Told::Count(0)),
+        (Call::Own(RxCall::IsQuiet), Told::No),
+        (Call::Own(RxCall::Store(60, true, 0)), Told::Yes),
+        (Call::Own(RxCall::SayQuiet), Told::Yes),
+        (Call::Own(RxCall::IsQuiet), Told::Yes),
+        (Call::Own(RxCall::Store(60, true, 1)), Told::No),
+        (Call::Batch, Told::Count(1)),
+        (Call::Batch, Told::Count(0)),
+    ],
 ];
 
 #[test]

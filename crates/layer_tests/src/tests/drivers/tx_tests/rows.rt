@@ -12,43 +12,51 @@ use tx_ring::Completion;
 /// A call, and what it has to tell.
 type Row = (Call<TxCall>, Told);
 
-/// All of the rows tell so on a ring of 8 that is not enabled: where its buffers lie then. No other function here owns a
-/// queue, since each that does is dear to prove.
-fn each_tells<R: Abort>(rt: &R, alloc: Global, completion: Completion, rows: &[Row]) -> Places {
+/// All rows of the parts tell so, one part after another, on a ring of 8 that is not enabled: where its buffers lie then. No
+/// other function here owns a queue, since each that does is dear to prove.
+fn each_tells<R: Abort>(rt: &R, alloc: Global, completion: Completion, parts: &[&[Row]]) -> Places {
     let mut queue = Queue::new(rt, alloc, completion);
-    let told = told_so(&mut queue, rows);
-    same(rt, told, rows.len());
+    for rows in parts {
+        same(rt, told_so(&mut queue, rows), rows.len());
+    }
     queue.places()
 }
 
-const BOTH_WAYS: &[Completion] = &[Completion::Status, Completion::Head];
-
-const TEN: &[Row] = &[
-    (Call::Own(TxCall::Add(10, 1, 60)), Told::Yes),
+/// The queue is enabled.
+const ENABLED: &[Row] = &[
     (Call::Enable, Told::No),
     (Call::Answer, Told::Yes),
     (Call::Enable, Told::Yes),
-    (Call::Batch, Told::Count(7)),
-    (Call::Listed, Told::Count(3)),
-    (Call::Room, Told::Count(0)),
-    (Call::Own(TxCall::Ready), Told::Count(7)),
-    (Call::Batch, Told::Count(0)),
-    (Call::Own(TxCall::Asks(false)), Told::Yes),
-    (Call::Own(TxCall::Asks(false)), Told::Yes),
-    (Call::Own(TxCall::Asks(false)), Told::Yes),
-    (Call::Own(TxCall::Asks(true)), Told::Yes),
-    (Call::Own(TxCall::Asks(false)), Told::Yes),
-    (Call::Batch, Told::Count(3)),
-    (Call::Listed, Told::Count(0)),
-    (Call::AtHand, Told::Count(4)),
-    (Call::Room, Told::Count(1)),
-    (Call::Own(TxCall::Ready), Told::Count(5)),
-    (Call::Own(TxCall::Asks(false)), Told::Yes),
-    (Call::Own(TxCall::Asks(true)), Told::Yes),
-    (Call::Own(TxCall::Asks(true)), Told::Yes),
-    (Call::Own(TxCall::Asks(false)), Told::Yes),
-    (Call::Own(TxCall::Asks(true)), Told::Yes),
-    (Call::Own(TxCall::Ready), Told::Count(0)),
+];
+
+const BOTH_WAYS: &[Completion] = &[Completion::Status, Completion::Head];
+
+const TEN: &[&[Row]] = &[
+    &[(Call::Own(TxCall::Add(10, 1, 60)), Told::Yes)],
+    ENABLED,
+    &[
+        (Call::Batch, Told::Count(7)),
+        (Call::Listed, Told::Count(3)),
+        (Call::Room, Told::Count(0)),
+        (Call::Own(TxCall::Ready), Told::Count(7)),
+        (Call::Batch, Told::Count(0)),
+        (Call::Own(TxCall::Asks(false)), Told::Yes),
+        (Call::Own(TxCall::Asks(false)), Told::Yes),
+        (Call::Own(TxCall::Asks(false)), Told::Yes),
+        (Call::Own(TxCall::Asks(true)), Told::Yes),
+        (Call::Own(TxCall::Asks(false)), Told::Yes),
+        (Call::Batch, Told::Count(3)),
+        (Call::Listed, Told::Count(0)),
+        (Call::AtHand, Told::Count(4)),
+        (Call::Room, Told::Count(1)),
+        (Call::Own(TxCall::Ready), Told::Count(5)),
+        (Call::Own(TxCall::Asks(false)), Told::Yes),
+        (Call::Own(TxCall::Asks(true)), Told::Yes),
+        (Call::Own(TxCall::Asks(true)), Told::Yes),
+        (Call::Own(TxCall::Asks(false)), Told::Yes),
+        (Call::Own(TxCall::Asks(true)), Told::Yes),
+        (Call::Own(TxCall::Ready), Told::Count(0)),
+    ],
 ];
 
 /// Where the buffers lie after them.
@@ -71,21 +79,23 @@ fn batches_of_ten_packets(rt: HostRuntime) {
     }
 }
 
-const TOO_LONG: &[Row] = &[
-    (Call::Own(TxCall::Add(1, 1, 60)), Told::Yes),
-    (Call::Batch, Told::Refused(DriverError::QueueOff)),
-    (Call::Listed, Told::Count(1)),
-    (Call::Enable, Told::No),
-    (Call::Answer, Told::Yes),
-    (Call::Enable, Told::Yes),
-    (Call::Own(TxCall::Add(1, 9, 1_000)), Told::Yes),
-    (Call::Own(TxCall::Add(1, 1, 60)), Told::Yes),
-    (Call::Batch, Told::Count(1)),
-    (Call::Own(TxCall::Asks(true)), Told::Yes),
-    (Call::Batch, Told::Refused(DriverError::TooLong)),
-    (Call::AtHand, Told::Count(1)),
-    (Call::Listed, Told::Count(2)),
-    (Call::Room, Told::Count(7)),
+const TOO_LONG: &[&[Row]] = &[
+    &[
+        (Call::Own(TxCall::Add(1, 1, 60)), Told::Yes),
+        (Call::Batch, Told::Refused(DriverError::QueueOff)),
+        (Call::Listed, Told::Count(1)),
+    ],
+    ENABLED,
+    &[
+        (Call::Own(TxCall::Add(1, 9, 1_000)), Told::Yes),
+        (Call::Own(TxCall::Add(1, 1, 60)), Told::Yes),
+        (Call::Batch, Told::Count(1)),
+        (Call::Own(TxCall::Asks(true)), Told::Yes),
+        (Call::Batch, Told::Refused(DriverError::TooLong)),
+        (Call::AtHand, Told::Count(1)),
+        (Call::Listed, Told::Count(2)),
+        (Call::Room, Told::Count(7)),
+    ],
 ];
 
 #[test]
@@ -93,20 +103,20 @@ fn a_packet_that_no_ring_of_8_has_room_for(rt: HostRuntime) {
     each_tells(&rt, rt.alloc(), Completion::Status, TOO_LONG);
 }
 
-const SIX: &[Row] = &[
-    (Call::Own(TxCall::Add(6, 1, 60)), Told::Yes),
-    (Call::Enable, Told::No),
-    (Call::Answer, Told::Yes),
-    (Call::Enable, Told::Yes),
-    (Call::Batch, Told::Count(6)),
-    (Call::Own(TxCall::Word(0x000f_0000_2330_003c)), Told::Yes),
-    (Call::Own(TxCall::Word(0x000f_0000_2330_003c)), Told::Yes),
-    (Call::Own(TxCall::Word(0x000f_0000_2330_003c)), Told::Yes),
-    (Call::Own(TxCall::Word(0x000f_0000_2b30_003c)), Told::Yes),
-    (Call::Own(TxCall::Word(0x000f_0000_2330_003c)), Told::Yes),
-    (Call::Own(TxCall::Word(0x000f_0000_2b30_003c)), Told::Yes),
-    (Call::Own(TxCall::Clean), Told::Count(6)),
-    (Call::Own(TxCall::Clean), Told::Count(0)),
+const SIX: &[&[Row]] = &[
+    &[(Call::Own(TxCall::Add(6, 1, 60)), Told::Yes)],
+    ENABLED,
+    &[
+        (Call::Batch, Told::Count(6)),
+        (Call::Own(TxCall::Word(0x000f_0000_2330_003c)), Told::Yes),
+        (Call::Own(TxCall::Word(0x000f_0000_2330_003c)), Told::Yes),
+        (Call::Own(TxCall::Word(0x000f_0000_2330_003c)), Told::Yes),
+        (Call::Own(TxCall::Word(0x000f_0000_2b30_003c)), Told::Yes),
+        (Call::Own(TxCall::Word(0x000f_0000_2330_003c)), Told::Yes),
+        (Call::Own(TxCall::Word(0x000f_0000_2b30_003c)), Told::Yes),
+        (Call::Own(TxCall::Clean), Told::Count(6)),
+        (Call::Own(TxCall::Clean), Told::Count(0)),
+    ],
 ];
 
 #[test]
@@ -114,45 +124,45 @@ fn six_packets_in_one_batch(rt: HostRuntime) {
     each_tells(&rt, rt.alloc(), Completion::Status, SIX);
 }
 
-const RENEWED: &[Row] = &[
-    (Call::Own(TxCall::Add(11, 1, 60)), Told::Yes),
-    (Call::Enable, Told::No),
-    (Call::Answer, Told::Yes),
-    (Call::Enable, Told::Yes),
-    (Call::Batch, Told::Count(7)),
-    (Call::Own(TxCall::Asks(false)), Told::Yes),
-    (Call::Own(TxCall::Asks(false)), Told::Yes),
-    (Call::AskDisable, Told::Yes),
-    (Call::AskDisable, Told::Refused(DriverError::QueueOff)),
-    (Call::Batch, Told::Count(0)),
-    (Call::Enable, Told::No),
-    (Call::FinishDisable, Told::No),
-    (Call::Reclaim, Told::Count(0)),
-    (Call::Answer, Told::No),
-    (Call::FinishDisable, Told::Count(5)),
-    (Call::FinishDisable, Told::No),
-    (Call::Batch, Told::Refused(DriverError::QueueOff)),
-    (Call::Own(TxCall::Clean), Told::Count(0)),
-    (Call::Renew, Told::Refused(DriverError::NotReclaimed)),
-    (Call::Own(TxCall::Fill(2)), Told::Yes),
-    (Call::Reclaim, Told::Refused(DriverError::StashFull)),
-    (Call::Room, Told::Count(2)),
-    (Call::Renew, Told::Refused(DriverError::NotReclaimed)),
-    (Call::Own(TxCall::Drop), Told::Yes),
-    (Call::Reclaim, Told::Count(5)),
-    (Call::Enable, Told::Refused(DriverError::NotReclaimed)),
-    (Call::Renew, Told::Yes),
-    (Call::Renew, Told::Refused(DriverError::NotReclaimed)),
-    (Call::Enable, Told::No),
-    (Call::Answer, Told::Yes),
-    (Call::Enable, Told::Yes),
-    (Call::Own(TxCall::Add(1, 1, 60)), Told::Yes),
-    (Call::Batch, Told::Count(5)),
-    (Call::Own(TxCall::Asks(false)), Told::Yes),
-    (Call::Own(TxCall::Asks(false)), Told::Yes),
-    (Call::Own(TxCall::Asks(false)), Told::Yes),
-    (Call::Own(TxCall::Asks(true)), Told::Yes),
-    (Call::Own(TxCall::Asks(true)), Told::Yes),
+const RENEWED: &[&[Row]] = &[
+    &[(Call::Own(TxCall::Add(11, 1, 60)), Told::Yes)],
+    ENABLED,
+    &[
+        (Call::Batch, Told::Count(7)),
+        (Call::Own(TxCall::Asks(false)), Told::Yes),
+        (Call::Own(TxCall::Asks(false)), Told::Yes),
+        (Call::AskDisable, Told::Yes),
+        (Call::AskDisable, Told::Refused(DriverError::QueueOff)),
+        (Call::Batch, Told::Count(0)),
+        (Call::Enable, Told::No),
+        (Call::FinishDisable, Told::No),
+        (Call::Reclaim, Told::Count(0)),
+        (Call::Answer, Told::No),
+        (Call::FinishDisable, Told::Count(5)),
+        (Call::FinishDisable, Told::No),
+        (Call::Batch, Told::Refused(DriverError::QueueOff)),
+        (Call::Own(TxCall::Clean), Told::Count(0)),
+        (Call::Renew, Told::Refused(DriverError::NotReclaimed)),
+        (Call::Own(TxCall::Fill(2)), Told::Yes),
+        (Call::Reclaim, Told::Refused(DriverError::StashFull)),
+        (Call::Room, Told::Count(2)),
+        (Call::Renew, Told::Refused(DriverError::NotReclaimed)),
+        (Call::Own(TxCall::Drop), Told::Yes),
+        (Call::Reclaim, Told::Count(5)),
+        (Call::Enable, Told::Refused(DriverError::NotReclaimed)),
+        (Call::Renew, Told::Yes),
+        (Call::Renew, Told::Refused(DriverError::NotReclaimed)),
+    ],
+    ENABLED,
+    &[
+        (Call::Own(TxCall::Add(1, 1, 60)), Told::Yes),
+        (Call::Batch, Told::Count(5)),
+        (Call::Own(TxCall::Asks(false)), Told::Yes),
+        (Call::Own(TxCall::Asks(false)), Told::Yes),
+        (Call::Own(TxCall::Asks(false)), Told::Yes),
+        (Call::Own(TxCall::Asks(true)), Told::Yes),
+        (Call::Own(TxCall::Asks(true)), Told::Yes),
+    ],
 ];
 
 /// A disabled queue tells what was not sent, gives its buffers back where the stash has room, and counts its frames
