@@ -6,7 +6,7 @@ mod timing;
 use crate::plan::each;
 use anyhow::Result;
 use lists::compared;
-use pool_uses::{BATCH, Manner};
+use pool_uses::{BATCH, Job, Manner};
 use std::alloc::Global;
 use std::rt::Clock;
 use std::sync::Wait;
@@ -19,8 +19,16 @@ where
     R: Threads + Wait + Clock + Print + Sync,
 {
     let batches = buffers.div_ceil(BATCH as u32);
-    let single = timed(rt, alloc, threads, buffers, Manner::Single)?;
-    let bulk = timed(rt, alloc, threads, batches, Manner::Bulk)?;
+    let singles = Job {
+        manner: Manner::Single,
+        turns: buffers,
+    };
+    let bulks = Job {
+        manner: Manner::Bulk,
+        turns: batches,
+    };
+    let single = timed(rt, alloc, threads, singles)?;
+    let bulk = timed(rt, alloc, threads, bulks)?;
     println!(rt; "threads {threads}")?;
     println!(rt; "single ns/buffer {:.1}", each(single, f64::from(buffers)))?;
     println!(rt;

@@ -9,4 +9,4 @@ mod sharing;
 mod worker;
 
 pub use sharing::{in_two, share_out};
-pub use worker::{BATCH, Manner, work};
+pub use worker::{BATCH, Job, Manner, work};

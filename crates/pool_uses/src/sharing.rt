@@ -1,73 +1,85 @@
 //! One pool for four threads.
-ghost use Rattle.std.specs.Prelude.{◌≡◌, []};
+ghost use Rattle.std.specs.Prelude.{◌≡◌, ◌+◌, ◌<◌};
 ghost use Rattle.pool.specs.declared.hand.TheConstants.{WHOLE_SHARE};
-ghost use Rattle.pool.specs.Owned.{IsOf};
+ghost use Rattle.pool_uses.specs.Idle.{HoldsNone};
 
-use crate::{Manner, work};
+use crate::{Job, work};
 use pool::{Pool, PoolPass, WHOLE_SHARE};
 use std::sync::Wait;
 use std::thread;
 use std::thread::Threads;
 
-/// Lets four threads work on one pool, each so many turns, and joins them. The pass has the whole share
-/// and holds nothing, before and after.
+/// A half of the whole share, and a quarter.
+const HALF: u32 = WHOLE_SHARE / 2;
+
+const QUARTER: u32 = WHOLE_SHARE / 4;
+
+/// Lets four threads work on one pool, and joins them. The pass has the whole share and holds nothing, before and after.
 pub fn share_out<R: Threads + Wait + Sync>(
     rt: &R,
     pool: &Pool,
-    mut pass: PoolPass,
-    turns: u32,
-    manner: Manner,
+    pass: PoolPass,
+    job: Job,
 ) -> PoolPass
-    requires pool { IsOf pool.now pass }
-    requires share { pass.hand.share ≡ WHOLE_SHARE }
-    requires idle { pass.hand.held ≡ [] }
-    ensures pool { IsOf pool.now result }
-    ensures share { result.hand.share ≡ WHOLE_SHARE }
-    ensures idle { result.hand.held ≡ [] }
+    requires { HoldsNone pool.now WHOLE_SHARE pass }
+    ensures { HoldsNone pool.now WHOLE_SHARE result }
 {
-    let other = pass.split(pool, WHOLE_SHARE / 2);
-    let (mut pass, other) = thread::join(
+    halved(
         rt,
-        move || -> PoolPass
-            requires { IsOf pool.now pass × (pass.hand.share ≡ 32768) × (pass.hand.held ≡ []) }
-            ensures { IsOf pool.entry.now result × (result.hand.share ≡ 32768) × (result.hand.held ≡ []) }
-        { in_two(rt, pool, pass, turns, manner) },
-        move || -> PoolPass
-            requires { IsOf pool.now other × (other.hand.share ≡ 32768) × (other.hand.held ≡ []) }
-            ensures { IsOf pool.entry.now result × (result.hand.share ≡ 32768) × (result.hand.held ≡ []) }
-        { in_two(rt, pool, other, turns, manner) },
-    );
-    pass.join(pool, other);
-    pass
+        pool,
+        pass,
+        HALF,
+        |pass: PoolPass| -> PoolPass
+            requires { HoldsNone pool.now HALF pass }
+            ensures { HoldsNone pool.entry.now HALF result }
+        { in_two(rt, pool, pass, job) },
+    )
 }
 
-/// Lets two threads work on one pool, and joins them. The pass has half of the whole share and holds
-/// nothing, before and after.
-pub fn in_two<R: Threads + Wait + Sync>(
+/// Lets two threads work on one pool, and joins them. The pass has half of the whole share and holds nothing, before and
+/// after.
+pub fn in_two<R: Threads + Wait + Sync>(rt: &R, pool: &Pool, pass: PoolPass, job: Job) -> PoolPass
+    requires { HoldsNone pool.now HALF pass }
+    ensures { HoldsNone pool.now HALF result }
+{
+    halved(
+        rt,
+        pool,
+        pass,
+        QUARTER,
+        |pass: PoolPass| -> PoolPass
+            requires { HoldsNone pool.now QUARTER pass }
+            ensures { HoldsNone pool.entry.now QUARTER result }
+        { work(rt, pool, pass, job) },
+    )
+}
+
+/// Splits off half of a share, lets two threads work with a half each, and joins them.
+fn halved<R: Threads + Sync, W: Fn(PoolPass) -> PoolPass + Sync>(
     rt: &R,
     pool: &Pool,
     mut pass: PoolPass,
-    turns: u32,
-    manner: Manner,
+    half: u32,
+    work: W,
 ) -> PoolPass
-    requires pool { IsOf pool.now pass }
-    requires share { pass.hand.share ≡ 32768 }
-    requires idle { pass.hand.held ≡ [] }
-    ensures pool { IsOf pool.now result }
-    ensures share { result.hand.share ≡ 32768 }
-    ensures idle { result.hand.held ≡ [] }
+    requires some { 0 < half }
+    requires idle { HoldsNone pool.now (half + half) pass }
+    requires works { (one : _) → HoldsNone pool.now half one → W.pre work one }
+    requires gives { (one back : _) → HoldsNone pool.now half one → W.post work one back → HoldsNone pool.now half back }
+    ensures { HoldsNone pool.now (half + half) result }
 {
-    let other = pass.split(pool, WHOLE_SHARE / 4);
+    let other = pass.split(pool, half);
+    let work = &work;
     let (mut pass, other) = thread::join(
         rt,
         move || -> PoolPass
-            requires { IsOf pool.now pass × (pass.hand.share ≡ 16384) × (pass.hand.held ≡ []) }
-            ensures { IsOf pool.entry.now result × (result.hand.share ≡ 16384) × (result.hand.held ≡ []) }
-        { work(rt, pool, pass, turns, manner) },
+            requires { W.pre work.now pass }
+            ensures { W.post work.entry.now pass result }
+        { work(pass) },
         move || -> PoolPass
-            requires { IsOf pool.now other × (other.hand.share ≡ 16384) × (other.hand.held ≡ []) }
-            ensures { IsOf pool.entry.now result × (result.hand.share ≡ 16384) × (result.hand.held ≡ []) }
-        { work(rt, pool, other, turns, manner) },
+            requires { W.pre work.now other }
+            ensures { W.post work.entry.now other result }
+        { work(other) },
     );
     pass.join(pool, other);
     pass

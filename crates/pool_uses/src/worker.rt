@@ -20,15 +20,16 @@ pub enum Manner {
     Mixed,
 }
 
-/// Takes buffers so many times, and gives them back each time. The worker holds none before and none
-/// after. Where the pool is empty, a turn is left out.
-pub fn work<R: Wait>(
-    rt: &R,
-    pool: &Pool,
-    mut pass: PoolPass,
-    turns: u32,
-    manner: Manner,
-) -> PoolPass
+/// What a worker does: in this manner so many turns.
+#[derive(Clone, Copy)]
+pub struct Job {
+    pub manner: Manner,
+    pub turns: u32,
+}
+
+/// Takes buffers in each turn of the job, and gives them back. The worker holds none before and none after. Where the pool
+/// is empty, a turn is left out.
+pub fn work<R: Wait>(rt: &R, pool: &Pool, mut pass: PoolPass, job: Job) -> PoolPass
     requires pool { IsOf pool.now pass }
     requires idle { pass.hand.held ≡ [] }
     ensures pool { IsOf pool.now result }
@@ -36,8 +37,8 @@ pub fn work<R: Wait>(
     ensures idle { result.hand.held ≡ [] }
 {
     let mut stash = Stash::new();
-    for turn in 0..turns {
-        let one = match manner {
+    for turn in 0..job.turns {
+        let one = match job.manner {
             Manner::Single => true,
             Manner::Bulk => false,
             Manner::Mixed => turn % 2 == 0,

@@ -1,7 +1,7 @@
 //! A pool is made, and the time of its threads is taken.
 use anyhow::Result;
 use pool::{Pool, WHOLE_SHARE};
-use pool_uses::{Manner, in_two, share_out, work};
+use pool_uses::{Job, in_two, share_out, work};
 use std::alloc::Global;
 use std::rt::Clock;
 use std::sync::Wait;
@@ -11,26 +11,25 @@ use std::time::{Duration, Instant};
 /// The buffers of the pool: more than all threads take at once.
 const BUFFERS: u32 = 1_024;
 
-/// How long 1, 2 or 4 threads take for so many turns each.
+/// How long 1, 2 or 4 threads take for this job each.
 pub fn timed<R: Threads + Wait + Clock + Sync>(
     rt: &R,
     alloc: Global,
     threads: u32,
-    turns: u32,
-    manner: Manner,
+    job: Job,
 ) -> Result<Duration> {
     let (pool, mut pass) = Pool::new(rt, alloc, BUFFERS)?;
     let start = Instant::now(rt)?;
     match threads {
         1 => {
-            work(rt, &pool, pass, turns, manner);
+            work(rt, &pool, pass, job);
         }
         2 => {
             let _idle = pass.split(&pool, WHOLE_SHARE / 2);
-            in_two(rt, &pool, pass, turns, manner);
+            in_two(rt, &pool, pass, job);
         }
         _ => {
-            share_out(rt, &pool, pass, turns, manner);
+            share_out(rt, &pool, pass, job);
         }
     }
     Ok(start.elapsed(rt)?)

@@ -3,7 +3,7 @@ ghost use Rattle.pool.specs.Owned.{IsOf};
 use crate::tests::wanted::{holds, same};
 use buffer_pool::{PoolError, Stash};
 use pool::{Pool, PoolPass};
-use pool_uses::{Manner, share_out};
+use pool_uses::{Job, Manner, share_out};
 use std::alloc::Global;
 use std::process::Abort;
 use std::sync::Wait;
@@ -167,7 +167,11 @@ fn are_all<R: Abort>(rt: &R, numbers: &[u16], count: u32) {
 // A pool of so many buffers has each of them again once four threads worked on it.
 fn races<R: Threads + Wait + Sync + Abort>(rt: &R, alloc: Global, count: u32) -> Result<(), Fail> {
     let (pool, pass) = Pool::new(rt, alloc, count)?;
-    let mut pass = share_out(rt, &pool, pass, 10_000, Manner::Mixed);
+    let job = Job {
+        manner: Manner::Mixed,
+        turns: 10_000,
+    };
+    let mut pass = share_out(rt, &pool, pass, job);
     let numbers = drained(rt, alloc, &pool, &mut pass)?;
     are_all(rt, &numbers, count);
     Ok(())
