@@ -1,4 +1,4 @@
-//! The tests, and what they run forwarders with: `configs`, `gates`, `readers`, `bursts` and `counted`.
+//! The tests, and what they run forwarders with: `configs`, `gates`, `readers`, `bursts`, `counted` and `trials`.
 
 mod bounds;
 mod bursts;
@@ -13,6 +13,7 @@ mod readers;
 mod refusing;
 mod rows;
 mod side_by_side;
+mod trials;
 mod wanted;
 mod wanting;
 mod watched;

@@ -15,6 +15,15 @@ pub(crate) struct Burst {
     pub count: u8,
 }
 
+/// One frame of 60 bytes for flow 0.
+pub(crate) const FRAME: Burst = Burst {
+    port: 0,
+    queue: 0,
+    len: 60,
+    first: 0,
+    count: 1,
+};
+
 /// 40 frames of 60 bytes for port 0, queue 1. The last are `ff`, of which a touch makes `00`.
 pub(crate) const FORTY: &[Burst] = &[
     Burst {

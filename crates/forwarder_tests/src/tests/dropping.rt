@@ -1,6 +1,6 @@
 //! What is dropped is counted, and all else goes out in order.
 
-use crate::tests::bursts::{Burst, script_of};
+use crate::tests::bursts::{Burst, FRAME, script_of};
 use crate::tests::configs::SHORT;
 use crate::tests::counted::is_touched;
 use crate::tests::wanted::same;
@@ -17,11 +17,8 @@ use wire_script::Script;
 
 /// 250 frames, no two of them the same.
 const MANY: &[Burst] = &[Burst {
-    port: 0,
-    queue: 0,
-    len: 60,
-    first: 0,
     count: 250,
+    ..FRAME
 }];
 
 /// Whether the wire has frames of the script, touched, in order. No two of the script are the same.

@@ -4,9 +4,10 @@ ghost use Rattle.forwarder.specs.Configs.{FitsIn};
 ghost use Rattle.pool.specs.Owned.{IsOf};
 ghost use Rattle.pool.specs.declared.hand.TheConstants.{WHOLE_SHARE};
 
-use crate::tests::bursts::{Burst, FORTY, script_of};
+use crate::tests::bursts::{Burst, FORTY, FRAME, script_of};
 use crate::tests::configs::DEFAULT;
 use crate::tests::gates::{Midway, Shuts, Stops};
+use crate::tests::trials::{Asked, Trial, each_is_so};
 use crate::tests::wanted::{holds, same};
 use buffer_pool::Stash;
 use forwarder::{Config, forward_in};
@@ -111,106 +112,55 @@ const ALL: Config = Config {
     ..DEFAULT
 };
 
-/// Whether all buffers are back after a refusal, by so many workers, once so many passed the gate.
-fn are_back<R: Threads + Wait + Sync + Abort>(
-    rt: &R,
-    alloc: Global,
-    script: &Script,
-    workers: u32,
-    passes: u64,
-) -> bool {
-    let config = Config { workers, ..ALL };
-    let gate = Shuts::after(passes);
-    let (refusal, numbers) = ended(rt, alloc, script, &config, &gate);
+/// Whether all buffers are back after a refusal, once so many passed the gate.
+pub(crate) fn are_back<R: Threads + Wait + Sync + Abort>(rt: &R, trial: Trial<'_>) -> bool {
+    let config = Config {
+        workers: trial.workers,
+        ..ALL
+    };
+    let gate = Shuts::after(u64::from(trial.number));
+    let (refusal, numbers) = ended(rt, trial.alloc, trial.script, &config, &gate);
     refusal == Some(ForwardError::Gate) && numbers.came_once()
-}
-
-/// Whether it is so after each of these numbers of passes.
-fn all_are_back<R: Threads + Wait + Sync + Abort>(
-    rt: &R,
-    alloc: Global,
-    script: &Script,
-    workers: u32,
-) -> bool {
-    for passes in [0, 1, 3, 10, 40, 79] {
-        if !are_back(rt, alloc, script, workers, passes) {
-            return false;
-        }
-    }
-    true
 }
 
 #[test]
 fn all_back_after_a_refusal(rt: HostRuntime) {
     for bursts in [FORTY, LONG] {
-        let script = script_of(&rt, rt.alloc(), bursts);
-        for workers in 1..=4 {
-            let good = all_are_back(&rt, rt.alloc(), &script, workers);
-            same(&rt, (workers, good), (workers, true));
-        }
+        let passes = [0, 1, 3, 10, 40, 79];
+        each_is_so(&rt, rt.alloc(), Asked::AreBack, bursts, &passes);
     }
 }
 
-/// Whether all buffers are back after so many turns, by so many workers.
-fn are_back_at_the_end<R: Threads + Wait + Sync + Abort>(
+/// Whether all buffers are back after so many turns.
+pub(crate) fn are_back_at_the_end<R: Threads + Wait + Sync + Abort>(
     rt: &R,
-    alloc: Global,
-    script: &Script,
-    workers: u32,
-    turns: u32,
+    trial: Trial<'_>,
 ) -> bool {
     let config = Config {
-        workers,
-        turns,
-        retry: workers % 2 == 0,
+        workers: trial.workers,
+        turns: trial.number,
+        retry: trial.workers % 2 == 0,
         ..ALL
     };
-    let (refusal, numbers) = ended(rt, alloc, script, &config, &Open);
+    let (refusal, numbers) = ended(rt, trial.alloc, trial.script, &config, &Open);
     refusal.is_none() && numbers.came_once()
-}
-
-/// Whether it is so after each of these numbers of turns.
-fn all_are_back_at_the_end<R: Threads + Wait + Sync + Abort>(
-    rt: &R,
-    alloc: Global,
-    script: &Script,
-    workers: u32,
-) -> bool {
-    for turns in [0, 1, 5] {
-        if !are_back_at_the_end(rt, alloc, script, workers, turns) {
-            return false;
-        }
-    }
-    true
 }
 
 #[test]
 fn all_back_after_a_report(rt: HostRuntime) {
     for bursts in [FORTY, LONG] {
-        let script = script_of(&rt, rt.alloc(), bursts);
-        for workers in 1..=4 {
-            let good = all_are_back_at_the_end(&rt, rt.alloc(), &script, workers);
-            same(&rt, (workers, good), (workers, true));
-        }
+        each_is_so(&rt, rt.alloc(), Asked::AreBackAtTheEnd, bursts, &[0, 1, 5]);
     }
 }
 
 /// 40 frames for flow 0.
-const ZERO: &[Burst] = &[Burst {
-    port: 0,
-    queue: 0,
-    len: 60,
-    first: 0,
-    count: 40,
-}];
+const ZERO: &[Burst] = &[Burst { count: 40, ..FRAME }];
 
 /// 40 frames of 15 segments each.
 const LONGEST: &[Burst] = &[Burst {
-    port: 0,
-    queue: 0,
     len: 15_000,
-    first: 0,
     count: 40,
+    ..FRAME
 }];
 
 /// Whether all buffers are back once this gate refused, or nobody was refused.

@@ -3,6 +3,7 @@
 use crate::tests::bursts::{Burst, FORTY, FORTY_COUNTS, script_of};
 use crate::tests::configs::{DEFAULT, SHORT};
 use crate::tests::counted::{Counts, NONE, comes_to};
+use crate::tests::trials::{Asked, Trial, each_is_so};
 use crate::tests::wanted::{holds, same};
 use controller::Wire;
 use flows::FlowReport;
@@ -13,7 +14,6 @@ use std::process::Abort;
 use std::sync::Wait;
 use std::thread::Threads;
 use tx_ring::Completion;
-use wire_script::Script;
 
 /// Four flows over rings of 512.
 const EMPTY: Config = Config {
@@ -21,45 +21,31 @@ const EMPTY: Config = Config {
     ..DEFAULT
 };
 
-/// Whether the 40 frames go over rings of 8 by batches of 1, 7 and 32.
-fn forty_go<R: Threads + Wait + Sync + Abort>(
+/// Whether the 40 frames go over rings of 8 in batches of so many, in both ways to report.
+pub(crate) fn forty_go_both_ways<R: Threads + Wait + Sync + Abort>(
     rt: &R,
-    alloc: Global,
-    script: &Script,
-    workers: u32,
-    completion: Completion,
+    trial: Trial<'_>,
 ) -> bool {
-    let mut good = true;
-    for batch in [1, 7, 32] {
-        let config = Config {
-            workers,
-            batch,
-            completion,
-            ..SHORT
-        };
-        good &= comes_to(rt, alloc, script, &config, &Open, FORTY_COUNTS);
-    }
-    good
+    forty_go(rt, trial, Completion::Status) && forty_go(rt, trial, Completion::Head)
 }
 
-/// Whether they do in both ways to report.
-fn forty_go_both_ways<R: Threads + Wait + Sync + Abort>(
+fn forty_go<R: Threads + Wait + Sync + Abort>(
     rt: &R,
-    alloc: Global,
-    script: &Script,
-    workers: u32,
+    trial: Trial<'_>,
+    completion: Completion,
 ) -> bool {
-    forty_go(rt, alloc, script, workers, Completion::Status)
-        && forty_go(rt, alloc, script, workers, Completion::Head)
+    let config = Config {
+        workers: trial.workers,
+        batch: trial.number,
+        completion,
+        ..SHORT
+    };
+    comes_to(rt, trial.alloc, trial.script, &config, &Open, FORTY_COUNTS)
 }
 
 #[test]
 fn forty_frames_over_a_short_ring(rt: HostRuntime) {
-    let script = script_of(&rt, rt.alloc(), FORTY);
-    for workers in 1..=4 {
-        let good = forty_go_both_ways(&rt, rt.alloc(), &script, workers);
-        same(&rt, (workers, good), (workers, true));
-    }
+    each_is_so(&rt, rt.alloc(), Asked::FortyGo, FORTY, &[1, 7, 32]);
 }
 
 /// The first three bytes of frame `i` of a wire, and its last.

@@ -7,7 +7,8 @@ use crate::tests::configs::SHORT;
 use crate::tests::counted::is_drained;
 use crate::tests::gates::Paced;
 use crate::tests::readers::{Reader, readers_of};
-use crate::tests::wanted::{holds, same};
+use crate::tests::trials::{Asked, ONCE, Trial, each_is_so};
+use crate::tests::wanted::holds;
 use counters::{DriveCell, DrivePass, Driven, FlowCells, FlowPens, Moment, StatCell, StatPass};
 use flows::FlowReport;
 use forwarder::{Config, Report, forward_watched};
@@ -30,13 +31,12 @@ fn all_see<R: Wait>(rt: &R, readers: &mut [Reader<'_>], flows: &[FlowReport]) ->
 }
 
 /// Whether each cell has its flow's numbers once the 40 frames went over rings of 8.
-fn are_shown<R: Threads + Wait + Sync + Abort>(
-    rt: &R,
-    alloc: Global,
-    script: &Script,
-    workers: u32,
-) -> bool {
-    let config = Config { workers, ..SHORT };
+pub(crate) fn are_shown<R: Threads + Wait + Sync + Abort>(rt: &R, trial: Trial<'_>) -> bool {
+    let Trial { alloc, script, .. } = trial;
+    let config = Config {
+        workers: trial.workers,
+        ..SHORT
+    };
     let (cells, mut pens) = FlowCells::of(alloc, 4).expect(rt, "cells");
     let mut readers = readers_of(rt, alloc, &cells, &mut pens);
     let (report, _) = forward_watched(rt, alloc, script, &config, &Open, &cells, pens).expect(
@@ -48,11 +48,7 @@ fn are_shown<R: Threads + Wait + Sync + Abort>(
 
 #[test]
 fn each_cell_shows_its_report(rt: HostRuntime) {
-    let script = script_of(&rt, rt.alloc(), FORTY);
-    for workers in 1..=4 {
-        let good = are_shown(&rt, rt.alloc(), &script, workers);
-        same(&rt, (workers, good), (workers, true));
-    }
+    each_is_so(&rt, rt.alloc(), Asked::AreShown, FORTY, ONCE);
 }
 
 /// How often a reader reads at most.
