@@ -6,8 +6,8 @@ ghost use Rattle.forward_command.specs.declared.piped.request.CaptureRequest.The
 ghost use Rattle.command_line.specs.CaptureWords.{HasFromCapture, HasToCapture};
 
 use crate::reading::place_in;
-use forward_command::piped::CaptureRequest;
 use clap::ArgMatches;
+use forward_command::piped::CaptureRequest;
 
 /// The request in matches of `from-capture`.
 pub(crate) fn from_capture_in<'a>(matches: &ArgMatches<'a>) -> Option<CaptureRequest>

@@ -9,9 +9,9 @@ ghost use Rattle.command_line.specs.CommandLine.{SaysForward};
 ghost use Rattle.command_line.specs.FileWords.{AreFiles, AreTold, FileOptions, HasFiles, HoldsFiles, file_values};
 
 use crate::program::program;
-use forward_command::captured::{Source, WireFile, source_of, wire_file_of};
 use clap::error::ErrorKind;
 use clap::{ArgMatches, Error};
+use forward_command::captured::{Source, WireFile, source_of, wire_file_of};
 use std::alloc::{AllocError, Global};
 
 /// What is told where a word of the options is none.

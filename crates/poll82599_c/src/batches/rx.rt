@@ -10,7 +10,7 @@ ghost use Rattle.poll82599_c.specs.batches.Receiving.{AreCounts, AreLawful, AreM
 
 use crate::batches::found::Found;
 use crate::batches::rx_making::{make, unmake};
-use crate::call::{NO_OPERATION, UNHELD, Poll82599Device, Poll82599Queue};
+use crate::call::{NO_OPERATION, Poll82599Device, Poll82599Queue, UNHELD};
 use crate::end::End;
 use crate::handle::{Handle, take_both};
 use crate::makings::put_both;

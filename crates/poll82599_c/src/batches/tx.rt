@@ -9,7 +9,7 @@ ghost use Rattle.poll82599_c.specs.batches.Transmitting.{AreLawful, AreMade, Are
 
 use crate::batches::found::Found;
 use crate::batches::tx_making::{make, unmake};
-use crate::call::{NO_OPERATION, UNHELD, Poll82599Queue};
+use crate::call::{NO_OPERATION, Poll82599Queue, UNHELD};
 use crate::end::End;
 use crate::handle::{Handle, take_both};
 use crate::makings::{completion_of, put_both};

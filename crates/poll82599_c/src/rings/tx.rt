@@ -8,7 +8,7 @@ ghost use Rattle.poll82599_c.specs.rings.TxEnds.{AreLawful, AreMade, AreTold, Dr
 ghost use Rattle.poll82599_c.specs.rings.Steps.{AreOfOne, SameDriven, SameServed};
 ghost use Rattle.poll82599_c.specs.Held.{AreClosed, Between};
 
-use crate::call::{NO_OPERATION, UNHELD, Poll82599Call};
+use crate::call::{NO_OPERATION, Poll82599Call, UNHELD};
 use crate::end::End;
 use crate::handle::{Handle, take_both};
 use crate::makings::{completion_of, put_both};
@@ -144,7 +144,10 @@ pub extern "C" fn poll82599_tx_close(
         return UNHELD;
     };
     match (&*one, &*other) {
-        (End::TxDriver(_), End::TxController(_)) => unmake(Box::into_inner(one), Box::into_inner(other)),
+        (End::TxDriver(_), End::TxController(_)) => unmake(
+            Box::into_inner(one),
+            Box::into_inner(other),
+        ),
         _ => {
             driver.put(one);
             controller.put(other);

@@ -2,9 +2,9 @@
 
 use crate::tests::runs::text_of;
 use crate::tests::wanted::{holds, same};
+use forward_command::progress::{Form, forward, forward_shown};
 use forwarder::{Config, Report};
 use forwarding::Open;
-use forward_command::progress::{Form, forward, forward_shown};
 use std::alloc::Global;
 use std::io;
 use std::io::{ErrorKind, Write};
