@@ -3,6 +3,5 @@ pub mod Chain
 pub mod Held
 pub mod Hung
 pub mod Packed
-pub mod Refusal
 pub mod Shelf
 pub mod Stocked

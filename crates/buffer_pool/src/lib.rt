@@ -15,14 +15,13 @@
 
 mod buf;
 mod chain;
-mod error;
 mod packet;
 mod stash;
 mod stock;
 
 pub use buf::Buf;
 pub use chain::Segments;
-pub use error::PoolError;
 pub use packet::Packet;
+pub use refusals::PoolError;
 pub use stash::{STASH_BUFFERS, Stash};
 pub use stock::Stock;

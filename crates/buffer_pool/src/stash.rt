@@ -1,7 +1,7 @@
 //! The empty buffers that a worker has at hand.
 ghost use Rattle.std.specs.Prelude.{◌≡◌, ◌<◌, ◌≤◌, ◌↔◌, ℕ, [], ◌∷◌, length, IsTrue, IsErr, IsNone, IfNone, IfSome, IfErr, OnOk, OnErr};
 ghost use Rattle.buffer_pool.specs.Buffer.{buffer};
-ghost use Rattle.buffer_pool.specs.declared.error.PoolError.TheVariants.{StashFull};
+ghost use Rattle.refusals.specs.declared.errors.PoolError.TheVariants.{StashFull};
 
 use crate::{Buf, PoolError};
 use arrayvec::ArrayVec;

@@ -2,8 +2,8 @@
 use Rattle.std.proofs.Common.{◌≡◌, ◌≢◌, ℕ, zero, suc, ◌+◌, ◌-◌, ◌<◌, ◌≤◌, List, [], ◌∷◌, ◌++◌, length, drop, Result, Ok, Err, refl, sym, ap, ◌∙◌, append_assoc, arith, length-append}
 use Rattle.std.proofs.lemmas.List.{append-nil}
 use Rattle.limits.specs.declared.profile.TheConstants.{MOST_SCRIPT_FRAMES}
-use Rattle.capture.specs.declared.error.CaptureError.{CaptureError}
-use Rattle.capture.specs.declared.error.CaptureError.TheVariants as errors
+use Rattle.refusals.specs.declared.errors.CaptureError.{CaptureError}
+use Rattle.refusals.specs.declared.errors.CaptureError.TheVariants as errors
 use Rattle.capture.specs.CaptureError.{◌>>=◌, Fails}
 use Rattle.capture.specs.declared.header.Form.{Form}
 use Rattle.capture.specs.Layout.{Numbers, numbers_in}

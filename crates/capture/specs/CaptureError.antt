@@ -1,27 +1,7 @@
--- The numbers and the records of refusals.
-use Rattle.std.specs.Prelude.{◌≡◌, ℕ, Option, Some, None, Result, Ok, Err}
-use Rattle.capture.specs.declared.error.CaptureError.{CaptureError}
-use Rattle.capture.specs.declared.error.CaptureError.TheVariants.{NotCapture, LinkType, CutShort, CapturedShort, FrameLength, TooMany, Memory}
-
--- the refusal's number
-abbrev pub number_of : CaptureError → ℕ
-number_of NotCapture = 91
-number_of LinkType = 92
-number_of (CutShort number) = 93
-number_of (CapturedShort number) = 94
-number_of (FrameLength number) = 95
-number_of (TooMany number) = 96
-number_of Memory = 97
-
--- the record that is refused
-abbrev pub record_of : CaptureError → Option ℕ
-record_of NotCapture = None
-record_of LinkType = None
-record_of (CutShort number) = Some number
-record_of (CapturedShort number) = Some number
-record_of (FrameLength number) = Some number
-record_of (TooMany number) = Some number
-record_of Memory = None
+-- What is answered where a call is refused.
+use Rattle.std.specs.Prelude.{◌≡◌, Result, Ok, Err}
+use Rattle.refusals.specs.declared.errors.CaptureError.{CaptureError}
+use Rattle.refusals.specs.declared.errors.CaptureError.TheVariants.{Memory}
 
 -- the first step, and with its value the second
 infixl 10 ◌>>=◌

@@ -2,8 +2,8 @@
 use Rattle.std.specs.Prelude.{ℕ, suc, zero, ◌+◌, ◌==◌, nat_lt, ◌||◌, ◌&&◌, not, if◌then◌else◌, List, [], ◌∷◌, length, take, drop, Option, Some, None, Result, Ok, Err}
 use Rattle.byteorder.specs.Endian.{big_number}
 use Rattle.limits.specs.declared.profile.TheConstants.{LEAST_FRAME, MOST_FRAME, MOST_SCRIPT_FRAMES}
-use Rattle.capture.specs.declared.error.CaptureError.{CaptureError}
-use Rattle.capture.specs.declared.error.CaptureError.TheVariants.{NotCapture, LinkType, CutShort, CapturedShort, FrameLength, TooMany}
+use Rattle.refusals.specs.declared.errors.CaptureError.{CaptureError}
+use Rattle.refusals.specs.declared.errors.CaptureError.TheVariants.{NotCapture, LinkType, CutShort, CapturedShort, FrameLength, TooMany}
 use Rattle.capture.specs.declared.header.Form.{Form}
 use Rattle.capture.specs.declared.header.TimeUnit.{TimeUnit}
 use Rattle.capture.specs.CaptureError.{◌>>=◌}

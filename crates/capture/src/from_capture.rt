@@ -4,7 +4,7 @@ ghost use Rattle.std.specs.Prelude.{◌≡◌, ◌<◌, [], IfErr, IfOk};
 ghost use Rattle.std.specs.String.{string_bytes};
 ghost use Rattle.limits.specs.declared.profile.TheConstants.{MOST_PAIRS, PORTS};
 ghost use Rattle.wire_script.specs.Script.{text_for};
-ghost use Rattle.wire_script.specs.declared.error.ScriptError.TheVariants.{Memory};
+ghost use Rattle.refusals.specs.declared.errors.ScriptError.TheVariants.{Memory};
 ghost use Rattle.capture.specs.Frames.{frames_at};
 
 use crate::record::CaptureRecord;

@@ -16,7 +16,6 @@
 #![tactic(auto)]
 
 mod content;
-mod error;
 mod fields;
 mod from_capture;
 mod header;
@@ -26,10 +25,10 @@ mod to_capture;
 mod writing;
 
 pub use content::Capture;
-pub use error::CaptureError;
 pub use from_capture::lines_at;
 pub use header::TimeUnit;
 pub use reading::read;
 pub use record::CaptureRecord;
+pub use refusals::CaptureError;
 pub use to_capture::capture_of;
 pub use writing::{write, write_header, write_record};

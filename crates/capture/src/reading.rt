@@ -6,12 +6,12 @@ ghost use Rattle.capture.specs.CaptureError.{Answers, AnswersAs};
 ghost use Rattle.capture.specs.Reading.{capture_in, checked_header, header_in, record_in, records_in};
 
 use crate::content::Capture;
-use crate::error::CaptureError;
 use crate::fields::{half, word};
 use crate::header::{Form, Order, form_of};
 use crate::record::CaptureRecord;
 use byteorder::{BigEndian, ByteOrder, LittleEndian};
 use limits::{LEAST_FRAME, MOST_FRAME, MOST_SCRIPT_FRAMES};
+use refusals::CaptureError;
 use std::alloc::Global;
 
 // How many bytes a capture's header has, and how many each record has before the captured ones.

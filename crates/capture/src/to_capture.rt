@@ -3,14 +3,14 @@
 ghost use Rattle.std.specs.Prelude.{◌≡◌, IfErr, IfOk, Ok};
 ghost use Rattle.capture.specs.Reading.{capture_in};
 ghost use Rattle.capture.specs.Writing.{capture_of};
-ghost use Rattle.capture.specs.declared.error.CaptureError.TheVariants.{Memory};
+ghost use Rattle.refusals.specs.declared.errors.CaptureError.TheVariants.{Memory};
 ghost use Rattle.capture.specs.declared.header.TimeUnit.TheVariants.{Micros};
 ghost use Rattle.capture.specs.Records.{records_of_port};
 
-use crate::error::CaptureError;
 use crate::reading::{HEADER, RECORD_HEADER};
 use crate::record::CaptureRecord;
 use crate::writing::{write_header, write_record};
+use refusals::CaptureError;
 use std::alloc::Global;
 use wire_script::Script;
 

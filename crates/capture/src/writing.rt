@@ -6,13 +6,13 @@ ghost use Rattle.limits.specs.declared.profile.TheConstants.{MOST_SCRIPT_FRAMES}
 ghost use Rattle.capture.specs.Reading.{capture_in};
 ghost use Rattle.capture.specs.Record.{InRange};
 ghost use Rattle.capture.specs.Writing.{capture_of, header_bytes, record_bytes};
-ghost use Rattle.capture.specs.declared.error.CaptureError.TheVariants.{Memory};
+ghost use Rattle.refusals.specs.declared.errors.CaptureError.TheVariants.{Memory};
 ghost use Rattle.capture.specs.declared.header.TimeUnit.TheVariants.{Micros};
 
-use crate::error::CaptureError;
 use crate::reading::RECORD_HEADER;
 use crate::record::CaptureRecord;
 use byteorder::{ByteOrder, LittleEndian};
+use refusals::CaptureError;
 use std::alloc::{AllocError, Global};
 
 /// The first 24 bytes of each capture that is written, in little-endian order: the magic of

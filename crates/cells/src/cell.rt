@@ -2,7 +2,7 @@
 ghost use Rattle.std.specs.Prelude.{◌≡◌, All, IfOk, IfErr};
 ghost use Rattle.moments.specs.Moments.{GoesOn, NoneFalls};
 ghost use Rattle.cells.specs.Watching.{fresh, with_moment, all_of};
-ghost use Rattle.cells.specs.declared.error.CounterError.TheVariants.{Memory};
+ghost use Rattle.refusals.specs.declared.errors.CounterError.TheVariants.{Memory};
 
 use crate::CounterError;
 use moments::{Moment, Numbers, View};

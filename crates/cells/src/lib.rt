@@ -15,8 +15,7 @@
 #![tactic(auto)]
 
 mod cell;
-mod error;
 
 pub use cell::{MomentCell, MomentPass, MomentPen};
-pub use error::CounterError;
 pub use moments::Moment;
+pub use refusals::CounterError;

@@ -1,8 +1,8 @@
 -- Why a ring of eight is refused: for memory alone.
 use Rattle.std.proofs.Common.{◌≡◌, refl, inl, arith}
 use lib.Count.{ones}
-use Rattle.shared_ring.specs.declared.error.RingError.{RingError}
-use Rattle.shared_ring.specs.declared.error.RingError.TheVariants as ring
+use Rattle.refusals.specs.declared.errors.RingError.{RingError}
+use Rattle.refusals.specs.declared.errors.RingError.TheVariants as ring
 use Rattle.limits.specs.RingLength.{IsRingLength}
 use Rattle.commands.specs.declared.refusal.Refusal.TheVariants.{Ring}
 use Rattle.commands.specs.Refusals.{IsUnmade}

@@ -1,6 +1,6 @@
 -- What `decode` answers.
 use Rattle.std.specs.Prelude.{◌≡◌, ℕ, List, [], ◌∷◌, ◌++◌, codes, Result, Ok, Err}
-use Rattle.descriptor.specs.declared.error.DescError.{DescError}
+use Rattle.refusals.specs.declared.errors.DescError.{DescError}
 use Rattle.descriptor.specs.Layout.{KeepsBytes}
 use Rattle.descriptor.specs.Layout as layout
 use Rattle.descriptor.specs.Receive.{rx_read_form, rx_read_bytes, rx_back_form, rx_back_bytes}

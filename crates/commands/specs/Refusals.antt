@@ -2,15 +2,15 @@
 use Rattle.std.specs.Prelude.{◌≡◌, ◌⊎◌, ℕ, Option, Some, None}
 use Rattle.commands.specs.declared.refusal.Refusal.{Refusal}
 use Rattle.commands.specs.declared.refusal.Refusal.TheVariants.{Capture, Descriptor, Forward, Machine, Ring, Script, Stock, FrameLength, Thread, Hex, Move, Input, Memory, Output, FileNotRead, FileNotWritten}
-use Rattle.descriptor.specs.Refusal.{refusal_number as descriptor_number}
-use Rattle.ring_machine.specs.MachineErrors.{number_of_error}
-use Rattle.forwarding.specs.Refusal.{refusal_number as forward_number}
-use Rattle.shared_ring.specs.declared.error.RingError.TheVariants.{Memory as RingMemory}
-use Rattle.shared_ring.specs.Refusal.{refusal_number as ring_number}
-use Rattle.buffer_pool.specs.declared.error.PoolError.TheVariants.{Memory as StockMemory}
-use Rattle.buffer_pool.specs.Refusal.{refusal_number as stock_number}
-use Rattle.wire_script.specs.ScriptError.{number_of as script_number, line_of as script_line}
-use Rattle.capture.specs.CaptureError.{number_of as capture_number, record_of as capture_record}
+use Rattle.refusals.specs.DescError.{refusal_number as descriptor_number}
+use Rattle.refusals.specs.MachineError.{refusal_number as machine_number}
+use Rattle.refusals.specs.ForwardError.{refusal_number as forward_number}
+use Rattle.refusals.specs.declared.errors.RingError.TheVariants.{Memory as RingMemory}
+use Rattle.refusals.specs.RingError.{refusal_number as ring_number}
+use Rattle.refusals.specs.declared.errors.PoolError.TheVariants.{Memory as StockMemory}
+use Rattle.refusals.specs.PoolError.{refusal_number as stock_number}
+use Rattle.refusals.specs.ScriptError.{refusal_number as script_number, line_of as script_line}
+use Rattle.refusals.specs.CaptureError.{refusal_number as capture_number, record_of as capture_record}
 
 -- those of the libraries have numbers of their own
 abbrev pub refusal_number : Refusal → ℕ
@@ -21,7 +21,7 @@ refusal_number FrameLength = 41
 refusal_number Thread = 63
 refusal_number Hex = 81
 refusal_number (Move line) = 14
-refusal_number (Machine error) = number_of_error error
+refusal_number (Machine error) = machine_number error
 refusal_number (Script error) = script_number error
 refusal_number (Forward error) = forward_number error
 refusal_number (Capture error) = capture_number error

@@ -5,7 +5,7 @@ use Rattle.std.specs.Io.KnownBytes.{Appends, Keeps}
 use Rattle.text_lines.specs.Parts.{lines_of, says_something}
 use Rattle.ring_machine.specs.declared.moves.Move.{Move}
 use Rattle.ring_model.specs.declared.notes.Note.{Note}
-use Rattle.ring_machine.specs.declared.error.MachineError.TheVariants.{RingLength, Memory as MachineMemory}
+use Rattle.refusals.specs.declared.errors.MachineError.TheVariants.{RingLength, Memory as MachineMemory}
 use Rattle.ring_model.specs.shared.Schedules.{next}
 use Rattle.note_objects.specs.NoteMembers.{note_members}
 use Rattle.ring_model.specs.NoteTexts.{note_text}

@@ -1,6 +1,6 @@
 //! One frame through a receive ring, whose two sides are in threads of their own.
 ghost use Rattle.std.specs.Prelude.{◌≡◌, true, false, [], length, IfOk, IfErr};
-ghost use Rattle.buffer_pool.specs.declared.error.PoolError.TheVariants.{Memory};
+ghost use Rattle.refusals.specs.declared.errors.PoolError.TheVariants.{Memory};
 ghost use Rattle.ring_model.specs.shared.Handshakes.{is_live, is_open};
 ghost use Rattle.limits.specs.RingLength.{IsRingLength};
 ghost use Rattle.rx_ring.specs.Calls.{IsFreshController, IsFreshDriver};

@@ -78,7 +78,7 @@ fn write_note(page: &mut String, action: &Move, told: Option<Note>) -> Result<()
     let name = action.name();
     match told {
         Some(note) => {
-            let members = NoteMembers::new(note);
+            let members = NoteMembers { note };
             write!(page, "{{\"move\":\"{name}\",\"made\":true{members}")
         }
         None => write!(page, "{{\"move\":\"{name}\",\"made\":false"),

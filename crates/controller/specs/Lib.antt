@@ -4,7 +4,6 @@ pub mod FillSize
 pub mod Handshaking
 pub mod Laid
 pub mod Receiving
-pub mod Refusal
 pub mod Sending
 pub mod Storing
 pub mod Tallying

@@ -10,8 +10,8 @@ use Rattle.shared_ring.specs.declared.events.ControllerEvent.TheVariants.{Fetche
 use Rattle.rx_ring.specs.declared.events.RxControllerOwn.TheVariants.{WroteBack, SaidQuiet}
 use Rattle.rx_ring.specs.Ends.{ControllerSide, controller_size, controller_record, controller_state, stored, known_free, held, is_quiet, is_between, head_stored, serve_place, answered}
 use Rattle.rx_ring.specs.Calls.{FoundFree}
-use Rattle.controller.specs.declared.error.CtlError.{CtlError}
-use Rattle.controller.specs.declared.error.CtlError.TheVariants.{FrameLength, Memory}
+use Rattle.refusals.specs.declared.errors.CtlError.{CtlError}
+use Rattle.refusals.specs.declared.errors.CtlError.TheVariants.{FrameLength, Memory}
 use Rattle.controller.specs.declared.offer.Offer.{Offer}
 use Rattle.controller.specs.declared.offer.Offer.TheVariants.{Off, Oversize, Stored, Dropped, Held}
 use Rattle.controller.specs.declared.tally.Tally.{Tally}

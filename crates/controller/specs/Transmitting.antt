@@ -9,8 +9,8 @@ use Rattle.tx_ring.specs.declared.events.TxControllerOwn.TheVariants.{Sent}
 use Rattle.tx_ring.specs.Records.{Posting, posting_of}
 use Rattle.tx_ring.specs.Ends.{ControllerSide, controller_size, controller_record, controller_state, sent, held, is_owed, is_between, head_stored, serve_place, answered}
 use Rattle.tx_ring.specs.Calls.{FoundReady, report_of}
-use Rattle.controller.specs.declared.error.CtlError.{CtlError}
-use Rattle.controller.specs.declared.error.CtlError.TheVariants.{FrameLength, Memory}
+use Rattle.refusals.specs.declared.errors.CtlError.{CtlError}
+use Rattle.refusals.specs.declared.errors.CtlError.TheVariants.{FrameLength, Memory}
 use Rattle.controller.specs.declared.transmitting.Turn.{Turn}
 use Rattle.controller.specs.declared.transmitting.Turn.TheVariants as turn
 use Rattle.controller.specs.Chained.{Chained}

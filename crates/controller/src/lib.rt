@@ -9,7 +9,6 @@
 #![tactic(auto)]
 
 mod arena;
-mod error;
 mod fill_size;
 mod offer;
 mod receiving;
@@ -19,10 +18,10 @@ mod tally;
 mod transmitting;
 mod wire;
 
-pub use error::CtlError;
 pub use fill_size::is_fill_size;
 pub use offer::Offer;
 pub use receiving::RxController;
+pub use refusals::CtlError;
 pub use tally::Tally;
 pub use transmitting::{Turn, TxController};
 pub use wire::{Frames, Wire};

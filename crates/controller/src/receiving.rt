@@ -9,11 +9,11 @@ ghost use Rattle.controller.specs.Handshaking.{TurnedControl, begins};
 ghost use Rattle.controller.specs.Receiving.{IsIdle, Offered, Finished, frames_by, may_store};
 ghost use Rattle.controller.specs.Tallying.{AddsUp, nothing};
 
-use crate::error::CtlError;
 use crate::offer::Offer;
 use crate::storing::decide;
 use crate::tally::Tally;
 use limits::{LEAST_FRAME, MOST_FRAME};
+use refusals::CtlError;
 use rx_ring::{Control, ControllerEnd, RxControllerEnd, RxRing};
 use std::marker::Model;
 

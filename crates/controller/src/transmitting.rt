@@ -7,9 +7,9 @@ ghost use Rattle.tx_ring.specs.Ends.{controller_state, sent, seen};
 ghost use Rattle.controller.specs.Handshaking.{TurnedControl, begins};
 ghost use Rattle.controller.specs.Transmitting.{IsIdle, Turned};
 
-use crate::error::CtlError;
 use crate::sending::send_frame;
 use crate::wire::Wire;
+use refusals::CtlError;
 use std::marker::Model;
 use tx_ring::{Control, ControllerEnd, TxControllerEnd, TxRing};
 

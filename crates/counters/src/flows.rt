@@ -1,7 +1,7 @@
 //! The cells of flows.
 ghost use Rattle.std.specs.Prelude.{◌≡◌, vec_len, IfOk, IfErr};
 ghost use Rattle.counters.specs.Paired.{ArePaired, IsFresh};
-ghost use Rattle.cells.specs.declared.error.CounterError.TheVariants.{Memory};
+ghost use Rattle.refusals.specs.declared.errors.CounterError.TheVariants.{Memory};
 
 use crate::{DriveCell, DrivePen, StatCell, StatPen};
 use cells::CounterError;

@@ -3,7 +3,7 @@ use Rattle.std.proofs.Common.{◌≡◌, ◌∙◌, ℕ, List, [], ◌∷◌, �
 use Rattle.ring_laws.specs.Schedules.{reached-more, reached-opening}
 use Rattle.ring_model.specs.declared.notes.Note.{Note}
 use Rattle.ring_model.specs.Worlds.{after_move, after_moves, can_move, opening_world}
-use Rattle.ring_machine.specs.declared.error.MachineError.{MachineError}
+use Rattle.refusals.specs.declared.errors.MachineError.{MachineError}
 use Rattle.ring_machine.specs.declared.moves.Move.{Move}
 use Rattle.ring_machine.specs.Queues.{QueueParts, QueuesAgree, QueuesFollow, QueuesRun, queue_move}
 use Rattle.coverage.specs.declared.lists.CoverList.{CoverList}

@@ -3,7 +3,7 @@ use Rattle.std.specs.Prelude.{◌≡◌, List, [], ◌∷◌, ◌++◌, length, 
 use Rattle.std.specs.Option.{ok_or}
 use Rattle.ring_model.specs.Worlds.{World, after_moves, moves_happened, note_in, opening_world}
 use Rattle.ring_machine.specs.Queues.{queue_move}
-use Rattle.ring_machine.specs.declared.error.MachineError.TheVariants.{NotEnabled}
+use Rattle.refusals.specs.declared.errors.MachineError.TheVariants.{NotEnabled}
 use Rattle.ring_machine.specs.declared.moves.Move.{Move}
 use Rattle.coverage.specs.declared.lists.CoverList.{CoverList}
 use Rattle.coverage.specs.declared.tried.Scope.{Scope}

@@ -54,28 +54,24 @@ impl fmt::Display for States {
     }
 }
 
+/// The words of a driver's states, in their order.
+const DRIVER_WORDS: [&str; 7] = [
+    "New", "Asked", "On", "Stopping", "Stopped", "Cleared", "Tailed",
+];
+
 fn driver_words(state: DriverState) -> &'static str
     ensures { result.now ≡ driver_words state }
 {
-    match state {
-        DriverState::New => "New",
-        DriverState::Asked => "Asked",
-        DriverState::On => "On",
-        DriverState::Stopping => "Stopping",
-        DriverState::Stopped => "Stopped",
-        DriverState::Cleared => "Cleared",
-        DriverState::Tailed => "Tailed",
-    }
+    DRIVER_WORDS[state as usize]
 }
+
+/// The words of a controller's states, in their order.
+const CONTROLLER_WORDS: [&str; 3] = ["off", "serving", "ended"];
 
 fn controller_words(state: ControllerState) -> &'static str
     ensures { result.now ≡ controller_words state }
 {
-    match state {
-        ControllerState::Off => "off",
-        ControllerState::Serving => "serving",
-        ControllerState::Ended => "ended",
-    }
+    CONTROLLER_WORDS[state as usize]
 }
 
 /// How many pairs could be told apart for one side: kinds of moves, states of both sides, kinds of notes.
@@ -86,15 +82,7 @@ pub(crate) fn driver_number(state: DriverState) -> usize
     ensures value { result ≡ driver_number state }
     ensures below { result < 7 }
 {
-    match state {
-        DriverState::New => 0,
-        DriverState::Asked => 1,
-        DriverState::On => 2,
-        DriverState::Stopping => 3,
-        DriverState::Stopped => 4,
-        DriverState::Cleared => 5,
-        DriverState::Tailed => 6,
-    }
+    state as usize
 }
 
 /// The number of a controller's state, from 0.
@@ -102,24 +90,14 @@ pub(crate) fn controller_number(state: ControllerState) -> usize
     ensures value { result ≡ controller_number state }
     ensures below { result < 3 }
 {
-    match state {
-        ControllerState::Off => 0,
-        ControllerState::Serving => 1,
-        ControllerState::Ended => 2,
-    }
+    state as usize
 }
 
 // The number of a step of the handshake, from 0.
 fn control_number(step: ControlStep) -> usize
     ensures { result < 5 }
 {
-    match step {
-        ControlStep::AskEnable => 0,
-        ControlStep::LookAsked => 1,
-        ControlStep::Answer => 2,
-        ControlStep::LookAnswered => 3,
-        ControlStep::AskDisable => 4,
-    }
+    step as usize
 }
 
 // The number of a kind of move among those of its side, from 0.

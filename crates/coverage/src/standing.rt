@@ -66,10 +66,10 @@ fn has_bit(bits: u8, place: u8) -> bool {
 }
 
 impl Standing {
-    /// A queue as a search begins with it.
-    pub(crate) fn first(scope: Scope) -> Standing {
+    // A queue of which nothing is out, whose sides are so far, and which reports by status words.
+    fn empty(handshake: Handshake) -> Standing {
         Standing {
-            handshake: Handshake::first(scope.device_only),
+            handshake,
             out: 0,
             tail: 0,
             known: 0,
@@ -83,7 +83,15 @@ impl Standing {
             whole: true,
             owed: false,
             quiet: false,
+            by_head: false,
+        }
+    }
+
+    /// A queue as a search begins with it.
+    pub(crate) fn first(scope: Scope) -> Standing {
+        Standing {
             by_head: matches!(scope.side, Side::Transmit(Completion::Head)),
+            ..Standing::empty(Handshake::first(scope.device_only))
         }
     }
 
@@ -308,20 +316,18 @@ impl Standing {
 
     // A disabled queue, whose driver is so far with the next epoch.
     fn cleared(self, driver: DriverState) -> Standing {
+        let handshake = Handshake {
+            driver,
+            ..self.handshake
+        };
         Standing {
-            handshake: Handshake {
-                driver,
-                ..self.handshake
-            },
-            tail: 0,
-            known: 0,
-            used: 0,
-            unstored: 0,
-            reported: 0,
-            seen: 0,
-            ends: 0,
-            asks: 0,
-            ..self
+            out: self.out,
+            held: self.held,
+            whole: self.whole,
+            owed: self.owed,
+            quiet: self.quiet,
+            by_head: self.by_head,
+            ..Standing::empty(handshake)
         }
     }
 }

@@ -43,6 +43,25 @@ pub enum Told {
 /// How many kinds there are.
 pub(crate) const TOLD_KINDS: usize = 15;
 
+/// The words of the kinds, in their order: a note's without its numbers.
+const TOLD_WORDS: [&str; TOLD_KINDS] = [
+    "not enabled",
+    "place",
+    "tail",
+    "free",
+    "ready",
+    "place buffer",
+    "place buffer length eop rs",
+    "none",
+    "buffer length eop",
+    "none",
+    "reported",
+    "head",
+    "buffer",
+    "control",
+    "quiet",
+];
+
 impl Told {
     /// What a move told that was answered so.
     pub fn of(answer: Result<Note, MachineError>) -> Told
@@ -72,23 +91,7 @@ impl Told {
         ensures value { result ≡ told_number self }
         ensures below { result < 15 }
     {
-        match self {
-            Told::NotEnabled => 0,
-            Told::Place => 1,
-            Told::Tail => 2,
-            Told::Free => 3,
-            Told::Ready => 4,
-            Told::Fetched => 5,
-            Told::Sending => 6,
-            Told::NothingTaken => 7,
-            Told::Taken => 8,
-            Told::NothingReported => 9,
-            Told::Reported => 10,
-            Told::Head => 11,
-            Told::Buffer => 12,
-            Told::Control => 13,
-            Told::Quiet => 14,
-        }
+        self as usize
     }
 }
 
@@ -96,23 +99,6 @@ impl fmt::Display for Told {
     ghost output = { λ t. Some (told_words t) };
 
     fn fmt<W: fmt::Write>(&self, f: &mut fmt::Formatter<W>) -> fmt::Result {
-        let words = match self {
-            Told::NotEnabled => "not enabled",
-            Told::Place => "place",
-            Told::Tail => "tail",
-            Told::Free => "free",
-            Told::Ready => "ready",
-            Told::Fetched => "place buffer",
-            Told::Sending => "place buffer length eop rs",
-            Told::NothingTaken => "none",
-            Told::Taken => "buffer length eop",
-            Told::NothingReported => "none",
-            Told::Reported => "reported",
-            Told::Head => "head",
-            Told::Buffer => "buffer",
-            Told::Control => "control",
-            Told::Quiet => "quiet",
-        };
-        f.write_str(words)
+        f.write_str(TOLD_WORDS[*self as usize])
     }
 }

@@ -1,6 +1,6 @@
 -- A buffer's address, as a word of fields.
 use Rattle.std.proofs.Common.{◌≡◌, ◌≢◌, ℕ, ◌*◌, ◌/◌, ◌%◌, ◌<◌, ◌^◌, refl, arith}
-use Rattle.descriptor.specs.declared.error.DescError.TheVariants.{Reserved}
+use Rattle.refusals.specs.declared.errors.DescError.TheVariants.{Reserved}
 use Rattle.descriptor.specs.Address.{address_fields}
 use Rattle.descriptor.specs.Layout.{KeepsField, EachField}
 use Rattle.descriptor.proofs.Fields.{Tiles, word_of-settled}

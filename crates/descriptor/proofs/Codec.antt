@@ -1,9 +1,10 @@
 -- What a call that decodes answers, for a form and the descriptors that have it.
 use Rattle.std.proofs.Common.{◌≡◌, ℕ, ◌<◌, ◌^◌, ◌↔◌, List, [], ◌∷◌, length, drop, Result, Ok, Err, sym, ap, ◌∙◌, arith}
 use Rattle.byteorder.specs.Endian.{little_number}
-use Rattle.descriptor.specs.declared.error.DescError.{DescError}
-use Rattle.descriptor.specs.declared.error.DescError.TheVariants.{Length, Reserved, Kind, Size}
-use Rattle.descriptor.specs.Refusal.{refusal_number, IsLowest}
+use Rattle.refusals.specs.declared.errors.DescError.{DescError}
+use Rattle.refusals.specs.declared.errors.DescError.TheVariants.{Length, Reserved, Kind, Size}
+use Rattle.descriptor.specs.Refusal.{IsLowest}
+use Rattle.refusals.specs.DescError.{refusal_number}
 use Rattle.descriptor.specs.Layout.{Name, Form, Field, Content, Keeps, KeepsField, KeepsWords, KeepsBytes, HasWords, EachField, AreWords, AreBytes, read, first_word, second_word}
 use Rattle.descriptor.proofs.Bytes.{first-read, second-read}
 use Rattle.descriptor.proofs.Fields.{IsWhole, IsNarrow, IsKept, AreSame, keeps-form, words-same}

@@ -2,8 +2,8 @@
 use Rattle.std.proofs.Common.{◌≡◌, ℕ, ◌+◌, ◌*◌, ◌/◌, ◌%◌, ◌^◌, ◌<◌, List, [], ◌∷◌, refl, sym, ap, subst, ◌∙◌, arith}
 use Rattle.std.proofs.lemmas.Nat.{pow-add, shr-shr, shr_split, shr_high, mod_low}
 use Rattle.std.proofs.Math.Nat.{mul-le-mul_right}
-use Rattle.descriptor.specs.declared.error.DescError.{DescError}
-use Rattle.descriptor.specs.declared.error.DescError.TheVariants.{Reserved}
+use Rattle.refusals.specs.declared.errors.DescError.{DescError}
+use Rattle.refusals.specs.declared.errors.DescError.TheVariants.{Reserved}
 use Rattle.descriptor.specs.Layout.{Name, Form, Field, Content, fixed, word_of, read, EachField, Keeps, KeepsField, KeepsWords, number_in, first_word, second_word}
 
 -- the fields lie side by side from bit b up to bit 63

@@ -1,8 +1,8 @@
 -- The read format of a receive descriptor, and its descriptors.
 use Rattle.std.proofs.Common.{◌≡◌, ℕ, ◌*◌, ◌<◌, ◌^◌, Result, Ok, refl, ap, subst, arith, rules}
 use Rattle.std.proofs.Props.{props}
-use Rattle.descriptor.specs.declared.error.DescError.{DescError}
-use Rattle.descriptor.specs.declared.error.DescError.TheVariants.{Length, Reserved, Kind, Size}
+use Rattle.refusals.specs.declared.errors.DescError.{DescError}
+use Rattle.refusals.specs.declared.errors.DescError.TheVariants.{Length, Reserved, Kind, Size}
 use Rattle.descriptor.specs.declared.rx_read.RxRead.{RxRead}
 use Rattle.descriptor.specs.Layout.{KeepsWords}
 use Rattle.descriptor.specs.Receive.{rx_read_form, rx_read_numbers, rx_read_first, rx_read_second}

@@ -1,9 +1,10 @@
 -- The lowest refusal is one, and none applies to what keeps everything.
 use Rattle.std.proofs.Common.{◌≡◌, ℕ, ◌<◌, ◌↔◌, ◌⊎◌, inl, inr, Result, Ok, Err, IfOk, refl, sym, ap, ◌∙◌, subst, arith, if◌then◌else◌}
 use Rattle.std.specs.Prelude.{◌==◌}
-use Rattle.descriptor.specs.declared.error.DescError.{DescError}
-use Rattle.descriptor.specs.declared.error.DescError.TheVariants.{Length, Reserved, Kind, Size}
-use Rattle.descriptor.specs.Refusal.{refusal_number, IsLowest}
+use Rattle.refusals.specs.declared.errors.DescError.{DescError}
+use Rattle.refusals.specs.declared.errors.DescError.TheVariants.{Length, Reserved, Kind, Size}
+use Rattle.descriptor.specs.Refusal.{IsLowest}
+use Rattle.refusals.specs.DescError.{refusal_number}
 
 -- the refusal of a number
 abbrev refusal_of : ℕ → DescError

@@ -1,7 +1,7 @@
 -- The write-back format of a transmit descriptor.
 use Rattle.std.proofs.Common.{◌≡◌, ℕ, Result, refl, rules}
-use Rattle.descriptor.specs.declared.error.DescError.{DescError}
-use Rattle.descriptor.specs.declared.error.DescError.TheVariants.{Length, Reserved, Kind, Size}
+use Rattle.refusals.specs.declared.errors.DescError.{DescError}
+use Rattle.refusals.specs.declared.errors.DescError.TheVariants.{Length, Reserved, Kind, Size}
 use Rattle.descriptor.specs.declared.tx_back.TxBack.{TxBack}
 use Rattle.descriptor.specs.Layout.{KeepsWords}
 use Rattle.descriptor.specs.Transmit.{tx_back_form, no_numbers, tx_back_first, tx_back_second}

@@ -7,7 +7,7 @@ use crate::words::{bytes_from_words, words_from_bytes};
 /// A form of a descriptor: two words of 64 bits, and of them 16 bytes. A value has exactly one form in words and in
 /// bytes, and what isn't the form of a value is refused.
 pub trait Descriptor: Sized {
-    ghost use Rattle.descriptor.specs.declared.error.DescError.{DescError};
+    ghost use Rattle.refusals.specs.declared.errors.DescError.{DescError};
     ghost use Rattle.descriptor.specs.Refusal.{IsLowest};
     ghost use Rattle.descriptor.specs.Layout.{Name, Form, first_word, second_word, AreWords, AreBytes, KeepsWords, KeepsBytes};
 

@@ -13,7 +13,6 @@
 #![tactic(auto)]
 
 mod address;
-mod error;
 mod form;
 mod rx_back;
 mod rx_read;
@@ -21,8 +20,8 @@ mod tx_back;
 mod tx_read;
 mod words;
 
-pub use error::DescError;
 pub use form::Descriptor;
+pub use refusals::DescError;
 pub use rx_back::RxBack;
 pub use rx_read::RxRead;
 pub use tx_back::TxBack;

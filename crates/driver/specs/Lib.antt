@@ -1,4 +1,3 @@
-pub mod Refusal
 pub mod Steps
 pub mod Handshake
 pub mod Reclaiming

@@ -4,10 +4,10 @@ ghost use Rattle.ring_model.specs.declared.states.DriverState.TheVariants as sta
 ghost use Rattle.ring_model.specs.shared.Handshakes.{is_on, is_open, is_stopped};
 ghost use Rattle.shared_ring.specs.declared.events.DriverEvent.TheVariants.{AskedDisable};
 ghost use Rattle.shared_ring.specs.Ends.{driver_of, driver_record, driver_state, known_of, appended, posted, returned};
-ghost use Rattle.driver.specs.declared.error.DriverError.TheVariants.{QueueOff, NotReclaimed};
+ghost use Rattle.refusals.specs.declared.errors.DriverError.TheVariants.{QueueOff, NotReclaimed};
 ghost use Rattle.driver.specs.Handshake.{AskedEnabling};
 
-use crate::error::DriverError;
+use refusals::DriverError;
 use shared_ring::{Direction, DriverEnd};
 
 /// Asks for the queue to be enabled, if nothing was asked yet, loads the control word, and answers whether the queue is

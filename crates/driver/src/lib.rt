@@ -9,12 +9,11 @@
 //! or starts a thread.
 #![tactic(auto)]
 
-mod error;
 mod handshake;
 mod rx_driver;
 mod tx_driver;
 
-pub use error::DriverError;
 pub use limits::MOST_RS_EVERY;
+pub use refusals::DriverError;
 pub use rx_driver::{MOST_BATCH, RxDriver};
 pub use tx_driver::TxDriver;

@@ -7,7 +7,7 @@ ghost use Rattle.rx_ring.specs.Calls.{told_quiet};
 ghost use Rattle.ring_model.specs.shared.Agreement.{bit};
 ghost use Rattle.shared_ring.specs.declared.events.DriverEvent.TheVariants.{Own};
 ghost use Rattle.rx_ring.specs.declared.events.RxDriverOwn.TheVariants.{LoadedQuiet};
-ghost use Rattle.driver.specs.declared.error.DriverError.TheVariants.{QueueOff};
+ghost use Rattle.refusals.specs.declared.errors.DriverError.TheVariants.{QueueOff};
 ghost use Rattle.driver.specs.receive.Receiver.{IsReady, hands};
 ghost use Rattle.driver.specs.receive.Batches.{Batched, IsFilled};
 
@@ -15,9 +15,9 @@ mod handshake;
 mod polling;
 mod reclaiming;
 
-use crate::error::DriverError;
 use arrayvec::ArrayVec;
 use buffer_pool::{Packet, Stash};
+use refusals::DriverError;
 use rx_ring::{DriverEnd, RxDriverEnd, RxRing};
 use std::marker::Model;
 

@@ -6,7 +6,7 @@ ghost use Rattle.ring_model.specs.shared.Handshakes.{is_answered, is_live, is_on
 ghost use Rattle.ring_model.specs.shared.Frames.{frames};
 ghost use Rattle.ring_model.specs.transmit.Ring.{are_whole, carried};
 ghost use Rattle.tx_ring.specs.Ends.{driver_size, posted, reclaimed, returned, driver_state};
-ghost use Rattle.driver.specs.declared.error.DriverError.TheVariants.{QueueOff, TooLong};
+ghost use Rattle.refusals.specs.declared.errors.DriverError.TheVariants.{QueueOff, TooLong};
 ghost use Rattle.driver.specs.transmit.Transmitter.{IsReady, room_of, sending};
 ghost use Rattle.driver.specs.transmit.Frames.{IsTooLong};
 ghost use Rattle.driver.specs.transmit.Batches.{CleanedAll, Batched, OnlyCleaned};
@@ -16,13 +16,13 @@ mod handshake;
 mod posting;
 mod reclaiming;
 
-use crate::error::DriverError;
 use crate::rx_driver::MOST_BATCH;
 use arrayvec::ArrayVec;
 use buffer_pool::{Packet, Stash};
 use cleaning::clean_all;
 use limits::MOST_RS_EVERY;
 use posting::{is_too_long, post_fitting};
+use refusals::DriverError;
 use std::marker::Model;
 use tx_ring::{DriverEnd, TxDriverEnd, TxRing};
 

@@ -5,8 +5,8 @@ use Rattle.std.proofs.lemmas.Simd.{map-map}
 use Rattle.std.specs.Global.{Global}
 use Rattle.forwarding.specs.declared.gate.Who.{Who}
 use Rattle.forwarding.specs.declared.gate.Event.{Event}
-use Rattle.forwarding.specs.declared.error.ForwardError.{ForwardError}
-use Rattle.forwarding.specs.declared.error.ForwardError.TheVariants.{Memory}
+use Rattle.refusals.specs.declared.errors.ForwardError.{ForwardError}
+use Rattle.refusals.specs.declared.errors.ForwardError.TheVariants.{Memory}
 use Rattle.teams.specs.Dealing.{every, IsDealt}
 use Rattle.teams.specs.Refusals.{Halted}
 use Rattle.teams.proofs.Lists.{mapped-at}

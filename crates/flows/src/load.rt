@@ -6,7 +6,7 @@ ghost use Rattle.driver.specs.declared.rx_driver.TheConstants.{MOST_BATCH};
 ghost use Rattle.ring_model.specs.shared.Handshakes.{is_on};
 ghost use Rattle.rx_ring.specs.Ends as receive;
 ghost use Rattle.tx_ring.specs.Ends as transmit;
-ghost use Rattle.forwarding.specs.declared.error.ForwardError.TheVariants.{Gate as GateRefused};
+ghost use Rattle.refusals.specs.declared.errors.ForwardError.TheVariants.{Gate as GateRefused};
 ghost use Rattle.forwarding.specs.declared.gate.Who.TheVariants as who;
 ghost use Rattle.forwarding.specs.Gates.{MayRefuse};
 ghost use Rattle.forwarding.specs.Numbers.{NoneFalls};

@@ -1,7 +1,7 @@
 //! Flows whose frames come again and again, and whose wires are thrown away.
 ghost use Rattle.std.specs.Prelude.{◌≡◌, ◌&&◌, IfErr};
 ghost use Rattle.flows.specs.Sides.{has_ended};
-ghost use Rattle.forwarding.specs.declared.error.ForwardError.TheVariants.{Memory};
+ghost use Rattle.refusals.specs.declared.errors.ForwardError.TheVariants.{Memory};
 ghost use Rattle.shared_ring.specs.Calls.{IsFreshController};
 
 use controller::{Offer, RxController, Tally, Turn, TxController, Wire};

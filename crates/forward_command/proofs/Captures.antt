@@ -6,8 +6,8 @@ use Rattle.limits.specs.declared.profile.TheConstants.{MOST_SCRIPT_FRAMES}
 use Rattle.capture.specs.CaptureError.{◌>>=◌, Fails}
 use Rattle.capture.specs.Reading.{Content, capture_in}
 use Rattle.capture.specs.Record.{Record}
-use Rattle.capture.specs.declared.error.CaptureError.{CaptureError}
-use Rattle.capture.specs.declared.error.CaptureError.TheVariants.{NotCapture, LinkType, CutShort, CapturedShort, FrameLength, TooMany, Memory}
+use Rattle.refusals.specs.declared.errors.CaptureError.{CaptureError}
+use Rattle.refusals.specs.declared.errors.CaptureError.TheVariants.{NotCapture, LinkType, CutShort, CapturedShort, FrameLength, TooMany, Memory}
 use Rattle.capture.specs.Frames.{frames_at}
 use Rattle.wire_script.specs.Frame.{Frame, frame_of}
 use Rattle.forward_command.specs.Gathering.{Gathers, with_capture, with_frames}

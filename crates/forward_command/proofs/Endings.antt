@@ -9,7 +9,7 @@ use Rattle.forwarder.specs.Configs.{FitsIn}
 use Rattle.forwarder.specs.declared.config.Config.{Config}
 use Rattle.wire_script.specs.Frame.{Frame}
 use Rattle.wire_script.specs.Script.{script_of}
-use Rattle.wire_script.specs.declared.error.ScriptError.{ScriptError}
+use Rattle.refusals.specs.declared.errors.ScriptError.{ScriptError}
 use Rattle.forward_command.specs.declared.printing.Printing.{Printing}
 use Rattle.forward_command.specs.Forwards.{EndsForward, HasForwarded, HasReport, IsForwarded, PrintsForward, WithholdsForward}
 

@@ -2,15 +2,15 @@
 use Rattle.std.proofs.Common.{◌≡◌, ℕ, List, true, false, inl, inr, refl, subst, sym}
 use Rattle.std.specs.Prelude.{◌⊎◌, Result, Ok, Err}
 use Rattle.flows.specs.declared.report.FlowReport.{FlowReport}
-use Rattle.forwarding.specs.declared.error.ForwardError.{ForwardError}
-use Rattle.forwarding.specs.declared.error.ForwardError.TheVariants as forward
+use Rattle.refusals.specs.declared.errors.ForwardError.{ForwardError}
+use Rattle.refusals.specs.declared.errors.ForwardError.TheVariants as forward
 use Rattle.teams.specs.Refusals.{Halted}
 use Rattle.forwarder.specs.Configs.{FitsIn}
 use Rattle.forwarder.specs.declared.config.Config.{Config}
 use Rattle.wire_script.specs.Frame.{Frame}
 use Rattle.wire_script.specs.Script.{script_of}
 use Rattle.wire_script.specs.ScriptError.{Fails}
-use Rattle.wire_script.specs.declared.error.ScriptError.{ScriptError}
+use Rattle.refusals.specs.declared.errors.ScriptError.{ScriptError}
 use Rattle.commands.specs.declared.refusal.Refusal.{Refusal}
 use Rattle.commands.specs.declared.refusal.Refusal.TheVariants as refusal
 use Rattle.forward_command.specs.Forwards.{ForwardRefused, HasReport, IsUnforwarded, IsUnrun}

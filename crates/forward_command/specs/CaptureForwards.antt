@@ -11,7 +11,7 @@ use Rattle.forwarder.specs.declared.config.Config.{Config}
 use Rattle.wire_script.specs.Frame.{Frame}
 use Rattle.wire_script.specs.Script.{script_of}
 use Rattle.wire_script.specs.ScriptError.{Fails}
-use Rattle.wire_script.specs.declared.error.ScriptError.{ScriptError}
+use Rattle.refusals.specs.declared.errors.ScriptError.{ScriptError}
 use Rattle.forward_command.specs.declared.captured.refused.Place.TheVariants.{Command, Wire}
 use Rattle.forward_command.specs.declared.captured.refused.Refused.{Refused}
 use Rattle.forward_command.specs.Gathering.{AreGathered, IsUngathered}

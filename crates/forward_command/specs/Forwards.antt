@@ -10,12 +10,12 @@ use Rattle.flows.specs.declared.report.FlowReport.{FlowReport}
 use Rattle.forwarder.specs.Configs.{FitsIn}
 use Rattle.forwarder.specs.Plans.{plan}
 use Rattle.forwarder.specs.declared.config.Config.{Config}
-use Rattle.forwarding.specs.declared.error.ForwardError.{ForwardError}
-use Rattle.forwarding.specs.declared.error.ForwardError.TheVariants as forward
+use Rattle.refusals.specs.declared.errors.ForwardError.{ForwardError}
+use Rattle.refusals.specs.declared.errors.ForwardError.TheVariants as forward
 use Rattle.wire_script.specs.Frame.{Frame}
 use Rattle.wire_script.specs.Script.{script_of}
 use Rattle.wire_script.specs.ScriptError.{Fails}
-use Rattle.wire_script.specs.declared.error.ScriptError.{ScriptError}
+use Rattle.refusals.specs.declared.errors.ScriptError.{ScriptError}
 use Rattle.forward_command.specs.Text.{report_text}
 use Rattle.forward_command.specs.declared.printing.Printing.{Printing}
 

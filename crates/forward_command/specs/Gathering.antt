@@ -3,8 +3,8 @@ use Rattle.std.specs.Prelude.{◌≡◌, ◌⊎◌, ℕ, ◌+◌, ◌-◌, nat_l
 use Rattle.limits.specs.declared.profile.TheConstants.{MOST_SCRIPT_FRAMES}
 use Rattle.capture.specs.CaptureError.{◌>>=◌, Fails}
 use Rattle.capture.specs.Reading.{capture_in}
-use Rattle.capture.specs.declared.error.CaptureError.{CaptureError}
-use Rattle.capture.specs.declared.error.CaptureError.TheVariants.{TooMany}
+use Rattle.refusals.specs.declared.errors.CaptureError.{CaptureError}
+use Rattle.refusals.specs.declared.errors.CaptureError.TheVariants.{TooMany}
 use Rattle.capture.specs.Frames.{frames_at}
 use Rattle.commands.specs.declared.refusal.Refusal.{Refusal}
 use Rattle.commands.specs.declared.refusal.Refusal.TheVariants as refusal

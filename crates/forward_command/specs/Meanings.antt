@@ -4,7 +4,7 @@ use Rattle.std.specs.Result.{result_map_both}
 use Rattle.std.specs.Io.KnownBytes.{Appends, Keeps}
 use Rattle.capture.specs.Reading.{capture_in}
 use Rattle.capture.specs.Writing.{capture_of}
-use Rattle.capture.specs.declared.error.CaptureError.TheVariants.{Memory as NoRecords}
+use Rattle.refusals.specs.declared.errors.CaptureError.TheVariants.{Memory as NoRecords}
 use Rattle.capture.specs.Frames.{frames_at}
 use Rattle.capture.specs.Records.{records_of_port}
 use Rattle.commands.specs.declared.refusal.Refusal.{Refusal}
@@ -12,8 +12,8 @@ use Rattle.commands.specs.declared.refusal.Refusal.TheVariants as refusal
 use Rattle.wire_script.specs.Frame.{Frame}
 use Rattle.text_lines.specs.Parts.{lines_of}
 use Rattle.wire_script.specs.Script.{lines_say, text_for}
-use Rattle.wire_script.specs.declared.error.ScriptError.{ScriptError}
-use Rattle.wire_script.specs.declared.error.ScriptError.TheVariants.{Memory as NoFrames}
+use Rattle.refusals.specs.declared.errors.ScriptError.{ScriptError}
+use Rattle.refusals.specs.declared.errors.ScriptError.TheVariants.{Memory as NoFrames}
 use Rattle.forward_command.specs.declared.piped.request.CaptureRequest.{CaptureRequest}
 use Rattle.forward_command.specs.declared.piped.request.CaptureRequest.TheVariants.{FromCapture, ToCapture}
 use Rattle.forward_command.specs.Flows.{passed_line}

@@ -1,7 +1,7 @@
 -- What leaves a port, as a capture.
 use Rattle.std.specs.Prelude.{◌≡◌, ◌⊎◌, ℕ, List, drop, take}
 use Rattle.capture.specs.Writing.{capture_of}
-use Rattle.capture.specs.declared.error.CaptureError.TheVariants as errors
+use Rattle.refusals.specs.declared.errors.CaptureError.TheVariants as errors
 use Rattle.capture.specs.Records.{records_of_port}
 use Rattle.commands.specs.declared.refusal.Refusal.{Refusal}
 use Rattle.commands.specs.declared.refusal.Refusal.TheVariants as refusal

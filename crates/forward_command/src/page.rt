@@ -4,7 +4,7 @@ ghost use Rattle.std.specs.String.{string_bytes};
 ghost use Rattle.commands.specs.declared.refusal.Refusal.TheVariants as refusal;
 ghost use Rattle.wire_script.specs.Script.{script_of};
 ghost use Rattle.wire_script.specs.ScriptError.{Fails};
-ghost use Rattle.wire_script.specs.declared.error.ScriptError.{ScriptError};
+ghost use Rattle.refusals.specs.declared.errors.ScriptError.{ScriptError};
 ghost use Rattle.forward_command.specs.Forwards.{AreReports, ForwardRefused, HasPage, HasReport, IsForwarded, IsUnforwarded, RefusesForward};
 
 use crate::printing::Printing;

@@ -1,6 +1,6 @@
 //! How a forwarder is to run.
 ghost use Rattle.std.specs.Prelude.{◌≡◌, ◌<◌, ◌↔◌, All, IsTrue, IsOk, IfErr};
-ghost use Rattle.forwarding.specs.declared.error.ForwardError.TheVariants.{Config as ConfigRefused};
+ghost use Rattle.refusals.specs.declared.errors.ForwardError.TheVariants.{Config as ConfigRefused};
 ghost use Rattle.forwarder.specs.Configs.{IsLawful, HasLawfulQueues, HasLawfulBuffers, HasLawfulWork, FitsIn};
 
 use controller::is_fill_size;

@@ -9,7 +9,7 @@ ghost use Rattle.flows.specs.Driven.{is_over};
 ghost use Rattle.limits.specs.declared.profile.TheConstants.{MOST_PAIRS, PORTS};
 ghost use Rattle.pool.specs.Owned.{IsOf};
 ghost use Rattle.flows.specs.Reports.{IsReport};
-ghost use Rattle.forwarding.specs.declared.error.ForwardError.TheVariants.{Memory};
+ghost use Rattle.refusals.specs.declared.errors.ForwardError.TheVariants.{Memory};
 ghost use Rattle.forwarder.specs.Configs.{IsLawful};
 ghost use Rattle.forwarder.specs.Flows.{places_of};
 ghost use Rattle.forwarder.specs.Lines.{AreEnds};

@@ -3,7 +3,7 @@ ghost use Rattle.std.specs.Prelude.{◌≡◌, ℕ, ◌+◌, ◌*◌, ◌<◌, [
 ghost use Rattle.controller.specs.Tallying.{nothing};
 ghost use Rattle.flows.specs.Counting.{none};
 ghost use Rattle.limits.specs.declared.profile.TheConstants.{MOST_PAIRS, PORTS};
-ghost use Rattle.forwarding.specs.declared.error.ForwardError.TheVariants.{Memory};
+ghost use Rattle.refusals.specs.declared.errors.ForwardError.TheVariants.{Memory};
 ghost use Rattle.pool.specs.Owned.{IsOf};
 ghost use Rattle.forwarder.specs.Configs.{IsLawful};
 ghost use Rattle.forwarder.specs.Flows.{places_of};

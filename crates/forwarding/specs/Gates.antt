@@ -1,7 +1,7 @@
 -- Where a gate may refuse.
 use Rattle.std.specs.Prelude.{Bool, false}
-use Rattle.forwarding.specs.declared.error.ForwardError.{ForwardError}
-use Rattle.forwarding.specs.declared.error.ForwardError.TheVariants.{Memory, Gate, Thread, Config}
+use Rattle.refusals.specs.declared.errors.ForwardError.{ForwardError}
+use Rattle.refusals.specs.declared.errors.ForwardError.TheVariants.{Memory, Gate, Thread, Config}
 use Rattle.forwarding.specs.declared.gate.Who.{Who}
 use Rattle.forwarding.specs.declared.gate.Event.{Event}
 

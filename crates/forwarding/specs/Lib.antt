@@ -1,4 +1,3 @@
-pub mod Refusal
 pub mod Gates
 pub mod Numbers
 pub mod Touching

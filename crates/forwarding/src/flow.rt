@@ -1,6 +1,6 @@
 //! One side of a flow, as a worker serves it.
-use crate::error::ForwardError;
 use crate::gate::Gate;
+use refusals::ForwardError;
 use std::sync::Wait;
 
 /// What a turn came to.

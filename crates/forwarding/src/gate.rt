@@ -1,7 +1,7 @@
 //! What is passed before each call that makes steps.
 ghost use Rattle.std.specs.Prelude.{◌≡◌, true, false, IfErr, OnOk};
 
-use crate::error::ForwardError;
+use refusals::ForwardError;
 
 /// Which worker comes, and for which flow.
 #[derive(Clone, Copy, Debug, PartialEq, Eq)]

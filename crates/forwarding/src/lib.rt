@@ -7,14 +7,13 @@
 //! Nothing here takes memory or starts a thread, and `drive` waits for nobody.
 #![tactic(auto)]
 
-mod error;
 mod flow;
 mod gate;
 mod packets;
 mod turning;
 
-pub use error::ForwardError;
 pub use flow::{Flow, Progress};
 pub use gate::{Event, Gate, Open, Who, admit};
 pub use packets::touch;
+pub use refusals::ForwardError;
 pub use turning::{Turned, drive};

@@ -9,12 +9,12 @@ ghost use Rattle.forwarding.specs.declared.gate.Who.TheVariants as who;
 ghost use Rattle.forwarding.specs.Driving.{CanDrive, Counted, Drove, HeldBack, Moved, Received, Sent, driving};
 ghost use Rattle.forwarding.specs.Gates.{MayRefuse};
 
-use crate::error::ForwardError;
 use crate::gate::{Event, Gate, Who, admit};
 use crate::packets::touch_from;
 use arrayvec::ArrayVec;
 use buffer_pool::{Packet, Stash};
 use driver::{MOST_BATCH, RxDriver, TxDriver};
+use refusals::ForwardError;
 use rx_ring::RxRing;
 use tx_ring::TxRing;
 

@@ -4,7 +4,7 @@ use Rattle.std.specs.Prelude.{◌&&◌, All, Result, Ok, Err, replicate}
 use Rattle.std.proofs.lemmas.List.Elements.{All-nil, All-append, All-head, All-tail, All-same, All-replicate}
 use Rattle.atomic_table.specs.Seated.{TableId}
 use Rattle.buffer_pool.specs.Packed.{bytes_of}
-use Rattle.controller.specs.declared.error.CtlError.{CtlError}
+use Rattle.refusals.specs.declared.errors.CtlError.{CtlError}
 use Rattle.controller.specs.declared.offer.Offer.{Offer}
 use Rattle.controller.specs.declared.offer.Offer.TheVariants.{Off, Oversize, Stored, Dropped, Held}
 use Rattle.controller.specs.Receiving.{frames_by}

@@ -1,40 +1,21 @@
 //! The members of a note.
 ghost use Rattle.std.specs.Fmt.{DisplaysOnOk};
-ghost use Rattle.std.specs.Prelude.{◌≡◌, Some};
+ghost use Rattle.std.specs.Prelude.{Some};
 ghost use Rattle.note_objects.specs.NoteMembers.{fetched_members, member, note_members, sending_members, taken_members};
 
 use ring_model::{FetchedSegment, Note, TakenSegment};
 use std::fmt;
-use std::marker::Model;
 
 /// A note that is printed as members of a JSON object, with a comma before each: `,"place":0,"buffer":5`. Where nothing was
 /// found, the first member is `null`.
 #[derive(Clone, Copy, PartialEq, Eq)]
 pub struct NoteMembers {
-    note: Note,
-}
-
-impl Model for NoteMembers {
-    ghost use Rattle.ring_model.specs.declared.notes.Note.{Note};
-
-    ghost Value = { Note };
-
-    ghost view = { λ n. n.note };
-
-    ghost inverse = { λ n. record { note = n } };
-}
-
-impl NoteMembers {
-    /// The members of this note.
-    pub fn new(note: Note) -> NoteMembers
-        ensures { result ≡ note }
-    {
-        NoteMembers { note }
-    }
+    /// The note whose members they are.
+    pub note: Note,
 }
 
 impl fmt::Display for NoteMembers {
-    ghost output = { λ n. Some (note_members n) };
+    ghost output = { λ n. Some (note_members n.note) };
 
     fn fmt<W: fmt::Write>(&self, f: &mut fmt::Formatter<W>) -> fmt::Result {
         match self.note {
@@ -78,15 +59,9 @@ fn write_sending<W: fmt::Write>(
 ) -> fmt::Result
     ensures { DisplaysOnOk W.write_str_gives f.old result (Some (sending_members place segment)) f.new }
 {
-    let FetchedSegment {
-        buffer,
-        len,
-        eop,
-        rs,
-    } = segment;
-    write_fetched(f, place, buffer)?;
-    let (eop, rs) = (u8::from(eop), u8::from(rs));
-    write!(f, ",\"length\":{len},\"eop\":{eop},\"rs\":{rs}")
+    write_fetched(f, place, segment.buffer)?;
+    let (eop, rs) = (u8::from(segment.eop), u8::from(segment.rs));
+    write!(f, ",\"length\":{},\"eop\":{eop},\"rs\":{rs}", segment.len)
 }
 
 /// Writes what a taken descriptor says.

@@ -25,14 +25,13 @@ impl fmt::Display for OrDash {
     }
 }
 
+/// The words of who has a place, in the order of [`Owner`].
+const OWNER_WORDS: [&str; 3] = ["drv", "ring", "ctl"];
+
 fn owner_word(owner: Owner) -> &'static str
     ensures { result.now ≡ owner_word owner }
 {
-    match owner {
-        Owner::Driver => "drv",
-        Owner::Ring => "ring",
-        Owner::Controller => "ctl",
-    }
+    OWNER_WORDS[owner as usize]
 }
 
 fn item_of(owner: Owner, age: u16) -> Option<u16>
@@ -95,16 +94,24 @@ fn age_of(machine: &QueueMachine, place: u16) -> u16
     places_between(machine.next(), place, machine.size())
 }
 
+/// A place of a queue, which receives or transmits.
+#[derive(Clone, Copy)]
+pub(crate) struct Spot<'a> {
+    pub side: Side,
+    pub machine: &'a QueueMachine,
+    pub place: u16,
+}
+
 // Writes a place's columns.
-fn write_columns(
-    text: &mut String,
-    side: Side,
-    machine: &QueueMachine,
-    place: u16,
-) -> Result<(), AllocError>
-    requires { place < machine.now.size }
-    ensures { OnOk result (string_bytes text.new ≡ string_bytes text.old ++ columns side machine.now place) }
+fn write_columns(text: &mut String, spot: Spot<'_>) -> Result<(), AllocError>
+    requires { spot.place < spot.machine.now.size }
+    ensures { OnOk result (string_bytes text.new ≡ string_bytes text.old ++ columns spot.side spot.machine.now spot.place) }
 {
+    let Spot {
+        side,
+        machine,
+        place,
+    } = spot;
     let owner = machine.owner(place);
     let item = OrDash(item_of(owner, age_of(machine, place)));
     let word = word_words(side, owner, machine.word(place));
@@ -138,16 +145,11 @@ fn write_marks(text: &mut String, machine: &QueueMachine, place: u16) -> Result<
 }
 
 /// Writes a place's line.
-pub(crate) fn write_line(
-    text: &mut String,
-    side: Side,
-    machine: &QueueMachine,
-    place: u16,
-) -> Result<(), AllocError>
-    requires { place < machine.now.size }
-    ensures { OnOk result (string_bytes text.new ≡ string_bytes text.old ++ line side machine.now place) }
+pub(crate) fn write_line(text: &mut String, spot: Spot<'_>) -> Result<(), AllocError>
+    requires { spot.place < spot.machine.now.size }
+    ensures { OnOk result (string_bytes text.new ≡ string_bytes text.old ++ line spot.side spot.machine.now spot.place) }
 {
-    write_columns(text, side, machine, place)?;
-    write_marks(text, machine, place)?;
+    write_columns(text, spot)?;
+    write_marks(text, spot.machine, spot.place)?;
     text.push('\n')
 }

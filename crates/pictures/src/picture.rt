@@ -3,7 +3,7 @@ ghost use Rattle.std.specs.Prelude.{◌≡◌, ◌++◌, ◌<◌, OnOk};
 ghost use Rattle.std.specs.String.{string_bytes};
 ghost use Rattle.pictures.specs.Pictures.{begins_fold, is_near, is_shown, picture, place_before, place_text, places_text};
 
-use crate::columns::write_line;
+use crate::columns::{Spot, write_line};
 use ring_machine::{QueueMachine, Registers, Side};
 use ring_model::place_after;
 use std::alloc::AllocError;
@@ -53,19 +53,15 @@ fn begins_fold(machine: &QueueMachine, place: u16) -> bool
 }
 
 // Writes a place's line, or that places are passed over.
-fn write_place(
-    text: &mut String,
-    side: Side,
-    machine: &QueueMachine,
-    place: u16,
-) -> Result<(), AllocError>
-    requires { place < machine.now.size }
-    ensures { OnOk result (string_bytes text.new ≡ string_bytes text.old ++ place_text side machine.now place) }
+fn write_place(text: &mut String, spot: Spot<'_>) -> Result<(), AllocError>
+    requires { spot.place < spot.machine.now.size }
+    ensures { OnOk result (string_bytes text.new ≡ string_bytes text.old
+        ++ place_text spot.side spot.machine.now spot.place) }
 {
-    if is_shown(machine, place) {
-        return write_line(text, side, machine, place);
+    if is_shown(spot.machine, spot.place) {
+        return write_line(text, spot);
     }
-    if begins_fold(machine, place) {
+    if begins_fold(spot.machine, spot.place) {
         text.push_str("..\n")?;
     }
     Ok(())
@@ -87,7 +83,12 @@ pub fn write_picture(
 {
     text.push_str(HEADING)?;
     for place in 0..machine.size() {
-        write_place(text, side, machine, place)?;
+        let spot = Spot {
+            side,
+            machine,
+            place,
+        };
+        write_place(text, spot)?;
     }
     Ok(())
 }

@@ -1,9 +1,10 @@
 -- Which numbers a descriptor can say, and how bytes that are none are refused.
 use Rattle.std.specs.Prelude.{◌≡◌, ℕ, ◌<◌, ◌≤◌, ◌^◌, true, List}
 use Rattle.limits.specs.declared.profile.TheConstants.{BUFFER_BYTES, LEAST_FRAME, MOST_FRAME}
-use Rattle.descriptor.specs.declared.error.DescError.{DescError}
+use Rattle.refusals.specs.declared.errors.DescError.{DescError}
 use Rattle.descriptor.specs.Layout.{Form, KeepsBytes}
-use Rattle.descriptor.specs.Refusal.{IsLowest, refusal_number}
+use Rattle.descriptor.specs.Refusal.{IsLowest}
+use Rattle.refusals.specs.DescError.{refusal_number}
 use Rattle.opaque.specs.Words.{is_set}
 use Rattle.plain_c.specs.declared.descriptors.Poll82599Descriptor.{Poll82599Descriptor}
 

@@ -3,7 +3,7 @@ ghost use Rattle.std.specs.Prelude.{◌≡◌, ◌<◌, ◌⊎◌, ◌↔◌, �
 ghost use Rattle.crossbeam_queue.specs.Passes.{view, IsPassOf, IsSamePass, ruled_capacity};
 ghost use Rattle.buffer_pool.specs.Buffer.{buffer};
 ghost use Rattle.buffer_pool.specs.Stocked.{full_stock};
-ghost use Rattle.buffer_pool.specs.declared.error.PoolError.TheVariants.{Empty};
+ghost use Rattle.refusals.specs.declared.errors.PoolError.TheVariants.{Empty};
 ghost use Rattle.pool.specs.Hands.{fresh_hand, Took, Gave, Knows, Accounts, WasDry};
 ghost use Rattle.pool.specs.Owned.{IsOf};
 

@@ -10,8 +10,8 @@ use Rattle.ring_model.specs.transmit.Steps.{tx_can, tx_note_of}
 use Rattle.ring_model.specs.Worlds.{QueueMove, World, after_move, after_moves, can_at, can_move, moves_happened, note_at, note_in, IsReachableWorld}
 use Rattle.ring_model.specs.Worlds as world
 use Rattle.ring_laws.specs.Worlds.{reached_world}
-use Rattle.ring_machine.specs.declared.error.MachineError.{MachineError}
-use Rattle.ring_machine.specs.declared.error.MachineError.TheVariants as refusal
+use Rattle.refusals.specs.declared.errors.MachineError.{MachineError}
+use Rattle.refusals.specs.declared.errors.MachineError.TheVariants as refusal
 use Rattle.ring_machine.specs.declared.moves.Move.{Move}
 use Rattle.ring_machine.specs.shared.Following.{Did, count_of}
 use Rattle.ring_machine.specs.Queues.{QueueParts, QueuesAgree, QueuesFollow, QueuesRun, queue_move}

@@ -14,8 +14,8 @@ use Rattle.ring_model.specs.transmit.Steps.{tx_can, tx_changed, tx_note_of}
 use Rattle.ring_model.specs.Worlds.{World, can_at, note_at, put_next}
 use Rattle.ring_laws.specs.Places.{slice_get-set_other}
 use Rattle.ring_model.proofs.Apart.{reaches}
-use Rattle.ring_machine.specs.declared.error.MachineError.{MachineError}
-use Rattle.ring_machine.specs.declared.error.MachineError.TheVariants as refusal
+use Rattle.refusals.specs.declared.errors.MachineError.{MachineError}
+use Rattle.refusals.specs.declared.errors.MachineError.TheVariants as refusal
 use Rattle.ring_machine.specs.declared.moves.Move.TheVariants.{Receive, Transmit}
 use Rattle.ring_machine.specs.shared.Following.{Did}
 use Rattle.ring_machine.specs.receive.Machine.{RxAgrees, RxFollows, RxParts}

@@ -1,4 +1,3 @@
-pub mod MachineErrors
 pub mod shared
 pub mod receive
 pub mod transmit

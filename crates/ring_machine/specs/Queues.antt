@@ -6,7 +6,7 @@ use Rattle.ring_model.specs.declared.notes.Note.{Note}
 use Rattle.ring_model.specs.shared.Schedules.{next}
 use Rattle.ring_model.specs.Worlds.{QueueMove, World, after_move, after_moves, can_move, moves_happened, note_in, IsReachableWorld}
 use Rattle.ring_model.specs.Worlds as world
-use Rattle.ring_machine.specs.declared.error.MachineError.{MachineError}
+use Rattle.refusals.specs.declared.errors.MachineError.{MachineError}
 use Rattle.ring_machine.specs.declared.moves.Move.{Move}
 use Rattle.ring_machine.specs.declared.moves.Move.TheVariants.{Receive, Transmit}
 use Rattle.ring_machine.specs.declared.queues.Queues.TheInside.{Inside}

@@ -3,7 +3,7 @@
 ghost use Rattle.std.specs.Prelude.{◌≡◌, ◌≤◌};
 ghost use Rattle.ring_machine.specs.shared.Following.{count_of};
 
-use crate::error::MachineError;
+use refusals::MachineError;
 use ring_model::Note;
 
 /// How many steps an answer says were made: one or none.

@@ -7,18 +7,17 @@
 #![tactic(auto)]
 
 mod counting;
-mod error;
 mod machine;
 mod moves;
 mod queues;
 mod registers;
 
-pub use error::MachineError;
 pub use limits::is_ring_length;
 pub use machine::{QueueMachine, RxMachine, TxMachine};
 pub use moves::arguments::{SegmentDescriptor, SegmentLength};
 pub use moves::{Move, MoveName, QueueNumber};
 pub use queues::Queues;
+pub use refusals::MachineError;
 pub use registers::{QUEUE_STRIDE, RDH, RDT, RXDCTL, Registers, Side, TDH, TDT, TXDCTL};
 pub use ring_model::{
     Completion, ControlStep, ControllerState, DriverState, FetchedSegment, Note, Owner, RxStep,

@@ -1,7 +1,7 @@
 //! Several queues side by side: the receive and the transmit queues of one port.
 
 ghost use Rattle.std.specs.Prelude.{◌≡◌, ◌≤◌, ◌↔◌, ◌⊎◌, [], ◌∷◌, IfOk, IfErr, option_map, replicate, slice_get};
-ghost use Rattle.ring_machine.specs.declared.error.MachineError.TheVariants.{Memory, NotEnabled, RingLength};
+ghost use Rattle.refusals.specs.declared.errors.MachineError.TheVariants.{Memory, NotEnabled, RingLength};
 ghost use Rattle.ring_machine.specs.declared.moves.Move.TheVariants as queue_move;
 ghost use Rattle.limits.specs.RingLength.{IsRingLength};
 ghost use Rattle.ring_model.specs.declared.states.Completion.TheVariants as by;
@@ -14,12 +14,12 @@ ghost use Rattle.ring_machine.specs.Queues.{AllAgree, AreQueues, QueuesAgree, Qu
 ghost use Rattle.ring_machine.specs.Registers.{QueuesRead};
 
 use crate::counting::count_of;
-use crate::error::MachineError;
 use crate::machine::{RxMachine, TxMachine};
 use crate::moves::arguments::{SegmentDescriptor, SegmentLength};
 use crate::moves::{Move, QueueNumber};
 use crate::registers::{Registers, Side};
 use limits::{MOST_PAIRS, is_ring_length};
+use refusals::MachineError;
 use ring_model::{Completion, Note, RxStep, TxStep};
 use std::alloc::Global;
 use std::marker::Model;

@@ -66,14 +66,9 @@ impl fmt::Display for Registers {
     ghost output = { λ r. Some (registers_text r) };
 
     fn fmt<W: fmt::Write>(&self, f: &mut fmt::Formatter<W>) -> fmt::Result {
-        let Registers {
-            side,
-            head,
-            tail,
-            enable,
-        } = *self;
-        let enable = u8::from(enable);
-        match side {
+        let (head, tail) = (self.head, self.tail);
+        let enable = u8::from(self.enable);
+        match self.side {
             Side::Receive => write!(f, "RDH {head} RDT {tail} RXDCTL.ENABLE {enable}"),
             Side::Transmit => write!(f, "TDH {head} TDT {tail} TXDCTL.ENABLE {enable}"),
         }

@@ -3,7 +3,7 @@ use Rattle.std.specs.Prelude.{◌≡◌, ◌⊎◌, ◌≤◌, ⊤, ℕ, Bool, t
 use Rattle.std.specs.List.{flat_map}
 use Rattle.std.specs.Io.KnownBytes.{Appends, Keeps}
 use Rattle.ring_machine.specs.Queues.{AreQueues}
-use Rattle.ring_machine.specs.declared.error.MachineError.TheVariants.{RingLength, Memory as NoQueues}
+use Rattle.refusals.specs.declared.errors.MachineError.TheVariants.{RingLength, Memory as NoQueues}
 use Rattle.ring_machine.specs.text.Moves.{text_of}
 use Rattle.commands.specs.Replay.{HasPage, RefusesReplay}
 use Rattle.commands.specs.declared.answering.TheConstants.{DONE, REFUSED}

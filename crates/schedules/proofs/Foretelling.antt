@@ -16,7 +16,7 @@ use Rattle.ring_model.specs.receive.Ring.{RxRing}
 use Rattle.ring_model.specs.receive.Steps.{rx_can}
 use Rattle.ring_model.specs.shared.Schedules.{next}
 use Rattle.ring_model.specs.Worlds.{QueueMove, World, after_move, after_moves, can_at, can_move, moves_happened, opening_world, IsReachableWorld}
-use Rattle.ring_machine.specs.declared.error.MachineError.{MachineError}
+use Rattle.refusals.specs.declared.errors.MachineError.{MachineError}
 use Rattle.ring_machine.specs.declared.moves.Move.{Move}
 use Rattle.ring_machine.specs.declared.moves.Move.TheVariants.{Receive}
 use Rattle.ring_machine.specs.Queues.{AreQueues, QueueParts, QueuesAgree, QueuesFollow, queue_move}

@@ -1,7 +1,7 @@
 //! A list of moves, drawn move by move on queues that make each of them.
 ghost use Rattle.std.specs.Prelude.{◌≡◌, ◌≤◌, ◌+◌, ◌*◌, ◌↔◌, ◌⊎◌, false, true, IfErr, IfOk};
 ghost use Rattle.ring_machine.specs.Queues.{AreQueues};
-ghost use Rattle.ring_machine.specs.declared.error.MachineError.TheVariants.{Memory, RingLength};
+ghost use Rattle.refusals.specs.declared.errors.MachineError.TheVariants.{Memory, RingLength};
 ghost use Rattle.schedules.specs.Drawing.{Draws, IsDrawn, Surely};
 
 use crate::plan::SchedulePlan;

@@ -1,4 +1,3 @@
-pub mod Refusal
 pub mod Words
 pub mod Seats
 pub mod Slots

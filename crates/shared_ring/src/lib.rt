@@ -13,7 +13,6 @@ mod accesses;
 mod control;
 mod direction;
 mod ends;
-mod error;
 mod events;
 mod lending;
 mod plays;
@@ -26,6 +25,6 @@ pub use ends::{
     ControllerEnd, ControllerLoad, ControllerPlaces, DriverEnd, DriverPlaces, HandshakeStep,
     SharedRing,
 };
-pub use error::RingError;
 pub use events::{ControllerEvent, DriverEvent, View};
+pub use refusals::RingError;
 pub use steps::{ControllerSeat, DriverSeat, Ring, Rule};

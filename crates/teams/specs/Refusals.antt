@@ -2,8 +2,8 @@
 use Rattle.std.specs.Prelude.{Bool}
 use Rattle.forwarding.specs.declared.gate.Who.{Who}
 use Rattle.forwarding.specs.declared.gate.Event.{Event}
-use Rattle.forwarding.specs.declared.error.ForwardError.{ForwardError}
-use Rattle.forwarding.specs.declared.error.ForwardError.TheVariants.{Memory, Gate, Thread, Config}
+use Rattle.refusals.specs.declared.errors.ForwardError.{ForwardError}
+use Rattle.refusals.specs.declared.errors.ForwardError.TheVariants.{Memory, Gate, Thread, Config}
 use Rattle.forwarding.specs.Gates.{CanRefuse}
 
 -- want of memory, a gate that can refuse, or a thread that couldn't be started; a configuration is tested before

@@ -3,8 +3,8 @@ use Rattle.std.proofs.Common.{◌≡◌, ◌∙◌, ℕ, ◌+◌, ◌⊎◌, Lis
 use Rattle.std.proofs.lemmas.List.Sorted.{IsPermutation-append_comm, IsPermutation-trans, length_permutation}
 use Rattle.std.specs.Prelude.{OnErr, IfOk, IfErr}
 use Rattle.buffer_pool.specs.Buffer.{Buffer}
-use Rattle.driver.specs.declared.error.DriverError.{DriverError}
-use Rattle.driver.specs.declared.error.DriverError.TheVariants.{QueueOff, TooLong}
+use Rattle.refusals.specs.declared.errors.DriverError.{DriverError}
+use Rattle.refusals.specs.declared.errors.DriverError.TheVariants.{QueueOff, TooLong}
 use Rattle.ring_model.specs.shared.Handshakes.{is_open}
 use Rattle.ring_model.specs.transmit.Ring.{number_of_posting}
 use Rattle.rx_ring.specs.Ends as receiving

@@ -10,7 +10,7 @@ use Rattle.hex.proofs.HexLemmas.{decode_sized-encode_lower, length-encode_with}
 use Rattle.limits.specs.declared.profile.TheConstants.{LEAST_FRAME, MOST_FRAME}
 use Rattle.text_lines.proofs.Decimals.{number_in-decimal}
 use Rattle.text_lines.specs.Parts.{parts}
-use Rattle.wire_script.specs.declared.error.ScriptError.{ScriptError}
+use Rattle.refusals.specs.declared.errors.ScriptError.{ScriptError}
 use Rattle.wire_script.specs.Frame.{Frame, InRange}
 use Rattle.wire_script.specs.Line.{byte_in, fields_say, fill_in, frame_with, len_in, line_says, sized}
 use Rattle.wire_script.specs.Script.{and_then, fill_line, lines_say, script_of}

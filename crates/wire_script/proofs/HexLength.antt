@@ -7,7 +7,7 @@ use Rattle.hex.specs.Hex.{decode_of, is_hex_digit}
 use Rattle.hex.specs.declared.error.FromHexError.{FromHexError}
 use Rattle.hex.proofs.HexLemmas.{decode_of-digits, decode_of-ok}
 use Rattle.limits.specs.declared.profile.TheConstants.{LEAST_FRAME, MOST_FRAME}
-use Rattle.wire_script.specs.declared.error.ScriptError.TheVariants.{Bytes, FrameLength}
+use Rattle.refusals.specs.declared.errors.ScriptError.TheVariants.{Bytes, FrameLength}
 use Rattle.wire_script.specs.Line.{hex_in, sized}
 
 -- a value or an error

@@ -6,8 +6,8 @@ use Rattle.std.proofs.lemmas.Bool.{eqb-true, eqb-false}
 use Rattle.std.proofs.lemmas.List.Elements.{All-cons, All-nil}
 use Rattle.limits.specs.declared.profile.TheConstants.{MOST_SCRIPT_FRAMES}
 use Rattle.text_lines.specs.Parts.{parts}
-use Rattle.wire_script.specs.declared.error.ScriptError.{ScriptError}
-use Rattle.wire_script.specs.declared.error.ScriptError.TheVariants as errors
+use Rattle.refusals.specs.declared.errors.ScriptError.{ScriptError}
+use Rattle.refusals.specs.declared.errors.ScriptError.TheVariants as errors
 use Rattle.wire_script.specs.Frame.{Frame}
 use Rattle.wire_script.specs.Line.{line_says}
 use Rattle.wire_script.specs.Script.{IsGood, Refuses, Says, and_then, frames_in, lines_say, said_frame, script_of}

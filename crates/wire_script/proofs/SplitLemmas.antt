@@ -5,8 +5,8 @@ use Rattle.std.proofs.lemmas.Bool.{eqb-true, ne_eqb, not-false}
 use Rattle.std.specs.List.{onto_first}
 use Rattle.std.specs.Str.{bytes_eq}
 use Rattle.text_lines.specs.Parts.{later_parts, parts}
-use Rattle.wire_script.specs.declared.error.ScriptError.{ScriptError}
-use Rattle.wire_script.specs.declared.error.ScriptError.TheVariants.{Fields}
+use Rattle.refusals.specs.declared.errors.ScriptError.{ScriptError}
+use Rattle.refusals.specs.declared.errors.ScriptError.TheVariants.{Fields}
 use Rattle.wire_script.specs.Frame.{Frame}
 use Rattle.wire_script.specs.Line.{fields_say, fill_in, frame_in, frame_with, has_empty, hex_in}
 use Rattle.wire_script.specs.Split.{begins_inner, is_last}

@@ -8,8 +8,8 @@ use Rattle.hex.specs.declared.error.FromHexError.{FromHexError}
 use Rattle.limits.specs.declared.profile.TheConstants.{LEAST_FRAME, MOST_FRAME, MOST_PAIRS, PORTS}
 use Rattle.text_lines.specs.Numbers.{number_in}
 use Rattle.text_lines.specs.Parts.{parts, says_something}
-use Rattle.wire_script.specs.declared.error.ScriptError.{ScriptError}
-use Rattle.wire_script.specs.declared.error.ScriptError.TheVariants.{Fields, Port, Queue, Bytes, FrameLength}
+use Rattle.refusals.specs.declared.errors.ScriptError.{ScriptError}
+use Rattle.refusals.specs.declared.errors.ScriptError.TheVariants.{Fields, Port, Queue, Bytes, FrameLength}
 use Rattle.wire_script.specs.Frame.{Frame}
 use Rattle.wire_script.specs.ScriptError.{◌>>=◌}
 

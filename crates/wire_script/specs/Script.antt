@@ -4,8 +4,8 @@ use Rattle.std.specs.List.{enumerate_from, filter_map, flat_map}
 use Rattle.hex.specs.Hex.{encode_lower}
 use Rattle.limits.specs.declared.profile.TheConstants.{MOST_SCRIPT_FRAMES}
 use Rattle.text_lines.specs.Parts.{lines_of}
-use Rattle.wire_script.specs.declared.error.ScriptError.{ScriptError}
-use Rattle.wire_script.specs.declared.error.ScriptError.TheVariants.{TooMany}
+use Rattle.refusals.specs.declared.errors.ScriptError.{ScriptError}
+use Rattle.refusals.specs.declared.errors.ScriptError.TheVariants.{TooMany}
 use Rattle.wire_script.specs.Frame.{Frame}
 use Rattle.wire_script.specs.Line.{line_says}
 use Rattle.wire_script.specs.ScriptError.{◌>>=◌}

@@ -1,27 +1,7 @@
--- The numbers and the lines of refusals.
-use Rattle.std.specs.Prelude.{◌≡◌, ℕ, Option, Some, None, Result, Ok, Err}
-use Rattle.wire_script.specs.declared.error.ScriptError.{ScriptError}
-use Rattle.wire_script.specs.declared.error.ScriptError.TheVariants.{Fields, Port, Queue, Bytes, FrameLength, TooMany, Memory}
-
--- the refusal's number
-abbrev pub number_of : ScriptError → ℕ
-number_of (Fields line) = 71
-number_of (Port line) = 72
-number_of (Queue line) = 73
-number_of (Bytes line) = 74
-number_of (FrameLength line) = 75
-number_of (TooMany line) = 76
-number_of Memory = 77
-
--- the line that is refused
-abbrev pub line_of : ScriptError → Option ℕ
-line_of (Fields line) = Some line
-line_of (Port line) = Some line
-line_of (Queue line) = Some line
-line_of (Bytes line) = Some line
-line_of (FrameLength line) = Some line
-line_of (TooMany line) = Some line
-line_of Memory = None
+-- What is answered where a call is refused.
+use Rattle.std.specs.Prelude.{◌≡◌, Result, Ok, Err}
+use Rattle.refusals.specs.declared.errors.ScriptError.{ScriptError}
+use Rattle.refusals.specs.declared.errors.ScriptError.TheVariants.{Memory}
 
 -- the first step, and with its value the second
 infixl 10 ◌>>=◌

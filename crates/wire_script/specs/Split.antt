@@ -1,7 +1,7 @@
 -- A line's fields as the code holds them.
 use Rattle.std.specs.Prelude.{ℕ, ◌==◌, Bool, false, not, List, [], ◌∷◌, length, Option, Some, None, Result, Err}
-use Rattle.wire_script.specs.declared.error.ScriptError.{ScriptError}
-use Rattle.wire_script.specs.declared.error.ScriptError.TheVariants.{Fields}
+use Rattle.refusals.specs.declared.errors.ScriptError.{ScriptError}
+use Rattle.refusals.specs.declared.errors.ScriptError.TheVariants.{Fields}
 use Rattle.wire_script.specs.declared.split.Split.{Split}
 use Rattle.wire_script.specs.declared.split.Payload.{Payload}
 use Rattle.wire_script.specs.declared.split.Payload.TheVariants.{Hex, Fill}

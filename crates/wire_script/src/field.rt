@@ -7,9 +7,9 @@ ghost use Rattle.limits.specs.declared.profile.TheConstants.{LEAST_FRAME, MOST_F
 ghost use Rattle.wire_script.specs.Line.{byte_in, digit_below, fill_in, hex_in, len_in, port_in, queue_in};
 ghost use Rattle.wire_script.specs.ScriptError.{AnswersAs};
 
-use crate::error::ScriptError;
 use hex::{FromHex, FromHexError};
 use limits::{LEAST_FRAME, MOST_FRAME, MOST_PAIRS, PORTS};
+use refusals::ScriptError;
 use std::alloc::Global;
 use text_lines::number_in;
 

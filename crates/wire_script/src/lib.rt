@@ -14,7 +14,6 @@
 //! the same frames.
 #![tactic(auto)]
 
-mod error;
 mod field;
 mod frame;
 mod line;
@@ -23,8 +22,8 @@ mod reading;
 mod script;
 mod split;
 
-pub use error::ScriptError;
 pub use frame::WireFrame;
 pub use printing::{print, print_line};
 pub use reading::parse;
+pub use refusals::ScriptError;
 pub use script::Script;

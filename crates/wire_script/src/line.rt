@@ -5,10 +5,10 @@ ghost use Rattle.wire_script.specs.Line.{frame_with, line_says};
 ghost use Rattle.wire_script.specs.ScriptError.{Answers};
 ghost use Rattle.wire_script.specs.Split.{bytes_in};
 
-use crate::error::ScriptError;
 use crate::field::{fill_of, hex_of, port_of, queue_of};
 use crate::frame::WireFrame;
 use crate::split::{Payload, Split, split_of};
+use refusals::ScriptError;
 use std::alloc::Global;
 use text_lines::says_something;
 

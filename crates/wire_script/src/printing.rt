@@ -5,10 +5,10 @@ ghost use Rattle.std.specs.String.{string_bytes};
 ghost use Rattle.limits.specs.declared.profile.TheConstants.{MOST_PAIRS, MOST_SCRIPT_FRAMES, PORTS};
 ghost use Rattle.wire_script.specs.Frame.{frame_of};
 ghost use Rattle.wire_script.specs.Script.{line_for, script_of, text_for};
-ghost use Rattle.wire_script.specs.declared.error.ScriptError.TheVariants.{Memory};
+ghost use Rattle.refusals.specs.declared.errors.ScriptError.TheVariants.{Memory};
 
-use crate::error::ScriptError;
 use crate::frame::WireFrame;
+use refusals::ScriptError;
 use std::alloc::{AllocError, Global};
 
 /// One line `<port> <queue> <hex>` a frame, in lower case, each ended by LF.

@@ -5,13 +5,13 @@ ghost use Rattle.limits.specs.declared.profile.TheConstants.{MOST_SCRIPT_FRAMES}
 ghost use Rattle.wire_script.specs.Frame.{Frame, InRange};
 ghost use Rattle.wire_script.specs.Script.{Refuses, Says, fill_line, script_of};
 ghost use Rattle.wire_script.specs.ScriptError.{Answers};
-ghost use Rattle.wire_script.specs.declared.error.ScriptError.TheVariants.{Memory, TooMany};
+ghost use Rattle.refusals.specs.declared.errors.ScriptError.TheVariants.{Memory, TooMany};
 
-use crate::error::ScriptError;
 use crate::frame::WireFrame;
 use crate::line::line_of;
 use crate::script::Script;
 use limits::MOST_SCRIPT_FRAMES;
+use refusals::ScriptError;
 use std::alloc::Global;
 use text_lines::cut;
 

@@ -5,14 +5,14 @@ ghost use Rattle.ring_model.specs.shared.Handshakes.{is_on, is_open, is_stopped}
 ghost use Rattle.shared_ring.specs.declared.events.DriverEvent.TheVariants.{AskedDisable};
 ghost use Rattle.rx_ring.specs.Ends.{driver_record, driver_state, known_of, appended};
 ghost use Rattle.rx_ring.specs.Calls.{told_left, GoneOver};
-ghost use Rattle.driver.specs.declared.error.DriverError.TheVariants.{QueueOff, StashFull, NotReclaimed};
+ghost use Rattle.refusals.specs.declared.errors.DriverError.TheVariants.{QueueOff, StashFull, NotReclaimed};
 ghost use Rattle.driver.specs.Handshake.{AskedEnabling, Finishes};
 ghost use Rattle.driver.specs.receive.Returns.{IsEmptied, GaveBack};
 
 use super::{RxDriver, reclaiming};
-use crate::error::DriverError;
 use crate::handshake;
 use buffer_pool::{STASH_BUFFERS, Stash};
+use refusals::DriverError;
 use rx_ring::{DriverEnd, RxRing};
 
 impl RxDriver {

@@ -7,15 +7,15 @@ ghost use Rattle.shared_ring.specs.declared.events.DriverEvent.TheVariants.{Aske
 ghost use Rattle.tx_ring.specs.Ends.{driver_record, driver_state, known_of, seen_reported, appended};
 ghost use Rattle.tx_ring.specs.Calls.{GoneOver};
 ghost use Rattle.tx_ring.specs.Meeting.{told_left};
-ghost use Rattle.driver.specs.declared.error.DriverError.TheVariants.{QueueOff, StashFull, NotReclaimed};
+ghost use Rattle.refusals.specs.declared.errors.DriverError.TheVariants.{QueueOff, StashFull, NotReclaimed};
 ghost use Rattle.driver.specs.Handshake.{AskedEnabling, Finishes};
 ghost use Rattle.driver.specs.Reclaiming.{CameBack};
 ghost use Rattle.driver.specs.transmit.Returns.{IsEmptied};
 
 use super::{TxDriver, reclaiming};
-use crate::error::DriverError;
 use crate::handshake;
 use buffer_pool::{STASH_BUFFERS, Stash};
+use refusals::DriverError;
 use tx_ring::{DriverEnd, TxRing};
 
 impl TxDriver {

@@ -1,7 +1,7 @@
 //! The frames of captures.
 ghost use Rattle.std.specs.Prelude.{◌≡◌, ◌++◌, ◌<◌, ◌≤◌, ℕ, List, length, Ok, IfErr, IfOk, OnOk};
 ghost use Rattle.capture.specs.CaptureError.{Fails};
-ghost use Rattle.capture.specs.declared.error.CaptureError.TheVariants.{Memory};
+ghost use Rattle.refusals.specs.declared.errors.CaptureError.TheVariants.{Memory};
 ghost use Rattle.capture.specs.Frames.{frames_at};
 ghost use Rattle.limits.specs.declared.profile.TheConstants.{MOST_PAIRS, MOST_SCRIPT_FRAMES, PORTS};
 ghost use Rattle.wire_script.specs.Frame.{frame_of};

@@ -3,7 +3,7 @@ ghost use Rattle.std.specs.Prelude.{◌≡◌, ◌<◌, IfErr, IfOk, Ok};
 ghost use Rattle.std.specs.String.{string_bytes};
 ghost use Rattle.commands.specs.declared.refusal.Refusal.TheVariants as refusal;
 ghost use Rattle.wire_script.specs.ScriptError.{Fails};
-ghost use Rattle.wire_script.specs.declared.error.ScriptError.{ScriptError};
+ghost use Rattle.refusals.specs.declared.errors.ScriptError.{ScriptError};
 ghost use Rattle.forward_command.specs.Meanings.{IsRefusedAs, Makes, Refuses, capture_meant, lines_meant, meant, wires_in};
 ghost use Rattle.forward_command.specs.Requests.{IsPlaced};
 ghost use Rattle.limits.specs.declared.profile.TheConstants.{MOST_PAIRS, PORTS};

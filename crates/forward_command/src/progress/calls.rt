@@ -4,7 +4,7 @@ ghost use Rattle.counters.specs.Paired.{ArePaired};
 ghost use Rattle.flows.specs.Reports.{IsReport};
 ghost use Rattle.forwarder.specs.Configs.{FitsIn};
 ghost use Rattle.forwarder.specs.Plans.{plan};
-ghost use Rattle.forwarding.specs.declared.error.ForwardError.TheVariants.{Config as ConfigRefused};
+ghost use Rattle.refusals.specs.declared.errors.ForwardError.TheVariants.{Config as ConfigRefused};
 ghost use Rattle.limits.specs.declared.profile.TheConstants.{PORTS};
 ghost use Rattle.teams.specs.Refusals.{Halted};
 

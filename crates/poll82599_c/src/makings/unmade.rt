@@ -1,6 +1,6 @@
 //! Why nothing was made.
 ghost use Rattle.std.specs.Prelude.{◌≡◌, ◌≢◌, ◌⊎◌, pos};
-ghost use Rattle.shared_ring.specs.declared.error.RingError.TheVariants.{RingLength};
+ghost use Rattle.refusals.specs.declared.errors.RingError.TheVariants.{RingLength};
 
 use shared_ring::RingError;
 

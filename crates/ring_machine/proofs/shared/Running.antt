@@ -8,8 +8,8 @@ use Rattle.ring_model.specs.shared.QueueSteps.{QueueStep, Post}
 use Rattle.ring_model.specs.shared.Queue.{Queue, by}
 use Rattle.ring_model.specs.shared.Schedules.{after_all, happened, next}
 use Rattle.ring_laws.specs.Schedules.{after-append}
-use Rattle.ring_machine.specs.declared.error.MachineError.{MachineError}
-use Rattle.ring_machine.specs.declared.error.MachineError.TheVariants as refusal
+use Rattle.refusals.specs.declared.errors.MachineError.{MachineError}
+use Rattle.refusals.specs.declared.errors.MachineError.TheVariants as refusal
 use Rattle.ring_machine.specs.shared.Following.{Did, Follows, Runs, count_of}
 
 -- no step changes how many places a queue has

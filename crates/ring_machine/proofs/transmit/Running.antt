@@ -13,8 +13,8 @@ use Rattle.ring_model.proofs.shared.Reaching.{kept-reached}
 use Rattle.ring_model.specs.kept.Transmit.{IsTxKept}
 use Rattle.ring_laws.specs.Rings.{tx_kept}
 use Rattle.ring_machine.specs.shared.Following.{count_of}
-use Rattle.ring_machine.specs.declared.error.MachineError.{MachineError}
-use Rattle.ring_machine.specs.declared.error.MachineError.TheVariants as refusal
+use Rattle.refusals.specs.declared.errors.MachineError.{MachineError}
+use Rattle.refusals.specs.declared.errors.MachineError.TheVariants as refusal
 use Rattle.ring_machine.specs.shared.Machine.{told_owner}
 use Rattle.ring_machine.specs.transmit.Machine.{TxAgrees, TxFollows, TxOwns, TxParts, TxRuns, lies_tx, says_tx}
 use Rattle.ring_machine.specs.code.Sound.{IsSound}

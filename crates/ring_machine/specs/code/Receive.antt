@@ -7,7 +7,7 @@ use Rattle.ring_model.specs.declared.notes.Note.TheVariants as note
 use Rattle.ring_model.specs.shared.Handshakes.{control_value, enables, is_cleared, is_live, is_open, is_serving, is_stopped, is_tailed, may_shake}
 use Rattle.ring_model.specs.shared.Lists.{slot_at}
 use Rattle.ring_model.specs.receive.Agreement.{rx_word}
-use Rattle.ring_machine.specs.declared.error.MachineError.{MachineError}
+use Rattle.refusals.specs.declared.errors.MachineError.{MachineError}
 use Rattle.ring_model.specs.shared.Places.{between_places}
 use Rattle.ring_machine.specs.code.Shared.{after_clear_head, after_clear_tail, after_fetch, after_head, after_look, after_out, after_post, after_publish, after_renew, after_serve, after_shake, are_all_back, begun, can_fetch, can_post, is_idle, looks_settled, refused_empty}
 use Rattle.ring_machine.specs.receive.Machine.{RxParts}

@@ -6,8 +6,8 @@ use Rattle.ring_model.specs.declared.notes.Note.{Note}
 use Rattle.ring_model.specs.shared.Handshakes.{is_open, is_serving, first_handshake, enables, shaken}
 use Rattle.ring_model.specs.shared.Agreement.{Wrapped}
 use Rattle.ring_model.specs.shared.Places.{place_next}
-use Rattle.ring_machine.specs.declared.error.MachineError.{MachineError}
-use Rattle.ring_machine.specs.declared.error.MachineError.TheVariants as refusal
+use Rattle.refusals.specs.declared.errors.MachineError.{MachineError}
+use Rattle.refusals.specs.declared.errors.MachineError.TheVariants as refusal
 
 -- the words, with this one stored at a place, if there is one to store
 abbrev pub word_put : List ℕ → ℕ → Option ℕ → List ℕ

@@ -9,7 +9,7 @@ use Rattle.ring_model.specs.shared.Lists.{slot_at}
 use Rattle.ring_model.specs.transmit.Ring.{Posting, TxBeginning}
 use Rattle.ring_model.specs.transmit.Steps.{by_head, is_there}
 use Rattle.ring_model.specs.transmit.Agreement.{done_word, tx_word}
-use Rattle.ring_machine.specs.declared.error.MachineError.{MachineError}
+use Rattle.refusals.specs.declared.errors.MachineError.{MachineError}
 use Rattle.ring_model.specs.shared.Places.{between_places, place_next}
 use Rattle.ring_machine.specs.code.Shared.{after_clear_head, after_clear_tail, after_fetch, after_head, after_look, after_out, after_post, after_publish, after_renew, after_serve, after_shake, are_all_back, begun, can_fetch, can_post, looks_settled, refused_empty, word_put}
 use Rattle.ring_machine.specs.transmit.Machine.{TxParts}

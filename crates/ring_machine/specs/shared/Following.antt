@@ -3,8 +3,8 @@ use Rattle.std.specs.Prelude.{◌≡◌, ℕ, Bool, List, Option, Some, None, Re
 use Rattle.std.specs.Option.{ok_or}
 use Rattle.ring_model.specs.declared.notes.Note.{Note}
 use Rattle.ring_model.specs.shared.Schedules.{after_all, happened, next}
-use Rattle.ring_machine.specs.declared.error.MachineError.{MachineError}
-use Rattle.ring_machine.specs.declared.error.MachineError.TheVariants as refusal
+use Rattle.refusals.specs.declared.errors.MachineError.{MachineError}
+use Rattle.refusals.specs.declared.errors.MachineError.TheVariants as refusal
 
 -- the answer is what is told, or 11 where nothing is; the machine agrees with what its ring is then, and a refusal leaves it as it was
 pub record Did {Parts State : Type 0} (Agree : Parts → State → Type 0) (told : Option Note) (later : State) (result : Result Note MachineError) (old new : Parts) : Type 0 where

@@ -10,7 +10,7 @@ use Rattle.ring_model.specs.shared.Agreement.{Agrees, Wrapped}
 use Rattle.ring_model.specs.transmit.Ring.{Posting, TxRing, are_whole, ends_posting}
 use Rattle.ring_model.specs.transmit.Steps.{by_head, tx_can, tx_changed, tx_note_of, IsTxReachable}
 use Rattle.ring_model.specs.transmit.Agreement.{is_told, tx_lies, tx_says}
-use Rattle.ring_machine.specs.declared.error.MachineError.{MachineError}
+use Rattle.refusals.specs.declared.errors.MachineError.{MachineError}
 use Rattle.ring_machine.specs.declared.machine.transmit.TxMachine.TheInside.{Inside}
 use Rattle.ring_machine.specs.shared.Following.{Follows, Runs}
 

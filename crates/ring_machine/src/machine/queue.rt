@@ -6,16 +6,16 @@ ghost use Rattle.limits.specs.RingLength.{IsRingLength};
 ghost use Rattle.limits.specs.declared.profile.TheConstants.{MOST_RING};
 ghost use Rattle.ring_model.specs.shared.Handshakes.{control_value, enables};
 ghost use Rattle.ring_model.specs.shared.Lists.{slot_at};
-ghost use Rattle.ring_machine.specs.declared.error.MachineError.TheVariants.{Memory, RingLength};
+ghost use Rattle.refusals.specs.declared.errors.MachineError.TheVariants.{Memory, RingLength};
 ghost use Rattle.ring_machine.specs.code.Sound.{IsSound};
 ghost use Rattle.ring_machine.specs.Registers.{registers_held};
 ghost use Rattle.ring_machine.specs.shared.Machine.{told_owner};
 ghost use Rattle.ring_model.specs.shared.Places.{between_places};
 ghost use Rattle.ring_machine.specs.code.Shared.{after_clear_head, after_clear_tail, after_fetch, after_head, after_look, after_out, after_post, after_publish, after_renew, after_serve, after_shake, are_all_back, begun, can_fetch, can_post, is_idle, looks_settled, word_put};
 
-use crate::error::MachineError;
 use crate::registers::{Registers, Side};
 use limits::is_ring_length;
+use refusals::MachineError;
 use ring_model::{ControlStep, DriverState, Handshake, Owner, place_after, places_between};
 use std::alloc::Global;
 use std::marker::Model;

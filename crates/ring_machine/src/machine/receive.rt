@@ -5,15 +5,15 @@ ghost use Rattle.limits.specs.RingLength.{IsRingLength};
 ghost use Rattle.ring_model.specs.declared.steps.RxStep.TheVariants as step;
 ghost use Rattle.ring_model.specs.receive.Agreement.{rx_word};
 ghost use Rattle.ring_model.specs.receive.Ring.{rx_opening};
-ghost use Rattle.ring_machine.specs.declared.error.MachineError.TheVariants.{Memory, NotEnabled, RingLength};
+ghost use Rattle.refusals.specs.declared.errors.MachineError.TheVariants.{Memory, NotEnabled, RingLength};
 ghost use Rattle.ring_machine.specs.code.Sound.{IsSound};
 ghost use Rattle.ring_machine.specs.receive.Machine.{RxAgrees, RxFollows, RxOwns, RxRuns};
 ghost use Rattle.ring_machine.specs.code.Receive.{has_dd, has_eop, rx_begun, rx_may, rx_moved, rx_told};
 
 use crate::counting::count_of;
-use crate::error::MachineError;
 use crate::machine::queue::QueueMachine;
 use crate::moves::arguments::SegmentLength;
+use refusals::MachineError;
 use ring_model::{ControlStep, Note, Owner, RxStep, TakenSegment};
 use std::alloc::Global;
 use std::marker::Model;

@@ -5,16 +5,16 @@ ghost use Rattle.limits.specs.RingLength.{IsRingLength};
 ghost use Rattle.ring_model.specs.declared.states.Completion.TheVariants as by;
 ghost use Rattle.ring_model.specs.declared.steps.TxStep.TheVariants as step;
 ghost use Rattle.ring_model.specs.transmit.Ring.{tx_opening};
-ghost use Rattle.ring_machine.specs.declared.error.MachineError.TheVariants.{Memory, NotEnabled, RingLength};
+ghost use Rattle.refusals.specs.declared.errors.MachineError.TheVariants.{Memory, NotEnabled, RingLength};
 ghost use Rattle.ring_machine.specs.transmit.Machine.{TxAgrees, TxFollows, TxOwns, TxRuns};
 ghost use Rattle.ring_machine.specs.code.TxSound.{IsTxSound, StepFits};
 ghost use Rattle.ring_machine.specs.code.Transmit.{is_made, oldest_place, tx_after_renew, tx_may, tx_moved, tx_told};
 
 use crate::counting::count_of;
-use crate::error::MachineError;
 use crate::machine::queue::QueueMachine;
 use crate::machine::words::{DONE, eop_in, first_asking, len_in, place_before, rs_in};
 use crate::moves::arguments::SegmentDescriptor;
+use refusals::MachineError;
 use ring_model::{
     Completion, ControlStep, FetchedSegment, Note, Owner, TxStep, place_after, places_between,
 };

@@ -11,28 +11,18 @@ use crate::moves::Move;
 use crate::moves::arguments::{SegmentDescriptor, SegmentLength};
 use ring_model::{ControlStep, RxStep, TxStep};
 use std::fmt;
-use std::marker::Model;
 
 /// The first two fields of a move's line, its queue and its kind, as `r0 A1`.
 #[derive(Clone, Copy, PartialEq, Eq)]
 pub struct MoveName {
-    named: Move,
-}
-
-impl Model for MoveName {
-    ghost use Rattle.ring_machine.specs.declared.moves.Move.{Move};
-
-    ghost Value = { Move };
-
-    ghost view = { λ n. n.named };
-
-    ghost inverse = { λ m. record { named = m } };
+    /// The move that is named.
+    pub named: Move,
 }
 
 impl Move {
     /// The first two fields of the move's line. Each move is in range, so `parse` reads its line.
     pub fn name(self) -> MoveName
-        ensures value { result ≡ self }
+        ensures value { result.named ≡ self }
         ensures in_range { IsInRange self }
     {
         MoveName { named: self }
@@ -40,7 +30,7 @@ impl Move {
 }
 
 impl fmt::Display for MoveName {
-    ghost output = { λ n. Some (name_of n) };
+    ghost output = { λ n. Some (name_of n.named) };
 
     fn fmt<W: fmt::Write>(&self, f: &mut fmt::Formatter<W>) -> fmt::Result {
         match self.named {
@@ -71,16 +61,13 @@ impl fmt::Display for Move {
     }
 }
 
+/// The names of the kinds of the handshake, in the order of [`ControlStep`].
+const CONTROL_KINDS: [&str; 5] = ["C1", "C2", "C3", "C4", "C5"];
+
 fn control_kind(step: ControlStep) -> &'static str
     ensures { result.now ≡ control_kind step }
 {
-    match step {
-        ControlStep::AskEnable => "C1",
-        ControlStep::LookAsked => "C2",
-        ControlStep::Answer => "C3",
-        ControlStep::LookAnswered => "C4",
-        ControlStep::AskDisable => "C5",
-    }
+    CONTROL_KINDS[step as usize]
 }
 
 fn rx_kind(step: RxStep<SegmentLength>) -> &'static str

@@ -5,16 +5,16 @@ ghost use Rattle.ring_machine.specs.code.Fields.{Spells, SpellsRx, SpellsTx};
 ghost use Rattle.ring_machine.specs.text.Moves.{IsInRange, text_of};
 ghost use Rattle.ring_model.specs.shared.Agreement.{bit};
 ghost use Rattle.ring_model.specs.transmit.Ring.{Posting};
-ghost use Rattle.ring_machine.specs.declared.error.MachineError.TheVariants.{Text};
+ghost use Rattle.refusals.specs.declared.errors.MachineError.TheVariants.{Text};
 ghost use Rattle.limits.specs.declared.profile.TheConstants.{MOST_PAIRS};
 ghost use Rattle.ring_machine.specs.declared.moves.Move.{Move};
 ghost use Rattle.ring_model.specs.declared.steps.RxStep.{RxStep};
 ghost use Rattle.ring_model.specs.declared.steps.TxStep.{TxStep};
 
-use crate::error::MachineError;
 use crate::moves::arguments::{SegmentDescriptor, SegmentLength};
 use crate::moves::fields::arguments_in;
 use crate::moves::{Move, QueueNumber};
+use refusals::MachineError;
 use ring_model::{ControlStep, RxStep, TxStep};
 use text_lines::cut;
 

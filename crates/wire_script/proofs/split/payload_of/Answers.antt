@@ -1,7 +1,7 @@
 use Rattle.std.proofs.Common.{◌≡◌, ℕ, false, true, List, ◌∷◌, codes, None, Result, rules, sym, ap, ◌∙◌}
 use Rattle.std.specs.Str.{bytes_eq}
 use Rattle.text_lines.specs.Parts.{parts}
-use Rattle.wire_script.specs.declared.error.ScriptError.{ScriptError}
+use Rattle.refusals.specs.declared.errors.ScriptError.{ScriptError}
 use Rattle.wire_script.specs.Frame.{Frame}
 use Rattle.wire_script.specs.Line.{fields_say}
 use Rattle.wire_script.specs.Split.{frame_of_payload}

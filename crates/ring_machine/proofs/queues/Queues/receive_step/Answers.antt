@@ -2,7 +2,7 @@
 use Rattle.std.proofs.Common.{ℕ, ◌≤◌, length, ◌∙◌, subst, refl, Err, arith}
 use Rattle.std.specs.Prelude.{slice_set}
 use Rattle.std.proofs.lemmas.Option.{slice_get_read}
-use Rattle.ring_machine.specs.declared.error.MachineError.TheVariants.{NotEnabled}
+use Rattle.refusals.specs.declared.errors.MachineError.TheVariants.{NotEnabled}
 use Rattle.ring_machine.specs.declared.moves.Move.TheVariants.{Receive}
 use Rattle.ring_machine.specs.Queues.{QueueParts, QueuesFollow}
 use Rattle.ring_machine.proofs.SideBySide.{past-end, receive-follows, receive-missing}

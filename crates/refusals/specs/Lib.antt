@@ -1,0 +1,10 @@
+pub mod CaptureError
+pub mod CounterError
+pub mod CtlError
+pub mod DescError
+pub mod DriverError
+pub mod ForwardError
+pub mod MachineError
+pub mod PoolError
+pub mod RingError
+pub mod ScriptError
