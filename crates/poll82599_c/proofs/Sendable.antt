@@ -31,9 +31,9 @@ use Rattle.poll82599_c.specs.contracts.half.RxDriverOfRing.TheImpl as rx_queue_o
 use Rattle.poll82599_c.specs.contracts.half.TxControllerEndOfRing.TheImpl as tx_serving_of
 use Rattle.poll82599_c.specs.contracts.half.TxControllerOfRing.TheImpl as tx_device_of
 use Rattle.poll82599_c.specs.contracts.half.TxDriverOfRing.TheImpl as tx_queue_of
-use Rattle.poll82599_c.specs.contracts.rings.rx_driving.RxDriving as RxDriving
-use Rattle.poll82599_c.specs.contracts.rings.rx_serving.RxServing as RxServing
-use Rattle.poll82599_c.specs.contracts.rings.tx_driving.TxDriving as TxDriving
+use Rattle.poll82599_c.specs.contracts.rings.driving.RxDriving as RxDriving
+use Rattle.poll82599_c.specs.contracts.rings.serving.RxServing as RxServing
+use Rattle.poll82599_c.specs.contracts.rings.driving.TxDriving as TxDriving
 use Rattle.poll82599_c.specs.contracts.batches.packets.Packets as Packets
 
 ruleset parts = (sendable, crosses, cells.the_field_send, lease.the_send, lease.the_sync, seat.the_send, shared.the_send, shared.the_sync, send-Chain, sync-Chain, room.the_field_send, room.the_field_sync, tally.the_field_send, phantom.the_field_send, option.the_send, option.the_sync, begun.the_field_send, completion.the_field_send, controller_places.the_field_send, driver_places.the_field_send, heap.the_send, heap.the_sync)

@@ -1,5 +1,6 @@
 pub mod Handles
 pub mod Held
+pub mod Pairs
 pub mod Stashes
 pub mod batches
 pub mod rings

@@ -1,20 +1,14 @@
-//! Queues in batches: a worker's empty buffers and up to 32 packets, which a receive queue's driver fills a batch at a time; the
-//! driver and the device of a queue of each kind; and the exports.
+//! Queues in batches: a worker's empty buffers and up to 32 packets, which a receive queue's driver fills a batch at a time; and the
+//! driver and the device of a queue of each kind.
 
 mod found;
 mod packets;
-mod rx;
+mod queue;
 mod rx_device;
-mod rx_making;
-mod rx_queue;
-mod tx;
 mod tx_device;
-mod tx_making;
-mod tx_queue;
-mod worker;
 
-pub(crate) use packets::Packets;
+pub(crate) use found::Found;
+pub(crate) use packets::{Packets, fresh_packets};
+pub(crate) use queue::{Queue, RxQueue, TxQueue};
 pub(crate) use rx_device::RxDevice;
-pub(crate) use rx_queue::RxQueue;
 pub(crate) use tx_device::TxDevice;
-pub(crate) use tx_queue::TxQueue;

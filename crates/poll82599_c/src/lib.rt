@@ -10,7 +10,9 @@
 mod batches;
 mod call;
 mod end;
+mod exports;
 mod half;
 mod handle;
 mod makings;
+mod pair;
 mod rings;

@@ -1,16 +1,18 @@
-//! What the makings of both layers share: why nothing was made, a stash of new buffers, an object behind a pointer and its way into a
-//! handle, and the two halves of a ring, each an end and an owner, as they are made and as the ring is closed by them.
+//! How what the handles hold is made: a ring's two halves, the objects of its ends or of a queue's driver and device, a stash of new
+//! buffers, an object behind a pointer and its way into a handle, and why nothing was made.
 
+mod ends;
+mod halves;
 mod handing;
 mod owners;
-mod rx;
+mod queues;
 mod stash;
-mod tx;
 mod unmade;
 
+pub(crate) use ends::{rx_ends, tx_ends};
+pub(crate) use halves::{completion_of, rx_halves, tx_halves};
 pub(crate) use handing::put_both;
-pub(crate) use owners::{both_boxed, boxed, unclosed};
-pub(crate) use rx::{rx_close, rx_halves};
+pub(crate) use owners::{both_boxed, boxed, lying, sole, unclosed};
+pub(crate) use queues::{rx_queue, tx_queue};
 pub(crate) use stash::stash_of;
-pub(crate) use tx::{completion_of, tx_close, tx_halves};
 pub(crate) use unmade::Unmade;

@@ -1,18 +1,11 @@
-//! Rings step by step, a segment at a time: the objects of the two ends of each, and the exports.
+//! Rings step by step, a segment at a time: the objects of the two ends of each.
 
 mod begun;
+mod driving;
 mod handed;
 mod handshake;
-mod rx;
-mod rx_driving;
-mod rx_making;
-mod rx_serving;
-mod tx;
-mod tx_driving;
-mod tx_making;
-mod tx_serving;
+mod serving;
 
-pub(crate) use rx_driving::RxDriving;
-pub(crate) use rx_serving::RxServing;
-pub(crate) use tx_driving::TxDriving;
-pub(crate) use tx_serving::TxServing;
+pub(crate) use begun::{Asking, Begun};
+pub(crate) use driving::{RxDriving, TxDriving};
+pub(crate) use serving::{RxServing, TxServing};

@@ -18,6 +18,20 @@ pub record Kind {Ring Posted Served Given D C : Type 0} (form : Form Ring Posted
   pub CameInto : Q → Worked → Q → Worked → Type 0
   pub Renewed : Q → Q → Type 0
 
+-- A driver of some direction
+pub record Directed (Q : Type 0) : Type 1 where
+  pub Ring : Type 0
+  pub Posted : Type 0
+  pub Served : Type 0
+  pub Given : Type 0
+  pub D : Type 0
+  pub C : Type 0
+  pub form : Form Ring Posted Served Given D C
+  pub kind : Kind form Q
+
+abbrev pub directed : {Ring Posted Served Given D C : Type 0} {form : Form Ring Posted Served Given D C} {Q : Type 0} → Kind form Q → Directed Q
+directed {Ring} {Posted} {Served} {Given} {D} {C} {form} kind = record { Ring = Ring; Posted = Posted; Served = Served; Given = Given; D = D; C = C; form = form; kind = kind }
+
 module _ {Ring Posted Served Given D C : Type 0} {form : Form Ring Posted Served Given D C} {Q : Type 0} (kind : Kind form Q) where
   -- it is there before and after, and of the same ring
   abbrev pub SameQueue : Option Q → Option Q → Type 0
@@ -88,3 +102,11 @@ module _ {Ring Posted Served Given D C : Type 0} {form : Form Ring Posted Served
   TriedRenewal zero old new = (¬ kind.IsEmptied old) × (new ≡ old)
   TriedRenewal (suc zero) old new = kind.Renewed old new
   TriedRenewal _ old new = ⊥
+
+  -- ---- the step of an operation of both, by its number, with this answer
+  abbrev pub DidAlike : ℕ → ℕ → ℕ → Q → Q → Type 0
+  DidAlike zero answer count old new = TriedEnable answer old new
+  DidAlike (suc zero) answer count old new = TriedDisable answer old new
+  DidAlike (suc (suc zero)) answer count old new = TriedLeft answer count old new
+  DidAlike (suc (suc (suc zero))) answer count old new = TriedRenewal answer old new
+  DidAlike _ answer count old new = answer ≡ 4294967295

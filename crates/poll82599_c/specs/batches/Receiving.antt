@@ -21,7 +21,7 @@ use Rattle.controller.specs.Receiving.{Finished, Receiving, WasDropped, WasHeld,
 use Rattle.controller.specs.Tallying.{nothing}
 use Rattle.poll82599_c.specs.Held.{Between, Both, Of, OfBoth}
 use Rattle.poll82599_c.specs.batches.Packets.{Worked}
-use Rattle.poll82599_c.specs.batches.Queues.{IsOff, Kind, TriedDisable, TriedEnable, TriedLeft, TriedReclaim, TriedRenewal}
+use Rattle.poll82599_c.specs.batches.Queues.{DidAlike, IsOff, Kind, TriedReclaim}
 
 -- A driver and a device of one fresh ring of n descriptors: a batch has so many packets, buffers are filled to so many bytes, and a frame for which too few descriptors are free is dropped or held
 pub record ArePair (n batch fill : ℕ) (drop_en : Bool) (q : Receiver) (d : Receiving) : Type 0 where
@@ -98,12 +98,8 @@ Moved _ answer count old had new has = answer ≡ 4294967295
 
 -- the step of an operation, by its number, with this answer
 abbrev pub Did : ℕ → ℕ → ℕ → Receiver → Receiver → Type 0
-Did zero answer count old new = TriedEnable receiver answer old new
-Did (suc zero) answer count old new = TriedDisable receiver answer old new
-Did (suc (suc zero)) answer count old new = TriedLeft receiver answer count old new
-Did (suc (suc (suc zero))) answer count old new = TriedRenewal receiver answer old new
 Did (suc (suc (suc (suc zero)))) answer count old new = FoundQuiet answer old new
-Did _ answer count old new = answer ≡ 4294967295
+Did operation answer count old new = DidAlike receiver operation answer count old new
 
 -- ---- a device's calls
 

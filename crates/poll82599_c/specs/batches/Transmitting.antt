@@ -19,7 +19,7 @@ use Rattle.controller.specs.Handshaking.{TurnedControl}
 use Rattle.controller.specs.Transmitting.{WasIdle, WasOff, WasRefused, WasSent}
 use Rattle.poll82599_c.specs.Held.{Between, Both, OfBoth}
 use Rattle.poll82599_c.specs.batches.Packets.{Worked}
-use Rattle.poll82599_c.specs.batches.Queues.{IsOff, Kind, TriedDisable, TriedEnable, TriedLeft, TriedReclaim, TriedRenewal}
+use Rattle.poll82599_c.specs.batches.Queues.{DidAlike, IsOff, Kind, TriedReclaim}
 
 -- A driver and a device of one fresh ring of n descriptors that reports so: of so many frames one asks for a report
 pub record ArePair (n every : ℕ) (by : Completion) (q : Transmitter) (d : ControllerSide) : Type 0 where
@@ -104,11 +104,7 @@ Moved _ answer count old had new has = answer ≡ 4294967295
 
 -- the step of an operation, by its number, with this answer
 abbrev pub Did : ℕ → ℕ → ℕ → Transmitter → Transmitter → Type 0
-Did zero answer count old new = TriedEnable transmitter answer old new
-Did (suc zero) answer count old new = TriedDisable transmitter answer old new
-Did (suc (suc zero)) answer count old new = TriedLeft transmitter answer count old new
-Did (suc (suc (suc zero))) answer count old new = TriedRenewal transmitter answer old new
-Did _ answer count old new = answer ≡ 4294967295
+Did = DidAlike transmitter
 
 -- ---- a device's calls
 

@@ -121,7 +121,7 @@ impl Packets {
 }
 
 /// A worker's packets: none, and so many empty buffers.
-pub(crate) fn make(alloc: Global, buffers: u32) -> Result<Box<End>, Unmade>
+pub(crate) fn fresh_packets(alloc: Global, buffers: u32) -> Result<Box<End>, Unmade>
     ensures made { IfOk result (λ p. IsMade buffers (as_packets (Some p.value))) }
     ensures refusals { IfErr result (λ e. (e ≡ Unmade.Buffers) ⊎ (e ≡ Unmade.Memory)) }
     ensures buffers { IfErr result (λ e. e ≡ Unmade.Buffers → (buffers < 16) ⊎ (256 < buffers)) }

@@ -2,15 +2,16 @@
 ghost use Rattle.std.specs.Prelude.{◌≡◌, ◌≢◌, IfErr, IfOk, IfSome, negsuc};
 ghost use Rattle.std.specs.Arc.{arc_value};
 
-use crate::half::{Half, OfRing};
 use crate::makings::Unmade;
 use buffer_pool::Buf;
-use shared_ring::SharedRing;
 use std::alloc::Global;
 use std::sync::Arc;
 
 /// Two owners of a ring, one for each end.
-fn shared<T: Drop>(alloc: Global, ring: T) -> Result<(Arc<T, Global>, Arc<T, Global>), Unmade>
+pub(crate) fn shared<T: Drop>(
+    alloc: Global,
+    ring: T,
+) -> Result<(Arc<T, Global>, Arc<T, Global>), Unmade>
     ensures one { IfOk result (λ r. arc_value r.0 ≡ ring) }
     ensures other { IfOk result (λ r. arc_value r.1 ≡ ring) }
     ensures refusal { IfErr result (λ e. e ≡ Unmade.Memory) }
@@ -22,23 +23,6 @@ fn shared<T: Drop>(alloc: Global, ring: T) -> Result<(Arc<T, Global>, Arc<T, Glo
         Ok(other) => Ok((one, other)),
         Err(_) => Err(Unmade::Memory),
     }
-}
-
-/// The two halves of a ring: an owner of it with each end.
-pub(crate) fn halves<R: SharedRing + Drop, D: OfRing + Drop, C: OfRing + Drop>(
-    alloc: Global,
-    ring: R,
-    driver: D,
-    controller: C,
-) -> Result<(Half<R, D>, Half<R, C>), Unmade>
-    requires driver { D.table driver ≡ R.table ring }
-    requires controller { C.table controller ≡ R.table ring }
-    ensures driver { IfOk result (λ r. r.0 ≡ driver) }
-    ensures controller { IfOk result (λ r. r.1 ≡ controller) }
-    ensures refusal { IfErr result (λ e. e ≡ Unmade.Memory) }
-{
-    let (ring, other) = shared(alloc, ring)?;
-    Ok((Half::of(ring, driver), Half::of(other, controller)))
 }
 
 /// The ring of two owners, if there is no other.

@@ -15,15 +15,23 @@ pub(crate) struct Handed {
 }
 
 impl Handed {
-    /// No segment.
-    pub(crate) fn nothing(answer: u32) -> Handed
-        ensures { result.answer ≡ answer }
+    /// An answer and a length, and no segment.
+    pub(crate) fn told(answer: u32, len: u32) -> Handed
+        ensures answer { result.answer ≡ answer }
+        ensures len { result.len ≡ len }
     {
         Handed {
             answer,
-            len: 0,
+            len,
             eop: 0,
         }
+    }
+
+    /// An answer, and nothing beside it.
+    pub(crate) fn nothing(answer: u32) -> Handed
+        ensures { result.answer ≡ answer }
+    {
+        Handed::told(answer, 0)
     }
 
     /// A segment whose bytes are put at the beginning of a room of a buffer's size.

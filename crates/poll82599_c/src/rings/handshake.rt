@@ -1,6 +1,7 @@
-//! The driver's half of the handshake, in which both kinds of rings are alike.
-ghost use Rattle.std.specs.Prelude.{◌≡◌};
-ghost use Rattle.shared_ring.specs.Ends.{driver_of, driver_record, driver_state};
+//! The driver's half of the handshake, and when a queue may be renewed, in which both kinds of rings are alike.
+ghost use Rattle.std.specs.Prelude.{◌≡◌, true, length};
+ghost use Rattle.ring_model.specs.shared.Handshakes.{is_stopped};
+ghost use Rattle.shared_ring.specs.Ends.{driver_of, driver_record, driver_state, posted, returned};
 ghost use Rattle.poll82599_c.specs.rings.Steps.{TriedShake};
 
 use shared_ring::{Direction, DriverEnd, HandshakeStep};
@@ -29,4 +30,12 @@ pub(crate) fn shake<D, C, R: Direction<D, C>, E: DriverEnd<D, C, R>>(
         }
         _ => 0,
     }
+}
+
+/// Whether the disabling was seen answered, and no buffer is out.
+pub(crate) fn is_emptied<D, C, R: Direction<D, C>, E: DriverEnd<D, C, R>>(end: &E) -> bool
+    ensures stopped { result ≡ true → is_stopped (driver_state (driver_of R.form (E.side end.now))) ≡ true }
+    ensures back { result ≡ true → returned (driver_of R.form (E.side end.now)) ≡ length (posted (driver_of R.form (E.side end.now))) }
+{
+    end.is_stopped() && end.size() == end.room() + 1
 }

@@ -14,7 +14,6 @@ use prog.Wp.{WpFn, Tables}
 use types.Logic.{Logic}
 use contract.Monad.{Fun, fact_use}
 use contract.Running.{tables, tables_of}
-use sound.WpLaws.{WpFn-mono}
 use types.Kit.{Item, ‵, raw, ◌⊛◌, given, at_ret, ◌$◌, ◌∵◌, !, qed, by, move, drop, use0, use1, learn, join, split, fsplit, fjoin, fpick, feq_l, suffices, done}
 use types.Match.{live}
 use types.Part.{whole, sub, agg}
@@ -26,9 +25,7 @@ use denote.Signature.{type_at}
 use denote.Steps.{nothing}
 use denote.Param.{layout}
 use denote.RawPtr.{Ptr, block_ptr, null_ptr, ptr_val, Testable, tests_null}
-use denote.Triple.Spec.{triple_of}
-use denote.Triple.Table.{entered}
-use denote.Triple.Walked.{says, Stays, stay_dropped, walk_of, ends_at, Goes-dropped, walk_Meets}
+use denote.Triple.Walked.{says, walk_of, ends_at, Goes-dropped}
 use Rattle.core.proofs.alloc.Calls.{α, token, handle_tells}
 use Rattle.core.proofs.alloc.Shapes.{after}
 use Rattle.core.proofs.atomic.Steps.{Ptr-Good}
@@ -43,14 +40,11 @@ use Rattle.std_heap.specs.contracts.GlobalAllocator.TheImpl.{ghosts}
 use Rattle.opaque.specs.contracts.Parts as Parts
 use Rattle.poll82599_c.specs.contracts.end.End as Held
 use Rattle.poll82599_c.specs.contracts.handle.Handle as Handle
-use Rattle.poll82599_c.proofs.HandleAsBox.{E, FromHandle as From}
+use Rattle.poll82599_c.proofs.HandleAsBox.{E, dropped, walked_there, FromHandle as From}
 use Rattle.poll82599_c.specs.contracts.handle.Handle.into_parts as F
 use Rattle.poll82599_c.specs.contracts.handle.Handle.into_parts.Key.{name as #self}
 use Rattle.poll82599_c.proofs.handle.Handle.into_parts.Statement as stated
 use Rattle.poll82599_c.proofs.handle.Handle.into_parts.Code as code
-
-abbrev stayed : Stays (F.ended).signature.params (F.ended).kept
-stayed = (stay_dropped From yes, tt)
 
 -- what is handed out
 abbrev Out : RattleType
@@ -60,18 +54,18 @@ module _ {M : Type 1} {𝓤 : Ura M} (𝓛 : Logic 𝓤) (at_mem : Memory → SP
   open 𝓛 use {H}
 
   abbrev Bound : Type 0
-  Bound = (walk_of 𝓛 F.ended stayed (F.clauses 𝓛 at_mem run)).Ghost
+  Bound = (walk_of 𝓛 F.ended (dropped From) (F.clauses 𝓛 at_mem run)).Ghost
 
   abbrev at : Ptr → E.al.row.Denot → Option E.row.Denot → List Val → Bound
   at p a h us = ((tt, tt, tt, (record { ptr = p; alloc = a; held = h }, tt), (us, tt)), tt)
 
   abbrev Walked : Bound → Type 1
-  Walked z = ent 𝓤 ((walk_of 𝓛 F.ended stayed (F.clauses 𝓛 at_mem run)).pre z) (WpFn 𝓤 H 𝓣.C 𝓣.Λ code.function (z.0.4.0 ++ []) ((walk_of 𝓛 F.ended stayed (F.clauses 𝓛 at_mem run)).post z))
+  Walked z = ent 𝓤 ((walk_of 𝓛 F.ended (dropped From) (F.clauses 𝓛 at_mem run)).pre z) (WpFn 𝓤 H 𝓣.C 𝓣.Λ code.function (z.0.4.0 ++ []) ((walk_of 𝓛 F.ended (dropped From) (F.clauses 𝓛 at_mem run)).post z))
 
   walk_full : (p : Ptr) (a : E.al.row.Denot) (x : E.row.Denot) (us : List Val) → Walked (at p a (Some x) us)
   walk_full p a x us =
       let z : Bound = at p a (Some x) us in
-      let Post = (walk_of 𝓛 F.ended stayed (F.clauses 𝓛 at_mem run)).post z in
+      let Post = (walk_of 𝓛 F.ended (dropped From) (F.clauses 𝓛 at_mem run)).post z in
       let v : D E = record { ptr = p; alloc = a; value = x } in
       let made : Out.Denot = record { ptr = p; alloc = a; value = x } in
       qed 𝓛 ((‵ ftrue ⊛ ‵ (fsep ((B E).own_val v z.0.4.0) ftrue)) ∷ raw (emp 𝓤) ∷ []) ∵ split ! $ drop ! $ fsplit ! $
@@ -93,13 +87,13 @@ module _ {M : Type 1} {𝓤 : Ura M} (𝓛 : Logic 𝓤) (at_mem : Memory → SP
       sets_last ! (agg ! (and_then ! (lit ! tt) (and_then ! (get ! refl) (no_more !)))) refl good $
       exec ! 𝓣.C 𝓣.Λ (env code.function.locals ls) (after 4 code.function.body) (at_ret (env code.function.locals ls) Post) $ sets ! (of_opd ! (get ! refl)) refl good $
       use1 𝓛 (‵ ((type_at (F.signature).result tt).own_val (Some made) (said ∷ []))) (Some-of 𝓛 Out made w) $ returns ! (look_at ! 0 refl) $ free_all ! refl $
-      suffices ! _ (ends_at 𝓛 F.ended stayed (F.clauses 𝓛 at_mem run) z said (Some made) (tt, tt) (tt, tt)) $ says ! refl $
+      suffices ! _ (ends_at 𝓛 F.ended (dropped From) (F.clauses 𝓛 at_mem run) z said (Some made) (tt, tt) (tt, tt)) $ says ! refl $
       nothing ! $ nothing ! $ fjoin ! $ join ! $ nothing ! $ join ! $ done !))))))
 
   walk_empty : (a : E.al.row.Denot) (us : List Val) → Walked (at null_ptr a None us)
   walk_empty a us =
       let z : Bound = at null_ptr a None us in
-      let Post = (walk_of 𝓛 F.ended stayed (F.clauses 𝓛 at_mem run)).post z in
+      let Post = (walk_of 𝓛 F.ended (dropped From) (F.clauses 𝓛 at_mem run)).post z in
       let it : (Handle.the_row).Denot = record { ptr = null_ptr; alloc = a; held = None } in
       qed 𝓛 ((‵ ftrue ⊛ ‵ (fsep ((Handle.the_row).own_val it us) ftrue)) ∷ raw (emp 𝓤) ∷ []) ∵ split ! $ drop ! $ fsplit ! $
       fsplit ! $ fpick ! (λ vss. fsplit ! $ feq_l ! (λ ev. fsplit ! $ feq_l ! (λ ep. fsplit ! $ handle_tells E.al ! a vss.1.0 (λ hv ea fa.
@@ -114,7 +108,7 @@ module _ {M : Type 1} {𝓤 : Ura M} (𝓛 : Logic 𝓤) (at_mem : Memory → SP
       sets_last ! (agg ! (and_then ! (lit ! tt) (no_more !))) refl (tt, (record { fits = lit< tt }, tt)) $
       exec ! 𝓣.C 𝓣.Λ (env code.function.locals ls) (after 4 code.function.body) (at_ret (env code.function.locals ls) Post) $ sets ! (of_opd ! (get ! refl)) refl (tt, (record { fits = lit< tt }, tt)) $
       use0 𝓛 (‵ ((type_at (F.signature).result tt).own_val None (none ∷ []))) (none_of 𝓛 Out) $ returns ! (look_at ! 0 refl) $ free_all ! refl $
-      suffices ! _ (ends_at 𝓛 F.ended stayed (F.clauses 𝓛 at_mem run) z none None (tt, tt) (tt, tt)) $ says ! refl $
+      suffices ! _ (ends_at 𝓛 F.ended (dropped From) (F.clauses 𝓛 at_mem run) z none None (tt, tt) (tt, tt)) $ says ! refl $
       nothing ! $ nothing ! $ fjoin ! $ join ! $ nothing ! $ join ! $ done !) (λ wrong. absurd wrong))))))))
 
   walk_each : (p : Ptr) (a : E.al.row.Denot) (h : Option E.row.Denot) (us : List Val) → Walked (at p a h us)
@@ -132,6 +126,4 @@ pub into_parts_spec : {M : Type 1} → stated.statement M
 unfolding tables_of
 into_parts_spec 𝓤 𝓛 𝓜 𝓡 wired =
     let 𝓣 : Tables 𝓤 𝓛.H = tables_of 𝓤 𝓛.H 𝓜 (tables 𝓤 𝓛.H 𝓜 𝓡 𝓡.env) in
-    entered 𝓤 𝓛.H (triple_of 𝓛 F.signature (F.spec 𝓛 𝓜.mem 𝓡.returns)) 𝓣.C 𝓣.Λ #self code.function (code.unfolded 𝓤 𝓛.H 𝓜 𝓡 wired)
-    (walk_Meets 𝓛 F.ended stayed (Goes-dropped 𝓛 0 From yes (λ κs x f. refl), tt) (F.clauses 𝓛 𝓜.mem 𝓡.returns) (WpFn 𝓤 𝓛.H 𝓣.C 𝓣.Λ code.function) (WpFn-mono 𝓤 𝓛.H 𝓛.laws 𝓣 code.function)
-    (walk 𝓛 𝓜.mem 𝓡.returns 𝓣))
+    walked_there 𝓛 𝓣 F.ended (dropped From) (F.clauses 𝓛 𝓜.mem 𝓡.returns) code.function (Goes-dropped 𝓛 0 From yes (λ κs x f. refl), tt) #self (code.unfolded 𝓤 𝓛.H 𝓜 𝓡 wired) (walk 𝓛 𝓜.mem 𝓡.returns 𝓣)

@@ -5,7 +5,7 @@ use Rattle.rx_ring.specs.Ends.{ControllerSide, stored}
 use Rattle.poll82599_c.specs.rings.Following.{IsBegun}
 use Rattle.rx_ring.specs.Records.{RxControlled}
 use Rattle.poll82599_c.proofs.Storing.{serving_ended, serving_on}
-use Rattle.poll82599_c.proofs.rings.rx_serving.RxServing.write.Goals as goal
+use Rattle.poll82599_c.proofs.rings.serving.RxServing.write.Goals as goal
 
 pub invariant_of-self : goal.invariant_of-self
 invariant_of-self c =

@@ -3,8 +3,8 @@ use Rattle.rx_ring.specs.Calls.{FoundFree}
 use Rattle.rx_ring.specs.Ends.{ControllerSide}
 use Rattle.poll82599_c.specs.rings.RxEnds.{StoredOne}
 use Rattle.poll82599_c.proofs.Storing.{stored_known, stored_found}
-use Rattle.poll82599_c.proofs.rings.rx_serving.RxServing.store.Goals.{else-free-eq0-via-then-free-eq0+else-look-eq0, else-free-eq0-via-else-free-eq0}
-use Rattle.poll82599_c.proofs.rings.rx_serving.RxServing.store.Goals as goal
+use Rattle.poll82599_c.proofs.rings.serving.RxServing.store.Goals.{else-free-eq0-via-then-free-eq0+else-look-eq0, else-free-eq0-via-else-free-eq0}
+use Rattle.poll82599_c.proofs.rings.serving.RxServing.store.Goals as goal
 
 pub returns-clause-stored : goal.returns-clause-stored
 returns-clause-stored c = λ one. elim c.else-free-eq0.branch [

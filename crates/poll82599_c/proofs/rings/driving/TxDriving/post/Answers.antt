@@ -4,7 +4,7 @@ use Rattle.tx_ring.specs.Ends.{DriverSide, posted}
 use Rattle.poll82599_c.specs.rings.Following.{IsPosting}
 use Rattle.tx_ring.specs.Records.{TxDriven}
 use Rattle.poll82599_c.proofs.Posting.{driving_posted}
-use Rattle.poll82599_c.proofs.rings.tx_driving.TxDriving.post.Goals as goal
+use Rattle.poll82599_c.proofs.rings.driving.TxDriving.post.Goals as goal
 
 pub invariant_of-self-in-Some-take : goal.invariant_of-self-in-Some-take
 invariant_of-self-in-Some-take c =

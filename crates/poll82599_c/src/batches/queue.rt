@@ -1,0 +1,239 @@
+//! What the drivers of queues of both directions do alike, and what each of them does.
+ghost use Rattle.std.specs.Prelude.{◌≡◌, true, false, IfOk, OnErr, OnOk};
+ghost use Rattle.ring_model.specs.shared.Handshakes.{is_on, is_stopped};
+ghost use Rattle.shared_ring.specs.Ends.{driver_state};
+ghost use Rattle.poll82599_c.specs.batches.Queues.{AllCame, AskedDisable, FilledUp, directed, TriedDisable, TriedEnable, TriedEnabling, TriedFinish, TriedLeft, TriedReclaim, TriedRenewal};
+ghost use Rattle.poll82599_c.specs.batches.Receiving.{FoundQuiet, receiver};
+ghost use Rattle.poll82599_c.specs.batches.Receiving as rx;
+ghost use Rattle.poll82599_c.specs.batches.Transmitting.{TriedCleaning, transmitter};
+ghost use Rattle.poll82599_c.specs.batches.Transmitting as tx;
+
+use crate::batches::found::Found;
+use crate::batches::packets::Packets;
+use crate::half::Half;
+use driver::{DriverError, RxDriver, TxDriver};
+use rx_ring::RxRing;
+use tx_ring::TxRing;
+
+/// What a thread has that drives a receive queue in batches.
+pub(crate) type RxQueue = Half<RxRing, RxDriver>;
+
+/// What a thread has that drives a transmit queue in batches.
+pub(crate) type TxQueue = Half<TxRing, TxDriver>;
+
+/// A queue's driver of either direction, with the ring that it shares. Each direction has the calls of its own driver, and by them
+/// all have the calls with numbers.
+pub trait Queue: Sized {
+    ghost use Rattle.poll82599_c.specs.batches.Queues.{Directed};
+
+    /// What it is of its direction.
+    ghost way: { Directed Self };
+
+    /// Whether the disabling was seen answered.
+    fn is_stopped(&self) -> bool
+        ensures { result ≡ is_stopped (driver_state (way.kind.end_of self.now)) };
+
+    fn try_reclaim(&mut self, packets: &mut Packets) -> Result<usize, DriverError>
+        requires stopped { is_stopped (driver_state (way.kind.end_of self.old)) ≡ true }
+        ensures own { (way.kind.end_of self.new).table ≡ (way.kind.end_of self.old).table }
+        ensures all { IfOk result (λ count. AllCame way.kind count self.old packets.old self.new packets.new) }
+        ensures full { OnErr result (FilledUp way.kind self.old packets.old self.new packets.new) };
+
+    fn try_enable(&mut self) -> Result<bool, DriverError>
+        ensures own { (way.kind.end_of self.new).table ≡ (way.kind.end_of self.old).table }
+        ensures asked { IfOk result (λ on. TriedEnabling way.kind on self.old self.new) }
+        ensures stopped { OnErr result ((is_stopped (driver_state (way.kind.end_of self.old)) ≡ true) × (self.new ≡ self.old)) };
+
+    fn try_disable(&mut self) -> Result<(), DriverError>
+        ensures own { (way.kind.end_of self.new).table ≡ (way.kind.end_of self.old).table }
+        ensures asked { OnOk result (AskedDisable way.kind self.old self.new) }
+        ensures off { OnErr result ((is_on (driver_state (way.kind.end_of self.old)) ≡ false) × (self.new ≡ self.old)) };
+
+    fn try_finish(&mut self) -> Option<u32>
+        ensures own { (way.kind.end_of self.new).table ≡ (way.kind.end_of self.old).table }
+        ensures step { TriedFinish way.kind result self.old self.new };
+
+    fn try_renew(&mut self) -> Result<(), DriverError>
+        ensures own { (way.kind.end_of self.new).table ≡ (way.kind.end_of self.old).table }
+        ensures renewed { OnOk result (way.kind.Renewed self.old self.new) }
+        ensures left { OnErr result ((¬ way.kind.IsEmptied self.old) × (self.new ≡ self.old)) };
+
+    /// Has the buffers of a disabled queue in the stash again: 1, and how many these were; 0 where the stash has no room for all,
+    /// and as many came as fit; 2 where no disabling was seen answered.
+    final fn reclaim(&mut self, packets: &mut Packets) -> Found
+        ensures own { (way.kind.end_of self.new).table ≡ (way.kind.end_of self.old).table }
+        ensures step { TriedReclaim way.kind result.answer result.count self.old packets.old self.new packets.new }
+    {
+        if !self.is_stopped() {
+            return Found::nothing(2);
+        }
+        match self.try_reclaim(packets) {
+            Ok(count) => Found { answer: 1, count },
+            Err(_) => Found::nothing(0),
+        }
+    }
+
+    /// Asks for the queue to be enabled, if nothing was asked yet, and loads the control word: 1 where it is on; 0 where it is
+    /// not; 2 where it was seen disabled, and has to be renewed first.
+    final fn enable(&mut self) -> u32
+        ensures own { (way.kind.end_of self.new).table ≡ (way.kind.end_of self.old).table }
+        ensures step { TriedEnable way.kind result self.old self.new }
+    {
+        match self.try_enable() {
+            Ok(true) => 1,
+            Ok(false) => 0,
+            Err(_) => 2,
+        }
+    }
+
+    /// Asks for the queue to be disabled: 1, or 0 where it is not on.
+    final fn ask_disable(&mut self) -> u32
+        ensures own { (way.kind.end_of self.new).table ≡ (way.kind.end_of self.old).table }
+        ensures step { TriedDisable way.kind result self.old self.new }
+    {
+        match self.try_disable() {
+            Ok(()) => 1,
+            Err(_) => 0,
+        }
+    }
+
+    /// Loads the control word, and once the disabling is answered the head: 1, and how many segments are left,
+    /// once; else 0.
+    final fn finish_disable(&mut self) -> Found
+        ensures own { (way.kind.end_of self.new).table ≡ (way.kind.end_of self.old).table }
+        ensures step { TriedLeft way.kind result.answer result.count self.old self.new }
+    {
+        match self.try_finish() {
+            Some(left) => Found {
+                answer: 1,
+                count: left as usize,
+            },
+            None => Found::nothing(0),
+        }
+    }
+
+    /// Clears the registers of a disabled queue from which all buffers came back: 1; or 0 where it was not seen disabled, or
+    /// buffers are left.
+    final fn renew(&mut self) -> u32
+        ensures own { (way.kind.end_of self.new).table ≡ (way.kind.end_of self.old).table }
+        ensures step { TriedRenewal way.kind result self.old self.new }
+    {
+        match self.try_renew() {
+            Ok(()) => 1,
+            Err(_) => 0,
+        }
+    }
+}
+
+impl Queue for Half<RxRing, RxDriver> {
+    ghost way = { directed receiver };
+
+    fn is_stopped(&self) -> bool {
+        self.end.is_stopped()
+    }
+
+    fn try_reclaim(&mut self, packets: &mut Packets) -> Result<usize, DriverError> {
+        self.end.reclaim_into(&self.ring, &mut packets.stash)
+    }
+
+    fn try_enable(&mut self) -> Result<bool, DriverError> {
+        self.end.enable(&self.ring)
+    }
+
+    fn try_disable(&mut self) -> Result<(), DriverError> {
+        self.end.ask_disable(&self.ring)
+    }
+
+    fn try_finish(&mut self) -> Option<u32> {
+        self.end.finish_disable(&self.ring)
+    }
+
+    fn try_renew(&mut self) -> Result<(), DriverError> {
+        self.end.renew(&self.ring)
+    }
+}
+
+impl Queue for Half<TxRing, TxDriver> {
+    ghost way = { directed transmitter };
+
+    fn is_stopped(&self) -> bool {
+        self.end.is_stopped()
+    }
+
+    fn try_reclaim(&mut self, packets: &mut Packets) -> Result<usize, DriverError> {
+        self.end.reclaim_into(&self.ring, &mut packets.stash)
+    }
+
+    fn try_enable(&mut self) -> Result<bool, DriverError> {
+        self.end.enable(&self.ring)
+    }
+
+    fn try_disable(&mut self) -> Result<(), DriverError> {
+        self.end.ask_disable(&self.ring)
+    }
+
+    fn try_finish(&mut self) -> Option<u32> {
+        self.end.finish_disable(&self.ring)
+    }
+
+    fn try_renew(&mut self) -> Result<(), DriverError> {
+        self.end.renew(&self.ring)
+    }
+}
+
+impl Half<RxRing, RxDriver> {
+    /// Takes the packets that are done, up to a batch of them and as many as the worker has room for, and posts empty buffers
+    /// of its stash: 1, and how many packets these were; 0 where the queue was not seen enabled, or was seen disabled.
+    pub(crate) fn batch(&mut self, packets: &mut Packets) -> Found
+        ensures own { self.new.end.table ≡ self.old.end.table }
+        ensures step { rx.TriedBatch result.answer result.count self.old packets.old self.new packets.new }
+    {
+        match self
+            .end
+            .rx_batch(&self.ring, &mut packets.stash, &mut packets.list)
+        {
+            Ok(count) => Found { answer: 1, count },
+            Err(_) => Found::nothing(0),
+        }
+    }
+
+    /// Loads whether the device says that it stores no more: 1 or 0.
+    pub(crate) fn is_quiet(&mut self) -> u32
+        ensures own { self.new.end.table ≡ self.old.end.table }
+        ensures step { FoundQuiet result self.old self.new }
+    {
+        u32::from(self.end.is_quiet(&self.ring))
+    }
+}
+
+impl Half<TxRing, TxDriver> {
+    /// Has reported buffers in the stash again, and posts and publishes the worker's packets from the oldest on, as long as they
+    /// fit: 1, and how many these were; 0 where the queue was not seen enabled, or was seen disabled; 3 where the oldest packet is
+    /// too long for the ring, and reported buffers came back alone.
+    pub(crate) fn batch(&mut self, packets: &mut Packets) -> Found
+        ensures own { self.new.end.table ≡ self.old.end.table }
+        ensures step { tx.TriedBatch result.answer result.count self.old packets.old self.new packets.new }
+    {
+        match self
+            .end
+            .tx_batch(&self.ring, &mut packets.stash, &mut packets.list)
+        {
+            Ok(count) => Found { answer: 1, count },
+            Err(DriverError::TooLong) => Found::nothing(3),
+            Err(_) => Found::nothing(0),
+        }
+    }
+
+    /// Has reported buffers in the stash again: 1, and how many these were; 0 where the queue was not seen enabled, or was seen
+    /// disabled.
+    pub(crate) fn clean(&mut self, packets: &mut Packets) -> Found
+        ensures own { self.new.end.table ≡ self.old.end.table }
+        ensures step { TriedCleaning result.answer result.count self.old packets.old self.new packets.new }
+    {
+        if !self.end.is_live() {
+            return Found::nothing(0);
+        }
+        let count = self.end.clean(&self.ring, &mut packets.stash);
+        Found { answer: 1, count }
+    }
+}

@@ -1,0 +1,132 @@
+//! The exports that make a ring, a queue or a worker's packets.
+ghost use Rattle.std.specs.Prelude.{◌≡◌, ◌≢◌, ◌<◌, ◌⊎◌, pos};
+ghost use Rattle.limits.specs.RingLength.{IsRingLength};
+ghost use Rattle.controller.specs.FillSize.{IsFillSize};
+ghost use Rattle.ring_model.specs.declared.states.Completion.TheVariants as by;
+ghost use Rattle.opaque.specs.Words.{is_set};
+ghost use Rattle.poll82599_c.specs.Handles.{as_packets, as_rx_controller, as_rx_device, as_rx_driver, as_rx_queue, as_tx_controller, as_tx_device, as_tx_driver, as_tx_queue};
+ghost use Rattle.poll82599_c.specs.batches.Packets.{IsMade};
+ghost use Rattle.poll82599_c.specs.batches.Receiving as rx_queue;
+ghost use Rattle.poll82599_c.specs.batches.Transmitting as tx_queue;
+ghost use Rattle.poll82599_c.specs.rings.RxEnds as rx;
+ghost use Rattle.poll82599_c.specs.rings.TxEnds as tx;
+
+use crate::batches::fresh_packets;
+use crate::handle::Handle;
+use crate::makings::{completion_of, put_both, rx_ends, rx_queue, tx_ends, tx_queue};
+use opaque::is_set;
+use std::alloc::Global;
+
+/// Makes a receive ring of so many descriptors, and its driver with so many buffers and its controller: 0; 1 where the length
+/// is no power of two from 8 to 4,096; 2 where memory was refused; 3 where there are not 16 to 256 buffers. Only 0 changes
+/// the handles, which must hold nothing.
+#[unsafe(no_mangle)]
+pub extern "C" fn poll82599_rx_new(
+    alloc: Global,
+    descriptors: u32,
+    buffers: u32,
+    driver: &mut Handle,
+    controller: &mut Handle,
+) -> i32
+    ensures made { (result ≡ pos 0) → rx.AreMade descriptors (as_rx_driver driver.new.held) (as_rx_controller controller.new.held) }
+    ensures length { (result ≡ pos 1) → ¬ IsRingLength descriptors }
+    ensures buffers { (result ≡ pos 3) → (buffers < 16) ⊎ (256 < buffers) }
+    ensures settings { result ≢ pos 4 }
+    ensures driver { (result ≢ pos 0) → driver.new ≡ driver.old }
+    ensures controller { (result ≢ pos 0) → controller.new ≡ controller.old }
+{
+    put_both(rx_ends(alloc, descriptors, buffers), driver, controller)
+}
+
+/// Makes a transmit ring of so many descriptors, which reports by DD in its descriptors, or where `by_head` is not 0 by a head
+/// word, and its driver with so many buffers and its controller: 0; 1 where the length is no power of two from 8 to 4,096; 2
+/// where memory was refused; 3 where there are not 16 to 256 buffers. Only 0 changes the handles, which must hold nothing.
+#[unsafe(no_mangle)]
+pub extern "C" fn poll82599_tx_new(
+    alloc: Global,
+    descriptors: u32,
+    buffers: u32,
+    by_head: u32,
+    driver: &mut Handle,
+    controller: &mut Handle,
+) -> i32
+    ensures status { (result ≡ pos 0) → (by_head ≡ 0) → tx.AreMade descriptors by.Status (as_tx_driver driver.new.held) (as_tx_controller controller.new.held) }
+    ensures head { (result ≡ pos 0) → (by_head ≢ 0) → tx.AreMade descriptors by.Head (as_tx_driver driver.new.held) (as_tx_controller controller.new.held) }
+    ensures length { (result ≡ pos 1) → ¬ IsRingLength descriptors }
+    ensures buffers { (result ≡ pos 3) → (buffers < 16) ⊎ (256 < buffers) }
+    ensures settings { result ≢ pos 4 }
+    ensures driver { (result ≢ pos 0) → driver.new ≡ driver.old }
+    ensures controller { (result ≢ pos 0) → controller.new ≡ controller.old }
+{
+    let made = tx_ends(alloc, descriptors, buffers, completion_of(by_head));
+    put_both(made, driver, controller)
+}
+
+/// Makes a receive queue of so many descriptors, whose driver takes up to `batch` packets at once, and whose device fills buffers to
+/// `fill` bytes and drops a frame for which too few descriptors are free, or where `drop_en` is 0 holds it: 0; 1 where the length is
+/// no power of two from 8 to 4,096; 2 where memory was refused; 4 where a batch has not 1 to 32 packets, or buffers are not filled to
+/// 1,024 or 2,048 bytes. Only 0 changes the handles, which must hold nothing.
+#[unsafe(no_mangle)]
+pub extern "C" fn poll82599_rx_queue_new(
+    alloc: Global,
+    descriptors: u32,
+    batch: usize,
+    fill: usize,
+    drop_en: u32,
+    queue: &mut Handle,
+    device: &mut Handle,
+) -> i32
+    ensures made { (result ≡ pos 0) → rx_queue.AreMade descriptors batch fill (is_set drop_en) (as_rx_queue queue.new.held) (as_rx_device device.new.held) }
+    ensures length { (result ≡ pos 1) → ¬ IsRingLength descriptors }
+    ensures settings { (result ≡ pos 4) → ((batch ≡ 0) ⊎ (32 < batch)) ⊎ ¬ IsFillSize fill }
+    ensures buffers { result ≢ pos 3 }
+    ensures queue { (result ≢ pos 0) → queue.new ≡ queue.old }
+    ensures device { (result ≢ pos 0) → device.new ≡ device.old }
+{
+    put_both(
+        rx_queue(alloc, descriptors, batch, fill, is_set(drop_en)),
+        queue,
+        device,
+    )
+}
+
+/// Makes a transmit queue of so many descriptors, which reports by DD in its descriptors, or where `by_head` is not 0 by a head word,
+/// and whose driver asks for a report with each `every`th frame, and its device: 0; 1 where the length is no power of two from 8 to
+/// 4,096; 2 where memory was refused; 4 where `every` is not 1 to 4,096. Only 0 changes the handles, which must hold nothing.
+#[unsafe(no_mangle)]
+pub extern "C" fn poll82599_tx_queue_new(
+    alloc: Global,
+    descriptors: u32,
+    every: u16,
+    by_head: u32,
+    queue: &mut Handle,
+    device: &mut Handle,
+) -> i32
+    ensures status { (result ≡ pos 0) → (by_head ≡ 0) → tx_queue.AreMade descriptors every by.Status (as_tx_queue queue.new.held) (as_tx_device device.new.held) }
+    ensures head { (result ≡ pos 0) → (by_head ≢ 0) → tx_queue.AreMade descriptors every by.Head (as_tx_queue queue.new.held) (as_tx_device device.new.held) }
+    ensures length { (result ≡ pos 1) → ¬ IsRingLength descriptors }
+    ensures settings { (result ≡ pos 4) → (every ≡ 0) ⊎ (4096 < every) }
+    ensures buffers { result ≢ pos 3 }
+    ensures queue { (result ≢ pos 0) → queue.new ≡ queue.old }
+    ensures device { (result ≢ pos 0) → device.new ≡ device.old }
+{
+    let made = tx_queue(alloc, descriptors, every, completion_of(by_head));
+    put_both(made, queue, device)
+}
+
+/// Makes a worker's packets: none, and so many empty buffers: 0; 2 where memory was refused; 3 where there are not 16 to 256
+/// buffers. Only 0 changes the handle, which must hold nothing.
+#[unsafe(no_mangle)]
+pub extern "C" fn poll82599_packets_new(alloc: Global, buffers: u32, packets: &mut Handle) -> i32
+    ensures made { (result ≡ pos 0) → IsMade buffers (as_packets packets.new.held) }
+    ensures buffers { (result ≡ pos 3) → (buffers < 16) ⊎ (256 < buffers) }
+    ensures kept { (result ≢ pos 0) → packets.new ≡ packets.old }
+{
+    match fresh_packets(alloc, buffers) {
+        Ok(made) => {
+            packets.put(made);
+            0
+        }
+        Err(why) => why.number(),
+    }
+}

@@ -1,0 +1,60 @@
+//! The driver and the device of a new queue.
+ghost use Rattle.std.specs.Prelude.{◌≡◌, ◌≢◌, ◌<◌, ◌⊎◌, Some, IfErr, IfOk};
+ghost use Rattle.limits.specs.RingLength.{IsRingLength};
+ghost use Rattle.controller.specs.FillSize.{IsFillSize};
+ghost use Rattle.poll82599_c.specs.Handles.{as_rx_device, as_rx_queue, as_tx_device, as_tx_queue};
+ghost use Rattle.poll82599_c.specs.batches.Receiving as rx_queue;
+ghost use Rattle.poll82599_c.specs.batches.Transmitting as tx_queue;
+
+use crate::end::End;
+use crate::half::Half;
+use crate::makings::{Unmade, both_boxed, rx_halves, tx_halves};
+use controller::{RxController, TxController, is_fill_size};
+use driver::{MOST_BATCH, MOST_RS_EVERY, RxDriver, TxDriver};
+use std::alloc::Global;
+use tx_ring::Completion;
+
+/// A ring of so many descriptors, a driver that takes up to `batch` packets at once, and a device that fills buffers to `fill`
+/// bytes, and drops or holds a frame for which too few descriptors are free.
+pub(crate) fn rx_queue(
+    alloc: Global,
+    ring: u32,
+    batch: usize,
+    fill: usize,
+    drop_en: bool,
+) -> Result<(Box<End>, Box<End>), Unmade>
+    ensures made { IfOk result (λ r. rx_queue.AreMade ring batch fill drop_en (as_rx_queue (Some r.0.value)) (as_rx_device (Some r.1.value))) }
+    ensures length { IfErr result (λ e. e ≡ Unmade.Length → ¬ IsRingLength ring) }
+    ensures settings { IfErr result (λ e. e ≡ Unmade.Settings → ((batch ≡ 0) ⊎ (32 < batch)) ⊎ ¬ IsFillSize fill) }
+    ensures refusals { IfErr result (λ e. e ≢ Unmade.Buffers) }
+{
+    if batch == 0 || MOST_BATCH < batch || !is_fill_size(fill) {
+        return Err(Unmade::Settings);
+    }
+    let (driver, controller) = rx_halves(alloc, ring)?;
+    let queue = Half::of(driver.ring, RxDriver::new(driver.end, batch));
+    let serving = RxController::new(controller.end, fill, drop_en);
+    let device = Half::of(controller.ring, serving);
+    both_boxed(alloc, End::RxQueue(queue), End::RxDevice(device))
+}
+
+/// A ring of so many descriptors that reports so, a driver that asks for a report with each `every`th frame, and a device.
+pub(crate) fn tx_queue(
+    alloc: Global,
+    ring: u32,
+    every: u16,
+    completion: Completion,
+) -> Result<(Box<End>, Box<End>), Unmade>
+    ensures made { IfOk result (λ r. tx_queue.AreMade ring every completion (as_tx_queue (Some r.0.value)) (as_tx_device (Some r.1.value))) }
+    ensures length { IfErr result (λ e. e ≡ Unmade.Length → ¬ IsRingLength ring) }
+    ensures settings { IfErr result (λ e. e ≡ Unmade.Settings → (every ≡ 0) ⊎ (4096 < every)) }
+    ensures refusals { IfErr result (λ e. e ≢ Unmade.Buffers) }
+{
+    if every == 0 || MOST_RS_EVERY < every {
+        return Err(Unmade::Settings);
+    }
+    let (driver, controller) = tx_halves(alloc, ring, completion)?;
+    let queue = Half::of(driver.ring, TxDriver::new(driver.end, every));
+    let device = Half::of(controller.ring, TxController::new(controller.end));
+    both_boxed(alloc, End::TxQueue(queue), End::TxDevice(device))
+}

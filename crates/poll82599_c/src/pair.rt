@@ -1,0 +1,30 @@
+//! Which two objects are closed together.
+ghost use Rattle.std.specs.Prelude.{◌≡◌, true, false, Some};
+ghost use Rattle.poll82599_c.specs.Pairs.{IsPair, LacksOne};
+
+use crate::end::End;
+
+/// Two objects that are closed together: a driver's and a controller's, or a queue's driver and its device.
+#[derive(Clone, Copy)]
+pub(crate) enum Pair {
+    RxRing,
+    TxRing,
+    RxQueue,
+    TxQueue,
+}
+
+impl Pair {
+    /// Whether two objects are such two.
+    pub(crate) fn is(self, one: &End, other: &End) -> bool
+        ensures are { result ≡ true → IsPair self one.now other.now }
+        ensures lacks { result ≡ false → LacksOne self (Some one.now) (Some other.now) }
+    {
+        match (self, one, other) {
+            (Pair::RxRing, End::RxDriver(_), End::RxController(_)) => true,
+            (Pair::TxRing, End::TxDriver(_), End::TxController(_)) => true,
+            (Pair::RxQueue, End::RxQueue(_), End::RxDevice(_)) => true,
+            (Pair::TxQueue, End::TxQueue(_), End::TxDevice(_)) => true,
+            _ => false,
+        }
+    }
+}
