@@ -21,7 +21,8 @@ use Rattle.shared_ring.specs.Seats.{controller_part}
 use Rattle.shared_ring.specs.Slots.{slots_while, front_buffer}
 use Rattle.shared_ring.specs.Steps.{FoundTail, CameOut}
 use Rattle.shared_ring.specs.Tables.{IsTableOf, words_of}
-use Rattle.shared_ring.proofs.Allowed.{controller-store, controller-load, controller-take, controller-give}
+use Rattle.shared_ring.proofs.Allowing.{controller_role}
+use Rattle.shared_ring.proofs.Allowed.{may-store, may-load, may-take, may-give}
 use Rattle.shared_ring.proofs.Standing as standing
 use Rattle.shared_ring.proofs.Standing.{Asks, LoadAsks, front-is}
 use Rattle.shared_ring.proofs.Folds.{controlling-snoc}
@@ -114,7 +115,7 @@ module _ {Ring Posted Served Given D C : Type 0} (form : Form Ring Posted Served
 
         -- A3, B3
         pub look-asks : (id : ℕ) → is_serving (done_by now).state ≡ true → LoadAsks form table ring key me (Loads (controller_end form) (λ n es i r b. controller.Looked r) (IsTail form)) id (size + 1)
-        look-asks id serving = standing.load-asks stands form (Loads (controller_end form) (λ n es i r b. controller.Looked r) (IsTail form)) id (size + 1) (standing.low size mode (size + 1) (omega arith)) (controller-load form size mode es id its (Loads (controller_end form) (λ n es i r b. controller.Looked r) (IsTail form)) (size + 1) controller.Looked (λ r. (r < size) × (x.known ≤ count_at size (length x.served) r))
+        look-asks id serving = standing.load-asks stands form (Loads (controller_end form) (λ n es i r b. controller.Looked r) (IsTail form)) id (size + 1) (standing.low size mode (size + 1) (omega arith)) (may-load form size mode (controller_role (form.Lies size mode)) es id its (Loads (controller_end form) (λ n es i r b. controller.Looked r) (IsTail form)) (size + 1) controller.Looked (λ r. (r < size) × (x.known ≤ count_at size (length x.served) r))
             (λ q ds words homes pos l. let a = inv.law.allowed size mode q ds es words homes pos l in let f = a.controller in let g = f.look (serves serving) in ((g.0, g.1), g.2)) (λ r t. record { adds = record { seat = refl; names = refl }; told = record { below = t.0; grows = t.1 } }))
 
         -- a tail is a place
@@ -133,7 +134,7 @@ module _ {Ring Posted Served Given D C : Type 0} (form : Form Ring Posted Served
             → LoadAsks form table ring key me (Takes (controller_end form) (λ n es p r b. controller.Fetched p r b) (IsNext form)) id place
         fetch-asks id place at serving some none_held free = let f : (done_by now).known - length (done_by now).served ≡ x.known - length x.served = words-are (λ y n. y.known - length y.served) in
             let more : length x.served < x.known = omega arith in
-            standing.load-asks stands form (Takes (controller_end form) (λ n es p r b. controller.Fetched p r b) (IsNext form)) id place (below place (at-serve place at)) (controller-take form size mode es id its (Takes (controller_end form) (λ n es p r b. controller.Fetched p r b) (IsNext form)) place (λ r b. controller.Fetched place r b) (λ r b. form.IsFetched size x r b)
+            standing.load-asks stands form (Takes (controller_end form) (λ n es p r b. controller.Fetched p r b) (IsNext form)) id place (below place (at-serve place at)) (may-take form size mode (controller_role (form.Lies size mode)) es id its (Takes (controller_end form) (λ n es p r b. controller.Fetched p r b) (IsNext form)) place (λ r b. controller.Fetched place r b) (λ r b. form.IsFetched size x r b)
             (λ q ds words homes pos l. let a = inv.law.allowed size mode q ds es words homes pos l in let f = a.controller in
             let g = f.fetch place (at-serve place at) (serves serving) more (unheld none_held) (sym (words-are (λ y n. y.barred)) ∙ free) in (g.buf, g.home, g.fetched, g.agrees)) (λ r b t. record { buf = b; adds = record { seat = refl; names = refl }; told = t }))
 
@@ -157,19 +158,19 @@ module _ {Ring Posted Served Given D C : Type 0} (form : Form Ring Posted Served
 
         -- C2
         pub request-asks : (id : ℕ) → LoadAsks form table ring key me (Loads (controller_end form) (λ n es i r b. controller.LoadedRequest r) IsControl) id (size + 2)
-        request-asks id = standing.load-asks stands form (Loads (controller_end form) (λ n es i r b. controller.LoadedRequest r) IsControl) id (size + 2) (standing.low size mode (size + 2) (omega arith)) (controller-load form size mode es id its (Loads (controller_end form) (λ n es i r b. controller.LoadedRequest r) IsControl) (size + 2) controller.LoadedRequest (λ r. r ≤ 3)
+        request-asks id = standing.load-asks stands form (Loads (controller_end form) (λ n es i r b. controller.LoadedRequest r) IsControl) id (size + 2) (standing.low size mode (size + 2) (omega arith)) (may-load form size mode (controller_role (form.Lies size mode)) es id its (Loads (controller_end form) (λ n es i r b. controller.LoadedRequest r) IsControl) (size + 2) controller.LoadedRequest (λ r. r ≤ 3)
             (λ q ds words homes pos l. let a = inv.law.allowed size mode q ds es words homes pos l in let f = a.controller in f.request) (λ r v. record { adds = record { seat = refl; names = refl }; told = v }))
 
         -- C3
         pub enable-asks : (id : ℕ) → (done_by now).seen ≡ 1 → is_serving (done_by now).state ≡ false → Asks form table ring key me (stores (controller_end form) (λ n es i r b. answers r)) id (size + 2) 2
-        enable-asks id asked idle = standing.store-asks stands form (stores (controller_end form) (λ n es i r b. answers r)) id (size + 2) 2 (standing.low size mode (size + 2) (omega arith)) (controller-store form size mode es id its (stores (controller_end form) (λ n es i r b. answers r)) (size + 2) 2 controller.Enabled
+        enable-asks id asked idle = standing.store-asks stands form (stores (controller_end form) (λ n es i r b. answers r)) id (size + 2) 2 (standing.low size mode (size + 2) (omega arith)) (may-store form size mode (controller_role (form.Lies size mode)) es id its (stores (controller_end form) (λ n es i r b. answers r)) (size + 2) 2 controller.Enabled
             (λ q ds words homes pos l. let a = inv.law.allowed size mode q ds es words homes pos l in let f = a.controller in f.enable (sym (words-are (λ y n. y.seen)) ∙ asked) (sym (words-are (λ y n. is_serving y.state)) ∙ idle)) (record { seat = refl; names = refl }))
 
         pub enable-slots : (done_by now).held ≡ None → controller_slots size x ≡ controller_slots size (control form size x controller.Enabled)
         enable-slots e = ap (slots_while (length x.served % size)) (unheld e) ∙ sym (ap (slots_while (0 % size)) (unheld e))
 
         pub disable-asks : (id : ℕ) → (done_by now).seen ≡ 3 → is_serving (done_by now).state ≡ true → (done_by now).held ≡ None → (done_by now).head ≡ length (done_by now).served % now.table.slots → form.MayDisable (done_by now) → Asks form table ring key me (stores (controller_end form) (λ n es i r b. answers r)) id (size + 2) 0
-        disable-asks id asked serving none_held head may = standing.store-asks stands form (stores (controller_end form) (λ n es i r b. answers r)) id (size + 2) 0 (standing.low size mode (size + 2) (omega arith)) (controller-store form size mode es id its (stores (controller_end form) (λ n es i r b. answers r)) (size + 2) 0 controller.Disabled
+        disable-asks id asked serving none_held head may = standing.store-asks stands form (stores (controller_end form) (λ n es i r b. answers r)) id (size + 2) 0 (standing.low size mode (size + 2) (omega arith)) (may-store form size mode (controller_role (form.Lies size mode)) es id its (stores (controller_end form) (λ n es i r b. answers r)) (size + 2) 0 controller.Disabled
             (λ q ds words homes pos l. let a = inv.law.allowed size mode q ds es words homes pos l in let f = a.controller in f.disable (sym (words-are (λ y n. y.seen)) ∙ asked) (serves serving) (unheld none_held)
             (sym (words-are (λ y n. y.head)) ∙ head ∙ words-are (λ y n. length y.served % n)) (here (λ n m xs. form.MayDisable (controlling form n xs)) may)) (record { seat = refl; names = refl }))
 
@@ -180,7 +181,7 @@ module _ {Ring Posted Served Given D C : Type 0} (form : Form Ring Posted Served
             store-may = here (λ n m xs. MayStore form event n m xs word v) may
 
             pub store_own-asks : (id : ℕ) → Asks form table ring key me (stores (controller_end form) event) id word v
-            store_own-asks id = let m = store-may in standing.store-asks stands form (stores (controller_end form) event) id word v m.word_is (controller-store form size mode es id its (stores (controller_end form) event) word v (event size es word v blank) m.goes (record { seat = refl; names = m.names }))
+            store_own-asks id = let m = store-may in standing.store-asks stands form (stores (controller_end form) event) id word v m.word_is (may-store form size mode (controller_role (form.Lies size mode)) es id its (stores (controller_end form) event) word v (event size es word v blank) m.goes (record { seat = refl; names = m.names }))
 
             module _ (table' : TableId) (me' : It) (t : table' ≡ table) (stored : me' ≡ (controller_does me (event ring.slots es word v blank), me.1)) where
               store_own-seat : me' ≡ (controller_does me (event size es word v blank), me.1)
@@ -212,7 +213,7 @@ module _ {Ring Posted Served Given D C : Type 0} (form : Form Ring Posted Served
                 standing.within stands word k.word_is,
                 standing.allow-at stands form (λ n z r z'. gives (controller_end form) event (step n word v 0 none) z v z') id word (λ _. v) (Controller es, (place, b) ∷ rest me.1) me'
                     (m ∙ ap (λ (w : View (DriverEvent D) (ControllerEvent C)). let z : It = (w, (place, b) ∷ rest me.1) in z) view-is)
-                    (controller-give form size mode es id (rest me.1) (gives (controller_end form) event) word v place b (event size es word v b) k.goes (record { seat = refl; names = k.names })),
+                    (may-give form size mode (controller_role (form.Lies size mode)) es id (rest me.1) (gives (controller_end form) event) word v place b (event size es word v b) k.goes (record { seat = refl; names = k.names })),
               )
 
               module _ (table' : TableId) (me1 me2 : It) (t : table' ≡ table) (put : me1 ≡ (me.0, (place, b) ∷ rest me.1)) (gave : me2 ≡ (controller_does me1 (event ring.slots (controller_part me1.0) word v (front_buffer me1.1)), rest me1.1)) where

@@ -22,7 +22,8 @@ use Rattle.shared_ring.specs.Records.{Driven, driver_slots, undriven}
 use Rattle.shared_ring.specs.Seats.{driver_part}
 use Rattle.shared_ring.specs.Slots.{empty_slots, front_buffer}
 use Rattle.shared_ring.specs.Tables.{IsTableOf, words_of}
-use Rattle.shared_ring.proofs.Allowed.{driver-store, driver-load, driver-clear, driver-find, driver-give}
+use Rattle.shared_ring.proofs.Allowing.{driver_role}
+use Rattle.shared_ring.proofs.Allowed.{may-store, may-load, may-clear, may-find, may-give}
 use Rattle.shared_ring.proofs.Standing as standing
 use Rattle.shared_ring.proofs.Standing.{Asks, LoadAsks, front-is}
 use Rattle.shared_ring.proofs.Folds.{driving-snoc, slots-post, slots-return, slots-alike}
@@ -149,7 +150,7 @@ module _ {Ring Posted Served Given D C : Type 0} (form : Form Ring Posted Served
             standing.within stands place (below place (length d.posted) (filled place at)),
             standing.allow-at stands form (λ n z r z'. gives (driver_end form) (λ n es p r b. driver.Posted p r b) (step n place word 0 none) z word z') id place (λ _. word) (Driver es, (place, b) ∷ rest me.1) me'
                 (m ∙ ap (λ (v : View (DriverEvent D) (ControllerEvent C)). let x : It = (v, (place, b) ∷ rest me.1) in x) view-is)
-                (driver-give form size mode es id (rest me.1) (gives (driver_end form) (λ n es p r b. driver.Posted p r b)) place word place b (driver.Posted place word b)
+                (may-give form size mode (driver_role (form.Lies size mode)) es id (rest me.1) (gives (driver_end form) (λ n es p r b. driver.Posted p r b)) place word place b (driver.Posted place word b)
                 (λ q cs words homes pos l. let a = inv.law.allowed size mode q es cs words homes pos l in let f = a.driver in
                 f.post place word b (filled place at) (sym (words-are (λ x n. is_open x.state)) ∙ opened) room (here (λ n m xs. form.MayPost n (driving form xs).posted word b) may)) (record { seat = refl; names = refl })),
           )
@@ -168,39 +169,39 @@ module _ {Ring Posted Served Given D C : Type 0} (form : Form Ring Posted Served
 
         -- A2, B2
         pub publish-asks : (id t : ℕ) → t ≡ length (done_by now).posted % now.table.slots → is_open (done_by now).state ≡ true → form.MayPublish (done_by now).posted → Asks form table ring key me (stores (driver_end form) (λ n es i r b. driver.Published r)) id (size + 1) t
-        publish-asks id t at opened may = standing.store-asks stands form (stores (driver_end form) (λ n es i r b. driver.Published r)) id (size + 1) t (standing.low size mode (size + 1) (omega arith)) (driver-store form size mode es id its (stores (driver_end form) (λ n es i r b. driver.Published r)) (size + 1) t (driver.Published t)
+        publish-asks id t at opened may = standing.store-asks stands form (stores (driver_end form) (λ n es i r b. driver.Published r)) id (size + 1) t (standing.low size mode (size + 1) (omega arith)) (may-store form size mode (driver_role (form.Lies size mode)) es id its (stores (driver_end form) (λ n es i r b. driver.Published r)) (size + 1) t (driver.Published t)
             (λ q cs words homes pos l. let a = inv.law.allowed size mode q es cs words homes pos l in let f = a.driver in
             f.publish t (filled t at) (sym (words-are (λ x n. is_open x.state)) ∙ opened) (here (λ n m xs. form.MayPublish (driving form xs).posted) may)) (record { seat = refl; names = refl }))
 
         -- C1
         pub ask_enable-asks : (id : ℕ) → is_new (done_by now).state ≡ true → Asks form table ring key me (stores (driver_end form) (λ n es i r b. asks r)) id (size + 2) 1
-        ask_enable-asks id new = standing.store-asks stands form (stores (driver_end form) (λ n es i r b. asks r)) id (size + 2) 1 (standing.low size mode (size + 2) (omega arith)) (driver-store form size mode es id its (stores (driver_end form) (λ n es i r b. asks r)) (size + 2) 1 driver.AskedEnable
+        ask_enable-asks id new = standing.store-asks stands form (stores (driver_end form) (λ n es i r b. asks r)) id (size + 2) 1 (standing.low size mode (size + 2) (omega arith)) (may-store form size mode (driver_role (form.Lies size mode)) es id its (stores (driver_end form) (λ n es i r b. asks r)) (size + 2) 1 driver.AskedEnable
             (λ q cs words homes pos l. let a = inv.law.allowed size mode q es cs words homes pos l in let f = a.driver in f.ask_enable (sym (words-are (λ x n. is_new x.state)) ∙ new)) (record { seat = refl; names = refl }))
 
         -- C4
         pub control-asks : (id : ℕ) → LoadAsks form table ring key me (Loads (driver_end form) (λ n es i r b. driver.LoadedControl r) IsControl) id (size + 2)
-        control-asks id = standing.load-asks stands form (Loads (driver_end form) (λ n es i r b. driver.LoadedControl r) IsControl) id (size + 2) (standing.low size mode (size + 2) (omega arith)) (driver-load form size mode es id its (Loads (driver_end form) (λ n es i r b. driver.LoadedControl r) IsControl) (size + 2) driver.LoadedControl (λ r. r ≤ 3)
+        control-asks id = standing.load-asks stands form (Loads (driver_end form) (λ n es i r b. driver.LoadedControl r) IsControl) id (size + 2) (standing.low size mode (size + 2) (omega arith)) (may-load form size mode (driver_role (form.Lies size mode)) es id its (Loads (driver_end form) (λ n es i r b. driver.LoadedControl r) IsControl) (size + 2) driver.LoadedControl (λ r. r ≤ 3)
             (λ q cs words homes pos l. let a = inv.law.allowed size mode q es cs words homes pos l in let f = a.driver in f.control) (λ r v. record { adds = record { seat = refl; names = refl }; told = v }))
 
         -- C5
         pub ask_disable-asks : (id : ℕ) → is_on (done_by now).state ≡ true → Asks form table ring key me (stores (driver_end form) (λ n es i r b. asks r)) id (size + 2) 3
-        ask_disable-asks id on = standing.store-asks stands form (stores (driver_end form) (λ n es i r b. asks r)) id (size + 2) 3 (standing.low size mode (size + 2) (omega arith)) (driver-store form size mode es id its (stores (driver_end form) (λ n es i r b. asks r)) (size + 2) 3 driver.AskedDisable
+        ask_disable-asks id on = standing.store-asks stands form (stores (driver_end form) (λ n es i r b. asks r)) id (size + 2) 3 (standing.low size mode (size + 2) (omega arith)) (may-store form size mode (driver_role (form.Lies size mode)) es id its (stores (driver_end form) (λ n es i r b. asks r)) (size + 2) 3 driver.AskedDisable
             (λ q cs words homes pos l. let a = inv.law.allowed size mode q es cs words homes pos l in let f = a.driver in f.ask_disable (sym (words-are (λ x n. is_on x.state)) ∙ on)) (record { seat = refl; names = refl }))
 
         -- the load of the head
         pub head-asks : (id : ℕ) → is_stopped (done_by now).state ≡ true → LoadAsks form table ring key me (Loads (driver_end form) (λ n es i r b. driver.LoadedHead r) IsPlace) id size
-        head-asks id stopped = standing.load-asks stands form (Loads (driver_end form) (λ n es i r b. driver.LoadedHead r) IsPlace) id size (standing.low size mode size (omega arith)) (driver-load form size mode es id its (Loads (driver_end form) (λ n es i r b. driver.LoadedHead r) IsPlace) size driver.LoadedHead (λ r. r < size)
+        head-asks id stopped = standing.load-asks stands form (Loads (driver_end form) (λ n es i r b. driver.LoadedHead r) IsPlace) id size (standing.low size mode size (omega arith)) (may-load form size mode (driver_role (form.Lies size mode)) es id its (Loads (driver_end form) (λ n es i r b. driver.LoadedHead r) IsPlace) size driver.LoadedHead (λ r. r < size)
             (λ q cs words homes pos l. let a = inv.law.allowed size mode q es cs words homes pos l in let f = a.driver in f.head (sym (words-are (λ x n. is_stopped x.state)) ∙ stopped)) (λ r v. record { adds = record { seat = refl; names = refl }; told = v }))
 
         -- C9
         pub clear_head-asks : (id : ℕ) → is_stopped (done_by now).state ≡ true → length (done_by now).given + (done_by now).reclaimed ≡ length (done_by now).posted → Asks form table ring key me (stores (driver_end form) (λ n es i r b. driver.ClearedHead)) id size 0
-        clear_head-asks id stopped back = standing.store-asks stands form (stores (driver_end form) (λ n es i r b. driver.ClearedHead)) id size 0 (standing.low size mode size (omega arith)) (driver-store form size mode es id its (stores (driver_end form) (λ n es i r b. driver.ClearedHead)) size 0 driver.ClearedHead
+        clear_head-asks id stopped back = standing.store-asks stands form (stores (driver_end form) (λ n es i r b. driver.ClearedHead)) id size 0 (standing.low size mode size (omega arith)) (may-store form size mode (driver_role (form.Lies size mode)) es id its (stores (driver_end form) (λ n es i r b. driver.ClearedHead)) size 0 driver.ClearedHead
             (λ q cs words homes pos l. let a = inv.law.allowed size mode q es cs words homes pos l in let f = a.driver in f.clear_head (sym (words-are (λ x n. is_stopped x.state)) ∙ stopped)
             (sym (words-are (λ x n. length x.given + x.reclaimed)) ∙ back ∙ words-are (λ x n. length x.posted))) (record { seat = refl; names = refl }))
 
         -- C10
         pub clear_tail-asks : (id : ℕ) → form.MayClearTail now.completion → is_cleared (done_by now).state ≡ true → Asks form table ring key me (stores (driver_end form) (λ n es i r b. driver.ClearedTail)) id (size + 1) 0
-        clear_tail-asks id may cleared = standing.store-asks stands form (stores (driver_end form) (λ n es i r b. driver.ClearedTail)) id (size + 1) 0 (standing.low size mode (size + 1) (omega arith)) (driver-store form size mode es id its (stores (driver_end form) (λ n es i r b. driver.ClearedTail)) (size + 1) 0 driver.ClearedTail
+        clear_tail-asks id may cleared = standing.store-asks stands form (stores (driver_end form) (λ n es i r b. driver.ClearedTail)) id (size + 1) 0 (standing.low size mode (size + 1) (omega arith)) (may-store form size mode (driver_role (form.Lies size mode)) es id its (stores (driver_end form) (λ n es i r b. driver.ClearedTail)) (size + 1) 0 driver.ClearedTail
             (λ q cs words homes pos l. let a = inv.law.allowed size mode q es cs words homes pos l in let f = a.driver in f.clear_tail (here (λ n m xs. form.MayClearTail m) may) (sym (words-are (λ x n. is_cleared x.state)) ∙ cleared)) (record { seat = refl; names = refl }))
 
         -- Steps of one direction's own
@@ -212,7 +213,7 @@ module _ {Ring Posted Served Given D C : Type 0} (form : Form Ring Posted Served
 
             pub load_own-asks : (id : ℕ) → LoadAsks form table ring key me (Loads (driver_end form) event tells) id word
             load_own-asks id = let m = load-may in standing.load-asks stands form (Loads (driver_end form) event tells) id word m.word_is
-                (driver-load form size mode es id its (Loads (driver_end form) event tells) word (λ r. event size es word r blank) (λ r. tells size es word r blank) m.goes (λ r t. record { adds = record { seat = refl; names = m.names r }; told = t }))
+                (may-load form size mode (driver_role (form.Lies size mode)) es id its (Loads (driver_end form) event tells) word (λ r. event size es word r blank) (λ r. tells size es word r blank) m.goes (λ r t. record { adds = record { seat = refl; names = m.names r }; told = t }))
 
             module _ (r : ℕ) (me' : It) (told : Loads (driver_end form) event tells (step ring.slots word 0 0 none) me r me') where
               load_own-seat : me' ≡ (driver_does me (event size es word r blank), me.1)
@@ -265,7 +266,7 @@ module _ {Ring Posted Served Given D C : Type 0} (form : Form Ring Posted Served
 
               pub clear_own-asks : (id : ℕ) → Asks form table ring key me (Takes (driver_end form) event tells) id place 0
               clear_own-asks id = let m = clear-may in standing.store-asks stands form (Takes (driver_end form) event tells) id place 0 (below place (length d.given + d.reclaimed) (next-is place at))
-                  (driver-clear form size mode es id its (Takes (driver_end form) event tells) place (λ b. event size es place 0 b) (λ b. tells size es place 0 b)
+                  (may-clear form size mode (driver_role (form.Lies size mode)) es id its (Takes (driver_end form) event tells) place (λ b. event size es place 0 b) (λ b. tells size es place 0 b)
                   (λ q cs words homes pos l. let o = m.goes q cs words homes pos l in (o.buf, o.home, o.told, o.agrees)) (λ b t. record { buf = b; adds = record { seat = refl; names = m.names b }; told = t }))
 
               module _ (b : Buffer) (table' : TableId) (me1 me2 me3 : It) (same : table' ≡ table) (t : Takes (driver_end form) event tells (step ring.slots place 0 0 none) me 0 me1) (l : me2 ≡ (me1.0, (place, blank) ∷ rest me1.1)) (turn : me3 ≡ (me2.0, turned me2.1)) where
@@ -285,7 +286,7 @@ module _ {Ring Posted Served Given D C : Type 0} (form : Form Ring Posted Served
 
               pub take_own-asks : (id : ℕ) → LoadAsks form table ring key me (Finds (driver_end form) event tells missed done) id place
               take_own-asks id = let m = take-may in standing.load-asks stands form (Finds (driver_end form) event tells missed done) id place (below place (length d.given + d.reclaimed) (next-is place at))
-                  (driver-find form size mode es id its (Finds (driver_end form) event tells missed done) place done (missed place) (λ r b. event size es place r b) (λ r b. tells size es place r b)
+                  (may-find form size mode (driver_role (form.Lies size mode)) es id its (Finds (driver_end form) event tells missed done) place done (missed place) (λ r b. event size es place r b) (λ r b. tells size es place r b)
                   m.undone (λ q cs words homes pos l f. let o = m.goes q cs words homes pos l f in (o.buf, o.home, o.told, o.agrees))
                   (λ r f. record { undone = λ e. record { seat = refl; names = m.names_missed r }; taken = λ e. absurd (false≢true (sym f ∙ e)) })
                   (λ r b f t. record { undone = λ e. absurd (false≢true (sym e ∙ f)); taken = λ e. record { buf = b; adds = record { seat = refl; names = m.names r b }; told = t } }))
@@ -310,7 +311,7 @@ module _ {Ring Posted Served Given D C : Type 0} (form : Form Ring Posted Served
             end-may = here (λ n m xs. MayEnd form event n m xs word) may
 
             pub end_own-asks : (id : ℕ) → Asks form table ring key me (stores (driver_end form) event) id word 0
-            end_own-asks id = let m = end-may in standing.store-asks stands form (stores (driver_end form) event) id word 0 m.word_is (driver-store form size mode es id its (stores (driver_end form) event) word 0 (event size es word 0 blank) m.goes (record { seat = refl; names = m.names }))
+            end_own-asks id = let m = end-may in standing.store-asks stands form (stores (driver_end form) event) id word 0 m.word_is (may-store form size mode (driver_role (form.Lies size mode)) es id its (stores (driver_end form) event) word 0 (event size es word 0 blank) m.goes (record { seat = refl; names = m.names }))
 
             module _ (me1 : It) (ends : me1 ≡ (driver_does me (event ring.slots es word 0 blank), me.1)) where
               end-seat : me1 ≡ (driver_does me (event size es word 0 blank), me.1)

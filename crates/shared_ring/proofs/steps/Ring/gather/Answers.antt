@@ -4,13 +4,11 @@ use Rattle.shared_ring.specs.Seats.{driver_part, controller_part}
 use Rattle.shared_ring.proofs.Meeting.{left-at}
 use Rattle.shared_ring.proofs.steps.Ring.gather.Goals as goal
 
-pub unite-requires : goal.unite-requires
-unite-requires g c = record {
-  law = c.self.invariant.law;
-  of_key = c.self.invariant.of_key;
-  driver = (ap (λ e. e.table) c.driver.view_is ∙ c.requires.driver ∙ sym c.self.view_is, ap (λ m. m.0) c.driver.invariant.me_is);
-  controller = (ap (λ e. e.table) c.controller.view_is ∙ c.requires.controller ∙ sym c.self.view_is, ap (λ m. m.0) c.controller.invariant.me_is);
-}
+pub unite-requires-clause-driver : goal.unite-requires-clause-driver
+unite-requires-clause-driver g c = (ap (λ e. e.table) c.driver.view_is ∙ c.requires.driver ∙ sym c.self.view_is, ap (λ m. m.0) c.driver.invariant.me_is)
+
+pub unite-requires-clause-controller : goal.unite-requires-clause-controller
+unite-requires-clause-controller g c = (ap (λ e. e.table) c.controller.view_is ∙ c.requires.controller ∙ sym c.self.view_is, ap (λ m. m.0) c.controller.invariant.me_is)
 
 pub returns-clause-left : goal.returns-clause-left
 returns-clause-left g c =
