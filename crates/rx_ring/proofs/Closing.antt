@@ -1,108 +1,43 @@
--- A ring's end: what its slots have, and which of them lie in the ring.
-use Rattle.std.proofs.Common.{◌≡◌, ℕ, ◌+◌, ◌%◌, ◌<◌, ◌≤◌, Bool, if◌then◌else◌, List, [], ◌++◌, length, map, drop, Option, Some, None, IsPermutation, sym, refl, ap, ◌∙◌, subst, arith}
-use Rattle.std.specs.Prelude.{slice_get, slice_index}
+-- A ring's end: the two ends' own places tell which buffers come back.
+use Rattle.std.proofs.Common.{◌≡◌, ℕ, ◌<◌, ◌≤◌, List, [], Option, Some, None, sym, refl, ap, ◌∙◌, subst, arith}
+use Rattle.std.specs.Prelude.{slice_get}
 use Rattle.std.proofs.lemmas.Option.{same_Some}
-use Rattle.atomic_table.specs.Seated.{TableId}
 use Rattle.buffer_pool.specs.Buffer.{Buffer, buffer}
 use Rattle.ring_model.specs.receive.Ring.{RxRing}
 use Rattle.ring_model.specs.shared.Segments.{Segment, ends_segment, piece_of}
 use Rattle.ring_model.specs.shared.Frames.{Bytes}
-use Rattle.ring_model.specs.shared.Queue.{posted_count, served_count, returned_count}
 use Rattle.ring_model.specs.kept.Receive.{IsRxKept}
 use Rattle.ring_laws.specs.Rings.{rx_kept}
-use Rattle.ring_laws.specs.Lists.{next_number}
 use Rattle.ring_laws.specs.Lists as beginnings
 use Rattle.shared_ring.specs.declared.ends.DriverPlaces.{DriverPlaces}
 use Rattle.shared_ring.specs.declared.ends.ControllerPlaces.{ControllerPlaces}
-use Rattle.shared_ring.specs.Meeting.{TakenApart, kept_at, kept_upto, number_at, numbers_at}
-use Rattle.shared_ring.proofs.Closing.{IsPlaced, closes, kept-count, kept-there, kept-else, kept-all, kept-once}
-use Rattle.shared_ring.proofs.Laying.{index_there}
+use Rattle.shared_ring.specs.Meeting.{TakenApart, kept_at, kept_upto}
 use Rattle.shared_ring.specs.Calls.{IsPoster, IsServer}
-use Rattle.rx_ring.specs.Ends.{DriverSide, driver_size, driver_record, posted, ControllerSide, controller_size, controller_record, held}
-use Rattle.rx_ring.specs.Meeting.{IsClosed, GaveBack, IsReal, AllReal, AllCameBack}
-use Rattle.rx_ring.specs.Records.{RxDriven, controlling}
+use Rattle.shared_ring.proofs.Closed.{comes-back}
+use Rattle.rx_ring.specs.Ends.{DriverSide, driver_size, driver_record, ControllerSide, controller_size, controller_record}
+use Rattle.rx_ring.specs.Form.{rx}
+use Rattle.rx_ring.specs.Meeting.{IsClosed, GaveBack, AllReal, AllCameBack}
 use Rattle.rx_ring.specs.Rule.{says, lies_there}
-use Rattle.rx_ring.proofs.Lawful.{posted-some}
 
--- the two ends' own places tell which buffers come back
 module _ (d : DriverSide) (c : ControllerSide) (at : DriverPlaces) (e : IsPoster (driver_size d) (driver_record d) at) (same : c.table ≡ d.table)
     (places : ControllerPlaces) (h : IsServer piece_of (controller_size c) (controller_record c) places) (buffers : List (Option Buffer)) (t : TakenApart d c at.next at.out places.serve places.holding buffers) where
   abbrev q : RxRing Bytes
   q = ((t.left).of_one_ring).queue
 
-  big : 1 < driver_size d
-  big = let b : 8 ≤ driver_size d = e.lawful.0 in omega arith
-
   kept : IsRxKept Bytes (driver_size d) ((t.left).of_one_ring).queue
-  kept = let l = t.left in let a = l.of_one_ring in rx_kept (driver_size d) a.queue big a.reachable
+  kept = let l = t.left in let a = l.of_one_ring in let g : 8 ≤ driver_size d = e.lawful.0 in rx_kept (driver_size d) a.queue (omega arith) a.reachable
 
-  abbrev Lies : ℕ → Buffer → Type 0
-  Lies j y = lies_there (slice_get q.ledger.posted j) (slice_get q.ledger.served j) ≡ Some y
-
-  abbrev Is : ℕ → Buffer → Type 0
-  Is j y = (slice_get (posted d) j ≡ Some y.number) × IsReal y
-
-  -- what lies at an item that is out
-  buffer-of : (k : ℕ) → k < posted_count q.queue → (b : Buffer) × (Lies k b × Is k b)
-  buffer-of k past = let l = t.left in let a = l.of_one_ring in let b = found (slice_get q.ledger.served k) refl in (b.0, (b.1.0, (ap (λ (x : RxDriven). slice_get x.posted k) a.driver ∙ b.1.1, b.1.2)))
+  -- a stored segment has the number that was posted
+  lain : (k x : ℕ) → slice_get q.ledger.posted k ≡ Some x → (b : Buffer) × ((lies_there (Some x) (slice_get q.ledger.served k) ≡ Some b) × rx.IsOf x b)
+  lain k x is = found (slice_get q.ledger.served k) refl
     where
-      found : (o : Option (Segment Bytes)) → slice_get q.ledger.served k ≡ o → (b : Buffer) × (Lies k b × (slice_get q.ledger.posted k ≡ Some b.number) × IsReal b)
-      found None e = let h = index_there q.ledger.posted k past in (buffer (slice_index q.ledger.posted k) [], (rw (h, e) refl, h, refl))
-      found (Some s) e = let kk = kept in let h = beginnings.number_at q.ledger.served q.ledger.posted k s kk.stored e in (buffer s.number s.payload, (rw (h, e) refl, h, refl))
+      found : (o : Option (Segment Bytes)) → slice_get q.ledger.served k ≡ o → (b : Buffer) × ((lies_there (Some x) o ≡ Some b) × rx.IsOf x b)
+      found None f = (buffer x [], (refl, (refl, refl)))
+      found (Some s) f = let k' = kept in (buffer s.number s.payload, (refl, (same_Some x s.number (sym is ∙ beginnings.number_at q.ledger.served q.ledger.posted k s k'.stored f), refl)))
 
-  some-there : served_count q.queue < posted_count q.queue → ¬ (lies_there (slice_get q.ledger.posted (served_count q.queue)) None ≡ None)
-  some-there more = posted-some (slice_get q.ledger.posted (served_count q.queue)) (slice_index q.ledger.posted (served_count q.queue)) (next_number q.ledger.served q.ledger.posted more)
-
-  placed : IsPlaced (driver_size d) q.queue at.next at.out places.serve places.holding
-  placed = let l = t.left in let a = l.of_one_ring in let k = kept in closes d c at e same places h says lies_there ends_segment q.queue k.queue q.still a.driver a.controller some-there
-
-  gave-back : (place : ℕ) (bs : List (Option Buffer))
-      → ((k : ℕ) × (b : Buffer) × ((returned_count q.queue ≤ k) × (k < posted_count q.queue) × (k % driver_size d ≡ place) × (slice_get bs place ≡ Some (Some b)) × Is k b)) → GaveBack d bs place
-  gave-back place bs (k, b, f) = let l = t.left in let a = l.of_one_ring in record {
-    item = k;
-    buf = b;
-    out = subst (λ (x : RxDriven). length x.given + x.reclaimed ≤ k) (sym a.driver) f.0;
-    posted_item = subst (λ (x : RxDriven). k < length x.posted) (sym a.driver) f.1;
-    place_is = f.2;
-    there = f.3;
-    number = f.4.0;
-  }
-
-  closed-by : IsClosed d c buffers
-  closed-by = let l = t.left in let a = l.of_one_ring in let b = a.lawful in let k = kept in let p = placed in
-      subst (λ (bs : List (Option Buffer)). IsClosed d c bs) (sym t.kept) (record {
-        of_one_ring = l.of_one_ring;
-        count = kept-count k.queue b.map a.size_is big p t.slots Lies Is buffer-of l.buffers;
-        ring = λ place e. gave-back place (kept_upto (kept_at (driver_size d) at.next at.out places.serve places.holding t.slots) (driver_size d))
-            (kept-there k.queue b.map a.size_is big p t.slots Lies Is buffer-of l.buffers place e);
-        others = kept-else k.queue b.map a.size_is big p t.slots Lies Is buffer-of l.buffers;
-      })
-
-  closed-real : AllReal buffers
-  closed-real = let l = t.left in let a = l.of_one_ring in let b = a.lawful in let k = kept in let p = placed in
-      subst AllReal (sym t.kept) (kept-all k.queue b.map a.size_is big p t.slots Lies Is buffer-of l.buffers
-      IsReal (λ j past. let y = buffer-of j past in y.1.1.1))
-
-  -- what the controller's record says that it holds
-  held-here : number_at (held c) ≡ number_at (if q.held then lies_there (slice_get q.ledger.posted (served_count q.queue)) None else None)
-  held-here = let l = t.left in let a = l.of_one_ring in let o = a.controller in ap (λ (z : TableId). number_at (controlling z.slots c.events).held) same ∙ ap number_at o.held
-
-  closed-once : AllCameBack d c buffers
-  closed-once = let l = t.left in let a = l.of_one_ring in let b = a.lawful in let k = kept in let p = placed in
-      subst (λ (bs : List (Option Buffer)). AllCameBack d c bs) (sym t.kept)
-      (subst (λ (x : RxDriven). IsPermutation (map (λ (j : ℕ). j) (drop (length x.given + x.reclaimed) x.posted)) (numbers_at (kept_upto (kept_at (driver_size d) at.next at.out places.serve places.holding t.slots) (driver_size d)) ++ number_at (held c))) (sym a.driver)
-      (kept-once k.queue b.map a.size_is big p t.slots Lies Is buffer-of l.buffers
-      (λ j. j) (λ j past x e. let y = buffer-of j past in same_Some y.0.number x (sym y.1.1.0 ∙ ap (λ (z : RxDriven). slice_get z.posted j) a.driver ∙ e))
-      (number_at (held c))
-      (λ no. held-here ∙ ap (λ (h : Bool). number_at (if h then lies_there (slice_get q.ledger.posted (served_count q.queue)) None else None)) no)
-      (λ yes x e. held-here ∙ ap (λ (h : Bool). number_at (if h then lies_there (slice_get q.ledger.posted (served_count q.queue)) None else None)) yes ∙ ap (λ (o : Option ℕ). number_at (lies_there o None)) e)))
-
--- the same of the two ends as a caller sees them
-pub closed : (d seen : DriverSide) (c other : ControllerSide) (at : DriverPlaces) (places : ControllerPlaces) (buffers : List (Option Buffer)) → d ≡ seen → c ≡ other → other.table ≡ seen.table
-    → IsPoster (driver_size d) (driver_record d) at → IsServer piece_of (controller_size c) (controller_record c) places → TakenApart d c at.next at.out places.serve places.holding buffers
-    → IsClosed seen other buffers × AllReal buffers × AllCameBack seen other buffers
-closed d seen c other at places buffers e f one p s t =
-    let same : c.table ≡ d.table = ap (λ (x : ControllerSide). x.table) f ∙ one ∙ sym (ap (λ (x : DriverSide). x.table) e) in
-    subst (λ (x : DriverSide). IsClosed x other buffers × AllReal buffers × AllCameBack x other buffers) e
-    (subst (λ (x : ControllerSide). IsClosed d x buffers × AllReal buffers × AllCameBack d x buffers) f
-    (closed-by d c at p same places s buffers t, closed-real d c at p same places s buffers t, closed-once d c at p same places s buffers t))
+  pub closed : IsClosed d c buffers × AllReal buffers × AllCameBack d c buffers
+  closed = let l = t.left in let a = l.of_one_ring in let b = a.lawful in let k = kept in
+      let all = comes-back d c at e same places h says lies_there ends_segment q.queue k.queue q.owners b.map a.size_is q.still a.driver a.controller t.slots l.buffers lain (λ x y of. of.1) (λ x. x) (λ x y of. sym of.0) (λ x. (buffer x [], (refl, refl)))
+          (GaveBack d (kept_upto (kept_at (driver_size d) at.next at.out places.serve places.holding t.slots) (driver_size d)))
+          (λ place k x y out more is there was of. record { item = k; buf = y; out = out; posted_item = more; place_is = is; there = there; number = was ∙ ap Some of.0 }) in
+      subst (λ (bs : List (Option Buffer)). IsClosed d c bs × AllReal bs × AllCameBack d c bs) (sym t.kept) (record { of_one_ring = l.of_one_ring; places = all.0 }, all.1, all.2)

@@ -31,6 +31,7 @@ use Rattle.shared_ring.specs.Slots.{home_at}
 use Rattle.shared_ring.specs.Tables.{words_of}
 use Rattle.shared_ring.proofs.Controlling.{of-serving, of-served, of-known, of-held, of-unheld, known-looked}
 use Rattle.shared_ring.proofs.Items.{fetch_lies, fetch_facts}
+use Rattle.shared_ring.proofs.Lying.{left-lies}
 use Rattle.shared_ring.proofs.Laying.{set-same, home-full, unheld_item, index_there}
 use Rattle.shared_ring.proofs.Shaking.{control_value}
 use Rattle.rx_ring.specs.Form as form
@@ -276,10 +277,7 @@ module _ (n : ℕ) (mode : Completion) (ok : mode ≡ Status) (q : RxRing Bytes)
 
   left : (slots : List Buffer) → ((k : ℕ) (y : Buffer) → get_elem? homes k ≡ some (some y) → get_elem? slots k ≡ some y) → LeftIn n ds cs slots
   unfolding both
-  left slots found_back = let m = l.lies in let i = m.items in record {
-    of_one_ring = both;
-    buffers = λ j b first past free is. found_back (j % n) b (home-full homes (j % n) b (i.slots j first past ∙ unheld_item q.held j (served_count q.queue) _ free ∙ is));
-  }
+  left slots found_back = record { of_one_ring = both; buffers = left-lies says lies_there n (n + 4) q.queue q.quiet words homes l.lies slots found_back }
 
 -- the receive direction
 pub rx-lawful : IsDirection form.rx

@@ -1,10 +1,10 @@
 -- What the driver has learnt stays so, whatever step is made.
 use Rattle.std.proofs.Common.{◌≡◌, ℕ, zero, suc, ◌+◌, ◌%◌, ◌<◌, ◌≤◌, ⊎_elim, true, not, ◌&&◌, ◌||◌, List, [], ◌∷◌, ◌++◌, length, Some, None, sym, ap, ◌∙◌, subst, arith, length-append}
 use Rattle.std.specs.Prelude.{slice_get, ◌==◌}
-use Rattle.std.proofs.lemmas.Bool.{and_parts, and_from, or_cases, eqb-true, not_from_false, false≢true}
-use Rattle.std.proofs.lemmas.Option.{none-some, same_Some, slice_get_within}
+use Rattle.std.proofs.lemmas.Bool.{and_parts, or_cases, eqb-true, false≢true}
+use Rattle.std.proofs.lemmas.Option.{none-some, slice_get_within}
 use Rattle.ring_model.specs.declared.steps.RxStep.{RxStep}
-use Rattle.ring_model.specs.shared.Handshakes.{is_answered, is_ended, is_open, is_stopped}
+use Rattle.ring_model.specs.shared.Handshakes.{is_answered, is_stopped}
 use Rattle.ring_model.specs.shared.Frames.{Bytes}
 use Rattle.ring_model.specs.shared.Laws.{SameEpoch}
 use Rattle.ring_model.specs.shared.Queue.{served_count, given_count}
@@ -15,13 +15,11 @@ use Rattle.ring_model.specs.receive.Steps.{rx_can, rx_changed, took}
 use Rattle.ring_model.specs.kept.Receive.{IsRxKept}
 use Rattle.ring_laws.specs.Rings.{rx_later-all, over-ended, said-stays}
 use Rattle.ring_laws.specs.Schedules.{next-happens}
-use Rattle.ring_laws.specs.States.{answered_closed, stopped_answered, stopped_full}
-use Rattle.ring_laws.specs.Queues.{answered_over}
 use Rattle.rx_ring.specs.declared.events.RxDriverOwn.TheVariants.{NotDone, Taken, LoadedQuiet}
 use Rattle.rx_ring.specs.Records.{DriverStep, driving, Knowing, unknown, know, know_own, saw_head, knowing, posting, drive_own}
 use Rattle.rx_ring.specs.Rule.{Learnt}
 use Rattle.shared_ring.proofs.Folds as shared
-use Rattle.shared_ring.proofs.Folds.{longer}
+use Rattle.shared_ring.proofs.Lasting.{within-epoch, answered-ended, head-told}
 use Rattle.shared_ring.specs.Records.{undriven}
 use Rattle.shared_ring.specs.Lies.{driven}
 
@@ -29,16 +27,12 @@ pub knowing-snoc : (es : List DriverStep) (e : DriverStep) → knowing (es ++ e 
 knowing-snoc es e = shared.knowing-snoc posting drive_own saw_head know_own undriven unknown es e
 
 module _ (n : ℕ) (q : RxRing Bytes) (k : IsRxKept Bytes n q) where
-  later-one : (s : RxStep Bytes) → rx_can q s ≡ true → RxLater q (rx_changed q s)
-  later-one s may = subst (λ (p : RxRing Bytes). RxLater q p) (next-happens rx_can rx_changed q s may) (rx_later-all n q (s ∷ []) k)
-
   -- no step but a renewal ends the epoch
   pub same-epoch : (s : RxStep Bytes) → rx_can q s ≡ true → (rx_changed q s).past ≡ q.past → SameEpoch q.queue (rx_over q) (rx_changed q s).queue (rx_over (rx_changed q s))
-  same-epoch s may past = ⊎_elim (λ f. absurd (longer q.past f.more f.ended (rx_changed q s).past f.past past)) (λ e. e) (later-one s may)
+  same-epoch s may past = within-epoch q.queue (rx_over q) (rx_changed q s).queue (rx_over (rx_changed q s)) (subst (λ (p : RxRing Bytes). RxLater q p) (next-happens rx_can rx_changed q s may) (rx_later-all n q (s ∷ []) k)) past
 
   pub answered_rx_over : is_answered q.handshake.driver ≡ true → rx_over q ≡ true
-  answered_rx_over a = let o = k.queue in
-      over-ended q.handshake q.still (and_from (is_ended q.handshake.controller) (not (is_open q.handshake.driver)) (answered_over n ends_segment q.queue o a) (not_from_false (is_open q.handshake.driver) (answered_closed q.handshake.driver a)))
+  answered_rx_over a = over-ended q.handshake q.still (answered-ended n ends_segment q.queue k.queue a)
 
   module _ (x : Knowing) (l : Learnt n q x) where
     -- a step that leaves what was taken
@@ -55,8 +49,8 @@ module _ (n : ℕ) (q : RxRing Bytes) (k : IsRxKept Bytes n q) where
 
     -- the head, once the disabling was seen answered
     pub learnt-head : (w : ℕ) → is_stopped q.handshake.driver ≡ true → w ≡ q.head → Learnt n q (record x { head = Some w })
-    learnt-head w stopped e = let a = stopped_answered q.handshake.driver stopped in let o = k.queue in record {
-      head = λ place f. (a, sym (same_Some w place f) ∙ e ∙ o.told (answered_over n ends_segment q.queue o a) (answered_closed q.handshake.driver a) (stopped_full q.handshake.driver stopped) ∙ ap (λ (j : ℕ). served_count q.queue % j) o.size_is);
+    learnt-head w stopped e = record {
+      head = λ place f. head-told n ends_segment q.queue k.queue w place stopped e f;
       quiet = l.quiet;
       said = l.said;
       drained = l.drained;

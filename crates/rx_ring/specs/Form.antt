@@ -1,8 +1,6 @@
 -- What is of the receive direction.
 use Rattle.std.specs.Prelude.{◌≡◌, ℕ, ◌%◌, ◌<◌, ◌≤◌, true, List, [], Some, slice_get}
 use mathlib.Core.Option as maybe
-use mathlib.Core.Option.{some}
-use lib.ListN.{get_elem?}
 use Rattle.buffer_pool.specs.Buffer.{Buffer, buffer}
 use Rattle.ring_model.specs.declared.states.Completion.{Completion}
 use Rattle.ring_model.specs.declared.states.Completion.TheVariants.{Status}
@@ -11,9 +9,8 @@ use Rattle.ring_model.specs.shared.Segments.{Segment, ends_segment, piece_of}
 use Rattle.ring_model.specs.receive.Steps.{IsRxReachable}
 use Rattle.ring_model.specs.receive.Lawful.{IsLawfulRx}
 use Rattle.ring_model.specs.shared.Frames.{Bytes, ends_frame}
-use Rattle.ring_model.specs.shared.Queue.{posted_count, served_count, returned_count}
 use Rattle.shared_ring.specs.Forms.{Form}
-use Rattle.shared_ring.specs.Lies.{driven, IsControlled}
+use Rattle.shared_ring.specs.Lies.{driven, IsControlled, AllLeft}
 use Rattle.rx_ring.specs.declared.events.RxDriverOwn.{RxDriverOwn}
 use Rattle.rx_ring.specs.declared.events.RxControllerOwn.{RxControllerOwn}
 use Rattle.rx_ring.specs.Records.{DriverStep, ControllerStep, driving, controlling, Knowing, unknown, saw_head, know_own, knowing, posting, drive_own, control_own, driver_names, controller_names}
@@ -32,8 +29,7 @@ pub record AreOf (n : ℕ) (ds : List DriverStep) (cs : List ControllerStep) : T
 -- what lies in the slots as the table is closed: the buffer of each item that is out and not held
 pub record LeftIn (n : ℕ) (ds : List DriverStep) (cs : List ControllerStep) (slots : List Buffer) : Type 0 where
   pub of_one_ring : AreOf n ds cs
-  pub buffers : (k : ℕ) (b : Buffer) → returned_count of_one_ring.queue.queue ≤ k → k < posted_count of_one_ring.queue.queue → (of_one_ring.queue.held ≡ true → ¬ (k ≡ served_count of_one_ring.queue.queue))
-      → lies_there (slice_get of_one_ring.queue.ledger.posted k) (slice_get of_one_ring.queue.ledger.served k) ≡ Some b → get_elem? slots (k % n) ≡ some b
+  pub buffers : AllLeft lies_there n of_one_ring.queue.queue slots
 
 -- a receive ring reports by its descriptors
 pub record RxLies (n : ℕ) (mode : Completion) (q : RxRing Bytes) (ds : List DriverStep) (cs : List ControllerStep) (words : List ℕ) (homes : List (maybe.Option Buffer)) : Type 0 where

@@ -3,11 +3,10 @@ use Rattle.std.specs.Prelude.{◌≡◌, ℕ, ◌+◌, ◌-◌, ◌%◌, ◌<◌
 use Rattle.atomic_table.specs.Seated.{TableId}
 use Rattle.buffer_pool.specs.Buffer.{Buffer}
 use Rattle.ring_model.specs.declared.states.Completion.TheVariants.{Status}
-use Rattle.ring_model.specs.declared.states.Owner.TheVariants.{Ring}
 use Rattle.ring_model.specs.receive.Ring.{RxLedger}
 use Rattle.ring_model.specs.shared.Frames.{Bytes}
 use Rattle.shared_ring.specs.Meeting as shared
-pub use Rattle.shared_ring.specs.Meeting.{is_unanswered, served_now as stored_now, Met, IsReal, AllReal, numbers_at}
+pub use Rattle.shared_ring.specs.Meeting.{is_unanswered, served_now as stored_now, Met, IsReal, AllReal, CameBackFrom, numbers_at}
 use Rattle.rx_ring.specs.Ends.{DriverSide, driver_size, posted, taken, returned, ControllerSide}
 use Rattle.rx_ring.specs.Form.{AreOf}
 
@@ -44,6 +43,5 @@ pub record GaveBack (d : DriverSide) (buffers : List (Option Buffer)) (place : �
 -- A closed ring gave a buffer back at exactly the places that were with Ring, and each is that of an item that is out
 pub record IsClosed (d : DriverSide) (c : ControllerSide) (buffers : List (Option Buffer)) : Type 0 where
   pub of_one_ring : AreOf (driver_size d) d.events c.events
-  pub count : length buffers ≡ driver_size d
-  pub ring : (place : ℕ) → slice_get of_one_ring.queue.owners place ≡ Some Ring → GaveBack d buffers place
-  pub others : (place : ℕ) → place < driver_size d → ¬ (slice_get of_one_ring.queue.owners place ≡ Some Ring) → slice_get buffers place ≡ Some None
+  pub places : CameBackFrom (driver_size d) of_one_ring.queue.owners (GaveBack d buffers) buffers
+  pub open places use *

@@ -1,5 +1,5 @@
 -- Each step of an end keeps the rule, whatever the table is when it happens, and tells what its play says. It goes for any ring.
-use Rattle.std.proofs.Common.{◌≡◌, ◌≢◌, ℕ, zero, suc, ◌<◌, List, [], ◌∷◌, ◌++◌, sym, subst, ⊎_elim, inr}
+use Rattle.std.proofs.Common.{◌≡◌, ◌≢◌, ℕ, zero, suc, ◌<◌, List, [], ◌∷◌, ◌++◌, set, sym, subst, ⊎_elim, inr}
 use Rattle.std.specs.Prelude.{slice_index, slice_set}
 use mathlib.Core.Option as maybe
 use mathlib.Core.Option.{some, none, some-injective, some-ne-none}
@@ -13,6 +13,42 @@ use Rattle.shared_ring.specs.Plays.{Seated}
 use Rattle.shared_ring.proofs.Laying.{set-same}
 use Rattle.shared_ring.proofs.Seating.{drivers_are, controllers_are, both_are, driver_seated, controller_seated, same_seated, halve_seated, lend_seated, unite_seated, return_seated}
 
+-- One of the two ends in the rule: the view of its seat with a record, and the agreement with that record first
+pub record Role {Ring D C : Type 0} (Lies : Ring → List D → List C → List ℕ → List (maybe.Option Buffer) → Type 0) (E O : Type 0) : Type 1 where
+  pub view : List E → View D C
+  pub Lie : Ring → List E → List O → List ℕ → List (maybe.Option Buffer) → Type 0
+  pub ended : (es : List E) → view es ≢ Maker
+  -- a seat with this view has the end's record, and the table runs on with another that agrees
+  pub runs_on : (s : State Buffer (View D C)) (id : ℕ) (es : List E) → Runs Lies s → get_elem? s.views id ≡ some (view es)
+      → (q : Ring) × (os : List O) × Lie q es os s.words s.homes × ((later : Ring) (fs : List E) (words : List ℕ) (homes : List (maybe.Option Buffer)) → Lie later fs os words homes → Runs Lies (record { words = words; homes = homes; views = set s.views id (view fs) }))
+
+module _ {Ring D C : Type 0} (Lies : Ring → List D → List C → List ℕ → List (maybe.Option Buffer) → Type 0) where
+  abbrev pub driver_role : Role Lies D C
+  driver_role = record {
+    view = Driver;
+    Lie = Lies;
+    ended = λ es e. cc;
+    runs_on = λ s id es r at. (
+      r.ring,
+      r.cs,
+      subst (λ (xs : List D). Lies r.ring xs r.cs s.words s.homes) (sym (drivers_are r.ds es r.cs s.views id r.seats at)) r.lies,
+      λ later fs words homes l. record { ring = later; ds = fs; cs = r.cs; lies = l; seats = driver_seated r.ds fs es r.cs s.views id r.seats at },
+    );
+  }
+
+  abbrev pub controller_role : Role Lies C D
+  controller_role = record {
+    view = Controller;
+    Lie = λ q cs ds words homes. Lies q ds cs words homes;
+    ended = λ es e. cc;
+    runs_on = λ s id es r at. (
+      r.ring,
+      r.ds,
+      subst (λ (xs : List C). Lies r.ring r.ds xs s.words s.homes) (sym (controllers_are r.ds r.cs es s.views id r.seats at)) r.lies,
+      λ later fs words homes l. record { ring = later; ds = r.ds; cs = fs; lies = l; seats = controller_seated r.ds r.cs fs es s.views id r.seats at },
+    );
+  }
+
 module _ {Ring D C : Type 0} (Lies : Ring → List D → List C → List ℕ → List (maybe.Option Buffer) → Type 0) (n m : ℕ) where
   -- in a table that is being made no seat has a record
   no_record : (views : List (View D C)) (id : ℕ) (v : View D C) → views ≡ Maker ∷ [] → get_elem? views id ≡ some v → v ≡ Maker
@@ -25,50 +61,28 @@ module _ {Ring D C : Type 0} (Lies : Ring → List D → List C → List ℕ →
   pub running : (s : State Buffer (View D C)) (id : ℕ) (v : View D C) → IsRuledBy Lies n m s → get_elem? s.views id ≡ some v → v ≢ Maker → Runs Lies s
   running s id v ruled at ne = ⊎_elim (λ b. absurd (ne (no_record s.views id v b.views at))) (λ r. r) ruled.1
 
-  -- What a step of the driver does where words and slots lie as the ring q has them
-  pub record DriverGoes (es : List D) (carried : List (ℕ × Buffer)) (i : ℕ) (f : ℕ → ℕ) (tells : ℕ → Seated D C → Type 0) (cs : List C) (words : List ℕ) (homes : List (maybe.Option Buffer)) : Type 0 where
-    pub event : D
-    pub act : Act Buffer
-    pub valid : Valid homes carried act
-    pub later : Ring
-    pub lies : Lies later (es ++ event ∷ []) cs (slice_set words i (f (slice_index words i))) (homes_after homes carried act)
-    pub told : tells (slice_index words i) (Driver (es ++ event ∷ []), carried_after carried act)
+  module _ {E O : Type 0} (role : Role Lies E O) where
+    -- What a step of an end does where words and slots lie as a ring has them
+    pub record Goes (es : List E) (carried : List (ℕ × Buffer)) (i : ℕ) (f : ℕ → ℕ) (tells : ℕ → Seated D C → Type 0) (os : List O) (words : List ℕ) (homes : List (maybe.Option Buffer)) : Type 0 where
+      pub event : E
+      pub act : Act Buffer
+      pub valid : Valid homes carried act
+      pub later : Ring
+      pub lies : role.Lie later (es ++ event ∷ []) os (slice_set words i (f (slice_index words i))) (homes_after homes carried act)
+      pub told : tells (slice_index words i) (role.view (es ++ event ∷ []), carried_after carried act)
 
-  pub allow_driver : (id : ℕ) (es : List D) (carried : List (ℕ × Buffer)) (i : ℕ) (f : ℕ → ℕ) (tells : ℕ → Seated D C → Type 0)
-      → ((q : Ring) (cs : List C) (words : List ℕ) (homes : List (maybe.Option Buffer)) → 1 < n → Lies q es cs words homes → DriverGoes es carried i f tells cs words homes)
-      → Allows (IsRuledBy Lies n m) n id (Driver es, carried) i f tells
-  allow_driver id es carried i f tells goes s ruled count at small =
-      let r = running s id (Driver es) ruled at (λ e. cc) in
-      let same : es ≡ r.ds = drivers_are r.ds es r.cs s.views id r.seats at in
-      let g = goes r.ring r.cs s.words s.homes ruled.0 (subst (λ (xs : List D). Lies r.ring xs r.cs s.words s.homes) (sym same) r.lies) in (
-        Driver (es ++ g.event ∷ []),
-        g.act,
-        g.valid,
-        (ruled.0, inr (record { ring = g.later; ds = es ++ g.event ∷ []; cs = r.cs; lies = g.lies; seats = driver_seated r.ds (es ++ g.event ∷ []) es r.cs s.views id r.seats at })),
-        g.told,
-      )
-
-  pub record ControllerGoes (es : List C) (carried : List (ℕ × Buffer)) (i : ℕ) (f : ℕ → ℕ) (tells : ℕ → Seated D C → Type 0) (ds : List D) (words : List ℕ) (homes : List (maybe.Option Buffer)) : Type 0 where
-    pub event : C
-    pub act : Act Buffer
-    pub valid : Valid homes carried act
-    pub later : Ring
-    pub lies : Lies later ds (es ++ event ∷ []) (slice_set words i (f (slice_index words i))) (homes_after homes carried act)
-    pub told : tells (slice_index words i) (Controller (es ++ event ∷ []), carried_after carried act)
-
-  pub allow_controller : (id : ℕ) (es : List C) (carried : List (ℕ × Buffer)) (i : ℕ) (f : ℕ → ℕ) (tells : ℕ → Seated D C → Type 0)
-      → ((q : Ring) (ds : List D) (words : List ℕ) (homes : List (maybe.Option Buffer)) → 1 < n → Lies q ds es words homes → ControllerGoes es carried i f tells ds words homes)
-      → Allows (IsRuledBy Lies n m) n id (Controller es, carried) i f tells
-  allow_controller id es carried i f tells goes s ruled count at small =
-      let r = running s id (Controller es) ruled at (λ e. cc) in
-      let same : es ≡ r.cs = controllers_are r.ds r.cs es s.views id r.seats at in
-      let g = goes r.ring r.ds s.words s.homes ruled.0 (subst (λ (xs : List C). Lies r.ring r.ds xs s.words s.homes) (sym same) r.lies) in (
-        Controller (es ++ g.event ∷ []),
-        g.act,
-        g.valid,
-        (ruled.0, inr (record { ring = g.later; ds = r.ds; cs = es ++ g.event ∷ []; lies = g.lies; seats = controller_seated r.ds r.cs (es ++ g.event ∷ []) es s.views id r.seats at })),
-        g.told,
-      )
+    pub allow_end : (id : ℕ) (es : List E) (carried : List (ℕ × Buffer)) (i : ℕ) (f : ℕ → ℕ) (tells : ℕ → Seated D C → Type 0)
+        → ((q : Ring) (os : List O) (words : List ℕ) (homes : List (maybe.Option Buffer)) → 1 < n → role.Lie q es os words homes → Goes es carried i f tells os words homes)
+        → Allows (IsRuledBy Lies n m) n id (role.view es, carried) i f tells
+    allow_end id es carried i f tells goes s ruled count at small =
+        let r = running s id (role.view es) ruled at (role.ended es) in let o = role.runs_on s id es r at in
+        let g = goes o.0 o.1 s.words s.homes ruled.0 o.2 in (
+          role.view (es ++ g.event ∷ []),
+          g.act,
+          g.valid,
+          (ruled.0, inr (o.3 g.later (es ++ g.event ∷ []) (slice_set s.words i (f (slice_index s.words i))) (homes_after s.homes carried g.act) g.lies)),
+          g.told,
+        )
 
   -- the load of two ends that meet
   pub allow_both : (id : ℕ) (ds : List D) (cs : List C) (carried : List (ℕ × Buffer)) (i : ℕ) (tells : ℕ → Seated D C → Type 0)

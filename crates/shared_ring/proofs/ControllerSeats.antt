@@ -15,13 +15,14 @@ use Rattle.shared_ring.specs.Ends.{Side, grown, controller_of}
 use Rattle.shared_ring.specs.Forms.{Form, control, controlling}
 use Rattle.shared_ring.specs.Keeping.{IsRuled, IsControllerSeat}
 use Rattle.shared_ring.specs.Own.{Event, MayStore, MayGive}
-use Rattle.shared_ring.specs.Plays.{Seated, controller_does, LoadsTail, LoadsNext, LoadsRequest, enables, disables, controller_stores, controller_gives}
+use Rattle.shared_ring.specs.Plays.{Seated, IsControl, IsTail, IsNext, answers, controller_end, gives, stores, Loads, Takes}
 use Rattle.shared_ring.specs.Records.{Controlled, controller_slots, uncontrolled, count_at}
 use Rattle.shared_ring.specs.Seats.{controller_part}
 use Rattle.shared_ring.specs.Slots.{slots_while, front_buffer}
 use Rattle.shared_ring.specs.Steps.{FoundTail, CameOut}
 use Rattle.shared_ring.specs.Tables.{IsTableOf, words_of}
-use Rattle.shared_ring.proofs.Allowed.{controller-store, controller-load, controller-take, controller-give}
+use Rattle.shared_ring.proofs.Allowing.{controller_role}
+use Rattle.shared_ring.proofs.Allowed.{may-store, may-load, may-take, may-give}
 use Rattle.shared_ring.proofs.Standing as standing
 use Rattle.shared_ring.proofs.Standing.{Asks, LoadAsks, front-is}
 use Rattle.shared_ring.proofs.Folds.{controlling-snoc}
@@ -32,6 +33,10 @@ module _ {Ring Posted Served Given D C : Type 0} (form : Form Ring Posted Served
 
   abbrev End : Type 0
   End = Side (ControllerEvent C)
+
+  -- the view with one more event in the controller's record
+  abbrev controller_does : It → ControllerEvent C → View (DriverEvent D) (ControllerEvent C)
+  controller_does m e = Controller (controller_part m.0 ++ e ∷ [])
 
   abbrev done_by : End → Controlled Served
   done_by s = controlling form s.table.slots s.events
@@ -109,29 +114,29 @@ module _ {Ring Posted Served Given D C : Type 0} (form : Form Ring Posted Served
         counts = standing.counts stands
 
         -- A3, B3
-        pub look-asks : (id : ℕ) → is_serving (done_by now).state ≡ true → LoadAsks form table ring key me (LoadsTail form) id (size + 1)
-        look-asks id serving = standing.load-asks stands form (LoadsTail form) id (size + 1) (standing.low size mode (size + 1) (omega arith)) (controller-load form size mode es id its (LoadsTail form) (size + 1) controller.Looked (λ r. (r < size) × (x.known ≤ count_at size (length x.served) r))
-            (λ q ds words homes pos l. let a = inv.law.allowed size mode q ds es words homes pos l in let f = a.controller in let g = f.look (serves serving) in ((g.0, g.1), g.2)) (λ r t. record { adds = record { seat = refl; names = refl }; below = t.0; grows = t.1 }))
+        pub look-asks : (id : ℕ) → is_serving (done_by now).state ≡ true → LoadAsks form table ring key me (Loads (controller_end form) (λ n es i r b. controller.Looked r) (IsTail form)) id (size + 1)
+        look-asks id serving = standing.load-asks stands form (Loads (controller_end form) (λ n es i r b. controller.Looked r) (IsTail form)) id (size + 1) (standing.low size mode (size + 1) (omega arith)) (may-load form size mode (controller_role (form.Lies size mode)) es id its (Loads (controller_end form) (λ n es i r b. controller.Looked r) (IsTail form)) (size + 1) controller.Looked (λ r. (r < size) × (x.known ≤ count_at size (length x.served) r))
+            (λ q ds words homes pos l. let a = inv.law.allowed size mode q ds es words homes pos l in let f = a.controller in let g = f.look (serves serving) in ((g.0, g.1), g.2)) (λ r t. record { adds = record { seat = refl; names = refl }; told = record { below = t.0; grows = t.1 } }))
 
         -- a tail is a place
-        pub look-fits : (r : ℕ) (me' : It) → LoadsTail form (step ring.slots (size + 1) 0 0 none) me r me' → r < size
-        look-fits r me' t = let b = t.below in let c = counts in omega arith
+        pub look-fits : (r : ℕ) (me' : It) → Loads (controller_end form) (λ n es i r b. controller.Looked r) (IsTail form) (step ring.slots (size + 1) 0 0 none) me r me' → r < size
+        look-fits r me' t = let b = t.told.below in let c = counts in omega arith
 
-        pub look-steps : (r : ℕ) (table' : TableId) (me' : It) → table' ≡ table → LoadsTail form (step ring.slots (size + 1) 0 0 none) me r me' → FoundTail (controller_of form now) r (controller_of form (side table' me'))
+        pub look-steps : (r : ℕ) (table' : TableId) (me' : It) → table' ≡ table → Loads (controller_end form) (λ n es i r b. controller.Looked r) (IsTail form) (step ring.slots (size + 1) 0 0 none) me r me' → FoundTail (controller_of form now) r (controller_of form (side table' me'))
         look-steps r table' me' t told = record {
           step = ap (controller_of form) (same-steps (controller.Looked r) table' me' t told.adds.seat);
-          below = back-there (λ n m xs. r < n) (subst (λ (n : ℕ). r < n) counts told.below);
-          grows = back-there (λ n m xs. (controlling form n xs).known ≤ count_at n (length (controlling form n xs).served) r) (subst (λ (n : ℕ). (controlling form n es).known ≤ count_at n (length (controlling form n es).served) r) counts told.grows);
+          below = back-there (λ n m xs. r < n) (subst (λ (n : ℕ). r < n) counts told.told.below);
+          grows = back-there (λ n m xs. (controlling form n xs).known ≤ count_at n (length (controlling form n xs).served) r) (subst (λ (n : ℕ). (controlling form n es).known ≤ count_at n (length (controlling form n es).served) r) counts told.told.grows);
         }
 
         -- A4, B4
         pub fetch-asks : (id place : ℕ) → place ≡ length (done_by now).served % now.table.slots → is_serving (done_by now).state ≡ true → 0 < (done_by now).known - length (done_by now).served → (done_by now).held ≡ None → (done_by now).barred ≡ false
-            → LoadAsks form table ring key me (LoadsNext form) id place
+            → LoadAsks form table ring key me (Takes (controller_end form) (λ n es p r b. controller.Fetched p r b) (IsNext form)) id place
         fetch-asks id place at serving some none_held free = let f : (done_by now).known - length (done_by now).served ≡ x.known - length x.served = words-are (λ y n. y.known - length y.served) in
             let more : length x.served < x.known = omega arith in
-            standing.load-asks stands form (LoadsNext form) id place (below place (at-serve place at)) (controller-take form size mode es id its (LoadsNext form) place (λ r b. controller.Fetched place r b) (λ r b. form.IsFetched size x r b)
+            standing.load-asks stands form (Takes (controller_end form) (λ n es p r b. controller.Fetched p r b) (IsNext form)) id place (below place (at-serve place at)) (may-take form size mode (controller_role (form.Lies size mode)) es id its (Takes (controller_end form) (λ n es p r b. controller.Fetched p r b) (IsNext form)) place (λ r b. controller.Fetched place r b) (λ r b. form.IsFetched size x r b)
             (λ q ds words homes pos l. let a = inv.law.allowed size mode q ds es words homes pos l in let f = a.controller in
-            let g = f.fetch place (at-serve place at) (serves serving) more (unheld none_held) (sym (words-are (λ y n. y.barred)) ∙ free) in (g.buf, g.home, g.fetched, g.agrees)) (λ r b t. record { buf = b; adds = record { seat = refl; names = refl }; fetched = t }))
+            let g = f.fetch place (at-serve place at) (serves serving) more (unheld none_held) (sym (words-are (λ y n. y.barred)) ∙ free) in (g.buf, g.home, g.fetched, g.agrees)) (λ r b t. record { buf = b; adds = record { seat = refl; names = refl }; told = t }))
 
         no-slots : (done_by now).held ≡ None → me.1 ≡ []
         no-slots e = slots-are ∙ ap (slots_while (length x.served % size)) (unheld e)
@@ -139,7 +144,7 @@ module _ {Ring Posted Served Given D C : Type 0} (form : Form Ring Posted Served
         fetch-seat : (place r : ℕ) (b : Buffer) (me1 me2 : It) → me1 ≡ (controller_does me (controller.Fetched place r b), (place, b) ∷ me.1) → me2 ≡ (me1.0, (place, blank) ∷ rest me1.1) → me2 ≡ (Controller (es ++ controller.Fetched place r b ∷ []), (place, blank) ∷ me.1)
         fetch-seat place r b me1 me2 fetched left = left ∙ ap (λ (m : It). let y : It = (m.0, (place, blank) ∷ rest m.1) in y) fetched
 
-        module _ (place r : ℕ) (table' : TableId) (me1 me2 : It) (same : table' ≡ table) (t : LoadsNext form (step ring.slots place 0 0 none) me r me1) (left : me2 ≡ (me1.0, (place, blank) ∷ rest me1.1)) where
+        module _ (place r : ℕ) (table' : TableId) (me1 me2 : It) (same : table' ≡ table) (t : Takes (controller_end form) (λ n es p r b. controller.Fetched p r b) (IsNext form) (step ring.slots place 0 0 none) me r me1) (left : me2 ≡ (me1.0, (place, blank) ∷ rest me1.1)) where
           pub fetch-keeps : place ≡ length (done_by now).served % now.table.slots → (done_by now).held ≡ None → IsControllerSeat form table' me2 size mode
           fetch-keeps at none_held =
               made table' me2 (es ++ controller.Fetched place r t.buf ∷ []) ((place, blank) ∷ me.1) (control form size x (controller.Fetched place r t.buf)) same (fetch-seat place r t.buf me1 me2 t.adds.seat left) (did size es (controller.Fetched place r t.buf))
@@ -148,24 +153,24 @@ module _ {Ring Posted Served Given D C : Type 0} (form : Form Ring Posted Served
           pub fetch-steps : (c : Buffer) → c ≡ front_buffer me1.1 → CameOut (controller_of form now) place c r (controller_of form (side table' me2))
           fetch-steps c got = subst (λ (y : Buffer). CameOut (controller_of form now) place y r (controller_of form (side table' me2))) (sym (got ∙ ap (λ (m : It). front_buffer m.1) t.adds.seat)) (record {
             step = ap (controller_of form) (one-more (controller.Fetched place r t.buf) table' me2 ((place, blank) ∷ me.1) same (fetch-seat place r t.buf me1 me2 t.adds.seat left));
-            fetched = back-there (λ n m xs. form.IsFetched n (controlling form n xs) r t.buf) (subst (λ (n : ℕ). form.IsFetched n (controlling form n es) r t.buf) counts t.fetched);
+            fetched = back-there (λ n m xs. form.IsFetched n (controlling form n xs) r t.buf) (subst (λ (n : ℕ). form.IsFetched n (controlling form n es) r t.buf) counts t.told);
           })
 
         -- C2
-        pub request-asks : (id : ℕ) → LoadAsks form table ring key me (LoadsRequest form) id (size + 2)
-        request-asks id = standing.load-asks stands form (LoadsRequest form) id (size + 2) (standing.low size mode (size + 2) (omega arith)) (controller-load form size mode es id its (LoadsRequest form) (size + 2) controller.LoadedRequest (λ r. r ≤ 3)
-            (λ q ds words homes pos l. let a = inv.law.allowed size mode q ds es words homes pos l in let f = a.controller in f.request) (λ r v. record { adds = record { seat = refl; names = refl }; value = v }))
+        pub request-asks : (id : ℕ) → LoadAsks form table ring key me (Loads (controller_end form) (λ n es i r b. controller.LoadedRequest r) IsControl) id (size + 2)
+        request-asks id = standing.load-asks stands form (Loads (controller_end form) (λ n es i r b. controller.LoadedRequest r) IsControl) id (size + 2) (standing.low size mode (size + 2) (omega arith)) (may-load form size mode (controller_role (form.Lies size mode)) es id its (Loads (controller_end form) (λ n es i r b. controller.LoadedRequest r) IsControl) (size + 2) controller.LoadedRequest (λ r. r ≤ 3)
+            (λ q ds words homes pos l. let a = inv.law.allowed size mode q ds es words homes pos l in let f = a.controller in f.request) (λ r v. record { adds = record { seat = refl; names = refl }; told = v }))
 
         -- C3
-        pub enable-asks : (id : ℕ) → (done_by now).seen ≡ 1 → is_serving (done_by now).state ≡ false → Asks form table ring key me (enables form) id (size + 2) 2
-        enable-asks id asked idle = standing.store-asks stands form (enables form) id (size + 2) 2 (standing.low size mode (size + 2) (omega arith)) (controller-store form size mode es id its (enables form) (size + 2) 2 controller.Enabled
+        pub enable-asks : (id : ℕ) → (done_by now).seen ≡ 1 → is_serving (done_by now).state ≡ false → Asks form table ring key me (stores (controller_end form) (λ n es i r b. answers r)) id (size + 2) 2
+        enable-asks id asked idle = standing.store-asks stands form (stores (controller_end form) (λ n es i r b. answers r)) id (size + 2) 2 (standing.low size mode (size + 2) (omega arith)) (may-store form size mode (controller_role (form.Lies size mode)) es id its (stores (controller_end form) (λ n es i r b. answers r)) (size + 2) 2 controller.Enabled
             (λ q ds words homes pos l. let a = inv.law.allowed size mode q ds es words homes pos l in let f = a.controller in f.enable (sym (words-are (λ y n. y.seen)) ∙ asked) (sym (words-are (λ y n. is_serving y.state)) ∙ idle)) (record { seat = refl; names = refl }))
 
         pub enable-slots : (done_by now).held ≡ None → controller_slots size x ≡ controller_slots size (control form size x controller.Enabled)
         enable-slots e = ap (slots_while (length x.served % size)) (unheld e) ∙ sym (ap (slots_while (0 % size)) (unheld e))
 
-        pub disable-asks : (id : ℕ) → (done_by now).seen ≡ 3 → is_serving (done_by now).state ≡ true → (done_by now).held ≡ None → (done_by now).head ≡ length (done_by now).served % now.table.slots → form.MayDisable (done_by now) → Asks form table ring key me (disables form) id (size + 2) 0
-        disable-asks id asked serving none_held head may = standing.store-asks stands form (disables form) id (size + 2) 0 (standing.low size mode (size + 2) (omega arith)) (controller-store form size mode es id its (disables form) (size + 2) 0 controller.Disabled
+        pub disable-asks : (id : ℕ) → (done_by now).seen ≡ 3 → is_serving (done_by now).state ≡ true → (done_by now).held ≡ None → (done_by now).head ≡ length (done_by now).served % now.table.slots → form.MayDisable (done_by now) → Asks form table ring key me (stores (controller_end form) (λ n es i r b. answers r)) id (size + 2) 0
+        disable-asks id asked serving none_held head may = standing.store-asks stands form (stores (controller_end form) (λ n es i r b. answers r)) id (size + 2) 0 (standing.low size mode (size + 2) (omega arith)) (may-store form size mode (controller_role (form.Lies size mode)) es id its (stores (controller_end form) (λ n es i r b. answers r)) (size + 2) 0 controller.Disabled
             (λ q ds words homes pos l. let a = inv.law.allowed size mode q ds es words homes pos l in let f = a.controller in f.disable (sym (words-are (λ y n. y.seen)) ∙ asked) (serves serving) (unheld none_held)
             (sym (words-are (λ y n. y.head)) ∙ head ∙ words-are (λ y n. length y.served % n)) (here (λ n m xs. form.MayDisable (controlling form n xs)) may)) (record { seat = refl; names = refl }))
 
@@ -175,8 +180,8 @@ module _ {Ring Posted Served Given D C : Type 0} (form : Form Ring Posted Served
             store-may : MayStore form event size mode (controller_part me.0) word v
             store-may = here (λ n m xs. MayStore form event n m xs word v) may
 
-            pub store_own-asks : (id : ℕ) → Asks form table ring key me (controller_stores form event) id word v
-            store_own-asks id = let m = store-may in standing.store-asks stands form (controller_stores form event) id word v m.word_is (controller-store form size mode es id its (controller_stores form event) word v (event size es word v blank) m.goes (record { seat = refl; names = m.names }))
+            pub store_own-asks : (id : ℕ) → Asks form table ring key me (stores (controller_end form) event) id word v
+            store_own-asks id = let m = store-may in standing.store-asks stands form (stores (controller_end form) event) id word v m.word_is (may-store form size mode (controller_role (form.Lies size mode)) es id its (stores (controller_end form) event) word v (event size es word v blank) m.goes (record { seat = refl; names = m.names }))
 
             module _ (table' : TableId) (me' : It) (t : table' ≡ table) (stored : me' ≡ (controller_does me (event ring.slots es word v blank), me.1)) where
               store_own-seat : me' ≡ (controller_does me (event size es word v blank), me.1)
@@ -202,13 +207,13 @@ module _ {Ring Posted Served Given D C : Type 0} (form : Form Ring Posted Served
               give-may = here (λ n m xs. MayGive form event n m xs place word v b) may
 
               pub give_own-asks : (id : ℕ) (table' : TableId) (me' : It) → table' ≡ table → me' ≡ (me.0, (place, b) ∷ rest me.1)
-                  → (table' ≡ ring) × (word < ring.words) × Allows (IsRuled form key.0 key.1) ring.slots id me' word (λ _. v) (λ _. controller_gives form event (step ring.slots word v 0 none) me' v)
+                  → (table' ≡ ring) × (word < ring.words) × Allows (IsRuled form key.0 key.1) ring.slots id me' word (λ _. v) (λ _. gives (controller_end form) event (step ring.slots word v 0 none) me' v)
               give_own-asks id table' me' t m = let k = give-may in (
                 t ∙ stands.own,
                 standing.within stands word k.word_is,
-                standing.allow-at stands form (λ n z r z'. controller_gives form event (step n word v 0 none) z v z') id word (λ _. v) (Controller es, (place, b) ∷ rest me.1) me'
+                standing.allow-at stands form (λ n z r z'. gives (controller_end form) event (step n word v 0 none) z v z') id word (λ _. v) (Controller es, (place, b) ∷ rest me.1) me'
                     (m ∙ ap (λ (w : View (DriverEvent D) (ControllerEvent C)). let z : It = (w, (place, b) ∷ rest me.1) in z) view-is)
-                    (controller-give form size mode es id (rest me.1) (controller_gives form event) word v place b (event size es word v b) k.goes (record { seat = refl; names = k.names })),
+                    (may-give form size mode (controller_role (form.Lies size mode)) es id (rest me.1) (gives (controller_end form) event) word v place b (event size es word v b) k.goes (record { seat = refl; names = k.names })),
               )
 
               module _ (table' : TableId) (me1 me2 : It) (t : table' ≡ table) (put : me1 ≡ (me.0, (place, b) ∷ rest me.1)) (gave : me2 ≡ (controller_does me1 (event ring.slots (controller_part me1.0) word v (front_buffer me1.1)), rest me1.1)) where

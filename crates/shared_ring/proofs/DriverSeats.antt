@@ -17,12 +17,13 @@ use Rattle.shared_ring.specs.Ends.{Side, grown}
 use Rattle.shared_ring.specs.Forms.{Form, drive, driving}
 use Rattle.shared_ring.specs.Keeping.{IsRuled, IsDriverSeat, IsWindow}
 use Rattle.shared_ring.specs.Own.{Event, Tells, SameOut, OneBack, MayLoad, MayClear, MayTake, MayEnd, Missed, Came}
-use Rattle.shared_ring.specs.Plays.{Seated, driver_does, posts, publishes, asks_enable, LoadsControl, asks_disable, LoadsHead, clears_head, clears_tail, DriverDoes, DriverTakes, DriverFinds, driver_ends}
+use Rattle.shared_ring.specs.Plays.{Seated, IsControl, IsPlace, asks, driver_end, gives, stores, Loads, Takes, Finds}
 use Rattle.shared_ring.specs.Records.{Driven, driver_slots, undriven}
 use Rattle.shared_ring.specs.Seats.{driver_part}
 use Rattle.shared_ring.specs.Slots.{empty_slots, front_buffer}
 use Rattle.shared_ring.specs.Tables.{IsTableOf, words_of}
-use Rattle.shared_ring.proofs.Allowed.{driver-store, driver-load, driver-clear, driver-find, driver-give}
+use Rattle.shared_ring.proofs.Allowing.{driver_role}
+use Rattle.shared_ring.proofs.Allowed.{may-store, may-load, may-clear, may-find, may-give}
 use Rattle.shared_ring.proofs.Standing as standing
 use Rattle.shared_ring.proofs.Standing.{Asks, LoadAsks, front-is}
 use Rattle.shared_ring.proofs.Folds.{driving-snoc, slots-post, slots-return, slots-alike}
@@ -33,6 +34,10 @@ module _ {Ring Posted Served Given D C : Type 0} (form : Form Ring Posted Served
 
   abbrev End : Type 0
   End = Side (DriverEvent D)
+
+  -- the view with one more event in the driver's record
+  abbrev driver_does : It → DriverEvent D → View (DriverEvent D) (ControllerEvent C)
+  driver_does m e = Driver (driver_part m.0 ++ e ∷ [])
 
   -- what an end did
   abbrev done_by : End → Driven Posted Given
@@ -139,13 +144,13 @@ module _ {Ring Posted Served Given D C : Type 0} (form : Form Ring Posted Served
           post-empty = front-is me.1 _ (place, blank) front
 
           pub post-asks : (id : ℕ) (table' : TableId) (me' : It) → table' ≡ table → me' ≡ (me.0, (place, b) ∷ rest me.1) → is_open (done_by now).state ≡ true → form.MayPost now.table.slots (done_by now).posted word b
-              → (table' ≡ ring) × (place < ring.words) × Allows (IsRuled form key.0 key.1) ring.slots id me' place (λ _. word) (λ _. posts form (step ring.slots place word 0 none) me' word)
+              → (table' ≡ ring) × (place < ring.words) × Allows (IsRuled form key.0 key.1) ring.slots id me' place (λ _. word) (λ _. gives (driver_end form) (λ n es p r b. driver.Posted p r b) (step ring.slots place word 0 none) me' word)
           post-asks id table' me' t m opened may = (
             t ∙ stands.own,
             standing.within stands place (below place (length d.posted) (filled place at)),
-            standing.allow-at stands form (λ n z r z'. posts form (step n place word 0 none) z word z') id place (λ _. word) (Driver es, (place, b) ∷ rest me.1) me'
+            standing.allow-at stands form (λ n z r z'. gives (driver_end form) (λ n es p r b. driver.Posted p r b) (step n place word 0 none) z word z') id place (λ _. word) (Driver es, (place, b) ∷ rest me.1) me'
                 (m ∙ ap (λ (v : View (DriverEvent D) (ControllerEvent C)). let x : It = (v, (place, b) ∷ rest me.1) in x) view-is)
-                (driver-give form size mode es id (rest me.1) (posts form) place word place b (driver.Posted place word b)
+                (may-give form size mode (driver_role (form.Lies size mode)) es id (rest me.1) (gives (driver_end form) (λ n es p r b. driver.Posted p r b)) place word place b (driver.Posted place word b)
                 (λ q cs words homes pos l. let a = inv.law.allowed size mode q es cs words homes pos l in let f = a.driver in
                 f.post place word b (filled place at) (sym (words-are (λ x n. is_open x.state)) ∙ opened) room (here (λ n m xs. form.MayPost n (driving form xs).posted word b) may)) (record { seat = refl; names = refl })),
           )
@@ -163,40 +168,40 @@ module _ {Ring Posted Served Given D C : Type 0} (form : Form Ring Posted Served
           post-steps table' me' me'' t put stored = one-more (driver.Posted place word b) table' me'' (rest me.1) t (post-seat me' me'' put stored)
 
         -- A2, B2
-        pub publish-asks : (id t : ℕ) → t ≡ length (done_by now).posted % now.table.slots → is_open (done_by now).state ≡ true → form.MayPublish (done_by now).posted → Asks form table ring key me (publishes form) id (size + 1) t
-        publish-asks id t at opened may = standing.store-asks stands form (publishes form) id (size + 1) t (standing.low size mode (size + 1) (omega arith)) (driver-store form size mode es id its (publishes form) (size + 1) t (driver.Published t)
+        pub publish-asks : (id t : ℕ) → t ≡ length (done_by now).posted % now.table.slots → is_open (done_by now).state ≡ true → form.MayPublish (done_by now).posted → Asks form table ring key me (stores (driver_end form) (λ n es i r b. driver.Published r)) id (size + 1) t
+        publish-asks id t at opened may = standing.store-asks stands form (stores (driver_end form) (λ n es i r b. driver.Published r)) id (size + 1) t (standing.low size mode (size + 1) (omega arith)) (may-store form size mode (driver_role (form.Lies size mode)) es id its (stores (driver_end form) (λ n es i r b. driver.Published r)) (size + 1) t (driver.Published t)
             (λ q cs words homes pos l. let a = inv.law.allowed size mode q es cs words homes pos l in let f = a.driver in
             f.publish t (filled t at) (sym (words-are (λ x n. is_open x.state)) ∙ opened) (here (λ n m xs. form.MayPublish (driving form xs).posted) may)) (record { seat = refl; names = refl }))
 
         -- C1
-        pub ask_enable-asks : (id : ℕ) → is_new (done_by now).state ≡ true → Asks form table ring key me (asks_enable form) id (size + 2) 1
-        ask_enable-asks id new = standing.store-asks stands form (asks_enable form) id (size + 2) 1 (standing.low size mode (size + 2) (omega arith)) (driver-store form size mode es id its (asks_enable form) (size + 2) 1 driver.AskedEnable
+        pub ask_enable-asks : (id : ℕ) → is_new (done_by now).state ≡ true → Asks form table ring key me (stores (driver_end form) (λ n es i r b. asks r)) id (size + 2) 1
+        ask_enable-asks id new = standing.store-asks stands form (stores (driver_end form) (λ n es i r b. asks r)) id (size + 2) 1 (standing.low size mode (size + 2) (omega arith)) (may-store form size mode (driver_role (form.Lies size mode)) es id its (stores (driver_end form) (λ n es i r b. asks r)) (size + 2) 1 driver.AskedEnable
             (λ q cs words homes pos l. let a = inv.law.allowed size mode q es cs words homes pos l in let f = a.driver in f.ask_enable (sym (words-are (λ x n. is_new x.state)) ∙ new)) (record { seat = refl; names = refl }))
 
         -- C4
-        pub control-asks : (id : ℕ) → LoadAsks form table ring key me (LoadsControl form) id (size + 2)
-        control-asks id = standing.load-asks stands form (LoadsControl form) id (size + 2) (standing.low size mode (size + 2) (omega arith)) (driver-load form size mode es id its (LoadsControl form) (size + 2) driver.LoadedControl (λ r. r ≤ 3)
-            (λ q cs words homes pos l. let a = inv.law.allowed size mode q es cs words homes pos l in let f = a.driver in f.control) (λ r v. record { adds = record { seat = refl; names = refl }; value = v }))
+        pub control-asks : (id : ℕ) → LoadAsks form table ring key me (Loads (driver_end form) (λ n es i r b. driver.LoadedControl r) IsControl) id (size + 2)
+        control-asks id = standing.load-asks stands form (Loads (driver_end form) (λ n es i r b. driver.LoadedControl r) IsControl) id (size + 2) (standing.low size mode (size + 2) (omega arith)) (may-load form size mode (driver_role (form.Lies size mode)) es id its (Loads (driver_end form) (λ n es i r b. driver.LoadedControl r) IsControl) (size + 2) driver.LoadedControl (λ r. r ≤ 3)
+            (λ q cs words homes pos l. let a = inv.law.allowed size mode q es cs words homes pos l in let f = a.driver in f.control) (λ r v. record { adds = record { seat = refl; names = refl }; told = v }))
 
         -- C5
-        pub ask_disable-asks : (id : ℕ) → is_on (done_by now).state ≡ true → Asks form table ring key me (asks_disable form) id (size + 2) 3
-        ask_disable-asks id on = standing.store-asks stands form (asks_disable form) id (size + 2) 3 (standing.low size mode (size + 2) (omega arith)) (driver-store form size mode es id its (asks_disable form) (size + 2) 3 driver.AskedDisable
+        pub ask_disable-asks : (id : ℕ) → is_on (done_by now).state ≡ true → Asks form table ring key me (stores (driver_end form) (λ n es i r b. asks r)) id (size + 2) 3
+        ask_disable-asks id on = standing.store-asks stands form (stores (driver_end form) (λ n es i r b. asks r)) id (size + 2) 3 (standing.low size mode (size + 2) (omega arith)) (may-store form size mode (driver_role (form.Lies size mode)) es id its (stores (driver_end form) (λ n es i r b. asks r)) (size + 2) 3 driver.AskedDisable
             (λ q cs words homes pos l. let a = inv.law.allowed size mode q es cs words homes pos l in let f = a.driver in f.ask_disable (sym (words-are (λ x n. is_on x.state)) ∙ on)) (record { seat = refl; names = refl }))
 
         -- the load of the head
-        pub head-asks : (id : ℕ) → is_stopped (done_by now).state ≡ true → LoadAsks form table ring key me (LoadsHead form) id size
-        head-asks id stopped = standing.load-asks stands form (LoadsHead form) id size (standing.low size mode size (omega arith)) (driver-load form size mode es id its (LoadsHead form) size driver.LoadedHead (λ r. r < size)
-            (λ q cs words homes pos l. let a = inv.law.allowed size mode q es cs words homes pos l in let f = a.driver in f.head (sym (words-are (λ x n. is_stopped x.state)) ∙ stopped)) (λ r v. record { adds = record { seat = refl; names = refl }; below = v }))
+        pub head-asks : (id : ℕ) → is_stopped (done_by now).state ≡ true → LoadAsks form table ring key me (Loads (driver_end form) (λ n es i r b. driver.LoadedHead r) IsPlace) id size
+        head-asks id stopped = standing.load-asks stands form (Loads (driver_end form) (λ n es i r b. driver.LoadedHead r) IsPlace) id size (standing.low size mode size (omega arith)) (may-load form size mode (driver_role (form.Lies size mode)) es id its (Loads (driver_end form) (λ n es i r b. driver.LoadedHead r) IsPlace) size driver.LoadedHead (λ r. r < size)
+            (λ q cs words homes pos l. let a = inv.law.allowed size mode q es cs words homes pos l in let f = a.driver in f.head (sym (words-are (λ x n. is_stopped x.state)) ∙ stopped)) (λ r v. record { adds = record { seat = refl; names = refl }; told = v }))
 
         -- C9
-        pub clear_head-asks : (id : ℕ) → is_stopped (done_by now).state ≡ true → length (done_by now).given + (done_by now).reclaimed ≡ length (done_by now).posted → Asks form table ring key me (clears_head form) id size 0
-        clear_head-asks id stopped back = standing.store-asks stands form (clears_head form) id size 0 (standing.low size mode size (omega arith)) (driver-store form size mode es id its (clears_head form) size 0 driver.ClearedHead
+        pub clear_head-asks : (id : ℕ) → is_stopped (done_by now).state ≡ true → length (done_by now).given + (done_by now).reclaimed ≡ length (done_by now).posted → Asks form table ring key me (stores (driver_end form) (λ n es i r b. driver.ClearedHead)) id size 0
+        clear_head-asks id stopped back = standing.store-asks stands form (stores (driver_end form) (λ n es i r b. driver.ClearedHead)) id size 0 (standing.low size mode size (omega arith)) (may-store form size mode (driver_role (form.Lies size mode)) es id its (stores (driver_end form) (λ n es i r b. driver.ClearedHead)) size 0 driver.ClearedHead
             (λ q cs words homes pos l. let a = inv.law.allowed size mode q es cs words homes pos l in let f = a.driver in f.clear_head (sym (words-are (λ x n. is_stopped x.state)) ∙ stopped)
             (sym (words-are (λ x n. length x.given + x.reclaimed)) ∙ back ∙ words-are (λ x n. length x.posted))) (record { seat = refl; names = refl }))
 
         -- C10
-        pub clear_tail-asks : (id : ℕ) → form.MayClearTail now.completion → is_cleared (done_by now).state ≡ true → Asks form table ring key me (clears_tail form) id (size + 1) 0
-        clear_tail-asks id may cleared = standing.store-asks stands form (clears_tail form) id (size + 1) 0 (standing.low size mode (size + 1) (omega arith)) (driver-store form size mode es id its (clears_tail form) (size + 1) 0 driver.ClearedTail
+        pub clear_tail-asks : (id : ℕ) → form.MayClearTail now.completion → is_cleared (done_by now).state ≡ true → Asks form table ring key me (stores (driver_end form) (λ n es i r b. driver.ClearedTail)) id (size + 1) 0
+        clear_tail-asks id may cleared = standing.store-asks stands form (stores (driver_end form) (λ n es i r b. driver.ClearedTail)) id (size + 1) 0 (standing.low size mode (size + 1) (omega arith)) (may-store form size mode (driver_role (form.Lies size mode)) es id its (stores (driver_end form) (λ n es i r b. driver.ClearedTail)) (size + 1) 0 driver.ClearedTail
             (λ q cs words homes pos l. let a = inv.law.allowed size mode q es cs words homes pos l in let f = a.driver in f.clear_tail (here (λ n m xs. form.MayClearTail m) may) (sym (words-are (λ x n. is_cleared x.state)) ∙ cleared)) (record { seat = refl; names = refl }))
 
         -- Steps of one direction's own
@@ -206,11 +211,11 @@ module _ {Ring Posted Served Given D C : Type 0} (form : Form Ring Posted Served
             load-may : MayLoad form event tells size mode (driver_part me.0) word
             load-may = here (λ n m xs. MayLoad form event tells n m xs word) may
 
-            pub load_own-asks : (id : ℕ) → LoadAsks form table ring key me (DriverDoes form event tells) id word
-            load_own-asks id = let m = load-may in standing.load-asks stands form (DriverDoes form event tells) id word m.word_is
-                (driver-load form size mode es id its (DriverDoes form event tells) word (λ r. event size es word r blank) (λ r. tells size es word r blank) m.goes (λ r t. record { adds = record { seat = refl; names = m.names r }; told = t }))
+            pub load_own-asks : (id : ℕ) → LoadAsks form table ring key me (Loads (driver_end form) event tells) id word
+            load_own-asks id = let m = load-may in standing.load-asks stands form (Loads (driver_end form) event tells) id word m.word_is
+                (may-load form size mode (driver_role (form.Lies size mode)) es id its (Loads (driver_end form) event tells) word (λ r. event size es word r blank) (λ r. tells size es word r blank) m.goes (λ r t. record { adds = record { seat = refl; names = m.names r }; told = t }))
 
-            module _ (r : ℕ) (me' : It) (told : DriverDoes form event tells (step ring.slots word 0 0 none) me r me') where
+            module _ (r : ℕ) (me' : It) (told : Loads (driver_end form) event tells (step ring.slots word 0 0 none) me r me') where
               load_own-seat : me' ≡ (driver_does me (event size es word r blank), me.1)
               load_own-seat = told.adds.seat ∙ ap (λ (n : ℕ). let x : It = (driver_does me (event n es word r blank), me.1) in x) counts
 
@@ -241,10 +246,10 @@ module _ {Ring Posted Served Given D C : Type 0} (form : Form Ring Posted Served
                 (record { back = omega arith; room = omega arith })
 
             -- what the event is, of what was loaded there or stored
-            came-seat : (r : ℕ) (me1 : It) (t : DriverTakes form event tells (step ring.slots place 0 0 none) me r me1) → me1 ≡ (driver_does me (event size es place r t.buf), (place, t.buf) ∷ me.1)
+            came-seat : (r : ℕ) (me1 : It) (t : Takes (driver_end form) event tells (step ring.slots place 0 0 none) me r me1) → me1 ≡ (driver_does me (event size es place r t.buf), (place, t.buf) ∷ me.1)
             came-seat r me1 t = t.adds.seat ∙ ap (λ (n : ℕ). let x : It = (driver_does me (event n es place r t.buf), (place, t.buf) ∷ me.1) in x) counts
 
-            module _ (r : ℕ) (b : Buffer) (table' : TableId) (me1 me2 me3 : It) (same : table' ≡ table) (t : DriverTakes form event tells (step ring.slots place 0 0 none) me r me1) (l : me2 ≡ (me1.0, (place, blank) ∷ rest me1.1)) (turn : me3 ≡ (me2.0, turned me2.1)) where
+            module _ (r : ℕ) (b : Buffer) (table' : TableId) (me1 me2 me3 : It) (same : table' ≡ table) (t : Takes (driver_end form) event tells (step ring.slots place 0 0 none) me r me1) (l : me2 ≡ (me1.0, (place, blank) ∷ rest me1.1)) (turn : me3 ≡ (me2.0, turned me2.1)) where
               came-steps : b ≡ front_buffer me1.1 → side table' me3 ≡ grown now (event now.table.slots now.events place r b)
               came-steps got = let is : b ≡ t.buf = got ∙ ap (λ (m : It). front_buffer m.1) t.adds.seat in
                   one-more (event size es place r t.buf) table' me3 (me.1 ++ (place, blank) ∷ []) same (back-seat (event size es place r t.buf) t.buf me1 me2 me3 (came-seat r me1 t) l turn)
@@ -259,12 +264,12 @@ module _ {Ring Posted Served Given D C : Type 0} (form : Form Ring Posted Served
               clear-may : MayClear form event tells size mode (driver_part me.0) place
               clear-may = here (λ n m xs. MayClear form event tells n m xs place) may
 
-              pub clear_own-asks : (id : ℕ) → Asks form table ring key me (DriverTakes form event tells) id place 0
-              clear_own-asks id = let m = clear-may in standing.store-asks stands form (DriverTakes form event tells) id place 0 (below place (length d.given + d.reclaimed) (next-is place at))
-                  (driver-clear form size mode es id its (DriverTakes form event tells) place (λ b. event size es place 0 b) (λ b. tells size es place 0 b)
+              pub clear_own-asks : (id : ℕ) → Asks form table ring key me (Takes (driver_end form) event tells) id place 0
+              clear_own-asks id = let m = clear-may in standing.store-asks stands form (Takes (driver_end form) event tells) id place 0 (below place (length d.given + d.reclaimed) (next-is place at))
+                  (may-clear form size mode (driver_role (form.Lies size mode)) es id its (Takes (driver_end form) event tells) place (λ b. event size es place 0 b) (λ b. tells size es place 0 b)
                   (λ q cs words homes pos l. let o = m.goes q cs words homes pos l in (o.buf, o.home, o.told, o.agrees)) (λ b t. record { buf = b; adds = record { seat = refl; names = m.names b }; told = t }))
 
-              module _ (b : Buffer) (table' : TableId) (me1 me2 me3 : It) (same : table' ≡ table) (t : DriverTakes form event tells (step ring.slots place 0 0 none) me 0 me1) (l : me2 ≡ (me1.0, (place, blank) ∷ rest me1.1)) (turn : me3 ≡ (me2.0, turned me2.1)) where
+              module _ (b : Buffer) (table' : TableId) (me1 me2 me3 : It) (same : table' ≡ table) (t : Takes (driver_end form) event tells (step ring.slots place 0 0 none) me 0 me1) (l : me2 ≡ (me1.0, (place, blank) ∷ rest me1.1)) (turn : me3 ≡ (me2.0, turned me2.1)) where
                 pub clear_own-keeps : IsDriverSeat form table' me3 size mode
                 clear_own-keeps = let m = clear-may in back-keeps (event size es place 0 t.buf) t.buf table' me1 me2 me3 same (came-seat 0 me1 t) l turn (m.back t.buf)
 
@@ -279,14 +284,14 @@ module _ {Ring Posted Served Given D C : Type 0} (form : Form Ring Posted Served
               take-may : MayTake form event tells size mode (driver_part me.0) missed done place
               take-may = here (λ n m xs. MayTake form event tells n m xs missed done place) may
 
-              pub take_own-asks : (id : ℕ) → LoadAsks form table ring key me (DriverFinds form event tells missed done) id place
-              take_own-asks id = let m = take-may in standing.load-asks stands form (DriverFinds form event tells missed done) id place (below place (length d.given + d.reclaimed) (next-is place at))
-                  (driver-find form size mode es id its (DriverFinds form event tells missed done) place done (missed place) (λ r b. event size es place r b) (λ r b. tells size es place r b)
+              pub take_own-asks : (id : ℕ) → LoadAsks form table ring key me (Finds (driver_end form) event tells missed done) id place
+              take_own-asks id = let m = take-may in standing.load-asks stands form (Finds (driver_end form) event tells missed done) id place (below place (length d.given + d.reclaimed) (next-is place at))
+                  (may-find form size mode (driver_role (form.Lies size mode)) es id its (Finds (driver_end form) event tells missed done) place done (missed place) (λ r b. event size es place r b) (λ r b. tells size es place r b)
                   m.undone (λ q cs words homes pos l f. let o = m.goes q cs words homes pos l f in (o.buf, o.home, o.told, o.agrees))
                   (λ r f. record { undone = λ e. record { seat = refl; names = m.names_missed r }; taken = λ e. absurd (false≢true (sym f ∙ e)) })
                   (λ r b f t. record { undone = λ e. absurd (false≢true (sym e ∙ f)); taken = λ e. record { buf = b; adds = record { seat = refl; names = m.names r b }; told = t } }))
 
-              module _ (r : ℕ) (me1 : It) (t : DriverFinds form event tells missed done (step ring.slots place 0 0 none) me r me1) where
+              module _ (r : ℕ) (me1 : It) (t : Finds (driver_end form) event tells missed done (step ring.slots place 0 0 none) me r me1) where
                 pub missed-keeps : (table' : TableId) → table' ≡ table → done r ≡ false → IsDriverSeat form table' me1 size mode
                 missed-keeps table' same f = let m = take-may in same-keeps (missed place r) table' me1 same (t.undone f).seat (m.same r)
 
@@ -305,8 +310,8 @@ module _ {Ring Posted Served Given D C : Type 0} (form : Form Ring Posted Served
             end-may : MayEnd form event size mode (driver_part me.0) word
             end-may = here (λ n m xs. MayEnd form event n m xs word) may
 
-            pub end_own-asks : (id : ℕ) → Asks form table ring key me (driver_ends form event) id word 0
-            end_own-asks id = let m = end-may in standing.store-asks stands form (driver_ends form event) id word 0 m.word_is (driver-store form size mode es id its (driver_ends form event) word 0 (event size es word 0 blank) m.goes (record { seat = refl; names = m.names }))
+            pub end_own-asks : (id : ℕ) → Asks form table ring key me (stores (driver_end form) event) id word 0
+            end_own-asks id = let m = end-may in standing.store-asks stands form (stores (driver_end form) event) id word 0 m.word_is (may-store form size mode (driver_role (form.Lies size mode)) es id its (stores (driver_end form) event) word 0 (event size es word 0 blank) m.goes (record { seat = refl; names = m.names }))
 
             module _ (me1 : It) (ends : me1 ≡ (driver_does me (event ring.slots es word 0 blank), me.1)) where
               end-seat : me1 ≡ (driver_does me (event size es word 0 blank), me.1)

@@ -4,6 +4,7 @@ pub mod Items
 pub mod Lying
 pub mod Controlling
 pub mod Folds
+pub mod Lasting
 pub mod Allowing
 pub mod Allowed
 pub mod Standing
@@ -14,6 +15,7 @@ pub mod Gathering
 pub mod Gathered
 pub mod Meeting
 pub mod Closing
+pub mod Closed
 pub mod Serving
 pub mod Posting
 pub mod Shaking

@@ -4,6 +4,7 @@ use Rattle.std.specs.Prelude.{slice_get, slice_index, slice_set, ◌==◌}
 use Rattle.std.proofs.lemmas.Bool.{and_parts, both_ways, true≢false, false≢true}
 use mathlib.Core.Option as maybe
 use mathlib.Core.Option.{some, none}
+use lib.ListN.{get_elem?}
 use Rattle.buffer_pool.specs.Buffer.{Buffer}
 use Rattle.ring_model.specs.declared.states.DriverState.{DriverState}
 use Rattle.ring_model.specs.declared.states.DriverState.TheVariants.{New, Asked, On, Stopping, Stopped, Cleared, Tailed}
@@ -13,15 +14,15 @@ use Rattle.ring_model.specs.shared.Handshakes.{is_open, is_answered, is_serving,
 use Rattle.ring_model.specs.shared.QueueSteps.{Post, Publish, Look, Fetch, Serve, Head, Give, Shake, Reclaim, ClearHead, ClearTail, Renew}
 use Rattle.ring_model.specs.shared.Queue.{Queue, posted_count, served_count, returned_count, may, by}
 use Rattle.ring_model.specs.shared.Agreement.{HasItems}
-use Rattle.shared_ring.specs.Registers.{HasRegisters, registers_of}
+use Rattle.shared_ring.specs.Registers.{Registers, HasRegisters, registers_of}
 use Rattle.ring_model.specs.kept.Writes.{Writes}
 use Rattle.ring_laws.specs.Places.{slice_index-writes}
 use Rattle.ring_model.specs.kept.Queues.{IsKept}
 use Rattle.ring_laws.specs.States.{shakes-disable, serving_unanswered}
 use Rattle.ring_laws.specs.Queues.{shook}
 use Rattle.shared_ring.specs.Slots.{home_at}
-use Rattle.shared_ring.specs.Lies.{is_early, LiesIn}
-use Rattle.shared_ring.proofs.Laying.{registers-stay, registers-head, registers-tail, registers-control, registers-quiet, descriptors-stay, home-given, home-taken, home-left}
+use Rattle.shared_ring.specs.Lies.{is_early, LiesIn, AllLeft}
+use Rattle.shared_ring.proofs.Laying.{registers-stay, registers-head, registers-tail, registers-control, registers-quiet, descriptors-stay, home-given, home-taken, home-left, home-full, unheld_item}
 use Rattle.shared_ring.proofs.Items.{items-read, items-post, items-fetch, items-serve, items-give, items-reclaim, items-renew}
 
 -- what a driver's state tells of an epoch that has not begun
@@ -95,15 +96,21 @@ module _ {Posted Served Given : Type 0} (says : ℕ → Option Posted → Option
   items-past : (p w : ℕ) → n ≤ p → HasItems {Given = Given} says lies n q (slice_index (slice_set words p w)) (home_at homes)
   items-past p w h = items-read says lies n ends q k (slice_index words) (home_at homes) l.items (slice_index (slice_set words p w)) (λ j b. descriptors-stay n p w j words h b)
 
+  -- a descriptor's word is stored, and its slot given back or taken
+  stored-lies : (q' : Queue Posted Served Given) (i w p : ℕ) (h : maybe.Option Buffer) → p ≡ i % n → registers_of q' quiet ≡ registers_of q quiet → HasItems {Given = Given} says lies n q' (slice_index (slice_set words p w)) (home_at (set homes p h))
+      → (is_early q'.handshake.driver ≡ true → is_serving q'.handshake.controller ≡ false → q'.head ≡ 0) → LiesIn {Given = Given} says lies n m q' quiet (slice_set words p w) (set homes p h)
+  stored-lies q' i w p h at same items cleared = record {
+    word_count = count-words p w;
+    slot_count = count-homes p h;
+    registers = subst (λ (g : Registers). HasRegisters n g (slice_set words p w)) (sym same) (registers-at p i w at);
+    items = items;
+    cleared = cleared;
+  }
+
   pub lies-post : (x : Posted) (b : Buffer) (w p : ℕ) → p ≡ posted_count q % n → may q (Post x) ≡ true → says (posted_count q) (Some x) None ≡ w → lies (Some x) None ≡ Some b
       → LiesIn {Given = Given} says lies n m (by q (Post x)) quiet (slice_set words p w) (set homes p (some b))
-  lies-post x b w p at can says_it lies_it = record {
-    word_count = count-words p w;
-    slot_count = count-homes p (some b);
-    registers = registers-at p (posted_count q) w at;
-    items = items-post says lies n ends q k (slice_index words) (home_at homes) l.items x b w (slice_index (slice_set words p w)) (home_at (set homes p (some b))) can says_it lies_it (word-writes p (posted_count q) w at) (slot-given p (posted_count q) b at);
-    cleared = l.cleared;
-  }
+  lies-post x b w p at can says_it lies_it = stored-lies (by q (Post x)) (posted_count q) w p (some b) at refl
+      (items-post says lies n ends q k (slice_index words) (home_at homes) l.items x b w (slice_index (slice_set words p w)) (home_at (set homes p (some b))) can says_it lies_it (word-writes p (posted_count q) w at) (slot-given p (posted_count q) b at)) l.cleared
 
   pub lies-publish : (t : ℕ) → t ≡ posted_count q % n → LiesIn {Given = Given} says lies n m (by q Publish) quiet (slice_set words (n + 1) t) homes
   lies-publish t at = let i = items-past (n + 1) t (omega arith) in record {
@@ -129,13 +136,8 @@ module _ {Posted Served Given : Type 0} (says : ℕ → Option Posted → Option
 
   pub lies-serve : (x : Served) (b : Buffer) (w p : ℕ) → p ≡ served_count q % n → q.held ≡ true → says (served_count q) (slice_get q.ledger.posted (served_count q)) (Some x) ≡ w → lies (slice_get q.ledger.posted (served_count q)) (Some x) ≡ Some b
       → LiesIn {Given = Given} says lies n m (by q (Serve x)) quiet (slice_set words p w) (set homes p (some b))
-  lies-serve x b w p at holds says_it lies_it = record {
-    word_count = count-words p w;
-    slot_count = count-homes p (some b);
-    registers = registers-at p (served_count q) w at;
-    items = items-serve says lies n ends q k (slice_index words) (home_at homes) l.items x b w (slice_index (slice_set words p w)) (home_at (set homes p (some b))) holds says_it lies_it (word-writes p (served_count q) w at) (slot-given p (served_count q) b at);
-    cleared = l.cleared;
-  }
+  lies-serve x b w p at holds says_it lies_it = stored-lies (by q (Serve x)) (served_count q) w p (some b) at refl
+      (items-serve says lies n ends q k (slice_index words) (home_at homes) l.items x b w (slice_index (slice_set words p w)) (home_at (set homes p (some b))) holds says_it lies_it (word-writes p (served_count q) w at) (slot-given p (served_count q) b at)) l.cleared
 
   pub lies-head : (h : ℕ) → h ≡ served_count q % n → may q Head ≡ true → LiesIn {Given = Given} says lies n m (by q Head) quiet (slice_set words n h) homes
   lies-head h at can = let i = items-past n h (omega arith) in let t = and_parts (is_serving q.handshake.controller) (not q.held) can in record {
@@ -152,22 +154,12 @@ module _ {Posted Served Given : Type 0} (says : ℕ → Option Posted → Option
   out-rest p w j at b ne = let x = word-writes p (returned_count q) w at in x.rest j b ne
 
   pub lies-give : (x : Given) (w p : ℕ) → p ≡ returned_count q % n → returned_count q < posted_count q → LiesIn {Given = Given} says lies n m (by q (Give x)) quiet (slice_set words p w) (set homes p none)
-  lies-give x w p at more = record {
-    word_count = count-words p w;
-    slot_count = count-homes p none;
-    registers = registers-at p (returned_count q) w at;
-    items = items-give says lies n ends q k (slice_index words) (home_at homes) l.items (slice_index (slice_set words p w)) (home_at (set homes p none)) more (λ j b ne. out-rest p w j at b ne) (λ j b ne. home-left homes p j (λ e. ne (e ∙ at))) x;
-    cleared = l.cleared;
-  }
+  lies-give x w p at more = stored-lies (by q (Give x)) (returned_count q) w p none at refl
+      (items-give says lies n ends q k (slice_index words) (home_at homes) l.items (slice_index (slice_set words p w)) (home_at (set homes p none)) more (λ j b ne. out-rest p w j at b ne) (λ j b ne. home-left homes p j (λ e. ne (e ∙ at))) x) l.cleared
 
   pub lies-reclaim : (w p : ℕ) → p ≡ returned_count q % n → returned_count q < posted_count q → LiesIn {Given = Given} says lies n m (by q Reclaim) quiet (slice_set words p w) (set homes p none)
-  lies-reclaim w p at more = record {
-    word_count = count-words p w;
-    slot_count = count-homes p none;
-    registers = registers-at p (returned_count q) w at;
-    items = items-reclaim says lies n ends q k (slice_index words) (home_at homes) l.items (slice_index (slice_set words p w)) (home_at (set homes p none)) more (λ j b ne. out-rest p w j at b ne) (λ j b ne. home-left homes p j (λ e. ne (e ∙ at)));
-    cleared = l.cleared;
-  }
+  lies-reclaim w p at more = stored-lies (by q Reclaim) (returned_count q) w p none at refl
+      (items-reclaim says lies n ends q k (slice_index words) (home_at homes) l.items (slice_index (slice_set words p w)) (home_at (set homes p none)) more (λ j b ne. out-rest p w j at b ne) (λ j b ne. home-left homes p j (λ e. ne (e ∙ at)))) l.cleared
 
   -- a step of the handshake that stores the control word
   lies-shaken : (g : Handshake) (known v : ℕ) → g.control ≡ v → (is_early g.driver ≡ true → is_serving g.controller ≡ false → q.head ≡ 0) → LiesIn {Given = Given} says lies n m (record q { known = known; handshake = g }) quiet (slice_set words (n + 2) v) homes
@@ -247,3 +239,9 @@ module _ {Posted Served Given : Type 0} (says : ℕ → Option Posted → Option
     items = items-past (n + 3) v (omega arith);
     cleared = l.cleared;
   }
+
+-- what lies in the slots of a table that is closed
+pub left-lies : {Posted Served Given : Type 0} (says : ℕ → Option Posted → Option Served → ℕ) (lies : Option Posted → Option Served → Option Buffer) (n m : ℕ) (q : Queue Posted Served Given) (quiet : ℕ) (words : List ℕ) (homes : List (maybe.Option Buffer))
+    → LiesIn {Given = Given} says lies n m q quiet words homes → (slots : List Buffer) → ((k : ℕ) (y : Buffer) → get_elem? homes k ≡ some (some y) → get_elem? slots k ≡ some y) → AllLeft lies n q slots
+left-lies says lies n m q quiet words homes l slots found_back k b first past free is = let i = l.items in
+    found_back (k % n) b (home-full homes (k % n) b (i.slots k first past ∙ unheld_item q.held k (served_count q) _ free ∙ is))

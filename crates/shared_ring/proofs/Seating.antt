@@ -23,20 +23,21 @@ module _ {A : Type 0} where
   within_list (x ∷ xs) (suc i) a e = let h : i < length xs = within_list xs i a e in omega arith
 
 module _ {D C : Type 0} where
+  -- what a seat fits, where what it says of either end goes on
+  refit : (ds es : List D) (cs fs : List C) (i k i' k' j : ℕ) (v : View D C) → ((xs : List D) → (j ≡ i) × (xs ≡ ds) → (j ≡ i') × (xs ≡ es)) → ((ys : List C) → (j ≡ k) × (ys ≡ cs) → (j ≡ k') × (ys ≡ fs)) → Fits ds cs i k j v → Fits es fs i' k' j v
+  refit ds es cs fs i k i' k' j Maker d c f = f
+  refit ds es cs fs i k i' k' j (Driver xs) d c f = d xs f
+  refit ds es cs fs i k i' k' j (Controller ys) d c f = c ys f
+  refit ds es cs fs i k i' k' j (Both xs ys) d c f = let a = d xs (f.0, f.1) in let b = c ys (f.2, f.3) in (a.0, a.1, b.0, b.1)
+  refit ds es cs fs i k i' k' j Nobody d c f = tt
+
   -- another seat than the driver's fits whatever the driver's record becomes
   fits-driver : (ds es : List D) (cs : List C) (i k j : ℕ) (v : View D C) → j ≢ i → Fits ds cs i k j v → Fits es cs i k j v
-  fits-driver ds es cs i k j Maker ne f = f
-  fits-driver ds es cs i k j (Driver xs) ne f = absurd (ne f.0)
-  fits-driver ds es cs i k j (Controller xs) ne f = f
-  fits-driver ds es cs i k j (Both xs ys) ne f = absurd (ne f.0)
-  fits-driver ds es cs i k j Nobody ne f = tt
+  fits-driver ds es cs i k j v ne = refit ds es cs cs i k i k j v (λ xs p. absurd (ne p.0)) (λ ys p. p)
 
-  fits-controller : (ds : List D) (cs es : List C) (i k j : ℕ) (v : View D C) → j ≢ k → Fits ds cs i k j v → Fits ds es i k j v
-  fits-controller ds cs es i k j Maker ne f = f
-  fits-controller ds cs es i k j (Driver xs) ne f = f
-  fits-controller ds cs es i k j (Controller xs) ne f = absurd (ne f.0)
-  fits-controller ds cs es i k j (Both xs ys) ne f = absurd (ne f.2)
-  fits-controller ds cs es i k j Nobody ne f = tt
+  -- and another than the controller's, whatever the controller's becomes, and whichever seat has it
+  fits-controller : (ds : List D) (cs es : List C) (i k k' j : ℕ) (v : View D C) → j ≢ k → Fits ds cs i k j v → Fits ds es i k' j v
+  fits-controller ds cs es i k k' j v ne = refit ds ds cs es i k i k' j v (λ xs p. p) (λ ys p. absurd (ne p.0))
 
   pub drivers_are : (ds es : List D) (cs : List C) (views : List (View D C)) (id : ℕ) → HasSeats ds cs views → get_elem? views id ≡ some (Driver es) → es ≡ ds
   drivers_are ds es cs views id h e = (h.fits id (Driver es) e).1
@@ -64,21 +65,13 @@ module _ {D C : Type 0} where
     controller_seat = h.controller_seat;
     fits = λ j v f. ⊎_elim
         (λ p. subst (λ (w : View D C). Fits ds es h.driver_seat h.controller_seat j w) p.1 (p.0 ∙ (h.fits id (Controller xs) e).0, refl))
-        (λ p. fits-controller ds cs es h.driver_seat h.controller_seat j v (λ q. p.0 (q ∙ sym (h.fits id (Controller xs) e).0)) (h.fits j v p.1))
+        (λ p. fits-controller ds cs es h.driver_seat h.controller_seat h.controller_seat j v (λ q. p.0 (q ∙ sym (h.fits id (Controller xs) e).0)) (h.fits j v p.1))
         (at_set views id j (Controller es) v f);
   }
 
   -- a seat whose view stays
   pub same_seated : (ds : List D) (cs : List C) (views : List (View D C)) (id : ℕ) (v : View D C) → HasSeats ds cs views → get_elem? views id ≡ some v → HasSeats ds cs (set views id v)
   same_seated ds cs views id v h e = subst (λ (vs : List (View D C)). HasSeats ds cs vs) (sym (set_again views id v e)) h
-
-  -- the controller's seat is another: of a view without the controller's record nothing is said of it
-  fits-moved : (ds : List D) (cs : List C) (i k k' j : ℕ) (v : View D C) → j ≢ k → Fits ds cs i k j v → Fits ds cs i k' j v
-  fits-moved ds cs i k k' j Maker ne f = f
-  fits-moved ds cs i k k' j (Driver xs) ne f = f
-  fits-moved ds cs i k k' j (Controller xs) ne f = absurd (ne f.0)
-  fits-moved ds cs i k k' j (Both xs ys) ne f = absurd (ne f.2)
-  fits-moved ds cs i k k' j Nobody ne f = tt
 
   -- the controller's record goes to a new seat, and the seat that had it has the view w
   moved : (ds : List D) (cs : List C) (views : List (View D C)) (id : ℕ) (h : HasSeats ds cs views) (w : View D C) → id ≡ h.controller_seat → id < length views
@@ -89,7 +82,7 @@ module _ {D C : Type 0} where
     fits = λ j v e. ⊎_elim
         (λ old. ⊎_elim
         (λ p. subst (λ (u : View D C). Fits ds cs h.driver_seat (length views) j u) p.1 (subst (λ (m : ℕ). Fits ds cs h.driver_seat (length views) m w) (sym p.0) f))
-        (λ p. fits-moved ds cs h.driver_seat h.controller_seat (length views) j v (λ q. p.0 (q ∙ sym is)) (h.fits j v p.1))
+        (λ p. fits-controller ds cs cs h.driver_seat h.controller_seat (length views) j v (λ q. p.0 (q ∙ sym is)) (h.fits j v p.1))
         (at_set views id j w v old))
         (λ new. subst (λ (u : View D C). Fits ds cs h.driver_seat (length views) j u) new.1 (new.0, refl))
         (at_snoc_or (set views id w) (Controller cs) v j (length views) (length-set views id w) e);
@@ -117,7 +110,7 @@ module _ {D C : Type 0} where
         (λ spent. subst (λ (u : View D C). Fits ds cs h.driver_seat id j u) spent.1 tt)
         (λ old. ⊎_elim
         (λ p. subst (λ (u : View D C). Fits ds cs h.driver_seat id j u) p.1 (subst (λ (m : ℕ). Fits ds cs h.driver_seat id m w) (sym p.0) f))
-        (λ p. fits-moved ds cs h.driver_seat h.controller_seat id j v (λ q. old.0 (q ∙ sym is)) (h.fits j v p.1))
+        (λ p. fits-controller ds cs cs h.driver_seat h.controller_seat id j v (λ q. old.0 (q ∙ sym is)) (h.fits j v p.1))
         (at_set views id j w v old.1))
         (at_set (set views id w) other j Nobody v e);
   }

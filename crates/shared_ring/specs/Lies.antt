@@ -1,11 +1,13 @@
 -- How words, slots and both records agree with a queue.
-use Rattle.std.specs.Prelude.{◌≡◌, ℕ, Bool, true, false, List, length, Option, slice_index}
+use Rattle.std.specs.Prelude.{◌≡◌, ℕ, ◌%◌, ◌<◌, ◌≤◌, Bool, true, false, List, length, Option, Some, slice_get, slice_index}
 use mathlib.Core.Option as maybe
+use mathlib.Core.Option.{some}
+use lib.ListN.{get_elem?}
 use Rattle.buffer_pool.specs.Buffer.{Buffer}
 use Rattle.ring_model.specs.declared.states.DriverState.{DriverState}
 use Rattle.ring_model.specs.declared.states.DriverState.TheVariants.{New, Asked, Cleared, Tailed}
 use Rattle.ring_model.specs.shared.Handshakes.{is_serving, is_between}
-use Rattle.ring_model.specs.shared.Queue.{Queue}
+use Rattle.ring_model.specs.shared.Queue.{Queue, posted_count, served_count, returned_count}
 use Rattle.ring_model.specs.shared.Agreement.{HasItems, held_buffer}
 use Rattle.shared_ring.specs.Registers.{HasRegisters, registers_of}
 use Rattle.shared_ring.specs.Slots.{home_at}
@@ -41,3 +43,8 @@ module _ {Posted Served Given : Type 0} (says : ℕ → Option Posted → Option
     pub registers : HasRegisters n (registers_of q quiet) words
     pub items : HasItems {Given = Given} says lies n q (slice_index words) (home_at homes)
     pub cleared : is_early q.handshake.driver ≡ true → is_serving q.handshake.controller ≡ false → q.head ≡ 0
+
+-- What lies in the slots as a table is closed: the buffer of each item that is out and not held
+abbrev pub AllLeft : {Posted Served Given : Type 0} → (Option Posted → Option Served → Option Buffer) → ℕ → Queue Posted Served Given → List Buffer → Type 0
+AllLeft lies n q slots = (k : ℕ) (b : Buffer) → returned_count q ≤ k → k < posted_count q → (q.held ≡ true → ¬ (k ≡ served_count q))
+    → lies (slice_get q.ledger.posted k) (slice_get q.ledger.served k) ≡ Some b → get_elem? slots (k % n) ≡ some b

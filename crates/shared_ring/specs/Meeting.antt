@@ -1,5 +1,5 @@
 -- What both ends know together: as they are made, as they meet, and as the ring is closed.
-use Rattle.std.specs.Prelude.{◌≡◌, ℕ, zero, suc, ◌+◌, Bool, not, ◌&&◌, ◌==◌, nat_lt, List, [], ◌∷◌, ◌++◌, map, drop, Option, Some, None, IfSome, All, IsPermutation, if◌then◌else◌}
+use Rattle.std.specs.Prelude.{◌≡◌, ℕ, zero, suc, ◌+◌, ◌<◌, Bool, not, ◌&&◌, ◌==◌, nat_lt, List, [], ◌∷◌, ◌++◌, length, map, drop, slice_get, Option, Some, None, IfSome, All, IsPermutation, if◌then◌else◌}
 use mathlib.Core.Option as maybe
 use mathlib.Core.Option.{some, none}
 use lib.ListN.{get_elem?}
@@ -7,6 +7,8 @@ use Rattle.atomic_table.specs.Seated.{TableId}
 use Rattle.buffer_pool.specs.Buffer.{Buffer, buffer}
 use Rattle.limits.specs.RingLength.{IsRingLength}
 use Rattle.ring_model.specs.declared.states.Completion.{Completion}
+use Rattle.ring_model.specs.declared.states.Owner.{Owner}
+use Rattle.ring_model.specs.declared.states.Owner.TheVariants as owner
 use Rattle.ring_model.specs.shared.Handshakes.{is_open, is_ended}
 use Rattle.ring_model.specs.shared.Places.{between_places}
 use Rattle.shared_ring.specs.Ends.{DriverSide, driver_size, driver_state, posted, returned, ControllerSide, controller_state, served, held}
@@ -42,6 +44,12 @@ IsReal b = b ≡ buffer b.number b.bytes
 
 abbrev pub AllReal : List (Option Buffer) → Type 0
 AllReal buffers = All (λ o. IfSome o IsReal) buffers
+
+-- Of a closed ring a buffer came back at exactly the places that were with Ring, and `Gave` goes for each of them
+pub record CameBackFrom (n : ℕ) (owners : List Owner) (Gave : ℕ → Type 0) (buffers : List (Option Buffer)) : Type 0 where
+  pub count : length buffers ≡ n
+  pub ring : (place : ℕ) → slice_get owners place ≡ Some owner.Ring → Gave place
+  pub others : (place : ℕ) → place < n → ¬ (slice_get owners place ≡ Some owner.Ring) → slice_get buffers place ≡ Some None
 
 -- where it was told how many are left, a list is longer than another by as many
 abbrev pub IsTold : Option ℕ → ℕ → ℕ → Type 0

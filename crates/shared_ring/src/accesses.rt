@@ -5,16 +5,15 @@ ghost use Rattle.std.specs.Prelude.{◌≡◌, ◌<◌};
 ghost use mathlib.Core.Option.{none};
 ghost use Rattle.atomic_table.specs.Table.{Allows, step};
 ghost use Rattle.shared_ring.specs.Keeping.{IsRuled};
-ghost use Rattle.shared_ring.specs.Plays.{DriverCounts, ControllerCounts};
+ghost use Rattle.shared_ring.specs.Plays.{Counts};
 
 use crate::direction::Direction;
-use crate::events::{ControllerEvent, DriverEvent, View};
-use crate::plays::{ControllerPlay, DriverPlay};
+use crate::plays::{EndEvent, EndPlay};
 use crate::steps::{RingSeat, RingTable};
 
-/// A load by the driver.
+/// A load by the end whose events are `E`.
 #[inline]
-pub(crate) fn driver_load<M: DriverPlay<D, C, R>, D, C, R: Direction<D, C>>(
+pub(crate) fn load<M: EndPlay<E, D, C, R>, E: EndEvent<D, C, R>, D, C, R: Direction<D, C>>(
     table: &RingTable<D, C, R>,
     seat: &mut RingSeat<D, C>,
     word: usize,
@@ -22,14 +21,14 @@ pub(crate) fn driver_load<M: DriverPlay<D, C, R>, D, C, R: Direction<D, C>>(
     requires { (seat.old.table_id ≡ table.now.shared.table_id) × (word < table.now.shared.table_id.words) × Allows (IsRuled R.form table.now.shared.key.0 table.now.shared.key.1) table.now.shared.table_id.slots seat.old.id seat.old.me word (λ n. n) (M.then (step table.now.shared.table_id.slots word 0 0 none) seat.old.me) }
     ensures same { (seat.new.table_id ≡ seat.old.table_id) × (seat.new.id ≡ seat.old.id) }
     ensures told { M.then (step table.now.shared.table_id.slots word 0 0 none) seat.old.me result seat.new.me }
-    ensures counted { DriverCounts R.form (step table.now.shared.table_id.slots word 0 0 none) seat.old.me result seat.new.me }
+    ensures counted { Counts E.whose (step table.now.shared.table_id.slots word 0 0 none) seat.old.me result seat.new.me }
 {
     table.shared.load::<M>(seat, word)
 }
 
-/// A store by the driver.
+/// A store by the end whose events are `E`.
 #[inline]
-pub(crate) fn driver_store<M: DriverPlay<D, C, R>, D, C, R: Direction<D, C>>(
+pub(crate) fn store<M: EndPlay<E, D, C, R>, E: EndEvent<D, C, R>, D, C, R: Direction<D, C>>(
     table: &RingTable<D, C, R>,
     seat: &mut RingSeat<D, C>,
     word: usize,
@@ -38,38 +37,7 @@ pub(crate) fn driver_store<M: DriverPlay<D, C, R>, D, C, R: Direction<D, C>>(
     requires { (seat.old.table_id ≡ table.now.shared.table_id) × (word < table.now.shared.table_id.words) × Allows (IsRuled R.form table.now.shared.key.0 table.now.shared.key.1) table.now.shared.table_id.slots seat.old.id seat.old.me word (λ _. value) (λ _. M.then (step table.now.shared.table_id.slots word value 0 none) seat.old.me value) }
     ensures same { (seat.new.table_id ≡ seat.old.table_id) × (seat.new.id ≡ seat.old.id) }
     ensures told { M.then (step table.now.shared.table_id.slots word value 0 none) seat.old.me value seat.new.me }
-    ensures counted { DriverCounts R.form (step table.now.shared.table_id.slots word value 0 none) seat.old.me value seat.new.me }
-{
-    table.shared.store::<M>(seat, word, value);
-}
-
-/// A load by the controller.
-#[inline]
-pub(crate) fn controller_load<M: ControllerPlay<D, C, R>, D, C, R: Direction<D, C>>(
-    table: &RingTable<D, C, R>,
-    seat: &mut RingSeat<D, C>,
-    word: usize,
-) -> u64
-    requires { (seat.old.table_id ≡ table.now.shared.table_id) × (word < table.now.shared.table_id.words) × Allows (IsRuled R.form table.now.shared.key.0 table.now.shared.key.1) table.now.shared.table_id.slots seat.old.id seat.old.me word (λ n. n) (M.then (step table.now.shared.table_id.slots word 0 0 none) seat.old.me) }
-    ensures same { (seat.new.table_id ≡ seat.old.table_id) × (seat.new.id ≡ seat.old.id) }
-    ensures told { M.then (step table.now.shared.table_id.slots word 0 0 none) seat.old.me result seat.new.me }
-    ensures counted { ControllerCounts R.form (step table.now.shared.table_id.slots word 0 0 none) seat.old.me result seat.new.me }
-{
-    table.shared.load::<M>(seat, word)
-}
-
-/// A store by the controller.
-#[inline]
-pub(crate) fn controller_store<M: ControllerPlay<D, C, R>, D, C, R: Direction<D, C>>(
-    table: &RingTable<D, C, R>,
-    seat: &mut RingSeat<D, C>,
-    word: usize,
-    value: u64,
-)
-    requires { (seat.old.table_id ≡ table.now.shared.table_id) × (word < table.now.shared.table_id.words) × Allows (IsRuled R.form table.now.shared.key.0 table.now.shared.key.1) table.now.shared.table_id.slots seat.old.id seat.old.me word (λ _. value) (λ _. M.then (step table.now.shared.table_id.slots word value 0 none) seat.old.me value) }
-    ensures same { (seat.new.table_id ≡ seat.old.table_id) × (seat.new.id ≡ seat.old.id) }
-    ensures told { M.then (step table.now.shared.table_id.slots word value 0 none) seat.old.me value seat.new.me }
-    ensures counted { ControllerCounts R.form (step table.now.shared.table_id.slots word value 0 none) seat.old.me value seat.new.me }
+    ensures counted { Counts E.whose (step table.now.shared.table_id.slots word value 0 none) seat.old.me value seat.new.me }
 {
     table.shared.store::<M>(seat, word, value);
 }

@@ -1,39 +1,43 @@
-//! What each step on the table tells its caller. These types are for proofs alone.
+//! The plays by which an end makes a step: a kind for each way to treat a slot, for either end, and for any step by the
+//! event that it adds to the end's record. These types are for proofs alone.
 
-mod controller;
-mod driver;
-mod own;
+mod steps;
 
-use crate::direction::Direction;
+use crate::direction::{Direction, OwnStep, OwnTake};
 use crate::events::{ControllerEvent, DriverEvent, View};
 use atomic_table::Play;
 use buffer_pool::Buf;
-pub use controller::{DisableStore, EnableStore, NextLoad, RequestLoad, TailLoad};
-pub use driver::{
-    AskDisableStore, AskEnableStore, ClearHeadStore, ClearTailStore, ControlLoad, HeadLoad,
-    PostStore, PublishStore,
+use std::marker::PhantomData;
+pub use steps::{
+    AnswerStore, AskStore, ClearHeadStore, ClearTailStore, ControlLoad, HeadLoad, NextLoad,
+    PostStore, PublishStore, RequestLoad, TailLoad,
 };
-pub use own::{OwnClear, OwnEnd, OwnFind, OwnGive, OwnLoad, OwnStore};
 
-/// A play by which a driver makes a step: its record gets longer by exactly one event, which names the word that was
-/// loaded or stored, and the value. So no driver makes a step that its record doesn't tell of.
-pub trait DriverPlay<D, C, R: Direction<D, C>>: Play<
-    Buf,
-    View<DriverEvent<D>, ControllerEvent<C>>,
-> {
-    ghost use Rattle.std.specs.Prelude.{ℕ};
-    ghost use Rattle.atomic_table.specs.Table.{Step};
-    ghost use Rattle.buffer_pool.specs.Buffer.{Buffer};
+/// The events of one end of a ring: `whose` says which end.
+pub trait EndEvent<D, C, R: Direction<D, C>> {
     ghost use Rattle.shared_ring.specs.declared.events.DriverEvent.{DriverEvent};
     ghost use Rattle.shared_ring.specs.declared.events.ControllerEvent.{ControllerEvent};
-    ghost use Rattle.shared_ring.specs.Plays.{Seated, DriverCounts};
+    ghost use Rattle.shared_ring.specs.declared.events.View.{View};
+    ghost use Rattle.shared_ring.specs.Plays.{End};
 
-    ghost counts: { (st : Step Buffer) (m : Seated (DriverEvent D) (ControllerEvent C)) (r : ℕ) (m' : Seated (DriverEvent D) (ControllerEvent C)) → Self.then st m r m' → DriverCounts R.form st m r m' };
+    ghost whose: { End (View (DriverEvent D) (ControllerEvent C)) Self };
 }
 
-/// A play by which a controller makes a step: its record gets longer by exactly one event, which names the word that
-/// was loaded or stored, and the value.
-pub trait ControllerPlay<D, C, R: Direction<D, C>>: Play<
+impl<D, C, R: Direction<D, C>> EndEvent<D, C, R> for DriverEvent<D> {
+    ghost use Rattle.shared_ring.specs.Plays.{driver_end};
+
+    ghost whose = { driver_end R.form };
+}
+
+impl<D, C, R: Direction<D, C>> EndEvent<D, C, R> for ControllerEvent<C> {
+    ghost use Rattle.shared_ring.specs.Plays.{controller_end};
+
+    ghost whose = { controller_end R.form };
+}
+
+/// A play by which an end makes a step: its record gets longer by exactly one event, which names the word that was
+/// loaded or stored, and the value. So no end makes a step that its record doesn't tell of.
+pub trait EndPlay<E: EndEvent<D, C, R>, D, C, R: Direction<D, C>>: Play<
     Buf,
     View<DriverEvent<D>, ControllerEvent<C>>,
 > {
@@ -42,7 +46,102 @@ pub trait ControllerPlay<D, C, R: Direction<D, C>>: Play<
     ghost use Rattle.buffer_pool.specs.Buffer.{Buffer};
     ghost use Rattle.shared_ring.specs.declared.events.DriverEvent.{DriverEvent};
     ghost use Rattle.shared_ring.specs.declared.events.ControllerEvent.{ControllerEvent};
-    ghost use Rattle.shared_ring.specs.Plays.{Seated, ControllerCounts};
+    ghost use Rattle.shared_ring.specs.Plays.{Seated, Counts};
 
-    ghost counts: { (st : Step Buffer) (m : Seated (DriverEvent D) (ControllerEvent C)) (r : ℕ) (m' : Seated (DriverEvent D) (ControllerEvent C)) → Self.then st m r m' → ControllerCounts R.form st m r m' };
+    ghost counts: { (st : Step Buffer) (m : Seated (DriverEvent D) (ControllerEvent C)) (r : ℕ) (m' : Seated (DriverEvent D) (ControllerEvent C)) → Self.then st m r m' → Counts E.whose st m r m' };
+}
+
+/// A store.
+pub struct Stores<P, E, R>(PhantomData<(P, E, R)>);
+
+impl<D, C, R: Direction<D, C>, E: EndEvent<D, C, R>, P: OwnStep<E>> Play<
+    Buf,
+    View<DriverEvent<D>, ControllerEvent<C>>,
+> for Stores<P, E, R> {
+    ghost use Rattle.shared_ring.specs.Plays.{stores};
+
+    ghost then = { stores E.whose P.event };
+}
+
+impl<D, C, R: Direction<D, C>, E: EndEvent<D, C, R>, P: OwnStep<E>> EndPlay<E, D, C, R>
+    for Stores<P, E, R> {
+    ghost use Rattle.shared_ring.specs.Counting.{counts};
+
+    ghost counts = { λ st m r m' t. counts t };
+}
+
+/// A load.
+pub struct Loads<P, E, R>(PhantomData<(P, E, R)>);
+
+impl<D, C, R: Direction<D, C>, E: EndEvent<D, C, R>, P: OwnStep<E>> Play<
+    Buf,
+    View<DriverEvent<D>, ControllerEvent<C>>,
+> for Loads<P, E, R> {
+    ghost use Rattle.shared_ring.specs.Plays.{Loads};
+
+    ghost then = { Loads E.whose P.event P.tells };
+}
+
+impl<D, C, R: Direction<D, C>, E: EndEvent<D, C, R>, P: OwnStep<E>> EndPlay<E, D, C, R>
+    for Loads<P, E, R> {
+    ghost use Rattle.shared_ring.specs.Counting.{counts};
+
+    ghost counts = { λ st m r m' t. counts t.adds };
+}
+
+/// A load or a store by which the seat takes the slot of its place.
+pub struct Takes<P, E, R>(PhantomData<(P, E, R)>);
+
+impl<D, C, R: Direction<D, C>, E: EndEvent<D, C, R>, P: OwnStep<E>> Play<
+    Buf,
+    View<DriverEvent<D>, ControllerEvent<C>>,
+> for Takes<P, E, R> {
+    ghost use Rattle.shared_ring.specs.Plays.{Takes};
+
+    ghost then = { Takes E.whose P.event P.tells };
+}
+
+impl<D, C, R: Direction<D, C>, E: EndEvent<D, C, R>, P: OwnStep<E>> EndPlay<E, D, C, R>
+    for Takes<P, E, R> {
+    ghost use Rattle.shared_ring.specs.Counting.{counts};
+
+    ghost counts = { λ st m r m' t. counts t.adds };
+}
+
+/// A load by which it does where the word is done.
+pub struct Finds<P, E, R>(PhantomData<(P, E, R)>);
+
+impl<D, C, R: Direction<D, C>, E: EndEvent<D, C, R>, P: OwnTake<E>> Play<
+    Buf,
+    View<DriverEvent<D>, ControllerEvent<C>>,
+> for Finds<P, E, R> {
+    ghost use Rattle.shared_ring.specs.Plays.{Finds};
+
+    ghost then = { Finds E.whose P.event P.tells P.missed P.done };
+}
+
+impl<D, C, R: Direction<D, C>, E: EndEvent<D, C, R>, P: OwnTake<E>> EndPlay<E, D, C, R>
+    for Finds<P, E, R> {
+    ghost use Rattle.shared_ring.specs.Counting.{finding_counts};
+
+    ghost counts = { λ st m r m' t. finding_counts t };
+}
+
+/// A store by which the seat gives back the slot that it took last.
+pub struct Gives<P, E, R>(PhantomData<(P, E, R)>);
+
+impl<D, C, R: Direction<D, C>, E: EndEvent<D, C, R>, P: OwnStep<E>> Play<
+    Buf,
+    View<DriverEvent<D>, ControllerEvent<C>>,
+> for Gives<P, E, R> {
+    ghost use Rattle.shared_ring.specs.Plays.{gives};
+
+    ghost then = { gives E.whose P.event };
+}
+
+impl<D, C, R: Direction<D, C>, E: EndEvent<D, C, R>, P: OwnStep<E>> EndPlay<E, D, C, R>
+    for Gives<P, E, R> {
+    ghost use Rattle.shared_ring.specs.Counting.{counts};
+
+    ghost counts = { λ st m r m' t. counts t };
 }

@@ -28,6 +28,8 @@ use Rattle.shared_ring.specs.Directions.{IsDirection, DriverMay, ControllerMay, 
 use Rattle.shared_ring.specs.Slots.{home_at}
 use Rattle.shared_ring.proofs.Controlling.{of-serving, of-served, of-known, of-held, of-unheld, known-looked}
 use Rattle.shared_ring.proofs.Items.{fetch_lies}
+use Rattle.shared_ring.specs.Tables.{words_of}
+use Rattle.shared_ring.proofs.Lying.{left-lies}
 use Rattle.shared_ring.proofs.Laying.{home-full, unheld_item}
 use Rattle.shared_ring.proofs.Shaking.{control_value}
 use Rattle.tx_ring.specs.Form as form
@@ -36,9 +38,8 @@ use Rattle.tx_ring.specs.Records.{Posting, TxDriven, TxControlled, DriverStep, C
 use Rattle.tx_ring.specs.Rule.{LiesAs, filled, says, lies_there, word_of}
 use Rattle.tx_ring.proofs.Words.{posting-posted}
 use Rattle.tx_ring.proofs.Lying.{keeps_it, unreclaimed, untold}
-use Rattle.tx_ring.proofs.Moving.{post-lies, publish-lies, head_loaded-lies, ask_enable-lies, look_answered-lies, ask_disable-lies, reclaim-lies, clear_head-lies, clear_tail-lies}
+use Rattle.tx_ring.proofs.Moving.{post-lies, publish-lies, head_loaded-lies, ask_enable-lies, look_answered-lies, ask_disable-lies, reclaim-lies, clear_head-lies, clear_tail-lies, look-lies, can-fetch, fetch-lies, look_asked-lies, enable-lies, disable-lies, enabled, disabled}
 use Rattle.tx_ring.proofs.Reporting.{opening-lies, beginning}
-use Rattle.tx_ring.proofs.Sending.{look-lies, can-fetch, fetch-lies, look_asked-lies, enable-lies, disable-lies, enabled, disabled}
 
 -- a posting that is there
 pub posting_at : (ps : List Posting) (k : ℕ) → k < length ps → (p : Posting) × (slice_get ps k ≡ Some p)
@@ -229,10 +230,7 @@ module _ (n : ℕ) (mode : Completion) (q : TxRing Bytes) (ds : List DriverStep)
 
   left : (slots : List Buffer) → ((j : ℕ) (y : Buffer) → get_elem? homes j ≡ some (some y) → get_elem? slots j ≡ some y) → LeftIn n ds cs slots
   unfolding both
-  left slots found_back = let m = l.lies in let i = m.items in record {
-    of_one_ring = both;
-    buffers = λ j b first past free is. found_back (j % n) b (home-full homes (j % n) b (i.slots j first past ∙ unheld_item q.held j (served_count q.queue) _ free ∙ is));
-  }
+  left slots found_back = record { of_one_ring = both; buffers = left-lies (says q) lies_there n (words_of n mode) q.queue 0 words homes l.lies slots found_back }
 
 -- the transmit direction
 pub tx-lawful : IsDirection form.tx

@@ -1,9 +1,8 @@
 -- What the driver has learnt stays so, whatever step is made.
-use Rattle.std.proofs.Common.{◌≡◌, ℕ, ◌+◌, ◌%◌, ⊎_elim, true, not, List, [], ◌∷◌, ◌++◌, length, Some, sym, refl, ap, ◌∙◌, subst}
-use Rattle.std.proofs.lemmas.Bool.{and_from, not_from_false}
-use Rattle.std.proofs.lemmas.Option.{none-some, same_Some}
+use Rattle.std.proofs.Common.{◌≡◌, ℕ, ◌+◌, ◌%◌, true, List, [], ◌∷◌, ◌++◌, length, Some, sym, refl, ap, ◌∙◌, subst}
+use Rattle.std.proofs.lemmas.Option.{none-some}
 use Rattle.ring_model.specs.declared.steps.TxStep.{TxStep}
-use Rattle.ring_model.specs.shared.Handshakes.{is_answered, is_ended, is_open, is_stopped}
+use Rattle.ring_model.specs.shared.Handshakes.{is_stopped}
 use Rattle.ring_model.specs.shared.Frames.{Bytes}
 use Rattle.ring_model.specs.shared.Laws.{SameEpoch}
 use Rattle.ring_model.specs.shared.Queue.{served_count}
@@ -13,40 +12,32 @@ use Rattle.ring_model.specs.transmit.Steps.{tx_can, tx_changed}
 use Rattle.ring_model.specs.kept.Transmit.{IsTxKept}
 use Rattle.ring_laws.specs.Rings.{tx_later-all}
 use Rattle.ring_laws.specs.Schedules.{next-happens}
-use Rattle.ring_laws.specs.States.{answered_closed, stopped_answered, stopped_full}
-use Rattle.ring_laws.specs.Queues.{answered_over}
 use Rattle.tx_ring.specs.Records.{Posting, DriverStep, driving, Knowing, unknown, know, know_own, saw_head, knowing, posting_of, drive_own}
 use Rattle.tx_ring.specs.Rule.{Learnt}
 use Rattle.shared_ring.proofs.Folds as shared
-use Rattle.shared_ring.proofs.Folds.{longer}
+use Rattle.shared_ring.proofs.Lasting.{within-epoch, answered-ended, head-told}
 use Rattle.shared_ring.specs.Records.{undriven}
 
 pub knowing-snoc : (es : List DriverStep) (e : DriverStep) → knowing (es ++ e ∷ []) ≡ know (driving es) (knowing es) e
 knowing-snoc es e = shared.knowing-snoc posting_of drive_own saw_head know_own undriven unknown es e
 
 module _ (n : ℕ) (q : TxRing Bytes) (k : IsTxKept Bytes n q) where
-  later-one : (s : TxStep Posting) → tx_can q s ≡ true → TxLater q (tx_changed q s)
-  later-one s may = subst (λ (p : TxRing Bytes). TxLater q p) (next-happens tx_can tx_changed q s may) (tx_later-all n q (s ∷ []) k)
-
   -- no step but a renewal ends the epoch
   pub same-epoch : (s : TxStep Posting) → tx_can q s ≡ true → (tx_changed q s).past ≡ q.past → SameEpoch q.queue (tx_over q) (tx_changed q s).queue (tx_over (tx_changed q s))
-  same-epoch s may past = ⊎_elim (λ f. absurd (longer q.past f.more f.ended (tx_changed q s).past f.past past)) (λ e. e) (later-one s may)
-
-  pub answered_tx_over : is_answered q.handshake.driver ≡ true → tx_over q ≡ true
-  answered_tx_over a = let o = k.queue in and_from (is_ended q.handshake.controller) (not (is_open q.handshake.driver)) (answered_over n ends_posting q.queue o a) (not_from_false (is_open q.handshake.driver) (answered_closed q.handshake.driver a))
+  same-epoch s may past = within-epoch q.queue (tx_over q) (tx_changed q s).queue (tx_over (tx_changed q s)) (subst (λ (p : TxRing Bytes). TxLater q p) (next-happens tx_can tx_changed q s may) (tx_later-all n q (s ∷ []) k)) past
 
   module _ (x : Knowing) (l : Learnt n q x) where
     -- a step within the epoch that shows no report
     pub learnt-step : (s : TxStep Posting) → tx_can q s ≡ true → (tx_changed q s).past ≡ q.past → (tx_changed q s).seen_reported ≡ q.seen_reported → Learnt n (tx_changed q s) x
     learnt-step s may past seen = let e = same-epoch s may past in record {
-      head = λ place f. let h = l.head place f in let t = e.served (answered_tx_over h.0) in let g = e.given h.0 in (g.1, h.1 ∙ ap (λ (xs : List Posting). length xs % n) (sym t.0));
+      head = λ place f. let h = l.head place f in let t = e.served (answered-ended n ends_posting q.queue k.queue h.0) in let g = e.given h.0 in (g.1, h.1 ∙ ap (λ (xs : List Posting). length xs % n) (sym t.0));
       seen = l.seen ∙ sym seen;
     }
 
     -- the head, once the disabling was seen answered
     pub learnt-head : (w : ℕ) → is_stopped q.handshake.driver ≡ true → w ≡ q.head → Learnt n q (record x { head = Some w })
-    learnt-head w stopped e = let a = stopped_answered q.handshake.driver stopped in let o = k.queue in record {
-      head = λ place f. (a, sym (same_Some w place f) ∙ e ∙ o.told (answered_over n ends_posting q.queue o a) (answered_closed q.handshake.driver a) (stopped_full q.handshake.driver stopped) ∙ ap (λ (j : ℕ). served_count q.queue % j) o.size_is);
+    learnt-head w stopped e = record {
+      head = λ place f. head-told n ends_posting q.queue k.queue w place stopped e f;
       seen = l.seen;
     }
 

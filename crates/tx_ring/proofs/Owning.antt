@@ -33,10 +33,9 @@ use Rattle.tx_ring.specs.Records.{Posting, TxDriven, TxControlled, DriverStep, C
 use Rattle.tx_ring.specs.Rule.{LiesAs, filled}
 use Rattle.tx_ring.proofs.Lawful.{posting_at, there, state-is, home-out, served-there, held-there}
 use Rattle.tx_ring.proofs.Lying.{keeps_it, unreclaimed}
-use Rattle.tx_ring.proofs.Moving.{no_report-lies, saw_report-lies, clean-lies, end_epoch-lies, clear_report-lies}
+use Rattle.tx_ring.proofs.Moving.{no_report-lies, saw_report-lies, clean-lies, end_epoch-lies, clear_report-lies, send-lies}
 use Rattle.tx_ring.proofs.Reported.{reports-shown, head-place}
 use Rattle.tx_ring.proofs.Reporting.{report_status-lies, report_head-lies}
-use Rattle.tx_ring.proofs.Sending.{send-lies}
 
 head-there : (n : ℕ) (mode : Completion) → by_head mode ≡ true → n + 4 < words_of n mode
 head-there n Status e = absurd (false≢true e)

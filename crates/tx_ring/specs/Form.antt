@@ -1,17 +1,14 @@
 -- What is of the transmit direction.
 use Rattle.std.specs.Prelude.{◌≡◌, ℕ, ◌+◌, ◌%◌, ◌<◌, ◌≤◌, true, false, List, length, Some, slice_get}
-use mathlib.Core.Option.{some}
-use lib.ListN.{get_elem?}
 use Rattle.buffer_pool.specs.Buffer.{Buffer, buffer}
 use Rattle.ring_model.specs.shared.Frames.{Bytes, unfinished}
-use Rattle.ring_model.specs.shared.Queue.{posted_count, served_count, returned_count}
 use Rattle.ring_model.specs.transmit.Agreement.{tx_word}
 use Rattle.ring_model.specs.transmit.Frames.{MayFollow}
 use Rattle.ring_model.specs.transmit.Lawful.{IsLawfulTx}
 use Rattle.ring_model.specs.transmit.Ring.{TxRing, are_whole, carried}
 use Rattle.ring_model.specs.transmit.Steps.{IsTxReachable, by_head}
 use Rattle.shared_ring.specs.Forms.{Form}
-use Rattle.shared_ring.specs.Lies.{driven, IsControlled}
+use Rattle.shared_ring.specs.Lies.{driven, IsControlled, AllLeft}
 use Rattle.tx_ring.specs.declared.events.TxDriverOwn.{TxDriverOwn}
 use Rattle.tx_ring.specs.declared.events.TxControllerOwn.{TxControllerOwn}
 use Rattle.descriptor.specs.Transmit.{eop_of, rs_of, paylen_of}
@@ -31,8 +28,7 @@ pub record AreOf (n : ℕ) (ds : List DriverStep) (cs : List ControllerStep) : T
 -- what lies in the slots as the table is closed: the buffer of each item that is out and not held
 pub record LeftIn (n : ℕ) (ds : List DriverStep) (cs : List ControllerStep) (slots : List Buffer) : Type 0 where
   pub of_one_ring : AreOf n ds cs
-  pub buffers : (k : ℕ) (b : Buffer) → returned_count of_one_ring.queue.queue ≤ k → k < posted_count of_one_ring.queue.queue → (of_one_ring.queue.held ≡ true → ¬ (k ≡ served_count of_one_ring.queue.queue))
-      → lies_there (slice_get of_one_ring.queue.ledger.posted k) (slice_get of_one_ring.queue.ledger.served k) ≡ Some b → get_elem? slots (k % n) ≡ some b
+  pub buffers : AllLeft lies_there n of_one_ring.queue.queue slots
 
 -- a posting with its word and its buffer, which may follow what is posted
 pub record IsPosting (n : ℕ) (xs : List Posting) (word : ℕ) (b : Buffer) : Type 0 where

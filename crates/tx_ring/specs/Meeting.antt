@@ -1,11 +1,10 @@
 -- What both ends know together: as they are made, as they meet, and as the ring is closed.
 use Rattle.std.specs.Prelude.{◌≡◌, ℕ, ◌+◌, ◌-◌, ◌%◌, ◌<◌, ◌≤◌, List, length, Option, Some, None, slice_get}
 use Rattle.buffer_pool.specs.Buffer.{Buffer}
-use Rattle.ring_model.specs.declared.states.Owner.TheVariants.{Ring}
 use Rattle.ring_model.specs.shared.Frames.{Bytes}
 use Rattle.ring_model.specs.transmit.Ring.{TxLedger, number_of_posting}
 use Rattle.shared_ring.specs.Meeting as shared
-pub use Rattle.shared_ring.specs.Meeting.{MadeSeats, is_unanswered, served_now as sent_now, Met, IsTold, IsReal, AllReal, numbers_at}
+pub use Rattle.shared_ring.specs.Meeting.{MadeSeats, is_unanswered, served_now as sent_now, Met, IsTold, IsReal, AllReal, CameBackFrom, numbers_at}
 use Rattle.tx_ring.specs.Ends.{DriverSide, driver_size, posted, returned, cleaned, known_of, ControllerSide}
 use Rattle.tx_ring.specs.Form.{AreOf}
 use Rattle.tx_ring.specs.Records.{Posting}
@@ -48,6 +47,5 @@ pub record GaveBack (d : DriverSide) (buffers : List (Option Buffer)) (place : �
 -- A closed ring gave a buffer back at exactly the places that were with Ring, and each is that of an item that is out
 pub record IsClosed (d : DriverSide) (c : ControllerSide) (buffers : List (Option Buffer)) : Type 0 where
   pub of_one_ring : AreOf (driver_size d) d.events c.events
-  pub count : length buffers ≡ driver_size d
-  pub ring : (place : ℕ) → slice_get of_one_ring.queue.owners place ≡ Some Ring → GaveBack d buffers place
-  pub others : (place : ℕ) → place < driver_size d → ¬ (slice_get of_one_ring.queue.owners place ≡ Some Ring) → slice_get buffers place ≡ Some None
+  pub places : CameBackFrom (driver_size d) of_one_ring.queue.owners (GaveBack d buffers) buffers
+  pub open places use *

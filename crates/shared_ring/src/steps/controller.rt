@@ -9,11 +9,11 @@ ghost use Rattle.shared_ring.specs.Ends.{controller_record, known_ahead, held, h
 ghost use Rattle.shared_ring.specs.Steps.{FoundTail, CameOut};
 
 use super::{ControllerSeat, Ring};
-use crate::accesses::{controller_load, controller_store};
+use crate::accesses::{load, store};
 use crate::control::Control;
 use crate::direction::Direction;
 use crate::ends::{ControllerLoad, ControllerPlaces};
-use crate::plays::{DisableStore, EnableStore, NextLoad, RequestLoad, TailLoad};
+use crate::plays::{AnswerStore, Loads, NextLoad, RequestLoad, Stores, TailLoad, Takes};
 use crate::slots::take_out;
 use buffer_pool::Buf;
 use ring_model::{Completion, ControllerState, places_between};
@@ -44,7 +44,7 @@ impl<D, C, R: Direction<D, C>> ControllerSeat<D, C, R> {
         ensures { FoundTail (controller_of R.form self.old) result (controller_of R.form self.new) }
     {
         let word = self.size as usize + 1;
-        controller_load::<TailLoad<R>, D, C, R>(&ring.table, &mut self.seat, word) as u16
+        load::<Loads<TailLoad<D, R>, _, R>, _, _, _, _>(&ring.table, &mut self.seat, word) as u16
     }
 
     /// A4, B4: the next descriptor is loaded, and its buffer taken; beside it, the word.
@@ -59,7 +59,11 @@ impl<D, C, R: Direction<D, C>> ControllerSeat<D, C, R> {
         ensures { CameOut (controller_of R.form self.old) place result.0 result.1 (controller_of R.form self.new) }
     {
         let place = place as usize;
-        let word = controller_load::<NextLoad<R>, D, C, R>(&ring.table, &mut self.seat, place);
+        let word = load::<Takes<NextLoad<D, R>, _, R>, _, _, _, _>(
+            &ring.table,
+            &mut self.seat,
+            place,
+        );
         let buf = take_out(&ring.table, &mut self.seat, place);
         (buf, word)
     }
@@ -71,11 +75,8 @@ impl<D, C, R: Direction<D, C>> ControllerSeat<D, C, R> {
         ensures { self.new ≡ grown self.old (LoadedRequest (control_word result)) }
     {
         let word = self.size as usize + 2;
-        Control::of_word(controller_load::<RequestLoad<R>, D, C, R>(
-            &ring.table,
-            &mut self.seat,
-            word,
-        ))
+        let value = load::<Loads<RequestLoad, _, R>, _, _, _, _>(&ring.table, &mut self.seat, word);
+        Control::of_word(value)
     }
 
     /// C3, for an enabling.
@@ -88,7 +89,7 @@ impl<D, C, R: Direction<D, C>> ControllerSeat<D, C, R> {
         ensures { self.new ≡ grown self.old Enabled }
     {
         let word = self.size as usize + 2;
-        controller_store::<EnableStore<R>, D, C, R>(&ring.table, &mut self.seat, word, 2);
+        store::<Stores<AnswerStore, _, R>, _, _, _, _>(&ring.table, &mut self.seat, word, 2);
     }
 
     /// C3, for a disabling.
@@ -103,7 +104,7 @@ impl<D, C, R: Direction<D, C>> ControllerSeat<D, C, R> {
         ensures { self.new ≡ grown self.old Disabled }
     {
         let word = self.size as usize + 2;
-        controller_store::<DisableStore<R>, D, C, R>(&ring.table, &mut self.seat, word, 0);
+        store::<Stores<AnswerStore, _, R>, _, _, _, _>(&ring.table, &mut self.seat, word, 0);
     }
 
     /// A3, B3 or C2: what the word tells is kept.

@@ -11,13 +11,13 @@ ghost use Rattle.shared_ring.specs.Steps.{CameBack};
 
 use super::own::Reclaiming;
 use super::{DriverSeat, Ring};
-use crate::accesses::{driver_load, driver_store};
+use crate::accesses::{load, store};
 use crate::control::Control;
 use crate::direction::Direction;
 use crate::ends::{DriverPlaces, HandshakeStep};
 use crate::plays::{
-    AskDisableStore, AskEnableStore, ClearHeadStore, ClearTailStore, ControlLoad, HeadLoad,
-    PostStore, PublishStore,
+    AskStore, ClearHeadStore, ClearTailStore, ControlLoad, Gives, HeadLoad, Loads, PostStore,
+    PublishStore, Stores,
 };
 use crate::slots::put_in;
 use buffer_pool::Buf;
@@ -54,7 +54,7 @@ impl<D, C, R: Direction<D, C>> DriverSeat<D, C, R> {
     {
         let place = place as usize;
         put_in(&ring.table, &mut self.seat, place, buf);
-        driver_store::<PostStore<R>, D, C, R>(&ring.table, &mut self.seat, place, word);
+        store::<Gives<PostStore, _, R>, _, _, _, _>(&ring.table, &mut self.seat, place, word);
     }
 
     /// A2, B2: the tail is stored.
@@ -66,8 +66,8 @@ impl<D, C, R: Direction<D, C>> DriverSeat<D, C, R> {
         requires may { R.form.MayPublish (posted (driver_of R.form self.old)) }
         ensures { self.new ≡ grown self.old (Published tail) }
     {
-        let word = self.size as usize + 1;
-        driver_store::<PublishStore<R>, D, C, R>(&ring.table, &mut self.seat, word, tail as u64);
+        let (word, tail) = (self.size as usize + 1, tail as u64);
+        store::<Stores<PublishStore, _, R>, _, _, _, _>(&ring.table, &mut self.seat, word, tail);
     }
 
     /// C1: asks for enabling; 1 is stored as the control word (RXDCTL, TXDCTL).
@@ -78,7 +78,7 @@ impl<D, C, R: Direction<D, C>> DriverSeat<D, C, R> {
         ensures { self.new ≡ grown self.old AskedEnable }
     {
         let word = self.size as usize + 2;
-        driver_store::<AskEnableStore<R>, D, C, R>(&ring.table, &mut self.seat, word, 1);
+        store::<Stores<AskStore, _, R>, _, _, _, _>(&ring.table, &mut self.seat, word, 1);
     }
 
     /// C4: loads the control word (RXDCTL, TXDCTL), for what the controller answered.
@@ -88,7 +88,8 @@ impl<D, C, R: Direction<D, C>> DriverSeat<D, C, R> {
         ensures { self.new ≡ grown self.old (LoadedControl (control_word result)) }
     {
         let word = self.size as usize + 2;
-        Control::of_word(driver_load::<ControlLoad<R>, D, C, R>(&ring.table, &mut self.seat, word))
+        let value = load::<Loads<ControlLoad, _, R>, _, _, _, _>(&ring.table, &mut self.seat, word);
+        Control::of_word(value)
     }
 
     /// C5: asks for disabling; 3 is stored as the control word (RXDCTL, TXDCTL).
@@ -99,7 +100,7 @@ impl<D, C, R: Direction<D, C>> DriverSeat<D, C, R> {
         ensures { self.new ≡ grown self.old AskedDisable }
     {
         let word = self.size as usize + 2;
-        driver_store::<AskDisableStore<R>, D, C, R>(&ring.table, &mut self.seat, word, 3);
+        store::<Stores<AskStore, _, R>, _, _, _, _>(&ring.table, &mut self.seat, word, 3);
     }
 
     /// The load of the head.
@@ -111,7 +112,7 @@ impl<D, C, R: Direction<D, C>> DriverSeat<D, C, R> {
         ensures below { result < self.old.table.slots }
     {
         let word = self.size as usize;
-        driver_load::<HeadLoad<R>, D, C, R>(&ring.table, &mut self.seat, word) as u16
+        load::<Loads<HeadLoad, _, R>, _, _, _, _>(&ring.table, &mut self.seat, word) as u16
     }
 
     /// C6: the oldest descriptor that is out becomes 0, and its buffer comes back.
@@ -154,7 +155,7 @@ impl<D, C, R: Direction<D, C>> DriverSeat<D, C, R> {
         ensures { self.new ≡ grown self.old ClearedHead }
     {
         let word = self.size as usize;
-        driver_store::<ClearHeadStore<R>, D, C, R>(&ring.table, &mut self.seat, word, 0);
+        store::<Stores<ClearHeadStore, _, R>, _, _, _, _>(&ring.table, &mut self.seat, word, 0);
     }
 
     /// C10, where the epoch does not end by it.
@@ -166,7 +167,7 @@ impl<D, C, R: Direction<D, C>> DriverSeat<D, C, R> {
         ensures { self.new ≡ grown self.old ClearedTail }
     {
         let word = self.size as usize + 1;
-        driver_store::<ClearTailStore<R>, D, C, R>(&ring.table, &mut self.seat, word, 0);
+        store::<Stores<ClearTailStore, _, R>, _, _, _, _>(&ring.table, &mut self.seat, word, 0);
     }
 
     /// C1, C4 or C5: how far the driver is goes on, and the control value that was stored or loaded is answered.

@@ -6,9 +6,11 @@ ghost use Rattle.limits.specs.declared.profile.TheConstants.{MOST_RING};
 ghost use Rattle.shared_ring.specs.Directions.{IsDirection};
 ghost use Rattle.shared_ring.specs.Ends.{driver_of, controller_of};
 ghost use Rattle.shared_ring.specs.Meeting.{MadeSeats, Met, LeftIn, TakenApart, kept_at, kept_upto};
-ghost use Rattle.shared_ring.specs.Tables.{words_of};
+ghost use Rattle.shared_ring.specs.Seats.{driver_part, controller_part};
+ghost use Rattle.shared_ring.specs.Tables.{IsTableOf, words_of};
+ghost use Rattle.shared_ring.specs.declared.events.View.TheVariants.{Driver, Controller, Both, Nobody};
 
-use super::{ControllerSeat, DriverSeat, Ring};
+use super::{ControllerSeat, DriverSeat, Ring, RingSeat, RingTable};
 use crate::direction::Direction;
 use crate::lending::{Deal, Halve, Lend, MeetLoad, Return, Unite};
 use atomic_table::{Closed, Table};
@@ -65,9 +67,8 @@ impl<D, C, R: Direction<D, C>> Ring<D, C, R> {
         ensures same_controller { controller.new ≡ controller.old }
         ensures met { Met (driver_of R.form driver.old) (controller_of R.form controller.old) }
     {
+        unite(&self.table, &mut driver.seat, &mut controller.seat);
         let table = &self.table.shared;
-        let lent = table.split_seat::<Lend>(&mut controller.seat);
-        table.join_seat::<Unite>(&mut driver.seat, lent);
         table.load::<MeetLoad<R>>(&mut driver.seat, 0);
         let lent = table.split_seat::<Halve>(&mut driver.seat);
         table.join_seat::<Return>(&mut controller.seat, lent);
@@ -90,9 +91,7 @@ impl<D, C, R: Direction<D, C>> Ring<D, C, R> {
             seat: mut other,
             ..
         } = controller;
-        let table = &self.table.shared;
-        let lent = table.split_seat::<Lend>(&mut other);
-        table.join_seat::<Unite>(&mut seat, lent);
+        unite(&self.table, &mut seat, &mut other);
         let Ring { table, room } = self;
         (table.close_with(seat), room)
     }
@@ -117,6 +116,23 @@ impl<D, C, R: Direction<D, C>> Ring<D, C, R> {
         let (closed, room) = self.gather(driver, controller);
         empty(closed, room, size, next, out, serve, holding)
     }
+}
+
+/// The driver's seat takes in the controller's record, and the controller's has none.
+fn unite<D, C, R: Direction<D, C>>(
+    table: &RingTable<D, C, R>,
+    driver: &mut RingSeat<D, C>,
+    controller: &mut RingSeat<D, C>,
+)
+    requires law { IsDirection R.form }
+    requires of_key { IsTableOf table.now.shared.table_id table.now.shared.key.0 table.now.shared.key.1 }
+    requires driver { (driver.old.table_id ≡ table.now.shared.table_id) × (driver.old.me.0 ≡ Driver (driver_part driver.old.me.0)) }
+    requires controller { (controller.old.table_id ≡ table.now.shared.table_id) × (controller.old.me.0 ≡ Controller (controller_part controller.old.me.0)) }
+    ensures driver { (driver.new.table_id ≡ driver.old.table_id) × (driver.new.me ≡ (Both (driver_part driver.old.me.0) (controller_part controller.old.me.0), driver.old.me.1)) }
+    ensures controller { (controller.new.table_id ≡ controller.old.table_id) × (controller.new.me ≡ (Nobody, controller.old.me.1)) }
+{
+    let lent = table.shared.split_seat::<Lend>(controller);
+    table.shared.join_seat::<Unite>(driver, lent);
 }
 
 /// The buffers of a closed table, in the room that was reserved for them.

@@ -7,10 +7,10 @@ ghost use Rattle.shared_ring.specs.Own.{MayLoad, MayClear, MayTake, MayEnd, MayS
 ghost use Rattle.shared_ring.specs.Slots.{empty_slots};
 
 use super::{ControllerSeat, DriverSeat, Ring};
-use crate::accesses::{controller_store, driver_load, driver_store};
+use crate::accesses::{load, store};
 use crate::direction::{Direction, OwnStep, OwnTake};
 use crate::events::{ControllerEvent, DriverEvent};
-use crate::plays::{OwnClear, OwnEnd, OwnFind, OwnGive, OwnLoad, OwnStore};
+use crate::plays::{Finds, Gives, Loads, Stores, Takes};
 use crate::slots::{put_in, take_out};
 use atomic_table::Seat;
 use buffer_pool::Buf;
@@ -36,7 +36,7 @@ impl<D, C, R: Direction<D, C>> DriverSeat<D, C, R> {
         ensures step { self.new ≡ grown self.old (P.event self.old.table.slots self.old.events word result blank) }
         ensures told { P.tells self.old.table.slots self.old.events word result blank }
     {
-        driver_load::<OwnLoad<P, R>, D, C, R>(&ring.table, &mut self.seat, word)
+        load::<Loads<P, _, R>, _, _, _, _>(&ring.table, &mut self.seat, word)
     }
 
     /// A store of 0 into the oldest descriptor that is out, whose buffer comes back.
@@ -50,7 +50,7 @@ impl<D, C, R: Direction<D, C>> DriverSeat<D, C, R> {
         ensures told { P.tells self.old.table.slots self.old.events place 0 result }
     {
         let place = place as usize;
-        driver_store::<OwnClear<P, R>, D, C, R>(&ring.table, &mut self.seat, place, 0);
+        store::<Takes<P, _, R>, _, _, _, _>(&ring.table, &mut self.seat, place, 0);
         let buf = take_out(&ring.table, &mut self.seat, place);
         self.seat.turn();
         buf
@@ -72,7 +72,7 @@ impl<D, C, R: Direction<D, C>> DriverSeat<D, C, R> {
         ensures some { IfSome result.1 (λ b. Came P.event P.tells P.missed P.done self.old place result.0 b self.new) }
     {
         let place = place as usize;
-        let word = driver_load::<OwnFind<P, R>, D, C, R>(&ring.table, &mut self.seat, place);
+        let word = load::<Finds<P, _, R>, _, _, _, _>(&ring.table, &mut self.seat, place);
         if !P::is_done(word) {
             return (word, None);
         }
@@ -95,7 +95,7 @@ impl<D, C, R: Direction<D, C>> DriverSeat<D, C, R> {
         requires may { MayEnd R.form P.event self.old.table.slots self.old.completion self.old.events word }
         ensures { self.new ≡ grown self.old (P.event self.old.table.slots self.old.events word 0 blank) }
     {
-        driver_store::<OwnEnd<P, R>, D, C, R>(&ring.table, &mut self.seat, word, 0);
+        store::<Stores<P, _, R>, _, _, _, _>(&ring.table, &mut self.seat, word, 0);
         turn_round(&mut self.seat, fill, self.size);
     }
 }
@@ -113,7 +113,7 @@ impl<D, C, R: Direction<D, C>> ControllerSeat<D, C, R> {
         requires may { MayStore R.form P.event self.old.table.slots self.old.completion self.old.events word value }
         ensures { self.new ≡ grown self.old (P.event self.old.table.slots self.old.events word value blank) }
     {
-        controller_store::<OwnStore<P, R>, D, C, R>(&ring.table, &mut self.seat, word, value);
+        store::<Stores<P, _, R>, _, _, _, _>(&ring.table, &mut self.seat, word, value);
     }
 
     /// The fetched buffer goes back into its slot, which the store gives to the ring.
@@ -133,7 +133,7 @@ impl<D, C, R: Direction<D, C>> ControllerSeat<D, C, R> {
         ensures { self.new ≡ grown self.old (P.event self.old.table.slots self.old.events word value buf) }
     {
         put_in(&ring.table, &mut self.seat, place as usize, buf);
-        controller_store::<OwnGive<P, R>, D, C, R>(&ring.table, &mut self.seat, word, value);
+        store::<Gives<P, _, R>, _, _, _, _>(&ring.table, &mut self.seat, word, value);
     }
 }
 

@@ -4,8 +4,8 @@ use Rattle.shared_ring.specs.declared.events.ControllerEvent.TheVariants as cont
 use Rattle.shared_ring.proofs.ControllerSeats.{disable-asks, same-keeps}
 use Rattle.shared_ring.proofs.steps.ControllerSeat.disable.Goals as goal
 
-pub controller_store-requires : goal.controller_store-requires
-controller_store-requires g c = let i = c.self.inside in disable-asks g.R.Direction.form i.seat.table_id i.seat.me i.size i.completion c.self.invariant c.args.self.now c.self.view_is c.ring.inside.table.shared.table_id c.ring.inside.table.shared.key c.ring.invariant.of_key c.args.ring.now c.ring.view_is c.requires.own i.seat.id c.requires.asked c.requires.serving c.requires.held c.requires.head c.requires.may
+pub store-requires : goal.store-requires
+store-requires g c = let i = c.self.inside in disable-asks g.R.Direction.form i.seat.table_id i.seat.me i.size i.completion c.self.invariant c.args.self.now c.self.view_is c.ring.inside.table.shared.table_id c.ring.inside.table.shared.key c.ring.invariant.of_key c.args.ring.now c.ring.view_is c.requires.own i.seat.id c.requires.asked c.requires.serving c.requires.held c.requires.head c.requires.may
 
 pub invariant_of-self : goal.invariant_of-self
-invariant_of-self g c = let i = c.self.inside in same-keeps g.R.Direction.form i.seat.table_id i.seat.me i.size i.completion c.self.invariant controller.Disabled c.controller_store.new.seat.table_id c.controller_store.new.seat.me c.controller_store.ensures.same.0 c.controller_store.ensures.told.seat refl
+invariant_of-self g c = let i = c.self.inside in same-keeps g.R.Direction.form i.seat.table_id i.seat.me i.size i.completion c.self.invariant controller.Disabled c.store.new.seat.table_id c.store.new.seat.me c.store.ensures.same.0 c.store.ensures.told.seat refl

@@ -4,11 +4,11 @@ use Rattle.shared_ring.specs.declared.events.ControllerEvent.TheVariants as cont
 use Rattle.shared_ring.proofs.ControllerSeats.{look-asks, look-steps, same-keeps}
 use Rattle.shared_ring.proofs.steps.ControllerSeat.look.Goals as goal
 
-pub controller_load-requires : goal.controller_load-requires
-controller_load-requires g c = let i = c.self.inside in look-asks g.R.Direction.form i.seat.table_id i.seat.me i.size i.completion c.self.invariant c.args.self.now c.self.view_is c.ring.inside.table.shared.table_id c.ring.inside.table.shared.key c.ring.invariant.of_key c.args.ring.now c.ring.view_is c.requires.own i.seat.id c.requires.serving
+pub load-requires : goal.load-requires
+load-requires g c = let i = c.self.inside in look-asks g.R.Direction.form i.seat.table_id i.seat.me i.size i.completion c.self.invariant c.args.self.now c.self.view_is c.ring.inside.table.shared.table_id c.ring.inside.table.shared.key c.ring.invariant.of_key c.args.ring.now c.ring.view_is c.requires.own i.seat.id c.requires.serving
 
 pub invariant_of-self : goal.invariant_of-self
-invariant_of-self g c = let i = c.self.inside in same-keeps g.R.Direction.form i.seat.table_id i.seat.me i.size i.completion c.self.invariant (controller.Looked c.controller_load.result) c.controller_load.new.seat.table_id c.controller_load.new.seat.me c.controller_load.ensures.same.0 c.controller_load.ensures.told.adds.seat refl
+invariant_of-self g c = let i = c.self.inside in same-keeps g.R.Direction.form i.seat.table_id i.seat.me i.size i.completion c.self.invariant (controller.Looked c.load.result) c.load.new.seat.table_id c.load.new.seat.me c.load.ensures.same.0 c.load.ensures.told.adds.seat refl
 
 pub returns : goal.returns
-returns g c = let i = c.self.inside in look-steps g.R.Direction.form i.seat.table_id i.seat.me i.size i.completion c.self.invariant c.args.self.now c.self.view_is c.ring.inside.table.shared.table_id c.ring.inside.table.shared.key c.ring.invariant.of_key c.args.ring.now c.ring.view_is c.requires.own c.controller_load.result c.controller_load.new.seat.table_id c.controller_load.new.seat.me c.controller_load.ensures.same.0 c.controller_load.ensures.told
+returns g c = let i = c.self.inside in look-steps g.R.Direction.form i.seat.table_id i.seat.me i.size i.completion c.self.invariant c.args.self.now c.self.view_is c.ring.inside.table.shared.table_id c.ring.inside.table.shared.key c.ring.invariant.of_key c.args.ring.now c.ring.view_is c.requires.own c.load.result c.load.new.seat.table_id c.load.new.seat.me c.load.ensures.same.0 c.load.ensures.told

@@ -4,8 +4,8 @@ use Rattle.shared_ring.specs.declared.events.DriverEvent.TheVariants as driver
 use Rattle.shared_ring.proofs.DriverSeats.{ask_enable-asks, same-keeps}
 use Rattle.shared_ring.proofs.steps.DriverSeat.ask_enable.Goals as goal
 
-pub driver_store-requires : goal.driver_store-requires
-driver_store-requires g c = let i = c.self.inside in ask_enable-asks g.R.Direction.form i.seat.table_id i.seat.me i.size i.completion c.self.invariant c.args.self.now c.self.view_is c.ring.inside.table.shared.table_id c.ring.inside.table.shared.key c.ring.invariant.of_key c.args.ring.now c.ring.view_is c.requires.own i.seat.id c.requires.new
+pub store-requires : goal.store-requires
+store-requires g c = let i = c.self.inside in ask_enable-asks g.R.Direction.form i.seat.table_id i.seat.me i.size i.completion c.self.invariant c.args.self.now c.self.view_is c.ring.inside.table.shared.table_id c.ring.inside.table.shared.key c.ring.invariant.of_key c.args.ring.now c.ring.view_is c.requires.own i.seat.id c.requires.new
 
 pub invariant_of-self : goal.invariant_of-self
-invariant_of-self g c = let i = c.self.inside in same-keeps g.R.Direction.form i.seat.table_id i.seat.me i.size i.completion c.self.invariant driver.AskedEnable c.driver_store.new.seat.table_id c.driver_store.new.seat.me c.driver_store.ensures.same.0 c.driver_store.ensures.told.seat (record { posted = refl; given = refl; reclaimed = refl })
+invariant_of-self g c = let i = c.self.inside in same-keeps g.R.Direction.form i.seat.table_id i.seat.me i.size i.completion c.self.invariant driver.AskedEnable c.store.new.seat.table_id c.store.new.seat.me c.store.ensures.same.0 c.store.ensures.told.seat (record { posted = refl; given = refl; reclaimed = refl })

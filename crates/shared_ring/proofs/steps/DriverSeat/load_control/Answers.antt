@@ -4,8 +4,8 @@ use Rattle.shared_ring.specs.declared.events.DriverEvent.TheVariants as driver
 use Rattle.shared_ring.proofs.DriverSeats.{control-asks, same-keeps}
 use Rattle.shared_ring.proofs.steps.DriverSeat.load_control.Goals as goal
 
-pub driver_load-requires : goal.driver_load-requires
-driver_load-requires g c = let i = c.self.inside in control-asks g.R.Direction.form i.seat.table_id i.seat.me i.size i.completion c.self.invariant c.args.self.now c.self.view_is c.ring.inside.table.shared.table_id c.ring.inside.table.shared.key c.ring.invariant.of_key c.args.ring.now c.ring.view_is c.requires.own i.seat.id
+pub load-value-requires : goal.load-value-requires
+load-value-requires g c = let i = c.self.inside in control-asks g.R.Direction.form i.seat.table_id i.seat.me i.size i.completion c.self.invariant c.args.self.now c.self.view_is c.ring.inside.table.shared.table_id c.ring.inside.table.shared.key c.ring.invariant.of_key c.args.ring.now c.ring.view_is c.requires.own i.seat.id
 
 pub invariant_of-self : goal.invariant_of-self
-invariant_of-self g c = let i = c.self.inside in same-keeps g.R.Direction.form i.seat.table_id i.seat.me i.size i.completion c.self.invariant (driver.LoadedControl c.driver_load.result) c.driver_load.new.seat.table_id c.driver_load.new.seat.me c.driver_load.ensures.same.0 c.driver_load.ensures.told.adds.seat (record { posted = refl; given = refl; reclaimed = refl })
+invariant_of-self g c = let i = c.self.inside in same-keeps g.R.Direction.form i.seat.table_id i.seat.me i.size i.completion c.self.invariant (driver.LoadedControl c.load-value.result) c.load-value.new.seat.table_id c.load-value.new.seat.me c.load-value.ensures.same.0 c.load-value.ensures.told.adds.seat (record { posted = refl; given = refl; reclaimed = refl })

@@ -6,11 +6,11 @@ use Rattle.shared_ring.proofs.steps.DriverSeat.post.Goals as goal
 pub put_in-requires-clause-empty : goal.put_in-requires-clause-empty
 put_in-requires-clause-empty g c = let i = c.self.inside in post-empty g.R.Direction.form i.seat.table_id i.seat.me i.size i.completion c.self.invariant c.args.self.now c.self.view_is c.ring.inside.table.shared.table_id c.ring.inside.table.shared.key c.ring.invariant.of_key c.args.ring.now c.ring.view_is c.requires.own c.args.place c.args.word c.args.buf c.requires.place c.requires.room
 
-pub driver_store-requires : goal.driver_store-requires
-driver_store-requires g c = let i = c.self.inside in post-asks g.R.Direction.form i.seat.table_id i.seat.me i.size i.completion c.self.invariant c.args.self.now c.self.view_is c.ring.inside.table.shared.table_id c.ring.inside.table.shared.key c.ring.invariant.of_key c.args.ring.now c.ring.view_is c.requires.own c.args.place c.args.word c.args.buf c.requires.place c.requires.room c.put_in.new.seat.id c.put_in.new.seat.table_id c.put_in.new.seat.me c.put_in.ensures.same.0 c.put_in.ensures.put c.requires.open c.requires.may
+pub store-requires : goal.store-requires
+store-requires g c = let i = c.self.inside in post-asks g.R.Direction.form i.seat.table_id i.seat.me i.size i.completion c.self.invariant c.args.self.now c.self.view_is c.ring.inside.table.shared.table_id c.ring.inside.table.shared.key c.ring.invariant.of_key c.args.ring.now c.ring.view_is c.requires.own c.args.place c.args.word c.args.buf c.requires.place c.requires.room c.put_in.new.seat.id c.put_in.new.seat.table_id c.put_in.new.seat.me c.put_in.ensures.same.0 c.put_in.ensures.put c.requires.open c.requires.may
 
 pub invariant_of-self : goal.invariant_of-self
-invariant_of-self g c = let i = c.self.inside in post-keeps g.R.Direction.form i.seat.table_id i.seat.me i.size i.completion c.self.invariant c.args.self.now c.self.view_is c.ring.inside.table.shared.table_id c.ring.inside.table.shared.key c.ring.invariant.of_key c.args.ring.now c.ring.view_is c.requires.own c.args.place c.args.word c.args.buf c.requires.place c.requires.room c.driver_store.new.seat.table_id c.put_in.new.seat.me c.driver_store.new.seat.me (c.driver_store.ensures.same.0 ∙ c.put_in.ensures.same.0) c.put_in.ensures.put c.driver_store.ensures.told.seat
+invariant_of-self g c = let i = c.self.inside in post-keeps g.R.Direction.form i.seat.table_id i.seat.me i.size i.completion c.self.invariant c.args.self.now c.self.view_is c.ring.inside.table.shared.table_id c.ring.inside.table.shared.key c.ring.invariant.of_key c.args.ring.now c.ring.view_is c.requires.own c.args.place c.args.word c.args.buf c.requires.place c.requires.room c.store.new.seat.table_id c.put_in.new.seat.me c.store.new.seat.me (c.store.ensures.same.0 ∙ c.put_in.ensures.same.0) c.put_in.ensures.put c.store.ensures.told.seat
 
 pub returns : goal.returns
-returns g c = let i = c.self.inside in post-steps g.R.Direction.form i.seat.table_id i.seat.me i.size i.completion c.self.invariant c.args.self.now c.self.view_is c.ring.inside.table.shared.table_id c.ring.inside.table.shared.key c.ring.invariant.of_key c.args.ring.now c.ring.view_is c.requires.own c.args.place c.args.word c.args.buf c.requires.place c.requires.room c.driver_store.new.seat.table_id c.put_in.new.seat.me c.driver_store.new.seat.me (c.driver_store.ensures.same.0 ∙ c.put_in.ensures.same.0) c.put_in.ensures.put c.driver_store.ensures.told.seat
+returns g c = let i = c.self.inside in post-steps g.R.Direction.form i.seat.table_id i.seat.me i.size i.completion c.self.invariant c.args.self.now c.self.view_is c.ring.inside.table.shared.table_id c.ring.inside.table.shared.key c.ring.invariant.of_key c.args.ring.now c.ring.view_is c.requires.own c.args.place c.args.word c.args.buf c.requires.place c.requires.room c.store.new.seat.table_id c.put_in.new.seat.me c.store.new.seat.me (c.store.ensures.same.0 ∙ c.put_in.ensures.same.0) c.put_in.ensures.put c.store.ensures.told.seat
