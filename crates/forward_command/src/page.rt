@@ -1,17 +1,17 @@
-//! A script, read whole, forwarded, and then answered whole.
-ghost use Rattle.std.specs.Prelude.{◌≡◌, IfErr, IfOk, None, Ok, false};
+//! A script, read whole, forwarded, and then answered or printed whole.
+ghost use Rattle.std.specs.Prelude.{◌≡◌, IfErr, IfOk, OnOk, None, Ok, false};
 ghost use Rattle.std.specs.String.{string_bytes};
 ghost use Rattle.commands.specs.declared.refusal.Refusal.TheVariants as refusal;
 ghost use Rattle.wire_script.specs.Script.{script_of};
 ghost use Rattle.wire_script.specs.ScriptError.{Fails};
 ghost use Rattle.wire_script.specs.declared.error.ScriptError.{ScriptError};
-ghost use Rattle.forward_command.specs.Forwards.{AreReports, ForwardRefused, HasPage, HasReport, IsForwarded, IsUnforwarded, RefusesForward};
+ghost use Rattle.forward_command.specs.Forwards.{AreReports, ForwardRefused, HasPage, HasReport, IsForwarded, IsUnforwarded, PrintsForward, RefusesForward, WithholdsForward};
 
 use crate::printing::Printing;
 use crate::progress;
 use crate::progress::Form;
 use crate::text::text_of;
-use commands::{Refusal, read_text};
+use commands::{Refusal, print, read_text};
 use forwarder::{Config, Report};
 use forwarding::Open;
 use std::alloc::Global;
@@ -42,6 +42,26 @@ pub fn forward<R: Threads + Wait + Clock + Sync, I: Read, M: Write + IsTerminal 
     let text = read_text(alloc, input)?;
     let form = printing.form(screen.is_terminal());
     page_for(rt, alloc, config, printing, text, screen, form)
+}
+
+/// Forwards the script of `input`, and prints what came of it. What it refuses before it prints leaves `output` as it was.
+/// A `screen` that fails changes nothing.
+pub fn perform<R: Threads + Wait + Clock + Sync, I: Read, W: Write, M: Write + IsTerminal + Send>(
+    rt: &R,
+    alloc: Global,
+    config: &Config,
+    printing: Printing,
+    input: &mut I,
+    output: &mut W,
+    screen: &mut M,
+) -> Result<(), Refusal>
+    ensures done { OnOk result (PrintsForward config.now printing (I.remaining input.old) (W.contents output.old) (W.contents output.new)) }
+    ensures refused { IfErr result (λ e.
+        WithholdsForward config.now printing (I.remaining input.old) e (W.contents output.old) (W.contents output.new)) }
+    ensures screen { printing.progress ≡ false → screen.new ≡ screen.old }
+{
+    let text = forward(rt, alloc, config, printing, input, screen)?;
+    print(text.as_str(), output)
 }
 
 /// What a script's text prints.
