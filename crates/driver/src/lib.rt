@@ -11,10 +11,12 @@
 
 mod error;
 mod handshake;
+mod queue_driver;
 mod rx_driver;
 mod tx_driver;
 
 pub use error::DriverError;
 pub use limits::MOST_RS_EVERY;
+pub use queue_driver::QueueDriver;
 pub use rx_driver::{MOST_BATCH, RxDriver};
 pub use tx_driver::TxDriver;

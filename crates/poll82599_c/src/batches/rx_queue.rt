@@ -6,7 +6,7 @@ ghost use Rattle.poll82599_c.specs.batches.Receiving.{FoundQuiet, TriedBatch, re
 use crate::batches::found::Found;
 use crate::batches::packets::Packets;
 use crate::half::Half;
-use driver::RxDriver;
+use driver::{QueueDriver, RxDriver};
 use rx_ring::RxRing;
 
 /// What a thread has that drives a receive queue in batches.

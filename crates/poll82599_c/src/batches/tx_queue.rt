@@ -6,7 +6,7 @@ ghost use Rattle.poll82599_c.specs.batches.Transmitting.{TriedBatch, TriedCleani
 use crate::batches::found::Found;
 use crate::batches::packets::Packets;
 use crate::half::Half;
-use driver::{DriverError, TxDriver};
+use driver::{DriverError, QueueDriver, TxDriver};
 use tx_ring::TxRing;
 
 /// What a thread has that drives a transmit queue in batches.

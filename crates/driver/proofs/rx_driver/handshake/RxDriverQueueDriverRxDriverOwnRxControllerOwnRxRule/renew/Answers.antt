@@ -3,7 +3,7 @@ use Rattle.std.proofs.lemmas.Bool.{false≢true}
 use Rattle.driver.specs.receive.Receiver.{Receiver}
 use Rattle.driver.specs.receive.Returns.{IsEmptied}
 use Rattle.driver.proofs.receive.Emptying.{no_chain}
-use Rattle.driver.proofs.rx_driver.RxDriver.renew.Goals as goal
+use Rattle.driver.proofs.rx_driver.handshake.RxDriverQueueDriverRxDriverOwnRxControllerOwnRxRule.renew.Goals as goal
 
 pub returns-clause-renewed : goal.returns-clause-renewed
 returns-clause-renewed c =

@@ -2,7 +2,7 @@ use Rattle.std.proofs.Common.{refl, subst}
 use Rattle.driver.specs.receive.Receiver.{Receiver}
 use Rattle.driver.specs.receive.Returns.{itself, GaveBack}
 use Rattle.driver.proofs.Returning.{back-none}
-use Rattle.driver.proofs.rx_driver.RxDriver.reclaim_into.Goals as goal
+use Rattle.driver.proofs.rx_driver.handshake.RxDriverQueueDriverRxDriverOwnRxControllerOwnRxRule.reclaim_into.Goals as goal
 
 pub returns-then-not-empty_chain-clause-back : goal.returns-then-not-empty_chain-clause-back
 returns-then-not-empty_chain-clause-back c =
