@@ -9,6 +9,7 @@ ghost use Rattle.controller.specs.Handshaking.{TurnedControl, begins};
 ghost use Rattle.controller.specs.Receiving.{IsIdle, Offered, Finished, frames_by, may_store};
 ghost use Rattle.controller.specs.Tallying.{AddsUp, nothing};
 
+use crate::control::turn_control;
 use crate::error::CtlError;
 use crate::offer::Offer;
 use crate::storing::decide;
@@ -105,16 +106,7 @@ impl RxController {
         ensures same { self.new ≡ record self.old { end = self.new.end } }
         ensures own { self.new.end.table ≡ ring.now }
     {
-        let asked = self.end.asked(ring);
-        if !self.end.can_answer() {
-            return asked;
-        }
-        self.end.answer(ring);
-        if self.end.is_serving() {
-            Control::Enabled
-        } else {
-            Control::Disabled
-        }
+        turn_control(&mut self.end, ring)
     }
 
     /// Says that no more is stored in this epoch: the quiet word becomes 1. It is false, without a step, where the end
