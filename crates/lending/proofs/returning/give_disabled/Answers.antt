@@ -1,8 +1,8 @@
 -- Each turn moves what the stash has room for, and gives it.
-use Rattle.std.proofs.Common.{rules, ◌≡◌, ◌∙◌, ◌++◌, ℕ, List, []}
+use Rattle.std.proofs.Common.{rules, ◌≡◌, ◌∙◌, ◌<◌, ◌++◌, ℕ, List, [], length}
 use Rattle.pool.specs.Hands.{HoldsAll}
 use Rattle.lending.specs.Lent.{Exchanged, GivenBack}
-use Rattle.lending.proofs.Giving.{holds-reclaimed, given-on, holds-begun, all-given}
+use Rattle.lending.proofs.Giving.{all-given, fewer, given-on, holds-begun, holds-reclaimed, moved-out}
 use Rattle.lending.proofs.returning.give_disabled.Goals as goal
 use Rattle.lending.proofs.returning.give_disabled.Goals.{After-give_into}
 
@@ -31,6 +31,15 @@ give_stash-requires-in-loop-pass-clause-held g c = holds g (goal.at.give_stash-r
 
 pub give_stash-requires-2-clause-held : goal.give_stash-requires-2-clause-held
 give_stash-requires-2-clause-held g c = holds g (goal.at.give_stash-requires-2-clause-held g c).After-give_into
+
+pub loop-pass-smaller : goal.loop-pass-smaller
+loop-pass-smaller g c =
+    let i = c.loop-pass.invariant in
+    let with = g.Q.LentDriver.with in
+    let some : 0 < length c.give_into.new.stash = search rules in
+    fewer (with c.loop-pass.driver) c.give_into.new.stash (with c.give_into.new.self)
+    (moved-out c.give_stash.new.pass.hand.held (c.give_stash.new.stash ++ with c.args.driver.now) c.loop-pass.pass.hand.held c.loop-pass.stash (with c.loop-pass.driver)
+    c.give_into.new.stash (with c.give_into.new.self) i.given i.stash c.give_into.ensures.moved) some
 
 pub loop-pass-preserved : goal.loop-pass-preserved
 loop-pass-preserved g c =
