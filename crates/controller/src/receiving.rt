@@ -9,7 +9,7 @@ ghost use Rattle.controller.specs.Handshaking.{TurnedControl, begins};
 ghost use Rattle.controller.specs.Receiving.{IsIdle, Offered, Finished, frames_by, may_store};
 ghost use Rattle.controller.specs.Tallying.{AddsUp, nothing};
 
-use crate::control::turn_control;
+use crate::control::answer;
 use crate::error::CtlError;
 use crate::offer::Offer;
 use crate::storing::decide;
@@ -106,7 +106,11 @@ impl RxController {
         ensures same { self.new ≡ record self.old { end = self.new.end } }
         ensures own { self.new.end.table ≡ ring.now }
     {
-        turn_control(&mut self.end, ring)
+        let asked = self.end.asked(ring);
+        if !self.end.can_answer() {
+            return asked;
+        }
+        answer(&mut self.end, ring)
     }
 
     /// Says that no more is stored in this epoch: the quiet word becomes 1. It is false, without a step, where the end

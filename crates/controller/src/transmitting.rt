@@ -7,7 +7,7 @@ ghost use Rattle.tx_ring.specs.Ends.{controller_state, sent, seen};
 ghost use Rattle.controller.specs.Handshaking.{TurnedControl, begins};
 ghost use Rattle.controller.specs.Transmitting.{IsIdle, Turned};
 
-use crate::control::turn_control;
+use crate::control::answer;
 use crate::error::CtlError;
 use crate::sending::send_frame;
 use crate::wire::Wire;
@@ -69,7 +69,11 @@ impl TxController {
         ensures lists { sent self.new ≡ (if begins self.old self.new then [] else sent self.old) }
         ensures own { self.new.table ≡ ring.now }
     {
-        turn_control(&mut self.end, ring)
+        let asked = self.end.asked(ring);
+        if !self.end.can_answer() {
+            return asked;
+        }
+        answer(&mut self.end, ring)
     }
 
     /// Sends the next frame, if one is ready. Before it fetches anything it makes room for the longest frame on the wire,

@@ -15,20 +15,18 @@ pub conclude_flow-report-requires : goal.conclude_flow-report-requires
 conclude_flow-report-requires c =
     let was = c.loop-driver.invariant in
     let n = c.loop-driver.number in
-    let driver = c.in-Some.driver in
-    let controller = c.in-Some-next.controller in
+    let lines = c.args.lines.now in
     let line = c.index-lines-number.result in
-    let drivers = c.args.drivers.items in
-    let controllers = c.args.controllers.items in
     let first = sym was.both.one.rest ∙ c.in-Some.ensures.steps.0 in
-    let other : into_iter_items c.loop-driver.controllers ≡ controller ∷ into_iter_items c.next-in-loop-driver.new.self = search rules in
-    let first' = sym was.both.other.rest ∙ other in
-    let low : n < length c.args.lines.now = search rules in
-    let at : get_or c.args.lines.now n line ≡ line = search rules in (
+    let other : into_iter_items c.loop-driver.controllers ≡ c.in-Some-next.controller ∷ into_iter_items c.next-in-loop-driver.new.self = search rules in
+    let low : n < length lines = search rules in
+    let at : get_or lines n line ≡ line = search rules in (
       (refl, refl),
       (
-        subst (λ f. is_over f.phase ≡ true) (drop-first n drivers driver _ first driver) (c.requires.over n driver (drop-within n drivers driver _ first)),
-        (line-at c.args.pool.now (length c.args.lines.now) n c.args.lines.now line drivers _ driver controllers _ controller c.requires.lines low at first first', was.pool),
+        subst (λ f. is_over f.phase ≡ true) (drop-first n c.args.drivers.items c.in-Some.driver _ first c.in-Some.driver)
+        (c.requires.over n c.in-Some.driver (drop-within n c.args.drivers.items c.in-Some.driver _ first)),
+        (line-at c.args.pool.now (length lines) n lines line c.args.drivers.items _ c.in-Some.driver c.args.controllers.items _ c.in-Some-next.controller c.requires.lines low at first
+        (sym was.both.other.rest ∙ other), was.pool),
       ),
     )
 
