@@ -76,8 +76,9 @@ pub(crate) fn make_sides<'a, R: Wait>(
         let count = load.frames_of(number);
         let feed = Feed { frames, count };
         let line = &lines[number];
-        let (driver, controller) =
-            make_side(rt, alloc, config, number, feed, line, own, pool, pass);
+        let (driver, controller) = make_side(
+            rt, alloc, config, number, feed, line, own, pool, pass,
+        );
         drivers.push_reserved(driver);
         controllers.push_reserved(controller);
         number += 1;

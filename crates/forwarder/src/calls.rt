@@ -159,9 +159,7 @@ fn forward_over<R: Threads + Wait + Sync, G: Gate + Sync>(
 {
     let index = Index::of(alloc, job.script, job.config.pairs)?;
     let (lines, ends) = make_lines(alloc, job.config)?;
-    let ran = run_flows(
-        rt, alloc, job, &index, &lines, ends, pool, pass, watch,
-    )?;
+    let ran = run_flows(rt, alloc, job, &index, &lines, ends, pool, pass, watch)?;
     if let Some(refusal) = ran.refusal {
         close_all(rt, pool, pass, lines, ran.stopped);
         return Err(refusal);

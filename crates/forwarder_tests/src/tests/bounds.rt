@@ -205,7 +205,10 @@ fn has_just<R: Threads + Wait + Sync + Abort>(
         count: 1,
     };
     let script = script_of(rt, alloc, &[burst]);
-    let fewer = Config { pairs, ..Config::DEFAULT };
+    let fewer = Config {
+        pairs,
+        ..Config::DEFAULT
+    };
     let enough = Config {
         pairs: pairs.saturating_add(1),
         ..Config::DEFAULT

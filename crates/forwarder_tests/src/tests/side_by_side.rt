@@ -27,7 +27,14 @@ fn a_driver_and_its_controller_wait_for_each_other(rt: HostRuntime) {
     let gate = Meeting::new();
     holds(
         &rt,
-        comes_to(&rt, rt.alloc(), &script, &Config::DEFAULT, &gate, ONE_COUNTS),
+        comes_to(
+            &rt,
+            rt.alloc(),
+            &script,
+            &Config::DEFAULT,
+            &gate,
+            ONE_COUNTS,
+        ),
     );
     holds(&rt, gate.took_place());
 }

@@ -24,9 +24,12 @@ conclude_flow-report-requires c =
       (refl, refl),
       (
         subst (λ f. is_over f.phase ≡ true) (drop-first n c.args.drivers.items c.in-Some.driver _ first c.in-Some.driver)
-        (c.requires.over n c.in-Some.driver (drop-within n c.args.drivers.items c.in-Some.driver _ first)),
-        (line-at c.args.pool.now (length lines) n lines line c.args.drivers.items _ c.in-Some.driver c.args.controllers.items _ c.in-Some-next.controller c.requires.lines low at first
-        (sym was.both.other.rest ∙ other), was.pool),
+            (c.requires.over n c.in-Some.driver (drop-within n c.args.drivers.items c.in-Some.driver _ first)),
+        (
+          line-at c.args.pool.now (length lines) n lines line c.args.drivers.items _ c.in-Some.driver c.args.controllers.items _ c.in-Some-next.controller c.requires.lines low at first
+              (sym was.both.other.rest ∙ other),
+          was.pool,
+        ),
       ),
     )
 
