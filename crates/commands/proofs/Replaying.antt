@@ -63,25 +63,23 @@ says-more before line ms m e range text s = record {
 drawn_behind : (old line new drawn told : List ℕ) → line ≡ old ++ told → new ≡ line ++ drawn → new ≡ old ++ (told ++ drawn)
 drawn_behind old line new drawn told is behind = behind ∙ ap (λ (t : List ℕ). t ++ drawn) is ∙ append_assoc old told drawn
 
+-- what was answered to a move is the world's note, and whether there is one is whether it could be made
+told : (w : World) (m : Move) (r : Result Note MachineError) (later : World) (before after : QueueParts) → Did QueuesAgree (note_in w (queue_move m)) later r before after
+    → (note_in w (queue_move m) ≡ result_ok r) × (can_move w (queue_move m) ≡ is_some (result_ok r))
+told w m (Ok t) later before after d = did-made w (queue_move m) t later before after d
+told w m (Err why) later before after d = did-refused w (queue_move m) why later before after d
+
 -- a move that was made has its note in its line, and one that was refused has none
 pub wrote : (shown : Shown) (w : World) (m : Move) (r : Result Note MachineError) (old line new : List ℕ) (before later : QueueParts) → Did QueuesAgree (note_in w (queue_move m)) (after_it w m) r before later
     → (read : Option Registers) → ((w : World) → QueuesAgree later w → read ≡ shown_registers shown w m) → line ≡ old ++ told_line shown.json m (result_ok r) read
     → new ≡ line ++ drawn_of later (drawn_at_once shown.pictures m) → WroteMove shown w m (is_some (result_ok r)) old new later
-wrote shown w m (Ok t) old line new before later d read shows e behind = let made = did-made w (queue_move m) t (after_it w m) before later d in record {
+wrote shown w m r old line new before later d read shows e behind = let did = told w m r (after_it w m) before later d in record {
   drawn = drawn_of later (drawn_at_once shown.pictures m);
   is_drawn = record { queues = later; agrees = d.agrees; drawn_is = refl };
   text = drawn_behind old line new (drawn_of later (drawn_at_once shown.pictures m)) (line_in shown w m)
-      (e ∙ ap₂ (λ (told : Option Note) (r : Option Registers). old ++ told_line shown.json m told r) (sym made.0) (shows (after_it w m) d.agrees)) behind;
+      (e ∙ ap₂ (λ (told : Option Note) (r : Option Registers). old ++ told_line shown.json m told r) (sym did.0) (shows (after_it w m) d.agrees)) behind;
   agrees = d.agrees;
-  counted = sym made.1;
-}
-wrote shown w m (Err why) old line new before later d read shows e behind = let refused = did-refused w (queue_move m) why (after_it w m) before later d in record {
-  drawn = drawn_of later (drawn_at_once shown.pictures m);
-  is_drawn = record { queues = later; agrees = d.agrees; drawn_is = refl };
-  text = drawn_behind old line new (drawn_of later (drawn_at_once shown.pictures m)) (line_in shown w m)
-      (e ∙ ap₂ (λ (told : Option Note) (r : Option Registers). old ++ told_line shown.json m told r) (sym refused.0) (shows (after_it w m) d.agrees)) behind;
-  agrees = d.agrees;
-  counted = sym refused.1;
+  counted = sym did.1;
 }
 
 -- so many lines are good, and these are left

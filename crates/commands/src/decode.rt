@@ -1,5 +1,5 @@
 //! The line of a descriptor, from the hex digits of its bytes.
-ghost use Rattle.std.specs.Prelude.{◌≡◌, ◌⊎◌, ◌↔◌, ◌∷◌, [], ◌++◌, Some, IfOk, IfErr, IfSome};
+ghost use Rattle.std.specs.Prelude.{◌≡◌, ◌⊎◌, ◌↔◌, ◌∷◌, [], ◌++◌, Some, IfOk, IfErr, IfSome, MatchResult};
 ghost use Rattle.std.specs.String.{string_bytes};
 ghost use Rattle.descriptor.specs.Layout.{AreBytes, KeepsBytes};
 ghost use Rattle.descriptor.specs.Refusal.{IsLowest};
@@ -55,8 +55,7 @@ pub fn decode(alloc: Global, form: Form, digits: &str) -> Result<String, Refusal
 
 /// The line of the descriptor that the bytes are in this form.
 fn read_as(alloc: Global, form: Form, bytes: &[u8]) -> Result<String, Refusal>
-    ensures ok { IfOk result (λ line. IsRead form bytes.now (Ok (string_bytes line))) }
-    ensures err { IfErr result (λ e. (e ≡ Refusal.Memory) ⊎ IsRead form bytes.now (Err e)) }
+    ensures { MatchResult result (λ line. IsRead form bytes.now (Ok (string_bytes line))) (λ e. (e ≡ Refusal.Memory) ⊎ IsRead form bytes.now (Err e)) }
 {
     match form {
         Form::RxRead => line_of::<RxRead>(alloc, bytes),
@@ -68,10 +67,9 @@ fn read_as(alloc: Global, form: Form, bytes: &[u8]) -> Result<String, Refusal>
 
 /// What is printed, in a line of its own, of the descriptor whose bytes these are.
 fn line_of<D: Descriptor + Display + Drop>(alloc: Global, bytes: &[u8]) -> Result<String, Refusal>
-    ensures ok { IfOk result (λ line. (d : D) × AreBytes D.form (D.numbers d) bytes.now
-        × IfSome (D.output d) (λ text. string_bytes line ≡ text ++ 10 ∷ [])) }
-    ensures err { IfErr result (λ e. (e ≡ Refusal.Memory) ⊎ ((refused : DescError)
-        × (e ≡ Refusal.Descriptor refused) × IsLowest (KeepsBytes D.form bytes.now) refused)) }
+    ensures { MatchResult result
+        (λ line. (d : D) × AreBytes D.form (D.numbers d) bytes.now × IfSome (D.output d) (λ text. string_bytes line ≡ text ++ 10 ∷ []))
+        (λ e. (e ≡ Refusal.Memory) ⊎ ((refused : DescError) × (e ≡ Refusal.Descriptor refused) × IsLowest (KeepsBytes D.form bytes.now) refused)) }
 {
     match D::from_bytes(bytes) {
         Ok(value) => Ok(format!(in alloc; "{value}\n")?),

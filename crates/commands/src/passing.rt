@@ -13,7 +13,7 @@ use crate::refusal::Refusal;
 use arrayvec::ArrayVec;
 use buffer_pool::{Packet, PoolError, Stash, Stock};
 use controller::{Offer, RxController};
-use driver::RxDriver;
+use driver::{QueueDriver, RxDriver};
 use limits::BUFFER_BYTES;
 use rx_ring::{RxControllerEnd, RxDriverEnd, RxRing, meet_rx};
 use std::alloc::Global;

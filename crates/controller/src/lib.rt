@@ -9,6 +9,7 @@
 #![tactic(auto)]
 
 mod arena;
+mod control;
 mod fill_size;
 mod offer;
 mod receiving;

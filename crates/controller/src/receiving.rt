@@ -9,6 +9,7 @@ ghost use Rattle.controller.specs.Handshaking.{TurnedControl, begins};
 ghost use Rattle.controller.specs.Receiving.{IsIdle, Offered, Finished, frames_by, may_store};
 ghost use Rattle.controller.specs.Tallying.{AddsUp, nothing};
 
+use crate::control::answer;
 use crate::offer::Offer;
 use crate::storing::decide;
 use crate::tally::Tally;
@@ -109,12 +110,7 @@ impl RxController {
         if !self.end.can_answer() {
             return asked;
         }
-        self.end.answer(ring);
-        if self.end.is_serving() {
-            Control::Enabled
-        } else {
-            Control::Disabled
-        }
+        answer(&mut self.end, ring)
     }
 
     /// Says that no more is stored in this epoch: the quiet word becomes 1. It is false, without a step, where the end

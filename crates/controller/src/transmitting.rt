@@ -7,6 +7,7 @@ ghost use Rattle.tx_ring.specs.Ends.{controller_state, sent, seen};
 ghost use Rattle.controller.specs.Handshaking.{TurnedControl, begins};
 ghost use Rattle.controller.specs.Transmitting.{IsIdle, Turned};
 
+use crate::control::answer;
 use crate::sending::send_frame;
 use crate::wire::Wire;
 use refusals::CtlError;
@@ -72,12 +73,7 @@ impl TxController {
         if !self.end.can_answer() {
             return asked;
         }
-        self.end.answer(ring);
-        if self.end.is_serving() {
-            Control::Enabled
-        } else {
-            Control::Disabled
-        }
+        answer(&mut self.end, ring)
     }
 
     /// Sends the next frame, if one is ready. Before it fetches anything it makes room for the longest frame on the wire,

@@ -10,10 +10,12 @@
 #![tactic(auto)]
 
 mod handshake;
+mod queue_driver;
 mod rx_driver;
 mod tx_driver;
 
 pub use limits::MOST_RS_EVERY;
+pub use queue_driver::QueueDriver;
 pub use refusals::DriverError;
 pub use rx_driver::{MOST_BATCH, RxDriver};
 pub use tx_driver::TxDriver;

@@ -78,15 +78,6 @@ impl RxDriver {
         self.end.room()
     }
 
-    /// The ring's length.
-    #[inline]
-    pub fn size(&self) -> u32
-        ensures lawful { IsRingLength result }
-        ensures value { result ≡ driver_size self.now.end }
-    {
-        self.end.size()
-    }
-
     /// The most packets that it takes at once.
     #[inline]
     pub fn batch(&self) -> usize
@@ -95,30 +86,6 @@ impl RxDriver {
         ensures few { result ≤ MOST_BATCH }
     {
         self.batch
-    }
-
-    /// Whether the queue was seen enabled, and its disabling not yet seen answered.
-    #[inline]
-    pub fn is_live(&self) -> bool
-        ensures { result ≡ is_live (driver_state self.now.end) }
-    {
-        self.end.is_live()
-    }
-
-    /// Whether the queue was seen enabled, and no disabling asked.
-    #[inline]
-    pub fn is_on(&self) -> bool
-        ensures { result ≡ is_on (driver_state self.now.end) }
-    {
-        self.end.is_on()
-    }
-
-    /// Whether the disabling was seen answered.
-    #[inline]
-    pub fn is_stopped(&self) -> bool
-        ensures { result ≡ is_stopped (driver_state self.now.end) }
-    {
-        self.end.is_stopped()
     }
 
     /// Whether segments were taken of a frame that has not ended.

@@ -71,15 +71,6 @@ impl TxDriver {
         self.end
     }
 
-    /// The ring's length.
-    #[inline]
-    pub fn size(&self) -> u32
-        ensures lawful { IsRingLength result }
-        ensures value { result ≡ driver_size self.now.end }
-    {
-        self.end.size()
-    }
-
     /// Of how many frames one asks for a report.
     #[inline]
     pub fn rs_every(&self) -> u16
@@ -88,31 +79,6 @@ impl TxDriver {
         ensures value { result ≡ self.now.every }
     {
         self.every
-    }
-
-    /// Whether the queue was seen enabled, and its disabling not yet seen answered: then `clean` and
-    /// `tx_batch` clean.
-    #[inline]
-    pub fn is_live(&self) -> bool
-        ensures { result ≡ is_live (driver_state self.now.end) }
-    {
-        self.end.is_live()
-    }
-
-    /// Whether the queue was seen enabled, and no disabling asked.
-    #[inline]
-    pub fn is_on(&self) -> bool
-        ensures { result ≡ is_on (driver_state self.now.end) }
-    {
-        self.end.is_on()
-    }
-
-    /// Whether the disabling was seen answered: then `reclaim_into` brings the buffers back.
-    #[inline]
-    pub fn is_stopped(&self) -> bool
-        ensures { result ≡ is_stopped (driver_state self.now.end) }
-    {
-        self.end.is_stopped()
     }
 
     /// How many more descriptors can be posted. Until the disabling was seen answered it is the ring's length less 1

@@ -2,7 +2,7 @@
 ghost use Rattle.std.specs.Prelude.{◌≡◌};
 ghost use Rattle.flows.specs.Driven.{RxStands, TxStands, RxAsBefore, TxAsBefore, KnowsAsBefore};
 
-use driver::{RxDriver, TxDriver};
+use driver::{QueueDriver, RxDriver, TxDriver};
 use rx_ring::RxRing;
 use tx_ring::TxRing;
 

@@ -17,7 +17,7 @@ use crate::counts::Counts;
 use crate::holding::drop_packets;
 use arrayvec::ArrayVec;
 use buffer_pool::{Packet, Stash};
-use driver::{MOST_BATCH, RxDriver, TxDriver};
+use driver::{MOST_BATCH, QueueDriver, RxDriver, TxDriver};
 use forwarding::{ForwardError, Gate, Turned, drive};
 use pool::{Pool, PoolPass};
 use rx_ring::RxRing;

@@ -12,7 +12,7 @@ use crate::holding::{drop_packets, give_stash};
 use crate::load::{Load, Task};
 use crate::phase::{Left, Phase};
 use crate::report::Ended;
-use driver::MOST_BATCH;
+use driver::{MOST_BATCH, QueueDriver};
 use forwarding::{ForwardError, Gate};
 use std::sync::Wait;
 

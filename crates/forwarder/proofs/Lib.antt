@@ -1,4 +1,5 @@
 mod Places
 pub mod Pairs
 pub mod Plans
+pub mod Walking
 mod FlowFrames

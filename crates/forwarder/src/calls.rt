@@ -16,7 +16,7 @@ use crate::config::Config;
 use crate::index::Index;
 use crate::lines::make_lines;
 use crate::report::Report;
-use crate::running::{Watch, run_flows};
+use crate::running::{Job, Watch, run_flows};
 use crate::stopping::close_all;
 use counters::{FlowCells, FlowPens};
 use forwarding::{ForwardError, Gate};
@@ -92,7 +92,12 @@ pub fn forward_in<R: Threads + Wait + Sync, G: Gate + Sync>(
     ensures share { pass.new.hand.share ≡ pass.old.hand.share }
     ensures held { pass.new.hand.held ≡ pass.old.hand.held }
 {
-    let (report, _) = forward_over(rt, alloc, script, config, gate, pool, pass, None)?;
+    let job = Job {
+        script,
+        config,
+        gate,
+    };
+    let (report, _) = forward_over(rt, alloc, job, pool, pass, None)?;
     Ok(report)
 }
 
@@ -121,39 +126,40 @@ pub fn forward_watched<R: Threads + Wait + Sync, G: Gate + Sync>(
     ensures shown { IfOk result (λ r. ShowReports cells.now r.1.items r.0.flows.items) }
 {
     let (pool, mut pass) = make_pool(rt, alloc, script, config)?;
+    let job = Job {
+        script,
+        config,
+        gate,
+    };
     let watch = Some(Watch { cells, pens });
-    forward_over(rt, alloc, script, config, gate, &pool, &mut pass, watch)
+    forward_over(rt, alloc, job, &pool, &mut pass, watch)
 }
 
 /// Forwards over a pool, and shows what each flow counts, where that is watched.
 fn forward_over<R: Threads + Wait + Sync, G: Gate + Sync>(
     rt: &R,
     alloc: Global,
-    script: &Script,
-    config: &Config,
-    gate: &G,
+    job: Job<'_, G>,
     pool: &Pool,
     pass: &mut PoolPass,
     watch: Option<Watch<'_>>,
 ) -> Result<(Report, Vec<FlowPens>), ForwardError>
-    requires fits { FitsIn script.now config.now }
+    requires fits { FitsIn job.script.now job.config.now }
     requires pool { IsOf pool.now pass.old }
     requires share { PORTS * MOST_PAIRS < pass.old.hand.share }
-    requires cells { ForSome watch (λ w. length w.cells.now ≡ PORTS * config.now.pairs) }
+    requires cells { ForSome watch (λ w. length w.cells.now ≡ PORTS * job.config.now.pairs) }
     requires pens { ForSome watch (λ w. ArePaired w.cells.now w.pens.items) }
-    ensures halted { IfErr result (λ e. Halted G.answers gate.now e) }
-    ensures flows { IfOk result (λ r. vec_len r.0.flows ≡ PORTS * config.now.pairs) }
-    ensures reports { IfOk result (λ r. (flow : ℕ) (d : _) → flow < PORTS * config.now.pairs → IsReport (plan config.now script.now flow) (slice_index_or r.0.flows.items flow d)) }
+    ensures halted { IfErr result (λ e. Halted G.answers job.gate.now e) }
+    ensures flows { IfOk result (λ r. vec_len r.0.flows ≡ PORTS * job.config.now.pairs) }
+    ensures reports { IfOk result (λ r. (flow : ℕ) (d : _) → flow < PORTS * job.config.now.pairs → IsReport (plan job.config.now job.script.now flow) (slice_index_or r.0.flows.items flow d)) }
     ensures shown { IfOk result (λ r. IfSome watch.entry (λ w. ShowReports w.cells.now r.1.items r.0.flows.items)) }
     ensures pool { IsOf pool.now pass.new }
     ensures share { pass.new.hand.share ≡ pass.old.hand.share }
     ensures held { pass.new.hand.held ≡ pass.old.hand.held }
 {
-    let index = Index::of(alloc, script, config.pairs)?;
-    let (lines, ends) = make_lines(alloc, config)?;
-    let ran = run_flows(
-        rt, alloc, script, config, gate, &index, &lines, ends, pool, pass, watch,
-    )?;
+    let index = Index::of(alloc, job.script, job.config.pairs)?;
+    let (lines, ends) = make_lines(alloc, job.config)?;
+    let ran = run_flows(rt, alloc, job, &index, &lines, ends, pool, pass, watch)?;
     if let Some(refusal) = ran.refusal {
         close_all(rt, pool, pass, lines, ran.stopped);
         return Err(refusal);

@@ -51,19 +51,7 @@ impl Default for Config {
     ghost is_default = { λ c. c ≡ default_config };
 
     fn default() -> Config {
-        Config {
-            pairs: 1,
-            ring: 512,
-            batch: 32,
-            buffers: 4_096,
-            bsize: 2_048,
-            rs_every: 32,
-            drop_en: false,
-            retry: true,
-            workers: 1,
-            turns: 0,
-            completion: Completion::Status,
-        }
+        Config::DEFAULT
     }
 }
 
@@ -88,6 +76,21 @@ impl fmt::Debug for Config {
 }
 
 impl Config {
+    /// What [`Config::default`] answers.
+    pub const DEFAULT: Config = Config {
+        pairs: 1,
+        ring: 512,
+        batch: 32,
+        buffers: 4_096,
+        bsize: 2_048,
+        rs_every: 32,
+        drop_en: false,
+        retry: true,
+        workers: 1,
+        turns: 0,
+        completion: Completion::Status,
+    };
+
     /// Whether each number is within its limits.
     pub fn is_lawful(&self) -> bool
         ensures { IsTrue result ↔ IsLawful self.now }

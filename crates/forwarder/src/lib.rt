@@ -14,6 +14,7 @@ mod lines;
 mod report;
 mod running;
 mod sides;
+mod starting;
 mod stopping;
 
 pub use calls::{forward, forward_in, forward_watched};
@@ -22,3 +23,4 @@ pub use index::Index;
 pub use laws::plans_have_the_flows_frames;
 pub use lines::{Line, LineEnds, make_lines};
 pub use report::Report;
+pub use starting::start_flow;

@@ -11,8 +11,7 @@ ghost use Rattle.pool.specs.Owned.{IsOf};
 ghost use Rattle.flows.specs.Reports.{IsReport};
 ghost use Rattle.refusals.specs.declared.errors.ForwardError.TheVariants.{Memory};
 ghost use Rattle.forwarder.specs.Configs.{IsLawful};
-ghost use Rattle.forwarder.specs.Flows.{places_of};
-ghost use Rattle.forwarder.specs.Lines.{AreEnds};
+ghost use Rattle.forwarder.specs.Lines.{AreReady};
 ghost use Rattle.forwarder.specs.Plans.{plan};
 ghost use Rattle.forwarder.specs.Shown.{ShowReports};
 ghost use Rattle.forwarder.specs.Stopped.{IsStopped};
@@ -34,6 +33,14 @@ use std::sync::Wait;
 use std::thread::Threads;
 use watching::{Shown, serve_watched};
 use wire_script::Script;
+
+/// What is forwarded, how, and by which gate.
+#[derive(Drop)]
+pub(crate) struct Job<'a, G> {
+    pub script: &'a Script,
+    pub config: &'a Config,
+    pub gate: &'a G,
+}
 
 /// The cells that show what the flows count, one entry a flow in the order of the flows, and their pens.
 #[derive(Drop)]
@@ -107,9 +114,7 @@ fn serve_sides<'a, R: Threads + Wait + Sync, G: Gate + Sync>(
 pub(crate) fn run_flows<R: Threads + Wait + Sync, G: Gate + Sync>(
     rt: &R,
     alloc: Global,
-    script: &Script,
-    config: &Config,
-    gate: &G,
+    job: Job<'_, G>,
     index: &Index,
     lines: &[Line],
     ends: Vec<LineEnds>,
@@ -117,18 +122,16 @@ pub(crate) fn run_flows<R: Threads + Wait + Sync, G: Gate + Sync>(
     pass: &mut PoolPass,
     watch: Option<Watch<'_>>,
 ) -> Result<Ran, ForwardError>
-    requires lawful { IsLawful config.now }
-    requires flows { (length lines.now ≡ PORTS * config.now.pairs) × (vec_len ends ≡ PORTS * config.now.pairs) × (length index.now ≡ PORTS * config.now.pairs) }
-    requires ends { (k : ℕ) (d : _) (e : _) → k < PORTS * config.now.pairs → AreEnds config.now.ring config.now.completion (slice_index_or lines.now k d) (slice_index_or ends.items k e) }
-    requires places { (flow : ℕ) (d : _) → flow < PORTS * config.now.pairs → slice_index_or index.now flow d ≡ places_of config.now.pairs flow script.now }
+    requires lawful { IsLawful job.config.now }
+    requires ready { AreReady job.config.now job.script.now index.now lines.now ends.items }
     requires pool { IsOf pool.now pass.old }
     requires share { PORTS * MOST_PAIRS < pass.old.hand.share }
-    requires cells { ForSome watch (λ w. length w.cells.now ≡ PORTS * config.now.pairs) }
+    requires cells { ForSome watch (λ w. length w.cells.now ≡ PORTS * job.config.now.pairs) }
     requires pens { ForSome watch (λ w. ArePaired w.cells.now w.pens.items) }
-    ensures halted { IfErr result (λ e. Halted G.answers gate.now e) }
-    ensures refused { IfOk result (λ r. IfSome r.refusal (λ e. Halted G.answers gate.now e)) }
-    ensures flows { IfOk result (λ r. r.refusal ≡ None → vec_len r.flows ≡ PORTS * config.now.pairs) }
-    ensures reports { IfOk result (λ r. r.refusal ≡ None → (flow : ℕ) (d : _) → flow < PORTS * config.now.pairs → IsReport (plan config.now script.now flow) (slice_index_or r.flows.items flow d)) }
+    ensures halted { IfErr result (λ e. Halted G.answers job.gate.now e) }
+    ensures refused { IfOk result (λ r. IfSome r.refusal (λ e. Halted G.answers job.gate.now e)) }
+    ensures flows { IfOk result (λ r. r.refusal ≡ None → vec_len r.flows ≡ PORTS * job.config.now.pairs) }
+    ensures reports { IfOk result (λ r. r.refusal ≡ None → (flow : ℕ) (d : _) → flow < PORTS * job.config.now.pairs → IsReport (plan job.config.now job.script.now flow) (slice_index_or r.flows.items flow d)) }
     ensures shown { IfOk result (λ r. r.refusal ≡ None → IfSome watch.entry (λ w. ShowReports w.cells.now r.pens.items r.flows.items)) }
     ensures stopped { IfOk result (λ r. IsSome r.refusal → (vec_len r.stopped ≡ length lines.now) × AllZip (IsStopped pool.now) lines.now r.stopped.items) }
     ensures pool { IsOf pool.now pass.new }
@@ -137,6 +140,11 @@ pub(crate) fn run_flows<R: Threads + Wait + Sync, G: Gate + Sync>(
     ensures share { IfOk result (λ r. r.refusal ≡ None → pass.new.hand.share ≡ pass.old.hand.share) }
     ensures held { pass.new.hand.held ≡ pass.old.hand.held }
 {
+    let Job {
+        script,
+        config,
+        gate,
+    } = job;
     let (reports, rooms) = make_rooms(alloc, lines.len())?;
     let sides = make_sides(rt, alloc, config, script, index, lines, ends, pool, pass)?;
     let workers = config.workers as usize;

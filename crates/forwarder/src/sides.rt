@@ -1,5 +1,5 @@
 //! Both sides of all flows.
-ghost use Rattle.std.specs.Prelude.{◌≡◌, ℕ, ◌+◌, ◌*◌, ◌<◌, [], All, IfOk, IfErr, MatchResult, length, map, vec_len, slice_index_or};
+ghost use Rattle.std.specs.Prelude.{◌≡◌, ◌+◌, ◌*◌, ◌<◌, All, IfOk, IfErr, MatchResult, map, vec_len};
 ghost use Rattle.controller.specs.Tallying.{nothing};
 ghost use Rattle.flows.specs.Counting.{none};
 ghost use Rattle.limits.specs.declared.profile.TheConstants.{MOST_PAIRS, PORTS};
@@ -7,24 +7,19 @@ ghost use Rattle.refusals.specs.declared.errors.ForwardError.TheVariants.{Memory
 ghost use Rattle.pool.specs.Owned.{IsOf};
 ghost use Rattle.forwarder.specs.Configs.{IsLawful};
 ghost use Rattle.forwarder.specs.Flows.{places_of};
-ghost use Rattle.forwarder.specs.Lines.{AreEnds};
+ghost use Rattle.forwarder.specs.Lines.{AreEnds, AreReady};
 ghost use Rattle.forwarder.specs.Plans.{AreSides, AreAllSides, plan};
 
 use crate::config::Config;
 use crate::index::Index;
 use crate::lines::{Line, LineEnds};
-use flows::{ControllerFlow, DriverFlow, Task};
+use crate::starting::start_flow;
+use flows::{ControllerFlow, DriverFlow};
 use forwarding::ForwardError;
 use pool::{Pool, PoolPass};
 use std::alloc::Global;
 use std::sync::Wait;
 use wire_script::Script;
-
-/// The share of the pool that each flow's pass has.
-const SHARE: u32 = 1;
-
-/// How many buffers a flow may hold beyond a full receive ring.
-const STASHED: u32 = 255;
 
 /// Both sides of one flow.
 #[derive(Drop)]
@@ -40,7 +35,7 @@ pub(crate) struct Sides<'a> {
     pub controllers: Vec<ControllerFlow<'a>>,
 }
 
-/// Makes both sides of a flow. As many of its share of the buffers as fit are posted to its receive ring.
+/// Makes both sides of a flow. A pass is split off for the driver's.
 fn make_side<'a, R: Wait>(
     rt: &R,
     alloc: Global,
@@ -51,38 +46,22 @@ fn make_side<'a, R: Wait>(
     line: &'a Line,
     ends: LineEnds,
     pool: &'a Pool,
-    pass: PoolPass,
+    pass: &mut PoolPass,
 ) -> Side<'a>
     requires lawful { IsLawful config.now }
     requires places { places.now ≡ places_of config.now.pairs number script.now }
     requires ends { AreEnds config.now.ring config.now.completion line.now ends }
-    requires pool { IsOf pool.now pass }
-    requires share { pass.hand.share ≡ 1 }
-    requires none { pass.hand.held ≡ [] }
+    requires pool { IsOf pool.now pass.old }
+    requires share { 1 < pass.old.hand.share }
     ensures sides { AreSides (plan config.now script.entry.now number) pool.entry.now line.entry.now result.driver.key result.controller.key }
     ensures counts { result.driver.counts ≡ none }
     ensures tally { result.controller.tally ≡ nothing }
+    ensures pool { IsOf pool.entry.now pass.new }
+    ensures share { pass.new.hand.share + 1 ≡ pass.old.hand.share }
+    ensures held { pass.new.hand.held ≡ pass.old.hand.held }
 {
-    let share = config.buffers / (2 * config.pairs);
-    let most = share.min(config.ring + STASHED) as usize;
-    let task = Task {
-        number,
-        from: &line.from,
-        to: &line.to,
-        pool,
-        share: SHARE as u64,
-        retry: config.retry,
-        turns: config.turns,
-    };
-    let driver = DriverFlow::start(
-        rt,
-        task,
-        (ends.takes, ends.posts),
-        pass,
-        most,
-        config.batch as usize,
-        config.rs_every as u16,
-    );
+    let takes = (ends.takes, ends.posts);
+    let driver = start_flow(rt, config, number, line, takes, pool, pass);
     let controller = ControllerFlow::new(
         alloc,
         number,
@@ -95,7 +74,7 @@ fn make_side<'a, R: Wait>(
     Side { driver, controller }
 }
 
-/// Makes both sides of each flow. A pass is split off for each driver.
+/// Makes both sides of each flow.
 pub(crate) fn make_sides<'a, R: Wait>(
     rt: &R,
     alloc: Global,
@@ -108,9 +87,7 @@ pub(crate) fn make_sides<'a, R: Wait>(
     pass: &mut PoolPass,
 ) -> Result<Sides<'a>, ForwardError>
     requires lawful { IsLawful config.now }
-    requires flows { (length lines.now ≡ PORTS * config.now.pairs) × (vec_len ends ≡ PORTS * config.now.pairs) × (length index.now ≡ PORTS * config.now.pairs) }
-    requires ends { (k : ℕ) (d : _) (e : _) → k < PORTS * config.now.pairs → AreEnds config.now.ring config.now.completion (slice_index_or lines.now k d) (slice_index_or ends.items k e) }
-    requires places { (flow : ℕ) (d : _) → flow < PORTS * config.now.pairs → slice_index_or index.now flow d ≡ places_of config.now.pairs flow script.now }
+    requires ready { AreReady config.now script.now index.now lines.now ends.items }
     requires pool { IsOf pool.now pass.old }
     requires share { PORTS * MOST_PAIRS < pass.old.hand.share }
     ensures refused { IfErr result (λ e. e ≡ Memory) }
@@ -127,7 +104,6 @@ pub(crate) fn make_sides<'a, R: Wait>(
     let mut number = 0;
     for own in ends {
         let places = index.places(number);
-        let share = pass.split(pool, SHARE);
         let side = make_side(
             rt,
             alloc,
@@ -138,7 +114,7 @@ pub(crate) fn make_sides<'a, R: Wait>(
             &lines[number],
             own,
             pool,
-            share,
+            pass,
         );
         drivers.push_reserved(side.driver);
         controllers.push_reserved(side.controller);

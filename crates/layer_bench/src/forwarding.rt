@@ -11,7 +11,7 @@ use anyhow::{Result, ensure};
 use arrayvec::ArrayVec;
 use bench_kit::spare_for;
 use buffer_pool::{Packet, STASH_BUFFERS, Stash, Stock};
-use driver::{DriverError, MOST_BATCH, RxDriver, TxDriver};
+use driver::{DriverError, MOST_BATCH, QueueDriver, RxDriver, TxDriver};
 use limits::MOST_RING;
 use rx_ring::{RxDriverEnd, RxRing};
 use std::alloc::Global;

@@ -70,12 +70,6 @@ module _ (held before new stash out has still : List ℕ) (given : Exchanged hel
   pub reclaimed : Exchanged held before new (has ++ still)
   reclaimed = exchanged-more held before new out (has ++ still) given moved-out
 
-  pub holds-reclaimed : HoldsAll held before → HoldsAll new has
-  holds-reclaimed h = holds-first new has still (holds-on held before new (has ++ still) reclaimed h)
-
-  pub given-on : (next : List ℕ) → GivenBack new has next → Exchanged held before next still
-  given-on next g = exchanged-given held before new has still next reclaimed g
-
 -- before the loop the stash was given
 pub holds-begun : (held stash out new empty : List ℕ) → HoldsAll held (stash ++ out) → GivenBack held stash new → empty ≡ [] → HoldsAll new (empty ++ out)
 holds-begun held stash out new empty h g e = subst (λ (l : List ℕ). HoldsAll new (l ++ out)) (sym e) (holds-on held (stash ++ out) new out (given-first held stash out new g) h)

@@ -7,7 +7,7 @@ ghost use Rattle.plain_c.specs.Once.{Drives, HasCome, IsWritten};
 use arrayvec::ArrayVec;
 use buffer_pool::{Packet, Stash, Stock};
 use controller::{Offer, RxController};
-use driver::{MOST_BATCH, RxDriver};
+use driver::{MOST_BATCH, QueueDriver, RxDriver};
 use limits::{BUFFER_BYTES, LEAST_FRAME};
 use rx_ring::{RxControllerEnd, RxDriverEnd, RxRing, meet_rx};
 use std::alloc::Global;

@@ -9,7 +9,7 @@ use anyhow::Result;
 use arrayvec::ArrayVec;
 use buffer_pool::{Packet, Stash};
 use controller::{CtlError, RxController, TxController, Wire};
-use driver::{DriverError, MOST_BATCH, RxDriver, TxDriver};
+use driver::{DriverError, MOST_BATCH, QueueDriver, RxDriver, TxDriver};
 use forwarding::{Event, ForwardError, Gate, Turned, Who, drive};
 use limits::BUFFER_BYTES;
 use rx_ring::RxRing;

@@ -15,8 +15,8 @@ use anyhow::Result as Answer;
 use arrayvec::ArrayVec;
 use buffer_pool::{Packet, Stash};
 use controller::{CtlError, RxController, TxController, Wire};
-use driver::{DriverError, MOST_BATCH, RxDriver, TxDriver};
-use lending::{give_packets, give_received, give_sent};
+use driver::{DriverError, MOST_BATCH, QueueDriver, RxDriver, TxDriver};
+use lending::{give_disabled, give_packets};
 use limits::BUFFER_BYTES;
 use pool::{Pool, PoolPass};
 use rx_ring::RxRing;
@@ -125,8 +125,8 @@ impl<'a> Worker<'a> {
             mut stash,
             mut packets,
         } = self;
-        give_received(rt, pool, &mut pass, &mut rx, from, &mut stash);
-        give_sent(rt, pool, &mut pass, &mut tx, to, &mut stash);
+        give_disabled(rt, pool, &mut pass, &mut rx, from, &mut stash);
+        give_disabled(rt, pool, &mut pass, &mut tx, to, &mut stash);
         give_packets(rt, pool, &mut pass, &mut packets);
         drop((rx, tx, stash, packets));
         pass

@@ -10,7 +10,7 @@ use anyhow::Result;
 use arrayvec::ArrayVec;
 use buffer_pool::{Packet, Stash};
 use controller::{CtlError, RxController, TxController, Wire};
-use driver::{DriverError, MOST_BATCH, RxDriver, TxDriver};
+use driver::{DriverError, MOST_BATCH, QueueDriver, RxDriver, TxDriver};
 use limits::BUFFER_BYTES;
 use rx_ring::RxRing;
 use std::alloc::Global;

@@ -1,68 +1,52 @@
-//! Enabling, disabling, and what comes back between the two.
-ghost use Rattle.std.specs.Prelude.{◌≡◌, ◌+◌, ◌↔◌, true, false, [], length, Ok, IsErr, IsOk, IsSome, IfNone, IfErr, OnErr, IfOk, OnOk};
-ghost use Rattle.ring_model.specs.declared.states.DriverState.TheVariants as state;
-ghost use Rattle.ring_model.specs.shared.Handshakes.{is_on, is_open, is_stopped};
-ghost use Rattle.shared_ring.specs.declared.events.DriverEvent.TheVariants.{AskedDisable};
-ghost use Rattle.rx_ring.specs.Ends.{driver_record, driver_state, known_of, appended};
-ghost use Rattle.rx_ring.specs.Calls.{told_left, GoneOver};
-ghost use Rattle.refusals.specs.declared.errors.DriverError.TheVariants.{QueueOff, StashFull, NotReclaimed};
-ghost use Rattle.driver.specs.Handshake.{AskedEnabling, Finishes};
-ghost use Rattle.driver.specs.receive.Returns.{IsEmptied, GaveBack};
+//! The receive driver's handshake, and what comes back of a disabled queue.
 
 use super::{RxDriver, reclaiming};
 use crate::handshake;
-use buffer_pool::{STASH_BUFFERS, Stash};
+use crate::queue_driver::QueueDriver;
+use buffer_pool::Stash;
 use refusals::DriverError;
-use rx_ring::{DriverEnd, RxRing};
+use rx_ring::{DriverEnd, RxControllerOwn, RxDriverOwn, RxRing, RxRule};
+use shared_ring::DriverPlaces;
 
-impl RxDriver {
-    /// Asks for the queue to be enabled, if nothing was asked yet, loads the control word, and answers whether the queue
-    /// is enabled. Where a disabling is asked it answers false, without a step.
-    ///
-    /// `NotReclaimed` where the queue was seen disabled and is not renewed: then nothing is done.
-    pub fn enable(&mut self, ring: &RxRing) -> Result<bool, DriverError>
-        requires own { self.old.end.table ≡ ring.now }
-        ensures ring { self.new.end.table ≡ self.old.end.table }
-        ensures refused { IsErr result ↔ (is_stopped (driver_state self.old.end) ≡ true) }
-        ensures refusal { IfErr result (λ e. e ≡ NotReclaimed) }
-        ensures told { IfOk result (λ enabled. enabled ≡ is_on (driver_state self.new.end)) }
-        ensures open { is_open (driver_state self.old.end) ≡ true → AskedEnabling self.old.end self.new.end }
-        ensures shut { is_open (driver_state self.old.end) ≡ false → self.new ≡ self.old }
-        ensures known { known_of self.new.end ≡ known_of self.old.end }
-        ensures rest { self.new ≡ record self.old { end = self.new.end } }
-    {
+impl QueueDriver<RxDriverOwn, RxControllerOwn, RxRule> for RxDriver {
+    ghost use Rattle.std.specs.Prelude.{◌≡◌};
+    ghost use Rattle.shared_ring.specs.Ends.{driver_of, driver_side};
+    ghost use Rattle.rx_ring.specs.Form.{rx};
+    ghost use Rattle.rx_ring.specs.Calls.{told_left, GoneOver};
+    ghost use Rattle.rx_ring.specs.Ends.{known_of};
+    ghost use Rattle.driver.specs.receive.Returns.{IsEmptied, GaveBack};
+
+    type Ring = RxRing;
+
+    ghost side = { λ d. driver_side rx d.end };
+
+    ghost with_side = { λ d s. record d { end = driver_of rx s } };
+
+    ghost anew = { λ d s. record d { end = driver_of rx s } };
+
+    ghost told = { λ s. told_left (driver_of rx s) };
+
+    ghost learnt_head = { λ old new. known_of (driver_of rx new) ≡ record (known_of (driver_of rx old)) { head = (known_of (driver_of rx new)).head } };
+
+    ghost gave_back = { λ old had new has. GaveBack old had new has };
+
+    ghost is_emptied = { λ d. IsEmptied d };
+
+    ghost gone_over = { λ old new. GoneOver (driver_of rx old) (driver_of rx new) };
+
+    fn at(&self) -> DriverPlaces {
+        self.end.at()
+    }
+
+    fn enable(&mut self, ring: &RxRing) -> Result<bool, DriverError> {
         handshake::enable(&mut self.end, ring)
     }
 
-    /// Asks for the queue to be disabled.
-    ///
-    /// `QueueOff` where the queue was not seen enabled, or a disabling was asked already: then nothing is done.
-    pub fn ask_disable(&mut self, ring: &RxRing) -> Result<(), DriverError>
-        requires own { self.old.end.table ≡ ring.now }
-        ensures ring { self.new.end.table ≡ self.old.end.table }
-        ensures refused { IsErr result ↔ (is_on (driver_state self.old.end) ≡ false) }
-        ensures refusal { IfErr result (λ e. e ≡ QueueOff) }
-        ensures unchanged { OnErr result (self.new ≡ self.old) }
-        ensures step { OnOk result (self.new ≡ record self.old { end = appended self.old.end AskedDisable }) }
-        ensures record { OnOk result (driver_record self.new.end ≡ record (driver_record self.old.end) { state = state.Stopping }) }
-        ensures known { known_of self.new.end ≡ known_of self.old.end }
-    {
+    fn ask_disable(&mut self, ring: &RxRing) -> Result<(), DriverError> {
         handshake::ask_disable(&mut self.end, ring)
     }
 
-    /// Loads the control word. Once the disabling is answered, it loads the head too, and answers how many segments were
-    /// stored and not taken: it stays so, and every later meeting finds as many. None before, and after that without a
-    /// step.
-    pub fn finish_disable(&mut self, ring: &RxRing) -> Option<u32>
-        requires own { self.old.end.table ≡ ring.now }
-        ensures ring { self.new.end.table ≡ self.old.end.table }
-        ensures finishes { Finishes told_left self.old.end result self.new.end }
-        ensures answered { IsSome result ↔ ((is_stopped (driver_state self.old.end) ≡ false) × (is_stopped (driver_state self.new.end) ≡ true)) }
-        ensures lists { driver_record self.new.end ≡ record (driver_record self.old.end) { state = driver_state self.new.end } }
-        ensures known { known_of self.new.end ≡ record (known_of self.old.end) { head = (known_of self.new.end).head } }
-        ensures unlearnt { IfNone result (known_of self.new.end ≡ known_of self.old.end) }
-        ensures rest { self.new ≡ record self.old { end = self.new.end } }
-    {
+    fn finish_disable(&mut self, ring: &RxRing) -> Option<u32> {
         if self.end.is_stopped() {
             return None;
         }
@@ -73,22 +57,7 @@ impl RxDriver {
         Some(self.end.left(ring))
     }
 
-    /// Moves all buffers of a disabled queue into the stash, first those of an unfinished chain, then those in the ring,
-    /// the oldest first, and answers how many these were: 0 until `finish_disable` has answered.
-    ///
-    /// `StashFull` where buffers are left for which the stash has no room: as many are moved as fit, and the call can be
-    /// made again.
-    pub fn reclaim_into(&mut self, ring: &RxRing, stash: &mut Stash) -> Result<usize, DriverError>
-        requires own { self.old.end.table ≡ ring.now }
-        ensures ring { self.new.end.table ≡ self.old.end.table }
-        ensures waits { is_stopped (driver_state self.old.end) ≡ false → (result ≡ Ok 0) × (self.new ≡ self.old) × (stash.new ≡ stash.old) }
-        ensures back { is_stopped (driver_state self.old.end) ≡ true → GaveBack self.old stash.old self.new stash.new }
-        ensures count { IfOk result (λ count. length stash.new ≡ length stash.old + count) }
-        ensures all { OnOk result (is_stopped (driver_state self.old.end) ≡ true → IsEmptied self.new) }
-        ensures refusal { IfErr result (λ e. e ≡ StashFull) }
-        ensures full { OnErr result (length stash.new ≡ STASH_BUFFERS) }
-        ensures left { OnErr result (¬ IsEmptied self.new) }
-    {
+    fn reclaim_into(&mut self, ring: &RxRing, stash: &mut Stash) -> Result<usize, DriverError> {
         if !self.end.is_stopped() {
             return Ok(0);
         }
@@ -102,19 +71,7 @@ impl RxDriver {
         Ok(stash.len() - had)
     }
 
-    /// Renews a queue that was seen disabled and from which all buffers came back: it can be enabled again, and gets its
-    /// buffers by its next batch.
-    ///
-    /// `NotReclaimed` where it was not seen disabled, or buffers or a chain are left: then nothing is done.
-    pub fn renew(&mut self, ring: &RxRing) -> Result<(), DriverError>
-        requires own { self.old.end.table ≡ ring.now }
-        ensures ring { self.new.end.table ≡ self.old.end.table }
-        ensures renewed { IsOk result ↔ IsEmptied self.old }
-        ensures refusal { IfErr result (λ e. e ≡ NotReclaimed) }
-        ensures unchanged { OnErr result (self.new ≡ self.old) }
-        ensures begun { OnOk result (GoneOver self.old.end self.new.end) }
-        ensures rest { self.new ≡ record self.old { end = self.new.end } }
-    {
+    fn renew(&mut self, ring: &RxRing) -> Result<(), DriverError> {
         if !self.end.is_stopped() || self.has_chain() || !handshake::is_back(&self.end) {
             return Err(DriverError::NotReclaimed);
         }

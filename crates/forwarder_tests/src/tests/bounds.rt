@@ -1,7 +1,6 @@
 //! Configurations that are refused, and those at the edge of what is not.
 
 use crate::tests::bursts::{Burst, script_of};
-use crate::tests::configs::DEFAULT;
 use crate::tests::counted::{Counts, NONE, comes_to};
 use crate::tests::gates::Shuts;
 use crate::tests::wanted::{holds, same};
@@ -20,7 +19,7 @@ const LEAST: Config = Config {
     buffers: 32,
     bsize: 1_024,
     rs_every: 1,
-    ..DEFAULT
+    ..Config::DEFAULT
 };
 
 /// The greatest lawful numbers.
@@ -31,7 +30,7 @@ const GREATEST: Config = Config {
     rs_every: 4_096,
     workers: 16,
     turns: 4_294_967_295,
-    ..DEFAULT
+    ..Config::DEFAULT
 };
 
 /// Those of which one number is beyond its limits.
@@ -150,12 +149,12 @@ fn fitting(script: &Script, configs: &[Config]) -> usize {
     count
 }
 
-const EDGES: &[Config] = &[LEAST, DEFAULT, GREATEST];
+const EDGES: &[Config] = &[LEAST, Config::DEFAULT, GREATEST];
 
 #[test]
 fn the_edges_are_lawful(rt: HostRuntime) {
     let script = script_of(&rt, rt.alloc(), &[]);
-    holds(&rt, Config::default() == DEFAULT);
+    holds(&rt, Config::default() == Config::DEFAULT);
     same(&rt, fitting(&script, EDGES), 3);
 }
 
@@ -206,10 +205,13 @@ fn has_just<R: Threads + Wait + Sync + Abort>(
         count: 1,
     };
     let script = script_of(rt, alloc, &[burst]);
-    let fewer = Config { pairs, ..DEFAULT };
+    let fewer = Config {
+        pairs,
+        ..Config::DEFAULT
+    };
     let enough = Config {
         pairs: pairs.saturating_add(1),
-        ..DEFAULT
+        ..Config::DEFAULT
     };
     refused(rt, alloc, &script, &[fewer]) == 1 && enough.check(&script).is_ok()
 }

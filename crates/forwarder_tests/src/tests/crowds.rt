@@ -1,7 +1,6 @@
 //! All flows of 8 pairs, by each number of workers.
 
 use crate::tests::bursts::script_with;
-use crate::tests::configs::DEFAULT;
 use crate::tests::counted::counts_of;
 use crate::tests::wanted::same;
 use controller::Wire;
@@ -107,7 +106,7 @@ fn all_go<R: Threads + Wait + Sync + Abort>(
         pairs: 8,
         ring: 64,
         workers,
-        ..DEFAULT
+        ..Config::DEFAULT
     };
     let report = forward(rt, alloc, script, &config, &Open).expect(rt, "a report");
     all_have_gone(&report.flows, wanted)

@@ -5,7 +5,6 @@ ghost use Rattle.pool.specs.Owned.{IsOf};
 ghost use Rattle.pool.specs.declared.hand.TheConstants.{WHOLE_SHARE};
 
 use crate::tests::bursts::{Burst, FORTY, FRAME, script_of};
-use crate::tests::configs::DEFAULT;
 use crate::tests::gates::{Midway, Shuts, Stops};
 use crate::tests::trials::{Asked, Trial, each_is_so};
 use crate::tests::wanted::{holds, same};
@@ -109,7 +108,7 @@ const ALL: Config = Config {
     batch: 2,
     buffers: BUFFERS,
     bsize: 1_024,
-    ..DEFAULT
+    ..Config::DEFAULT
 };
 
 /// Whether all buffers are back after a refusal, once so many passed the gate.

@@ -1,7 +1,7 @@
 //! Worked rows.
 
 use crate::tests::bursts::{Burst, FORTY, FORTY_COUNTS, script_of};
-use crate::tests::configs::{DEFAULT, SHORT};
+use crate::tests::configs::SHORT;
 use crate::tests::counted::{Counts, NONE, comes_to};
 use crate::tests::trials::{Asked, Trial, each_is_so};
 use crate::tests::wanted::{holds, same};
@@ -18,7 +18,7 @@ use tx_ring::Completion;
 /// Four flows over rings of 512.
 const EMPTY: Config = Config {
     pairs: 2,
-    ..DEFAULT
+    ..Config::DEFAULT
 };
 
 /// Whether the 40 frames go over rings of 8 in batches of so many, in both ways to report.
@@ -147,7 +147,7 @@ fn goes<R: Threads + Wait + Sync + Abort>(rt: &R, alloc: Global, row: &Long) -> 
     let config = Config {
         ring: row.ring,
         bsize: row.bsize,
-        ..DEFAULT
+        ..Config::DEFAULT
     };
     comes_to(rt, alloc, &script, &config, &Open, row.wanted)
 }

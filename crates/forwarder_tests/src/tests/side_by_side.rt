@@ -1,7 +1,6 @@
 //! Drivers and controllers run in threads of their own, over rings that have so much room and no more.
 
 use crate::tests::bursts::{Burst, script_of};
-use crate::tests::configs::DEFAULT;
 use crate::tests::counted::{Counts, NONE, comes_to};
 use crate::tests::gates::{After, Meeting};
 use crate::tests::wanted::holds;
@@ -28,7 +27,14 @@ fn a_driver_and_its_controller_wait_for_each_other(rt: HostRuntime) {
     let gate = Meeting::new();
     holds(
         &rt,
-        comes_to(&rt, rt.alloc(), &script, &DEFAULT, &gate, ONE_COUNTS),
+        comes_to(
+            &rt,
+            rt.alloc(),
+            &script,
+            &Config::DEFAULT,
+            &gate,
+            ONE_COUNTS,
+        ),
     );
     holds(&rt, gate.took_place());
 }
@@ -60,7 +66,7 @@ fn is_full<R: Threads + Wait + Sync + Abort>(
         ring,
         buffers,
         drop_en: true,
-        ..DEFAULT
+        ..Config::DEFAULT
     };
     let gate = After::new(40);
     comes_to(rt, alloc, script, &config, &gate, wanted) && gate.was_in_time()

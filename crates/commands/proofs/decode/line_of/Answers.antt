@@ -2,5 +2,5 @@
 use Rattle.std.proofs.Common.{refl, inr}
 use Rattle.commands.proofs.decode.line_of.Goals as goal
 
-pub returns-in-Err-clause-err : goal.returns-in-Err-clause-err
-returns-in-Err-clause-err g c = inr (c.in-Err.refused, refl, (c.in-Err.ensures.refused c.in-Err.refused).0 refl)
+pub returns-in-Err : goal.returns-in-Err
+returns-in-Err g c = inr (c.in-Err.refused, refl, (c.in-Err.ensures.refused c.in-Err.refused).0 refl)

@@ -6,7 +6,8 @@ use Rattle.flows.specs.Driven.{is_over}
 use Rattle.flows.specs.Keys.{ControllerKey, DriverKey, plan_of}
 use Rattle.flows.specs.Reports.{IsReport}
 use Rattle.forwarder.proofs.Places.{by-map}
-use Rattle.forwarder.proofs.Plans.{drop-first, drop-later, drop-within, line-at, list-more}
+use Rattle.forwarder.proofs.Plans.{drop-first, drop-within, line-at, list-more}
+use Rattle.forwarder.proofs.Walking.{meets-on}
 use Rattle.watching.proofs.Moving.{moved}
 use Rattle.forwarder.proofs.concluding.conclude_all.Goals as goal
 
@@ -14,20 +15,21 @@ pub conclude_flow-report-requires : goal.conclude_flow-report-requires
 conclude_flow-report-requires c =
     let was = c.loop-driver.invariant in
     let n = c.loop-driver.number in
-    let driver = c.in-Some.driver in
-    let controller = c.in-Some-next.controller in
+    let lines = c.args.lines.now in
     let line = c.index-lines-number.result in
-    let drivers = c.args.drivers.items in
-    let controllers = c.args.controllers.items in
-    let first = sym was.drivers ∙ c.in-Some.ensures.steps.0 in
-    let other : into_iter_items c.loop-driver.controllers ≡ controller ∷ into_iter_items c.next-in-loop-driver.new.self = search rules in
-    let first' = sym was.controllers ∙ other in
-    let low : n < length c.args.lines.now = search rules in
-    let at : get_or c.args.lines.now n line ≡ line = search rules in (
+    let first = sym was.both.one.rest ∙ c.in-Some.ensures.steps.0 in
+    let other : into_iter_items c.loop-driver.controllers ≡ c.in-Some-next.controller ∷ into_iter_items c.next-in-loop-driver.new.self = search rules in
+    let low : n < length lines = search rules in
+    let at : get_or lines n line ≡ line = search rules in (
       (refl, refl),
       (
-        subst (λ f. is_over f.phase ≡ true) (drop-first n drivers driver _ first driver) (c.requires.over n driver (drop-within n drivers driver _ first)),
-        (line-at c.args.pool.now (length c.args.lines.now) n c.args.lines.now line drivers _ driver controllers _ controller c.requires.lines low at first first', was.pool),
+        subst (λ f. is_over f.phase ≡ true) (drop-first n c.args.drivers.items c.in-Some.driver _ first c.in-Some.driver)
+            (c.requires.over n c.in-Some.driver (drop-within n c.args.drivers.items c.in-Some.driver _ first)),
+        (
+          line-at c.args.pool.now (length lines) n lines line c.args.drivers.items _ c.in-Some.driver c.args.controllers.items _ c.in-Some-next.controller c.requires.lines low at first
+              (sym was.both.other.rest ∙ other),
+          was.pool,
+        ),
       ),
     )
 
@@ -39,9 +41,9 @@ loop-driver-preserved c =
     let controller = c.in-Some-next.controller in
     let drivers = c.args.drivers.items in
     let controllers = c.args.controllers.items in
-    let first = sym was.drivers ∙ c.in-Some.ensures.steps.0 in
+    let first = sym was.both.one.rest ∙ c.in-Some.ensures.steps.0 in
     let other : into_iter_items c.loop-driver.controllers ≡ controller ∷ into_iter_items c.next-in-loop-driver.new.self = search rules in
-    let first' = sym was.controllers ∙ other in
+    let first' = sym was.both.other.rest ∙ other in
     let within = drop-within n drivers driver _ first in
     let within' = drop-within n controllers controller _ first' in
     let report = c.conclude_flow-report.result in
@@ -51,12 +53,8 @@ loop-driver-preserved c =
     let key : (d : DriverKey) → get_or (map (λ f. f.key) drivers) n d ≡ driver.key = λ d. by-map (λ f. f.key) drivers n driver.key d within (λ e. ap (λ f. f.key) (drop-first n drivers driver _ first e)) in
     let key' : (k : ControllerKey) → get_or (map (λ f. f.key) controllers) n k ≡ controller.key = λ k. by-map (λ f. f.key) controllers n controller.key k within' (λ e. ap (λ f. f.key) (drop-first n controllers controller _ first' e)) in
     record {
-      drivers = drop-later n drivers driver _ first;
-      controllers = drop-later n controllers controller _ first';
-      count = search rules;
-      both = search rules;
-      room = search rules;
-      len = search rules;
+      both = meets-on n (length c.args.lines.now) drivers c.loop-driver.driver-iterator c.next.new.self driver controllers c.loop-driver.controllers
+          c.next-in-loop-driver.new.self controller c.loop-driver.reports c.push_reserved.new.self was.both c.in-Some.ensures.steps (search rules) (search rules);
       pool = c.conclude_flow-report.ensures.pool;
       share = (let more = c.conclude_flow-report.ensures.share in let so = was.share in search rules);
       held = c.conclude_flow-report.ensures.held ∙ was.held;

@@ -22,9 +22,9 @@ pub stop_all-requires-clause-lines : goal.stop_all-requires-clause-lines
 stop_all-requires-clause-lines g c =
     let sides = c.in_ok-sides.sides in
     let served = c.serve_sides-shown.result.served in
-    lines-of c.args.pool.now (PORTS * c.args.config.now.pairs) (length c.args.lines.now) (plan c.args.config.now c.args.script.now) c.args.lines.now
+    lines-of c.args.pool.now (PORTS * c.args.job.config.now.pairs) (length c.args.lines.now) (plan c.args.job.config.now c.args.job.script.now) c.args.lines.now
     (map (λ f. f.key) sides.drivers.items) (map (λ f. f.key) served.drivers.items) (map (λ f. f.key) sides.controllers.items) (map (λ f. f.key) served.controllers.items)
-    (sym c.requires.flows.0) c.serve_sides-shown.ensures.drivers c.serve_sides-shown.ensures.controllers c.in_ok-sides.ensures.sides
+    (sym c.requires.ready.all_lines) c.serve_sides-shown.ensures.drivers c.serve_sides-shown.ensures.controllers c.in_ok-sides.ensures.sides
 
 pub conclude_all-flows-requires-clause-flows : goal.conclude_all-flows-requires-clause-flows
 conclude_all-flows-requires-clause-flows g c =
@@ -38,16 +38,16 @@ pub conclude_all-flows-requires-clause-lines : goal.conclude_all-flows-requires-
 conclude_all-flows-requires-clause-lines g c =
     let sides = c.in_ok-sides.sides in
     let served = c.serve_sides-shown.result.served in
-    lines-of c.args.pool.now (PORTS * c.args.config.now.pairs) (length c.args.lines.now) (plan c.args.config.now c.args.script.now) c.args.lines.now
+    lines-of c.args.pool.now (PORTS * c.args.job.config.now.pairs) (length c.args.lines.now) (plan c.args.job.config.now c.args.job.script.now) c.args.lines.now
     (map (λ f. f.key) sides.drivers.items) (map (λ f. f.key) served.drivers.items) (map (λ f. f.key) sides.controllers.items) (map (λ f. f.key) served.controllers.items)
-    (sym c.requires.flows.0) c.serve_sides-shown.ensures.drivers c.serve_sides-shown.ensures.controllers c.in_ok-sides.ensures.sides
+    (sym c.requires.ready.all_lines) c.serve_sides-shown.ensures.drivers c.serve_sides-shown.ensures.controllers c.in_ok-sides.ensures.sides
 
 pub returns-clause-reports : goal.returns-clause-reports
 returns-clause-reports g c = λ none flow r low.
     let sides = c.in_ok-sides.sides in
     let served = c.serve_sides-shown.result.served in
     let n = length c.args.lines.now in
-    let plans = plan c.args.config.now c.args.script.now in
+    let plans = plan c.args.job.config.now c.args.job.script.now in
     let ds = map (λ f. f.key) sides.drivers.items in
     let cs = map (λ f. f.key) sides.controllers.items in
     let ds' = map (λ f. f.key) served.drivers.items in
@@ -60,6 +60,6 @@ returns-clause-reports g c = λ none flow r low.
       | then-is_some w ↦ absurd (false≢true (sym (w.if-is_some.ensures ∙ ap is_some none)))
       | else-is_some w ↦ subst (λ p. IsReport (plans flow) (slice_index_or p.0.items flow r)) (sym w.flows-is)
           (reports-of c.args.pool.now n plans c.args.lines.now ds' cs' w.conclude_all-flows.result.items (omega arith) many many'
-          (sides-at c.args.pool.now (PORTS * c.args.config.now.pairs) n plans c.args.lines.now ds ds' cs cs' (sym c.requires.flows.0) c.serve_sides-shown.ensures.drivers c.serve_sides-shown.ensures.controllers c.in_ok-sides.ensures.sides)
-          w.conclude_all-flows.ensures.reports flow r (omega (arith, low, c.requires.flows.0)))
+          (sides-at c.args.pool.now (PORTS * c.args.job.config.now.pairs) n plans c.args.lines.now ds ds' cs cs' (sym c.requires.ready.all_lines) c.serve_sides-shown.ensures.drivers c.serve_sides-shown.ensures.controllers c.in_ok-sides.ensures.sides)
+          w.conclude_all-flows.ensures.reports flow r (omega (arith, low, c.requires.ready.all_lines)))
     ]

@@ -7,15 +7,16 @@ use Rattle.pool.specs.Owned.{IsOf}
 use Rattle.forwarder.specs.Lines.{AreEnds}
 use Rattle.forwarder.specs.Plans.{AreSides, plan}
 use Rattle.forwarder.specs.declared.lines.Line.{Line}
-use Rattle.forwarder.proofs.Plans.{all-last, any-default, drop-first, drop-later, drop-within, places-more}
+use Rattle.forwarder.proofs.Plans.{all-last, any-default, drop-first, drop-within, places-more}
+use Rattle.forwarder.proofs.Walking.{makes-on}
 use Rattle.forwarder.proofs.sides.make_sides.Goals as goal
 
 pub make_side-side-requires-clause-places : goal.make_side-side-requires-clause-places
 make_side-side-requires-clause-places g c =
     let was = c.loop-own.invariant in
-    let within = drop-within c.loop-own.number c.args.ends.items c.in-Some.own _ (sym was.ends ∙ c.in-Some.ensures.steps.0) in
+    let within = drop-within c.loop-own.number c.args.ends.items c.in-Some.own _ (sym was.both.taken.rest ∙ c.in-Some.ensures.steps.0) in
     let low : c.loop-own.number < PORTS * c.args.config.now.pairs = search rules in
-    c.places-places.ensures [] ∙ c.requires.places c.loop-own.number [] low
+    c.places-places.ensures [] ∙ c.requires.ready.places c.loop-own.number [] low
 
 pub make_side-side-requires-clause-ends : goal.make_side-side-requires-clause-ends
 make_side-side-requires-clause-ends g c =
@@ -24,12 +25,12 @@ make_side-side-requires-clause-ends g c =
     let config = c.args.config.now in
     let line = c.index-lines-number.result in
     let own = c.in-Some.own in
-    let first = sym was.ends ∙ c.in-Some.ensures.steps.0 in
+    let first = sym was.both.taken.rest ∙ c.in-Some.ensures.steps.0 in
     let within = drop-within n c.args.ends.items own _ first in
     let low : n < PORTS * config.pairs = search rules in
     let at : get_or c.args.lines.now n line ≡ line = search rules in
     subst (λ l. AreEnds config.ring config.completion l own) at
-    (subst (λ e. AreEnds config.ring config.completion (get_or c.args.lines.now n line) e) (drop-first n c.args.ends.items own _ first own) (c.requires.ends n line own low))
+    (subst (λ e. AreEnds config.ring config.completion (get_or c.args.lines.now n line) e) (drop-first n c.args.ends.items own _ first own) (c.requires.ready.made n line own low))
 
 pub loop-own-preserved : goal.loop-own-preserved
 loop-own-preserved g c =
@@ -39,8 +40,8 @@ loop-own-preserved g c =
     let pool = c.args.pool.now in
     let line = c.index-lines-number.result in
     let side = c.make_side-side.result in
-    let first = sym was.ends ∙ c.in-Some.ensures.steps.0 in
-    let kept = c.split-share.ensures.kept in
+    let first = sym was.both.taken.rest ∙ c.in-Some.ensures.steps.0 in
+    let made = c.make_side-side.ensures in
     let drivers = c.loop-own.drivers.items in
     let controllers = c.loop-own.controllers.items in
     let here : get_or c.args.lines.now n line ≡ line = search rules in
@@ -48,15 +49,12 @@ loop-own-preserved g c =
     let low : n < length c.args.lines.now = search rules in
     let at : (e : Line) → get_or c.args.lines.now n e ≡ line = λ e. any-default c.args.lines.now n e line low ∙ here in
     record {
-      ends = drop-later n c.args.ends.items c.in-Some.own _ first;
-      count = search rules;
-      drivers = search rules;
-      controllers = search rules;
-      room = search rules;
-      held = ap (λ p. p.hand.held) kept ∙ was.held;
-      pool = subst (IsOf pool) (sym kept) (record { pool = was.pool.pool; count = was.pool.count });
-      share = (let less = ap (λ p. p.hand.share) kept in let some : 1 < c.loop-own.pass.hand.share = search rules in omega (arith, less, some, was.share));
-      enough = (let less = ap (λ p. p.hand.share) kept in omega (arith, less, was.enough));
+      both = makes-on n (length c.args.lines.now) c.args.ends.items c.loop-own.own-iterator c.next.new.self c.in-Some.own c.loop-own.drivers c.push_reserved.new.self
+          c.loop-own.controllers c.push_reserved-in-loop-own.new.self was.both c.in-Some.ensures.steps (search rules) (search rules);
+      held = made.held ∙ was.held;
+      pool = made.pool;
+      share = omega (arith, made.share, was.share);
+      enough = omega (arith, made.share, was.enough);
       counts = all-last (λ f. f.counts ≡ none) drivers c.push_reserved.new.self.items side.driver c.push_reserved.ensures.items was.counts c.make_side-side.ensures.counts;
       tallies = all-last (λ f. f.tally ≡ nothing) controllers c.push_reserved-in-loop-own.new.self.items side.controller c.push_reserved-in-loop-own.ensures.items was.tallies c.make_side-side.ensures.tally;
       sides = (λ k l d s low. places-more (λ i a b. (e : Line) → AreSides (plan config c.args.script.now i) pool (get_or c.args.lines.now i e) a b)

@@ -1,21 +1,16 @@
-use Rattle.std.proofs.Common.{◌≡◌, ◌+◌, ◌*◌, ◌<◌, ◌≤◌, All, map, drop, length, vec_items, vec_len, vec_capacity}
-use Rattle.std.specs.Vec.Iter.{into_iter_items, into_iter_len}
+use Rattle.std.proofs.Common.{◌≡◌, ◌+◌, ◌*◌, ◌<◌, All, map, length, vec_items}
 use Rattle.controller.specs.Tallying.{nothing}
 use Rattle.flows.specs.Counting.{none}
 use Rattle.limits.specs.declared.profile.TheConstants.{MOST_PAIRS, PORTS}
 use Rattle.pool.specs.Owned.{IsOf}
 use Rattle.forwarder.specs.Plans.{AreAllSides, plan}
+use Rattle.forwarder.proofs.Walking.{Makes}
 use Rattle.forwarder.proofs.sides.make_sides.Given as goal
 
 abbrev pub invariant-loop-own : goal.invariant-loop-own
 invariant-loop-own g l =
-    let rest = l.own-iterator in
     record {
-      ends : into_iter_items rest ≡ drop l.number l.fn.ends.items;
-      count : l.number + into_iter_len rest ≡ length l.lines;
-      drivers : vec_len l.drivers ≡ l.number;
-      controllers : vec_len l.controllers ≡ l.number;
-      room : (length l.lines ≤ vec_capacity l.drivers) × (length l.lines ≤ vec_capacity l.controllers);
+      both : Makes l.number (length l.lines) l.fn.ends.items l.own-iterator l.drivers l.controllers;
       pool : IsOf l.pool l.pass;
       held : l.pass.hand.held ≡ l.initial.pass.hand.held;
       share : l.number + l.pass.hand.share ≡ l.initial.pass.hand.share;

@@ -3,7 +3,8 @@ use Rattle.std.specs.List.{AllZip}
 use Rattle.std.specs.Vec.Iter.{into_iter_items}
 use Rattle.std.proofs.lemmas.List.{take_all, take_more}
 use Rattle.forwarder.specs.Stopped.{IsStopped}
-use Rattle.forwarder.proofs.Plans.{drop-later, line-at, zip-last}
+use Rattle.forwarder.proofs.Plans.{line-at, zip-last}
+use Rattle.forwarder.proofs.Walking.{meets-on}
 use Rattle.forwarder.proofs.stopping.stop_all.Goals as goal
 
 pub stop_flow-flow-requires : goal.stop_flow-flow-requires
@@ -16,7 +17,7 @@ stop_flow-flow-requires c =
     let at : get_or c.args.lines.now n line ≡ line = search rules in
     record {
       of_line = line-at c.args.pool.now (length c.args.lines.now) n c.args.lines.now line c.args.drivers.items _ c.in-Some.driver c.args.controllers.items _ c.in-Some-next.controller
-          c.requires.lines low at (sym was.drivers ∙ c.in-Some.ensures.steps.0) (sym was.controllers ∙ other);
+          c.requires.lines low at (sym was.both.one.rest ∙ c.in-Some.ensures.steps.0) (sym was.both.other.rest ∙ other);
     }
 
 pub loop-driver-preserved : goal.loop-driver-preserved
@@ -25,16 +26,11 @@ loop-driver-preserved c =
     let n = c.loop-driver.number in
     let lines = c.args.lines.now in
     let line = c.index-lines-number.result in
-    let other : into_iter_items c.loop-driver.controllers ≡ c.in-Some-next.controller ∷ into_iter_items c.next-in-loop-driver.new.self = search rules in
     let low : n < length lines = search rules in
     let at : get_or lines n line ≡ line = search rules in
     record {
-      drivers = drop-later n c.args.drivers.items c.in-Some.driver _ (sym was.drivers ∙ c.in-Some.ensures.steps.0);
-      controllers = drop-later n c.args.controllers.items c.in-Some-next.controller _ (sym was.controllers ∙ other);
-      count = search rules;
-      both = search rules;
-      room = search rules;
-      len = search rules;
+      both = meets-on n (length lines) c.args.drivers.items c.loop-driver.driver-iterator c.next.new.self c.in-Some.driver c.args.controllers.items c.loop-driver.controllers
+          c.next-in-loop-driver.new.self c.in-Some-next.controller c.loop-driver.stopped c.push_reserved.new.self was.both c.in-Some.ensures.steps (search rules) (search rules);
       stopped = zip-last (IsStopped c.args.pool.now) (take n lines) (take (n + 1) lines) line c.loop-driver.stopped.items c.push_reserved.new.self.items c.stop_flow-flow.result
           (take_more lines n line low ∙ ap (λ x. take n lines ++ x ∷ []) at) c.push_reserved.ensures.items was.stopped c.stop_flow-flow.ensures;
     }

@@ -7,7 +7,7 @@ ghost use Rattle.driver.specs.transmit.Transmitter.{IsReady as IsReadyTx};
 use crate::tests::threads::side::{Shared, Side};
 use arrayvec::ArrayVec;
 use buffer_pool::{Packet, Stash};
-use driver::{MOST_BATCH, RxDriver, TxDriver};
+use driver::{MOST_BATCH, QueueDriver, RxDriver, TxDriver};
 use rx_ring::{RxDriverEnd, RxRing};
 use tx_ring::{TxDriverEnd, TxRing};
 

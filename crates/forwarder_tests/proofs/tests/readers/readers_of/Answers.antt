@@ -2,7 +2,7 @@ use Rattle.std.proofs.Common.{◌≡◌, ◌∙◌, ◌<◌, ap, sym, subst, len
 use Rattle.std.proofs.lemmas.Slice.Zip.{AllZip-long}
 use Rattle.counters.specs.Paired.{ArePaired, IsFresh}
 use Rattle.counters.specs.declared.flows.FlowPens.{FlowPens}
-use Rattle.counters.proofs.Pairs.{zip-at}
+use Rattle.forwarder.proofs.Pairs.{zip-at}
 use Rattle.forwarder_tests.proofs.tests.readers.readers_of.Goals as goal
 
 pub bounds-pens-k : goal.bounds-pens-k

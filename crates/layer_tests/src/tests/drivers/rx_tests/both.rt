@@ -6,7 +6,7 @@ use crate::tests::drivers::stashes::cut;
 use crate::tests::drivers::told::{Call, Told};
 use arrayvec::ArrayVec;
 use buffer_pool::{Packet, Stash};
-use driver::{DriverError, MOST_BATCH, RxDriver};
+use driver::{DriverError, MOST_BATCH, QueueDriver, RxDriver};
 use limits::BUFFER_BYTES;
 use rx_ring::RxRing;
 use std::alloc::Global;

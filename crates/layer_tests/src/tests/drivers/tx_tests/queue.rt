@@ -8,7 +8,7 @@ use crate::tests::drivers::told::{Call, Told};
 use arrayvec::ArrayVec;
 use buffer_pool::{Buf, Packet, STASH_BUFFERS, Stash, Stock};
 use descriptor::TxRead;
-use driver::{DriverError, MOST_BATCH, TxDriver};
+use driver::{DriverError, MOST_BATCH, QueueDriver, TxDriver};
 use std::alloc::Global;
 use std::process::Abort;
 use test_kit::{Tells, put_back};
