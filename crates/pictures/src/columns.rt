@@ -96,22 +96,17 @@ fn age_of(machine: &QueueMachine, place: u16) -> u16
 
 /// A place of a queue, which receives or transmits.
 #[derive(Clone, Copy)]
-pub(crate) struct Spot<'a> {
+pub(crate) struct Spot {
     pub side: Side,
-    pub machine: &'a QueueMachine,
     pub place: u16,
 }
 
 // Writes a place's columns.
-fn write_columns(text: &mut String, spot: Spot<'_>) -> Result<(), AllocError>
-    requires { spot.place < spot.machine.now.size }
-    ensures { OnOk result (string_bytes text.new ≡ string_bytes text.old ++ columns spot.side spot.machine.now spot.place) }
+fn write_columns(text: &mut String, machine: &QueueMachine, spot: Spot) -> Result<(), AllocError>
+    requires { spot.place < machine.now.size }
+    ensures { OnOk result (string_bytes text.new ≡ string_bytes text.old ++ columns spot.side machine.now spot.place) }
 {
-    let Spot {
-        side,
-        machine,
-        place,
-    } = spot;
+    let Spot { side, place } = spot;
     let owner = machine.owner(place);
     let item = OrDash(item_of(owner, age_of(machine, place)));
     let word = word_words(side, owner, machine.word(place));
@@ -145,11 +140,15 @@ fn write_marks(text: &mut String, machine: &QueueMachine, place: u16) -> Result<
 }
 
 /// Writes a place's line.
-pub(crate) fn write_line(text: &mut String, spot: Spot<'_>) -> Result<(), AllocError>
-    requires { spot.place < spot.machine.now.size }
-    ensures { OnOk result (string_bytes text.new ≡ string_bytes text.old ++ line spot.side spot.machine.now spot.place) }
+pub(crate) fn write_line(
+    text: &mut String,
+    machine: &QueueMachine,
+    spot: Spot,
+) -> Result<(), AllocError>
+    requires { spot.place < machine.now.size }
+    ensures { OnOk result (string_bytes text.new ≡ string_bytes text.old ++ line spot.side machine.now spot.place) }
 {
-    write_columns(text, spot)?;
-    write_marks(text, spot.machine, spot.place)?;
+    write_columns(text, machine, spot)?;
+    write_marks(text, machine, spot.place)?;
     text.push('\n')
 }

@@ -53,15 +53,15 @@ fn begins_fold(machine: &QueueMachine, place: u16) -> bool
 }
 
 // Writes a place's line, or that places are passed over.
-fn write_place(text: &mut String, spot: Spot<'_>) -> Result<(), AllocError>
-    requires { spot.place < spot.machine.now.size }
+fn write_place(text: &mut String, machine: &QueueMachine, spot: Spot) -> Result<(), AllocError>
+    requires { spot.place < machine.now.size }
     ensures { OnOk result (string_bytes text.new ≡ string_bytes text.old
-        ++ place_text spot.side spot.machine.now spot.place) }
+        ++ place_text spot.side machine.now spot.place) }
 {
-    if is_shown(spot.machine, spot.place) {
-        return write_line(text, spot);
+    if is_shown(machine, spot.place) {
+        return write_line(text, machine, spot);
     }
-    if begins_fold(spot.machine, spot.place) {
+    if begins_fold(machine, spot.place) {
         text.push_str("..\n")?;
     }
     Ok(())
@@ -83,12 +83,7 @@ pub fn write_picture(
 {
     text.push_str(HEADING)?;
     for place in 0..machine.size() {
-        let spot = Spot {
-            side,
-            machine,
-            place,
-        };
-        write_place(text, spot)?;
+        write_place(text, machine, Spot { side, place })?;
     }
     Ok(())
 }
