@@ -5,10 +5,9 @@
 //! decimal, and EOP and RS are 0 or 1: `r0 A5 60 1` writes back 60 bytes that end their frame.
 
 ghost use Rattle.std.specs.Prelude.{◌≡◌, Some};
-ghost use Rattle.ring_machine.specs.text.Moves.{IsInRange, control_kind, name_of, rx_kind, text_of, tx_kind};
+ghost use Rattle.ring_machine.specs.text.Moves.{IsInRange, control_kind, kind_of, name_of, text_of};
 
 use crate::moves::Move;
-use crate::moves::arguments::{SegmentDescriptor, SegmentLength};
 use ring_model::{ControlStep, RxStep, TxStep};
 use std::fmt;
 
@@ -33,9 +32,10 @@ impl fmt::Display for MoveName {
     ghost output = { λ n. Some (name_of n.named) };
 
     fn fmt<W: fmt::Write>(&self, f: &mut fmt::Formatter<W>) -> fmt::Result {
+        let kind = kind_of(self.named);
         match self.named {
-            Move::Receive(queue, step) => write!(f, "r{} {}", queue.number(), rx_kind(step)),
-            Move::Transmit(queue, step) => write!(f, "t{} {}", queue.number(), tx_kind(step)),
+            Move::Receive(queue, _) => write!(f, "r{} {kind}", queue.number()),
+            Move::Transmit(queue, _) => write!(f, "t{} {kind}", queue.number()),
         }
     }
 }
@@ -70,43 +70,34 @@ fn control_kind(step: ControlStep) -> &'static str
     CONTROL_KINDS[step as usize]
 }
 
-fn rx_kind(step: RxStep<SegmentLength>) -> &'static str
-    ensures { result.now ≡ rx_kind step }
+fn kind_of(action: Move) -> &'static str
+    ensures { result.now ≡ kind_of action }
 {
-    match step {
-        RxStep::Post(_) => "A1",
-        RxStep::Publish => "A2",
-        RxStep::Look => "A3",
-        RxStep::Fetch => "A4",
-        RxStep::Store(..) => "A5",
-        RxStep::Take => "A6",
-        RxStep::Head => "A7",
-        RxStep::Control(step) => control_kind(step),
-        RxStep::Reclaim => "C6",
-        RxStep::StoreQuiet => "C7",
-        RxStep::LoadQuiet => "C8",
-        RxStep::ClearHead => "C9",
-        RxStep::ClearTail => "C10",
-        RxStep::ClearQuiet => "C11",
-    }
-}
-
-fn tx_kind(step: TxStep<SegmentDescriptor>) -> &'static str
-    ensures { result.now ≡ tx_kind step }
-{
-    match step {
-        TxStep::Post(_) => "B1",
-        TxStep::Publish => "B2",
-        TxStep::Look => "B3",
-        TxStep::Fetch => "B4",
-        TxStep::Send => "B5",
-        TxStep::Report => "B6",
-        TxStep::LoadReport => "B7",
-        TxStep::Clean => "B8",
-        TxStep::Control(step) => control_kind(step),
-        TxStep::Reclaim => "C6",
-        TxStep::ClearHead => "C9",
-        TxStep::ClearTail => "C10",
-        TxStep::ClearReport => "C12",
+    match action {
+        Move::Receive(_, RxStep::Control(step)) | Move::Transmit(_, TxStep::Control(step)) => {
+            control_kind(step)
+        }
+        Move::Receive(_, RxStep::Post(_)) => "A1",
+        Move::Receive(_, RxStep::Publish) => "A2",
+        Move::Receive(_, RxStep::Look) => "A3",
+        Move::Receive(_, RxStep::Fetch) => "A4",
+        Move::Receive(_, RxStep::Store(..)) => "A5",
+        Move::Receive(_, RxStep::Take) => "A6",
+        Move::Receive(_, RxStep::Head) => "A7",
+        Move::Transmit(_, TxStep::Post(_)) => "B1",
+        Move::Transmit(_, TxStep::Publish) => "B2",
+        Move::Transmit(_, TxStep::Look) => "B3",
+        Move::Transmit(_, TxStep::Fetch) => "B4",
+        Move::Transmit(_, TxStep::Send) => "B5",
+        Move::Transmit(_, TxStep::Report) => "B6",
+        Move::Transmit(_, TxStep::LoadReport) => "B7",
+        Move::Transmit(_, TxStep::Clean) => "B8",
+        Move::Receive(_, RxStep::Reclaim) | Move::Transmit(_, TxStep::Reclaim) => "C6",
+        Move::Receive(_, RxStep::StoreQuiet) => "C7",
+        Move::Receive(_, RxStep::LoadQuiet) => "C8",
+        Move::Receive(_, RxStep::ClearHead) | Move::Transmit(_, TxStep::ClearHead) => "C9",
+        Move::Receive(_, RxStep::ClearTail) | Move::Transmit(_, TxStep::ClearTail) => "C10",
+        Move::Receive(_, RxStep::ClearQuiet) => "C11",
+        Move::Transmit(_, TxStep::ClearReport) => "C12",
     }
 }
