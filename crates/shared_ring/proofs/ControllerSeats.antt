@@ -1,5 +1,6 @@
 -- The controller's seat: what each of its steps asks of the table, and what the seat keeps.
 use Rattle.std.proofs.Common.{◌≡◌, ℕ, ◌+◌, ◌-◌, ◌%◌, ◌<◌, ◌≤◌, true, false, List, [], ◌∷◌, ◌++◌, length, Some, None, sym, refl, ap, ◌∙◌, subst, arith}
+use Rattle.std.specs.Prelude.{Bool, ◌==◌, if◌then◌else◌}
 use mathlib.Core.Option.{none}
 use Rattle.atomic_table.specs.Table.{Allows, step, rest}
 use Rattle.atomic_table.specs.Seated.{TableId}
@@ -9,7 +10,11 @@ use Rattle.ring_model.specs.shared.Handshakes.{is_serving}
 use Rattle.shared_ring.specs.declared.events.DriverEvent.{DriverEvent}
 use Rattle.shared_ring.specs.declared.events.ControllerEvent.{ControllerEvent}
 use Rattle.shared_ring.specs.declared.events.ControllerEvent.TheVariants as controller
+use Rattle.shared_ring.specs.declared.control.Control.{Control}
+use Rattle.shared_ring.specs.declared.control.Control.TheVariants.{Disabled, EnableAsked, Enabled, DisableAsked}
 use Rattle.shared_ring.specs.declared.events.View.{View}
+use Rattle.shared_ring.specs.Calls.{MayTell}
+use Rattle.shared_ring.specs.Words.{control_word}
 use Rattle.shared_ring.specs.declared.events.View.TheVariants.{Controller}
 use Rattle.shared_ring.specs.Ends.{Side, grown, controller_of}
 use Rattle.shared_ring.specs.Forms.{Form, control, controlling}
@@ -70,6 +75,7 @@ module _ {Ring Posted Served Given D C : Type 0} (form : Form Ring Posted Served
       words = inv.words;
       lawful = inv.lawful;
       me_is = ap (λ (xs : List (ℕ × Buffer)). let z : It = (Controller es', xs) in z) (s ∙ ap (controller_slots size) (sym e));
+      stands = tt;
     }))
 
     -- a step that leaves the slot that the controller has
@@ -162,17 +168,31 @@ module _ {Ring Posted Served Given D C : Type 0} (form : Form Ring Posted Served
             (λ q ds words homes pos l. let a = inv.law.allowed size mode q ds es words homes pos l in let f = a.controller in f.request) (λ r v. record { adds = record { seat = refl; names = refl }; told = v }))
 
         -- C3
-        pub enable-asks : (id : ℕ) → (done_by now).seen ≡ 1 → is_serving (done_by now).state ≡ false → Asks form table ring key me (stores (controller_end form) (λ n es i r b. answers r)) id (size + 2) 2
-        enable-asks id asked idle = standing.store-asks stands form (stores (controller_end form) (λ n es i r b. answers r)) id (size + 2) 2 (standing.low size mode (size + 2) (omega arith)) (may-store form size mode (controller_role (form.Lies size mode)) es id its (stores (controller_end form) (λ n es i r b. answers r)) (size + 2) 2 controller.Enabled
-            (λ q ds words homes pos l. let a = inv.law.allowed size mode q ds es words homes pos l in let f = a.controller in f.enable (sym (words-are (λ y n. y.seen)) ∙ asked) (sym (words-are (λ y n. is_serving y.state)) ∙ idle)) (record { seat = refl; names = refl }))
+        word-asks : (id : ℕ) (told : Control) → MayTell told (controller_of form now) → Asks form table ring key me (stores (controller_end form) (λ n es i r b. answers r)) id (size + 2) (control_word told)
+        word-asks id Enabled may = let m = may.0 in standing.store-asks stands form (stores (controller_end form) (λ n es i r b. answers r)) id (size + 2) 2 (standing.low size mode (size + 2) (omega arith)) (may-store form size mode (controller_role (form.Lies size mode)) es id its (stores (controller_end form) (λ n es i r b. answers r)) (size + 2) 2 controller.Enabled
+            (λ q ds words homes pos l. let a = inv.law.allowed size mode q ds es words homes pos l in let f = a.controller in f.enable (sym (words-are (λ y n. y.seen)) ∙ m.asked) (sym (words-are (λ y n. is_serving y.state)) ∙ m.idle)) (record { seat = refl; names = refl }))
+        word-asks id Disabled may = standing.store-asks stands form (stores (controller_end form) (λ n es i r b. answers r)) id (size + 2) 0 (standing.low size mode (size + 2) (omega arith)) (may-store form size mode (controller_role (form.Lies size mode)) es id its (stores (controller_end form) (λ n es i r b. answers r)) (size + 2) 0 controller.Disabled
+            (λ q ds words homes pos l. let a = inv.law.allowed size mode q ds es words homes pos l in let f = a.controller in f.disable (sym (words-are (λ y n. y.seen)) ∙ may.asked) (serves may.serving) (unheld may.held)
+            (sym (words-are (λ y n. y.head)) ∙ may.head ∙ words-are (λ y n. length y.served % n)) (here (λ n m xs. form.MayDisable (controlling form n xs)) may.may)) (record { seat = refl; names = refl }))
+        word-asks id EnableAsked may = absurd may
+        word-asks id DisableAsked may = absurd may
 
-        pub enable-slots : (done_by now).held ≡ None → controller_slots size x ≡ controller_slots size (control form size x controller.Enabled)
-        enable-slots e = ap (slots_while (length x.served % size)) (unheld e) ∙ sym (ap (slots_while (0 % size)) (unheld e))
+        pub tell-asks : (id : ℕ) (told : Control) → MayTell told (controller_of form now) → (v : ℕ) → v ≡ control_word told → Asks form table ring key me (stores (controller_end form) (λ n es i r b. answers r)) id (size + 2) v
+        tell-asks id told may v is = subst (λ (w : ℕ). Asks form table ring key me (stores (controller_end form) (λ n es i r b. answers r)) id (size + 2) w) (sym is) (word-asks id told may)
 
-        pub disable-asks : (id : ℕ) → (done_by now).seen ≡ 3 → is_serving (done_by now).state ≡ true → (done_by now).held ≡ None → (done_by now).head ≡ length (done_by now).served % now.table.slots → form.MayDisable (done_by now) → Asks form table ring key me (stores (controller_end form) (λ n es i r b. answers r)) id (size + 2) 0
-        disable-asks id asked serving none_held head may = standing.store-asks stands form (stores (controller_end form) (λ n es i r b. answers r)) id (size + 2) 0 (standing.low size mode (size + 2) (omega arith)) (may-store form size mode (controller_role (form.Lies size mode)) es id its (stores (controller_end form) (λ n es i r b. answers r)) (size + 2) 0 controller.Disabled
-            (λ q ds words homes pos l. let a = inv.law.allowed size mode q ds es words homes pos l in let f = a.controller in f.disable (sym (words-are (λ y n. y.seen)) ∙ asked) (serves serving) (unheld none_held)
-            (sym (words-are (λ y n. y.head)) ∙ head ∙ words-are (λ y n. length y.served % n)) (here (λ n m xs. form.MayDisable (controlling form n xs)) may)) (record { seat = refl; names = refl }))
+        -- nothing is held
+        pub tell-unheld : (told : Control) → MayTell told (controller_of form now) → x.held ≡ None
+        tell-unheld Enabled may = unheld may.1
+        tell-unheld Disabled may = unheld may.held
+        tell-unheld EnableAsked may = absurd may
+        tell-unheld DisableAsked may = absurd may
+
+        pub tell-slots : (v : ℕ) → x.held ≡ None → controller_slots size x ≡ controller_slots size (control form size x (answers v))
+        tell-slots v unheld_here = either (v == 2)
+          where
+            either : (b : Bool) → controller_slots size x ≡ controller_slots size (control form size x (if b then controller.Enabled else controller.Disabled))
+            either true = ap (slots_while (length x.served % size)) unheld_here ∙ sym (ap (slots_while (0 % size)) unheld_here)
+            either false = refl
 
         -- Steps of one direction's own
         module _ (event : Event (ControllerEvent C)) (word v : ℕ) where

@@ -1,5 +1,6 @@
 -- The driver's seat: what each of its steps asks of the table, and what the seat keeps.
 use Rattle.std.proofs.Common.{◌≡◌, ℕ, ◌+◌, ◌-◌, ◌%◌, ◌<◌, ◌≤◌, Bool, true, false, List, [], ◌∷◌, ◌++◌, length, sym, refl, ap, ◌∙◌, subst, arith, length-append, mod-lt}
+use Rattle.std.specs.Prelude.{◌==◌, if◌then◌else◌}
 use Rattle.std.proofs.Math.Nat.{mod-mod}
 use Rattle.std.proofs.lemmas.Bool.{false≢true}
 use mathlib.Core.Option.{none}
@@ -11,14 +12,18 @@ use Rattle.ring_model.specs.shared.Handshakes.{is_open, is_new, is_on, is_stoppe
 use Rattle.shared_ring.specs.declared.events.DriverEvent.{DriverEvent}
 use Rattle.shared_ring.specs.declared.events.DriverEvent.TheVariants as driver
 use Rattle.shared_ring.specs.declared.events.ControllerEvent.{ControllerEvent}
+use Rattle.shared_ring.specs.declared.control.Control.{Control}
+use Rattle.shared_ring.specs.declared.control.Control.TheVariants.{Disabled, EnableAsked, Enabled, DisableAsked}
 use Rattle.shared_ring.specs.declared.events.View.{View}
+use Rattle.shared_ring.specs.Calls.{MayAsk}
+use Rattle.shared_ring.specs.Words.{control_word}
 use Rattle.shared_ring.specs.declared.events.View.TheVariants.{Driver}
 use Rattle.shared_ring.specs.Ends.{Side, grown}
 use Rattle.shared_ring.specs.Forms.{Form, drive, driving}
-use Rattle.shared_ring.specs.Keeping.{IsRuled, IsDriverSeat, IsWindow}
+use Rattle.shared_ring.specs.Keeping.{IsRuled, IsDriverSeat}
 use Rattle.shared_ring.specs.Own.{Event, Tells, SameOut, OneBack, MayLoad, MayClear, MayTake, MayEnd, Missed, Came}
 use Rattle.shared_ring.specs.Plays.{Seated, IsControl, IsPlace, asks, driver_end, gives, stores, Loads, Takes, Finds}
-use Rattle.shared_ring.specs.Records.{Driven, driver_slots, undriven}
+use Rattle.shared_ring.specs.Records.{Driven, IsWindow, driver_slots, undriven}
 use Rattle.shared_ring.specs.Seats.{driver_part}
 use Rattle.shared_ring.specs.Slots.{empty_slots, front_buffer}
 use Rattle.shared_ring.specs.Tables.{IsTableOf, words_of}
@@ -76,14 +81,21 @@ module _ {Ring Posted Served Given D C : Type 0} (form : Form Ring Posted Served
       words = inv.words;
       lawful = inv.lawful;
       me_is = ap (λ (xs : List (ℕ × Buffer)). let x : It = (Driver es', xs) in x) (s ∙ ap (driver_slots size) (sym e));
-      window = subst (IsWindow size) (sym e) w;
+      stands = subst (IsWindow size) (sym e) w;
     }))
 
     -- a step that leaves what is posted and what came back
     pub same-keeps : (e : DriverEvent D) (table' : TableId) (me' : It) → table' ≡ table → me' ≡ (driver_does me e, me.1) → SameOut d (drive form d e) → IsDriverSeat form table' me' size mode
-    same-keeps e table' me' t m s = let w = inv.window in
+    same-keeps e table' me' t m s = let w = inv.stands in
         made table' me' (driver_part me.0 ++ e ∷ []) me.1 (drive form d e) t m (did (driver_part me.0) e) (slots-are ∙ sym (rw (s.posted, s.given, s.reclaimed) refl))
         (record { back = rw (s.posted, s.given, s.reclaimed) w.back; room = rw (s.posted, s.given, s.reclaimed) w.room })
+
+    pub asked-out : (v : ℕ) → SameOut d (drive form d (asks v))
+    asked-out v = either (v == 1)
+      where
+        either : (b : Bool) → SameOut d (drive form d (if b then driver.AskedEnable else driver.AskedDisable))
+        either true = record { posted = refl; given = refl; reclaimed = refl }
+        either false = record { posted = refl; given = refl; reclaimed = refl }
 
     module _ (now : End) (was : side table me ≡ now) where
       -- the record of the end after a step that its table keeps
@@ -159,7 +171,7 @@ module _ {Ring Posted Served Given D C : Type 0} (form : Form Ring Posted Served
           post-seat me' me'' put stored = stored ∙ ap (λ (m : It). let x : It = (driver_does m (driver.Posted place word (front_buffer m.1)), rest m.1) in x) put
 
           pub post-keeps : (table' : TableId) (me' me'' : It) → table' ≡ table → me' ≡ (me.0, (place, b) ∷ rest me.1) → me'' ≡ (driver_does me' (driver.Posted place word (front_buffer me'.1)), rest me'.1) → IsDriverSeat form table' me'' size mode
-          post-keeps table' me' me'' t put stored = let e = length-append d.posted (form.posting word b ∷ []) in let w = inv.window in let bk = w.back in let r = room in
+          post-keeps table' me' me'' t put stored = let e = length-append d.posted (form.posting word b ∷ []) in let w = inv.stands in let bk = w.back in let r = room in
               made table' me'' (es ++ driver.Posted place word b ∷ []) (rest me.1) (drive form d (driver.Posted place word b)) t (post-seat me' me'' put stored) (did es (driver.Posted place word b))
               (ap rest front ∙ ap (λ (j : ℕ). empty_slots size j (length d.given + d.reclaimed + size - j)) (sym e))
               (record { back = omega arith; room = omega arith })
@@ -173,20 +185,22 @@ module _ {Ring Posted Served Given D C : Type 0} (form : Form Ring Posted Served
             (λ q cs words homes pos l. let a = inv.law.allowed size mode q es cs words homes pos l in let f = a.driver in
             f.publish t (filled t at) (sym (words-are (λ x n. is_open x.state)) ∙ opened) (here (λ n m xs. form.MayPublish (driving form xs).posted) may)) (record { seat = refl; names = refl }))
 
-        -- C1
-        pub ask_enable-asks : (id : ℕ) → is_new (done_by now).state ≡ true → Asks form table ring key me (stores (driver_end form) (λ n es i r b. asks r)) id (size + 2) 1
-        ask_enable-asks id new = standing.store-asks stands form (stores (driver_end form) (λ n es i r b. asks r)) id (size + 2) 1 (standing.low size mode (size + 2) (omega arith)) (may-store form size mode (driver_role (form.Lies size mode)) es id its (stores (driver_end form) (λ n es i r b. asks r)) (size + 2) 1 driver.AskedEnable
+        -- C1, C5
+        word-asks : (id : ℕ) (request : Control) → MayAsk request (done_by now).state → Asks form table ring key me (stores (driver_end form) (λ n es i r b. asks r)) id (size + 2) (control_word request)
+        word-asks id EnableAsked new = standing.store-asks stands form (stores (driver_end form) (λ n es i r b. asks r)) id (size + 2) 1 (standing.low size mode (size + 2) (omega arith)) (may-store form size mode (driver_role (form.Lies size mode)) es id its (stores (driver_end form) (λ n es i r b. asks r)) (size + 2) 1 driver.AskedEnable
             (λ q cs words homes pos l. let a = inv.law.allowed size mode q es cs words homes pos l in let f = a.driver in f.ask_enable (sym (words-are (λ x n. is_new x.state)) ∙ new)) (record { seat = refl; names = refl }))
+        word-asks id DisableAsked on = standing.store-asks stands form (stores (driver_end form) (λ n es i r b. asks r)) id (size + 2) 3 (standing.low size mode (size + 2) (omega arith)) (may-store form size mode (driver_role (form.Lies size mode)) es id its (stores (driver_end form) (λ n es i r b. asks r)) (size + 2) 3 driver.AskedDisable
+            (λ q cs words homes pos l. let a = inv.law.allowed size mode q es cs words homes pos l in let f = a.driver in f.ask_disable (sym (words-are (λ x n. is_on x.state)) ∙ on)) (record { seat = refl; names = refl }))
+        word-asks id Disabled may = absurd may
+        word-asks id Enabled may = absurd may
+
+        pub ask-asks : (id : ℕ) (request : Control) → MayAsk request (done_by now).state → (v : ℕ) → v ≡ control_word request → Asks form table ring key me (stores (driver_end form) (λ n es i r b. asks r)) id (size + 2) v
+        ask-asks id request may v is = subst (λ (w : ℕ). Asks form table ring key me (stores (driver_end form) (λ n es i r b. asks r)) id (size + 2) w) (sym is) (word-asks id request may)
 
         -- C4
         pub control-asks : (id : ℕ) → LoadAsks form table ring key me (Loads (driver_end form) (λ n es i r b. driver.LoadedControl r) IsControl) id (size + 2)
         control-asks id = standing.load-asks stands form (Loads (driver_end form) (λ n es i r b. driver.LoadedControl r) IsControl) id (size + 2) (standing.low size mode (size + 2) (omega arith)) (may-load form size mode (driver_role (form.Lies size mode)) es id its (Loads (driver_end form) (λ n es i r b. driver.LoadedControl r) IsControl) (size + 2) driver.LoadedControl (λ r. r ≤ 3)
             (λ q cs words homes pos l. let a = inv.law.allowed size mode q es cs words homes pos l in let f = a.driver in f.control) (λ r v. record { adds = record { seat = refl; names = refl }; told = v }))
-
-        -- C5
-        pub ask_disable-asks : (id : ℕ) → is_on (done_by now).state ≡ true → Asks form table ring key me (stores (driver_end form) (λ n es i r b. asks r)) id (size + 2) 3
-        ask_disable-asks id on = standing.store-asks stands form (stores (driver_end form) (λ n es i r b. asks r)) id (size + 2) 3 (standing.low size mode (size + 2) (omega arith)) (may-store form size mode (driver_role (form.Lies size mode)) es id its (stores (driver_end form) (λ n es i r b. asks r)) (size + 2) 3 driver.AskedDisable
-            (λ q cs words homes pos l. let a = inv.law.allowed size mode q es cs words homes pos l in let f = a.driver in f.ask_disable (sym (words-are (λ x n. is_on x.state)) ∙ on)) (record { seat = refl; names = refl }))
 
         -- the load of the head
         pub head-asks : (id : ℕ) → is_stopped (done_by now).state ≡ true → LoadAsks form table ring key me (Loads (driver_end form) (λ n es i r b. driver.LoadedHead r) IsPlace) id size
@@ -235,7 +249,7 @@ module _ {Ring Posted Served Given D C : Type 0} (form : Form Ring Posted Served
 
             back-keeps : (e : DriverEvent D) (b : Buffer) (table' : TableId) (me1 me2 me3 : It) → table' ≡ table → me1 ≡ (driver_does me e, (place, b) ∷ me.1) → me2 ≡ (me1.0, (place, blank) ∷ rest me1.1) → me3 ≡ (me2.0, turned me2.1)
                 → OneBack d (drive form d e) → IsDriverSeat form table' me3 size mode
-            back-keeps e b table' me1 me2 me3 t s l r one = let w = inv.window in let bk = w.back in let rm = w.room in let o = out-is out in let g = big in let c = one.back in
+            back-keeps e b table' me1 me2 me3 t s l r one = let w = inv.stands in let bk = w.back in let rm = w.room in let o = out-is out in let g = big in let c = one.back in
                 let same : length (drive form d e).posted ≡ length d.posted = ap length one.posted in
                 made table' me3 (es ++ e ∷ []) (me.1 ++ (place, blank) ∷ []) (drive form d e) t (back-seat e b me1 me2 me3 s l r) (did es e)
                 (ap (λ (xs : List (ℕ × Buffer)). xs ++ (place, blank) ∷ []) slots-are

@@ -28,4 +28,5 @@ pub use ends::{
 };
 pub use error::RingError;
 pub use events::{ControllerEvent, DriverEvent, View};
-pub use steps::{ControllerSeat, DriverSeat, Ring, Rule};
+pub use plays::EndEvent;
+pub use steps::{ControllerSeat, DriverSeat, EndSeat, Ring, Rule};
