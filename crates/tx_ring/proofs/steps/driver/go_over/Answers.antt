@@ -23,13 +23,13 @@ end_own-requires-clause-may c = let e = c.clear_tail.new.self in
     subst (λ (n : ℕ). MayEnd tx clears_report e.table.slots e.completion e.events (n + 4)) (ap (λ s. s.table.slots) c.clear_tail.ensures ∙ ap (λ s. s.table.slots) c.clear_head.ensures ∙ sym c.size-size.ensures.value)
     (may-clear_report e.table.slots e.completion e.events (ap (λ s. by_head s.completion) c.clear_tail.ensures ∙ ap by_head (sym c.completion.ensures) ∙ sym c.is_by_head.ensures ∙ c.if-is_by_head.true) (tail-cleared (driver_of tx c.args.seat.now) (driver_of tx c.clear_head.new.self) (ap (driver_of tx) c.clear_head.ensures) (driver_of tx c.clear_tail.new.self) (ap (driver_of tx) c.clear_tail.ensures)))
 
-pub end_own-else-is_by_head-requires-clause-place : goal.end_own-else-is_by_head-requires-clause-place
-end_own-else-is_by_head-requires-clause-place c = head-place (driver_of tx c.args.seat.now) (driver_of tx c.clear_head.new.self) (ap (driver_of tx) c.clear_head.ensures) c.args.fill c.requires.place
+pub end_own-requires-else-is_by_head-clause-place : goal.end_own-requires-else-is_by_head-clause-place
+end_own-requires-else-is_by_head-clause-place c = head-place (driver_of tx c.args.seat.now) (driver_of tx c.clear_head.new.self) (ap (driver_of tx) c.clear_head.ensures) c.args.fill c.requires.place
 
-pub end_own-else-is_by_head-requires-clause-back : goal.end_own-else-is_by_head-requires-clause-back
-end_own-else-is_by_head-requires-clause-back c = head-back (driver_of tx c.args.seat.now) (driver_of tx c.clear_head.new.self) (ap (driver_of tx) c.clear_head.ensures) c.requires.back
+pub end_own-requires-else-is_by_head-clause-back : goal.end_own-requires-else-is_by_head-clause-back
+end_own-requires-else-is_by_head-clause-back c = head-back (driver_of tx c.args.seat.now) (driver_of tx c.clear_head.new.self) (ap (driver_of tx) c.clear_head.ensures) c.requires.back
 
-pub end_own-else-is_by_head-requires-clause-may : goal.end_own-else-is_by_head-requires-clause-may
-end_own-else-is_by_head-requires-clause-may c = let e = c.clear_head.new.self in
+pub end_own-requires-else-is_by_head-clause-may : goal.end_own-requires-else-is_by_head-clause-may
+end_own-requires-else-is_by_head-clause-may c = let e = c.clear_head.new.self in
     subst (λ (n : ℕ). MayEnd tx ends_epoch e.table.slots e.completion e.events (n + 1)) (ap (λ s. s.table.slots) c.clear_head.ensures ∙ sym c.size-size.ensures.value)
     (may-end_epoch e.table.slots e.completion e.events (ap by_head (sym c.completion.ensures) ∙ sym c.is_by_head.ensures ∙ c.if-is_by_head.false) (head-cleared (driver_of tx c.args.seat.now) (driver_of tx c.clear_head.new.self) (ap (driver_of tx) c.clear_head.ensures)))
