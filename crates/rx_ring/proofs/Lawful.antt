@@ -35,7 +35,7 @@ use Rattle.shared_ring.proofs.Lying.{left-lies}
 use Rattle.shared_ring.proofs.Laying.{set-same, home-full, unheld_item, index_there}
 use Rattle.shared_ring.proofs.Shaking.{control_value}
 use Rattle.rx_ring.specs.Form as form
-use Rattle.rx_ring.specs.Form.{AreOf, LeftIn, RxLies}
+use Rattle.rx_ring.specs.Form.{AreOf, RxLies}
 use Rattle.rx_ring.specs.Plays.{takes, finds_none, is_done, loads_quiet, IsBit, clears_quiet, writes_back, stores_head, says_quiet}
 use Rattle.rx_ring.specs.Plays as plays
 use Rattle.rx_ring.specs.Records.{RxDriven, RxControlled, DriverStep, ControllerStep, driving, controlling, eop_of}
@@ -275,7 +275,7 @@ module _ (n : ℕ) (mode : Completion) (ok : mode ≡ Status) (q : RxRing Bytes)
   both : AreOf n ds cs
   both = let k = keeps_it n q ds cs words homes pos l in let o = k.queue in record { queue = q; reachable = l.reachable; driver = l.driver; controller = l.controller; learnt = l.learnt; lawful = rx_lawful n q k; size_is = o.size_is }
 
-  left : (slots : List Buffer) → ((k : ℕ) (y : Buffer) → get_elem? homes k ≡ some (some y) → get_elem? slots k ≡ some y) → LeftIn n ds cs slots
+  left : (slots : List Buffer) → ((k : ℕ) (y : Buffer) → get_elem? homes k ≡ some (some y) → get_elem? slots k ≡ some y) → (form.rx).LeftIn n ds cs slots
   unfolding both
   left slots found_back = record { of_one_ring = both; buffers = left-lies says lies_there n (n + 4) q.queue q.quiet words homes l.lies slots found_back }
 

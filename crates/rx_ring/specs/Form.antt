@@ -10,10 +10,10 @@ use Rattle.ring_model.specs.receive.Steps.{IsRxReachable}
 use Rattle.ring_model.specs.receive.Lawful.{IsLawfulRx}
 use Rattle.ring_model.specs.shared.Frames.{Bytes, ends_frame}
 use Rattle.shared_ring.specs.Forms.{Form}
-use Rattle.shared_ring.specs.Lies.{driven, IsControlled, AllLeft}
+use Rattle.shared_ring.specs.Lies.{driven, IsControlled, LeftOf}
 use Rattle.rx_ring.specs.declared.events.RxDriverOwn.{RxDriverOwn}
 use Rattle.rx_ring.specs.declared.events.RxControllerOwn.{RxControllerOwn}
-use Rattle.rx_ring.specs.Records.{DriverStep, ControllerStep, driving, controlling, Knowing, unknown, saw_head, know_own, knowing, posting, drive_own, control_own, driver_names, controller_names}
+use Rattle.rx_ring.specs.Records.{DriverStep, ControllerStep, driving, controlling, Knowing, knowing, reading}
 use Rattle.rx_ring.specs.Rule.{Learnt, LiesAs, says, lies_there}
 
 -- both records are those of one lawful ring that a schedule makes, of which the driver has learnt what it says
@@ -26,11 +26,6 @@ pub record AreOf (n : ℕ) (ds : List DriverStep) (cs : List ControllerStep) : T
   pub lawful : IsLawfulRx Bytes queue
   pub size_is : queue.size ≡ n
 
--- what lies in the slots as the table is closed: the buffer of each item that is out and not held
-pub record LeftIn (n : ℕ) (ds : List DriverStep) (cs : List ControllerStep) (slots : List Buffer) : Type 0 where
-  pub of_one_ring : AreOf n ds cs
-  pub buffers : AllLeft lies_there n of_one_ring.queue.queue slots
-
 -- a receive ring reports by its descriptors
 pub record RxLies (n : ℕ) (mode : Completion) (q : RxRing Bytes) (ds : List DriverStep) (cs : List ControllerStep) (words : List ℕ) (homes : List (maybe.Option Buffer)) : Type 0 where
   pub reports : mode ≡ Status
@@ -39,15 +34,7 @@ pub record RxLies (n : ℕ) (mode : Completion) (q : RxRing Bytes) (ds : List Dr
 -- an empty buffer is posted, and comes back with its number
 abbrev pub rx : Form (RxRing Bytes) ℕ (Segment Bytes) (Segment Bytes) RxDriverOwn RxControllerOwn
 rx = record {
-  posting = posting;
-  drive_own = drive_own;
-  control_own = control_own;
-  driver_names = driver_names;
-  controller_names = controller_names;
-  Known = Knowing;
-  unknown = unknown;
-  saw_head = saw_head;
-  know_own = know_own;
+  reading = reading;
   carries = piece_of;
   Reports = λ mode. mode ≡ Status;
   MayPost = λ n xs word b. (word ≡ 0) × (b ≡ buffer b.number []);
@@ -58,5 +45,5 @@ rx = record {
   IsOf = λ k b. (k ≡ b.number) × (b ≡ buffer b.number b.bytes);
   Lies = RxLies;
   AreOf = AreOf;
-  LeftIn = LeftIn;
+  LeftIn = λ n ds cs slots. LeftOf (AreOf n ds cs) (λ a. a.queue.queue) lies_there n slots;
 }

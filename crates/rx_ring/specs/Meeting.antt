@@ -6,7 +6,7 @@ use Rattle.ring_model.specs.declared.states.Completion.TheVariants.{Status}
 use Rattle.ring_model.specs.receive.Ring.{RxLedger}
 use Rattle.ring_model.specs.shared.Frames.{Bytes}
 use Rattle.shared_ring.specs.Meeting as shared
-pub use Rattle.shared_ring.specs.Meeting.{is_unanswered, served_now as stored_now, Met, IsReal, AllReal, CameBackFrom, numbers_at}
+pub use Rattle.shared_ring.specs.Meeting.{is_unanswered, served_now as stored_now, Met, IsReal, AllReal, CameBackFrom, IsOutAt, numbers_at}
 use Rattle.rx_ring.specs.Ends.{DriverSide, driver_size, posted, taken, returned, ControllerSide}
 use Rattle.rx_ring.specs.Form.{AreOf}
 
@@ -34,9 +34,8 @@ AllCameBack d c buffers = shared.AllCameBack (λ number. number) d c buffers
 pub record GaveBack (d : DriverSide) (buffers : List (Option Buffer)) (place : ℕ) : Type 0 where
   pub item : ℕ
   pub buf : Buffer
-  pub out : returned d ≤ item
-  pub posted_item : item < length (posted d)
-  pub place_is : item % driver_size d ≡ place
+  pub is_out : IsOutAt d item place
+  pub open is_out use *
   pub there : slice_get buffers place ≡ Some (Some buf)
   pub number : slice_get (posted d) item ≡ Some buf.number
 

@@ -7,6 +7,7 @@ use Rattle.ring_model.specs.shared.Segments.{Segment}
 use Rattle.shared_ring.specs.declared.events.DriverEvent.{DriverEvent}
 use Rattle.shared_ring.specs.declared.events.ControllerEvent.{ControllerEvent}
 use Rattle.shared_ring.specs.Accesses.{Access, access}
+use Rattle.shared_ring.specs.Forms.{Reading}
 use Rattle.shared_ring.specs.Records as shared
 use Rattle.shared_ring.specs.Records.{Driven, Controlled, undriven, uncontrolled}
 use Rattle.rx_ring.specs.declared.events.RxDriverOwn.{RxDriverOwn}
@@ -95,3 +96,16 @@ know = shared.know posting drive_own saw_head know_own
 
 abbrev pub knowing : List DriverStep → Knowing
 knowing es = shared.knowing_from posting drive_own saw_head know_own undriven unknown es
+
+abbrev pub reading : Reading ℕ (Segment Bytes) (Segment Bytes) RxDriverOwn RxControllerOwn
+reading = record {
+  posting = posting;
+  drive_own = drive_own;
+  control_own = control_own;
+  driver_names = driver_names;
+  controller_names = controller_names;
+  Known = Knowing;
+  unknown = unknown;
+  saw_head = saw_head;
+  know_own = know_own;
+}

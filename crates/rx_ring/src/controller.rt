@@ -18,7 +18,7 @@ ghost use Rattle.rx_ring.specs.Calls.{IsFreshController, FoundFree, Fetched, May
 use crate::direction::{RxControllerSeat, RxRule};
 use crate::events::{RxControllerOwn, RxDriverOwn};
 use crate::ring::RxRing;
-use crate::steps;
+use crate::steps::{self, HeadStore};
 use buffer_pool::Buf;
 use ring_model::place_after;
 use shared_ring::{ControllerEnd, ControllerLoad, ControllerPlaces};
@@ -115,7 +115,8 @@ impl RxControllerEnd {
         ensures step { self.new ≡ answered self.old (StoredHead (serve_place self.old)) }
         ensures record { controller_record self.new ≡ record (controller_record self.old) { head = serve_place self.old } }
     {
-        steps::set_head(&mut self.seat, &ring.0, self.at.serve);
+        let word = self.at.size as usize;
+        self.seat.store_own::<HeadStore>(&ring.0, word, self.at.serve as u64);
         self.head = self.at.serve;
     }
 

@@ -3,5 +3,5 @@
 mod controller;
 mod driver;
 
-pub(crate) use controller::{say_quiet, set_head, write_back};
-pub(crate) use driver::{clear_quiet, load_quiet, take};
+pub(crate) use controller::{HeadStore, say_quiet, write_back};
+pub(crate) use driver::{ClearQuietStore, load_quiet, take};

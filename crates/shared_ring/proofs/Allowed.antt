@@ -12,15 +12,12 @@ use Rattle.shared_ring.specs.declared.events.DriverEvent.{DriverEvent}
 use Rattle.shared_ring.specs.declared.events.ControllerEvent.{ControllerEvent}
 use Rattle.shared_ring.specs.Forms.{Form}
 use Rattle.shared_ring.specs.Keeping.{IsRuled}
-use Rattle.shared_ring.specs.Plays.{Seated}
+use Rattle.shared_ring.specs.Plays.{SeatOf}
 use Rattle.shared_ring.specs.Tables.{words_of}
 use Rattle.shared_ring.proofs.Allowing.{Role, Goes, allow_end}
 use Rattle.shared_ring.proofs.Laying.{set-same}
 
 module _ {Ring Posted Served Given D C : Type 0} (form : Form Ring Posted Served Given D C) (n : ℕ) (mode : Completion) {E O : Type 0} (role : Role (form.Lies n mode) E O) (es : List E) where
-  abbrev It : Type 0
-  It = Seated (DriverEvent D) (ControllerEvent C)
-
   -- what goes wherever words, slots and this record agree; and that they agree again
   abbrev pub Going : (List O → List ℕ → List (maybe.Option Buffer) → Type 0) → Type 0
   Going X = (q : Ring) (os : List O) (words : List ℕ) (homes : List (maybe.Option Buffer)) → 1 < n → role.Lie q es os words homes → X os words homes
@@ -32,7 +29,7 @@ module _ {Ring Posted Served Given D C : Type 0} (form : Form Ring Posted Served
   same-words : (e : E) (os : List O) (words : List ℕ) (homes : List (maybe.Option Buffer)) (i : ℕ) (q : Ring) → role.Lie q (es ++ e ∷ []) os words homes → role.Lie q (es ++ e ∷ []) os (slice_set words i (slice_index words i)) homes
   same-words e os words homes i q l = subst (λ (ws : List ℕ). role.Lie q (es ++ e ∷ []) os ws homes) (sym (set-same words i)) l
 
-  module _ (id : ℕ) (slots : List (ℕ × Buffer)) (T : Step Buffer → It → ℕ → It → Type 0) (i : ℕ) where
+  module _ (id : ℕ) (slots : List (ℕ × Buffer)) (T : Step Buffer → SeatOf D C → ℕ → SeatOf D C → Type 0) (i : ℕ) where
     pub may-store : (v : ℕ) (e : E) → Going (λ os words homes. Agree e os (slice_set words i v) homes) → T (step n i v 0 none) (role.view es, slots) v (role.view (es ++ e ∷ []), slots)
         → Allows (IsRuled form n mode) n id (role.view es, slots) i (λ _. v) (λ _ m. T (step n i v 0 none) (role.view es, slots) v m)
     may-store v e goes told = allow_end (form.Lies n mode) n (words_of n mode) role id es slots i (λ _. v) (λ _ m. T (step n i v 0 none) (role.view es, slots) v m)
@@ -96,7 +93,7 @@ module _ {Ring Posted Served Given D C : Type 0} (form : Form Ring Posted Served
     may-take e Told goes told = may-find (λ _. true) (λ r. e r blank) e Told (λ q os words homes pos l f. absurd (true≢false f)) (λ q os words homes pos l f. goes q os words homes pos l) (λ r f. absurd (true≢false f)) (λ r b f t. told r b t)
 
   -- a store that gives the slot taken last back
-  pub may-give : (id : ℕ) (slots : List (ℕ × Buffer)) (T : Step Buffer → It → ℕ → It → Type 0) (i v p : ℕ) (b : Buffer) (e : E)
+  pub may-give : (id : ℕ) (slots : List (ℕ × Buffer)) (T : Step Buffer → SeatOf D C → ℕ → SeatOf D C → Type 0) (i v p : ℕ) (b : Buffer) (e : E)
       → Going (λ os words homes. Agree e os (slice_set words i v) (slice_set homes p (some b))) → T (step n i v 0 none) (role.view es, (p, b) ∷ slots) v (role.view (es ++ e ∷ []), slots)
       → Allows (IsRuled form n mode) n id (role.view es, (p, b) ∷ slots) i (λ _. v) (λ _ m. T (step n i v 0 none) (role.view es, (p, b) ∷ slots) v m)
   may-give id slots T i v p b e goes told = allow_end (form.Lies n mode) n (words_of n mode) role id es ((p, b) ∷ slots) i (λ _. v) (λ _ m. T (step n i v 0 none) (role.view es, (p, b) ∷ slots) v m)

@@ -11,10 +11,10 @@ use Rattle.ring_model.specs.kept.Queues.{IsKept}
 use Rattle.shared_ring.specs.declared.ends.DriverPlaces.{DriverPlaces}
 use Rattle.shared_ring.specs.declared.ends.ControllerPlaces.{ControllerPlaces}
 use Rattle.shared_ring.specs.Calls.{IsPoster, IsServer}
-use Rattle.shared_ring.specs.Ends.{DriverSide, driver_size, driver_record, posted, returned, ControllerSide, controller_size, controller_record, held}
+use Rattle.shared_ring.specs.Ends.{DriverSide, driver_size, driver_record, posted, ControllerSide, controller_size, controller_record, held}
 use Rattle.shared_ring.specs.Forms.{Form, controlling}
 use Rattle.shared_ring.specs.Lies.{driven, IsControlled, AllLeft}
-use Rattle.shared_ring.specs.Meeting.{IsReal, AllReal, AllCameBack, CameBackFrom, kept_at, kept_upto, number_at, numbers_at}
+use Rattle.shared_ring.specs.Meeting.{IsReal, AllReal, AllCameBack, CameBackFrom, IsOutAt, kept_at, kept_upto, number_at, numbers_at}
 use Rattle.shared_ring.specs.Records.{Driven}
 use Rattle.shared_ring.proofs.Closing.{IsPlaced, closes, kept-count, kept-there, kept-else, kept-all, kept-once}
 
@@ -61,7 +61,7 @@ module _ {Ring Posted Served Given D C : Type 0} {form : Form Ring Posted Served
   abbrev buffers : List (Option Buffer)
   buffers = kept_upto (kept_at (driver_size d) at.next at.out places.serve places.holding slots) (driver_size d)
 
-  given-back : (Gave : ℕ → Type 0) → ((place k : ℕ) (x : Posted) (b : Buffer) → returned d ≤ k → k < length (posted d) → k % driver_size d ≡ place → slice_get buffers place ≡ Some (Some b) → slice_get (posted d) k ≡ Some x → form.IsOf x b → Gave place)
+  given-back : (Gave : ℕ → Type 0) → ((place k : ℕ) (x : Posted) (b : Buffer) → IsOutAt d k place → slice_get buffers place ≡ Some (Some b) → slice_get (posted d) k ≡ Some x → form.IsOf x b → Gave place)
       → CameBackFrom (driver_size d) owners Gave buffers
   given-back Gave gave = record {
     count = kept-count kept lawful size_is big placed slots Lies Is buffer-of left;
@@ -70,7 +70,8 @@ module _ {Ring Posted Served Given D C : Type 0} {form : Form Ring Posted Served
   }
     where
       found : (place : ℕ) → ((k : ℕ) × (b : Buffer) × ((returned_count q ≤ k) × (k < posted_count q) × (k % driver_size d ≡ place) × (slice_get buffers place ≡ Some (Some b)) × Is k b)) → Gave place
-      found place (k, b, f) = let x = f.4 in gave place k x.0 b (subst (λ (z : Driven Posted Given). length z.given + z.reclaimed ≤ k) (sym did) f.0) (subst (λ (z : Driven Posted Given). k < length z.posted) (sym did) f.1) f.2 f.3 x.1.0 x.1.1
+      found place (k, b, f) = let x = f.4 in gave place k x.0 b
+          (record { out = subst (λ (z : Driven Posted Given). length z.given + z.reclaimed ≤ k) (sym did) f.0; posted_item = subst (λ (z : Driven Posted Given). k < length z.posted) (sym did) f.1; place_is = f.2 }) f.3 x.1.0 x.1.1
 
   all-real : AllReal buffers
   unfolding buffer-of
@@ -90,6 +91,6 @@ module _ {Ring Posted Served Given D C : Type 0} {form : Form Ring Posted Served
       (λ yes x is. held-here ∙ ap (λ (b : Bool). number_at (if b then lies (slice_get q.ledger.posted (served_count q)) None else None)) yes ∙ ap (λ (o : Option Posted). number_at (lies o None)) is
       ∙ (let b = fresh x in ap number_at b.1.0 ∙ ap (λ (j : ℕ). j ∷ []) b.1.1)))
 
-  pub comes-back : (Gave : ℕ → Type 0) → ((place k : ℕ) (x : Posted) (b : Buffer) → returned d ≤ k → k < length (posted d) → k % driver_size d ≡ place → slice_get buffers place ≡ Some (Some b) → slice_get (posted d) k ≡ Some x → form.IsOf x b → Gave place)
+  pub comes-back : (Gave : ℕ → Type 0) → ((place k : ℕ) (x : Posted) (b : Buffer) → IsOutAt d k place → slice_get buffers place ≡ Some (Some b) → slice_get (posted d) k ≡ Some x → form.IsOf x b → Gave place)
       → CameBackFrom (driver_size d) owners Gave buffers × AllReal buffers × AllCameBack number d c buffers
   comes-back Gave gave = (given-back Gave gave, all-real, all-once)

@@ -1,5 +1,6 @@
 -- The controller's seat: what each of its steps asks of the table, and what the seat keeps.
 use Rattle.std.proofs.Common.{◌≡◌, ℕ, ◌+◌, ◌-◌, ◌%◌, ◌<◌, ◌≤◌, true, false, List, [], ◌∷◌, ◌++◌, length, Some, None, sym, refl, ap, ◌∙◌, subst, arith}
+use Rattle.std.specs.Prelude.{Bool, ◌==◌, if◌then◌else◌}
 use mathlib.Core.Option.{none}
 use Rattle.atomic_table.specs.Table.{Allows, step, rest}
 use Rattle.atomic_table.specs.Seated.{TableId}
@@ -9,13 +10,17 @@ use Rattle.ring_model.specs.shared.Handshakes.{is_serving}
 use Rattle.shared_ring.specs.declared.events.DriverEvent.{DriverEvent}
 use Rattle.shared_ring.specs.declared.events.ControllerEvent.{ControllerEvent}
 use Rattle.shared_ring.specs.declared.events.ControllerEvent.TheVariants as controller
+use Rattle.shared_ring.specs.declared.control.Control.{Control}
+use Rattle.shared_ring.specs.declared.control.Control.TheVariants.{Disabled, EnableAsked, Enabled, DisableAsked}
 use Rattle.shared_ring.specs.declared.events.View.{View}
+use Rattle.shared_ring.specs.Calls.{MayTell}
+use Rattle.shared_ring.specs.Words.{control_word}
 use Rattle.shared_ring.specs.declared.events.View.TheVariants.{Controller}
 use Rattle.shared_ring.specs.Ends.{Side, grown, controller_of}
 use Rattle.shared_ring.specs.Forms.{Form, control, controlling}
 use Rattle.shared_ring.specs.Keeping.{IsRuled, IsControllerSeat}
 use Rattle.shared_ring.specs.Own.{Event, MayStore, MayGive}
-use Rattle.shared_ring.specs.Plays.{Seated, IsControl, IsTail, IsNext, answers, controller_end, gives, stores, Loads, Takes}
+use Rattle.shared_ring.specs.Plays.{SeatOf, longer, IsControl, IsTail, IsNext, answers, controller_end, gives, stores, Loads, Takes}
 use Rattle.shared_ring.specs.Records.{Controlled, controller_slots, uncontrolled, count_at}
 use Rattle.shared_ring.specs.Seats.{controller_part}
 use Rattle.shared_ring.specs.Slots.{slots_while, front_buffer}
@@ -24,19 +29,12 @@ use Rattle.shared_ring.specs.Tables.{IsTableOf, words_of}
 use Rattle.shared_ring.proofs.Allowing.{controller_role}
 use Rattle.shared_ring.proofs.Allowed.{may-store, may-load, may-take, may-give}
 use Rattle.shared_ring.proofs.Standing as standing
-use Rattle.shared_ring.proofs.Standing.{Asks, LoadAsks, front-is}
+use Rattle.shared_ring.proofs.Standing.{as-made, Asks, LoadAsks, front-is}
 use Rattle.shared_ring.proofs.Folds.{controlling-snoc}
 
 module _ {Ring Posted Served Given D C : Type 0} (form : Form Ring Posted Served Given D C) where
-  abbrev It : Type 0
-  It = Seated (DriverEvent D) (ControllerEvent C)
-
   abbrev End : Type 0
   End = Side (ControllerEvent C)
-
-  -- the view with one more event in the controller's record
-  abbrev controller_does : It → ControllerEvent C → View (DriverEvent D) (ControllerEvent C)
-  controller_does m e = Controller (controller_part m.0 ++ e ∷ [])
 
   abbrev done_by : End → Controlled Served
   done_by s = controlling form s.table.slots s.events
@@ -44,7 +42,7 @@ module _ {Ring Posted Served Given D C : Type 0} (form : Form Ring Posted Served
   did : (n : ℕ) (es : List (ControllerEvent C)) (e : ControllerEvent C) → controlling form n (es ++ e ∷ []) ≡ control form n (controlling form n es) e
   did n es e = controlling-snoc n form.control_own uncontrolled es e
 
-  module _ (table : TableId) (me : It) (size : ℕ) (mode : Completion) (inv : IsControllerSeat form table me size mode) where
+  module _ (table : TableId) (me : SeatOf D C) (size : ℕ) (mode : Completion) (inv : IsControllerSeat form table me size mode) where
     abbrev es : List (ControllerEvent C)
     es = controller_part me.0
 
@@ -54,34 +52,28 @@ module _ {Ring Posted Served Given D C : Type 0} (form : Form Ring Posted Served
     abbrev its : List (ℕ × Buffer)
     its = controller_slots size (controlling form size (controller_part me.0))
 
-    abbrev side : TableId → It → End
+    abbrev side : TableId → SeatOf D C → End
     side t m = record { table = t; completion = mode; events = controller_part m.0 }
 
     view-is : me.0 ≡ Controller (controller_part me.0)
-    view-is = ap (λ (m : It). m.0) inv.me_is
+    view-is = ap (λ (m : SeatOf D C). m.0) inv.me_is
 
     slots-are : me.1 ≡ controller_slots size (controlling form size (controller_part me.0))
-    slots-are = ap (λ (m : It). m.1) inv.me_is
+    slots-are = ap (λ (m : SeatOf D C). m.1) inv.me_is
 
-    made : (table' : TableId) (me' : It) (es' : List (ControllerEvent C)) (slots' : List (ℕ × Buffer)) (x' : Controlled Served) → table' ≡ table → me' ≡ (Controller es', slots') → controlling form size es' ≡ x' → slots' ≡ controller_slots size x' → IsControllerSeat form table' me' size mode
-    made table' me' es' slots' x' t m e s = subst (λ (z : TableId). IsControllerSeat form z me' size mode) (sym t) (subst (λ (z : It). IsControllerSeat form table z size mode) (sym m) (record {
-      law = inv.law;
-      size_is = inv.size_is;
-      words = inv.words;
-      lawful = inv.lawful;
-      me_is = ap (λ (xs : List (ℕ × Buffer)). let z : It = (Controller es', xs) in z) (s ∙ ap (controller_slots size) (sym e));
-    }))
+    made : (table' : TableId) (me' : SeatOf D C) (es' : List (ControllerEvent C)) (slots' : List (ℕ × Buffer)) (x' : Controlled Served) → table' ≡ table → me' ≡ (Controller es', slots') → controlling form size es' ≡ x' → slots' ≡ controller_slots size x' → IsControllerSeat form table' me' size mode
+    made table' me' es' slots' x' t m e s = as-made table table' me me' (Controller es', slots') size mode inv t m (ap (λ (xs : List (ℕ × Buffer)). let x : SeatOf D C = (Controller es', xs) in x) (s ∙ ap (controller_slots size) (sym e))) tt
 
     -- a step that leaves the slot that the controller has
-    pub same-keeps : (e : ControllerEvent C) (table' : TableId) (me' : It) → table' ≡ table → me' ≡ (controller_does me e, me.1) → controller_slots size x ≡ controller_slots size (control form size x e) → IsControllerSeat form table' me' size mode
+    pub same-keeps : (e : ControllerEvent C) (table' : TableId) (me' : SeatOf D C) → table' ≡ table → me' ≡ (longer (controller_end form) me e, me.1) → controller_slots size x ≡ controller_slots size (control form size x e) → IsControllerSeat form table' me' size mode
     same-keeps e table' me' t m s = made table' me' (es ++ e ∷ []) me.1 (control form size x e) t m (did size es e) (slots-are ∙ s)
 
     module _ (now : End) (was : side table me ≡ now) where
-      one-more : (e : ControllerEvent C) (table' : TableId) (me' : It) (slots' : List (ℕ × Buffer)) → table' ≡ table → me' ≡ (Controller (es ++ e ∷ []), slots') → side table' me' ≡ grown now e
+      one-more : (e : ControllerEvent C) (table' : TableId) (me' : SeatOf D C) (slots' : List (ℕ × Buffer)) → table' ≡ table → me' ≡ (Controller (es ++ e ∷ []), slots') → side table' me' ≡ grown now e
       one-more e table' me' slots' t m =
-          ap (λ (z : It). side table' z) m ∙ ap (λ (z : TableId). let s : End = record { table = z; completion = mode; events = es ++ e ∷ [] } in s) t ∙ ap (λ (s : End). grown s e) was
+          ap (λ (z : SeatOf D C). side table' z) m ∙ ap (λ (z : TableId). let s : End = record { table = z; completion = mode; events = es ++ e ∷ [] } in s) t ∙ ap (λ (s : End). grown s e) was
 
-      pub same-steps : (e : ControllerEvent C) (table' : TableId) (me' : It) → table' ≡ table → me' ≡ (controller_does me e, me.1) → side table' me' ≡ grown now e
+      pub same-steps : (e : ControllerEvent C) (table' : TableId) (me' : SeatOf D C) → table' ≡ table → me' ≡ (longer (controller_end form) me e, me.1) → side table' me' ≡ grown now e
       same-steps e table' me' t m = one-more e table' me' me.1 t m
 
       -- what a contract says of the end goes for the record
@@ -119,10 +111,10 @@ module _ {Ring Posted Served Given D C : Type 0} (form : Form Ring Posted Served
             (λ q ds words homes pos l. let a = inv.law.allowed size mode q ds es words homes pos l in let f = a.controller in let g = f.look (serves serving) in ((g.0, g.1), g.2)) (λ r t. record { adds = record { seat = refl; names = refl }; told = record { below = t.0; grows = t.1 } }))
 
         -- a tail is a place
-        pub look-fits : (r : ℕ) (me' : It) → Loads (controller_end form) (λ n es i r b. controller.Looked r) (IsTail form) (step ring.slots (size + 1) 0 0 none) me r me' → r < size
+        pub look-fits : (r : ℕ) (me' : SeatOf D C) → Loads (controller_end form) (λ n es i r b. controller.Looked r) (IsTail form) (step ring.slots (size + 1) 0 0 none) me r me' → r < size
         look-fits r me' t = let b = t.told.below in let c = counts in omega arith
 
-        pub look-steps : (r : ℕ) (table' : TableId) (me' : It) → table' ≡ table → Loads (controller_end form) (λ n es i r b. controller.Looked r) (IsTail form) (step ring.slots (size + 1) 0 0 none) me r me' → FoundTail (controller_of form now) r (controller_of form (side table' me'))
+        pub look-steps : (r : ℕ) (table' : TableId) (me' : SeatOf D C) → table' ≡ table → Loads (controller_end form) (λ n es i r b. controller.Looked r) (IsTail form) (step ring.slots (size + 1) 0 0 none) me r me' → FoundTail (controller_of form now) r (controller_of form (side table' me'))
         look-steps r table' me' t told = record {
           step = ap (controller_of form) (same-steps (controller.Looked r) table' me' t told.adds.seat);
           below = back-there (λ n m xs. r < n) (subst (λ (n : ℕ). r < n) counts told.told.below);
@@ -141,17 +133,17 @@ module _ {Ring Posted Served Given D C : Type 0} (form : Form Ring Posted Served
         no-slots : (done_by now).held ≡ None → me.1 ≡ []
         no-slots e = slots-are ∙ ap (slots_while (length x.served % size)) (unheld e)
 
-        fetch-seat : (place r : ℕ) (b : Buffer) (me1 me2 : It) → me1 ≡ (controller_does me (controller.Fetched place r b), (place, b) ∷ me.1) → me2 ≡ (me1.0, (place, blank) ∷ rest me1.1) → me2 ≡ (Controller (es ++ controller.Fetched place r b ∷ []), (place, blank) ∷ me.1)
-        fetch-seat place r b me1 me2 fetched left = left ∙ ap (λ (m : It). let y : It = (m.0, (place, blank) ∷ rest m.1) in y) fetched
+        fetch-seat : (place r : ℕ) (b : Buffer) (me1 me2 : SeatOf D C) → me1 ≡ (longer (controller_end form) me (controller.Fetched place r b), (place, b) ∷ me.1) → me2 ≡ (me1.0, (place, blank) ∷ rest me1.1) → me2 ≡ (Controller (es ++ controller.Fetched place r b ∷ []), (place, blank) ∷ me.1)
+        fetch-seat place r b me1 me2 fetched left = left ∙ ap (λ (m : SeatOf D C). let y : SeatOf D C = (m.0, (place, blank) ∷ rest m.1) in y) fetched
 
-        module _ (place r : ℕ) (table' : TableId) (me1 me2 : It) (same : table' ≡ table) (t : Takes (controller_end form) (λ n es p r b. controller.Fetched p r b) (IsNext form) (step ring.slots place 0 0 none) me r me1) (left : me2 ≡ (me1.0, (place, blank) ∷ rest me1.1)) where
+        module _ (place r : ℕ) (table' : TableId) (me1 me2 : SeatOf D C) (same : table' ≡ table) (t : Takes (controller_end form) (λ n es p r b. controller.Fetched p r b) (IsNext form) (step ring.slots place 0 0 none) me r me1) (left : me2 ≡ (me1.0, (place, blank) ∷ rest me1.1)) where
           pub fetch-keeps : place ≡ length (done_by now).served % now.table.slots → (done_by now).held ≡ None → IsControllerSeat form table' me2 size mode
           fetch-keeps at none_held =
               made table' me2 (es ++ controller.Fetched place r t.buf ∷ []) ((place, blank) ∷ me.1) (control form size x (controller.Fetched place r t.buf)) same (fetch-seat place r t.buf me1 me2 t.adds.seat left) (did size es (controller.Fetched place r t.buf))
               (ap (λ (xs : List (ℕ × Buffer)). (place, blank) ∷ xs) (no-slots none_held) ∙ ap (λ (j : ℕ). (j, blank) ∷ []) (at-serve place at))
 
           pub fetch-steps : (c : Buffer) → c ≡ front_buffer me1.1 → CameOut (controller_of form now) place c r (controller_of form (side table' me2))
-          fetch-steps c got = subst (λ (y : Buffer). CameOut (controller_of form now) place y r (controller_of form (side table' me2))) (sym (got ∙ ap (λ (m : It). front_buffer m.1) t.adds.seat)) (record {
+          fetch-steps c got = subst (λ (y : Buffer). CameOut (controller_of form now) place y r (controller_of form (side table' me2))) (sym (got ∙ ap (λ (m : SeatOf D C). front_buffer m.1) t.adds.seat)) (record {
             step = ap (controller_of form) (one-more (controller.Fetched place r t.buf) table' me2 ((place, blank) ∷ me.1) same (fetch-seat place r t.buf me1 me2 t.adds.seat left));
             fetched = back-there (λ n m xs. form.IsFetched n (controlling form n xs) r t.buf) (subst (λ (n : ℕ). form.IsFetched n (controlling form n es) r t.buf) counts t.told);
           })
@@ -162,17 +154,31 @@ module _ {Ring Posted Served Given D C : Type 0} (form : Form Ring Posted Served
             (λ q ds words homes pos l. let a = inv.law.allowed size mode q ds es words homes pos l in let f = a.controller in f.request) (λ r v. record { adds = record { seat = refl; names = refl }; told = v }))
 
         -- C3
-        pub enable-asks : (id : ℕ) → (done_by now).seen ≡ 1 → is_serving (done_by now).state ≡ false → Asks form table ring key me (stores (controller_end form) (λ n es i r b. answers r)) id (size + 2) 2
-        enable-asks id asked idle = standing.store-asks stands form (stores (controller_end form) (λ n es i r b. answers r)) id (size + 2) 2 (standing.low size mode (size + 2) (omega arith)) (may-store form size mode (controller_role (form.Lies size mode)) es id its (stores (controller_end form) (λ n es i r b. answers r)) (size + 2) 2 controller.Enabled
-            (λ q ds words homes pos l. let a = inv.law.allowed size mode q ds es words homes pos l in let f = a.controller in f.enable (sym (words-are (λ y n. y.seen)) ∙ asked) (sym (words-are (λ y n. is_serving y.state)) ∙ idle)) (record { seat = refl; names = refl }))
+        word-asks : (id : ℕ) (told : Control) → MayTell told (controller_of form now) → Asks form table ring key me (stores (controller_end form) (λ n es i r b. answers r)) id (size + 2) (control_word told)
+        word-asks id Enabled may = let m = may.0 in standing.store-asks stands form (stores (controller_end form) (λ n es i r b. answers r)) id (size + 2) 2 (standing.low size mode (size + 2) (omega arith)) (may-store form size mode (controller_role (form.Lies size mode)) es id its (stores (controller_end form) (λ n es i r b. answers r)) (size + 2) 2 controller.Enabled
+            (λ q ds words homes pos l. let a = inv.law.allowed size mode q ds es words homes pos l in let f = a.controller in f.enable (sym (words-are (λ y n. y.seen)) ∙ m.asked) (sym (words-are (λ y n. is_serving y.state)) ∙ m.idle)) (record { seat = refl; names = refl }))
+        word-asks id Disabled may = standing.store-asks stands form (stores (controller_end form) (λ n es i r b. answers r)) id (size + 2) 0 (standing.low size mode (size + 2) (omega arith)) (may-store form size mode (controller_role (form.Lies size mode)) es id its (stores (controller_end form) (λ n es i r b. answers r)) (size + 2) 0 controller.Disabled
+            (λ q ds words homes pos l. let a = inv.law.allowed size mode q ds es words homes pos l in let f = a.controller in f.disable (sym (words-are (λ y n. y.seen)) ∙ may.asked) (serves may.serving) (unheld may.held)
+            (sym (words-are (λ y n. y.head)) ∙ may.head ∙ words-are (λ y n. length y.served % n)) (here (λ n m xs. form.MayDisable (controlling form n xs)) may.may)) (record { seat = refl; names = refl }))
+        word-asks id EnableAsked may = absurd may
+        word-asks id DisableAsked may = absurd may
 
-        pub enable-slots : (done_by now).held ≡ None → controller_slots size x ≡ controller_slots size (control form size x controller.Enabled)
-        enable-slots e = ap (slots_while (length x.served % size)) (unheld e) ∙ sym (ap (slots_while (0 % size)) (unheld e))
+        pub tell-asks : (id : ℕ) (told : Control) → MayTell told (controller_of form now) → (v : ℕ) → v ≡ control_word told → Asks form table ring key me (stores (controller_end form) (λ n es i r b. answers r)) id (size + 2) v
+        tell-asks id told may v is = subst (λ (w : ℕ). Asks form table ring key me (stores (controller_end form) (λ n es i r b. answers r)) id (size + 2) w) (sym is) (word-asks id told may)
 
-        pub disable-asks : (id : ℕ) → (done_by now).seen ≡ 3 → is_serving (done_by now).state ≡ true → (done_by now).held ≡ None → (done_by now).head ≡ length (done_by now).served % now.table.slots → form.MayDisable (done_by now) → Asks form table ring key me (stores (controller_end form) (λ n es i r b. answers r)) id (size + 2) 0
-        disable-asks id asked serving none_held head may = standing.store-asks stands form (stores (controller_end form) (λ n es i r b. answers r)) id (size + 2) 0 (standing.low size mode (size + 2) (omega arith)) (may-store form size mode (controller_role (form.Lies size mode)) es id its (stores (controller_end form) (λ n es i r b. answers r)) (size + 2) 0 controller.Disabled
-            (λ q ds words homes pos l. let a = inv.law.allowed size mode q ds es words homes pos l in let f = a.controller in f.disable (sym (words-are (λ y n. y.seen)) ∙ asked) (serves serving) (unheld none_held)
-            (sym (words-are (λ y n. y.head)) ∙ head ∙ words-are (λ y n. length y.served % n)) (here (λ n m xs. form.MayDisable (controlling form n xs)) may)) (record { seat = refl; names = refl }))
+        -- nothing is held
+        pub tell-unheld : (told : Control) → MayTell told (controller_of form now) → x.held ≡ None
+        tell-unheld Enabled may = unheld may.1
+        tell-unheld Disabled may = unheld may.held
+        tell-unheld EnableAsked may = absurd may
+        tell-unheld DisableAsked may = absurd may
+
+        pub tell-slots : (v : ℕ) → x.held ≡ None → controller_slots size x ≡ controller_slots size (control form size x (answers v))
+        tell-slots v unheld_here = either (v == 2)
+          where
+            either : (b : Bool) → controller_slots size x ≡ controller_slots size (control form size x (if b then controller.Enabled else controller.Disabled))
+            either true = ap (slots_while (length x.served % size)) unheld_here ∙ sym (ap (slots_while (0 % size)) unheld_here)
+            either false = refl
 
         -- Steps of one direction's own
         module _ (event : Event (ControllerEvent C)) (word v : ℕ) where
@@ -183,9 +189,9 @@ module _ {Ring Posted Served Given D C : Type 0} (form : Form Ring Posted Served
             pub store_own-asks : (id : ℕ) → Asks form table ring key me (stores (controller_end form) event) id word v
             store_own-asks id = let m = store-may in standing.store-asks stands form (stores (controller_end form) event) id word v m.word_is (may-store form size mode (controller_role (form.Lies size mode)) es id its (stores (controller_end form) event) word v (event size es word v blank) m.goes (record { seat = refl; names = m.names }))
 
-            module _ (table' : TableId) (me' : It) (t : table' ≡ table) (stored : me' ≡ (controller_does me (event ring.slots es word v blank), me.1)) where
-              store_own-seat : me' ≡ (controller_does me (event size es word v blank), me.1)
-              store_own-seat = stored ∙ ap (λ (n : ℕ). let y : It = (controller_does me (event n es word v blank), me.1) in y) counts
+            module _ (table' : TableId) (me' : SeatOf D C) (t : table' ≡ table) (stored : me' ≡ (longer (controller_end form) me (event ring.slots es word v blank), me.1)) where
+              store_own-seat : me' ≡ (longer (controller_end form) me (event size es word v blank), me.1)
+              store_own-seat = stored ∙ ap (λ (n : ℕ). let y : SeatOf D C = (longer (controller_end form) me (event n es word v blank), me.1) in y) counts
 
               pub store_own-keeps : IsControllerSeat form table' me' size mode
               store_own-keeps = let m = store-may in same-keeps (event size es word v blank) table' me' t store_own-seat
@@ -206,21 +212,21 @@ module _ {Ring Posted Served Given D C : Type 0} (form : Form Ring Posted Served
               give-may : MayGive form event size mode (controller_part me.0) place word v b
               give-may = here (λ n m xs. MayGive form event n m xs place word v b) may
 
-              pub give_own-asks : (id : ℕ) (table' : TableId) (me' : It) → table' ≡ table → me' ≡ (me.0, (place, b) ∷ rest me.1)
+              pub give_own-asks : (id : ℕ) (table' : TableId) (me' : SeatOf D C) → table' ≡ table → me' ≡ (me.0, (place, b) ∷ rest me.1)
                   → (table' ≡ ring) × (word < ring.words) × Allows (IsRuled form key.0 key.1) ring.slots id me' word (λ _. v) (λ _. gives (controller_end form) event (step ring.slots word v 0 none) me' v)
               give_own-asks id table' me' t m = let k = give-may in (
                 t ∙ stands.own,
                 standing.within stands word k.word_is,
                 standing.allow-at stands form (λ n z r z'. gives (controller_end form) event (step n word v 0 none) z v z') id word (λ _. v) (Controller es, (place, b) ∷ rest me.1) me'
-                    (m ∙ ap (λ (w : View (DriverEvent D) (ControllerEvent C)). let z : It = (w, (place, b) ∷ rest me.1) in z) view-is)
+                    (m ∙ ap (λ (w : View (DriverEvent D) (ControllerEvent C)). let z : SeatOf D C = (w, (place, b) ∷ rest me.1) in z) view-is)
                     (may-give form size mode (controller_role (form.Lies size mode)) es id (rest me.1) (gives (controller_end form) event) word v place b (event size es word v b) k.goes (record { seat = refl; names = k.names })),
               )
 
-              module _ (table' : TableId) (me1 me2 : It) (t : table' ≡ table) (put : me1 ≡ (me.0, (place, b) ∷ rest me.1)) (gave : me2 ≡ (controller_does me1 (event ring.slots (controller_part me1.0) word v (front_buffer me1.1)), rest me1.1)) where
+              module _ (table' : TableId) (me1 me2 : SeatOf D C) (t : table' ≡ table) (put : me1 ≡ (me.0, (place, b) ∷ rest me.1)) (gave : me2 ≡ (longer (controller_end form) me1 (event ring.slots (controller_part me1.0) word v (front_buffer me1.1)), rest me1.1)) where
                 give_own-seat : me2 ≡ (Controller (es ++ event size es word v b ∷ []), [])
-                give_own-seat = gave ∙ ap (λ (m : It). let y : It = (controller_does m (event ring.slots (controller_part m.0) word v (front_buffer m.1)), rest m.1) in y) put
-                    ∙ ap (λ (n : ℕ). let y : It = (Controller (es ++ event n es word v b ∷ []), rest me.1) in y) counts
-                    ∙ ap (λ (xs : List (ℕ × Buffer)). let y : It = (Controller (es ++ event size es word v b ∷ []), rest xs) in y) held-slot
+                give_own-seat = gave ∙ ap (λ (m : SeatOf D C). let y : SeatOf D C = (longer (controller_end form) m (event ring.slots (controller_part m.0) word v (front_buffer m.1)), rest m.1) in y) put
+                    ∙ ap (λ (n : ℕ). let y : SeatOf D C = (Controller (es ++ event n es word v b ∷ []), rest me.1) in y) counts
+                    ∙ ap (λ (xs : List (ℕ × Buffer)). let y : SeatOf D C = (Controller (es ++ event size es word v b ∷ []), rest xs) in y) held-slot
 
                 pub give_own-keeps : IsControllerSeat form table' me2 size mode
                 give_own-keeps = let k = give-may in made table' me2 (es ++ event size es word v b ∷ []) [] (control form size x (event size es word v b)) t give_own-seat (did size es (event size es word v b))

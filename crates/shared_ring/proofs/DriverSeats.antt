@@ -1,5 +1,6 @@
 -- The driver's seat: what each of its steps asks of the table, and what the seat keeps.
 use Rattle.std.proofs.Common.{◌≡◌, ℕ, ◌+◌, ◌-◌, ◌%◌, ◌<◌, ◌≤◌, Bool, true, false, List, [], ◌∷◌, ◌++◌, length, sym, refl, ap, ◌∙◌, subst, arith, length-append, mod-lt}
+use Rattle.std.specs.Prelude.{◌==◌, if◌then◌else◌}
 use Rattle.std.proofs.Math.Nat.{mod-mod}
 use Rattle.std.proofs.lemmas.Bool.{false≢true}
 use mathlib.Core.Option.{none}
@@ -11,33 +12,30 @@ use Rattle.ring_model.specs.shared.Handshakes.{is_open, is_new, is_on, is_stoppe
 use Rattle.shared_ring.specs.declared.events.DriverEvent.{DriverEvent}
 use Rattle.shared_ring.specs.declared.events.DriverEvent.TheVariants as driver
 use Rattle.shared_ring.specs.declared.events.ControllerEvent.{ControllerEvent}
+use Rattle.shared_ring.specs.declared.control.Control.{Control}
+use Rattle.shared_ring.specs.declared.control.Control.TheVariants.{Disabled, EnableAsked, Enabled, DisableAsked}
 use Rattle.shared_ring.specs.declared.events.View.{View}
+use Rattle.shared_ring.specs.Calls.{MayAsk}
+use Rattle.shared_ring.specs.Words.{control_word}
 use Rattle.shared_ring.specs.declared.events.View.TheVariants.{Driver}
 use Rattle.shared_ring.specs.Ends.{Side, grown}
 use Rattle.shared_ring.specs.Forms.{Form, drive, driving}
-use Rattle.shared_ring.specs.Keeping.{IsRuled, IsDriverSeat, IsWindow}
+use Rattle.shared_ring.specs.Keeping.{IsRuled, IsDriverSeat}
 use Rattle.shared_ring.specs.Own.{Event, Tells, SameOut, OneBack, MayLoad, MayClear, MayTake, MayEnd, Missed, Came}
-use Rattle.shared_ring.specs.Plays.{Seated, IsControl, IsPlace, asks, driver_end, gives, stores, Loads, Takes, Finds}
-use Rattle.shared_ring.specs.Records.{Driven, driver_slots, undriven}
+use Rattle.shared_ring.specs.Plays.{SeatOf, longer, IsControl, IsPlace, asks, driver_end, gives, stores, Loads, Takes, Finds}
+use Rattle.shared_ring.specs.Records.{Driven, IsWindow, driver_slots, undriven}
 use Rattle.shared_ring.specs.Seats.{driver_part}
 use Rattle.shared_ring.specs.Slots.{empty_slots, front_buffer}
 use Rattle.shared_ring.specs.Tables.{IsTableOf, words_of}
 use Rattle.shared_ring.proofs.Allowing.{driver_role}
 use Rattle.shared_ring.proofs.Allowed.{may-store, may-load, may-clear, may-find, may-give}
 use Rattle.shared_ring.proofs.Standing as standing
-use Rattle.shared_ring.proofs.Standing.{Asks, LoadAsks, front-is}
+use Rattle.shared_ring.proofs.Standing.{as-made, Asks, LoadAsks, front-is}
 use Rattle.shared_ring.proofs.Folds.{driving-snoc, slots-post, slots-return, slots-alike}
 
 module _ {Ring Posted Served Given D C : Type 0} (form : Form Ring Posted Served Given D C) where
-  abbrev It : Type 0
-  It = Seated (DriverEvent D) (ControllerEvent C)
-
   abbrev End : Type 0
   End = Side (DriverEvent D)
-
-  -- the view with one more event in the driver's record
-  abbrev driver_does : It → DriverEvent D → View (DriverEvent D) (ControllerEvent C)
-  driver_does m e = Driver (driver_part m.0 ++ e ∷ [])
 
   -- what an end did
   abbrev done_by : End → Driven Posted Given
@@ -46,7 +44,7 @@ module _ {Ring Posted Served Given D C : Type 0} (form : Form Ring Posted Served
   did : (es : List (DriverEvent D)) (e : DriverEvent D) → driving form (es ++ e ∷ []) ≡ drive form (driving form es) e
   did es e = driving-snoc form.posting form.drive_own undriven es e
 
-  module _ (table : TableId) (me : It) (size : ℕ) (mode : Completion) (inv : IsDriverSeat form table me size mode) where
+  module _ (table : TableId) (me : SeatOf D C) (size : ℕ) (mode : Completion) (inv : IsDriverSeat form table me size mode) where
     abbrev es : List (DriverEvent D)
     es = driver_part me.0
 
@@ -56,42 +54,42 @@ module _ {Ring Posted Served Given D C : Type 0} (form : Form Ring Posted Served
     abbrev its : List (ℕ × Buffer)
     its = driver_slots size (driving form (driver_part me.0))
 
-    abbrev side : TableId → It → End
+    abbrev side : TableId → SeatOf D C → End
     side t m = record { table = t; completion = mode; events = driver_part m.0 }
 
     big : 8 ≤ size
     big = inv.lawful.0
 
     view-is : me.0 ≡ Driver (driver_part me.0)
-    view-is = ap (λ (m : It). m.0) inv.me_is
+    view-is = ap (λ (m : SeatOf D C). m.0) inv.me_is
 
     slots-are : me.1 ≡ driver_slots size (driving form (driver_part me.0))
-    slots-are = ap (λ (m : It). m.1) inv.me_is
+    slots-are = ap (λ (m : SeatOf D C). m.1) inv.me_is
 
     -- a seat whose record is es' and whose slots are those that it tells
-    made : (table' : TableId) (me' : It) (es' : List (DriverEvent D)) (slots' : List (ℕ × Buffer)) (d' : Driven Posted Given) → table' ≡ table → me' ≡ (Driver es', slots') → driving form es' ≡ d' → slots' ≡ driver_slots size d' → IsWindow size d' → IsDriverSeat form table' me' size mode
-    made table' me' es' slots' d' t m e s w = subst (λ (x : TableId). IsDriverSeat form x me' size mode) (sym t) (subst (λ (x : It). IsDriverSeat form table x size mode) (sym m) (record {
-      law = inv.law;
-      size_is = inv.size_is;
-      words = inv.words;
-      lawful = inv.lawful;
-      me_is = ap (λ (xs : List (ℕ × Buffer)). let x : It = (Driver es', xs) in x) (s ∙ ap (driver_slots size) (sym e));
-      window = subst (IsWindow size) (sym e) w;
-    }))
+    made : (table' : TableId) (me' : SeatOf D C) (es' : List (DriverEvent D)) (slots' : List (ℕ × Buffer)) (d' : Driven Posted Given) → table' ≡ table → me' ≡ (Driver es', slots') → driving form es' ≡ d' → slots' ≡ driver_slots size d' → IsWindow size d' → IsDriverSeat form table' me' size mode
+    made table' me' es' slots' d' t m e s w = as-made table table' me me' (Driver es', slots') size mode inv t m (ap (λ (xs : List (ℕ × Buffer)). let x : SeatOf D C = (Driver es', xs) in x) (s ∙ ap (driver_slots size) (sym e))) (subst (IsWindow size) (sym e) w)
 
     -- a step that leaves what is posted and what came back
-    pub same-keeps : (e : DriverEvent D) (table' : TableId) (me' : It) → table' ≡ table → me' ≡ (driver_does me e, me.1) → SameOut d (drive form d e) → IsDriverSeat form table' me' size mode
-    same-keeps e table' me' t m s = let w = inv.window in
+    pub same-keeps : (e : DriverEvent D) (table' : TableId) (me' : SeatOf D C) → table' ≡ table → me' ≡ (longer (driver_end form) me e, me.1) → SameOut d (drive form d e) → IsDriverSeat form table' me' size mode
+    same-keeps e table' me' t m s = let w = inv.stands in
         made table' me' (driver_part me.0 ++ e ∷ []) me.1 (drive form d e) t m (did (driver_part me.0) e) (slots-are ∙ sym (rw (s.posted, s.given, s.reclaimed) refl))
         (record { back = rw (s.posted, s.given, s.reclaimed) w.back; room = rw (s.posted, s.given, s.reclaimed) w.room })
 
+    pub asked-out : (v : ℕ) → SameOut d (drive form d (asks v))
+    asked-out v = either (v == 1)
+      where
+        either : (b : Bool) → SameOut d (drive form d (if b then driver.AskedEnable else driver.AskedDisable))
+        either true = record { posted = refl; given = refl; reclaimed = refl }
+        either false = record { posted = refl; given = refl; reclaimed = refl }
+
     module _ (now : End) (was : side table me ≡ now) where
       -- the record of the end after a step that its table keeps
-      one-more : (e : DriverEvent D) (table' : TableId) (me' : It) (slots' : List (ℕ × Buffer)) → table' ≡ table → me' ≡ (Driver (driver_part me.0 ++ e ∷ []), slots') → side table' me' ≡ grown now e
+      one-more : (e : DriverEvent D) (table' : TableId) (me' : SeatOf D C) (slots' : List (ℕ × Buffer)) → table' ≡ table → me' ≡ (Driver (driver_part me.0 ++ e ∷ []), slots') → side table' me' ≡ grown now e
       one-more e table' me' slots' t m =
-          ap (λ (x : It). side table' x) m ∙ ap (λ (z : TableId). let s : End = record { table = z; completion = mode; events = driver_part me.0 ++ e ∷ [] } in s) t ∙ ap (λ (s : End). grown s e) was
+          ap (λ (x : SeatOf D C). side table' x) m ∙ ap (λ (z : TableId). let s : End = record { table = z; completion = mode; events = driver_part me.0 ++ e ∷ [] } in s) t ∙ ap (λ (s : End). grown s e) was
 
-      pub same-steps : (e : DriverEvent D) (table' : TableId) (me' : It) → table' ≡ table → me' ≡ (driver_does me e, me.1) → side table' me' ≡ grown now e
+      pub same-steps : (e : DriverEvent D) (table' : TableId) (me' : SeatOf D C) → table' ≡ table → me' ≡ (longer (driver_end form) me e, me.1) → side table' me' ≡ grown now e
       same-steps e table' me' t m = one-more e table' me' me.1 t m
 
       -- what a contract says of the end goes for the record
@@ -143,28 +141,28 @@ module _ {Ring Posted Served Given D C : Type 0} (form : Form Ring Posted Served
           pub post-empty : me.1 ≡ (place, blank) ∷ rest me.1
           post-empty = front-is me.1 _ (place, blank) front
 
-          pub post-asks : (id : ℕ) (table' : TableId) (me' : It) → table' ≡ table → me' ≡ (me.0, (place, b) ∷ rest me.1) → is_open (done_by now).state ≡ true → form.MayPost now.table.slots (done_by now).posted word b
+          pub post-asks : (id : ℕ) (table' : TableId) (me' : SeatOf D C) → table' ≡ table → me' ≡ (me.0, (place, b) ∷ rest me.1) → is_open (done_by now).state ≡ true → form.MayPost now.table.slots (done_by now).posted word b
               → (table' ≡ ring) × (place < ring.words) × Allows (IsRuled form key.0 key.1) ring.slots id me' place (λ _. word) (λ _. gives (driver_end form) (λ n es p r b. driver.Posted p r b) (step ring.slots place word 0 none) me' word)
           post-asks id table' me' t m opened may = (
             t ∙ stands.own,
             standing.within stands place (below place (length d.posted) (filled place at)),
             standing.allow-at stands form (λ n z r z'. gives (driver_end form) (λ n es p r b. driver.Posted p r b) (step n place word 0 none) z word z') id place (λ _. word) (Driver es, (place, b) ∷ rest me.1) me'
-                (m ∙ ap (λ (v : View (DriverEvent D) (ControllerEvent C)). let x : It = (v, (place, b) ∷ rest me.1) in x) view-is)
+                (m ∙ ap (λ (v : View (DriverEvent D) (ControllerEvent C)). let x : SeatOf D C = (v, (place, b) ∷ rest me.1) in x) view-is)
                 (may-give form size mode (driver_role (form.Lies size mode)) es id (rest me.1) (gives (driver_end form) (λ n es p r b. driver.Posted p r b)) place word place b (driver.Posted place word b)
                 (λ q cs words homes pos l. let a = inv.law.allowed size mode q es cs words homes pos l in let f = a.driver in
                 f.post place word b (filled place at) (sym (words-are (λ x n. is_open x.state)) ∙ opened) room (here (λ n m xs. form.MayPost n (driving form xs).posted word b) may)) (record { seat = refl; names = refl })),
           )
 
-          post-seat : (me' me'' : It) → me' ≡ (me.0, (place, b) ∷ rest me.1) → me'' ≡ (driver_does me' (driver.Posted place word (front_buffer me'.1)), rest me'.1) → me'' ≡ (Driver (es ++ driver.Posted place word b ∷ []), rest me.1)
-          post-seat me' me'' put stored = stored ∙ ap (λ (m : It). let x : It = (driver_does m (driver.Posted place word (front_buffer m.1)), rest m.1) in x) put
+          post-seat : (me' me'' : SeatOf D C) → me' ≡ (me.0, (place, b) ∷ rest me.1) → me'' ≡ (longer (driver_end form) me' (driver.Posted place word (front_buffer me'.1)), rest me'.1) → me'' ≡ (Driver (es ++ driver.Posted place word b ∷ []), rest me.1)
+          post-seat me' me'' put stored = stored ∙ ap (λ (m : SeatOf D C). let x : SeatOf D C = (longer (driver_end form) m (driver.Posted place word (front_buffer m.1)), rest m.1) in x) put
 
-          pub post-keeps : (table' : TableId) (me' me'' : It) → table' ≡ table → me' ≡ (me.0, (place, b) ∷ rest me.1) → me'' ≡ (driver_does me' (driver.Posted place word (front_buffer me'.1)), rest me'.1) → IsDriverSeat form table' me'' size mode
-          post-keeps table' me' me'' t put stored = let e = length-append d.posted (form.posting word b ∷ []) in let w = inv.window in let bk = w.back in let r = room in
+          pub post-keeps : (table' : TableId) (me' me'' : SeatOf D C) → table' ≡ table → me' ≡ (me.0, (place, b) ∷ rest me.1) → me'' ≡ (longer (driver_end form) me' (driver.Posted place word (front_buffer me'.1)), rest me'.1) → IsDriverSeat form table' me'' size mode
+          post-keeps table' me' me'' t put stored = let e = length-append d.posted (form.posting word b ∷ []) in let w = inv.stands in let bk = w.back in let r = room in
               made table' me'' (es ++ driver.Posted place word b ∷ []) (rest me.1) (drive form d (driver.Posted place word b)) t (post-seat me' me'' put stored) (did es (driver.Posted place word b))
               (ap rest front ∙ ap (λ (j : ℕ). empty_slots size j (length d.given + d.reclaimed + size - j)) (sym e))
               (record { back = omega arith; room = omega arith })
 
-          pub post-steps : (table' : TableId) (me' me'' : It) → table' ≡ table → me' ≡ (me.0, (place, b) ∷ rest me.1) → me'' ≡ (driver_does me' (driver.Posted place word (front_buffer me'.1)), rest me'.1) → side table' me'' ≡ grown now (driver.Posted place word b)
+          pub post-steps : (table' : TableId) (me' me'' : SeatOf D C) → table' ≡ table → me' ≡ (me.0, (place, b) ∷ rest me.1) → me'' ≡ (longer (driver_end form) me' (driver.Posted place word (front_buffer me'.1)), rest me'.1) → side table' me'' ≡ grown now (driver.Posted place word b)
           post-steps table' me' me'' t put stored = one-more (driver.Posted place word b) table' me'' (rest me.1) t (post-seat me' me'' put stored)
 
         -- A2, B2
@@ -173,20 +171,22 @@ module _ {Ring Posted Served Given D C : Type 0} (form : Form Ring Posted Served
             (λ q cs words homes pos l. let a = inv.law.allowed size mode q es cs words homes pos l in let f = a.driver in
             f.publish t (filled t at) (sym (words-are (λ x n. is_open x.state)) ∙ opened) (here (λ n m xs. form.MayPublish (driving form xs).posted) may)) (record { seat = refl; names = refl }))
 
-        -- C1
-        pub ask_enable-asks : (id : ℕ) → is_new (done_by now).state ≡ true → Asks form table ring key me (stores (driver_end form) (λ n es i r b. asks r)) id (size + 2) 1
-        ask_enable-asks id new = standing.store-asks stands form (stores (driver_end form) (λ n es i r b. asks r)) id (size + 2) 1 (standing.low size mode (size + 2) (omega arith)) (may-store form size mode (driver_role (form.Lies size mode)) es id its (stores (driver_end form) (λ n es i r b. asks r)) (size + 2) 1 driver.AskedEnable
+        -- C1, C5
+        word-asks : (id : ℕ) (request : Control) → MayAsk request (done_by now).state → Asks form table ring key me (stores (driver_end form) (λ n es i r b. asks r)) id (size + 2) (control_word request)
+        word-asks id EnableAsked new = standing.store-asks stands form (stores (driver_end form) (λ n es i r b. asks r)) id (size + 2) 1 (standing.low size mode (size + 2) (omega arith)) (may-store form size mode (driver_role (form.Lies size mode)) es id its (stores (driver_end form) (λ n es i r b. asks r)) (size + 2) 1 driver.AskedEnable
             (λ q cs words homes pos l. let a = inv.law.allowed size mode q es cs words homes pos l in let f = a.driver in f.ask_enable (sym (words-are (λ x n. is_new x.state)) ∙ new)) (record { seat = refl; names = refl }))
+        word-asks id DisableAsked on = standing.store-asks stands form (stores (driver_end form) (λ n es i r b. asks r)) id (size + 2) 3 (standing.low size mode (size + 2) (omega arith)) (may-store form size mode (driver_role (form.Lies size mode)) es id its (stores (driver_end form) (λ n es i r b. asks r)) (size + 2) 3 driver.AskedDisable
+            (λ q cs words homes pos l. let a = inv.law.allowed size mode q es cs words homes pos l in let f = a.driver in f.ask_disable (sym (words-are (λ x n. is_on x.state)) ∙ on)) (record { seat = refl; names = refl }))
+        word-asks id Disabled may = absurd may
+        word-asks id Enabled may = absurd may
+
+        pub ask-asks : (id : ℕ) (request : Control) → MayAsk request (done_by now).state → (v : ℕ) → v ≡ control_word request → Asks form table ring key me (stores (driver_end form) (λ n es i r b. asks r)) id (size + 2) v
+        ask-asks id request may v is = subst (λ (w : ℕ). Asks form table ring key me (stores (driver_end form) (λ n es i r b. asks r)) id (size + 2) w) (sym is) (word-asks id request may)
 
         -- C4
         pub control-asks : (id : ℕ) → LoadAsks form table ring key me (Loads (driver_end form) (λ n es i r b. driver.LoadedControl r) IsControl) id (size + 2)
         control-asks id = standing.load-asks stands form (Loads (driver_end form) (λ n es i r b. driver.LoadedControl r) IsControl) id (size + 2) (standing.low size mode (size + 2) (omega arith)) (may-load form size mode (driver_role (form.Lies size mode)) es id its (Loads (driver_end form) (λ n es i r b. driver.LoadedControl r) IsControl) (size + 2) driver.LoadedControl (λ r. r ≤ 3)
             (λ q cs words homes pos l. let a = inv.law.allowed size mode q es cs words homes pos l in let f = a.driver in f.control) (λ r v. record { adds = record { seat = refl; names = refl }; told = v }))
-
-        -- C5
-        pub ask_disable-asks : (id : ℕ) → is_on (done_by now).state ≡ true → Asks form table ring key me (stores (driver_end form) (λ n es i r b. asks r)) id (size + 2) 3
-        ask_disable-asks id on = standing.store-asks stands form (stores (driver_end form) (λ n es i r b. asks r)) id (size + 2) 3 (standing.low size mode (size + 2) (omega arith)) (may-store form size mode (driver_role (form.Lies size mode)) es id its (stores (driver_end form) (λ n es i r b. asks r)) (size + 2) 3 driver.AskedDisable
-            (λ q cs words homes pos l. let a = inv.law.allowed size mode q es cs words homes pos l in let f = a.driver in f.ask_disable (sym (words-are (λ x n. is_on x.state)) ∙ on)) (record { seat = refl; names = refl }))
 
         -- the load of the head
         pub head-asks : (id : ℕ) → is_stopped (done_by now).state ≡ true → LoadAsks form table ring key me (Loads (driver_end form) (λ n es i r b. driver.LoadedHead r) IsPlace) id size
@@ -215,9 +215,9 @@ module _ {Ring Posted Served Given D C : Type 0} (form : Form Ring Posted Served
             load_own-asks id = let m = load-may in standing.load-asks stands form (Loads (driver_end form) event tells) id word m.word_is
                 (may-load form size mode (driver_role (form.Lies size mode)) es id its (Loads (driver_end form) event tells) word (λ r. event size es word r blank) (λ r. tells size es word r blank) m.goes (λ r t. record { adds = record { seat = refl; names = m.names r }; told = t }))
 
-            module _ (r : ℕ) (me' : It) (told : Loads (driver_end form) event tells (step ring.slots word 0 0 none) me r me') where
-              load_own-seat : me' ≡ (driver_does me (event size es word r blank), me.1)
-              load_own-seat = told.adds.seat ∙ ap (λ (n : ℕ). let x : It = (driver_does me (event n es word r blank), me.1) in x) counts
+            module _ (r : ℕ) (me' : SeatOf D C) (told : Loads (driver_end form) event tells (step ring.slots word 0 0 none) me r me') where
+              load_own-seat : me' ≡ (longer (driver_end form) me (event size es word r blank), me.1)
+              load_own-seat = told.adds.seat ∙ ap (λ (n : ℕ). let x : SeatOf D C = (longer (driver_end form) me (event n es word r blank), me.1) in x) counts
 
               pub load_own-keeps : (table' : TableId) → table' ≡ table → IsDriverSeat form table' me' size mode
               load_own-keeps table' t = let m = load-may in same-keeps (event size es word r blank) table' me' t load_own-seat (m.same r)
@@ -230,12 +230,12 @@ module _ {Ring Posted Served Given D C : Type 0} (form : Form Ring Posted Served
 
           -- a buffer comes back
           module _ (place : ℕ) (at : place ≡ (length (done_by now).given + (done_by now).reclaimed) % now.table.slots) (out : length (done_by now).given + (done_by now).reclaimed < length (done_by now).posted) where
-            back-seat : (e : DriverEvent D) (b : Buffer) (me1 me2 me3 : It) → me1 ≡ (driver_does me e, (place, b) ∷ me.1) → me2 ≡ (me1.0, (place, blank) ∷ rest me1.1) → me3 ≡ (me2.0, turned me2.1) → me3 ≡ (Driver (es ++ e ∷ []), me.1 ++ (place, blank) ∷ [])
-            back-seat e b me1 me2 me3 s l t = t ∙ ap (λ (m : It). let x : It = (m.0, turned m.1) in x) l ∙ ap (λ (m : It). let x : It = (m.0, turned ((place, blank) ∷ rest m.1)) in x) s
+            back-seat : (e : DriverEvent D) (b : Buffer) (me1 me2 me3 : SeatOf D C) → me1 ≡ (longer (driver_end form) me e, (place, b) ∷ me.1) → me2 ≡ (me1.0, (place, blank) ∷ rest me1.1) → me3 ≡ (me2.0, turned me2.1) → me3 ≡ (Driver (es ++ e ∷ []), me.1 ++ (place, blank) ∷ [])
+            back-seat e b me1 me2 me3 s l t = t ∙ ap (λ (m : SeatOf D C). let x : SeatOf D C = (m.0, turned m.1) in x) l ∙ ap (λ (m : SeatOf D C). let x : SeatOf D C = (m.0, turned ((place, blank) ∷ rest m.1)) in x) s
 
-            back-keeps : (e : DriverEvent D) (b : Buffer) (table' : TableId) (me1 me2 me3 : It) → table' ≡ table → me1 ≡ (driver_does me e, (place, b) ∷ me.1) → me2 ≡ (me1.0, (place, blank) ∷ rest me1.1) → me3 ≡ (me2.0, turned me2.1)
+            back-keeps : (e : DriverEvent D) (b : Buffer) (table' : TableId) (me1 me2 me3 : SeatOf D C) → table' ≡ table → me1 ≡ (longer (driver_end form) me e, (place, b) ∷ me.1) → me2 ≡ (me1.0, (place, blank) ∷ rest me1.1) → me3 ≡ (me2.0, turned me2.1)
                 → OneBack d (drive form d e) → IsDriverSeat form table' me3 size mode
-            back-keeps e b table' me1 me2 me3 t s l r one = let w = inv.window in let bk = w.back in let rm = w.room in let o = out-is out in let g = big in let c = one.back in
+            back-keeps e b table' me1 me2 me3 t s l r one = let w = inv.stands in let bk = w.back in let rm = w.room in let o = out-is out in let g = big in let c = one.back in
                 let same : length (drive form d e).posted ≡ length d.posted = ap length one.posted in
                 made table' me3 (es ++ e ∷ []) (me.1 ++ (place, blank) ∷ []) (drive form d e) t (back-seat e b me1 me2 me3 s l r) (did es e)
                 (ap (λ (xs : List (ℕ × Buffer)). xs ++ (place, blank) ∷ []) slots-are
@@ -246,17 +246,17 @@ module _ {Ring Posted Served Given D C : Type 0} (form : Form Ring Posted Served
                 (record { back = omega arith; room = omega arith })
 
             -- what the event is, of what was loaded there or stored
-            came-seat : (r : ℕ) (me1 : It) (t : Takes (driver_end form) event tells (step ring.slots place 0 0 none) me r me1) → me1 ≡ (driver_does me (event size es place r t.buf), (place, t.buf) ∷ me.1)
-            came-seat r me1 t = t.adds.seat ∙ ap (λ (n : ℕ). let x : It = (driver_does me (event n es place r t.buf), (place, t.buf) ∷ me.1) in x) counts
+            came-seat : (r : ℕ) (me1 : SeatOf D C) (t : Takes (driver_end form) event tells (step ring.slots place 0 0 none) me r me1) → me1 ≡ (longer (driver_end form) me (event size es place r t.buf), (place, t.buf) ∷ me.1)
+            came-seat r me1 t = t.adds.seat ∙ ap (λ (n : ℕ). let x : SeatOf D C = (longer (driver_end form) me (event n es place r t.buf), (place, t.buf) ∷ me.1) in x) counts
 
-            module _ (r : ℕ) (b : Buffer) (table' : TableId) (me1 me2 me3 : It) (same : table' ≡ table) (t : Takes (driver_end form) event tells (step ring.slots place 0 0 none) me r me1) (l : me2 ≡ (me1.0, (place, blank) ∷ rest me1.1)) (turn : me3 ≡ (me2.0, turned me2.1)) where
+            module _ (r : ℕ) (b : Buffer) (table' : TableId) (me1 me2 me3 : SeatOf D C) (same : table' ≡ table) (t : Takes (driver_end form) event tells (step ring.slots place 0 0 none) me r me1) (l : me2 ≡ (me1.0, (place, blank) ∷ rest me1.1)) (turn : me3 ≡ (me2.0, turned me2.1)) where
               came-steps : b ≡ front_buffer me1.1 → side table' me3 ≡ grown now (event now.table.slots now.events place r b)
-              came-steps got = let is : b ≡ t.buf = got ∙ ap (λ (m : It). front_buffer m.1) t.adds.seat in
+              came-steps got = let is : b ≡ t.buf = got ∙ ap (λ (m : SeatOf D C). front_buffer m.1) t.adds.seat in
                   one-more (event size es place r t.buf) table' me3 (me.1 ++ (place, blank) ∷ []) same (back-seat (event size es place r t.buf) t.buf me1 me2 me3 (came-seat r me1 t) l turn)
                   ∙ ap (λ (y : Buffer). grown now (event size es place r y)) (sym is) ∙ ap (grown now) (back-there (λ n m xs. event size es place r b ≡ event n xs place r b) refl)
 
               came-told : b ≡ front_buffer me1.1 → tells now.table.slots now.events place r b
-              came-told got = let is : b ≡ t.buf = got ∙ ap (λ (m : It). front_buffer m.1) t.adds.seat in
+              came-told got = let is : b ≡ t.buf = got ∙ ap (λ (m : SeatOf D C). front_buffer m.1) t.adds.seat in
                   back-there (λ n m xs. tells n xs place r b) (subst (λ (y : Buffer). tells size es place r y) (sym is) (subst (λ (n : ℕ). tells n es place r t.buf) counts t.told))
 
             -- a store of 0 into its descriptor
@@ -269,7 +269,7 @@ module _ {Ring Posted Served Given D C : Type 0} (form : Form Ring Posted Served
                   (may-clear form size mode (driver_role (form.Lies size mode)) es id its (Takes (driver_end form) event tells) place (λ b. event size es place 0 b) (λ b. tells size es place 0 b)
                   (λ q cs words homes pos l. let o = m.goes q cs words homes pos l in (o.buf, o.home, o.told, o.agrees)) (λ b t. record { buf = b; adds = record { seat = refl; names = m.names b }; told = t }))
 
-              module _ (b : Buffer) (table' : TableId) (me1 me2 me3 : It) (same : table' ≡ table) (t : Takes (driver_end form) event tells (step ring.slots place 0 0 none) me 0 me1) (l : me2 ≡ (me1.0, (place, blank) ∷ rest me1.1)) (turn : me3 ≡ (me2.0, turned me2.1)) where
+              module _ (b : Buffer) (table' : TableId) (me1 me2 me3 : SeatOf D C) (same : table' ≡ table) (t : Takes (driver_end form) event tells (step ring.slots place 0 0 none) me 0 me1) (l : me2 ≡ (me1.0, (place, blank) ∷ rest me1.1)) (turn : me3 ≡ (me2.0, turned me2.1)) where
                 pub clear_own-keeps : IsDriverSeat form table' me3 size mode
                 clear_own-keeps = let m = clear-may in back-keeps (event size es place 0 t.buf) t.buf table' me1 me2 me3 same (came-seat 0 me1 t) l turn (m.back t.buf)
 
@@ -291,14 +291,14 @@ module _ {Ring Posted Served Given D C : Type 0} (form : Form Ring Posted Served
                   (λ r f. record { undone = λ e. record { seat = refl; names = m.names_missed r }; taken = λ e. absurd (false≢true (sym f ∙ e)) })
                   (λ r b f t. record { undone = λ e. absurd (false≢true (sym e ∙ f)); taken = λ e. record { buf = b; adds = record { seat = refl; names = m.names r b }; told = t } }))
 
-              module _ (r : ℕ) (me1 : It) (t : Finds (driver_end form) event tells missed done (step ring.slots place 0 0 none) me r me1) where
+              module _ (r : ℕ) (me1 : SeatOf D C) (t : Finds (driver_end form) event tells missed done (step ring.slots place 0 0 none) me r me1) where
                 pub missed-keeps : (table' : TableId) → table' ≡ table → done r ≡ false → IsDriverSeat form table' me1 size mode
                 missed-keeps table' same f = let m = take-may in same-keeps (missed place r) table' me1 same (t.undone f).seat (m.same r)
 
                 pub missed-steps : (table' : TableId) → table' ≡ table → done r ≡ false → Missed event tells missed done now place r (side table' me1)
                 missed-steps table' same f = record { undone = f; step = same-steps (missed place r) table' me1 same (t.undone f).seat }
 
-                module _ (b : Buffer) (table' : TableId) (me2 me3 : It) (same : table' ≡ table) (f : done r ≡ true) (l : me2 ≡ (me1.0, (place, blank) ∷ rest me1.1)) (turn : me3 ≡ (me2.0, turned me2.1)) where
+                module _ (b : Buffer) (table' : TableId) (me2 me3 : SeatOf D C) (same : table' ≡ table) (f : done r ≡ true) (l : me2 ≡ (me1.0, (place, blank) ∷ rest me1.1)) (turn : me3 ≡ (me2.0, turned me2.1)) where
                   pub take_own-keeps : IsDriverSeat form table' me3 size mode
                   take_own-keeps = let m = take-may in let o = t.taken f in back-keeps (event size es place r o.buf) o.buf table' me1 me2 me3 same (came-seat r me1 o) l turn (m.back r o.buf)
 
@@ -313,20 +313,20 @@ module _ {Ring Posted Served Given D C : Type 0} (form : Form Ring Posted Served
             pub end_own-asks : (id : ℕ) → Asks form table ring key me (stores (driver_end form) event) id word 0
             end_own-asks id = let m = end-may in standing.store-asks stands form (stores (driver_end form) event) id word 0 m.word_is (may-store form size mode (driver_role (form.Lies size mode)) es id its (stores (driver_end form) event) word 0 (event size es word 0 blank) m.goes (record { seat = refl; names = m.names }))
 
-            module _ (me1 : It) (ends : me1 ≡ (driver_does me (event ring.slots es word 0 blank), me.1)) where
-              end-seat : me1 ≡ (driver_does me (event size es word 0 blank), me.1)
-              end-seat = ends ∙ ap (λ (n : ℕ). let x : It = (driver_does me (event n es word 0 blank), me.1) in x) counts
+            module _ (me1 : SeatOf D C) (ends : me1 ≡ (longer (driver_end form) me (event ring.slots es word 0 blank), me.1)) where
+              end-seat : me1 ≡ (longer (driver_end form) me (event size es word 0 blank), me.1)
+              end-seat = ends ∙ ap (λ (n : ℕ). let x : SeatOf D C = (longer (driver_end form) me (event n es word 0 blank), me.1) in x) counts
 
               -- all slots are with the seat, and the one in front is that of the place
               pub turn-asks : (place : ℕ) → place ≡ length (done_by now).posted % now.table.slots → length (done_by now).given + (done_by now).reclaimed ≡ length (done_by now).posted → me1.1 ≡ empty_slots size place size
               turn-asks place at back = let b : length d.given + d.reclaimed ≡ length d.posted = sym (words-are (λ x n. length x.given + x.reclaimed)) ∙ back ∙ words-are (λ x n. length x.posted) in
-                  ap (λ (m : It). m.1) end-seat ∙ slots-are ∙ ap (empty_slots size (length d.posted)) (let f : length d.given + d.reclaimed + size - length d.posted ≡ size = omega arith in f)
+                  ap (λ (m : SeatOf D C). m.1) end-seat ∙ slots-are ∙ ap (empty_slots size (length d.posted)) (let f : length d.given + d.reclaimed + size - length d.posted ≡ size = omega arith in f)
                   ∙ slots-alike size (length d.posted) place size (let g = big in let f = filled place at in sym (ap (λ (j : ℕ). j % size) f ∙ mod-mod (length d.posted) size))
 
-              module _ (table' : TableId) (me2 : It) (t : table' ≡ table) (same : me2.0 ≡ me1.0) (slots : me2.1 ≡ empty_slots size 0 size) where
+              module _ (table' : TableId) (me2 : SeatOf D C) (t : table' ≡ table) (same : me2.0 ≡ me1.0) (slots : me2.1 ≡ empty_slots size 0 size) where
                 renewed-seat : me2 ≡ (Driver (es ++ event size es word 0 blank ∷ []), empty_slots size 0 size)
-                renewed-seat = ap (λ (v : View (DriverEvent D) (ControllerEvent C)). let x : It = (v, me2.1) in x) (same ∙ ap (λ (m : It). m.0) end-seat)
-                    ∙ ap (λ (xs : List (ℕ × Buffer)). let x : It = (Driver (es ++ event size es word 0 blank ∷ []), xs) in x) slots
+                renewed-seat = ap (λ (v : View (DriverEvent D) (ControllerEvent C)). let x : SeatOf D C = (v, me2.1) in x) (same ∙ ap (λ (m : SeatOf D C). m.0) end-seat)
+                    ∙ ap (λ (xs : List (ℕ × Buffer)). let x : SeatOf D C = (Driver (es ++ event size es word 0 blank ∷ []), xs) in x) slots
 
                 pub end_own-keeps : IsDriverSeat form table' me2 size mode
                 end_own-keeps = let b = big in let m = end-may in let g = m.gone in let d' = drive form d (event size es word 0 blank) in

@@ -22,7 +22,7 @@ use Rattle.shared_ring.specs.Forms.{Form, driving, controlling}
 use Rattle.shared_ring.specs.Keeping.{IsRuled}
 use Rattle.shared_ring.specs.Lies.{driven, IsControlled}
 use Rattle.shared_ring.specs.Meeting.{kept_upto, is_unanswered, served_now}
-use Rattle.shared_ring.specs.Plays.{Seated, Deals, Meets}
+use Rattle.shared_ring.specs.Plays.{SeatOf, Deals, Meets}
 use Rattle.shared_ring.specs.Records.{Driven, Controlled}
 use Rattle.shared_ring.specs.Seats.{driver_half, controller_half, both_halves}
 use Rattle.shared_ring.specs.Tables.{IsTableOf, words_of}
@@ -54,9 +54,6 @@ pub some-words : (ring : TableId) (key : ℕ × Completion) → IsTableOf ring k
 some-words ring key t = let w = t.words in let b = words-big key.0 key.1 in omega arith
 
 module _ {Ring Posted Served Given D C : Type 0} (form : Form Ring Posted Served Given D C) (law : IsDirection form) where
-  abbrev It : Type 0
-  It = Seated (DriverEvent D) (ControllerEvent C)
-
   abbrev V : Type 0
   V = View (DriverEvent D) (ControllerEvent C)
 
@@ -81,16 +78,16 @@ module _ {Ring Posted Served Given D C : Type 0} (form : Form Ring Posted Served
   allow-meet n mode id ds cs slots = allow_both (form.Lies n mode) n (words_of n mode) id ds cs slots 0 (Meets form (step n 0 0 0 none) (Both ds cs, slots))
       (λ q words homes pos l. let a = law.allowed n mode q ds cs words homes pos l in record { same = refl; of_one_ring = a.agree })
 
-  pub meet-asks : (key : ℕ × Completion) (slots id : ℕ) (me : It) (ds : List (DriverEvent D)) (cs : List (ControllerEvent C)) (carried : List (ℕ × Buffer)) → slots ≡ key.0 → me ≡ (Both ds cs, carried) → Allows (IsRuled form key.0 key.1) slots id me 0 (λ x. x) (Meets form (step slots 0 0 0 none) me)
+  pub meet-asks : (key : ℕ × Completion) (slots id : ℕ) (me : SeatOf D C) (ds : List (DriverEvent D)) (cs : List (ControllerEvent C)) (carried : List (ℕ × Buffer)) → slots ≡ key.0 → me ≡ (Both ds cs, carried) → Allows (IsRuled form key.0 key.1) slots id me 0 (λ x. x) (Meets form (step slots 0 0 0 none) me)
   meet-asks key slots id me ds cs carried s e =
       subst (λ (k : ℕ). Allows (IsRuled form key.0 key.1) k id me 0 (λ x. x) (Meets form (step k 0 0 0 none) me)) (sym s)
-      (subst (λ (m : It). Allows (IsRuled form key.0 key.1) key.0 id m 0 (λ x. x) (Meets form (step key.0 0 0 0 none) m)) (sym e) (allow-meet key.0 key.1 id ds cs carried))
+      (subst (λ (m : SeatOf D C). Allows (IsRuled form key.0 key.1) key.0 id m 0 (λ x. x) (Meets form (step key.0 0 0 0 none) m)) (sym e) (allow-meet key.0 key.1 id ds cs carried))
 
-  pub deal-asks : (n : ℕ) (mode : Completion) (key : ℕ × Completion) (slots id : ℕ) (me : It) → 1 < n → form.Reports mode → key ≡ (n, mode) → slots ≡ n → me ≡ (Maker, []) → Allows (IsRuled form key.0 key.1) slots id me (n + 2) (λ x. x) (Deals (step slots (n + 2) 0 0 none) me)
+  pub deal-asks : (n : ℕ) (mode : Completion) (key : ℕ × Completion) (slots id : ℕ) (me : SeatOf D C) → 1 < n → form.Reports mode → key ≡ (n, mode) → slots ≡ n → me ≡ (Maker, []) → Allows (IsRuled form key.0 key.1) slots id me (n + 2) (λ x. x) (Deals (step slots (n + 2) 0 0 none) me)
   deal-asks n mode key slots id me big may k s e =
       subst (λ (x : ℕ × Completion). Allows (IsRuled form x.0 x.1) slots id me (n + 2) (λ x. x) (Deals (step slots (n + 2) 0 0 none) me)) (sym k)
       (subst (λ (x : ℕ). Allows (IsRuled form n mode) x id me (n + 2) (λ x. x) (Deals (step x (n + 2) 0 0 none) me)) (sym s)
-      (subst (λ (m : It). Allows (IsRuled form n mode) n id m (n + 2) (λ x. x) (Deals (step n (n + 2) 0 0 none) m)) (sym e)
+      (subst (λ (m : SeatOf D C). Allows (IsRuled form n mode) n id m (n + 2) (λ x. x) (Deals (step n (n + 2) 0 0 none) m)) (sym e)
       (let o = law.opens n mode big may in allow_deal (form.Lies n mode) n (words_of n mode) id (n + 2) o.0 big o.1)))
 
   -- the last state of a table whose seat has both records

@@ -11,7 +11,8 @@ use Rattle.shared_ring.specs.Accesses.{Access}
 use Rattle.shared_ring.specs.Records as records
 use Rattle.shared_ring.specs.Records.{Driven, Controlled, undriven, uncontrolled}
 
-pub record Form (Ring Posted Served Given D C : Type 0) : Type 1 where
+-- How the records of its two ends are read
+pub record Reading (Posted Served Given D C : Type 0) : Type 1 where
   -- what a driver posts with a word and a buffer, and what steps of the direction's own make
   pub posting : ℕ → Buffer → Posted
   pub drive_own : Driven Posted Given → D → Driven Posted Given
@@ -24,6 +25,10 @@ pub record Form (Ring Posted Served Given D C : Type 0) : Type 1 where
   pub unknown : Known
   pub saw_head : Known → ℕ → Known
   pub know_own : Driven Posted Given → Known → D → Known
+
+pub record Form (Ring Posted Served Given D C : Type 0) : Type 1 where
+  pub reading : Reading Posted Served Given D C
+  pub open reading use *
   -- the piece of a frame that a served item carries
   pub carries : Served → Piece
   -- how its rings may report

@@ -1,5 +1,5 @@
 -- What the fields of a ring and of its two seats keep, and the rule that they lie under.
-use Rattle.std.specs.Prelude.{◌≡◌, ℕ, ◌+◌, ◌<◌, ◌≤◌, [], length, List, Option}
+use Rattle.std.specs.Prelude.{◌≡◌, ℕ, ◌≤◌, [], List, Option}
 use Rattle.atomic_table.specs.Table.{State}
 use Rattle.atomic_table.specs.Seated.{TableId}
 use Rattle.buffer_pool.specs.Buffer.{Buffer}
@@ -8,18 +8,10 @@ use Rattle.ring_model.specs.declared.states.Completion.{Completion}
 use Rattle.shared_ring.specs.declared.events.DriverEvent.{DriverEvent}
 use Rattle.shared_ring.specs.declared.events.ControllerEvent.{ControllerEvent}
 use Rattle.shared_ring.specs.declared.events.View.{View}
-use Rattle.shared_ring.specs.declared.events.View.TheVariants.{Driver, Controller}
 use Rattle.shared_ring.specs.Directions.{IsDirection}
-use Rattle.shared_ring.specs.Forms.{Form, driving, controlling}
-use Rattle.shared_ring.specs.Plays.{Seated}
-use Rattle.shared_ring.specs.Records.{Driven, driver_slots, controller_slots}
-use Rattle.shared_ring.specs.Seats.{driver_part, controller_part}
+use Rattle.shared_ring.specs.Forms.{Form}
+use Rattle.shared_ring.specs.Plays.{End, Seated, driver_end, controller_end}
 use Rattle.shared_ring.specs.Tables.{IsRuledBy, IsTableOf, words_of}
-
--- fewer than n buffers are out
-pub record IsWindow {Posted Given : Type 0} (n : ℕ) (d : Driven Posted Given) : Type 0 where
-  pub back : length d.given + d.reclaimed ≤ length d.posted
-  pub room : length d.posted < length d.given + d.reclaimed + n
 
 module _ {Ring Posted Served Given D C : Type 0} (form : Form Ring Posted Served Given D C) where
   -- the rule at n
@@ -33,18 +25,17 @@ module _ {Ring Posted Served Given D C : Type 0} (form : Form Ring Posted Served
     pub empty : room ≡ []
     pub room_is : key.0 ≤ capacity
 
-  -- the seat has the slots that the record tells
-  pub record IsDriverSeat (table : TableId) (me : Seated (DriverEvent D) (ControllerEvent C)) (size : ℕ) (mode : Completion) : Type 0 where
+  -- the seat of an end has the slots that its record tells
+  pub record IsSeat {E : Type 0} (whose : End (View (DriverEvent D) (ControllerEvent C)) E) (table : TableId) (me : Seated (DriverEvent D) (ControllerEvent C)) (size : ℕ) (mode : Completion) : Type 0 where
     pub law : IsDirection form
     pub size_is : table.slots ≡ size
     pub words : table.words ≡ words_of size mode
     pub lawful : IsRingLength size
-    pub me_is : me ≡ (Driver (driver_part me.0), driver_slots size (driving form (driver_part me.0)))
-    pub window : IsWindow size (driving form (driver_part me.0))
+    pub me_is : me ≡ (whose.seat (whose.part me.0), whose.slots size (whose.part me.0))
+    pub stands : whose.Stands size (whose.part me.0)
 
-  pub record IsControllerSeat (table : TableId) (me : Seated (DriverEvent D) (ControllerEvent C)) (size : ℕ) (mode : Completion) : Type 0 where
-    pub law : IsDirection form
-    pub size_is : table.slots ≡ size
-    pub words : table.words ≡ words_of size mode
-    pub lawful : IsRingLength size
-    pub me_is : me ≡ (Controller (controller_part me.0), controller_slots size (controlling form size (controller_part me.0)))
+  abbrev pub IsDriverSeat : TableId → Seated (DriverEvent D) (ControllerEvent C) → ℕ → Completion → Type 0
+  IsDriverSeat table me size mode = IsSeat (driver_end form) table me size mode
+
+  abbrev pub IsControllerSeat : TableId → Seated (DriverEvent D) (ControllerEvent C) → ℕ → Completion → Type 0
+  IsControllerSeat table me size mode = IsSeat (controller_end form) table me size mode

@@ -48,3 +48,8 @@ module _ {Posted Served Given : Type 0} (says : ℕ → Option Posted → Option
 abbrev pub AllLeft : {Posted Served Given : Type 0} → (Option Posted → Option Served → Option Buffer) → ℕ → Queue Posted Served Given → List Buffer → Type 0
 AllLeft lies n q slots = (k : ℕ) (b : Buffer) → returned_count q ≤ k → k < posted_count q → (q.held ≡ true → ¬ (k ≡ served_count q))
     → lies (slice_get q.ledger.posted k) (slice_get q.ledger.served k) ≡ Some b → get_elem? slots (k % n) ≡ some b
+
+-- and both records are those of one ring
+pub record LeftOf {Posted Served Given : Type 0} (Of : Type 0) (queue_of : Of → Queue Posted Served Given) (lies : Option Posted → Option Served → Option Buffer) (n : ℕ) (slots : List Buffer) : Type 0 where
+  pub of_one_ring : Of
+  pub buffers : AllLeft lies n (queue_of of_one_ring) slots

@@ -1,5 +1,5 @@
 -- What both ends know together: as they are made, as they meet, and as the ring is closed.
-use Rattle.std.specs.Prelude.{◌≡◌, ℕ, zero, suc, ◌+◌, ◌<◌, Bool, not, ◌&&◌, ◌==◌, nat_lt, List, [], ◌∷◌, ◌++◌, length, map, drop, slice_get, Option, Some, None, IfSome, All, IsPermutation, if◌then◌else◌}
+use Rattle.std.specs.Prelude.{◌≡◌, ℕ, zero, suc, ◌+◌, ◌%◌, ◌<◌, ◌≤◌, Bool, not, ◌&&◌, ◌==◌, nat_lt, List, [], ◌∷◌, ◌++◌, length, map, drop, slice_get, Option, Some, None, IfSome, All, IsPermutation, if◌then◌else◌}
 use mathlib.Core.Option as maybe
 use mathlib.Core.Option.{some, none}
 use lib.ListN.{get_elem?}
@@ -87,6 +87,12 @@ module _ {Ring Posted Served Given D C : Type 0} {form : Form Ring Posted Served
   -- both records are those of one ring
   abbrev pub Met : DriverSide form → ControllerSide form → Type 0
   Met d c = form.AreOf (driver_size d) d.events c.events
+
+  -- the item is out, and this is its place
+  pub record IsOutAt (d : DriverSide form) (item place : ℕ) : Type 0 where
+    pub out : returned d ≤ item
+    pub posted_item : item < length (posted d)
+    pub place_is : item % driver_size d ≡ place
 
   -- what lies in the slots as the table is closed
   abbrev pub LeftIn : DriverSide form → ControllerSide form → List Buffer → Type 0

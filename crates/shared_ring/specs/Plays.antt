@@ -9,24 +9,30 @@ use Rattle.shared_ring.specs.declared.events.ControllerEvent.TheVariants.{Enable
 use Rattle.shared_ring.specs.declared.events.View.{View}
 use Rattle.shared_ring.specs.declared.events.View.TheVariants.{Driver, Controller, Both}
 use Rattle.shared_ring.specs.Accesses.{Access, access}
-use Rattle.shared_ring.specs.Forms.{Form, controlling, driver_access, controller_access}
+use Rattle.shared_ring.specs.Forms.{Form, driving, controlling, driver_access, controller_access}
 use Rattle.shared_ring.specs.Own.{Event, Tells}
-use Rattle.shared_ring.specs.Records.{count_at}
+use Rattle.shared_ring.specs.Records.{count_at, driver_slots, controller_slots, IsWindow}
 use Rattle.shared_ring.specs.Seats.{driver_part, controller_part}
 use Rattle.shared_ring.specs.Slots.{front_buffer, empty_slots}
 
 abbrev pub Seated : Type 0 → Type 0 → Type 0
 Seated D C = Me Buffer (View D C)
 
+-- a seat at the table of a ring of one direction
+abbrev pub SeatOf : Type 0 → Type 0 → Type 0
+SeatOf D C = Seated (DriverEvent D) (ControllerEvent C)
+
 -- both records are empty, and all slots are out, in order
 pub record Deals {D C : Type 0} (st : Step Buffer) (m : Seated D C) (r : ℕ) (m' : Seated D C) : Type 0 where
   pub seat : m' ≡ (Both [] [], empty_slots st.slots 0 st.slots)
 
--- An end of a ring: its record in a view, the view of the seat that has a record, and which word and value an event of its names in a ring of n places
-pub record End (V E : Type 0) : Type 0 where
+-- An end of a ring: its record in a view, and the view of the seat that has a record; and in a ring of n places, which word and value an event of its names, which slots its seat has after a record, and what goes for each record
+pub record End (V E : Type 0) : Type 1 where
   pub part : V → List E
   pub seat : List E → V
   pub names : ℕ → E → Access
+  pub slots : ℕ → List E → List (ℕ × Buffer)
+  pub Stands : ℕ → List E → Type 0
 
 -- What a control value that is stored makes of the end's record
 abbrev pub asks : {D : Type 0} → ℕ → DriverEvent D
@@ -44,13 +50,13 @@ IsPlace n es i r b = r < n
 
 module _ {Ring Posted Served Given D C : Type 0} (form : Form Ring Posted Served Given D C) where
   abbrev pub driver_end : End (View (DriverEvent D) (ControllerEvent C)) (DriverEvent D)
-  driver_end = record { part = driver_part; seat = Driver; names = driver_access form }
+  driver_end = record { part = driver_part; seat = Driver; names = driver_access form; slots = λ n es. driver_slots n (driving form es); Stands = λ n es. IsWindow n (driving form es) }
 
   abbrev pub controller_end : End (View (DriverEvent D) (ControllerEvent C)) (ControllerEvent C)
-  controller_end = record { part = controller_part; seat = Controller; names = controller_access form }
+  controller_end = record { part = controller_part; seat = Controller; names = controller_access form; slots = λ n es. controller_slots n (controlling form n es); Stands = λ n es. Unit {0} }
 
   -- both records are those of one ring
-  pub record Meets (st : Step Buffer) (m : Seated (DriverEvent D) (ControllerEvent C)) (r : ℕ) (m' : Seated (DriverEvent D) (ControllerEvent C)) : Type 0 where
+  pub record Meets (st : Step Buffer) (m : SeatOf D C) (r : ℕ) (m' : SeatOf D C) : Type 0 where
     pub same : m' ≡ m
     pub of_one_ring : form.AreOf st.slots (driver_part m.0) (controller_part m.0)
 
@@ -65,9 +71,13 @@ module _ {Ring Posted Served Given D C : Type 0} (form : Form Ring Posted Served
 
 -- The kinds of steps that an end makes. What a step adds to the end's record is its event, of the value that was found or stored, and of the buffer whose slot it takes or gives back
 module _ {V E : Type 0} (whose : End V E) where
+  -- the view with one more event in the end's record
+  abbrev pub longer : Me Buffer V → E → V
+  longer m e = whose.seat (whose.part m.0 ++ e ∷ [])
+
   -- The end's record is longer by this event, which names the word of the step and the value found or stored there; and these slots are with the seat
   pub record Adds (st : Step Buffer) (m : Me Buffer V) (r : ℕ) (e : E) (slots : List (ℕ × Buffer)) (m' : Me Buffer V) : Type 0 where
-    pub seat : m' ≡ (whose.seat (whose.part m.0 ++ e ∷ []), slots)
+    pub seat : m' ≡ (longer m e, slots)
     pub names : whose.names st.slots e ≡ access st.word r
 
   -- The law of each play by which an end makes a step: its record is longer by exactly one event

@@ -1,5 +1,5 @@
 -- What the records of the two ends amount to.
-use Rattle.std.specs.Prelude.{ℕ, ◌+◌, ◌-◌, ◌%◌, Bool, true, false, List, [], ◌∷◌, ◌++◌, length, Option, Some, None}
+use Rattle.std.specs.Prelude.{ℕ, ◌+◌, ◌-◌, ◌%◌, ◌<◌, ◌≤◌, Bool, true, false, List, [], ◌∷◌, ◌++◌, length, Option, Some, None}
 use Rattle.buffer_pool.specs.Buffer.{Buffer}
 use Rattle.ring_model.specs.declared.states.DriverState.{DriverState}
 use Rattle.ring_model.specs.declared.states.DriverState.TheVariants.{New, Asked, Stopping, Cleared, Tailed}
@@ -96,3 +96,8 @@ driver_slots n d = empty_slots n (length d.posted) (length d.given + d.reclaimed
 -- the slot that the controller has: that of the fetched buffer
 abbrev pub controller_slots : {Served : Type 0} → ℕ → Controlled Served → List (ℕ × Buffer)
 controller_slots n c = slots_while (length c.served % n) c.held
+
+-- fewer than n buffers are out
+pub record IsWindow {Posted Given : Type 0} (n : ℕ) (d : Driven Posted Given) : Type 0 where
+  pub back : length d.given + d.reclaimed ≤ length d.posted
+  pub room : length d.posted < length d.given + d.reclaimed + n

@@ -26,5 +26,6 @@ pub use ends::{
     SharedRing,
 };
 pub use events::{ControllerEvent, DriverEvent, View};
+pub use plays::EndEvent;
 pub use refusals::RingError;
-pub use steps::{ControllerSeat, DriverSeat, Ring, Rule};
+pub use steps::{ControllerSeat, DriverSeat, EndSeat, Ring, Rule};

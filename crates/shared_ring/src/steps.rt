@@ -1,4 +1,7 @@
 //! The steps on a ring's table. Each function below makes one kind of step, by which its end's record grows.
+ghost use Rattle.std.specs.Prelude.{◌≡◌};
+ghost use Rattle.limits.specs.RingLength.{IsRingLength};
+ghost use Rattle.shared_ring.specs.Directions.{IsDirection};
 
 mod controller;
 mod driver;
@@ -7,6 +10,7 @@ mod own;
 
 use crate::direction::Direction;
 use crate::events::{ControllerEvent, DriverEvent, View};
+use crate::plays::EndEvent;
 use atomic_table::{Seat, Table, TableRule};
 use buffer_pool::Buf;
 use ring_model::Completion;
@@ -60,46 +64,47 @@ impl<D, C, R: Direction<D, C>> Model for Ring<D, C, R> {
     ghost invariant = { λ r. IsRing R.form r.table.shared.table_id r.table.shared.key r.room.items (vec_capacity r.room) };
 }
 
-/// A driver's seat at a ring's table, with the slots of the places that are not out.
+/// An end's seat at a ring's table, by the end's events: with the slots of the places that are not out where it is the
+/// driver's, and with the slot of the buffer that it fetched where it is the controller's.
 #[derive(Drop)]
-pub struct DriverSeat<D, C, R: Direction<D, C>> {
+pub struct EndSeat<E: EndEvent<D, C, R>, D, C, R: Direction<D, C>> {
     seat: Seat<Buf, View<DriverEvent<D>, ControllerEvent<C>>>,
     size: u16,
     completion: Completion,
-    direction: PhantomData<R>,
+    events: PhantomData<(E, R)>,
 }
 
-impl<D, C, R: Direction<D, C>> Model for DriverSeat<D, C, R> {
-    ghost use Rattle.shared_ring.specs.declared.events.DriverEvent.{DriverEvent};
+pub type DriverSeat<D, C, R> = EndSeat<DriverEvent<D>, D, C, R>;
+
+pub type ControllerSeat<D, C, R> = EndSeat<ControllerEvent<C>, D, C, R>;
+
+impl<E: EndEvent<D, C, R>, D, C, R: Direction<D, C>> Model for EndSeat<E, D, C, R> {
     ghost use Rattle.shared_ring.specs.Ends.{Side};
-    ghost use Rattle.shared_ring.specs.Keeping.{IsDriverSeat};
-    ghost use Rattle.shared_ring.specs.Seats.{driver_part};
+    ghost use Rattle.shared_ring.specs.Keeping.{IsSeat};
 
-    ghost Value = { Side (DriverEvent D) };
+    ghost Value = { Side E };
 
-    ghost view = { λ s. record { table = s.seat.table_id; completion = s.completion; events = driver_part s.seat.me.0 } };
+    ghost view = { λ s. record { table = s.seat.table_id; completion = s.completion; events = E.whose.part s.seat.me.0 } };
 
-    ghost invariant = { λ s. IsDriverSeat R.form s.seat.table_id s.seat.me s.size s.completion };
+    ghost invariant = { λ s. IsSeat R.form E.whose s.seat.table_id s.seat.me s.size s.completion };
 }
 
-/// A controller's seat at a ring's table, with the slot of the buffer that it fetched.
-#[derive(Drop)]
-pub struct ControllerSeat<D, C, R: Direction<D, C>> {
-    seat: Seat<Buf, View<DriverEvent<D>, ControllerEvent<C>>>,
-    size: u16,
-    completion: Completion,
-    direction: PhantomData<R>,
-}
+impl<E: EndEvent<D, C, R>, D, C, R: Direction<D, C>> EndSeat<E, D, C, R> {
+    /// The ring's length.
+    #[inline]
+    pub fn size(&self) -> u16
+        ensures value { result ≡ self.now.table.slots }
+        ensures lawful { IsRingLength result }
+        ensures law { IsDirection R.form }
+    {
+        self.size
+    }
 
-impl<D, C, R: Direction<D, C>> Model for ControllerSeat<D, C, R> {
-    ghost use Rattle.shared_ring.specs.declared.events.ControllerEvent.{ControllerEvent};
-    ghost use Rattle.shared_ring.specs.Ends.{Side};
-    ghost use Rattle.shared_ring.specs.Keeping.{IsControllerSeat};
-    ghost use Rattle.shared_ring.specs.Seats.{controller_part};
-
-    ghost Value = { Side (ControllerEvent C) };
-
-    ghost view = { λ s. record { table = s.seat.table_id; completion = s.completion; events = controller_part s.seat.me.0 } };
-
-    ghost invariant = { λ s. IsControllerSeat R.form s.seat.table_id s.seat.me s.size s.completion };
+    /// How the ring reports.
+    #[inline]
+    pub fn completion(&self) -> Completion
+        ensures { result ≡ self.now.completion }
+    {
+        self.completion
+    }
 }

@@ -22,7 +22,7 @@ module _ (d : DriverSide) (c : ControllerSide) (at : DriverPlaces) (e : IsPoster
   pub closed : IsClosed d c buffers × AllReal buffers × AllCameBack d c buffers
   closed = let l = t.left in let a = l.of_one_ring in let b = a.lawful in let g : 8 ≤ driver_size d = e.lawful.0 in let k = tx_kept (driver_size d) a.queue (omega arith) a.reachable in
       let all = comes-back d c at e same places h (says q) lies_there ends_posting q.queue k.queue q.owners b.map a.size_is q.owed a.driver a.controller t.slots l.buffers
-          (λ k x is. (filled x, (refl, refl))) (λ x y of. subst IsReal (sym of) refl) number_of_posting (λ x y of. ap (λ (z : Buffer). z.number) of) (λ x. (filled x, (refl, refl)))
-          (GaveBack d (kept_upto (kept_at (driver_size d) at.next at.out places.serve places.holding t.slots) (driver_size d)))
-          (λ place k x y out more is there was of. record { item = k; posting = x; out = out; posted_item = more; place_is = is; there = there ∙ ap (λ (z : Buffer). Some (Some z)) of; posting_is = was }) in
+      (λ k x is. (filled x, (refl, refl))) (λ x y of. subst IsReal (sym of) refl) number_of_posting (λ x y of. ap (λ (z : Buffer). z.number) of) (λ x. (filled x, (refl, refl)))
+      (GaveBack d (kept_upto (kept_at (driver_size d) at.next at.out places.serve places.holding t.slots) (driver_size d)))
+      (λ place k x y out there was of. record { item = k; posting = x; is_out = out; there = there ∙ ap (λ (z : Buffer). Some (Some z)) of; posting_is = was }) in
       subst (λ (bs : List (Option Buffer)). IsClosed d c bs × AllReal bs × AllCameBack d c bs) (sym t.kept) (record { of_one_ring = l.of_one_ring; places = all.0 }, all.1, all.2)

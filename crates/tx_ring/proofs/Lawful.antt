@@ -33,7 +33,7 @@ use Rattle.shared_ring.proofs.Lying.{left-lies}
 use Rattle.shared_ring.proofs.Laying.{home-full, unheld_item}
 use Rattle.shared_ring.proofs.Shaking.{control_value}
 use Rattle.tx_ring.specs.Form as form
-use Rattle.tx_ring.specs.Form.{AreOf, LeftIn}
+use Rattle.tx_ring.specs.Form.{AreOf}
 use Rattle.tx_ring.specs.Records.{Posting, TxDriven, TxControlled, DriverStep, ControllerStep, driving, controlling, posting_of}
 use Rattle.tx_ring.specs.Rule.{LiesAs, filled, says, lies_there, word_of}
 use Rattle.tx_ring.proofs.Words.{posting-posted}
@@ -228,7 +228,7 @@ module _ (n : ℕ) (mode : Completion) (q : TxRing Bytes) (ds : List DriverStep)
   both : AreOf n ds cs
   both = let o = k.queue in record { queue = q; reachable = l.reachable; driver = l.driver; controller = l.controller; learnt = l.learnt; lawful = tx_lawful n q k; size_is = o.size_is }
 
-  left : (slots : List Buffer) → ((j : ℕ) (y : Buffer) → get_elem? homes j ≡ some (some y) → get_elem? slots j ≡ some y) → LeftIn n ds cs slots
+  left : (slots : List Buffer) → ((j : ℕ) (y : Buffer) → get_elem? homes j ≡ some (some y) → get_elem? slots j ≡ some y) → (form.tx).LeftIn n ds cs slots
   unfolding both
   left slots found_back = record { of_one_ring = both; buffers = left-lies (says q) lies_there n (words_of n mode) q.queue 0 words homes l.lies slots found_back }
 

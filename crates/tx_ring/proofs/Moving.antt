@@ -53,8 +53,8 @@ zero-mod n pos = let h : 0 < n = omega arith in mod-eq_of_lt h
 
 -- what is so of none and of some is so of each
 either-way : {A X : Type 0} (f : Option A → X) (x : X) → f None ≡ x → ((y : A) → f (Some y) ≡ x) → (o : Option A) → f o ≡ x
-either-way f x none some None = none
-either-way f x none some (Some y) = some y
+either-way f x nothing each None = nothing
+either-way f x nothing each (Some y) = each y
 
 module _ (n : ℕ) (mode : Completion) (q : TxRing Bytes) (ds : List DriverStep) (cs : List ControllerStep) (words : List ℕ) (homes : List (maybe.Option Buffer)) (pos : 1 < n) (l : LiesAs n mode q ds cs words homes) where
   abbrev k : IsTxKept Bytes n q

@@ -8,11 +8,11 @@ use Rattle.ring_model.specs.transmit.Lawful.{IsLawfulTx}
 use Rattle.ring_model.specs.transmit.Ring.{TxRing, are_whole, carried}
 use Rattle.ring_model.specs.transmit.Steps.{IsTxReachable, by_head}
 use Rattle.shared_ring.specs.Forms.{Form}
-use Rattle.shared_ring.specs.Lies.{driven, IsControlled, AllLeft}
+use Rattle.shared_ring.specs.Lies.{driven, IsControlled, LeftOf}
 use Rattle.tx_ring.specs.declared.events.TxDriverOwn.{TxDriverOwn}
 use Rattle.tx_ring.specs.declared.events.TxControllerOwn.{TxControllerOwn}
 use Rattle.descriptor.specs.Transmit.{eop_of, rs_of, paylen_of}
-use Rattle.tx_ring.specs.Records.{Posting, TxControlled, DriverStep, ControllerStep, driving, controlling, Knowing, unknown, saw_head, know_own, knowing, posting_of, drive_own, control_own, driver_names, controller_names}
+use Rattle.tx_ring.specs.Records.{Posting, TxControlled, DriverStep, ControllerStep, driving, controlling, Knowing, knowing, posting_of, reading}
 use Rattle.tx_ring.specs.Rule.{Learnt, LiesAs, filled, says, lies_there, word_of}
 
 -- both records are those of one lawful ring that a schedule makes, of which the driver has learnt what it says
@@ -24,11 +24,6 @@ pub record AreOf (n : ℕ) (ds : List DriverStep) (cs : List ControllerStep) : T
   pub learnt : Learnt n queue (knowing ds)
   pub lawful : IsLawfulTx Bytes queue
   pub size_is : queue.size ≡ n
-
--- what lies in the slots as the table is closed: the buffer of each item that is out and not held
-pub record LeftIn (n : ℕ) (ds : List DriverStep) (cs : List ControllerStep) (slots : List Buffer) : Type 0 where
-  pub of_one_ring : AreOf n ds cs
-  pub buffers : AllLeft lies_there n of_one_ring.queue.queue slots
 
 -- a posting with its word and its buffer, which may follow what is posted
 pub record IsPosting (n : ℕ) (xs : List Posting) (word : ℕ) (b : Buffer) : Type 0 where
@@ -47,15 +42,7 @@ pub record IsFetchedAs (n : ℕ) (c : TxControlled) (word : ℕ) (b : Buffer) : 
 -- whole frames are published, and a disabling is answered after a whole frame with no report owed
 abbrev pub tx : Form (TxRing Bytes) Posting Posting ℕ TxDriverOwn TxControllerOwn
 tx = record {
-  posting = posting_of;
-  drive_own = drive_own;
-  control_own = control_own;
-  driver_names = driver_names;
-  controller_names = controller_names;
-  Known = Knowing;
-  unknown = unknown;
-  saw_head = saw_head;
-  know_own = know_own;
+  reading = reading;
   carries = carried;
   Reports = λ mode. Unit {0};
   MayPost = IsPosting;
@@ -66,5 +53,5 @@ tx = record {
   IsOf = λ p b. b ≡ filled p;
   Lies = LiesAs;
   AreOf = AreOf;
-  LeftIn = LeftIn;
+  LeftIn = λ n ds cs slots. LeftOf (AreOf n ds cs) (λ a. a.queue.queue) lies_there n slots;
 }

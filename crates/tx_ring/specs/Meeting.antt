@@ -4,7 +4,7 @@ use Rattle.buffer_pool.specs.Buffer.{Buffer}
 use Rattle.ring_model.specs.shared.Frames.{Bytes}
 use Rattle.ring_model.specs.transmit.Ring.{TxLedger, number_of_posting}
 use Rattle.shared_ring.specs.Meeting as shared
-pub use Rattle.shared_ring.specs.Meeting.{MadeSeats, is_unanswered, served_now as sent_now, Met, IsTold, IsReal, AllReal, CameBackFrom, numbers_at}
+pub use Rattle.shared_ring.specs.Meeting.{MadeSeats, is_unanswered, served_now as sent_now, Met, IsTold, IsReal, AllReal, CameBackFrom, IsOutAt, numbers_at}
 use Rattle.tx_ring.specs.Ends.{DriverSide, driver_size, posted, returned, cleaned, known_of, ControllerSide}
 use Rattle.tx_ring.specs.Form.{AreOf}
 use Rattle.tx_ring.specs.Records.{Posting}
@@ -38,9 +38,8 @@ AllCameBack d c buffers = shared.AllCameBack number_of_posting d c buffers
 pub record GaveBack (d : DriverSide) (buffers : List (Option Buffer)) (place : ℕ) : Type 0 where
   pub item : ℕ
   pub posting : Posting
-  pub out : returned d ≤ item
-  pub posted_item : item < length (posted d)
-  pub place_is : item % driver_size d ≡ place
+  pub is_out : IsOutAt d item place
+  pub open is_out use *
   pub there : slice_get buffers place ≡ Some (Some (filled posting))
   pub posting_is : slice_get (posted d) item ≡ Some posting
 

@@ -11,6 +11,7 @@ use Rattle.shared_ring.specs.declared.events.DriverEvent.{DriverEvent}
 use Rattle.shared_ring.specs.declared.events.ControllerEvent.{ControllerEvent}
 use Rattle.shared_ring.specs.declared.events.ControllerEvent.TheVariants as controller
 use Rattle.shared_ring.specs.Accesses.{Access, access}
+use Rattle.shared_ring.specs.Forms.{Reading}
 use Rattle.shared_ring.specs.Records as shared
 use Rattle.shared_ring.specs.Records.{Driven, Controlled, undriven, uncontrolled}
 use Rattle.tx_ring.specs.declared.events.TxDriverOwn.{TxDriverOwn}
@@ -123,3 +124,16 @@ know = shared.know posting_of drive_own saw_head know_own
 
 abbrev pub knowing : List DriverStep → Knowing
 knowing es = shared.knowing_from posting_of drive_own saw_head know_own undriven unknown es
+
+abbrev pub reading : Reading Posting Posting ℕ TxDriverOwn TxControllerOwn
+reading = record {
+  posting = posting_of;
+  drive_own = drive_own;
+  control_own = control_own;
+  driver_names = driver_names;
+  controller_names = controller_names;
+  Known = Knowing;
+  unknown = unknown;
+  saw_head = saw_head;
+  know_own = know_own;
+}

@@ -53,25 +53,12 @@ pub(crate) fn write_back(
 }
 
 /// A7: stores the head (RDH).
-struct HeadStore;
+pub(crate) struct HeadStore;
 
 impl OwnStep<RxControllerEvent> for HeadStore {
     ghost use Rattle.rx_ring.specs.Plays.{stores_head};
 
     ghost event = { stores_head };
-}
-
-/// A7: the head.
-#[inline]
-pub(crate) fn set_head(seat: &mut RxControllerSeat, ring: &RxShared, head: u16)
-    requires own { seat.old.table ≡ ring.now }
-    requires head { head ≡ serve_place (controller_of rx seat.old) }
-    requires serving { is_serving (controller_state (controller_of rx seat.old)) ≡ true }
-    requires held { held_number (controller_of rx seat.old) ≡ None }
-    ensures { controller_of rx seat.new ≡ answered (controller_of rx seat.old) (controller.StoredHead head) }
-{
-    let word = seat.size() as usize;
-    seat.store_own::<HeadStore>(ring, word, head as u64);
 }
 
 /// C7: stores 1 as the quiet word.

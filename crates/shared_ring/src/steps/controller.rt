@@ -1,41 +1,25 @@
 //! The controller's shared steps.
 ghost use Rattle.std.specs.Prelude.{◌≡◌, ◌<◌, true, false, None};
-ghost use Rattle.limits.specs.RingLength.{IsRingLength};
 ghost use Rattle.ring_model.specs.shared.Handshakes.{is_serving};
-ghost use Rattle.shared_ring.specs.Calls.{IsServer, MayAnswer, Answered, MayLoadWord, LoadedWord};
+ghost use Rattle.shared_ring.specs.Calls.{IsServer, MayTell, MayAnswer, Answered, MayLoadWord, LoadedWord};
 ghost use Rattle.shared_ring.specs.Words.{control_word};
-ghost use Rattle.shared_ring.specs.declared.events.ControllerEvent.TheVariants.{LoadedRequest, Enabled, Disabled};
-ghost use Rattle.shared_ring.specs.Ends.{controller_record, known_ahead, held, head_stored, seen, controller_state, is_barred, serve_place, controller_of, grown};
+ghost use Rattle.shared_ring.specs.declared.events.ControllerEvent.TheVariants.{LoadedRequest};
+ghost use Rattle.shared_ring.specs.Ends.{controller_record, known_ahead, held, controller_state, is_barred, serve_place, controller_of, grown};
+ghost use Rattle.shared_ring.specs.Plays.{answers};
 ghost use Rattle.shared_ring.specs.Steps.{FoundTail, CameOut};
 
-use super::{ControllerSeat, Ring};
+use super::{EndSeat, Ring};
 use crate::accesses::{load, store};
 use crate::control::Control;
 use crate::direction::Direction;
 use crate::ends::{ControllerLoad, ControllerPlaces};
+use crate::events::ControllerEvent;
 use crate::plays::{AnswerStore, Loads, NextLoad, RequestLoad, Stores, TailLoad, Takes};
 use crate::slots::take_out;
 use buffer_pool::Buf;
-use ring_model::{Completion, ControllerState, places_between};
+use ring_model::{ControllerState, places_between};
 
-impl<D, C, R: Direction<D, C>> ControllerSeat<D, C, R> {
-    /// The ring's length.
-    #[inline]
-    pub fn size(&self) -> u16
-        ensures value { result ≡ self.now.table.slots }
-        ensures lawful { IsRingLength result }
-    {
-        self.size
-    }
-
-    /// How the ring reports.
-    #[inline]
-    pub fn completion(&self) -> Completion
-        ensures { result ≡ self.now.completion }
-    {
-        self.completion
-    }
-
+impl<D, C, R: Direction<D, C>> EndSeat<ControllerEvent<C>, D, C, R> {
     /// A3, B3: the tail.
     #[inline]
     pub fn look(&mut self, ring: &Ring<D, C, R>) -> u16
@@ -79,32 +63,16 @@ impl<D, C, R: Direction<D, C>> ControllerSeat<D, C, R> {
         Control::of_word(value)
     }
 
-    /// C3, for an enabling.
+    /// C3: 2, enabled, or 0, disabled, is stored as the control word (RXDCTL, TXDCTL).
     #[inline]
-    pub fn enable(&mut self, ring: &Ring<D, C, R>)
+    pub fn tell(&mut self, ring: &Ring<D, C, R>, told: Control)
         requires own { self.old.table ≡ ring.now }
-        requires asked { seen (controller_of R.form self.old) ≡ 1 }
-        requires idle { is_serving (controller_state (controller_of R.form self.old)) ≡ false }
-        requires held { held (controller_of R.form self.old) ≡ None }
-        ensures { self.new ≡ grown self.old Enabled }
+        requires may { MayTell told (controller_of R.form self.old) }
+        ensures { self.new ≡ grown self.old (answers (control_word told)) }
     {
         let word = self.size as usize + 2;
-        store::<Stores<AnswerStore, _, R>, _, _, _, _>(&ring.table, &mut self.seat, word, 2);
-    }
-
-    /// C3, for a disabling.
-    #[inline]
-    pub fn disable(&mut self, ring: &Ring<D, C, R>)
-        requires own { self.old.table ≡ ring.now }
-        requires asked { seen (controller_of R.form self.old) ≡ 3 }
-        requires serving { is_serving (controller_state (controller_of R.form self.old)) ≡ true }
-        requires held { held (controller_of R.form self.old) ≡ None }
-        requires head { head_stored (controller_of R.form self.old) ≡ serve_place (controller_of R.form self.old) }
-        requires may { R.form.MayDisable (controller_record (controller_of R.form self.old)) }
-        ensures { self.new ≡ grown self.old Disabled }
-    {
-        let word = self.size as usize + 2;
-        store::<Stores<AnswerStore, _, R>, _, _, _, _>(&ring.table, &mut self.seat, word, 0);
+        let value = told.word() as u64;
+        store::<Stores<AnswerStore, _, R>, _, _, _, _>(&ring.table, &mut self.seat, word, value);
     }
 
     /// A3, B3 or C2: what the word tells is kept.
@@ -144,11 +112,11 @@ impl<D, C, R: Direction<D, C>> ControllerSeat<D, C, R> {
         ensures at { IsServer R.form.carries self.new.table.slots (controller_record (controller_of R.form self.new)) at.new }
     {
         if at.state.is_serving() {
-            self.disable(ring);
+            self.tell(ring, Control::Disabled);
             at.state = ControllerState::Ended;
             at.seen = Control::Disabled;
         } else {
-            self.enable(ring);
+            self.tell(ring, Control::Enabled);
             at.serve = 0;
             at.ahead = 0;
             at.between = true;

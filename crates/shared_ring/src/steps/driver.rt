@@ -1,47 +1,29 @@
 //! The driver's shared steps.
 ghost use Rattle.std.specs.Prelude.{◌≡◌, ◌+◌, ◌<◌, true, length};
-ghost use Rattle.limits.specs.RingLength.{IsRingLength};
-ghost use Rattle.ring_model.specs.shared.Handshakes.{is_open, is_new, is_on, is_stopped, is_cleared};
+ghost use Rattle.ring_model.specs.shared.Handshakes.{is_open, is_stopped, is_cleared};
 ghost use Rattle.shared_ring.specs.Words.{control_word};
-ghost use Rattle.shared_ring.specs.declared.events.DriverEvent.TheVariants.{Posted, Published, AskedEnable, LoadedControl, AskedDisable, LoadedHead, ClearedHead, ClearedTail};
-ghost use Rattle.shared_ring.specs.Calls.{IsPoster, MayShake, StoredBy, shake_event, shaken, ReclaimedNext};
-ghost use Rattle.shared_ring.specs.Directions.{IsDirection};
+ghost use Rattle.shared_ring.specs.declared.events.DriverEvent.TheVariants.{Posted, Published, LoadedControl, LoadedHead, ClearedHead, ClearedTail};
+ghost use Rattle.shared_ring.specs.Calls.{IsPoster, MayAsk, MayShake, StoredBy, shake_event, shaken, ReclaimedNext};
 ghost use Rattle.shared_ring.specs.Ends.{driver_record, posted, returned, driver_state, fill_place, next_place, driver_of, grown};
+ghost use Rattle.shared_ring.specs.Plays.{asks};
 ghost use Rattle.shared_ring.specs.Steps.{CameBack};
 
 use super::own::Reclaiming;
-use super::{DriverSeat, Ring};
+use super::{EndSeat, Ring};
 use crate::accesses::{load, store};
 use crate::control::Control;
 use crate::direction::Direction;
 use crate::ends::{DriverPlaces, HandshakeStep};
+use crate::events::DriverEvent;
 use crate::plays::{
     AskStore, ClearHeadStore, ClearTailStore, ControlLoad, Gives, HeadLoad, Loads, PostStore,
     PublishStore, Stores,
 };
 use crate::slots::put_in;
 use buffer_pool::Buf;
-use ring_model::{Completion, DriverState, place_after};
+use ring_model::{DriverState, place_after};
 
-impl<D, C, R: Direction<D, C>> DriverSeat<D, C, R> {
-    /// The ring's length.
-    #[inline]
-    pub fn size(&self) -> u16
-        ensures value { result ≡ self.now.table.slots }
-        ensures lawful { IsRingLength result }
-        ensures law { IsDirection R.form }
-    {
-        self.size
-    }
-
-    /// How the ring reports.
-    #[inline]
-    pub fn completion(&self) -> Completion
-        ensures { result ≡ self.now.completion }
-    {
-        self.completion
-    }
-
+impl<D, C, R: Direction<D, C>> EndSeat<DriverEvent<D>, D, C, R> {
     /// A1, B1: a buffer goes into the next slot, and its descriptor becomes this word.
     #[inline]
     pub fn post(&mut self, ring: &Ring<D, C, R>, place: u16, word: u64, buf: Buf)
@@ -70,15 +52,16 @@ impl<D, C, R: Direction<D, C>> DriverSeat<D, C, R> {
         store::<Stores<PublishStore, _, R>, _, _, _, _>(&ring.table, &mut self.seat, word, tail);
     }
 
-    /// C1: asks for enabling; 1 is stored as the control word (RXDCTL, TXDCTL).
+    /// C1 or C5: 1, enabling asked, or 3, disabling asked, is stored as the control word (RXDCTL, TXDCTL).
     #[inline]
-    pub fn ask_enable(&mut self, ring: &Ring<D, C, R>)
+    pub fn ask(&mut self, ring: &Ring<D, C, R>, request: Control)
         requires own { self.old.table ≡ ring.now }
-        requires new { is_new (driver_state (driver_of R.form self.old)) ≡ true }
-        ensures { self.new ≡ grown self.old AskedEnable }
+        requires may { MayAsk request (driver_state (driver_of R.form self.old)) }
+        ensures { self.new ≡ grown self.old (asks (control_word request)) }
     {
         let word = self.size as usize + 2;
-        store::<Stores<AskStore, _, R>, _, _, _, _>(&ring.table, &mut self.seat, word, 1);
+        let value = request.word() as u64;
+        store::<Stores<AskStore, _, R>, _, _, _, _>(&ring.table, &mut self.seat, word, value);
     }
 
     /// C4: loads the control word (RXDCTL, TXDCTL), for what the controller answered.
@@ -90,17 +73,6 @@ impl<D, C, R: Direction<D, C>> DriverSeat<D, C, R> {
         let word = self.size as usize + 2;
         let value = load::<Loads<ControlLoad, _, R>, _, _, _, _>(&ring.table, &mut self.seat, word);
         Control::of_word(value)
-    }
-
-    /// C5: asks for disabling; 3 is stored as the control word (RXDCTL, TXDCTL).
-    #[inline]
-    pub fn ask_disable(&mut self, ring: &Ring<D, C, R>)
-        requires own { self.old.table ≡ ring.now }
-        requires on { is_on (driver_state (driver_of R.form self.old)) ≡ true }
-        ensures { self.new ≡ grown self.old AskedDisable }
-    {
-        let word = self.size as usize + 2;
-        store::<Stores<AskStore, _, R>, _, _, _, _>(&ring.table, &mut self.seat, word, 3);
     }
 
     /// The load of the head.
@@ -187,7 +159,7 @@ impl<D, C, R: Direction<D, C>> DriverSeat<D, C, R> {
     {
         match step {
             HandshakeStep::AskEnable => {
-                self.ask_enable(ring);
+                self.ask(ring, Control::EnableAsked);
                 *state = DriverState::Asked;
                 Control::EnableAsked
             }
@@ -197,7 +169,7 @@ impl<D, C, R: Direction<D, C>> DriverSeat<D, C, R> {
                 control
             }
             HandshakeStep::AskDisable => {
-                self.ask_disable(ring);
+                self.ask(ring, Control::DisableAsked);
                 *state = DriverState::Stopping;
                 Control::DisableAsked
             }

@@ -10,7 +10,7 @@ ghost use Rattle.shared_ring.specs.Seats.{driver_part, controller_part};
 ghost use Rattle.shared_ring.specs.Tables.{IsTableOf, words_of};
 ghost use Rattle.shared_ring.specs.declared.events.View.TheVariants.{Driver, Controller, Both, Nobody};
 
-use super::{ControllerSeat, DriverSeat, Ring, RingSeat, RingTable};
+use super::{ControllerSeat, DriverSeat, EndSeat, Ring, RingSeat, RingTable};
 use crate::direction::Direction;
 use crate::lending::{Deal, Halve, Lend, MeetLoad, Return, Unite};
 use atomic_table::{Closed, Table};
@@ -44,17 +44,17 @@ impl<D, C, R: Direction<D, C>> Ring<D, C, R> {
         let ring = Ring { table, room };
         Ok((
             ring,
-            DriverSeat {
+            EndSeat {
                 seat,
                 size,
                 completion,
-                direction: PhantomData,
+                events: PhantomData,
             },
-            ControllerSeat {
+            EndSeat {
                 seat: served,
                 size,
                 completion,
-                direction: PhantomData,
+                events: PhantomData,
             },
         ))
     }
@@ -86,8 +86,8 @@ impl<D, C, R: Direction<D, C>> Ring<D, C, R> {
         ensures left { LeftIn (driver_of R.form driver) (controller_of R.form controller) (slots_items result.0.slots) }
         ensures room { (result.1.items ≡ []) × (driver.table.slots ≤ vec_capacity result.1) }
     {
-        let DriverSeat { mut seat, .. } = driver;
-        let ControllerSeat {
+        let EndSeat { mut seat, .. } = driver;
+        let EndSeat {
             seat: mut other,
             ..
         } = controller;

@@ -6,7 +6,7 @@ ghost use Rattle.shared_ring.specs.Ends.{posted, returned, fill_place, next_plac
 ghost use Rattle.shared_ring.specs.Own.{MayLoad, MayClear, MayTake, MayEnd, MayStore, MayGive, Missed, Came};
 ghost use Rattle.shared_ring.specs.Slots.{empty_slots};
 
-use super::{ControllerSeat, DriverSeat, Ring};
+use super::{EndSeat, Ring};
 use crate::accesses::{load, store};
 use crate::direction::{Direction, OwnStep, OwnTake};
 use crate::events::{ControllerEvent, DriverEvent};
@@ -27,7 +27,7 @@ impl<D, C, R: Direction<D, C>> OwnStep<DriverEvent<D>> for Reclaiming<C, R> {
     ghost tells = { Reclaims R.form };
 }
 
-impl<D, C, R: Direction<D, C>> DriverSeat<D, C, R> {
+impl<D, C, R: Direction<D, C>> EndSeat<DriverEvent<D>, D, C, R> {
     /// A load.
     #[inline]
     pub fn load_own<P: OwnStep<DriverEvent<D>>>(&mut self, ring: &Ring<D, C, R>, word: usize) -> u64
@@ -100,7 +100,7 @@ impl<D, C, R: Direction<D, C>> DriverSeat<D, C, R> {
     }
 }
 
-impl<D, C, R: Direction<D, C>> ControllerSeat<D, C, R> {
+impl<D, C, R: Direction<D, C>> EndSeat<ControllerEvent<C>, D, C, R> {
     /// A store.
     #[inline]
     pub fn store_own<P: OwnStep<ControllerEvent<C>>>(

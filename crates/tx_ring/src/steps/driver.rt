@@ -128,28 +128,13 @@ pub(crate) fn find_report(seat: &mut TxDriverSeat, ring: &TxShared, place: u16, 
     }
 }
 
-/// C10, as the last step of an epoch.
+/// C10, as the last step of an epoch of a ring that reports by its descriptors.
 struct EndEpochStore;
 
 impl OwnStep<TxDriverEvent> for EndEpochStore {
     ghost use Rattle.tx_ring.specs.Plays.{ends_epoch};
 
     ghost event = { ends_epoch };
-}
-
-/// C10, of a ring that reports by its descriptors. The epoch ends, and the next one begins with the slot of place 0
-/// in front.
-#[inline]
-fn end_epoch(seat: &mut TxDriverSeat, ring: &TxShared, fill: u16)
-    requires own { seat.old.table ≡ ring.now }
-    requires alone { by_head seat.old.completion ≡ false }
-    requires place { fill ≡ fill_place (driver_of tx seat.old) }
-    requires cleared { is_cleared (driver_state (driver_of tx seat.old)) ≡ true }
-    requires back { returned (driver_of tx seat.old) ≡ length (posted (driver_of tx seat.old)) }
-    ensures { driver_of tx seat.new ≡ appended (driver_of tx seat.old) (Own EndedEpoch) }
-{
-    let word = seat.size() as usize + 1;
-    seat.end_own::<EndEpochStore>(ring, word, fill);
 }
 
 /// C12: stores 0 as the head word of reports, as the last step of an epoch.
@@ -161,21 +146,8 @@ impl OwnStep<TxDriverEvent> for ClearReportStore {
     ghost event = { clears_report };
 }
 
-/// C12. The epoch ends, and the next one begins with the slot of place 0 in front.
-#[inline]
-fn clear_report(seat: &mut TxDriverSeat, ring: &TxShared, fill: u16)
-    requires own { seat.old.table ≡ ring.now }
-    requires more { by_head seat.old.completion ≡ true }
-    requires place { fill ≡ fill_place (driver_of tx seat.old) }
-    requires tailed { is_tailed (driver_state (driver_of tx seat.old)) ≡ true }
-    requires back { returned (driver_of tx seat.old) ≡ length (posted (driver_of tx seat.old)) }
-    ensures { driver_of tx seat.new ≡ appended (driver_of tx seat.old) (Own ClearedReport) }
-{
-    let word = seat.size() as usize + 4;
-    seat.end_own::<ClearReportStore>(ring, word, fill);
-}
-
-/// C9 and C10, and C12 where there is a head word of reports: the epoch ends.
+/// C9 and C10, and C12 where there is a head word of reports: the epoch ends, and the next one begins with the slot of
+/// place 0 in front.
 pub(crate) fn go_over(seat: &mut TxDriverSeat, ring: &TxShared, fill: u16)
     requires own { seat.old.table ≡ ring.now }
     requires place { fill ≡ fill_place (driver_of tx seat.old) }
@@ -183,11 +155,12 @@ pub(crate) fn go_over(seat: &mut TxDriverSeat, ring: &TxShared, fill: u16)
     requires back { returned (driver_of tx seat.old) ≡ length (posted (driver_of tx seat.old)) }
     ensures { driver_of tx seat.new ≡ gone_over seat.old.completion (driver_of tx seat.old) }
 {
+    let size = seat.size() as usize;
     seat.clear_head(ring);
     if seat.completion().is_by_head() {
         seat.clear_tail(ring);
-        clear_report(seat, ring, fill);
+        seat.end_own::<ClearReportStore>(ring, size + 4, fill);
     } else {
-        end_epoch(seat, ring, fill);
+        seat.end_own::<EndEpochStore>(ring, size + 1, fill);
     }
 }

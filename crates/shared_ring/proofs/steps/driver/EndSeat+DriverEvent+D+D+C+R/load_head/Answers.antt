@@ -1,0 +1,11 @@
+-- The step keeps the rule, and the record has one more event.
+use Rattle.std.proofs.Common.{refl}
+use Rattle.shared_ring.specs.declared.events.DriverEvent.TheVariants as driver
+use Rattle.shared_ring.proofs.DriverSeats.{head-asks, same-keeps}
+use Rattle.shared_ring.proofs.steps.driver.EndSeat+DriverEvent+D+D+C+R.load_head.Goals as goal
+
+pub load-requires : goal.load-requires
+load-requires g c = let i = c.self.inside in head-asks g.R.Direction.form i.seat.table_id i.seat.me i.size i.completion c.self.invariant c.args.self.now c.self.view_is c.ring.inside.table.shared.table_id c.ring.inside.table.shared.key c.ring.invariant.of_key c.args.ring.now c.ring.view_is c.requires.own i.seat.id c.requires.stopped
+
+pub invariant_of-self : goal.invariant_of-self
+invariant_of-self g c = let i = c.self.inside in same-keeps g.R.Direction.form i.seat.table_id i.seat.me i.size i.completion c.self.invariant (driver.LoadedHead c.load.result) c.load.new.seat.table_id c.load.new.seat.me c.load.ensures.same.0 c.load.ensures.told.adds.seat (record { posted = refl; given = refl; reclaimed = refl })
