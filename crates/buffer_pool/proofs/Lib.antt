@@ -1,3 +1,4 @@
 mod Chains
 pub mod Numbers
 mod Pile
+pub mod Shaped

@@ -2,6 +2,8 @@
 use mir.Syntax.{Fn, impl, tnil, dnil}
 use mathlib.Core.List.{[], ◌∷◌}
 use seplogic.Ra.Ura.{Ura}
+use contract.Running.{Running, tables, tables_of}
+use prog.Model.{Model}
 use prog.Routine.{Callee}
 use prog.Wp.{Closed, Tables, WpFn}
 use types.Logic.{Logic}
@@ -38,8 +40,11 @@ FromGlobal = plain (λ _. Heap.the_row)
 abbrev pub dropped : (S : Slot 0) → Stays (S ∷ []) (yes, tt)
 dropped S = (stay_dropped S yes, tt)
 
-module _ {M : Type 1} {𝓤 : Ura M} (𝓛 : Logic 𝓤) (𝓣 : Tables 𝓤 𝓛.H) (T : Ended) (hs : Stays T.signature.params T.kept) (c : Clauses 𝓤 T) (fn : Fn) where
+module _ {M : Type 1} {𝓤 : Ura M} (𝓛 : Logic 𝓤) (𝓜 : Model 𝓤 𝓛.H) (𝓡 : Running 𝓤 𝓛.H 𝓜) (T : Ended) (hs : Stays T.signature.params T.kept) (c : Clauses 𝓤 T) (fn : Fn) where
+  abbrev pub there : Tables 𝓤 𝓛.H
+  there = tables_of 𝓤 𝓛.H 𝓜 (tables 𝓤 𝓛.H 𝓜 𝓡 𝓡.env)
+
   -- a walk of the function's body, which lies at this entry of the tables, shows that what is called there meets its contract
-  pub walked_there : AllGo 𝓛 T.signature.lifetimes T.signature.params T.kept hs → (k : Callee) → Closed 𝓤 𝓛.H 𝓣.C 𝓣.Λ k fn → Walks 𝓛 T hs (WpFn 𝓤 𝓛.H 𝓣.C 𝓣.Λ fn) c
-      → Triple 𝓤 (𝓣.C k) (triple_of 𝓛 T.signature (closing 𝓛 T c))
-  walked_there gs k closed walk = entered 𝓤 𝓛.H (triple_of 𝓛 T.signature (closing 𝓛 T c)) 𝓣.C 𝓣.Λ k fn closed (walk_Meets 𝓛 T hs gs c (WpFn 𝓤 𝓛.H 𝓣.C 𝓣.Λ fn) (WpFn-mono 𝓤 𝓛.H 𝓛.laws 𝓣 fn) walk)
+  pub walked_there : AllGo 𝓛 T.signature.lifetimes T.signature.params T.kept hs → (k : Callee) → Closed 𝓤 𝓛.H there.C there.Λ k fn → ((𝓣 : Tables 𝓤 𝓛.H) → Walks 𝓛 T hs (WpFn 𝓤 𝓛.H 𝓣.C 𝓣.Λ fn) c)
+      → Triple 𝓤 (there.C k) (triple_of 𝓛 T.signature (closing 𝓛 T c))
+  walked_there gs k closed walk = entered 𝓤 𝓛.H (triple_of 𝓛 T.signature (closing 𝓛 T c)) there.C there.Λ k fn closed (walk_Meets 𝓛 T hs gs c (WpFn 𝓤 𝓛.H there.C there.Λ fn) (WpFn-mono 𝓤 𝓛.H 𝓛.laws there fn) (walk there))

@@ -71,6 +71,12 @@ module _ {Ring Posted Served Given D C : Type 0} {form : Form Ring Posted Served
 
   -- ---- what a driver's calls answer, and what they did then
 
+  -- 1: this was done, with so many; 0: the queue was not seen on, or was seen disabled
+  abbrev pub TriedLive : (ℕ → Q → Worked → Q → Worked → Type 0) → ℕ → ℕ → Q → Worked → Q → Worked → Type 0
+  TriedLive Step zero count old had new has = IsOff old had new has
+  TriedLive Step (suc zero) count old had new has = Step count old had new has
+  TriedLive Step _ count old had new has = ⊥
+
   -- 1: all buffers came back, and so many; 0: as many as the stash had room for; 2: no disabling was seen answered
   abbrev pub TriedReclaim : ℕ → ℕ → Q → Worked → Q → Worked → Type 0
   TriedReclaim zero count old had new has = FilledUp old had new has

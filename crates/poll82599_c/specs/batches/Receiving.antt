@@ -21,7 +21,7 @@ use Rattle.controller.specs.Receiving.{Finished, Receiving, WasDropped, WasHeld,
 use Rattle.controller.specs.Tallying.{nothing}
 use Rattle.poll82599_c.specs.Held.{Between, Both, Of, OfBoth}
 use Rattle.poll82599_c.specs.batches.Packets.{Worked}
-use Rattle.poll82599_c.specs.batches.Queues.{DidAlike, IsOff, Kind, TriedReclaim}
+use Rattle.poll82599_c.specs.batches.Queues.{DidAlike, Kind, TriedLive, TriedReclaim}
 
 -- A driver and a device of one fresh ring of n descriptors: a batch has so many packets, buffers are filled to so many bytes, and a frame for which too few descriptors are free is dropped or held
 pub record ArePair (n batch fill : ℕ) (drop_en : Bool) (q : Receiver) (d : Receiving) : Type 0 where
@@ -86,9 +86,7 @@ FoundQuiet value old new = new ≡ record old { end = appended old.end (driver.O
 
 -- 1: a batch of so many was taken; 0: it was not seen on, or was seen disabled
 abbrev pub TriedBatch : ℕ → ℕ → Receiver → Worked → Receiver → Worked → Type 0
-TriedBatch zero count old had new has = IsOff receiver old had new has
-TriedBatch (suc zero) count old had new has = TookBatch count old had new has
-TriedBatch _ count old had new has = ⊥
+TriedBatch = TriedLive receiver TookBatch
 
 -- the step of an operation, by its number, with this answer
 abbrev pub Moved : ℕ → ℕ → ℕ → Receiver → Worked → Receiver → Worked → Type 0

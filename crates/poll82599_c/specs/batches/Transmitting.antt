@@ -19,7 +19,7 @@ use Rattle.controller.specs.Handshaking.{TurnedControl}
 use Rattle.controller.specs.Transmitting.{WasIdle, WasOff, WasRefused, WasSent}
 use Rattle.poll82599_c.specs.Held.{Between, Both, OfBoth}
 use Rattle.poll82599_c.specs.batches.Packets.{Worked}
-use Rattle.poll82599_c.specs.batches.Queues.{DidAlike, IsOff, Kind, TriedReclaim}
+use Rattle.poll82599_c.specs.batches.Queues.{DidAlike, IsOff, Kind, TriedLive, TriedReclaim}
 
 -- A driver and a device of one fresh ring of n descriptors that reports so: of so many frames one asks for a report
 pub record ArePair (n every : ℕ) (by : Completion) (q : Transmitter) (d : ControllerSide) : Type 0 where
@@ -91,9 +91,7 @@ TriedBatch _ count old had new has = ⊥
 
 -- 1: so many reported buffers came back; 0: it was not seen on, or was seen disabled
 abbrev pub TriedCleaning : ℕ → ℕ → Transmitter → Worked → Transmitter → Worked → Type 0
-TriedCleaning zero count old had new has = IsOff transmitter old had new has
-TriedCleaning (suc zero) count old had new has = CleanedSome count old had new has
-TriedCleaning _ count old had new has = ⊥
+TriedCleaning = TriedLive transmitter CleanedSome
 
 -- the step of an operation, by its number, with this answer
 abbrev pub Moved : ℕ → ℕ → ℕ → Transmitter → Worked → Transmitter → Worked → Type 0

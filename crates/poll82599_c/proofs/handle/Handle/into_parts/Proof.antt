@@ -13,7 +13,7 @@ use prog.Routine.{Routine}
 use prog.Wp.{WpFn, Tables}
 use types.Logic.{Logic}
 use contract.Monad.{Fun, fact_use}
-use contract.Running.{tables, tables_of}
+use contract.Running.{tables_of}
 use types.Kit.{Item, ‵, raw, ◌⊛◌, given, at_ret, ◌$◌, ◌∵◌, !, qed, by, move, drop, use0, use1, learn, join, split, fsplit, fjoin, fpick, feq_l, suffices, done}
 use types.Match.{live}
 use types.Part.{whole, sub, agg}
@@ -124,6 +124,4 @@ module _ {M : Type 1} {𝓤 : Ura M} (𝓛 : Logic 𝓤) (at_mem : Memory → SP
 
 pub into_parts_spec : {M : Type 1} → stated.statement M
 unfolding tables_of
-into_parts_spec 𝓤 𝓛 𝓜 𝓡 wired =
-    let 𝓣 : Tables 𝓤 𝓛.H = tables_of 𝓤 𝓛.H 𝓜 (tables 𝓤 𝓛.H 𝓜 𝓡 𝓡.env) in
-    walked_there 𝓛 𝓣 F.ended (dropped From) (F.clauses 𝓛 𝓜.mem 𝓡.returns) code.function (Goes-dropped 𝓛 0 From yes (λ κs x f. refl), tt) #self (code.unfolded 𝓤 𝓛.H 𝓜 𝓡 wired) (walk 𝓛 𝓜.mem 𝓡.returns 𝓣)
+into_parts_spec 𝓤 𝓛 𝓜 𝓡 wired = walked_there 𝓛 𝓜 𝓡 F.ended (dropped From) (F.clauses 𝓛 𝓜.mem 𝓡.returns) code.function (Goes-dropped 𝓛 0 From yes (λ κs x f. refl), tt) #self (code.unfolded 𝓤 𝓛.H 𝓜 𝓡 wired) (walk 𝓛 𝓜.mem 𝓡.returns)
