@@ -31,7 +31,7 @@ returns-then-is_err-2 g c =
     let at : IsClosing k d c.args.counts left.ended (Some left.untaken) (Some left.unsent) = closing-still k old d c.args.counts left.ended (Some left.untaken) (Some left.unsent) h.ensures.drivers.0 h.ensures.drivers.1 c.requires.at in
     let back : GaveBack d.rx d.stash r.new.self r.new.stash = r.ensures.back at.rx_stands.0 in
     let e = driving r.new.self d.tx r.new.stash d.packets in
-    let came : CameBack number_of_posting d.tx.end r.new.stash s.new.self.end s.new.stash = s.ensures.back at.tx_stands.0 in record {
+    let came : CameBack number_of_posting d.tx.end r.new.stash s.new.self.end s.new.stash = (s.ensures.back at.tx_stands.0).ring in record {
       loaded = back-tx k h.new.self.pass e s.new.self s.new.stash (back-rx k h.new.self.pass d r.new.self r.new.stash h.ensures.loaded r.ensures.ring back) s.ensures.ring came;
       at = closing-tx k e c.args.counts left.ended left.untaken left.unsent s.new.self e.stash s.new.stash e.packets (closing-rx k d c.args.counts left.ended left.untaken left.unsent r.new.self d.stash r.new.stash d.packets at r.ensures.ring back) s.ensures.ring s.ensures.known came;
       given_back = λ e. absurd (false≢true e);
@@ -43,7 +43,7 @@ give_at_hand-requires-2 g c =
     let at : IsClosing k d c.args.counts left.ended (Some left.untaken) (Some left.unsent) = closing-still k old d c.args.counts left.ended (Some left.untaken) (Some left.unsent) h.ensures.drivers.0 h.ensures.drivers.1 c.requires.at in
     let back : GaveBack d.rx d.stash r.new.self r.new.stash = r.ensures.back at.rx_stands.0 in
     let e = driving r.new.self d.tx r.new.stash d.packets in
-    let came : CameBack number_of_posting d.tx.end r.new.stash s.new.self.end s.new.stash = s.ensures.back at.tx_stands.0 in
+    let came : CameBack number_of_posting d.tx.end r.new.stash s.new.self.end s.new.stash = (s.ensures.back at.tx_stands.0).ring in
     back-tx k h.new.self.pass e s.new.self s.new.stash (back-rx k h.new.self.pass d r.new.self r.new.stash h.ensures.loaded r.ensures.ring back) s.ensures.ring came
 
 pub returns : goal.returns
@@ -52,7 +52,7 @@ returns g c =
     let at : IsClosing k d c.args.counts left.ended (Some left.untaken) (Some left.unsent) = closing-still k old d c.args.counts left.ended (Some left.untaken) (Some left.unsent) h.ensures.drivers.0 h.ensures.drivers.1 c.requires.at in
     let back : GaveBack d.rx d.stash r.new.self r.new.stash = r.ensures.back at.rx_stands.0 in
     let e = driving r.new.self d.tx r.new.stash d.packets in
-    let came : CameBack number_of_posting d.tx.end r.new.stash s.new.self.end s.new.stash = s.ensures.back at.tx_stands.0 in
+    let came : CameBack number_of_posting d.tx.end r.new.stash s.new.self.end s.new.stash = (s.ensures.back at.tx_stands.0).ring in
     let f = driving r.new.self s.new.self s.new.stash d.packets in
     let at' : IsClosing k f c.args.counts left.ended (Some left.untaken) (Some left.unsent)
     = closing-tx k e c.args.counts left.ended left.untaken left.unsent s.new.self e.stash s.new.stash e.packets (closing-rx k d c.args.counts left.ended left.untaken left.unsent r.new.self d.stash r.new.stash d.packets at r.ensures.ring back) s.ensures.ring s.ensures.known came in
