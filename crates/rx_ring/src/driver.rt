@@ -174,7 +174,8 @@ impl RxDriverEnd {
         self.seat.clear_head(&ring.0);
         self.seat.clear_tail(&ring.0);
         let word = self.at.size as usize + 3;
-        self.seat.end_own::<ClearQuietStore>(&ring.0, word, self.at.fill);
+        self.seat
+            .end_own::<ClearQuietStore>(&ring.0, word, self.at.fill);
         self.at = DriverPlaces::new(self.at.size);
     }
 }
