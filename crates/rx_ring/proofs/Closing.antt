@@ -38,6 +38,6 @@ module _ (d : DriverSide) (c : ControllerSide) (at : DriverPlaces) (e : IsPoster
   pub closed : IsClosed d c buffers × AllReal buffers × AllCameBack d c buffers
   closed = let l = t.left in let a = l.of_one_ring in let b = a.lawful in let k = kept in
       let all = comes-back d c at e same places h says lies_there ends_segment q.queue k.queue q.owners b.map a.size_is q.still a.driver a.controller t.slots l.buffers lain (λ x y of. of.1) (λ x. x) (λ x y of. sym of.0) (λ x. (buffer x [], (refl, refl)))
-          (GaveBack d (kept_upto (kept_at (driver_size d) at.next at.out places.serve places.holding t.slots) (driver_size d)))
-          (λ place k x y out there was of. record { item = k; buf = y; is_out = out; there = there; number = was ∙ ap Some of.0 }) in
+      (GaveBack d (kept_upto (kept_at (driver_size d) at.next at.out places.serve places.holding t.slots) (driver_size d)))
+      (λ place k x y out there was of. record { item = k; buf = y; is_out = out; there = there; number = was ∙ ap Some of.0 }) in
       subst (λ (bs : List (Option Buffer)). IsClosed d c bs × AllReal bs × AllCameBack d c bs) (sym t.kept) (record { of_one_ring = l.of_one_ring; places = all.0 }, all.1, all.2)

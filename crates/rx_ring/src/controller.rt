@@ -116,7 +116,8 @@ impl RxControllerEnd {
         ensures record { controller_record self.new ≡ record (controller_record self.old) { head = serve_place self.old } }
     {
         let word = self.at.size as usize;
-        self.seat.store_own::<HeadStore>(&ring.0, word, self.at.serve as u64);
+        self.seat
+            .store_own::<HeadStore>(&ring.0, word, self.at.serve as u64);
         self.head = self.at.serve;
     }
 
