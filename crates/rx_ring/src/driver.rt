@@ -17,7 +17,7 @@ ghost use Rattle.rx_ring.specs.Calls.{IsFreshDriver, Polled, told_quiet, Reclaim
 use crate::direction::{RxDriverSeat, RxRule};
 use crate::events::{RxControllerOwn, RxDriverOwn};
 use crate::ring::RxRing;
-use crate::steps::{self, ClearQuietStore};
+use crate::steps;
 use buffer_pool::Buf;
 use ring_model::{place_after, places_between};
 use shared_ring::{Control, DriverEnd, DriverPlaces, HandshakeStep};
@@ -173,9 +173,7 @@ impl RxDriverEnd {
     {
         self.seat.clear_head(&ring.0);
         self.seat.clear_tail(&ring.0);
-        let word = self.at.size as usize + 3;
-        self.seat
-            .end_own::<ClearQuietStore>(&ring.0, word, self.at.fill);
+        steps::clear_quiet(&mut self.seat, &ring.0, self.at.fill);
         self.at = DriverPlaces::new(self.at.size);
     }
 }

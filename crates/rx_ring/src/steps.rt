@@ -4,4 +4,4 @@ mod controller;
 mod driver;
 
 pub(crate) use controller::{HeadStore, say_quiet, write_back};
-pub(crate) use driver::{ClearQuietStore, load_quiet, take};
+pub(crate) use driver::{clear_quiet, load_quiet, take};

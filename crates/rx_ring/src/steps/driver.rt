@@ -83,10 +83,23 @@ pub(crate) fn load_quiet(seat: &mut RxDriverSeat, ring: &RxShared) -> bool
 }
 
 /// C11: stores 0 as the quiet word, as the last step of an epoch.
-pub(crate) struct ClearQuietStore;
+struct ClearQuietStore;
 
 impl OwnStep<RxDriverEvent> for ClearQuietStore {
     ghost use Rattle.rx_ring.specs.Plays.{clears_quiet};
 
     ghost event = { clears_quiet };
+}
+
+/// C11. The epoch ends.
+#[inline]
+pub(crate) fn clear_quiet(seat: &mut RxDriverSeat, ring: &RxShared, fill: u16)
+    requires own { seat.old.table ≡ ring.now }
+    requires place { fill ≡ fill_place (driver_of rx seat.old) }
+    requires tailed { is_tailed (driver_state (driver_of rx seat.old)) ≡ true }
+    requires back { returned (driver_of rx seat.old) ≡ length (posted (driver_of rx seat.old)) }
+    ensures { driver_of rx seat.new ≡ appended (driver_of rx seat.old) (driver.Own ClearedQuiet) }
+{
+    let word = seat.size() as usize + 3;
+    seat.end_own::<ClearQuietStore>(ring, word, fill);
 }

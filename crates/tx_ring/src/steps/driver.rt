@@ -2,14 +2,13 @@
 ghost use Rattle.std.specs.Prelude.{◌≡◌, ◌+◌, ◌%◌, ◌<◌, ◌≤◌, true, false, [], length, Some};
 ghost use Rattle.buffer_pool.specs.Buffer.{buffer};
 ghost use Rattle.ring_model.specs.shared.Frames.{unfinished};
-ghost use Rattle.ring_model.specs.shared.Handshakes.{is_open, is_live, is_stopped, is_cleared, is_tailed};
+ghost use Rattle.ring_model.specs.shared.Handshakes.{is_open, is_live, is_stopped};
 ghost use Rattle.ring_model.specs.transmit.Frames.{MayFollow};
 ghost use Rattle.ring_model.specs.transmit.Agreement.{tx_word};
 ghost use Rattle.ring_model.specs.transmit.Ring.{are_whole, carried, new_posting};
 ghost use Rattle.ring_model.specs.transmit.Steps.{by_head};
 ghost use Rattle.shared_ring.specs.Ends.{driver_of};
-ghost use Rattle.shared_ring.specs.declared.events.DriverEvent.TheVariants.{Posted, Own};
-ghost use Rattle.tx_ring.specs.declared.events.TxDriverOwn.TheVariants.{EndedEpoch, ClearedReport};
+ghost use Rattle.shared_ring.specs.declared.events.DriverEvent.TheVariants.{Posted};
 ghost use Rattle.tx_ring.specs.Ends.{driver_size, posted, cleaned, returned, seen_reported, outstanding, driver_state, fill_place, next_place, appended};
 ghost use Rattle.tx_ring.specs.Calls.{gone_over};
 ghost use Rattle.tx_ring.specs.Form.{tx};
