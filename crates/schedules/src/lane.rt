@@ -14,7 +14,7 @@ const MOOD_MOVES: u32 = 200;
 /// buffer holds. A frame before which no report was asked for is one segment that asks for one, so that a ring of 8 drains.
 #[derive(Clone, Copy)]
 pub(crate) struct Lane {
-    pub mood: Mood,
+    mood: Mood,
     bytes: u32,
     left: u32,
     segments: u32,
@@ -50,11 +50,12 @@ impl Lane {
         lane
     }
 
-    /// Changes the mood now and then.
-    pub fn turn(&mut self, chance: &mut Chance) {
+    /// The mood of the queue's next move: its own, which changes now and then, or with `any` that of all kinds alike.
+    pub fn turn(&mut self, chance: &mut Chance, any: bool) -> Mood {
         if chance.one_in(MOOD_MOVES) {
             self.mood = Mood::of(chance.below(4));
         }
+        if any { Mood::Any } else { self.mood }
     }
 
     // The next frame begins.

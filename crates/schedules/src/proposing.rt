@@ -3,10 +3,7 @@
 use crate::chance::Chance;
 use crate::lane::Lane;
 use crate::plan::SchedulePlan;
-use crate::weights::{
-    RECEIVE_DATA_KINDS, RECEIVE_KINDS, TRANSMIT_DATA_KINDS, TRANSMIT_KINDS, receive_weights,
-    transmit_weights,
-};
+use crate::weights::{receive_kinds, receive_weights, transmit_kinds, transmit_weights};
 use limits::MOST_PAIRS;
 use ring_machine::{
     ControlStep, Move, QueueNumber, RxStep, SegmentDescriptor, SegmentLength, TxStep,
@@ -127,18 +124,10 @@ impl Proposer {
     fn propose_receive(&mut self, queue: QueueNumber, any: bool) -> Option<Move> {
         let buffer = self.buffer();
         let lane = self.receive.get_mut(usize::from(queue.number()))?;
-        lane.turn(&mut self.chance);
-        let weights = if any {
-            [1; RECEIVE_KINDS]
-        } else {
-            receive_weights(lane.mood)
-        };
-        let kinds = if self.device_only {
-            RECEIVE_DATA_KINDS
-        } else {
-            RECEIVE_KINDS
-        };
-        let kind = self.chance.place(weights.as_slice().get(..kinds)?);
+        let weights = receive_weights(lane.turn(&mut self.chance, any));
+        let kind = self
+            .chance
+            .place(weights.as_slice().get(..receive_kinds(self.device_only))?);
         Some(Move::Receive(queue, receive_step(kind, buffer, lane)?))
     }
 
@@ -146,18 +135,8 @@ impl Proposer {
     fn propose_transmit(&mut self, queue: QueueNumber, any: bool) -> Option<Move> {
         let buffer = self.buffer();
         let lane = self.transmit.get_mut(usize::from(queue.number()))?;
-        lane.turn(&mut self.chance);
-        let weights = if any {
-            [1; TRANSMIT_KINDS]
-        } else {
-            transmit_weights(lane.mood)
-        };
-        let kinds = if self.device_only {
-            TRANSMIT_DATA_KINDS
-        } else {
-            TRANSMIT_KINDS
-        };
-        let kind = self.chance.place(weights.as_slice().get(..kinds)?);
+        let weights = transmit_weights(lane.turn(&mut self.chance, any));
+        let kind = self.chance.place(weights.as_slice().get(..transmit_kinds(self.device_only))?);
         let step = transmit_step(kind, buffer, lane, &mut self.chance)?;
         Some(Move::Transmit(queue, step))
     }

@@ -11,6 +11,8 @@ pub(crate) enum Mood {
     Draining,
     /// The driver asks for a disabling, and a receive queue's controller may say that it is quiet.
     Turning,
+    /// Each kind of move is as likely as the others.
+    Any,
 }
 
 impl Mood {
@@ -25,17 +27,22 @@ impl Mood {
     }
 }
 
-/// How many kinds of moves a receive queue has; those of data come first.
-pub(crate) const RECEIVE_KINDS: usize = 18;
+/// How many kinds of moves a receive queue has.
+const RECEIVE_KINDS: usize = 18;
 
-/// How many of them are of data: no handshake's, none of the quiet word, of reclaiming and of renewal.
-pub(crate) const RECEIVE_DATA_KINDS: usize = 7;
+/// How many kinds of moves a transmit queue has.
+const TRANSMIT_KINDS: usize = 17;
 
-/// How many kinds of moves a transmit queue has; those of data come first.
-pub(crate) const TRANSMIT_KINDS: usize = 17;
+/// How many kinds of a receive queue are drawn, or only of those of data, which come first: no handshake's, none of the
+/// quiet word, of reclaiming and of renewal.
+pub(crate) fn receive_kinds(of_data: bool) -> usize {
+    if of_data { 7 } else { RECEIVE_KINDS }
+}
 
-/// How many of them are of data.
-pub(crate) const TRANSMIT_DATA_KINDS: usize = 8;
+/// How many kinds of a transmit queue are drawn, or only of those of data, which come first.
+pub(crate) fn transmit_kinds(of_data: bool) -> usize {
+    if of_data { 8 } else { TRANSMIT_KINDS }
+}
 
 /// The weights of a receive queue's kinds of moves: post, publish, look, fetch, store, take, head; ask to enable, look
 /// asked, answer, look answered, ask to disable; reclaim; store quiet, load quiet; clear head, clear tail, clear quiet.
@@ -53,6 +60,7 @@ pub(crate) fn receive_weights(mood: Mood) -> [u32; RECEIVE_KINDS] {
         Mood::Turning => [
             16, 6, 6, 16, 32, 24, 8, 16, 6, 16, 6, 4, 32, 2, 2, 16, 16, 16,
         ],
+        Mood::Any => [1; RECEIVE_KINDS],
     }
 }
 
@@ -68,5 +76,6 @@ pub(crate) fn transmit_weights(mood: Mood) -> [u32; TRANSMIT_KINDS] {
         Mood::Turning => [
             24, 6, 6, 24, 24, 24, 12, 24, 16, 6, 16, 6, 4, 32, 16, 16, 16,
         ],
+        Mood::Any => [1; TRANSMIT_KINDS],
     }
 }
