@@ -49,13 +49,3 @@ pub fn tx_step(named: TxNamed) -> Option<TxStep<SegmentDescriptor>> {
         TxStep::ClearReport => TxStep::ClearReport,
     })
 }
-
-/// The step of the first row whose number is above this one.
-pub fn named_at<T: Copy>(rows: &[(u64, T)], at: u64) -> Option<T> {
-    for (below, step) in rows {
-        if at < *below {
-            return Some(*step);
-        }
-    }
-    None
-}

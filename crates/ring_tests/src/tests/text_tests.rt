@@ -1,7 +1,11 @@
 //! Rows of the texts of moves and notes: what each line means, which lines are refused, and the printed words.
 
+mod receive_lines;
+mod transmit_lines;
+
 use crate::tests::steps::{RxNamed, TxNamed, rx_step, tx_step};
 use crate::tests::wanted::{holds, same};
+use receive_lines::RECEIVE;
 use ring_machine::{
     ControlStep, FetchedSegment, MachineError, Move, Note, QueueNumber, RxStep, SegmentDescriptor,
     SegmentLength, TakenSegment, TxStep,
@@ -9,16 +13,7 @@ use ring_machine::{
 use std::alloc::{AllocError, Global};
 use std::fmt::Display;
 use std::process::Abort;
-
-// A step of a receive queue of this number.
-fn rx(queue: u8, step: RxNamed) -> Option<Move> {
-    Some(Move::Receive(QueueNumber::new(queue)?, rx_step(step)?))
-}
-
-// A step of a transmit queue of this number.
-fn tx(queue: u8, step: TxNamed) -> Option<Move> {
-    Some(Move::Transmit(QueueNumber::new(queue)?, tx_step(step)?))
-}
+use transmit_lines::TRANSMIT;
 
 // What is printed.
 fn text_of<T: Display>(alloc: Global, printed: &T) -> Result<String, AllocError> {
@@ -47,101 +42,78 @@ fn is_line_of<R: Abort>(rt: &R, alloc: Global, line: &str, wanted: Option<Move>)
     is_printed(rt, alloc, &read, line)
 }
 
-// A line of the receive queue of this number, and its step.
-type RxLine = (&'static str, u8, RxNamed);
+/// A step of one direction, as rows name it.
+trait Named: Copy {
+    fn of_control(step: ControlStep) -> Self;
 
-// Each of these lines is the move beside it.
-fn are_lines_rx<R: Abort>(rt: &R, alloc: Global, rows: &[RxLine]) {
-    for (line, queue, step) in rows {
-        is_line_of(rt, alloc, line, rx(*queue, *step));
+    /// The move of the queue of this number, if the step's numbers are lawful.
+    fn on(self, queue: u8) -> Option<Move>;
+}
+
+impl Named for RxNamed {
+    fn of_control(step: ControlStep) -> RxNamed {
+        RxStep::Control(step)
+    }
+
+    fn on(self, queue: u8) -> Option<Move> {
+        Some(Move::Receive(QueueNumber::new(queue)?, rx_step(self)?))
     }
 }
 
-// The same of a transmit queue.
-type TxLine = (&'static str, u8, TxNamed);
+impl Named for TxNamed {
+    fn of_control(step: ControlStep) -> TxNamed {
+        TxStep::Control(step)
+    }
 
-fn are_lines_tx<R: Abort>(rt: &R, alloc: Global, rows: &[TxLine]) {
-    for (line, queue, step) in rows {
-        is_line_of(rt, alloc, line, tx(*queue, *step));
+    fn on(self, queue: u8) -> Option<Move> {
+        Some(Move::Transmit(QueueNumber::new(queue)?, tx_step(self)?))
     }
 }
 
-const RECEIVE: &[RxLine] = &[
-    ("r0 A1 0", 0, RxStep::Post(0)),
-    ("r7 A1 65535", 7, RxStep::Post(65_535)),
-    ("r1 A2", 1, RxStep::Publish),
-    ("r2 A3", 2, RxStep::Look),
-    ("r3 A4", 3, RxStep::Fetch),
-    ("r0 A5 1 0", 0, RxStep::Store(1, false)),
-    ("r0 A5 2048 1", 0, RxStep::Store(2_048, true)),
-    ("r4 A6", 4, RxStep::Take),
-    ("r5 A7", 5, RxStep::Head),
+/// A line behind its queue, and its step.
+type Line<S> = (&'static str, S);
+
+/// The lines of both directions.
+const CONTROLS: &[Line<ControlStep>] = &[
+    ("C1", ControlStep::AskEnable),
+    ("C2", ControlStep::LookAsked),
+    ("C3", ControlStep::Answer),
+    ("C4", ControlStep::LookAnswered),
+    ("C5", ControlStep::AskDisable),
 ];
+
+// The line is this step's on each queue, whose name begins with this letter.
+fn is_line<R: Abort, S: Named>(rt: &R, alloc: Global, letter: char, line: &str, step: S) {
+    for queue in 0..8 {
+        let line = format!(in alloc; "{letter}{queue} {line}").expect(rt, "memory");
+        is_line_of(rt, alloc, line.as_str(), step.on(queue));
+    }
+}
+
+// The lines are these steps'.
+fn are_lines<R: Abort, S: Named>(rt: &R, alloc: Global, letter: char, rows: &[Line<S>]) {
+    for (line, step) in rows {
+        is_line(rt, alloc, letter, line, *step);
+    }
+}
+
+// And those of both directions are a control's.
+fn are_controls<R: Abort, S: Named>(rt: &R, alloc: Global, letter: char) {
+    for (line, step) in CONTROLS {
+        is_line(rt, alloc, letter, line, S::of_control(*step));
+    }
+}
 
 #[test]
 fn lines_of_receive_queues_are_read_and_printed(rt: HostRuntime) {
-    are_lines_rx(&rt, rt.alloc(), RECEIVE)
+    are_lines(&rt, rt.alloc(), 'r', RECEIVE);
+    are_controls::<_, RxNamed>(&rt, rt.alloc(), 'r')
 }
-
-const RECEIVE_CONTROLS: &[RxLine] = &[
-    ("r6 C1", 6, RxStep::Control(ControlStep::AskEnable)),
-    ("r7 C2", 7, RxStep::Control(ControlStep::LookAsked)),
-    ("r0 C3", 0, RxStep::Control(ControlStep::Answer)),
-    ("r1 C4", 1, RxStep::Control(ControlStep::LookAnswered)),
-    ("r2 C5", 2, RxStep::Control(ControlStep::AskDisable)),
-    ("r3 C6", 3, RxStep::Reclaim),
-    ("r4 C7", 4, RxStep::StoreQuiet),
-    ("r5 C8", 5, RxStep::LoadQuiet),
-    ("r6 C9", 6, RxStep::ClearHead),
-    ("r7 C10", 7, RxStep::ClearTail),
-    ("r0 C11", 0, RxStep::ClearQuiet),
-];
-
-#[test]
-fn lines_of_receive_queues_controls_are_read_and_printed(rt: HostRuntime) {
-    are_lines_rx(&rt, rt.alloc(), RECEIVE_CONTROLS)
-}
-
-const TRANSMIT: &[TxLine] = &[
-    (
-        "t0 B1 0 1 0 0 14",
-        0,
-        TxStep::Post((0, 1, false, false, 14)),
-    ),
-    (
-        "t0 B1 65535 2048 1 1 15000",
-        0,
-        TxStep::Post((65_535, 2_048, true, true, 15_000)),
-    ),
-    ("t1 B2", 1, TxStep::Publish),
-    ("t2 B3", 2, TxStep::Look),
-    ("t3 B4", 3, TxStep::Fetch),
-    ("t4 B5", 4, TxStep::Send),
-    ("t5 B6", 5, TxStep::Report),
-    ("t6 B7", 6, TxStep::LoadReport),
-    ("t7 B8", 7, TxStep::Clean),
-];
 
 #[test]
 fn lines_of_transmit_queues_are_read_and_printed(rt: HostRuntime) {
-    are_lines_tx(&rt, rt.alloc(), TRANSMIT)
-}
-
-const TRANSMIT_CONTROLS: &[TxLine] = &[
-    ("t0 C1", 0, TxStep::Control(ControlStep::AskEnable)),
-    ("t1 C2", 1, TxStep::Control(ControlStep::LookAsked)),
-    ("t2 C3", 2, TxStep::Control(ControlStep::Answer)),
-    ("t3 C4", 3, TxStep::Control(ControlStep::LookAnswered)),
-    ("t4 C5", 4, TxStep::Control(ControlStep::AskDisable)),
-    ("t5 C6", 5, TxStep::Reclaim),
-    ("t6 C9", 6, TxStep::ClearHead),
-    ("t7 C10", 7, TxStep::ClearTail),
-    ("t0 C12", 0, TxStep::ClearReport),
-];
-
-#[test]
-fn lines_of_transmit_queues_controls_are_read_and_printed(rt: HostRuntime) {
-    are_lines_tx(&rt, rt.alloc(), TRANSMIT_CONTROLS)
+    are_lines(&rt, rt.alloc(), 't', TRANSMIT);
+    are_controls::<_, TxNamed>(&rt, rt.alloc(), 't')
 }
 
 // Whether the line is refused as no move.
@@ -195,11 +167,6 @@ const NO_RECEIVE_MOVES: &[&str] = &[
     "r0 A2\r",
 ];
 
-#[test]
-fn lines_of_no_receive_move_are_refused(rt: HostRuntime) {
-    same(&rt, first_move(NO_RECEIVE_MOVES), None);
-}
-
 const NO_TRANSMIT_MOVES: &[&str] = &[
     "t0 A2",
     "t0 C7",
@@ -217,32 +184,16 @@ const NO_TRANSMIT_MOVES: &[&str] = &[
     "t0 B1 1 60 2 1 60",
 ];
 
-#[test]
-fn lines_of_no_transmit_move_are_refused(rt: HostRuntime) {
-    same(&rt, first_move(NO_TRANSMIT_MOVES), None);
-}
-
 const OF_NO_QUEUE: &[&str] = &[
     "r8 A2", "", "#", "# r0 A2", "r0", " r0 A2", "r A2", "r00 A2", "r/ A2", "x0 A2", "R0 A2",
     "r0\tA2",
 ];
 
 #[test]
-fn lines_of_no_queue_are_refused(rt: HostRuntime) {
-    same(&rt, first_move(OF_NO_QUEUE), None);
-}
-
-// What has bounds.
-#[derive(Clone, Copy)]
-enum Bounded {
-    // the bytes of a segment that is stored
-    Stored(u16),
-    // and of one that is posted
-    Posted(u16),
-    Paylen(u16),
-    // EOP and RS
-    Flags(bool, bool),
-    Queue(u8),
+fn lines_of_no_move_are_refused(rt: HostRuntime) {
+    for lines in [NO_RECEIVE_MOVES, NO_TRANSMIT_MOVES, OF_NO_QUEUE] {
+        same(&rt, first_move(lines), None);
+    }
 }
 
 // Whether such a segment may be posted.
@@ -250,76 +201,69 @@ fn may_be_posted(len: u16, eop: bool, rs: bool, paylen: u16) -> bool {
     SegmentDescriptor::new(7, len, eop, rs, paylen).is_some()
 }
 
-fn is_lawful(bounded: Bounded) -> bool {
+// What has bounds.
+#[derive(Clone, Copy, PartialEq, Debug)]
+enum Bounded {
+    // the bytes of a segment that is stored
+    Stored,
+    // and of one that is posted
+    Posted,
+    Paylen,
+    Queue,
+}
+
+fn is_lawful(bounded: Bounded, number: u16) -> bool {
     match bounded {
-        Bounded::Stored(len) => SegmentLength::new(len).is_some(),
-        Bounded::Posted(len) => may_be_posted(len, true, true, 60),
-        Bounded::Paylen(paylen) => may_be_posted(60, true, true, paylen),
-        Bounded::Flags(eop, rs) => may_be_posted(60, eop, rs, 60),
-        Bounded::Queue(number) => QueueNumber::new(number).is_some(),
+        Bounded::Stored => SegmentLength::new(number).is_some(),
+        Bounded::Posted => may_be_posted(number, true, true, 60),
+        Bounded::Paylen => may_be_posted(60, true, true, number),
+        Bounded::Queue => u8::try_from(number).is_ok_and(|it| QueueNumber::new(it).is_some()),
     }
 }
 
-// What has bounds, and whether it is lawful.
-type Bound = (Bounded, bool);
+// What has bounds, and the least and the greatest number that is lawful.
+const BOUNDS: &[(Bounded, u16, u16)] = &[
+    (Bounded::Stored, 1, 2_048),
+    (Bounded::Posted, 1, 2_048),
+    (Bounded::Paylen, 14, 15_000),
+    (Bounded::Queue, 0, 7),
+];
 
-// Each of these is lawful, or isn't, as the row of this number says.
-fn are_bounds<R: Abort>(rt: &R, rows: &[Bound]) {
-    for k in 0..rows.len() {
-        let (bounded, lawful) = rows[k];
-        same(rt, (k, is_lawful(bounded)), (k, lawful));
+// These bounds are lawful, and the numbers beside them are not.
+fn has_bounds<R: Abort>(rt: &R, bounded: Bounded, least: u16, most: u16) {
+    let lawful = (is_lawful(bounded, least), is_lawful(bounded, most));
+    let beyond = is_lawful(bounded, most.saturating_add(1));
+    same(
+        rt,
+        (bounded, lawful, beyond),
+        (bounded, (true, true), false),
+    );
+    if let Some(below) = least.checked_sub(1) {
+        same(rt, (bounded, is_lawful(bounded, below)), (bounded, false));
     }
 }
 
-const LENGTHS: &[Bound] = &[
-    (Bounded::Stored(0), false),
-    (Bounded::Stored(1), true),
-    (Bounded::Stored(2_048), true),
-    (Bounded::Stored(2_049), false),
-    (Bounded::Posted(0), false),
-    (Bounded::Posted(1), true),
-    (Bounded::Posted(2_048), true),
-    (Bounded::Posted(2_049), false),
-];
-
 #[test]
-fn lengths_have_their_bounds(rt: HostRuntime) {
-    are_bounds(&rt, LENGTHS)
+fn lengths_and_queues_have_their_bounds(rt: HostRuntime) {
+    for (bounded, least, most) in BOUNDS {
+        has_bounds(&rt, *bounded, *least, *most);
+    }
 }
 
-const PAYLENS: &[Bound] = &[
-    (Bounded::Paylen(13), false),
-    (Bounded::Paylen(14), true),
-    (Bounded::Paylen(15_000), true),
-    (Bounded::Paylen(15_001), false),
-];
-
-#[test]
-fn paylens_have_their_bounds(rt: HostRuntime) {
-    are_bounds(&rt, PAYLENS)
-}
-
-const FLAGS: &[Bound] = &[
-    (Bounded::Flags(true, true), true),
-    (Bounded::Flags(true, false), true),
-    (Bounded::Flags(false, false), true),
-    (Bounded::Flags(false, true), false),
+// EOP and RS, and whether a segment may be posted so.
+const FLAGS: &[(bool, bool, bool)] = &[
+    (true, true, true),
+    (true, false, true),
+    (false, false, true),
+    (false, true, false),
 ];
 
 #[test]
 fn a_middle_segment_asks_for_no_report(rt: HostRuntime) {
-    are_bounds(&rt, FLAGS)
-}
-
-const NUMBERS: &[Bound] = &[
-    (Bounded::Queue(0), true),
-    (Bounded::Queue(7), true),
-    (Bounded::Queue(8), false),
-];
-
-#[test]
-fn queues_are_numbered_from_0_to_7(rt: HostRuntime) {
-    are_bounds(&rt, NUMBERS)
+    for (eop, rs, lawful) in FLAGS {
+        let told = may_be_posted(60, *eop, *rs, 60);
+        same(&rt, (*eop, *rs, told), (*eop, *rs, *lawful));
+    }
 }
 
 // A note, and how it is printed.
@@ -389,22 +333,19 @@ fn notes_of_a_segment_are_printed(rt: HostRuntime) {
     are_printed(&rt, rt.alloc(), OF_A_SEGMENT)
 }
 
-// Each of these refusals has this number, and is printed so.
-fn are_refusals<R: Abort>(rt: &R, alloc: Global, rows: &[(MachineError, u8, &str)]) {
-    for (refusal, number, words) in rows {
-        same(rt, refusal.number(), *number);
-        is_printed(rt, alloc, refusal, words);
-    }
-}
-
-const REFUSALS: &[(MachineError, u8, &str)] = &[
-    (MachineError::NotEnabled, 11, "not enabled"),
-    (MachineError::RingLength, 12, "ring length"),
-    (MachineError::Memory, 13, "memory"),
-    (MachineError::Text, 14, "move"),
+// Each refusal, with its number.
+const REFUSALS: &[(MachineError, &str)] = &[
+    (MachineError::NotEnabled, "11 not enabled"),
+    (MachineError::RingLength, "12 ring length"),
+    (MachineError::Memory, "13 memory"),
+    (MachineError::Text, "14 move"),
 ];
 
 #[test]
 fn refusals_are_printed(rt: HostRuntime) {
-    are_refusals(&rt, rt.alloc(), REFUSALS)
+    for (refusal, words) in REFUSALS {
+        let number = refusal.number();
+        let text = format!(in rt.alloc(); "{number} {refusal}").expect(&rt, "memory");
+        same(&rt, text.as_str(), *words);
+    }
 }

@@ -8,7 +8,7 @@ ghost use Rattle.ring_model.specs.shared.Frames.{join, unfinished};
 ghost use Rattle.rx_ring.specs.Ends.{controller_size, held as held_by, reclaimed, stored};
 ghost use Rattle.ring_tests.specs.Holding.{held_as};
 
-use crate::tests::steps::{RxNamed, named_at, rx_step};
+use crate::tests::steps::rx_step;
 use buffer_pool::{Buf, Stash};
 use limits::{LEAST_FRAME, MOST_FRAME, MOST_SEGMENTS};
 use ring_machine::{RxMachine, SegmentLength};
@@ -312,25 +312,22 @@ impl Beside for Both {
     }
 }
 
-/// Of random numbers those below the first, and not below that of the row before, stand for the step.
-const STEPS: &[(u64, RxNamed)] = &[
-    (7, RxStep::Post(0)),
-    (11, RxStep::Publish),
-    (15, RxStep::Look),
-    (20, RxStep::Fetch),
-    (30, RxStep::Take),
-    (35, RxStep::Head),
-    (36, RxStep::StoreQuiet),
-    (37, RxStep::LoadQuiet),
-    (45, RxStep::Reclaim),
-    (49, RxStep::ClearHead),
-    (50, RxStep::ClearTail),
-    (51, RxStep::ClearQuiet),
-];
-
+/// The step that a random number below 51 stands for, but those of a store.
 fn step_at(at: u64) -> Step {
-    let named = named_at(STEPS, at).unwrap_or(RxStep::Head);
-    rx_step(named).unwrap_or(RxStep::Head)
+    match at {
+        0..=6 => RxStep::Post(0),
+        7..=10 => RxStep::Publish,
+        11..=14 => RxStep::Look,
+        15..=19 => RxStep::Fetch,
+        20..=29 => RxStep::Take,
+        30..=34 => RxStep::Head,
+        35 => RxStep::StoreQuiet,
+        36 => RxStep::LoadQuiet,
+        37..=44 => RxStep::Reclaim,
+        45..=48 => RxStep::ClearHead,
+        49 => RxStep::ClearTail,
+        _ => RxStep::ClearQuiet,
+    }
 }
 
 fn random_store(random: &mut Random) -> Step {

@@ -8,7 +8,7 @@ ghost use Rattle.tx_ring.specs.Ends.{driver_size, posted};
 ghost use Rattle.tx_ring.specs.Ends.{held as held_by};
 ghost use Rattle.ring_tests.specs.Begun.{AreOfFrame};
 
-use crate::tests::steps::{TxNamed, named_at, tx_step};
+use crate::tests::steps::{TxNamed, tx_step};
 use buffer_pool::{Buf, Stash};
 use limits::{LEAST_FRAME, MOST_FRAME, MOST_SEGMENTS};
 use ring_machine::{SegmentDescriptor, TxMachine};
@@ -390,23 +390,21 @@ impl Beside for Both {
     }
 }
 
-/// Of random numbers those below the first, and not below that of the row before, stand for the step.
-const STEPS: &[(u64, TxNamed)] = &[
-    (13, TxStep::Publish),
-    (17, TxStep::Look),
-    (23, TxStep::Fetch),
-    (29, TxStep::Send),
-    (33, TxStep::Report),
-    (37, TxStep::LoadReport),
-    (42, TxStep::Clean),
-    (48, TxStep::Reclaim),
-    (51, TxStep::ClearHead),
-    (52, TxStep::ClearTail),
-    (53, TxStep::ClearReport),
-];
-
+/// The step that a random number below 53 stands for, but that of a posting.
 fn step_at(at: u64) -> Step {
-    step_of(named_at(STEPS, at).unwrap_or(TxStep::ClearReport))
+    match at {
+        0..=12 => TxStep::Publish,
+        13..=16 => TxStep::Look,
+        17..=22 => TxStep::Fetch,
+        23..=28 => TxStep::Send,
+        29..=32 => TxStep::Report,
+        33..=36 => TxStep::LoadReport,
+        37..=41 => TxStep::Clean,
+        42..=47 => TxStep::Reclaim,
+        48..=50 => TxStep::ClearHead,
+        51 => TxStep::ClearTail,
+        _ => TxStep::ClearReport,
+    }
 }
 
 /// A step as rows name it: where it posts no lawful segment, it is none that can be made.
