@@ -33,26 +33,31 @@ pub trait Queue: Sized {
     fn is_stopped(&self) -> bool
         ensures { result ≡ is_stopped (driver_state (way.kind.end_of self.now)) };
 
+    /// Has the buffers of a disabled queue in the stash again, and says how many these were.
     fn try_reclaim(&mut self, packets: &mut Packets) -> Result<usize, DriverError>
         requires stopped { is_stopped (driver_state (way.kind.end_of self.old)) ≡ true }
         ensures own { (way.kind.end_of self.new).table ≡ (way.kind.end_of self.old).table }
         ensures all { IfOk result (λ count. AllCame way.kind count self.old packets.old self.new packets.new) }
         ensures full { OnErr result (FilledUp way.kind self.old packets.old self.new packets.new) };
 
+    /// Asks for an enabling, if nothing was asked yet, and loads the control word: whether the queue is on.
     fn try_enable(&mut self) -> Result<bool, DriverError>
         ensures own { (way.kind.end_of self.new).table ≡ (way.kind.end_of self.old).table }
         ensures asked { IfOk result (λ on. TriedEnabling way.kind on self.old self.new) }
         ensures stopped { OnErr result ((is_stopped (driver_state (way.kind.end_of self.old)) ≡ true) × (self.new ≡ self.old)) };
 
+    /// Asks for a disabling.
     fn try_disable(&mut self) -> Result<(), DriverError>
         ensures own { (way.kind.end_of self.new).table ≡ (way.kind.end_of self.old).table }
         ensures asked { OnOk result (AskedDisable way.kind self.old self.new) }
         ensures off { OnErr result ((is_on (driver_state (way.kind.end_of self.old)) ≡ false) × (self.new ≡ self.old)) };
 
+    /// Loads the control word, and once the disabling is answered the head: how many segments are left.
     fn try_finish(&mut self) -> Option<u32>
         ensures own { (way.kind.end_of self.new).table ≡ (way.kind.end_of self.old).table }
         ensures step { TriedFinish way.kind result self.old self.new };
 
+    /// Clears the registers of a disabled queue from which all buffers came back.
     fn try_renew(&mut self) -> Result<(), DriverError>
         ensures own { (way.kind.end_of self.new).table ≡ (way.kind.end_of self.old).table }
         ensures renewed { OnOk result (way.kind.Renewed self.old self.new) }
@@ -97,8 +102,7 @@ pub trait Queue: Sized {
         }
     }
 
-    /// Loads the control word, and once the disabling is answered the head: 1, and how many segments are left,
-    /// once; else 0.
+    /// Loads the control word, and once the disabling is answered the head: 1, and how many segments are left, once; else 0.
     final fn finish_disable(&mut self) -> Found
         ensures own { (way.kind.end_of self.new).table ≡ (way.kind.end_of self.old).table }
         ensures step { TriedLeft way.kind result.answer result.count self.old self.new }
