@@ -1,5 +1,5 @@
 -- What is of the receive direction.
-use Rattle.std.specs.Prelude.{◌≡◌, ℕ, ◌%◌, ◌<◌, ◌≤◌, true, List, [], Some, slice_get}
+use Rattle.std.specs.Prelude.{◌≡◌, ℕ, true, List, []}
 use mathlib.Core.Option as maybe
 use Rattle.buffer_pool.specs.Buffer.{Buffer, buffer}
 use Rattle.ring_model.specs.declared.states.Completion.{Completion}
@@ -13,7 +13,7 @@ use Rattle.shared_ring.specs.Forms.{Form}
 use Rattle.shared_ring.specs.Lies.{driven, IsControlled, LeftOf}
 use Rattle.rx_ring.specs.declared.events.RxDriverOwn.{RxDriverOwn}
 use Rattle.rx_ring.specs.declared.events.RxControllerOwn.{RxControllerOwn}
-use Rattle.rx_ring.specs.Records.{DriverStep, ControllerStep, driving, controlling, Knowing, knowing, reading}
+use Rattle.rx_ring.specs.Records.{DriverStep, ControllerStep, driving, controlling, knowing, reading}
 use Rattle.rx_ring.specs.Rule.{Learnt, LiesAs, says, lies_there}
 
 -- both records are those of one lawful ring that a schedule makes, of which the driver has learnt what it says

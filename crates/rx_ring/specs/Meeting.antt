@@ -1,5 +1,5 @@
 -- What both ends know together: as they are made, as they meet, and as the ring is closed.
-use Rattle.std.specs.Prelude.{◌≡◌, ℕ, ◌+◌, ◌-◌, ◌%◌, ◌<◌, ◌≤◌, List, length, Option, Some, None, slice_get}
+use Rattle.std.specs.Prelude.{◌≡◌, ℕ, ◌+◌, ◌-◌, ◌%◌, List, length, Option, Some, slice_get}
 use Rattle.atomic_table.specs.Seated.{TableId}
 use Rattle.buffer_pool.specs.Buffer.{Buffer}
 use Rattle.ring_model.specs.declared.states.Completion.TheVariants.{Status}
@@ -7,7 +7,7 @@ use Rattle.ring_model.specs.receive.Ring.{RxLedger}
 use Rattle.ring_model.specs.shared.Frames.{Bytes}
 use Rattle.shared_ring.specs.Meeting as shared
 pub use Rattle.shared_ring.specs.Meeting.{is_unanswered, served_now as stored_now, Met, IsReal, AllReal, CameBackFrom, IsOutAt, numbers_at}
-use Rattle.rx_ring.specs.Ends.{DriverSide, driver_size, posted, taken, returned, ControllerSide}
+use Rattle.rx_ring.specs.Ends.{DriverSide, driver_size, posted, taken, ControllerSide}
 use Rattle.rx_ring.specs.Form.{AreOf}
 
 -- A made ring, whose two ends have done nothing yet: it is disabled, and reports by its descriptors

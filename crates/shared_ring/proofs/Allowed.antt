@@ -8,8 +8,6 @@ use lib.ListN.{get_elem?}
 use Rattle.atomic_table.specs.Table.{Step, keeps, takes, gives, step, Allows}
 use Rattle.buffer_pool.specs.Buffer.{Buffer, blank}
 use Rattle.ring_model.specs.declared.states.Completion.{Completion}
-use Rattle.shared_ring.specs.declared.events.DriverEvent.{DriverEvent}
-use Rattle.shared_ring.specs.declared.events.ControllerEvent.{ControllerEvent}
 use Rattle.shared_ring.specs.Forms.{Form}
 use Rattle.shared_ring.specs.Keeping.{IsRuled}
 use Rattle.shared_ring.specs.Plays.{SeatOf}

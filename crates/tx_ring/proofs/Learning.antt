@@ -5,7 +5,6 @@ use Rattle.ring_model.specs.declared.steps.TxStep.{TxStep}
 use Rattle.ring_model.specs.shared.Handshakes.{is_stopped}
 use Rattle.ring_model.specs.shared.Frames.{Bytes}
 use Rattle.ring_model.specs.shared.Laws.{SameEpoch}
-use Rattle.ring_model.specs.shared.Queue.{served_count}
 use Rattle.ring_model.specs.transmit.Laws.{TxLater, tx_over}
 use Rattle.ring_model.specs.transmit.Ring.{TxRing, ends_posting}
 use Rattle.ring_model.specs.transmit.Steps.{tx_can, tx_changed}

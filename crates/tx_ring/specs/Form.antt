@@ -1,5 +1,5 @@
 -- What is of the transmit direction.
-use Rattle.std.specs.Prelude.{◌≡◌, ℕ, ◌+◌, ◌%◌, ◌<◌, ◌≤◌, true, false, List, length, Some, slice_get}
+use Rattle.std.specs.Prelude.{◌≡◌, ℕ, ◌+◌, ◌<◌, true, false, List, length}
 use Rattle.buffer_pool.specs.Buffer.{Buffer, buffer}
 use Rattle.ring_model.specs.shared.Frames.{Bytes, unfinished}
 use Rattle.ring_model.specs.transmit.Agreement.{tx_word}
@@ -12,7 +12,7 @@ use Rattle.shared_ring.specs.Lies.{driven, IsControlled, LeftOf}
 use Rattle.tx_ring.specs.declared.events.TxDriverOwn.{TxDriverOwn}
 use Rattle.tx_ring.specs.declared.events.TxControllerOwn.{TxControllerOwn}
 use Rattle.descriptor.specs.Transmit.{eop_of, rs_of, paylen_of}
-use Rattle.tx_ring.specs.Records.{Posting, TxControlled, DriverStep, ControllerStep, driving, controlling, Knowing, knowing, posting_of, reading}
+use Rattle.tx_ring.specs.Records.{Posting, TxControlled, DriverStep, ControllerStep, driving, controlling, knowing, posting_of, reading}
 use Rattle.tx_ring.specs.Rule.{Learnt, LiesAs, filled, says, lies_there, word_of}
 
 -- both records are those of one lawful ring that a schedule makes, of which the driver has learnt what it says

@@ -1,11 +1,11 @@
 -- What both ends know together: as they are made, as they meet, and as the ring is closed.
-use Rattle.std.specs.Prelude.{◌≡◌, ℕ, ◌+◌, ◌-◌, ◌%◌, ◌<◌, ◌≤◌, List, length, Option, Some, None, slice_get}
+use Rattle.std.specs.Prelude.{◌≡◌, ℕ, ◌+◌, ◌-◌, ◌%◌, List, length, Option, Some, None, slice_get}
 use Rattle.buffer_pool.specs.Buffer.{Buffer}
 use Rattle.ring_model.specs.shared.Frames.{Bytes}
 use Rattle.ring_model.specs.transmit.Ring.{TxLedger, number_of_posting}
 use Rattle.shared_ring.specs.Meeting as shared
 pub use Rattle.shared_ring.specs.Meeting.{MadeSeats, is_unanswered, served_now as sent_now, Met, IsTold, IsReal, AllReal, CameBackFrom, IsOutAt, numbers_at}
-use Rattle.tx_ring.specs.Ends.{DriverSide, driver_size, posted, returned, cleaned, known_of, ControllerSide}
+use Rattle.tx_ring.specs.Ends.{DriverSide, driver_size, posted, cleaned, known_of, ControllerSide}
 use Rattle.tx_ring.specs.Form.{AreOf}
 use Rattle.tx_ring.specs.Records.{Posting}
 use Rattle.tx_ring.specs.Rule.{filled}

@@ -1,5 +1,5 @@
 -- The controller's seat lends its record, and the driver's takes it in.
-use Rattle.std.proofs.Common.{◌≡◌, ap, ◌∙◌}
+use Rattle.std.proofs.Common.{ap, ◌∙◌}
 use Rattle.shared_ring.specs.Seats.{driver_part, controller_part}
 use Rattle.shared_ring.proofs.Meeting.{some-words, lend-asks, unite-asks}
 use Rattle.shared_ring.proofs.steps.gathering.unite.Goals as goal
