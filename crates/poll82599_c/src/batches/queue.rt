@@ -11,7 +11,7 @@ ghost use Rattle.poll82599_c.specs.batches.Transmitting as tx;
 use crate::batches::found::Found;
 use crate::batches::packets::Packets;
 use crate::half::Half;
-use driver::{DriverError, RxDriver, TxDriver};
+use driver::{DriverError, QueueDriver, RxDriver, TxDriver};
 use rx_ring::RxRing;
 use tx_ring::TxRing;
 
