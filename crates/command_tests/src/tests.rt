@@ -2,14 +2,11 @@
 //! it on words and streams, and `streams` has inputs and outputs that fail, and a screen.
 
 mod decode_tests;
+mod failing;
 mod forward;
 mod lists;
-mod object_rows;
 mod once_tests;
-mod picture_rows;
-mod register_rows;
-mod replay_rows;
-mod replay_tests;
+mod replay;
 mod runs;
 mod schedules_tests;
 mod search;

@@ -1,12 +1,8 @@
 //! The command `decode`, row after row.
 
-use crate::tests::told::comes_to;
+use crate::tests::runs::Host;
+use crate::tests::told::comes_to_text;
 use std::alloc::Global;
-use std::process::Abort;
-use std::rt::Files;
-use std::sync::Wait;
-use std::thread::Threads;
-use std::time::Clock;
 
 /// A ring and a format.
 type Form = (&'static str, &'static str);
@@ -89,40 +85,35 @@ const NEVER: &[(&str, &str)] = &[
 ];
 
 /// `decode` of these digits in this form comes to this.
-fn decodes<R: Abort + Threads + Wait + Clock + Sync + Files>(
+fn decodes<R: Host>(
     rt: &R,
     alloc: Global,
     (ring, format): (&str, &str),
     digits: &str,
-    wanted: (u8, &str, &str),
+    wanted: (&str, &str),
 ) {
     let words = ["decode", ring, format, digits];
-    comes_to(rt, alloc, words.as_slice(), "", wanted)
+    comes_to_text(rt, alloc, words.as_slice(), "", wanted)
 }
 
 #[test]
 fn descriptors_are_decoded(rt: HostRuntime) {
     for (form, digits, line) in LINES {
-        decodes(&rt, rt.alloc(), *form, digits, (0, line, ""));
+        decodes(&rt, rt.alloc(), *form, digits, (line, ""));
     }
 }
 
 #[test]
 fn bytes_of_another_form_are_refused(rt: HostRuntime) {
     for (form, digits, faults) in REFUSED {
-        decodes(&rt, rt.alloc(), *form, digits, (1, "", faults));
+        decodes(&rt, rt.alloc(), *form, digits, ("", faults));
     }
 }
 
 /// These digits are refused in each form.
-fn are_never<R: Abort + Threads + Wait + Clock + Sync + Files>(
-    rt: &R,
-    alloc: Global,
-    digits: &str,
-    faults: &str,
-) {
+fn are_never<R: Host>(rt: &R, alloc: Global, digits: &str, faults: &str) {
     for form in FORMS {
-        decodes(rt, alloc, *form, digits, (1, "", faults));
+        decodes(rt, alloc, *form, digits, ("", faults));
     }
 }
 

@@ -1,18 +1,13 @@
 //! Runs on streams that fail.
 
-use crate::tests::runs::{refusal_of, text_of};
+use crate::tests::runs::{Host, refusal_of, text_of};
 use crate::tests::streams::{Broken, Narrow, Unflushed};
 use crate::tests::wanted::{holds, same};
 use std::alloc::Global;
 use std::io::{Read, Write};
-use std::process::Abort;
-use std::rt::Files;
-use std::sync::Wait;
-use std::thread::Threads;
-use std::time::Clock;
 
 /// A run with these streams is refused so.
-pub fn is_refused<R: Abort + Threads + Wait + Clock + Sync + Files, I: Read, W: Write>(
+pub fn is_refused<R: Host, I: Read, W: Write>(
     rt: &R,
     alloc: Global,
     words: &[&str],
@@ -28,21 +23,24 @@ pub fn is_refused<R: Abort + Threads + Wait + Clock + Sync + Files, I: Read, W: 
 const NO_OUTPUT: &str = "refused 84 output\n";
 
 /// An output with so much room has a beginning of what the run writes.
-fn has_beginning<R: Abort + Threads + Wait + Clock + Sync + Files>(
+fn has_beginning<R: Host>(
     rt: &R,
     alloc: Global,
     (words, mut input): (&[&str], &[u8]),
     whole: &[u8],
     room: usize,
 ) {
-    let mut output = Narrow::new(alloc, room);
+    let mut output = Narrow {
+        room,
+        taken: Vec::new(alloc),
+    };
     is_refused(rt, alloc, words, &mut input, &mut output, NO_OUTPUT);
     same(rt, Some(output.taken.as_slice()), whole.get(..room));
 }
 
 /// The run is refused with an output of each of these rooms, of one byte less than it writes, and of one that fails where it
 /// is flushed.
-pub fn each_beginning<R: Abort + Threads + Wait + Clock + Sync + Files>(
+pub fn each_beginning<R: Host>(
     rt: &R,
     alloc: Global,
     (words, input): (&[&str], &str),
@@ -59,12 +57,7 @@ pub fn each_beginning<R: Abort + Threads + Wait + Clock + Sync + Files>(
 }
 
 /// A run on an input that gives this and then fails is refused, and writes nothing.
-fn is_cut<R: Abort + Threads + Wait + Clock + Sync + Files>(
-    rt: &R,
-    alloc: Global,
-    words: &[&str],
-    left: &'static [u8],
-) {
+fn is_cut<R: Host>(rt: &R, alloc: Global, words: &[&str], left: &'static [u8]) {
     let mut output = Vec::new(alloc);
     let mut input = Broken { left };
     let line = "refused 82 input\n";
@@ -73,11 +66,7 @@ fn is_cut<R: Abort + Threads + Wait + Clock + Sync + Files>(
 }
 
 /// The same of each of these words and inputs.
-pub fn each_cut<R: Abort + Threads + Wait + Clock + Sync + Files>(
-    rt: &R,
-    alloc: Global,
-    rows: &[(&[&str], &'static [u8])],
-) {
+pub fn each_cut<R: Host>(rt: &R, alloc: Global, rows: &[(&[&str], &'static [u8])]) {
     for (words, left) in rows {
         is_cut(rt, alloc, words, left);
     }

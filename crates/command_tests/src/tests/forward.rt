@@ -1,6 +1,6 @@
 //! The command `forward`, captures beside it, and what is shown meanwhile.
 //!
-//! Most are tables of rows, a run with all that it has to come to, which `crate::tests::told`, `captured` and `streams` walk.
+//! Most are tables of rows, a run with all that it has to come to, which `crate::tests::told`, `captured` and `crate::tests::failing` walk.
 
 mod capture_streams;
 mod capture_words;
@@ -15,5 +15,4 @@ mod from_tests;
 mod helped;
 mod shown_tests;
 mod stream_tests;
-mod streams;
 mod to_tests;

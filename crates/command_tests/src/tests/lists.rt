@@ -3,3 +3,15 @@
 mod cover_tests;
 mod drawn_tests;
 mod printed_tests;
+
+use commands::{NOTES, QueuePlan};
+use ring_machine::Completion;
+
+/// The queues that lists are replayed on.
+const QUEUES: QueuePlan = QueuePlan {
+    pairs: 1,
+    ring: 8,
+    enabled: true,
+    completion: Completion::Status,
+    shown: NOTES,
+};

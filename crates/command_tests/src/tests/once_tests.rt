@@ -1,12 +1,8 @@
 //! The command `once`, row after row.
 
-use crate::tests::told::{comes_to, times};
+use crate::tests::runs::Host;
+use crate::tests::told::{comes_to_text, times};
 use std::alloc::{AllocError, Global};
-use std::process::Abort;
-use std::rt::Files;
-use std::sync::Wait;
-use std::thread::Threads;
-use std::time::Clock;
 
 /// What `once` has to refuse.
 const REFUSED: &[(&str, &str)] = &[
@@ -40,27 +36,22 @@ const LONG: &[(usize, &str)] = &[
 ];
 
 /// `once` on these digits comes to this.
-fn passes<R: Abort + Threads + Wait + Clock + Sync + Files>(
-    rt: &R,
-    alloc: Global,
-    digits: &str,
-    wanted: (u8, &str, &str),
-) {
+fn passes<R: Host>(rt: &R, alloc: Global, digits: &str, wanted: (&str, &str)) {
     let words = ["once", digits];
-    comes_to(rt, alloc, words.as_slice(), "", wanted)
+    comes_to_text(rt, alloc, words.as_slice(), "", wanted)
 }
 
 #[test]
 fn frames_come_out_in_lower_case(rt: HostRuntime) {
     for (digits, line) in PASSED {
-        passes(&rt, rt.alloc(), digits, (0, line, ""));
+        passes(&rt, rt.alloc(), digits, (line, ""));
     }
 }
 
 #[test]
 fn digits_of_no_frame_are_refused(rt: HostRuntime) {
     for (digits, faults) in REFUSED {
-        passes(&rt, rt.alloc(), digits, (1, "", faults));
+        passes(&rt, rt.alloc(), digits, ("", faults));
     }
 }
 
@@ -74,18 +65,13 @@ fn digits_of(alloc: Global, len: usize) -> Result<String, AllocError> {
 }
 
 /// A frame of so many bytes is passed, or refused with these faults.
-fn passes_long<R: Abort + Threads + Wait + Clock + Sync + Files>(
-    rt: &R,
-    alloc: Global,
-    len: usize,
-    faults: &str,
-) {
+fn passes_long<R: Host>(rt: &R, alloc: Global, len: usize, faults: &str) {
     let digits = digits_of(alloc, len).expect(rt, "memory");
     if !faults.is_empty() {
-        return passes(rt, alloc, digits.as_str(), (1, "", faults));
+        return passes(rt, alloc, digits.as_str(), ("", faults));
     }
     let line = times(alloc, digits.as_str(), 1, "\n").expect(rt, "memory");
-    passes(rt, alloc, digits.as_str(), (0, line.as_str(), ""))
+    passes(rt, alloc, digits.as_str(), (line.as_str(), ""))
 }
 
 #[test]

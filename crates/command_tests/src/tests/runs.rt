@@ -4,11 +4,17 @@ use crate::tests::streams::Screen;
 use command_line::run;
 use std::alloc::{AllocError, Global};
 use std::io::{Read, Write};
+use std::process::Abort;
 use std::rt::Files;
 use std::str;
 use std::sync::Wait;
 use std::thread::Threads;
 use std::time::Clock;
+
+/// What a run of the program takes of the system, and a test to end.
+pub trait Host: Abort + Threads + Wait + Clock + Sync + Files {}
+
+impl<R: Abort + Threads + Wait + Clock + Sync + Files> Host for R {}
 
 /// The text that these bytes are, or one that says that they are none.
 pub fn text_of(bytes: &[u8]) -> &str {
@@ -40,7 +46,7 @@ impl Told {
 }
 
 /// The status of a run on these words and streams.
-pub fn status_of<R: Threads + Wait + Clock + Sync + Files, I: Read, W: Write, E: Write>(
+pub fn status_of<R: Host, I: Read, W: Write, E: Write>(
     rt: &R,
     alloc: Global,
     words: &[&str],
@@ -57,7 +63,7 @@ pub fn status_of<R: Threads + Wait + Clock + Sync + Files, I: Read, W: Write, E:
 }
 
 /// What a run on these words, this input and this screen comes to.
-pub fn outcome_on<R: Threads + Wait + Clock + Sync + Files, I: Read>(
+pub fn outcome_on<R: Host, I: Read>(
     rt: &R,
     alloc: Global,
     words: &[&str],
@@ -83,7 +89,7 @@ pub fn outcome_on<R: Threads + Wait + Clock + Sync + Files, I: Read>(
 }
 
 /// The same with no terminal.
-pub fn told_by<R: Threads + Wait + Clock + Sync + Files, I: Read>(
+pub fn told_by<R: Host, I: Read>(
     rt: &R,
     alloc: Global,
     words: &[&str],
@@ -93,7 +99,7 @@ pub fn told_by<R: Threads + Wait + Clock + Sync + Files, I: Read>(
 }
 
 /// The same of an input that has these bytes.
-pub fn outcome_of<R: Threads + Wait + Clock + Sync + Files>(
+pub fn outcome_of<R: Host>(
     rt: &R,
     alloc: Global,
     words: &[&str],
@@ -103,7 +109,7 @@ pub fn outcome_of<R: Threads + Wait + Clock + Sync + Files>(
 }
 
 /// The status and the faults of a run on these words, this input and this output, with no terminal.
-pub fn refusal_of<R: Threads + Wait + Clock + Sync + Files, I: Read, W: Write>(
+pub fn refusal_of<R: Host, I: Read, W: Write>(
     rt: &R,
     alloc: Global,
     words: &[&str],

@@ -1,41 +1,31 @@
 //! The command `schedules`, from its words to its lists.
 
-use crate::tests::runs::outcome_of;
-use crate::tests::told::comes_to;
+use crate::tests::runs::{Host, outcome_of};
+use crate::tests::told::comes_to_text;
 use crate::tests::wanted::{holds, same};
 use std::alloc::Global;
-use std::process::Abort;
-use std::rt::Files;
-use std::sync::Wait;
-use std::thread::Threads;
-use std::time::Clock;
 
 /// The two lists of four moves of seed 1.
 const LISTS: &str =
     "r0 A1 50788\nt0 B1 4685 14 0 0 31\nt0 B1 44665 17 1 1 31\nt0 B7\n# end\nt0 B1 13746 22 1 1 22\nt0 B1 31314 1187 0 0 1243\nr0 A1 16182\nt0 B7\n# end\n";
 
 /// Words behind a seed and four moves, and what they come to.
-const ROWS: &[(&[&str], (u8, &str, &str))] = &[
-    (&["--count", "2"], (0, LISTS, "")),
-    (&["--count", "0"], (0, "", "")),
-    (&["--ring", "9"], (1, "", "refused 12 ring length\n")),
-    (&["--pairs", "0"], (1, "", "refused 12 ring length\n")),
-    (&["--pairs", "9"], (1, "", "refused 12 ring length\n")),
+const ROWS: &[(&[&str], (&str, &str))] = &[
+    (&["--count", "2"], (LISTS, "")),
+    (&["--count", "0"], ("", "")),
+    (&["--ring", "9"], ("", "refused 12 ring length\n")),
+    (&["--pairs", "0"], ("", "refused 12 ring length\n")),
+    (&["--pairs", "9"], ("", "refused 12 ring length\n")),
 ];
 
 const BEGIN: &[&str] = &["schedules", "--seed", "1", "--moves", "4"];
 
 /// With these words behind the beginning a run comes to this.
-fn goes_on<R: Abort + Threads + Wait + Clock + Sync + Files>(
-    rt: &R,
-    alloc: Global,
-    more: &[&str],
-    wanted: (u8, &str, &str),
-) {
+fn goes_on<R: Host>(rt: &R, alloc: Global, more: &[&str], wanted: (&str, &str)) {
     let mut words = Vec::new(alloc);
     words.extend_from_slice(BEGIN).expect(rt, "memory");
     words.extend_from_slice(more).expect(rt, "memory");
-    comes_to(rt, alloc, words.as_slice(), "", wanted)
+    comes_to_text(rt, alloc, words.as_slice(), "", wanted)
 }
 
 #[test]
@@ -48,12 +38,7 @@ fn lists_and_refusals(rt: HostRuntime) {
 const EXPECT: &[&str] = &["schedules", "--seed", "1", "--moves", "4", "--expect"];
 
 /// What is printed behind a list is what `replay` prints of it.
-fn is_expected<R: Abort + Threads + Wait + Clock + Sync + Files>(
-    rt: &R,
-    alloc: Global,
-    list: &str,
-    whole: &str,
-) {
+fn is_expected<R: Host>(rt: &R, alloc: Global, list: &str, whole: &str) {
     let page = outcome_of(rt, alloc, &["replay"], list.as_bytes()).expect(rt, "a run");
     same(rt, whole.strip_prefix(list), Some(page.text()));
     holds(rt, whole.ends_with("moves 4 of 4\n"));

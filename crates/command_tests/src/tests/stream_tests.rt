@@ -1,17 +1,12 @@
 //! Streams that fail, and want of memory.
 
-use crate::tests::runs::{refusal_of, status_of, text_of};
-use crate::tests::streams::{Broken, Narrow, Screen, Unflushed};
+use crate::tests::failing::{each_cut, is_refused};
+use crate::tests::runs::{Host, status_of};
+use crate::tests::streams::{Narrow, Screen, Unflushed};
 use crate::tests::wanted::{holds, same};
 use commands::{NOTES, QueuePlan, Request, perform};
 use ring_machine::Completion;
 use std::alloc::Global;
-use std::io::Write;
-use std::process::Abort;
-use std::rt::Files;
-use std::sync::Wait;
-use std::thread::Threads;
-use std::time::Clock;
 
 const FRAME: &str = "000102030405060708090a0b0c0d";
 
@@ -38,43 +33,40 @@ const STATUSES: &[(&[&str], u8)] = &[
     (&["once"], 2),
 ];
 
-const REPLAY: &[&str] = &["replay"];
+const MOVES: &str = "r0 A2\nr0 A2\nr0 A2\n";
 
-/// A run with such an output is refused for it.
-fn is_refused<R: Abort + Threads + Wait + Clock + Sync + Files, W: Write>(
-    rt: &R,
-    alloc: Global,
-    words: &[&str],
-    output: &mut W,
-) {
-    let mut input = "r0 A2\nr0 A2\nr0 A2\n".as_bytes();
-    let (status, faults) = refusal_of(rt, alloc, words, &mut input, output).expect(rt, "a run");
-    let wanted = (words, "refused 84 output\n", 1);
-    same(rt, (words, text_of(faults.as_slice()), status), wanted);
-}
+const NO_OUTPUT: &str = "refused 84 output\n";
 
 /// With so much room the output is refused, and full.
-fn is_full<R: Abort + Threads + Wait + Clock + Sync + Files>(
-    rt: &R,
-    alloc: Global,
-    words: &[&str],
-    room: usize,
-) {
-    let mut output = Narrow::new(alloc, room);
-    is_refused(rt, alloc, words, &mut output);
+fn is_full<R: Host>(rt: &R, alloc: Global, words: &[&str], room: usize) {
+    let mut output = Narrow {
+        room,
+        taken: Vec::new(alloc),
+    };
+    is_refused(
+        rt,
+        alloc,
+        words,
+        &mut MOVES.as_bytes(),
+        &mut output,
+        NO_OUTPUT,
+    );
     same(rt, (words, output.taken.len()), (words, room));
 }
 
 /// An output that takes too little, or fails where it is flushed, is refused.
-fn each_output_is_refused<R: Abort + Threads + Wait + Clock + Sync + Files>(
-    rt: &R,
-    alloc: Global,
-    words: &[&str],
-) {
+fn each_output_is_refused<R: Host>(rt: &R, alloc: Global, words: &[&str]) {
     for room in [0, 1, 27, 28] {
         is_full(rt, alloc, words, room);
     }
-    is_refused(rt, alloc, words, &mut Unflushed)
+    is_refused(
+        rt,
+        alloc,
+        words,
+        &mut MOVES.as_bytes(),
+        &mut Unflushed,
+        NO_OUTPUT,
+    )
 }
 
 #[test]
@@ -85,14 +77,14 @@ fn an_output_that_fails_is_refused(rt: HostRuntime) {
 }
 
 /// With so much room for the faults the status is this.
-fn has_status<R: Abort + Threads + Wait + Clock + Sync + Files>(
-    rt: &R,
-    alloc: Global,
-    words: &[&str],
-    room: usize,
-    status: u8,
-) {
-    let (mut output, mut faults) = (Vec::new(alloc), Narrow::new(alloc, room));
+fn has_status<R: Host>(rt: &R, alloc: Global, words: &[&str], room: usize, status: u8) {
+    let (mut output, mut faults) = (
+        Vec::new(alloc),
+        Narrow {
+            room,
+            taken: Vec::new(alloc),
+        },
+    );
     let mut screen = Screen::new(alloc, false);
     let told = status_of(
         rt,
@@ -115,18 +107,12 @@ fn faults_that_fail_change_no_status(rt: HostRuntime) {
     }
 }
 
+/// A list that breaks off behind a faulty line.
+const CUT: &[(&[&str], &[u8])] = &[(&["replay"], b"r0 A2\nr0 A9\n")];
+
 #[test]
 fn an_input_that_fails_in_mid_stream_is_refused(rt: HostRuntime) {
-    let mut output = Vec::new(rt.alloc());
-    let mut input = Broken {
-        left: b"r0 A2\nr0 A9\n".as_slice(),
-    };
-    let (status, faults) = refusal_of(&rt, rt.alloc(), REPLAY, &mut input, &mut output).expect(
-        &rt, "a run",
-    );
-    let told = (status, text_of(faults.as_slice()));
-    same(&rt, told, (1, "refused 82 input\n"));
-    holds(&rt, output.is_empty());
+    each_cut(&rt, rt.alloc(), CUT)
 }
 
 #[test]
@@ -139,7 +125,10 @@ fn want_of_memory(rt: HostRuntime) {
         shown: NOTES,
     };
     let mut input = "r0 A1 5\nt0 B2\n".as_bytes();
-    let mut output = Narrow::new(rt.alloc(), 100);
+    let mut output = Narrow {
+        room: 100,
+        taken: Vec::new(rt.alloc()),
+    };
     match perform(
         &rt,
         rt.alloc(),

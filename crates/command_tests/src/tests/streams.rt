@@ -4,6 +4,26 @@ use std::alloc::Global;
 use std::io;
 use std::io::{ErrorKind, IsTerminal, Read, Write};
 
+/// What a stream that has broken answers.
+fn fails<T>() -> io::Result<T> {
+    Err(io::Error::from(ErrorKind::BrokenPipe))
+}
+
+/// Gives at most so many of the bytes that are left, and how many.
+fn give(left: &mut &[u8], buf: &mut [u8], most: usize) -> usize {
+    let count = buf.len().min(left.len()).min(most);
+    buf[..count].copy_from_slice(&left[..count]);
+    *left = &left[count..];
+    count
+}
+
+/// Takes at most so many of these bytes, and tells how many.
+fn take(taken: &mut Vec<u8>, buf: &[u8], most: usize) -> io::Result<usize> {
+    let count = buf.len().min(most);
+    taken.extend_from_slice(&buf[..count])?;
+    Ok(count)
+}
+
 /// A stream that gives these bytes, and then fails.
 #[derive(Drop)]
 pub struct Broken {
@@ -12,45 +32,10 @@ pub struct Broken {
 
 impl Read for Broken {
     fn read(&mut self, buf: &mut [u8]) -> io::Result<usize> {
-        let count = buf.len().min(self.left.len());
-        if count == 0 && !buf.is_empty() {
-            return Err(io::Error::from(ErrorKind::BrokenPipe));
+        if self.left.is_empty() && !buf.is_empty() {
+            return fails();
         }
-        buf[..count].copy_from_slice(&self.left[..count]);
-        self.left = &self.left[count..];
-        Ok(count)
-    }
-}
-
-/// A stream that takes so many bytes, and then fails.
-#[derive(Drop)]
-pub struct Narrow {
-    room: usize,
-    pub taken: Vec<u8>,
-}
-
-impl Narrow {
-    pub fn new(alloc: Global, room: usize) -> Narrow {
-        Narrow {
-            room,
-            taken: Vec::new(alloc),
-        }
-    }
-}
-
-impl Write for Narrow {
-    fn write(&mut self, buf: &[u8]) -> io::Result<usize> {
-        let count = self.room.min(buf.len());
-        if count == 0 && !buf.is_empty() {
-            return Err(io::Error::from(ErrorKind::BrokenPipe));
-        }
-        self.taken.extend_from_slice(&buf[..count])?;
-        self.room -= count;
-        Ok(count)
-    }
-
-    fn flush(&mut self) -> io::Result<()> {
-        Ok(())
+        Ok(give(&mut self.left, buf, usize::MAX))
     }
 }
 
@@ -67,41 +52,49 @@ pub struct Halting<'a> {
 impl<'a> Read for Halting<'a> {
     fn read(&mut self, buf: &mut [u8]) -> io::Result<usize> {
         if self.pieces == 0 {
-            return Err(io::Error::from(ErrorKind::BrokenPipe));
+            return fails();
         }
         self.pieces -= 1;
-        let count = buf.len().min(self.left.len()).min(PIECE);
-        buf[..count].copy_from_slice(&self.left[..count]);
-        self.left = &self.left[count..];
+        Ok(give(&mut self.left, buf, PIECE))
+    }
+}
+
+/// A stream that takes so many bytes, and then fails.
+#[derive(Drop)]
+pub struct Narrow {
+    pub room: usize,
+    pub taken: Vec<u8>,
+}
+
+impl Write for Narrow {
+    fn write(&mut self, buf: &[u8]) -> io::Result<usize> {
+        if self.room == 0 && !buf.is_empty() {
+            return fails();
+        }
+        let count = take(&mut self.taken, buf, self.room)?;
+        self.room -= count;
         Ok(count)
+    }
+
+    fn flush(&mut self) -> io::Result<()> {
+        Ok(())
     }
 }
 
 /// A stream that takes so many pieces, and then fails.
 #[derive(Drop)]
 pub struct Piecemeal {
-    pieces: usize,
+    pub pieces: usize,
     pub taken: Vec<u8>,
-}
-
-impl Piecemeal {
-    pub fn new(alloc: Global, pieces: usize) -> Piecemeal {
-        Piecemeal {
-            pieces,
-            taken: Vec::new(alloc),
-        }
-    }
 }
 
 impl Write for Piecemeal {
     fn write(&mut self, buf: &[u8]) -> io::Result<usize> {
         if self.pieces == 0 {
-            return Err(io::Error::from(ErrorKind::BrokenPipe));
+            return fails();
         }
         self.pieces -= 1;
-        let count = buf.len().min(PIECE);
-        self.taken.extend_from_slice(&buf[..count])?;
-        Ok(count)
+        take(&mut self.taken, buf, PIECE)
     }
 
     fn flush(&mut self) -> io::Result<()> {
@@ -119,7 +112,7 @@ impl Write for Unflushed {
     }
 
     fn flush(&mut self) -> io::Result<()> {
-        Err(io::Error::from(ErrorKind::BrokenPipe))
+        fails()
     }
 }
 
@@ -132,10 +125,8 @@ pub struct Screen {
 
 impl Screen {
     pub fn new(alloc: Global, is_terminal: bool) -> Screen {
-        Screen {
-            shown: Vec::new(alloc),
-            is_terminal,
-        }
+        let shown = Vec::new(alloc);
+        Screen { shown, is_terminal }
     }
 }
 

@@ -1,14 +1,12 @@
 //! What runs of the program on words and an input have to come to.
 
-use crate::tests::runs::{Told, is_page, outcome_of, told_by};
+use crate::tests::runs::{Host, is_page, text_of, told_by};
 use crate::tests::streams::Broken;
 use crate::tests::wanted::same;
+use commands::{REFUSED, Refusal, refuse};
 use std::alloc::{AllocError, Global};
+use std::io::Read;
 use std::process::Abort;
-use std::rt::Files;
-use std::sync::Wait;
-use std::thread::Threads;
-use std::time::Clock;
 
 /// A run, and what it has to come to, to the byte.
 #[derive(Clone, Copy)]
@@ -16,102 +14,103 @@ pub struct Row {
     pub words: &'static [&'static str],
     pub input: &'static str,
     pub output: &'static str,
+    pub faults: &'static str,
 }
 
-/// What a run came to is this status, this output and these faults, and nothing is shown.
-fn is_told<R: Abort>(
+/// A run on these words and this input comes to this output and these faults, and nothing is shown. Its status is 1 where
+/// there are faults.
+pub fn comes_to<R: Host, I: Read>(
     rt: &R,
-    (words, input): (&[&str], &str),
-    told: &Told,
-    (status, output, faults): (u8, &str, &str),
+    alloc: Global,
+    words: &[&str],
+    input: &mut I,
+    (output, faults): (&[u8], &str),
 ) {
-    let text = told.text();
-    let texts = (text, told.faults(), told.shown());
+    let told = told_by(rt, alloc, words, input).expect(rt, "a run");
+    let status = u8::from(!faults.is_empty());
+    let texts = (told.text(), told.faults(), told.shown());
     same(
         rt,
-        (words, input, told.status, texts),
-        (words, input, status, (output, faults, "")),
+        (words, told.status, texts, told.output.as_slice()),
+        (words, status, (text_of(output), faults, ""), output),
     );
 }
 
-/// A run on these words and this input comes to this status, this output and these faults, and nothing is shown.
-pub fn comes_to<R: Abort + Threads + Wait + Clock + Sync + Files>(
+/// The same of texts.
+pub fn comes_to_text<R: Host>(
     rt: &R,
     alloc: Global,
     words: &[&str],
     input: &str,
-    wanted: (u8, &str, &str),
+    (output, faults): (&str, &str),
 ) {
-    let told = outcome_of(rt, alloc, words, input.as_bytes()).expect(rt, "a run");
-    is_told(rt, (words, input), &told, wanted)
+    comes_to(
+        rt,
+        alloc,
+        words,
+        &mut input.as_bytes(),
+        (output.as_bytes(), faults),
+    )
 }
 
-/// Each row comes to its output, and to no faults.
-pub fn each_comes_to<R: Abort + Threads + Wait + Clock + Sync + Files>(
-    rt: &R,
-    alloc: Global,
-    rows: &[Row],
-) {
+/// Each row comes to its output and its faults.
+pub fn each_comes_to<R: Host>(rt: &R, alloc: Global, rows: &[Row]) {
     for row in rows {
-        comes_to(rt, alloc, row.words, row.input, (0, row.output, ""));
+        comes_to_text(rt, alloc, row.words, row.input, (row.output, row.faults));
     }
 }
 
-/// A run on these words is told that they are wrong, with this text, and prints nothing on the output. Its input is a faulty
-/// script that breaks off, and no move.
-fn is_mistaken<R: Abort + Threads + Wait + Clock + Sync + Files>(
-    rt: &R,
-    alloc: Global,
-    words: &[&str],
-    text: &str,
-) {
+/// A page of text.
+#[derive(Clone, Copy)]
+pub enum Page {
+    /// Help on the output, of a run that ends well.
+    Help,
+    /// What is wrong with the words, on the faults.
+    Mistake,
+}
+
+/// A run on these words prints this page with this text, and nothing else. It reads nothing: its input is a faulty script that
+/// breaks off, and no move.
+fn has_page<R: Host>(rt: &R, alloc: Global, page: Page, words: &[&str], text: &str) {
     let told = told_by(rt, alloc, words, &mut Broken { left: b"2 0 00\n" }).expect(rt, "a run");
-    let is_told = is_page(told.faults(), "error: ", text);
-    let is_silent = told.output.is_empty();
+    let (status, begins, told_text, other) = match page {
+        Page::Help => (0, "", told.text(), told.faults()),
+        Page::Mistake => (2, "error: ", told.faults(), told.text()),
+    };
     same(
         rt,
-        (words, text, told.status, is_silent, is_told),
-        (words, text, 2, true, true),
+        (
+            words,
+            text,
+            told.status,
+            other,
+            is_page(told_text, begins, text),
+        ),
+        (words, text, status, "", true),
     );
 }
 
-/// Each of these words is told to be wrong, with its text.
-pub fn each_is_mistaken<R: Abort + Threads + Wait + Clock + Sync + Files>(
-    rt: &R,
-    alloc: Global,
-    rows: &[(&[&str], &str)],
-) {
+/// Each of these words has its page, with its text.
+pub fn each_has_page<R: Host>(rt: &R, alloc: Global, page: Page, rows: &[(&[&str], &str)]) {
     for (words, text) in rows {
-        is_mistaken(rt, alloc, words, text);
+        has_page(rt, alloc, page, words, text);
     }
 }
 
-/// A run on these words prints help with this text, and ends well.
-fn is_helped<R: Abort + Threads + Wait + Clock + Sync + Files>(
-    rt: &R,
-    alloc: Global,
-    words: &[&str],
-    text: &str,
-) {
-    let told = outcome_of(rt, alloc, words, b"").expect(rt, "a run");
-    let has_text = is_page(told.text(), "", text);
-    let faults = told.faults();
-    same(
-        rt,
-        (words, text, told.status, faults, has_text),
-        (words, text, 0, "", true),
-    );
+/// A refusal has this line.
+pub fn has_line<R: Abort>(rt: &R, alloc: Global, refusal: Refusal, line: &str) {
+    let mut faults = Vec::new(alloc);
+    let status = refuse(&mut faults, refusal);
+    same(rt, (status, faults.as_slice()), (REFUSED, line.as_bytes()));
 }
 
-/// The help that each of these words ask for has its text.
-pub fn each_is_helped<R: Abort + Threads + Wait + Clock + Sync + Files>(
-    rt: &R,
-    alloc: Global,
-    rows: &[(&[&str], &str)],
-) {
-    for (words, text) in rows {
-        is_helped(rt, alloc, words, text);
+/// All of these texts, one behind another.
+pub fn joined(alloc: Global, texts: &[&str]) -> Result<String, AllocError> {
+    let mut text = String::new(alloc);
+    for part in texts {
+        text.push_str(part)?;
     }
+    Ok(text)
 }
 
 /// So many copies of a text, and then an end.

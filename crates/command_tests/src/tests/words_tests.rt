@@ -1,14 +1,14 @@
 //! Words that ask for help, and words that are wrong.
 
-use crate::tests::told::{Row, each_comes_to, each_is_helped, each_is_mistaken};
-use crate::tests::wanted::same;
+use crate::tests::told::{Page, Row, each_comes_to, each_has_page, has_line};
 use buffer_pool::PoolError;
-use commands::{REFUSED, Refusal, refuse};
+use commands::Refusal::{
+    self, Descriptor, FileNotRead, FileNotWritten, FrameLength, Hex, Input, Machine, Output, Ring,
+    Stock,
+};
 use descriptor::DescError;
 use ring_machine::MachineError;
 use rx_ring::RingError;
-use std::alloc::Global;
-use std::process::Abort;
 
 const FRAME: &str = "000102030405060708090a0b0c0d";
 
@@ -105,46 +105,37 @@ const WRONG: &[(&[&str], &str)] = &[
 
 /// Each refusal, and its line.
 const LINES: &[(Refusal, &str)] = &[
-    (Refusal::Descriptor(DescError::Length), "refused 1 length\n"),
+    (Descriptor(DescError::Length), "refused 1 length\n"),
+    (Descriptor(DescError::Reserved), "refused 2 reserved\n"),
+    (Descriptor(DescError::Kind), "refused 3 type\n"),
+    (Descriptor(DescError::Size), "refused 4 size\n"),
     (
-        Refusal::Descriptor(DescError::Reserved),
-        "refused 2 reserved\n",
-    ),
-    (Refusal::Descriptor(DescError::Kind), "refused 3 type\n"),
-    (Refusal::Descriptor(DescError::Size), "refused 4 size\n"),
-    (
-        Refusal::Machine(MachineError::NotEnabled),
+        Machine(MachineError::NotEnabled),
         "refused 11 not enabled\n",
     ),
     (
-        Refusal::Machine(MachineError::RingLength),
+        Machine(MachineError::RingLength),
         "refused 12 ring length\n",
     ),
-    (
-        Refusal::Machine(MachineError::Memory),
-        "refused 13 memory\n",
-    ),
+    (Machine(MachineError::Memory), "refused 13 memory\n"),
     (Refusal::Move { line: 7 }, "line 7: refused 14 move\n"),
-    (
-        Refusal::Ring(RingError::RingLength),
-        "refused 21 ring length\n",
-    ),
-    (Refusal::Ring(RingError::Memory), "refused 22 memory\n"),
-    (Refusal::Stock(PoolError::Memory), "refused 31 memory\n"),
-    (Refusal::Stock(PoolError::Count), "refused 34 count\n"),
-    (Refusal::FrameLength, "refused 41 frame length\n"),
+    (Ring(RingError::RingLength), "refused 21 ring length\n"),
+    (Ring(RingError::Memory), "refused 22 memory\n"),
+    (Stock(PoolError::Memory), "refused 31 memory\n"),
+    (Stock(PoolError::Count), "refused 34 count\n"),
+    (FrameLength, "refused 41 frame length\n"),
     (Refusal::Thread, "refused 63 thread\n"),
-    (Refusal::Hex, "refused 81 hex\n"),
-    (Refusal::Input, "refused 82 input\n"),
+    (Hex, "refused 81 hex\n"),
+    (Input, "refused 82 input\n"),
     (Refusal::Memory, "refused 83 memory\n"),
-    (Refusal::Output, "refused 84 output\n"),
-    (Refusal::FileNotRead, "refused 85 file not read\n"),
-    (Refusal::FileNotWritten, "refused 86 file not written\n"),
+    (Output, "refused 84 output\n"),
+    (FileNotRead, "refused 85 file not read\n"),
+    (FileNotWritten, "refused 86 file not written\n"),
 ];
 
 #[test]
 fn help_goes_to_the_output_with_an_example(rt: HostRuntime) {
-    each_is_helped(&rt, rt.alloc(), HELPED)
+    each_has_page(&rt, rt.alloc(), Page::Help, HELPED)
 }
 
 const VERSION: &[Row] = &[
@@ -152,11 +143,13 @@ const VERSION: &[Row] = &[
         words: &["--version"],
         input: "",
         output: "poll82599 0.1.0\n",
+        faults: "",
     },
     Row {
         words: &["-V"],
         input: "",
         output: "poll82599 0.1.0\n",
+        faults: "",
     },
 ];
 
@@ -167,13 +160,7 @@ fn the_version_goes_to_the_output(rt: HostRuntime) {
 
 #[test]
 fn wrong_words_are_told_with_status_2(rt: HostRuntime) {
-    each_is_mistaken(&rt, rt.alloc(), WRONG)
-}
-
-fn has_line<R: Abort>(rt: &R, alloc: Global, refusal: Refusal, line: &str) {
-    let mut faults = Vec::new(alloc);
-    let status = refuse(&mut faults, refusal);
-    same(rt, (status, faults.as_slice()), (REFUSED, line.as_bytes()));
+    each_has_page(&rt, rt.alloc(), Page::Mistake, WRONG)
 }
 
 #[test]

@@ -1,7 +1,7 @@
 //! Streams of `from-capture` and `to-capture` that fail, and want of memory.
 
+use crate::tests::failing::{each_beginning, each_cut};
 use crate::tests::forward::captured::{AT_0, FIVES, HEADER, joined};
-use crate::tests::forward::streams::{each_beginning, each_cut};
 use crate::tests::streams::Narrow;
 use crate::tests::wanted::{holds, same};
 use forward_command::piped::{CaptureRequest, perform};
@@ -46,7 +46,10 @@ fn an_input_that_fails_in_mid_stream_is_refused(rt: HostRuntime) {
 
 /// What `to-capture` writes, or nothing where memory is refused.
 fn capture_written<A: Abort>(rt: &A, alloc: Global) -> Vec<u8> {
-    let mut output = Narrow::new(alloc, 400);
+    let mut output = Narrow {
+        room: 400,
+        taken: Vec::new(alloc),
+    };
     let request = CaptureRequest::ToCapture { port: 1 };
     match perform(alloc, request, &mut SCRIPT.as_bytes(), &mut output) {
         Ok(()) => same(rt, output.taken.len(), 54),
@@ -60,7 +63,10 @@ fn capture_written<A: Abort>(rt: &A, alloc: Global) -> Vec<u8> {
 
 /// From that capture `from-capture` writes the line again, or nothing.
 fn line_is_written<A: Abort>(rt: &A, alloc: Global, mut capture: &[u8]) {
-    let mut output = Narrow::new(alloc, 400);
+    let mut output = Narrow {
+        room: 400,
+        taken: Vec::new(alloc),
+    };
     let request = CaptureRequest::FromCapture { port: 1, queue: 0 };
     match perform(alloc, request, &mut capture, &mut output) {
         Ok(()) => same(rt, output.taken.as_slice(), SCRIPT.as_bytes()),

@@ -1,6 +1,6 @@
 //! The help of `from-capture` and `to-capture`, and words that are wrong.
 
-use crate::tests::told::{each_is_helped, each_is_mistaken};
+use crate::tests::told::{Page, each_has_page};
 
 /// Words that ask for help, and what it has to say.
 const HELPED: &[(&[&str], &str)] = &[
@@ -32,10 +32,10 @@ const WRONG: &[(&[&str], &str)] = &[
 
 #[test]
 fn help_goes_to_the_output(rt: HostRuntime) {
-    each_is_helped(&rt, rt.alloc(), HELPED)
+    each_has_page(&rt, rt.alloc(), Page::Help, HELPED)
 }
 
 #[test]
 fn wrong_words_are_told_with_status_2(rt: HostRuntime) {
-    each_is_mistaken(&rt, rt.alloc(), WRONG)
+    each_has_page(&rt, rt.alloc(), Page::Mistake, WRONG)
 }

@@ -1,13 +1,8 @@
 //! Captures by their parts, and runs that read or write them.
 
-use crate::tests::runs::{Told, outcome_of};
-use crate::tests::wanted::same;
+use crate::tests::runs::{Host, outcome_of};
+use crate::tests::told::comes_to;
 use std::alloc::{AllocError, Global};
-use std::process::Abort;
-use std::rt::Files;
-use std::sync::Wait;
-use std::thread::Threads;
-use std::time::Clock;
 
 /// The header of each capture that is written: little-endian, microseconds, version 2.4, a snap length of 65,535, Ethernet.
 pub const HEADER: &[u8] = b"\xd4\xc3\xb2\xa1\x02\x00\x04\x00\0\0\0\0\0\0\0\0\xff\xff\0\0\x01\0\0\0";
@@ -59,63 +54,41 @@ pub fn joined(alloc: Global, parts: &[&[u8]]) -> Result<Vec<u8>, AllocError> {
     Ok(bytes)
 }
 
-/// A run on these words came to this output and these faults; its status is 1 where there are faults.
-pub fn is_told<R: Abort>(rt: &R, words: &[&str], told: &Told, output: &[u8], faults: &str) {
-    let status = u8::from(!faults.is_empty());
-    let text = told.faults();
-    same(
-        rt,
-        (words, told.status, text, told.output.as_slice()),
-        (words, status, faults, output),
-    );
-}
-
 /// Words, what goes in, and what comes out.
 pub type Writing = (&'static [&'static str], Content, Content);
 
-/// Words, what goes in, and the line that it is refused with.
-pub type Refusing = (&'static [&'static str], Content, &'static str);
+/// What goes in, and the line that it is refused with.
+pub type Refusing = (Content, &'static str);
 
 /// A run on these words and this input comes to this output and these faults.
-fn comes_to<R: Abort + Threads + Wait + Clock + Sync + Files>(
+pub fn brings<R: Host>(
     rt: &R,
     alloc: Global,
-    words: &[&str],
-    input: &[u8],
-    output: &[&[u8]],
-    faults: &str,
+    (words, input): (&[&str], &[&[u8]]),
+    (output, faults): (&[&[u8]], &str),
 ) {
+    let input = joined(alloc, input).expect(rt, "memory");
     let output = joined(alloc, output).expect(rt, "memory");
-    let told = outcome_of(rt, alloc, words, input).expect(rt, "a run");
-    is_told(rt, words, &told, output.as_slice(), faults);
+    let wanted = (output.as_slice(), faults);
+    comes_to(rt, alloc, words, &mut input.as_slice(), wanted)
 }
 
 /// Each run writes what its row says, and no faults.
-pub fn each_writes<R: Abort + Threads + Wait + Clock + Sync + Files>(
-    rt: &R,
-    alloc: Global,
-    rows: &[Writing],
-) {
+pub fn each_writes<R: Host>(rt: &R, alloc: Global, rows: &[Writing]) {
     for (words, input, output) in rows {
-        let input = joined(alloc, input).expect(rt, "memory");
-        comes_to(rt, alloc, words, input.as_slice(), output, "");
+        brings(rt, alloc, (words, input), (output, ""));
     }
 }
 
-/// Each run is refused with its row's line, and writes nothing else.
-pub fn each_is_refused<R: Abort + Threads + Wait + Clock + Sync + Files>(
-    rt: &R,
-    alloc: Global,
-    rows: &[Refusing],
-) {
-    for (words, input, line) in rows {
-        let input = joined(alloc, input).expect(rt, "memory");
-        comes_to(rt, alloc, words, input.as_slice(), &[], line);
+/// A run on these words is refused with each row's line, and writes nothing else.
+pub fn each_is_refused<R: Host>(rt: &R, alloc: Global, words: &[&str], rows: &[Refusing]) {
+    for (input, line) in rows {
+        brings(rt, alloc, (words, input), (&[], line));
     }
 }
 
 /// What the first run writes is what the next one reads, and that writes this.
-pub fn is_piped<R: Abort + Threads + Wait + Clock + Sync + Files>(
+pub fn is_piped<R: Host>(
     rt: &R,
     alloc: Global,
     (words, input): (&[&str], &[&[u8]]),
@@ -123,5 +96,5 @@ pub fn is_piped<R: Abort + Threads + Wait + Clock + Sync + Files>(
 ) {
     let input = joined(alloc, input).expect(rt, "memory");
     let first = outcome_of(rt, alloc, words, input.as_slice()).expect(rt, "a run");
-    comes_to(rt, alloc, next, first.output.as_slice(), output, "");
+    brings(rt, alloc, (next, &[first.output.as_slice()]), (output, ""))
 }

@@ -1,26 +1,24 @@
 //! Forwarding from captures and to captures, with files.
 
 use crate::tests::forward::captured::{
-    AT_0, AT_1, AT_2, BYTES, Content, FIVES, HEADER, LETTERS, RAW, SHORT, is_told, joined,
+    AT_0, AT_1, AT_2, BYTES, Content, FIVES, HEADER, LETTERS, RAW, SHORT, joined,
 };
-use crate::tests::runs::{outcome_of, told_by};
+use crate::tests::runs::{Host, outcome_of};
 use crate::tests::streams::Broken;
-use crate::tests::told::each_is_mistaken;
+use crate::tests::told::{Page, comes_to, each_has_page};
 use crate::tests::wanted::{holds, same};
 use std::alloc::Global;
 use std::fs;
 use std::process::Abort;
 use std::rt::Files;
-use std::sync::Wait;
-use std::thread::Threads;
-use std::time::Clock;
 
-/// Files that are written before a run whose input can't be read, and what it comes to.
+/// Files that are written before a run whose input can't be read, what it comes to, and files that are afterwards as here.
 struct Row {
     files: &'static [(&'static str, Content)],
     words: &'static [&'static str],
     output: &'static str,
     faults: &'static str,
+    kept: &'static [(&'static str, Content)],
 }
 
 /// Puts these files where the tests run.
@@ -31,69 +29,167 @@ fn put<R: Abort + Files>(rt: &R, alloc: Global, files: &[(&str, Content)]) {
     }
 }
 
-fn comes_to<R: Abort + Threads + Wait + Clock + Sync + Files>(rt: &R, alloc: Global, row: &Row) {
-    put(rt, alloc, row.files);
-    let told = told_by(rt, alloc, row.words, &mut Broken { left: b"" }).expect(rt, "a run");
-    is_told(rt, row.words, &told, row.output.as_bytes(), row.faults);
-}
-
-fn each_comes_to<R: Abort + Threads + Wait + Clock + Sync + Files>(
-    rt: &R,
-    alloc: Global,
-    rows: &[Row],
-) {
-    for row in rows {
-        comes_to(rt, alloc, row);
+/// The files have these contents.
+fn have<R: Abort + Files + AllocGlobal>(rt: &R, alloc: Global, files: &[(&str, Content)]) {
+    for (name, content) in files {
+        let held = fs::read(rt, name).expect(rt, "the file");
+        let wanted = joined(alloc, content).expect(rt, "memory");
+        same(rt, (*name, held.as_slice()), (*name, wanted.as_slice()));
     }
 }
 
-/// The file has this content.
-fn has<R: Abort + Files + AllocGlobal>(rt: &R, alloc: Global, name: &str, content: Content) {
-    let held = fs::read(rt, name).expect(rt, "the file");
-    let wanted = joined(alloc, content).expect(rt, "memory");
-    same(rt, (name, held.as_slice()), (name, wanted.as_slice()));
+fn each_comes_to<R: Host + AllocGlobal>(rt: &R, alloc: Global, rows: &[Row]) {
+    for row in rows {
+        put(rt, alloc, row.files);
+        let wanted = (row.output.as_bytes(), row.faults);
+        comes_to(rt, alloc, row.words, &mut Broken { left: b"" }, wanted);
+        have(rt, alloc, row.kept);
+    }
 }
 
-const ONE_QUEUE: &[Row] = &[Row {
-    files: &[
-        ("one_queue_two.pcap", &[HEADER, AT_0, LETTERS, AT_1, BYTES]),
-        ("one_queue_one.pcap", &[HEADER, AT_0, FIVES]),
-    ],
-    words: &[
-        "forward",
-        "--capture",
-        "0:0=one_queue_two.pcap",
-        "--capture",
-        "0:0=one_queue_one.pcap",
-    ],
-    output: "1 0 6163636465666768696a6b6c6d6e\n1 0 00020a0d23667f80feff0000000a\n1 0 0507050505050505050505050505\nflow 0 0 offered 3 stored 3 dropped 0 oversize 0 taken 3 posted 3 tx-dropped 0 wire 3 left 0 ended drained\nflow 1 0 offered 0 stored 0 dropped 0 oversize 0 taken 0 posted 0 tx-dropped 0 wire 0 left 0 ended drained\n",
-    faults: "",
-}];
+/// Captures come in at their port and queue, those of one queue behind one another; and the wire file of a run is the next
+/// one's capture.
+const FORWARDED: &[Row] = &[
+    Row {
+        files: &[
+            ("one_queue_two.pcap", &[HEADER, AT_0, LETTERS, AT_1, BYTES]),
+            ("one_queue_one.pcap", &[HEADER, AT_0, FIVES]),
+        ],
+        words: &[
+            "forward",
+            "--capture",
+            "0:0=one_queue_two.pcap",
+            "--capture",
+            "0:0=one_queue_one.pcap",
+        ],
+        output: "1 0 6163636465666768696a6b6c6d6e\n1 0 00020a0d23667f80feff0000000a\n1 0 0507050505050505050505050505\nflow 0 0 offered 3 stored 3 dropped 0 oversize 0 taken 3 posted 3 tx-dropped 0 wire 3 left 0 ended drained\nflow 1 0 offered 0 stored 0 dropped 0 oversize 0 taken 0 posted 0 tx-dropped 0 wire 0 left 0 ended drained\n",
+        faults: "",
+        kept: &[],
+    },
+    Row {
+        files: &[
+            ("placed_letters.pcap", &[HEADER, AT_0, LETTERS]),
+            ("placed_fives.pcap", &[HEADER, AT_0, FIVES]),
+        ],
+        words: &[
+            "forward",
+            "--pairs",
+            "2",
+            "--capture=1:0=placed_letters.pcap",
+            "--capture=0:1=placed_fives.pcap",
+        ],
+        output: "0 0 6163636465666768696a6b6c6d6e\n1 1 0507050505050505050505050505\nflow 0 0 offered 0 stored 0 dropped 0 oversize 0 taken 0 posted 0 tx-dropped 0 wire 0 left 0 ended drained\nflow 0 1 offered 1 stored 1 dropped 0 oversize 0 taken 1 posted 1 tx-dropped 0 wire 1 left 0 ended drained\nflow 1 0 offered 1 stored 1 dropped 0 oversize 0 taken 1 posted 1 tx-dropped 0 wire 1 left 0 ended drained\nflow 1 1 offered 0 stored 0 dropped 0 oversize 0 taken 0 posted 0 tx-dropped 0 wire 0 left 0 ended drained\n",
+        faults: "",
+        kept: &[],
+    },
+    Row {
+        files: &[(
+            "chain_0.pcap",
+            &[HEADER, AT_0, LETTERS, AT_1, BYTES, AT_2, FIVES],
+        )],
+        words: &[
+            "forward",
+            "--quiet",
+            "--capture",
+            "0:0=chain_0.pcap",
+            "--wire-capture",
+            "1=chain_1.pcap",
+        ],
+        output: "flow 0 0 offered 3 stored 3 dropped 0 oversize 0 taken 3 posted 3 tx-dropped 0 wire 3 left 0 ended drained\nflow 1 0 offered 0 stored 0 dropped 0 oversize 0 taken 0 posted 0 tx-dropped 0 wire 0 left 0 ended drained\n",
+        faults: "",
+        kept: &[],
+    },
+    Row {
+        files: &[],
+        words: &["forward", "--capture", "0:0=chain_1.pcap"],
+        output: "1 0 6164636465666768696a6b6c6d6e\n1 0 00030a0d23667f80feff0000000a\n1 0 0508050505050505050505050505\nflow 0 0 offered 3 stored 3 dropped 0 oversize 0 taken 3 posted 3 tx-dropped 0 wire 3 left 0 ended drained\nflow 1 0 offered 0 stored 0 dropped 0 oversize 0 taken 0 posted 0 tx-dropped 0 wire 0 left 0 ended drained\n",
+        faults: "",
+        kept: &[],
+    },
+];
 
 #[test]
-fn captures_of_one_queue_stand_behind_one_another(rt: HostRuntime) {
-    each_comes_to(&rt, rt.alloc(), ONE_QUEUE)
+fn captures_are_forwarded(rt: HostRuntime) {
+    each_comes_to(&rt, rt.alloc(), FORWARDED)
 }
 
-const PLACED: &[Row] = &[Row {
-    files: &[
-        ("placed_letters.pcap", &[HEADER, AT_0, LETTERS]),
-        ("placed_fives.pcap", &[HEADER, AT_0, FIVES]),
-    ],
-    words: &[
-        "forward",
-        "--pairs",
-        "2",
-        "--capture=1:0=placed_letters.pcap",
-        "--capture=0:1=placed_fives.pcap",
-    ],
-    output: "0 0 6163636465666768696a6b6c6d6e\n1 1 0507050505050505050505050505\nflow 0 0 offered 0 stored 0 dropped 0 oversize 0 taken 0 posted 0 tx-dropped 0 wire 0 left 0 ended drained\nflow 0 1 offered 1 stored 1 dropped 0 oversize 0 taken 1 posted 1 tx-dropped 0 wire 1 left 0 ended drained\nflow 1 0 offered 1 stored 1 dropped 0 oversize 0 taken 1 posted 1 tx-dropped 0 wire 1 left 0 ended drained\nflow 1 1 offered 0 stored 0 dropped 0 oversize 0 taken 0 posted 0 tx-dropped 0 wire 0 left 0 ended drained\n",
-    faults: "",
-}];
+/// What stands in a wire file before a run that doesn't write it.
+const OLD: Content = &[b"what stood there"];
+
+/// A file that isn't there; a good capture, a faulty one, and a file that isn't read; a wire file that can't be written, and a
+/// script that can't be read, both of which leave the other wire files.
+const REFUSED: &[Row] = &[
+    Row {
+        files: &[],
+        words: &["forward", "--capture", "0:0=no such file.pcap"],
+        output: "",
+        faults: "no such file.pcap: refused 85 file not read\n",
+        kept: &[],
+    },
+    Row {
+        files: &[
+            ("faulty_good.pcap", &[HEADER, AT_0, LETTERS]),
+            ("faulty_short.pcap", &[HEADER, AT_0, LETTERS, SHORT, BYTES]),
+        ],
+        words: &[
+            "forward",
+            "--capture",
+            "1:0=faulty_good.pcap",
+            "--capture",
+            "0:0=faulty_short.pcap",
+            "--capture",
+            "0:0=never read.pcap",
+        ],
+        output: "",
+        faults: "faulty_short.pcap: record 2: refused 94 captured short\n",
+        kept: &[],
+    },
+    Row {
+        files: &[("faulty_raw.pcap", &[RAW])],
+        words: &[
+            "forward",
+            "--capture",
+            "1:0=faulty_good.pcap",
+            "--capture",
+            "0:0=faulty_raw.pcap",
+            "--capture",
+            "0:0=never read.pcap",
+        ],
+        output: "",
+        faults: "faulty_raw.pcap: refused 92 link type\n",
+        kept: &[],
+    },
+    Row {
+        files: &[
+            ("kept_in.pcap", &[HEADER, AT_0, LETTERS]),
+            ("kept_old.pcap", OLD),
+        ],
+        words: &[
+            "forward",
+            "--capture",
+            "0:0=kept_in.pcap",
+            "--wire-capture",
+            "1=kept_old.pcap",
+            "--wire-capture",
+            "0=no such folder/kept.pcap",
+        ],
+        output: "",
+        faults: "no such folder/kept.pcap: refused 86 file not written\n",
+        kept: &[("kept_old.pcap", OLD)],
+    },
+    Row {
+        files: &[("unread_old.pcap", OLD)],
+        words: &["forward", "--wire-capture", "1=unread_old.pcap"],
+        output: "",
+        faults: "refused 82 input\n",
+        kept: &[("unread_old.pcap", OLD)],
+    },
+];
 
 #[test]
-fn captures_come_in_at_their_port_and_queue(rt: HostRuntime) {
-    each_comes_to(&rt, rt.alloc(), PLACED)
+fn a_file_that_fails_is_named_and_leaves_the_wire_files(rt: HostRuntime) {
+    each_comes_to(&rt, rt.alloc(), REFUSED);
+    holds(&rt, fs::read(&rt, "kept_old.pcap.0.part").is_err());
 }
 
 const SCRIPT: &[u8] = b"0 1 fill 60 01\n1 0 fill 20 02\n0 0 fill 14 03\n0 1 fill 15 04\n";
@@ -111,13 +207,7 @@ const WIRED: &[&str] = &[
 ];
 
 /// The file is what `to-capture` makes of these lines for this port, and has a record.
-fn is_of_lines<R: Abort + Threads + Wait + Clock + Sync + Files + AllocGlobal>(
-    rt: &R,
-    alloc: Global,
-    lines: &[u8],
-    port: &str,
-    file: &str,
-) {
+fn is_of_lines<R: Host + AllocGlobal>(rt: &R, alloc: Global, lines: &[u8], port: &str, file: &str) {
     let words = ["to-capture", port];
     let made = outcome_of(rt, alloc, words.as_slice(), lines).expect(rt, "a run");
     let held = fs::read(rt, file).expect(rt, "the file");
@@ -128,134 +218,10 @@ fn is_of_lines<R: Abort + Threads + Wait + Clock + Sync + Files + AllocGlobal>(
 #[test]
 fn what_leaves_a_port_is_the_capture_of_its_lines(rt: HostRuntime) {
     let plain = outcome_of(&rt, rt.alloc(), PLAIN, SCRIPT).expect(&rt, "a run");
-    let told = outcome_of(&rt, rt.alloc(), WIRED, SCRIPT).expect(&rt, "a run");
-    let lines = plain.output.as_slice();
-    is_told(&rt, WIRED, &told, lines, "");
+    let (lines, mut script) = (plain.output.as_slice(), SCRIPT);
+    comes_to(&rt, rt.alloc(), WIRED, &mut script, (lines, ""));
     is_of_lines(&rt, rt.alloc(), lines, "0", "lines_0.pcap");
     is_of_lines(&rt, rt.alloc(), lines, "1", "lines_1.pcap")
-}
-
-/// The wire file of the first run is the capture of the next.
-const CHAIN: &[Row] = &[
-    Row {
-        files: &[(
-            "chain_0.pcap",
-            &[HEADER, AT_0, LETTERS, AT_1, BYTES, AT_2, FIVES],
-        )],
-        words: &[
-            "forward",
-            "--quiet",
-            "--capture",
-            "0:0=chain_0.pcap",
-            "--wire-capture",
-            "1=chain_1.pcap",
-        ],
-        output: "flow 0 0 offered 3 stored 3 dropped 0 oversize 0 taken 3 posted 3 tx-dropped 0 wire 3 left 0 ended drained\nflow 1 0 offered 0 stored 0 dropped 0 oversize 0 taken 0 posted 0 tx-dropped 0 wire 0 left 0 ended drained\n",
-        faults: "",
-    },
-    Row {
-        files: &[],
-        words: &["forward", "--capture", "0:0=chain_1.pcap"],
-        output: "1 0 6164636465666768696a6b6c6d6e\n1 0 00030a0d23667f80feff0000000a\n1 0 0508050505050505050505050505\nflow 0 0 offered 3 stored 3 dropped 0 oversize 0 taken 3 posted 3 tx-dropped 0 wire 3 left 0 ended drained\nflow 1 0 offered 0 stored 0 dropped 0 oversize 0 taken 0 posted 0 tx-dropped 0 wire 0 left 0 ended drained\n",
-        faults: "",
-    },
-];
-
-#[test]
-fn a_wire_file_is_the_next_run_s_capture(rt: HostRuntime) {
-    each_comes_to(&rt, rt.alloc(), CHAIN)
-}
-
-const NO_FILE: &[Row] = &[Row {
-    files: &[],
-    words: &["forward", "--capture", "0:0=no such file.pcap"],
-    output: "",
-    faults: "no such file.pcap: refused 85 file not read\n",
-}];
-
-#[test]
-fn a_file_that_cannot_be_read_is_named(rt: HostRuntime) {
-    each_comes_to(&rt, rt.alloc(), NO_FILE)
-}
-
-/// A good capture, then a faulty one, and a file that isn't there.
-const FAULTY: &[Row] = &[
-    Row {
-        files: &[
-            ("faulty_good.pcap", &[HEADER, AT_0, LETTERS]),
-            ("faulty_short.pcap", &[HEADER, AT_0, LETTERS, SHORT, BYTES]),
-        ],
-        words: &[
-            "forward",
-            "--capture",
-            "1:0=faulty_good.pcap",
-            "--capture",
-            "0:0=faulty_short.pcap",
-            "--capture",
-            "0:0=never read.pcap",
-        ],
-        output: "",
-        faults: "faulty_short.pcap: record 2: refused 94 captured short\n",
-    },
-    Row {
-        files: &[("faulty_raw.pcap", &[RAW])],
-        words: &[
-            "forward",
-            "--capture",
-            "1:0=faulty_good.pcap",
-            "--capture",
-            "0:0=faulty_raw.pcap",
-            "--capture",
-            "0:0=never read.pcap",
-        ],
-        output: "",
-        faults: "faulty_raw.pcap: refused 92 link type\n",
-    },
-];
-
-#[test]
-fn a_faulty_capture_is_named_with_its_record(rt: HostRuntime) {
-    each_comes_to(&rt, rt.alloc(), FAULTY)
-}
-
-const OLD: Content = &[b"what stood there"];
-
-const NO_FOLDER: &[Row] = &[Row {
-    files: &[
-        ("kept_in.pcap", &[HEADER, AT_0, LETTERS]),
-        ("kept_old.pcap", OLD),
-    ],
-    words: &[
-        "forward",
-        "--capture",
-        "0:0=kept_in.pcap",
-        "--wire-capture",
-        "1=kept_old.pcap",
-        "--wire-capture",
-        "0=no such folder/kept.pcap",
-    ],
-    output: "",
-    faults: "no such folder/kept.pcap: refused 86 file not written\n",
-}];
-
-#[test]
-fn a_wire_file_that_cannot_be_written_leaves_the_others(rt: HostRuntime) {
-    each_comes_to(&rt, rt.alloc(), NO_FOLDER);
-    has(&rt, rt.alloc(), "kept_old.pcap", OLD);
-    holds(&rt, fs::read(&rt, "kept_old.pcap.0.part").is_err());
-}
-
-const UNREAD: &[Row] = &[Row {
-    files: &[("unread_old.pcap", OLD)],
-    words: &["forward", "--wire-capture", "1=unread_old.pcap"],
-    output: "",
-    faults: "refused 82 input\n",
-}];
-
-#[test]
-fn a_script_that_cannot_be_read_leaves_the_wire_files(rt: HostRuntime) {
-    each_comes_to(&rt, rt.alloc(), UNREAD);
-    has(&rt, rt.alloc(), "unread_old.pcap", OLD)
 }
 
 const SOURCE: &str = "a source is PORT:QUEUE=FILE";
@@ -273,5 +239,5 @@ const NO_SOURCES: &[(&[&str], &str)] = &[
 
 #[test]
 fn a_word_that_is_no_file_is_misuse(rt: HostRuntime) {
-    each_is_mistaken(&rt, rt.alloc(), NO_SOURCES)
+    each_has_page(&rt, rt.alloc(), Page::Mistake, NO_SOURCES)
 }

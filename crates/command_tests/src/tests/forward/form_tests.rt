@@ -1,6 +1,6 @@
 //! What `progress` shows of a short run, in each form, and a screen that fails.
 
-use crate::tests::runs::text_of;
+use crate::tests::runs::{Host, text_of};
 use crate::tests::wanted::{holds, same};
 use forward_command::progress::{Form, forward};
 use forwarder::{Config, Report};
@@ -8,10 +8,6 @@ use forwarding::Open;
 use std::alloc::Global;
 use std::io;
 use std::io::{ErrorKind, Write};
-use std::process::Abort;
-use std::sync::Wait;
-use std::thread::Threads;
-use std::time::Clock;
 use wire_script::{Script, parse};
 
 const SCRIPT: &[u8] = b"0 0 fill 14 05\n1 0 fill 60 00\n0 0 fill 15 00\n";
@@ -36,7 +32,7 @@ fn frames_sent(report: &Report) -> Option<usize> {
 }
 
 /// What is shown of the script in this form has the numbers, before the rate, and its end; flow 0 sends two frames.
-fn shows<R: Abort + Threads + Wait + Clock + Sync>(
+fn shows<R: Host>(
     rt: &R,
     alloc: Global,
     script: &Script,
@@ -81,7 +77,7 @@ fn each_form_is_shown_at_last(rt: HostRuntime) {
 }
 
 /// How many flows a run has whose form is shown on this screen, or that shows nothing.
-fn flows_on<R: Abort + Threads + Wait + Clock + Sync, W: Write + Send>(
+fn flows_on<R: Host, W: Write + Send>(
     rt: &R,
     alloc: Global,
     screen: &mut W,

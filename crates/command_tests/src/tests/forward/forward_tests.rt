@@ -2,16 +2,11 @@
 
 use crate::tests::forward::crowd::{FLOWS, crowd, crowd_forwarded};
 use crate::tests::forward::forty::{forty, forty_forwarded, forty_words};
-use crate::tests::forward::forward_rows::{FORWARDED, REFUSED, Row, SHAPED};
-use crate::tests::runs::outcome_of;
-use crate::tests::told::comes_to;
+use crate::tests::forward::forward_rows::{FORWARDED, REFUSED, SHAPED};
+use crate::tests::runs::{Host, outcome_of};
+use crate::tests::told::{comes_to_text, each_comes_to};
 use crate::tests::wanted::same;
 use std::alloc::Global;
-use std::process::Abort;
-use std::rt::Files;
-use std::sync::Wait;
-use std::thread::Threads;
-use std::time::Clock;
 
 /// Options beside two pairs and rings of 8 that change nothing of what is printed.
 const SAME: &[&[&str]] = &[
@@ -26,18 +21,6 @@ const SAME: &[&[&str]] = &[
     &["--buffers", "64", "--bsize", "1024", "--rs-every", "1"],
     &["--rs-every", "4096", "--turns", "4294967295"],
 ];
-
-/// Each row comes to its text.
-fn each_comes_to<R: Abort + Threads + Wait + Clock + Sync + Files>(
-    rt: &R,
-    alloc: Global,
-    rows: &[Row],
-) {
-    for row in rows {
-        let wanted = (row.status, row.output, row.faults);
-        comes_to(rt, alloc, row.words, row.input, wanted);
-    }
-}
 
 #[test]
 fn what_is_forwarded_comes_to_its_text(rt: HostRuntime) {
@@ -55,21 +38,17 @@ fn without_wires_and_as_objects_it_comes_to_its_text(rt: HostRuntime) {
 }
 
 /// With these options the 40 frames are printed so.
-fn forwards_forty<R: Abort + Threads + Wait + Clock + Sync + Files>(
+fn forwards_forty<R: Host>(
     rt: &R,
     alloc: Global,
     options: &[&str],
     (script, printed): (&str, &str),
 ) {
     let words = forty_words(alloc, options).expect(rt, "memory");
-    comes_to(rt, alloc, words.as_slice(), script, (0, printed, ""))
+    comes_to_text(rt, alloc, words.as_slice(), script, (printed, ""))
 }
 
-fn each_forwards_forty<R: Abort + Threads + Wait + Clock + Sync + Files>(
-    rt: &R,
-    alloc: Global,
-    texts: (&str, &str),
-) {
+fn each_forwards_forty<R: Host>(rt: &R, alloc: Global, texts: (&str, &str)) {
     for options in SAME {
         forwards_forty(rt, alloc, options, texts);
     }
@@ -83,12 +62,7 @@ fn forty_frames_are_printed_alike_whatever_the_workers(rt: HostRuntime) {
 }
 
 /// A run on these words and this script ends well, and its output has this text.
-fn has_text<R: Abort + Threads + Wait + Clock + Sync + Files>(
-    rt: &R,
-    alloc: Global,
-    (words, script): (&[&str], &str),
-    wanted: &str,
-) {
+fn has_text<R: Host>(rt: &R, alloc: Global, (words, script): (&[&str], &str), wanted: &str) {
     let told = outcome_of(rt, alloc, words, script.as_bytes()).expect(rt, "a run");
     let text = told.text();
     let is_there = text.contains(wanted);
@@ -121,12 +95,7 @@ fn ten_frames_of_15_000_bytes_go_out(rt: HostRuntime) {
 }
 
 /// So many workers print the crowd so.
-fn forwards_crowd<R: Abort + Threads + Wait + Clock + Sync + Files>(
-    rt: &R,
-    alloc: Global,
-    workers: u32,
-    (script, printed): (&str, &str),
-) {
+fn forwards_crowd<R: Host>(rt: &R, alloc: Global, workers: u32, (script, printed): (&str, &str)) {
     let count = format!(in alloc; "{workers}").expect(rt, "memory");
     let words = ["forward", "--pairs", "8", "--workers", count.as_str()];
     let told = outcome_of(rt, alloc, words.as_slice(), script.as_bytes()).expect(rt, "a run");

@@ -1,93 +1,96 @@
 //! From captures to lines.
 
 use crate::tests::forward::captured::{
-    AT_0, AT_1, BIG_NANOS, BIG_SOME, BYTES, HEADER, LETTERS, NEXT, RAW, Refusing, SHORT, SMALL,
-    THIRTEEN, Writing, each_is_refused, each_writes,
+    AT_0, AT_1, BIG_NANOS, BIG_SOME, BYTES, Content, HEADER, LETTERS, NEXT, RAW, Refusing, SHORT,
+    SMALL, THIRTEEN, Writing, brings, each_is_refused, each_writes,
 };
+use crate::tests::runs::Host;
+use std::alloc::Global;
 
-/// A capture of two frames, at each of some ports and queues.
-const PLACED: &[Writing] = &[
+/// A port and a queue, and the lines of a capture of two frames there.
+const PLACED: &[(&str, &str, &[u8])] = &[
     (
-        &["from-capture", "0", "0"],
-        &[HEADER, AT_0, LETTERS, AT_1, BYTES],
-        &[b"0 0 6162636465666768696a6b6c6d6e\n0 0 00010a0d23667f80feff0000000a\n"],
+        "0",
+        "0",
+        b"0 0 6162636465666768696a6b6c6d6e\n0 0 00010a0d23667f80feff0000000a\n",
     ),
     (
-        &["from-capture", "0", "7"],
-        &[HEADER, AT_0, LETTERS, AT_1, BYTES],
-        &[b"0 7 6162636465666768696a6b6c6d6e\n0 7 00010a0d23667f80feff0000000a\n"],
+        "0",
+        "7",
+        b"0 7 6162636465666768696a6b6c6d6e\n0 7 00010a0d23667f80feff0000000a\n",
     ),
     (
-        &["from-capture", "1", "0"],
-        &[HEADER, AT_0, LETTERS, AT_1, BYTES],
-        &[b"1 0 6162636465666768696a6b6c6d6e\n1 0 00010a0d23667f80feff0000000a\n"],
+        "1",
+        "0",
+        b"1 0 6162636465666768696a6b6c6d6e\n1 0 00010a0d23667f80feff0000000a\n",
     ),
     (
-        &["from-capture", "1", "3"],
-        &[HEADER, AT_0, LETTERS, AT_1, BYTES],
-        &[b"1 3 6162636465666768696a6b6c6d6e\n1 3 00010a0d23667f80feff0000000a\n"],
+        "1",
+        "3",
+        b"1 3 6162636465666768696a6b6c6d6e\n1 3 00010a0d23667f80feff0000000a\n",
     ),
 ];
 
-const OTHER: &[Writing] = &[(
-    &["from-capture", "1", "2"],
-    &[BIG_NANOS, BIG_SOME, LETTERS],
-    &[b"1 2 6162636465666768696a6b6c6d6e\n"],
-)];
-
-const NONE: &[Writing] = &[(&["from-capture", "0", "0"], &[HEADER], &[b""])];
-
 const WORDS: &[&str] = &["from-capture", "0", "0"];
+
+/// Captures in another order and unit, and of no record.
+const OTHERS: &[Writing] = &[
+    (
+        &["from-capture", "1", "2"],
+        &[BIG_NANOS, BIG_SOME, LETTERS],
+        &[b"1 2 6162636465666768696a6b6c6d6e\n"],
+    ),
+    (WORDS, &[HEADER], &[b""]),
+];
 
 const NOT_CAPTURE: &str = "refused 91 not a capture in classic pcap (pcapng is not read)\n";
 
 const REFUSED: &[Refusing] = &[
-    (WORDS, &[], NOT_CAPTURE),
-    (WORDS, &[NEXT, AT_0, LETTERS], NOT_CAPTURE),
-    (WORDS, &[RAW, AT_0, LETTERS], "refused 92 link type\n"),
+    (&[], NOT_CAPTURE),
+    (&[NEXT, AT_0, LETTERS], NOT_CAPTURE),
+    (&[RAW, AT_0, LETTERS], "refused 92 link type\n"),
     (
-        WORDS,
         &[HEADER, AT_0, THIRTEEN],
         "record 1: refused 93 cut short\n",
     ),
     (
-        WORDS,
         &[HEADER, AT_0, LETTERS, AT_1, THIRTEEN],
         "record 2: refused 93 cut short\n",
     ),
     (
-        WORDS,
         &[HEADER, AT_0, LETTERS, SHORT, LETTERS],
         "record 2: refused 94 captured short\n",
     ),
     (
-        WORDS,
         &[HEADER, SMALL, THIRTEEN, AT_1, LETTERS],
         "record 1: refused 95 frame length\n",
     ),
     (
-        WORDS,
         &[HEADER, AT_0, LETTERS, SMALL, THIRTEEN],
         "record 2: refused 95 frame length\n",
     ),
 ];
 
+/// The frames are these lines at a port and a queue.
+fn are_placed<R: Host>(rt: &R, alloc: Global, (port, queue): (&str, &str), lines: &[u8]) {
+    let words = ["from-capture", port, queue];
+    let capture: Content = &[HEADER, AT_0, LETTERS, AT_1, BYTES];
+    brings(rt, alloc, (words.as_slice(), capture), (&[lines], ""))
+}
+
 #[test]
 fn frames_are_lines_at_the_port_and_the_queue(rt: HostRuntime) {
-    each_writes(&rt, rt.alloc(), PLACED)
+    for (port, queue, lines) in PLACED {
+        are_placed(&rt, rt.alloc(), (port, queue), lines);
+    }
 }
 
 #[test]
-fn another_order_and_unit_are_read(rt: HostRuntime) {
-    each_writes(&rt, rt.alloc(), OTHER)
-}
-
-#[test]
-fn no_record_is_no_line(rt: HostRuntime) {
-    each_writes(&rt, rt.alloc(), NONE)
+fn others_are_read(rt: HostRuntime) {
+    each_writes(&rt, rt.alloc(), OTHERS)
 }
 
 #[test]
 fn faults_of_a_capture_are_told_with_their_record(rt: HostRuntime) {
-    each_is_refused(&rt, rt.alloc(), REFUSED)
+    each_is_refused(&rt, rt.alloc(), WORDS, REFUSED)
 }

@@ -1,13 +1,12 @@
 //! The help of `forward`, words that are wrong, and refusals.
 
 use crate::tests::runs::outcome_of;
-use crate::tests::told::{each_is_helped, each_is_mistaken};
+use crate::tests::told::{Page, each_has_page, has_line};
 use crate::tests::wanted::same;
-use commands::{REFUSED, Refusal, refuse};
+use commands::Refusal;
 use forwarding::ForwardError;
-use std::alloc::Global;
 use std::process::Abort;
-use wire_script::ScriptError;
+use wire_script::ScriptError::{self, Bytes, Fields, FrameLength, Port, Queue, TooMany};
 
 const HELP: &[&str] = &["forward", "--help"];
 
@@ -50,58 +49,39 @@ const WRONG: &[(&[&str], &str)] = &[
     (&["forward", "--progress=1"], "--progress"),
 ];
 
-/// Each refusal of a script and of a forwarding, and its line.
-const REFUSALS: &[(Refusal, &str)] = &[
-    (
-        Refusal::Forward(ForwardError::Memory),
-        "refused 61 memory\n",
-    ),
-    (Refusal::Forward(ForwardError::Gate), "refused 62 gate\n"),
-    (
-        Refusal::Forward(ForwardError::Thread),
-        "refused 63 thread\n",
-    ),
-    (
-        Refusal::Forward(ForwardError::Config),
-        "refused 64 config\n",
-    ),
-    (
-        Refusal::Script(ScriptError::Fields { line: 1 }),
-        "line 1: refused 71 fields\n",
-    ),
-    (
-        Refusal::Script(ScriptError::Port { line: 2 }),
-        "line 2: refused 72 port\n",
-    ),
-    (
-        Refusal::Script(ScriptError::Queue { line: 3 }),
-        "line 3: refused 73 queue\n",
-    ),
-    (
-        Refusal::Script(ScriptError::Bytes { line: 4 }),
-        "line 4: refused 74 bytes\n",
-    ),
-    (
-        Refusal::Script(ScriptError::FrameLength { line: 5 }),
-        "line 5: refused 75 frame length\n",
-    ),
-    (
-        Refusal::Script(ScriptError::TooMany { line: 1_000_001 }),
-        "line 1000001: refused 76 too many\n",
-    ),
-    (Refusal::Script(ScriptError::Memory), "refused 77 memory\n"),
+/// Each refusal of a forwarding, and its line.
+const OF_FORWARDING: &[(ForwardError, &str)] = &[
+    (ForwardError::Memory, "refused 61 memory\n"),
+    (ForwardError::Gate, "refused 62 gate\n"),
+    (ForwardError::Thread, "refused 63 thread\n"),
+    (ForwardError::Config, "refused 64 config\n"),
 ];
 
-fn has_line<R: Abort>(rt: &R, alloc: Global, refusal: Refusal, line: &str) {
-    let mut faults = Vec::new(alloc);
-    let status = refuse(&mut faults, refusal);
-    same(rt, (status, faults.as_slice()), (REFUSED, line.as_bytes()));
-}
+/// Each refusal of a script, and its line.
+const OF_SCRIPTS: &[(ScriptError, &str)] = &[
+    (Fields { line: 1 }, "line 1: refused 71 fields\n"),
+    (Port { line: 2 }, "line 2: refused 72 port\n"),
+    (Queue { line: 3 }, "line 3: refused 73 queue\n"),
+    (Bytes { line: 4 }, "line 4: refused 74 bytes\n"),
+    (FrameLength { line: 5 }, "line 5: refused 75 frame length\n"),
+    (
+        TooMany { line: 1_000_001 },
+        "line 1000001: refused 76 too many\n",
+    ),
+    (ScriptError::Memory, "refused 77 memory\n"),
+];
 
 #[test]
 fn refusals_have_their_words(rt: HostRuntime) {
-    for (refusal, line) in REFUSALS {
-        has_line(&rt, rt.alloc(), *refusal, line);
+    for (error, line) in OF_FORWARDING {
+        has_line(&rt, rt.alloc(), Refusal::Forward(*error), line);
+    }
+}
+
+#[test]
+fn refusals_of_scripts_have_their_words(rt: HostRuntime) {
+    for (error, line) in OF_SCRIPTS {
+        has_line(&rt, rt.alloc(), Refusal::Script(*error), line);
     }
 }
 
@@ -109,7 +89,7 @@ const EXAMPLE: &[(&[&str], &str)] = &[(&["--help"], "echo '0 0 fill 60 01' | pol
 
 #[test]
 fn the_program_s_help_has_an_example(rt: HostRuntime) {
-    each_is_helped(&rt, rt.alloc(), EXAMPLE)
+    each_has_page(&rt, rt.alloc(), Page::Help, EXAMPLE)
 }
 
 /// The help has each of these lines.
@@ -128,5 +108,5 @@ fn help_has_each_option(rt: HostRuntime) {
 
 #[test]
 fn wrong_words_are_told_with_status_2(rt: HostRuntime) {
-    each_is_mistaken(&rt, rt.alloc(), WRONG)
+    each_has_page(&rt, rt.alloc(), Page::Mistake, WRONG)
 }

@@ -1,15 +1,11 @@
 //! With `--progress` it is shown how far it is, and the output is the same.
 
 use crate::tests::forward::forty::{forty, forty_words};
-use crate::tests::runs::{Told, outcome_of, outcome_on};
+use crate::tests::runs::{Host, Told, outcome_of, outcome_on};
 use crate::tests::streams::Screen;
 use crate::tests::wanted::same;
 use std::alloc::Global;
 use std::process::Abort;
-use std::rt::Files;
-use std::sync::Wait;
-use std::thread::Threads;
-use std::time::Clock;
 
 /// What is shown at last of the 40 frames, before the rate.
 const LINE: &str = "offered 40 of 40 taken 40 posted 40 per-second ";
@@ -35,7 +31,7 @@ fn rate_in(shown: &str, last: &str, end: &str) -> Option<u64> {
 }
 
 /// A run of the 40 frames with these options and `--progress`.
-fn run_shown<R: Abort + Threads + Wait + Clock + Sync + Files>(
+fn run_shown<R: Host>(
     rt: &R,
     alloc: Global,
     options: &[&str],
@@ -49,12 +45,7 @@ fn run_shown<R: Abort + Threads + Wait + Clock + Sync + Files>(
 }
 
 /// The same without `--progress`.
-fn run_dark<R: Abort + Threads + Wait + Clock + Sync + Files>(
-    rt: &R,
-    alloc: Global,
-    options: &[&str],
-    script: &[u8],
-) -> Told {
+fn run_dark<R: Host>(rt: &R, alloc: Global, options: &[&str], script: &[u8]) -> Told {
     let words = forty_words(alloc, options).expect(rt, "memory");
     outcome_of(rt, alloc, words.as_slice(), script).expect(rt, "a run")
 }
@@ -68,12 +59,7 @@ fn are_alike<R: Abort>(rt: &R, told: &Told, dark: &Told) {
 
 /// With these options the output is the same with `--progress` and without it, and the last line shown is this one, with
 /// digits and its end behind it.
-fn shows<R: Abort + Threads + Wait + Clock + Sync + Files>(
-    rt: &R,
-    alloc: Global,
-    script: &[u8],
-    (options, is_terminal, last, end): Shown,
-) {
+fn shows<R: Host>(rt: &R, alloc: Global, script: &[u8], (options, is_terminal, last, end): Shown) {
     let dark = run_dark(rt, alloc, options, script);
     let told = run_shown(rt, alloc, options, script, is_terminal);
     are_alike(rt, &told, &dark);
@@ -97,12 +83,7 @@ const REFUSED: &[(&[&str], &str)] = &[
 ];
 
 /// A run on these words is refused with this end, and nothing is shown.
-fn is_not_shown<R: Abort + Threads + Wait + Clock + Sync + Files>(
-    rt: &R,
-    alloc: Global,
-    words: &[&str],
-    end: &str,
-) {
+fn is_not_shown<R: Host>(rt: &R, alloc: Global, words: &[&str], end: &str) {
     let told = outcome_of(rt, alloc, words, b"0 0").expect(rt, "a run");
     let is_refused = told.status > 0 && told.faults().ends_with(end);
     same(rt, (words, is_refused, told.shown()), (words, true, ""));

@@ -1,17 +1,13 @@
 //! Streams that fail, and want of memory.
 
+use crate::tests::failing::{each_beginning, each_cut, is_refused};
 use crate::tests::forward::forty::{FORTY_WORDS, forty, forty_forwarded};
-use crate::tests::forward::streams::{each_beginning, each_cut, is_refused};
+use crate::tests::runs::Host;
 use crate::tests::streams::{Halting, Narrow, PIECE, Piecemeal, Screen};
 use crate::tests::wanted::{holds, same};
 use forward_command::{Printing, perform};
 use forwarder::Config;
 use std::alloc::Global;
-use std::process::Abort;
-use std::rt::Files;
-use std::sync::Wait;
-use std::thread::Threads;
-use std::time::Clock;
 
 const WORDS: &[&str] = &["forward"];
 
@@ -40,14 +36,12 @@ fn an_input_that_fails_in_mid_stream_is_refused(rt: HostRuntime) {
 }
 
 /// With so many pieces written of the 40 frames, these are the output.
-fn stops_writing<R: Abort + Threads + Wait + Clock + Sync + Files>(
-    rt: &R,
-    alloc: Global,
-    (script, printed): (&str, &str),
-    pieces: usize,
-) {
+fn stops_writing<R: Host>(rt: &R, alloc: Global, (script, printed): (&str, &str), pieces: usize) {
     let mut input = script.as_bytes();
-    let mut output = Piecemeal::new(alloc, pieces);
+    let mut output = Piecemeal {
+        pieces,
+        taken: Vec::new(alloc),
+    };
     let line = "refused 84 output\n";
     is_refused(rt, alloc, FORTY_WORDS, &mut input, &mut output, line);
     let beginning = printed.as_bytes().get(..pieces.saturating_mul(PIECE));
@@ -65,12 +59,7 @@ fn each_write_that_fails_leaves_a_beginning(rt: HostRuntime) {
 }
 
 /// With so many pieces read of the 40 frames, nothing is the output.
-fn stops_reading<R: Abort + Threads + Wait + Clock + Sync + Files>(
-    rt: &R,
-    alloc: Global,
-    script: &str,
-    pieces: usize,
-) {
+fn stops_reading<R: Host>(rt: &R, alloc: Global, script: &str, pieces: usize) {
     let mut input = Halting {
         left: script.as_bytes(),
         pieces,
@@ -93,7 +82,10 @@ fn each_read_that_fails_is_refused(rt: HostRuntime) {
 #[test]
 fn want_of_memory(rt: HostRuntime) {
     let mut input = SCRIPT.as_bytes();
-    let mut output = Narrow::new(rt.alloc(), 400);
+    let mut output = Narrow {
+        room: 400,
+        taken: Vec::new(rt.alloc()),
+    };
     let mut screen = Screen::new(rt.alloc(), false);
     match perform(
         &rt,

@@ -9,18 +9,17 @@ use crate::tests::forward::captured::{
 const LINES: &[u8] =
     b"1 3 6162636465666768696a6b6c6d6e\n0 0 00010a0d23667f80feff0000000a\nflow 0 0 offered\n1 0 00010a0d23667f80feff0000000a\n1 3 6162636465666768696a6b6c6d6e\nflow \nflow 1";
 
-const PORTS: &[Writing] = &[
+const WORDS: &[&str] = &["to-capture", "1"];
+
+/// Lines as captures: those of a port's frames, in their order.
+const WRITTEN: &[Writing] = &[
     (&["to-capture", "0"], &[LINES], &[HEADER, AT_0, BYTES]),
     (
-        &["to-capture", "1"],
+        WORDS,
         &[LINES],
         &[HEADER, AT_0, LETTERS, AT_1, BYTES, AT_2, LETTERS],
     ),
-];
-
-const WORDS: &[&str] = &["to-capture", "1"];
-
-const NO_FRAME: &[Writing] = &[
+    // of no frame
     (WORDS, &[b""], &[HEADER]),
     (WORDS, &[b"\n"], &[HEADER]),
     (WORDS, &[b"flow 0 0\n"], &[HEADER]),
@@ -29,33 +28,20 @@ const NO_FRAME: &[Writing] = &[
 
 /// Texts that are refused, and why: line numbers count the lines that are passed over.
 const REFUSED: &[Refusing] = &[
-    (WORDS, &[b"0 0"], "line 1: refused 71 fields\n"),
-    (
-        WORDS,
-        &[b"flow 0 0\n# no\n\n0 0\n"],
-        "line 4: refused 71 fields\n",
-    ),
-    (WORDS, &[b"flow\n"], "line 1: refused 71 fields\n"),
-    (WORDS, &[b"flows 0 0\n"], "line 1: refused 72 port\n"),
-    (WORDS, &[b" flow 0 0\n"], "line 1: refused 71 fields\n"),
-    (WORDS, &[b"2 0 00\n"], "line 1: refused 72 port\n"),
-    (WORDS, &[b"1 8 00\n"], "line 1: refused 73 queue\n"),
-    (WORDS, &[b"1 0 flow \n"], "line 1: refused 71 fields\n"),
-    (
-        WORDS,
-        &[b"1 0 fill 13 00\n"],
-        "line 1: refused 75 frame length\n",
-    ),
+    (&[b"0 0"], "line 1: refused 71 fields\n"),
+    (&[b"flow 0 0\n# no\n\n0 0\n"], "line 4: refused 71 fields\n"),
+    (&[b"flow\n"], "line 1: refused 71 fields\n"),
+    (&[b"flows 0 0\n"], "line 1: refused 72 port\n"),
+    (&[b" flow 0 0\n"], "line 1: refused 71 fields\n"),
+    (&[b"2 0 00\n"], "line 1: refused 72 port\n"),
+    (&[b"1 8 00\n"], "line 1: refused 73 queue\n"),
+    (&[b"1 0 flow \n"], "line 1: refused 71 fields\n"),
+    (&[b"1 0 fill 13 00\n"], "line 1: refused 75 frame length\n"),
 ];
 
 #[test]
 fn the_frames_of_the_port_are_records(rt: HostRuntime) {
-    each_writes(&rt, rt.alloc(), PORTS)
-}
-
-#[test]
-fn no_frame_is_a_header(rt: HostRuntime) {
-    each_writes(&rt, rt.alloc(), NO_FRAME)
+    each_writes(&rt, rt.alloc(), WRITTEN)
 }
 
 const FORWARD: &[&str] = &["forward", "--pairs", "2"];
@@ -78,5 +64,5 @@ fn there_and_back_only_the_times_are_others(rt: HostRuntime) {
 
 #[test]
 fn faults_of_a_text_are_told_with_their_line(rt: HostRuntime) {
-    each_is_refused(&rt, rt.alloc(), REFUSED)
+    each_is_refused(&rt, rt.alloc(), WORDS, REFUSED)
 }

@@ -1,8 +1,9 @@
 //! What is printed of lists that together meet all that a queue can do.
 
+use crate::tests::lists::QUEUES;
 use crate::tests::streams::Narrow;
 use crate::tests::wanted::{holds, same};
-use commands::{NOTES, QueuePlan, replay_text};
+use commands::replay_text;
 use cover_command::{CoverRequest, answer};
 use ring_machine::Completion;
 use std::alloc::Global;
@@ -14,15 +15,6 @@ const REQUEST: CoverRequest = CoverRequest {
     completion: Completion::Status,
     expect: true,
     device_only: true,
-};
-
-/// The queues that its lists are replayed on.
-const QUEUES: QueuePlan = QueuePlan {
-    pairs: 1,
-    ring: 8,
-    enabled: true,
-    completion: Completion::Status,
-    shown: NOTES,
 };
 
 /// How its output begins and ends.
@@ -71,7 +63,10 @@ fn lists_of_both_queues_are_printed(rt: HostRuntime) {
 #[test]
 fn an_output_that_fails_has_a_beginning(rt: HostRuntime) {
     let room = FIRST.len() + 3;
-    let mut output = Narrow::new(rt.alloc(), room);
+    let mut output = Narrow {
+        room,
+        taken: Vec::new(rt.alloc()),
+    };
     let (mut faults, mut shown) = (Vec::new(rt.alloc()), Vec::new(rt.alloc()));
     let status = answer(rt.alloc(), &REQUEST, &mut output, &mut faults, &mut shown);
     let wanted = (1, b"refused 84 output\n".as_slice());

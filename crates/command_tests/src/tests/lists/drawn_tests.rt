@@ -1,6 +1,7 @@
 //! What a list of moves has.
 
 use crate::tests::wanted::{holds, same};
+use coverage::is_data;
 use ring_machine::{Completion, ControlStep, Move, RxStep, TxStep};
 use schedules::{Drawn, SchedulePlan, draw};
 use std::alloc::{AllocError, Global};
@@ -81,32 +82,6 @@ fn counted<R: Abort>(
         count(&mut counts, drawn.as_slice());
     }
     counts
-}
-
-fn is_data(action: Move) -> bool {
-    match action {
-        Move::Receive(_, step) => matches!(
-            step,
-            RxStep::Post(_)
-                | RxStep::Publish
-                | RxStep::Look
-                | RxStep::Fetch
-                | RxStep::Store(_, _)
-                | RxStep::Take
-                | RxStep::Head
-        ),
-        Move::Transmit(_, step) => matches!(
-            step,
-            TxStep::Post(_)
-                | TxStep::Publish
-                | TxStep::Look
-                | TxStep::Fetch
-                | TxStep::Send
-                | TxStep::Report
-                | TxStep::LoadReport
-                | TxStep::Clean
-        ),
-    }
 }
 
 /// The moves, one a line.

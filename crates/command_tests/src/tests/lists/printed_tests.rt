@@ -1,8 +1,9 @@
 //! What is printed of lists.
 
+use crate::tests::lists::QUEUES;
 use crate::tests::streams::Narrow;
 use crate::tests::wanted::{holds, same};
-use commands::{NOTES, QueuePlan, replay_text};
+use commands::replay_text;
 use ring_machine::Completion;
 use schedule_command::{ScheduleRequest, answer};
 use schedules::SchedulePlan;
@@ -29,15 +30,6 @@ const REQUEST: ScheduleRequest = ScheduleRequest {
 /// What it prints.
 const LISTS: &str =
     "r0 A1 50788\nt0 B1 4685 14 0 0 31\nt0 B1 44665 17 1 1 31\nt0 B7\n# end\nt0 B1 13746 22 1 1 22\nt0 B1 31314 1187 0 0 1243\nr0 A1 16182\nt0 B7\n# end\n";
-
-/// The queues of that request.
-const QUEUES: QueuePlan = QueuePlan {
-    pairs: 1,
-    ring: 8,
-    enabled: true,
-    completion: Completion::Status,
-    shown: NOTES,
-};
 
 /// What is printed, for a request that is done.
 fn printed<A: Abort>(rt: &A, alloc: Global, request: &ScheduleRequest) -> String {
@@ -97,7 +89,10 @@ fn is_refused<A: Abort>(
     (room, wanted): (usize, &[u8]),
     line: &str,
 ) {
-    let mut output = Narrow::new(alloc, room);
+    let mut output = Narrow {
+        room,
+        taken: Vec::new(alloc),
+    };
     let mut faults = Vec::new(alloc);
     let status = answer(alloc, request, &mut output, &mut faults);
     let told = (status, faults.as_slice(), output.taken.as_slice());

@@ -1,18 +1,9 @@
-//! The command `replay`, row after row.
+//! Lists of moves that are refused, long, or made on queues of every length and number.
 
-use crate::tests::object_rows::OBJECTS;
-use crate::tests::picture_rows::PICTURES;
-use crate::tests::register_rows::REGISTERS;
-use crate::tests::replay_rows::{ENDS, EPOCHS, FRAMES, MIDDLE};
-use crate::tests::runs::outcome_of;
-use crate::tests::told::{Row, comes_to, each_comes_to, times};
+use crate::tests::runs::{Host, outcome_of};
+use crate::tests::told::{comes_to_text, joined, times};
 use crate::tests::wanted::same;
 use std::alloc::{AllocError, Global};
-use std::process::Abort;
-use std::rt::Files;
-use std::sync::Wait;
-use std::thread::Threads;
-use std::time::Clock;
 
 /// A list of moves, and the number of its first line that is no move.
 const FAULTY: &[(&str, &str)] = &[
@@ -106,53 +97,19 @@ const PAIRS: &[(&str, &str, &str, &str)] = &[
     ("8", "r7 A1 5\n", "r8 A2\n", ""),
 ];
 
-#[test]
-fn lists_of_moves_of_frames_are_answered(rt: HostRuntime) {
-    each_comes_to(&rt, rt.alloc(), FRAMES)
-}
-
-#[test]
-fn lists_of_moves_of_epochs_are_answered(rt: HostRuntime) {
-    each_comes_to(&rt, rt.alloc(), EPOCHS)
-}
-
-#[test]
-fn objects_tell_what_lines_tell(rt: HostRuntime) {
-    each_comes_to(&rt, rt.alloc(), OBJECTS)
-}
-
-#[test]
-fn registers_are_shown_after_each_move(rt: HostRuntime) {
-    each_comes_to(&rt, rt.alloc(), REGISTERS)
-}
-
-#[test]
-fn queues_are_drawn_behind_each_move_or_the_last(rt: HostRuntime) {
-    each_comes_to(&rt, rt.alloc(), PICTURES)
-}
-
 const REPLAY: &[&str] = &["replay"];
-
-const PASSED_OVER: &[Row] = &[Row {
-    words: REPLAY,
-    input: "# a list\n\n#\nr0 A2\n\nr0 A7",
-    output: "r0 A2 tail 0\nr0 A7 head 0\nmoves 2 of 2\n",
-}];
 
 #[test]
 fn empty_lines_and_comments_are_passed_over(rt: HostRuntime) {
-    each_comes_to(&rt, rt.alloc(), PASSED_OVER)
+    let input = "# a list\n\n#\nr0 A2\n\nr0 A7";
+    let wanted = ("r0 A2 tail 0\nr0 A7 head 0\nmoves 2 of 2\n", "");
+    comes_to_text(&rt, rt.alloc(), REPLAY, input, wanted)
 }
 
 /// Each list is refused with its line by a run on these words.
-fn each_is_refused<R: Abort + Threads + Wait + Clock + Sync + Files>(
-    rt: &R,
-    alloc: Global,
-    words: &[&str],
-    rows: &[(&str, &str)],
-) {
+fn each_is_refused<R: Host>(rt: &R, alloc: Global, words: &[&str], rows: &[(&str, &str)]) {
     for (input, faults) in rows {
-        comes_to(rt, alloc, words, input, (1, "", faults));
+        comes_to_text(rt, alloc, words, input, ("", faults));
     }
 }
 
@@ -174,43 +131,70 @@ fn queues_that_cannot_be_are_refused_after_a_faulty_line(rt: HostRuntime) {
     }
 }
 
-/// So many of these lines behind a text.
-fn push_all(text: &mut String, lines: &[&str]) -> Result<(), AllocError> {
-    for line in lines {
-        text.push_str(line)?;
-    }
-    Ok(())
-}
+/// The list of a disabling in the middle of a frame, without the asking of the disabling.
+const MIDDLE: &[&str] = &[
+    "r0 A1 1\n",
+    "r0 A1 2\n",
+    "r0 A2\n",
+    "r0 A3\n",
+    "r0 A4\n",
+    "r0 A5 1024 0\n",
+    "r0 A7\n",
+    "r0 C2\n",
+    "r0 C3\n",
+    "r0 A4\n",
+    "r0 A5 10 1\n",
+    "r0 C3\n",
+    "r0 A7\n",
+    "r0 C3\n",
+    "r0 C4\n",
+    "r0 A6\n",
+    "r0 C6\n",
+    "r0 C6\n",
+    "r0 C6\n",
+];
+
+/// How the list ends where the disabling is asked before its first move, its second, and so on to its end.
+const ENDS: &[(usize, &str)] = &[
+    (0, "\nmoves 6 of 20\n"),
+    (1, "\nmoves 8 of 20\n"),
+    (2, "\nmoves 10 of 20\n"),
+    (3, "\nmoves 16 of 20\n"),
+    (4, "\nmoves 16 of 20\n"),
+    (5, "\nmoves 16 of 20\n"),
+    (6, "\nmoves 16 of 20\n"),
+    (7, "\nmoves 16 of 20\n"),
+    (8, "\nmoves 14 of 20\n"),
+    (9, "\nmoves 14 of 20\n"),
+    (10, "\nmoves 14 of 20\n"),
+    (11, "\nmoves 14 of 20\n"),
+    (12, "\nmoves 14 of 20\n"),
+    (13, "\nmoves 14 of 20\n"),
+    (14, "\nmoves 14 of 20\n"),
+    (15, "\nmoves 14 of 20\n"),
+    (16, "\nmoves 14 of 20\n"),
+    (17, "\nmoves 14 of 20\n"),
+    (18, "\nmoves 14 of 20\n"),
+    (19, "\nmoves 14 of 20\n"),
+];
 
 /// The list of a disabling in the middle of a frame, with the asking before its move at this index, or at its end.
 fn asked_at(alloc: Global, at: usize) -> Result<String, AllocError> {
     let (front, back) = MIDDLE.split_at(at.min(MIDDLE.len()));
-    let mut text = String::new(alloc);
-    push_all(&mut text, front)?;
+    let mut text = joined(alloc, front)?;
     text.push_str("r0 C5\n")?;
-    push_all(&mut text, back)?;
+    text.push_str(joined(alloc, back)?.as_str())?;
     Ok(text)
 }
 
 /// A list ends well, and so.
-fn ends_so<R: Abort + Threads + Wait + Clock + Sync + Files>(
-    rt: &R,
-    alloc: Global,
-    words: &[&str],
-    list: &str,
-    end: &str,
-) {
+fn ends_so<R: Host>(rt: &R, alloc: Global, words: &[&str], list: &str, end: &str) {
     let told = outcome_of(rt, alloc, words, list.as_bytes()).expect(rt, "a run");
     let is_end = told.text().ends_with(end);
     same(rt, (words, end, told.status, is_end), (words, end, 0, true));
 }
 
-fn makes_moves<R: Abort + Threads + Wait + Clock + Sync + Files>(
-    rt: &R,
-    alloc: Global,
-    at: usize,
-    end: &str,
-) {
+fn makes_moves<R: Host>(rt: &R, alloc: Global, at: usize, end: &str) {
     let list = asked_at(alloc, at).expect(rt, "memory");
     ends_so(rt, alloc, REPLAY, list.as_str(), end)
 }
@@ -223,19 +207,13 @@ fn a_disabling_at_every_step_makes_as_many_moves(rt: HostRuntime) {
 }
 
 /// A list prints this.
-fn prints<R: Abort + Threads + Wait + Clock + Sync + Files>(
-    rt: &R,
-    alloc: Global,
-    words: &[&str],
-    list: &str,
-    wanted: &str,
-) {
+fn prints<R: Host>(rt: &R, alloc: Global, words: &[&str], list: &str, wanted: &str) {
     let told = outcome_of(rt, alloc, words, list.as_bytes()).expect(rt, "a run");
     same(rt, (words, told.text()), (words, wanted));
 }
 
 /// Such queues are made: the last of them takes one post less than its length, and the next is not there.
-fn are_made<R: Abort + Threads + Wait + Clock + Sync + Files>(
+fn are_made<R: Host>(
     rt: &R,
     alloc: Global,
     (pairs, post, beyond, told): (&str, &str, &str, &str),
@@ -247,11 +225,7 @@ fn are_made<R: Abort + Threads + Wait + Clock + Sync + Files>(
     prints(rt, alloc, words.as_slice(), beyond, told)
 }
 
-fn each_number_of_pairs_is_made<R: Abort + Threads + Wait + Clock + Sync + Files>(
-    rt: &R,
-    alloc: Global,
-    ring: (&str, usize, &str),
-) {
+fn each_number_of_pairs_is_made<R: Host>(rt: &R, alloc: Global, ring: (&str, usize, &str)) {
     for pairs in PAIRS {
         are_made(rt, alloc, *pairs, ring);
     }
@@ -269,6 +243,6 @@ fn a_list_of_100_000_moves_is_answered(rt: HostRuntime) {
     let input = times(rt.alloc(), "r0 A7\n", 100_000, "").expect(&rt, "memory");
     let end = "moves 100000 of 100000\n";
     let output = times(rt.alloc(), "r0 A7 head 0\n", 100_000, end).expect(&rt, "memory");
-    let wanted = (0, output.as_str(), "");
-    comes_to(&rt, rt.alloc(), REPLAY, input.as_str(), wanted)
+    let wanted = (output.as_str(), "");
+    comes_to_text(&rt, rt.alloc(), REPLAY, input.as_str(), wanted)
 }

@@ -71,29 +71,28 @@ fn leaves_nothing_out<A: Abort>(rt: &A, alloc: Global, scope: Scope, pairs: usiz
     is_searched_alike(rt, alloc, scope, &search, pairs)
 }
 
+// The same of all moves of a queue.
+fn leaves_no_move_out<A: Abort>(rt: &A, alloc: Global, side: Side, pairs: usize) {
+    leaves_nothing_out(rt, alloc, all_of(side), pairs)
+}
+
 #[test]
 fn a_receive_queue_is_gone_over(rt: HostRuntime) {
-    leaves_nothing_out(&rt, rt.alloc(), all_of(Side::Receive), 227);
+    leaves_no_move_out(&rt, rt.alloc(), Side::Receive, 227);
 }
+
+const BY_STATUS: Side = Side::Transmit(Completion::Status);
 
 #[test]
 fn a_transmit_queue_is_gone_over(rt: HostRuntime) {
-    leaves_nothing_out(
-        &rt,
-        rt.alloc(),
-        all_of(Side::Transmit(Completion::Status)),
-        205,
-    );
+    leaves_no_move_out(&rt, rt.alloc(), BY_STATUS, 205);
 }
+
+const BY_HEAD: Side = Side::Transmit(Completion::Head);
 
 #[test]
 fn a_transmit_queue_with_a_head_word_is_gone_over(rt: HostRuntime) {
-    leaves_nothing_out(
-        &rt,
-        rt.alloc(),
-        all_of(Side::Transmit(Completion::Head)),
-        222,
-    );
+    leaves_no_move_out(&rt, rt.alloc(), BY_HEAD, 222);
 }
 
 // These lists have silicon's moves alone.
@@ -110,9 +109,9 @@ fn are_data<A: Abort>(rt: &A, lists: &[CoverList]) {
 fn queues_of_silicon_are_gone_over(rt: HostRuntime) {
     let alloc = rt.alloc();
     leaves_nothing_out(&rt, alloc, data_of(Side::Receive), 13);
-    leaves_nothing_out(&rt, alloc, data_of(Side::Transmit(Completion::Status)), 16);
-    leaves_nothing_out(&rt, alloc, data_of(Side::Transmit(Completion::Head)), 16);
-    let search = whole_search(&rt, alloc, data_of(Side::Transmit(Completion::Head)));
+    leaves_nothing_out(&rt, alloc, data_of(BY_STATUS), 16);
+    leaves_nothing_out(&rt, alloc, data_of(BY_HEAD), 16);
+    let search = whole_search(&rt, alloc, data_of(BY_HEAD));
     let lists = search.lists(alloc).expect(&rt, "lists");
     are_data(&rt, lists.as_slice());
 }

@@ -1,0 +1,73 @@
+//! What `replay` prints beneath each move that it is given.
+
+use crate::tests::runs::Host;
+use crate::tests::told::{comes_to_text, joined};
+use std::alloc::{AllocError, Global};
+
+/// A run's words, and its lines, in parts since some runs share some. A line is a move with the note that is printed of it
+/// (`r0 A2: tail 1`, of which `r0 A2 tail 1` is printed) or with its object; or what is given alone, behind `> `; or what is
+/// printed alone.
+pub type Transcript = (&'static [&'static str], &'static [&'static str]);
+
+/// What is given and what is printed.
+#[derive(Drop)]
+struct Sides {
+    given: String,
+    printed: String,
+}
+
+/// Adds a line of these words and, behind them, this end.
+fn push_line(text: &mut String, words: &[&str], end: &str) -> Result<(), AllocError> {
+    for word in words {
+        text.push_str(word)?;
+    }
+    text.push_str(end)?;
+    text.push('\n')
+}
+
+/// A move's queue and step.
+fn name_of(given: &str) -> (&str, &str) {
+    let (queue, rest) = given.split_once(' ').unwrap_or((given, ""));
+    let (step, _) = rest.split_once(' ').unwrap_or((rest, ""));
+    (queue, step)
+}
+
+impl Sides {
+    fn push(&mut self, line: &str) -> Result<(), AllocError> {
+        if let Some((given, note)) = line.split_once(": ") {
+            push_line(&mut self.given, &[], given)?;
+            let (queue, step) = name_of(given);
+            return push_line(&mut self.printed, &[queue, " ", step, " "], note);
+        }
+        if let Some((given, object)) = line.split_once(" {") {
+            push_line(&mut self.given, &[], given)?;
+            return push_line(&mut self.printed, &["{"], object);
+        }
+        match line.strip_prefix("> ") {
+            Some(given) => push_line(&mut self.given, &[], given),
+            None => push_line(&mut self.printed, &[], line),
+        }
+    }
+}
+
+/// The sides of a transcript.
+fn sides_of(alloc: Global, parts: &[&str]) -> Result<Sides, AllocError> {
+    let text = joined(alloc, parts)?;
+    let mut sides = Sides {
+        given: String::new(alloc),
+        printed: String::new(alloc),
+    };
+    for line in text.as_str().lines() {
+        sides.push(line)?;
+    }
+    Ok(sides)
+}
+
+/// The run of each transcript prints what stands there, and no faults.
+pub fn each_is_so<R: Host>(rt: &R, alloc: Global, rows: &[Transcript]) {
+    for (words, parts) in rows {
+        let sides = sides_of(alloc, parts).expect(rt, "memory");
+        let wanted = (sides.printed.as_str(), "");
+        comes_to_text(rt, alloc, words, sides.given.as_str(), wanted);
+    }
+}
