@@ -149,9 +149,9 @@ fn forward_over<R: Threads + Wait + Sync, G: Gate + Sync>(
     requires share { PORTS * MOST_PAIRS < pass.old.hand.share }
     requires cells { ForSome watch (λ w. length w.cells.now ≡ PORTS * job.config.now.pairs) }
     requires pens { ForSome watch (λ w. ArePaired w.cells.now w.pens.items) }
-    ensures halted { IfErr result (λ e. Halted G.answers job.gate.now e) }
-    ensures flows { IfOk result (λ r. vec_len r.0.flows ≡ PORTS * job.config.now.pairs) }
-    ensures reports { IfOk result (λ r. (flow : ℕ) (d : _) → flow < PORTS * job.config.now.pairs → IsReport (plan job.config.now job.script.now flow) (slice_index_or r.0.flows.items flow d)) }
+    ensures halted { IfErr result (λ e. Halted G.answers job.entry.gate.now e) }
+    ensures flows { IfOk result (λ r. vec_len r.0.flows ≡ PORTS * job.entry.config.now.pairs) }
+    ensures reports { IfOk result (λ r. (flow : ℕ) (d : _) → flow < PORTS * job.entry.config.now.pairs → IsReport (plan job.entry.config.now job.entry.script.now flow) (slice_index_or r.0.flows.items flow d)) }
     ensures shown { IfOk result (λ r. IfSome watch.entry (λ w. ShowReports w.cells.now r.1.items r.0.flows.items)) }
     ensures pool { IsOf pool.now pass.new }
     ensures share { pass.new.hand.share ≡ pass.old.hand.share }

@@ -128,10 +128,10 @@ pub(crate) fn run_flows<R: Threads + Wait + Sync, G: Gate + Sync>(
     requires share { PORTS * MOST_PAIRS < pass.old.hand.share }
     requires cells { ForSome watch (λ w. length w.cells.now ≡ PORTS * job.config.now.pairs) }
     requires pens { ForSome watch (λ w. ArePaired w.cells.now w.pens.items) }
-    ensures halted { IfErr result (λ e. Halted G.answers job.gate.now e) }
-    ensures refused { IfOk result (λ r. IfSome r.refusal (λ e. Halted G.answers job.gate.now e)) }
-    ensures flows { IfOk result (λ r. r.refusal ≡ None → vec_len r.flows ≡ PORTS * job.config.now.pairs) }
-    ensures reports { IfOk result (λ r. r.refusal ≡ None → (flow : ℕ) (d : _) → flow < PORTS * job.config.now.pairs → IsReport (plan job.config.now job.script.now flow) (slice_index_or r.flows.items flow d)) }
+    ensures halted { IfErr result (λ e. Halted G.answers job.entry.gate.now e) }
+    ensures refused { IfOk result (λ r. IfSome r.refusal (λ e. Halted G.answers job.entry.gate.now e)) }
+    ensures flows { IfOk result (λ r. r.refusal ≡ None → vec_len r.flows ≡ PORTS * job.entry.config.now.pairs) }
+    ensures reports { IfOk result (λ r. r.refusal ≡ None → (flow : ℕ) (d : _) → flow < PORTS * job.entry.config.now.pairs → IsReport (plan job.entry.config.now job.entry.script.now flow) (slice_index_or r.flows.items flow d)) }
     ensures shown { IfOk result (λ r. r.refusal ≡ None → IfSome watch.entry (λ w. ShowReports w.cells.now r.pens.items r.flows.items)) }
     ensures stopped { IfOk result (λ r. IsSome r.refusal → (vec_len r.stopped ≡ length lines.now) × AllZip (IsStopped pool.now) lines.now r.stopped.items) }
     ensures pool { IsOf pool.now pass.new }
