@@ -74,8 +74,10 @@ pub struct EndSeat<E: EndEvent<D, C, R>, D, C, R: Direction<D, C>> {
     events: PhantomData<(E, R)>,
 }
 
+/// A driver's seat.
 pub type DriverSeat<D, C, R> = EndSeat<DriverEvent<D>, D, C, R>;
 
+/// A controller's seat.
 pub type ControllerSeat<D, C, R> = EndSeat<ControllerEvent<C>, D, C, R>;
 
 impl<E: EndEvent<D, C, R>, D, C, R: Direction<D, C>> Model for EndSeat<E, D, C, R> {
