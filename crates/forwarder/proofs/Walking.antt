@@ -1,15 +1,11 @@
 -- Lists that are walked over, item by item, and those that grow by it in room that was there before.
-use Rattle.std.proofs.Common.{◌≡◌, ◌∙◌, ℕ, ◌+◌, ◌≤◌, List, ◌∷◌, drop, sym, arith, vec_len, vec_capacity}
-use Rattle.std.specs.Vec.Iter.{into_iter_items, into_iter_len, into_iter_steps}
-use Rattle.std.specs.Prelude.{Some}
-use Rattle.std_alloc.specs.declared.vec.Vec.{Vec}
-use Rattle.std_alloc.specs.declared.vec.into_iter.IntoIter.{IntoIter}
+use Rattle.std.proofs.Common.{◌≡◌, ◌∙◌, ℕ, ◌+◌, ◌≤◌, List, ◌∷◌, drop, sym, arith, Vec, vec_len, vec_capacity}
 use Rattle.forwarder.proofs.Plans.{drop-later}
 
--- n of m items were taken, the first ones
-pub record Taken {X Z : Type 0} (n m : ℕ) (items : List X) (left : IntoIter X Z) : Type 0 where
-  pub rest : into_iter_items left ≡ drop n items
-  pub count : n + into_iter_len left ≡ m
+-- n of m items were taken, the first ones; these are left, and so many
+pub record Taken {X : Type 0} (n m : ℕ) (items left : List X) (len : ℕ) : Type 0 where
+  pub rest : left ≡ drop n items
+  pub count : n + len ≡ m
 
 -- n of m items were put behind one another
 pub record Put {X Z : Type 0} (n m : ℕ) (made : Vec X Z) : Type 0 where
@@ -22,39 +18,39 @@ pub record Grew {X Z : Type 0} (made made' : Vec X Z) : Type 0 where
   pub capacity : vec_capacity made' ≡ vec_capacity made
 
 -- of each item that is taken of one list, one is put into each of two
-pub record Makes {X Y W Z : Type 0} (n m : ℕ) (items : List X) (left : IntoIter X Z) (ys : Vec Y Z) (ws : Vec W Z) : Type 0 where
-  pub taken : Taken n m items left
+pub record Makes {X Y W Z : Type 0} (n m : ℕ) (items left : List X) (len : ℕ) (ys : Vec Y Z) (ws : Vec W Z) : Type 0 where
+  pub taken : Taken n m items left len
   pub one : Put n m ys
   pub other : Put n m ws
 
 -- of two items that are taken of two lists, one is put into a third
-pub record Meets {X Y W Z : Type 0} (n m : ℕ) (xs : List X) (left : IntoIter X Z) (ys : List Y) (right : IntoIter Y Z) (ws : Vec W Z) : Type 0 where
-  pub one : Taken n m xs left
-  pub other : Taken n m ys right
+pub record Meets {X Y W Z : Type 0} (n m : ℕ) (xs left : List X) (len : ℕ) (ys right : List Y) (more : ℕ) (ws : Vec W Z) : Type 0 where
+  pub one : Taken n m xs left len
+  pub other : Taken n m ys right more
   pub put : Put n m ws
 
-taken-on : {X Z : Type 0} (n m : ℕ) (items : List X) (left left' : IntoIter X Z) (x : X) → Taken n m items left → into_iter_steps left (Some x) left' → Taken (n + 1) m items left'
-taken-on n m items left left' x was steps = record {
-  rest = drop-later n items x (into_iter_items left') (sym was.rest ∙ steps.0);
-  count = omega (arith, was.count, steps.1);
+taken-on : {X : Type 0} (n m : ℕ) (items left left' : List X) (len len' : ℕ) (x : X) → Taken n m items left len → left ≡ x ∷ left' → len' + 1 ≡ len → Taken (n + 1) m items left' len'
+taken-on n m items left left' len len' x was first fewer = record {
+  rest = drop-later n items x left' (sym was.rest ∙ first);
+  count = omega (arith, was.count, fewer);
 }
 
 put-on : {X Z : Type 0} (n m : ℕ) (made made' : Vec X Z) → Put n m made → Grew made made' → Put (n + 1) m made'
 put-on n m made made' was grew = record { len = omega (arith, was.len, grew.len); room = omega (arith, was.room, grew.capacity) }
 
 module _ {X Y W Z : Type 0} (n m : ℕ) where
-  pub makes-on : (items : List X) (left left' : IntoIter X Z) (x : X) (ys ys' : Vec Y Z) (ws ws' : Vec W Z) → Makes n m items left ys ws
-      → into_iter_steps left (Some x) left' → Grew ys ys' → Grew ws ws' → Makes (n + 1) m items left' ys' ws'
-  makes-on items left left' x ys ys' ws ws' was steps grew grew' = record {
-    taken = taken-on n m items left left' x was.taken steps;
+  pub makes-on : (items left left' : List X) (len len' : ℕ) (x : X) (ys ys' : Vec Y Z) (ws ws' : Vec W Z) → Makes n m items left len ys ws
+      → left ≡ x ∷ left' → len' + 1 ≡ len → Grew ys ys' → Grew ws ws' → Makes (n + 1) m items left' len' ys' ws'
+  makes-on items left left' len len' x ys ys' ws ws' was first fewer grew grew' = record {
+    taken = taken-on n m items left left' len len' x was.taken first fewer;
     one = put-on n m ys ys' was.one grew;
     other = put-on n m ws ws' was.other grew';
   }
 
-  pub meets-on : (xs : List X) (left left' : IntoIter X Z) (x : X) (ys : List Y) (right right' : IntoIter Y Z) (y : Y) (ws ws' : Vec W Z) → Meets n m xs left ys right ws
-      → into_iter_steps left (Some x) left' → into_iter_steps right (Some y) right' → Grew ws ws' → Meets (n + 1) m xs left' ys right' ws'
-  meets-on xs left left' x ys right right' y ws ws' was steps steps' grew = record {
-    one = taken-on n m xs left left' x was.one steps;
-    other = taken-on n m ys right right' y was.other steps';
+  pub meets-on : (xs left left' : List X) (len len' : ℕ) (x : X) (ys right right' : List Y) (more more' : ℕ) (y : Y) (ws ws' : Vec W Z) → Meets n m xs left len ys right more ws
+      → left ≡ x ∷ left' → len' + 1 ≡ len → right ≡ y ∷ right' → more' + 1 ≡ more → Grew ws ws' → Meets (n + 1) m xs left' len' ys right' more' ws'
+  meets-on xs left left' len len' x ys right right' more more' y ws ws' was first fewer first' fewer' grew = record {
+    one = taken-on n m xs left left' len len' x was.one first fewer;
+    other = taken-on n m ys right right' more more' y was.other first' fewer';
     put = put-on n m ws ws' was.put grew;
   }

@@ -1,6 +1,7 @@
 use Rattle.std.proofs.Common.{rules, ◌≡◌, ◌∙◌, ◌<◌, length, get_or, sym, subst, arith}
+use Rattle.std.specs.Vec.Iter.{into_iter_items, into_iter_len}
 use Rattle.forwarder.proofs.Plans.{drop-first, drop-within}
-use Rattle.forwarder.proofs.Walking.{makes-on}
+use Rattle.forwarder.proofs.Walking.{Grew, makes-on}
 use Rattle.forwarder.specs.Lines.{AreEnds}
 use Rattle.forward_bench.proofs.sides.make_sides.Goals as goal
 
@@ -24,9 +25,12 @@ loop-own-preserved g c =
     let was = c.loop-own.invariant in
     let n = c.loop-own.number in
     let made = c.make_side.ensures in
+    let grew : Grew c.loop-own.drivers c.push_reserved.new.self = record { len = search rules; capacity = search rules } in
+    let grew' : Grew c.loop-own.controllers c.push_reserved-in-loop-own.new.self = record { len = search rules; capacity = search rules } in
     record {
-      both = makes-on n (length c.args.lines.now) c.args.ends.items c.loop-own.own-iterator c.next.new.self c.in-Some.own c.loop-own.drivers c.push_reserved.new.self
-          c.loop-own.controllers c.push_reserved-in-loop-own.new.self was.both c.in-Some.ensures.steps (search rules) (search rules);
+      both = makes-on n (length c.args.lines.now) c.args.ends.items (into_iter_items c.loop-own.own-iterator) (into_iter_items c.next.new.self)
+          (into_iter_len c.loop-own.own-iterator) (into_iter_len c.next.new.self) c.in-Some.own c.loop-own.drivers c.push_reserved.new.self
+          c.loop-own.controllers c.push_reserved-in-loop-own.new.self was.both c.in-Some.ensures.steps.0 (search rules) grew grew';
       pool = made.pool;
       share = omega (arith, made.share, was.share);
     }

@@ -1,5 +1,5 @@
 use Rattle.std.proofs.Common.{rules, ◌≡◌, ◌∙◌, ◌<◌, [], ◌∷◌, ◌++◌, true, length, map, get_or, ap, sym, subst, refl}
-use Rattle.std.specs.Vec.Iter.{into_iter_items}
+use Rattle.std.specs.Vec.Iter.{into_iter_items, into_iter_len}
 use Rattle.std.proofs.lemmas.List.{map-append}
 use Rattle.flows.specs.Counting.{driven, driven_in, offered, offered_in}
 use Rattle.flows.specs.Driven.{is_over}
@@ -7,7 +7,7 @@ use Rattle.flows.specs.Keys.{ControllerKey, DriverKey, plan_of}
 use Rattle.flows.specs.Reports.{IsReport}
 use Rattle.forwarder.proofs.Places.{by-map}
 use Rattle.forwarder.proofs.Plans.{drop-first, drop-within, line-at, list-more}
-use Rattle.forwarder.proofs.Walking.{meets-on}
+use Rattle.forwarder.proofs.Walking.{Grew, meets-on}
 use Rattle.watching.proofs.Moving.{moved}
 use Rattle.forwarder.proofs.concluding.conclude_all.Goals as goal
 
@@ -52,9 +52,11 @@ loop-driver-preserved c =
     let pushed : reports' ≡ reports ++ report ∷ [] = c.push_reserved.ensures.items in
     let key : (d : DriverKey) → get_or (map (λ f. f.key) drivers) n d ≡ driver.key = λ d. by-map (λ f. f.key) drivers n driver.key d within (λ e. ap (λ f. f.key) (drop-first n drivers driver _ first e)) in
     let key' : (k : ControllerKey) → get_or (map (λ f. f.key) controllers) n k ≡ controller.key = λ k. by-map (λ f. f.key) controllers n controller.key k within' (λ e. ap (λ f. f.key) (drop-first n controllers controller _ first' e)) in
+    let grew : Grew c.loop-driver.reports c.push_reserved.new.self = record { len = search rules; capacity = search rules } in
     record {
-      both = meets-on n (length c.args.lines.now) drivers c.loop-driver.driver-iterator c.next.new.self driver controllers c.loop-driver.controllers
-          c.next-in-loop-driver.new.self controller c.loop-driver.reports c.push_reserved.new.self was.both c.in-Some.ensures.steps (search rules) (search rules);
+      both = meets-on n (length c.args.lines.now) drivers (into_iter_items c.loop-driver.driver-iterator) (into_iter_items c.next.new.self)
+          (into_iter_len c.loop-driver.driver-iterator) (into_iter_len c.next.new.self) driver controllers (into_iter_items c.loop-driver.controllers) (into_iter_items c.next-in-loop-driver.new.self)
+          (into_iter_len c.loop-driver.controllers) (into_iter_len c.next-in-loop-driver.new.self) controller c.loop-driver.reports c.push_reserved.new.self was.both c.in-Some.ensures.steps.0 (search rules) (search rules) (search rules) grew;
       pool = c.conclude_flow-report.ensures.pool;
       share = (let more = c.conclude_flow-report.ensures.share in let so = was.share in search rules);
       held = c.conclude_flow-report.ensures.held ∙ was.held;

@@ -1,5 +1,5 @@
 use Rattle.std.proofs.Common.{◌≡◌, ◌+◌, ◌++◌, map, length, vec_items}
-use Rattle.std.specs.Vec.Iter.{into_iter_items}
+use Rattle.std.specs.Vec.Iter.{into_iter_items, into_iter_len}
 use Rattle.flows.specs.Counting.{driven, driven_in, offered, offered_in}
 use Rattle.pool.specs.Owned.{IsOf}
 use Rattle.forwarder.specs.Plans.{AreReports}
@@ -12,7 +12,8 @@ ghost-conclude_flow a = (a.driver.key, a.controller.key)
 abbrev pub invariant-loop-driver : goal.invariant-loop-driver
 invariant-loop-driver l =
     record {
-      both : Meets l.number (length l.lines) l.fn.drivers.items l.driver-iterator l.fn.controllers.items l.controllers l.reports;
+      both : Meets l.number (length l.lines) l.fn.drivers.items (into_iter_items l.driver-iterator) (into_iter_len l.driver-iterator)
+          l.fn.controllers.items (into_iter_items l.controllers) (into_iter_len l.controllers) l.reports;
       pool : IsOf l.pool l.pass;
       share : l.pass.hand.share ≡ l.initial.pass.hand.share + l.number;
       held : l.pass.hand.held ≡ l.initial.pass.hand.held;

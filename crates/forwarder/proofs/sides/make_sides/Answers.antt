@@ -3,12 +3,13 @@ use Rattle.std.proofs.lemmas.List.{length-map, map-append}
 use Rattle.controller.specs.Tallying.{nothing}
 use Rattle.flows.specs.Counting.{none}
 use Rattle.limits.specs.declared.profile.TheConstants.{PORTS}
+use Rattle.std.specs.Vec.Iter.{into_iter_items, into_iter_len}
 use Rattle.pool.specs.Owned.{IsOf}
 use Rattle.forwarder.specs.Lines.{AreEnds}
 use Rattle.forwarder.specs.Plans.{AreSides, plan}
 use Rattle.forwarder.specs.declared.lines.Line.{Line}
 use Rattle.forwarder.proofs.Plans.{all-last, any-default, drop-first, drop-within, places-more}
-use Rattle.forwarder.proofs.Walking.{makes-on}
+use Rattle.forwarder.proofs.Walking.{Grew, makes-on}
 use Rattle.forwarder.proofs.sides.make_sides.Goals as goal
 
 pub make_side-side-requires-clause-places : goal.make_side-side-requires-clause-places
@@ -48,9 +49,12 @@ loop-own-preserved g c =
     let within = drop-within n c.args.ends.items c.in-Some.own _ first in
     let low : n < length c.args.lines.now = search rules in
     let at : (e : Line) → get_or c.args.lines.now n e ≡ line = λ e. any-default c.args.lines.now n e line low ∙ here in
+    let grew : Grew c.loop-own.drivers c.push_reserved.new.self = record { len = search rules; capacity = search rules } in
+    let grew' : Grew c.loop-own.controllers c.push_reserved-in-loop-own.new.self = record { len = search rules; capacity = search rules } in
     record {
-      both = makes-on n (length c.args.lines.now) c.args.ends.items c.loop-own.own-iterator c.next.new.self c.in-Some.own c.loop-own.drivers c.push_reserved.new.self
-          c.loop-own.controllers c.push_reserved-in-loop-own.new.self was.both c.in-Some.ensures.steps (search rules) (search rules);
+      both = makes-on n (length c.args.lines.now) c.args.ends.items (into_iter_items c.loop-own.own-iterator) (into_iter_items c.next.new.self)
+          (into_iter_len c.loop-own.own-iterator) (into_iter_len c.next.new.self) c.in-Some.own c.loop-own.drivers c.push_reserved.new.self
+          c.loop-own.controllers c.push_reserved-in-loop-own.new.self was.both c.in-Some.ensures.steps.0 (search rules) grew grew';
       held = made.held ∙ was.held;
       pool = made.pool;
       share = omega (arith, made.share, was.share);

@@ -2,6 +2,7 @@ use Rattle.std.proofs.Common.{◌≡◌, ◌+◌, ◌*◌, ◌<◌, All, map, le
 use Rattle.controller.specs.Tallying.{nothing}
 use Rattle.flows.specs.Counting.{none}
 use Rattle.limits.specs.declared.profile.TheConstants.{MOST_PAIRS, PORTS}
+use Rattle.std.specs.Vec.Iter.{into_iter_items, into_iter_len}
 use Rattle.pool.specs.Owned.{IsOf}
 use Rattle.forwarder.specs.Plans.{AreAllSides, plan}
 use Rattle.forwarder.proofs.Walking.{Makes}
@@ -10,7 +11,7 @@ use Rattle.forwarder.proofs.sides.make_sides.Given as goal
 abbrev pub invariant-loop-own : goal.invariant-loop-own
 invariant-loop-own g l =
     record {
-      both : Makes l.number (length l.lines) l.fn.ends.items l.own-iterator l.drivers l.controllers;
+      both : Makes l.number (length l.lines) l.fn.ends.items (into_iter_items l.own-iterator) (into_iter_len l.own-iterator) l.drivers l.controllers;
       pool : IsOf l.pool l.pass;
       held : l.pass.hand.held ≡ l.initial.pass.hand.held;
       share : l.number + l.pass.hand.share ≡ l.initial.pass.hand.share;

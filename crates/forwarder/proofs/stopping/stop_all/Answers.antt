@@ -1,10 +1,10 @@
 use Rattle.std.proofs.Common.{rules, arith, ◌≡◌, ◌∙◌, ◌+◌, ◌<◌, [], ◌∷◌, ◌++◌, ap, get_or, length, sym, subst, take}
 use Rattle.std.specs.List.{AllZip}
-use Rattle.std.specs.Vec.Iter.{into_iter_items}
+use Rattle.std.specs.Vec.Iter.{into_iter_items, into_iter_len}
 use Rattle.std.proofs.lemmas.List.{take_all, take_more}
 use Rattle.forwarder.specs.Stopped.{IsStopped}
 use Rattle.forwarder.proofs.Plans.{line-at, zip-last}
-use Rattle.forwarder.proofs.Walking.{meets-on}
+use Rattle.forwarder.proofs.Walking.{Grew, meets-on}
 use Rattle.forwarder.proofs.stopping.stop_all.Goals as goal
 
 pub stop_flow-flow-requires : goal.stop_flow-flow-requires
@@ -28,9 +28,11 @@ loop-driver-preserved c =
     let line = c.index-lines-number.result in
     let low : n < length lines = search rules in
     let at : get_or lines n line ≡ line = search rules in
+    let grew : Grew c.loop-driver.stopped c.push_reserved.new.self = record { len = search rules; capacity = search rules } in
     record {
-      both = meets-on n (length lines) c.args.drivers.items c.loop-driver.driver-iterator c.next.new.self c.in-Some.driver c.args.controllers.items c.loop-driver.controllers
-          c.next-in-loop-driver.new.self c.in-Some-next.controller c.loop-driver.stopped c.push_reserved.new.self was.both c.in-Some.ensures.steps (search rules) (search rules);
+      both = meets-on n (length lines) c.args.drivers.items (into_iter_items c.loop-driver.driver-iterator) (into_iter_items c.next.new.self)
+          (into_iter_len c.loop-driver.driver-iterator) (into_iter_len c.next.new.self) c.in-Some.driver c.args.controllers.items (into_iter_items c.loop-driver.controllers) (into_iter_items c.next-in-loop-driver.new.self)
+          (into_iter_len c.loop-driver.controllers) (into_iter_len c.next-in-loop-driver.new.self) c.in-Some-next.controller c.loop-driver.stopped c.push_reserved.new.self was.both c.in-Some.ensures.steps.0 (search rules) (search rules) (search rules) grew;
       stopped = zip-last (IsStopped c.args.pool.now) (take n lines) (take (n + 1) lines) line c.loop-driver.stopped.items c.push_reserved.new.self.items c.stop_flow-flow.result
           (take_more lines n line low ∙ ap (λ x. take n lines ++ x ∷ []) at) c.push_reserved.ensures.items was.stopped c.stop_flow-flow.ensures;
     }
