@@ -6,11 +6,10 @@ ghost use Rattle.rx_ring.specs.Ends as receive;
 ghost use Rattle.tx_ring.specs.Ends as transmit;
 ghost use Rattle.pool.specs.Owned.{IsOf};
 ghost use Rattle.lending.specs.Lent.{lent, SameNumbers};
-ghost use Rattle.driver.specs.receive.Receiver.{Receiver};
-ghost use Rattle.driver.specs.transmit.Transmitter.{Transmitter};
 
 use crate::outcome::both;
 use crate::rings::{new_rx, new_tx};
+use crate::rounds::forward;
 use anyhow::Result as Answer;
 use arrayvec::ArrayVec;
 use buffer_pool::{Packet, Stash};
@@ -47,38 +46,18 @@ pub struct Worker<'a> {
 }
 
 impl<'a> Worker<'a> {
-    /// A worker that has no buffer yet. Neither queue is enabled.
-    pub fn new(
-        pool: &'a Pool,
-        pass: PoolPass,
-        from: &'a RxRing,
-        rx: RxDriver,
-        to: &'a TxRing,
-        tx: TxDriver,
-    ) -> Worker<'a>
-        requires shares { IsOf pool.now pass }
-        requires receives { rx.end.table ≡ from.now }
-        requires sends { tx.end.table ≡ to.now }
-        requires lent { SameNumbers pass.hand.held (lent rx tx [] []) }
-    {
-        Worker {
-            pool,
-            pass,
-            from,
-            rx,
-            to,
-            tx,
-            stash: Stash::new(),
-            packets: ArrayVec::new(),
-        }
-    }
-
     /// One turn: the stash is refilled, what came in is received, and what waits is sent on.
     pub fn turn<R: Wait>(&mut self, rt: &R) -> Result<usize, DriverError> {
         self.pool
             .refill(rt, &mut self.pass, &mut self.stash, REFILL);
-        receive(&mut self.rx, self.from, &mut self.stash, &mut self.packets)?;
-        send(&mut self.tx, self.to, &mut self.stash, &mut self.packets)
+        forward(
+            self.from,
+            &mut self.rx,
+            self.to,
+            &mut self.tx,
+            &mut self.stash,
+            &mut self.packets,
+        )
     }
 
     /// Asks for the receive queue to be enabled; called again, sees that it is.
@@ -133,38 +112,6 @@ impl<'a> Worker<'a> {
     }
 }
 
-/// A batch is received. No buffer comes in or goes out by it.
-fn receive(
-    rx: &mut RxDriver,
-    from: &RxRing,
-    stash: &mut Stash,
-    packets: &mut ArrayVec<Packet, MOST_BATCH>,
-) -> Result<usize, DriverError>
-    requires own { rx.old.end.table ≡ from.now }
-    requires whole { All IsPacket packets.old.items }
-    ensures own { rx.new.end.table ≡ from.now }
-    ensures whole { All IsPacket packets.new.items }
-    ensures moved { (tx : Transmitter) → SameNumbers (lent rx.old tx stash.old packets.old.items) (lent rx.new tx stash.new packets.new.items) }
-{
-    rx.rx_batch(from, stash, packets)
-}
-
-/// What waits is sent on. No buffer comes in or goes out by it.
-fn send(
-    tx: &mut TxDriver,
-    to: &TxRing,
-    stash: &mut Stash,
-    packets: &mut ArrayVec<Packet, MOST_BATCH>,
-) -> Result<usize, DriverError>
-    requires own { tx.old.end.table ≡ to.now }
-    requires whole { All IsPacket packets.old.items }
-    ensures own { tx.new.end.table ≡ to.now }
-    ensures whole { All IsPacket packets.new.items }
-    ensures moved { (rx : Receiver) → SameNumbers (lent rx tx.old stash.old packets.old.items) (lent rx tx.new stash.new packets.new.items) }
-{
-    tx.tx_batch(to, stash, packets)
-}
-
 /// The device's side of both queues.
 #[derive(Drop)]
 struct Device<'a> {
@@ -193,7 +140,7 @@ impl<'a> Device<'a> {
 }
 
 /// Has a frame come in ten times.
-fn forward<R: Wait>(
+fn forward_ten<R: Wait>(
     rt: &R,
     worker: &mut Worker<'_>,
     device: &mut Device<'_>,
@@ -242,9 +189,16 @@ pub fn lent_and_returned<R: Wait>(
     let (receives, sends) = both(new_rx(alloc), new_tx(alloc))?;
     let (from, receiving, storing) = receives;
     let (to, sending, transmitting) = sends;
-    let rx = RxDriver::new(receiving, 32);
-    let tx = TxDriver::new(sending, 32);
-    let worker = Worker::new(pool, pass, &from, rx, &to, tx);
+    let worker = Worker {
+        pool,
+        pass,
+        from: &from,
+        rx: RxDriver::new(receiving, 32),
+        to: &to,
+        tx: TxDriver::new(sending, 32),
+        stash: Stash::new(),
+        packets: ArrayVec::new(),
+    };
     let device = Device {
         from: &from,
         port_in: RxController::new(storing, BUFFER_BYTES, false),
@@ -264,7 +218,7 @@ fn forwarded<R: Wait>(
     mut device: Device<'_>,
     frame: &[u8],
 ) -> Answer<usize> {
-    let went = forward(rt, &mut worker, &mut device, frame);
+    let went = forward_ten(rt, &mut worker, &mut device, frame);
     let (_, (worker, device)) = both(went, Ok((worker, device)))?;
     Ok(returned(rt, worker, device))
 }

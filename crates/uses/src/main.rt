@@ -8,6 +8,7 @@ mod lent;
 mod moves;
 mod one_frame;
 mod outcome;
+mod ports;
 mod queue_pair;
 mod rings;
 mod rounds;

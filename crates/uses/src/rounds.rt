@@ -1,6 +1,7 @@
 //! A forwarder in a few lines: what a receive queue gets is sent on a transmit queue.
 ghost use Rattle.std.specs.Prelude.{◌≡◌, All};
 ghost use Rattle.buffer_pool.specs.Packed.{IsPacket};
+ghost use Rattle.lending.specs.Lent.{lent, SameNumbers};
 
 use arrayvec::ArrayVec;
 use buffer_pool::{Packet, Stash};
@@ -8,8 +9,8 @@ use driver::{DriverError, MOST_BATCH, RxDriver, TxDriver};
 use rx_ring::RxRing;
 use tx_ring::TxRing;
 
-/// Forwards for so many rounds, and answers how many packets were posted. Those for which there was no room stay in the
-/// list.
+/// Forwards for a round, and answers how many packets were posted. Those for which there was no room stay in the list. No
+/// buffer comes in or goes out by it.
 pub fn forward(
     from: &RxRing,
     rx: &mut RxDriver,
@@ -17,7 +18,6 @@ pub fn forward(
     tx: &mut TxDriver,
     stash: &mut Stash,
     packets: &mut ArrayVec<Packet, MOST_BATCH>,
-    rounds: u32,
 ) -> Result<usize, DriverError>
     requires receives { rx.old.end.table ≡ from.now }
     requires sends { tx.old.end.table ≡ to.now }
@@ -25,12 +25,8 @@ pub fn forward(
     ensures receives { rx.new.end.table ≡ from.now }
     ensures sends { tx.new.end.table ≡ to.now }
     ensures whole { All IsPacket packets.new.items }
+    ensures moved { SameNumbers (lent rx.old tx.old stash.old packets.old.items) (lent rx.new tx.new stash.new packets.new.items) }
 {
-    let mut sent: usize = 0;
-    for _ in 0..rounds {
-        rx.rx_batch(from, stash, packets)?; // empty buffers of the stash were posted in their place
-        let posted = tx.tx_batch(to, stash, packets)?; // what was sent came back into the stash
-        sent = sent.saturating_add(posted);
-    }
-    Ok(sent)
+    rx.rx_batch(from, stash, packets)?; // empty buffers of the stash were posted in their place
+    tx.tx_batch(to, stash, packets) // what was sent came back into the stash
 }

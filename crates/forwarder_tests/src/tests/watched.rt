@@ -1,5 +1,5 @@
 //! Cells show what flows count while they run.
-ghost use Rattle.std.specs.Prelude.{◌≡◌, ◌*◌, length};
+ghost use Rattle.std.specs.Prelude.{◌≡◌, length};
 ghost use Rattle.counters.specs.Paired.{ArePaired};
 
 use crate::tests::bursts::{FORTY, FORTY_COUNTS, script_of};
@@ -107,17 +107,19 @@ fn watch<R: Threads + Wait + Sync + Abort>(rt: &R, reader: Reader<'_>, gate: &Pa
     offered && driven
 }
 
+/// Four flows over rings of 64.
+const WATCHED: Config = Config { ring: 64, ..SHORT };
+
 /// Whether the cells of flow 1 show how the forwarder gets on, of which this gate is passed.
 fn is_watched<R: Threads + Wait + Sync + Abort>(
     rt: &R,
     alloc: Global,
     script: &Script,
-    config: &Config,
     cells: &[FlowCells],
     pens: Vec<FlowPens>,
     reader: Reader<'_>,
 ) -> bool
-    requires cells { length cells.now ≡ 2 * config.now.pairs }
+    requires cells { length cells.now ≡ 4 }
     requires pens { ArePaired cells.now pens.items }
 {
     let gate = Paced::new();
@@ -125,8 +127,8 @@ fn is_watched<R: Threads + Wait + Sync + Abort>(
     let (ran, good) = thread::join(
         rt,
         move || -> Result<(Report, Vec<FlowPens>), ForwardError>
-            requires { (length cells.now ≡ 2 * config.now.pairs) × ArePaired cells.now pens.items }
-        { forward_watched(rt, alloc, script, config, gate, cells, pens) },
+            requires { (length cells.now ≡ 4) × ArePaired cells.now pens.items }
+        { forward_watched(rt, alloc, script, &WATCHED, gate, cells, pens) },
         move || watch(rt, reader, gate),
     );
     let (report, _) = ran.expect(rt, "a report");
@@ -137,13 +139,12 @@ fn is_watched<R: Threads + Wait + Sync + Abort>(
 #[test]
 fn watch_while_workers_run(rt: HostRuntime) {
     let script = script_of(&rt, rt.alloc(), FORTY);
-    let config = Config { ring: 64, ..SHORT };
     let (cells, mut pens) = FlowCells::of(rt.alloc(), 4).expect(&rt, "cells");
     let mut readers = readers_of(&rt, rt.alloc(), &cells, &mut pens);
     readers.truncate(2);
     let reader = readers.pop().expect(&rt, "flow 1");
     holds(
         &rt,
-        is_watched(&rt, rt.alloc(), &script, &config, &cells, pens, reader),
+        is_watched(&rt, rt.alloc(), &script, &cells, pens, reader),
     );
 }

@@ -10,44 +10,37 @@ use rx_ring::{ControllerEnd, RxRing};
 use test_kit::Storer;
 use tx_ring::{TxControllerEnd, TxRing};
 
-/// The receive queue's controller.
-#[derive(Drop)]
-pub(crate) struct Storing {
-    pub storer: Storer,
-    /// The next frame to be stored, and the first one of this epoch.
+/// The next frame to be stored, and the first one of this epoch.
+#[derive(Default, Drop)]
+pub(crate) struct Coming {
     next: u32,
     first: u32,
     epochs: Epochs,
 }
 
-impl Storing {
-    /// Nothing was stored yet.
-    pub(crate) fn new(storer: Storer) -> Storing
-        ensures { result.storer ≡ storer }
-    {
-        Storing {
-            storer,
-            next: 0,
-            first: 0,
-            epochs: Epochs::new(),
-        }
-    }
+/// The receive queue's controller, and what it stores.
+#[derive(Drop)]
+pub(crate) struct Storing {
+    pub storer: Storer,
+    pub coming: Coming,
+}
 
+impl Storing {
     /// Answers what is asked, and stores the next frame whole if there are descriptors enough.
     fn turn(&mut self, ring: &RxRing, frames: &Frames) -> bool
         requires { self.old.storer.controller.table ≡ ring.now }
         ensures { self.new.storer.controller.table ≡ ring.now }
     {
         let is_on = self.storer.answer(ring);
-        if self.epochs.see(is_on) {
-            self.first = self.next;
+        if self.coming.epochs.see(is_on) {
+            self.coming.first = self.coming.next;
         }
-        let frame = frames.frame(self.next);
+        let frame = frames.frame(self.coming.next);
         if !is_on || (self.storer.free(ring) as usize) < frame.len().div_ceil(BUFFER_BYTES) {
             return false;
         }
         store(ring, &mut self.storer, frame);
-        self.next = self.next.wrapping_add(1);
+        self.coming.next = self.coming.next.wrapping_add(1);
         true
     }
 }
@@ -69,34 +62,25 @@ fn store(ring: &RxRing, storer: &mut Storer, frame: &[u8])
     storer.set_head(ring);
 }
 
-/// The transmit queue's controller.
-#[derive(Drop)]
-pub(crate) struct Hearing {
-    pub end: TxControllerEnd,
-    /// How many frames were sent in this epoch, and how many bytes of the next one.
+/// How many frames were sent in this epoch, and how many bytes of the next one; how many in all, and how many segments that
+/// were not as they should be.
+#[derive(Default, Drop)]
+pub(crate) struct Heard {
     sent: u32,
     at: usize,
-    /// How many frames were sent in all, and how many segments that were not as they should be.
     pub frames: usize,
     pub bad: usize,
     epochs: Epochs,
 }
 
-impl Hearing {
-    /// Nothing was sent yet.
-    pub(crate) fn new(end: TxControllerEnd) -> Hearing
-        ensures { result.end ≡ end }
-    {
-        Hearing {
-            end,
-            sent: 0,
-            at: 0,
-            frames: 0,
-            bad: 0,
-            epochs: Epochs::new(),
-        }
-    }
+/// The transmit queue's controller, and what it sent.
+#[derive(Drop)]
+pub(crate) struct Hearing {
+    pub end: TxControllerEnd,
+    pub heard: Heard,
+}
 
+impl Hearing {
     /// Answers what is asked: whether the queue is on then.
     fn answer(&mut self, ring: &TxRing) -> bool
         requires { self.old.end.table ≡ ring.now }
@@ -107,8 +91,8 @@ impl Hearing {
             self.end.answer(ring);
         }
         let is_on = self.end.is_serving();
-        if self.epochs.see(is_on) {
-            self.sent = 0;
+        if self.heard.epochs.see(is_on) {
+            self.heard.sent = 0;
         }
         is_on
     }
@@ -141,7 +125,7 @@ impl Hearing {
         if !self.answer(ring) {
             return false;
         }
-        let frame = frames.frame(first.wrapping_add(self.sent));
+        let frame = frames.frame(first.wrapping_add(self.heard.sent));
         self.send(ring, frame)
     }
 
@@ -149,17 +133,17 @@ impl Hearing {
     fn compare(&mut self, frame: &[u8], bytes: &[u8], read: TxRead)
         ensures { self.new.end ≡ self.old.end }
     {
-        let end = self.at.saturating_add(bytes.len());
-        let is_next = frame.get(self.at..end) == Some(bytes);
+        let end = self.heard.at.saturating_add(bytes.len());
+        let is_next = frame.get(self.heard.at..end) == Some(bytes);
         let is_told = usize::from(read.paylen) == frame.len() && read.eop == (end == frame.len());
         if !is_next || !is_told {
-            self.bad = self.bad.saturating_add(1);
+            self.heard.bad = self.heard.bad.saturating_add(1);
         }
-        self.at = end;
+        self.heard.at = end;
         if read.eop {
-            self.at = 0;
-            self.sent = self.sent.saturating_add(1);
-            self.frames = self.frames.saturating_add(1);
+            self.heard.at = 0;
+            self.heard.sent = self.heard.sent.saturating_add(1);
+            self.heard.frames = self.heard.frames.saturating_add(1);
         }
     }
 }
@@ -180,11 +164,12 @@ impl Side for Played {
         let stored = self.storing.turn(&shared.from, &shared.frames);
         let sent = self
             .hearing
-            .turn(&shared.to, &shared.frames, self.storing.first);
+            .turn(&shared.to, &shared.frames, self.storing.coming.first);
         stored || sent
     }
 
     fn is_over(&self) -> bool {
-        self.storing.epochs.ended == self.most && self.hearing.epochs.ended == self.most
+        self.storing.coming.epochs.ended == self.most
+            && self.hearing.heard.epochs.ended == self.most
     }
 }

@@ -36,7 +36,7 @@ pub(crate) trait Side {
 }
 
 /// The epochs of a queue, as its controller sees them.
-#[derive(Drop)]
+#[derive(Default, Drop)]
 pub(crate) struct Epochs {
     on: bool,
     /// How many ended.

@@ -3,7 +3,7 @@ ghost use Rattle.std.specs.Prelude.{◌≡◌, ◌<◌, ◌≤◌};
 
 use crate::tests::threads::forwarder::{Ends, Forwarder, Plan};
 use crate::tests::threads::frames::Lens;
-use crate::tests::threads::played::{Hearing, Played, Storing};
+use crate::tests::threads::played::{Coming, Heard, Hearing, Played, Storing};
 use crate::tests::threads::rings::Rings;
 use crate::tests::threads::side::{Shared, run_both};
 use crate::tests::wanted::same;
@@ -36,10 +36,16 @@ fn sides(rings: Rings, stash: Stash, batch: usize) -> (Shared, Forwarder, Played
         epochs: EPOCHS,
     };
     let forwarder = Forwarder::new(rings.takes, rings.posts, stash, plan);
-    let storing = Storing::new(Storer::new(rings.stores));
+    let storing = Storing {
+        storer: Storer::new(rings.stores),
+        coming: Coming::default(),
+    };
     let played = Played {
         storing,
-        hearing: Hearing::new(rings.sends),
+        hearing: Hearing {
+            end: rings.sends,
+            heard: Heard::default(),
+        },
         most: EPOCHS,
     };
     (rings.shared, forwarder, played)
@@ -49,8 +55,8 @@ fn sides(rings: Rings, stash: Stash, batch: usize) -> (Shared, Forwarder, Played
 fn is_good(forwarder: &Forwarder, played: &Played) -> bool {
     forwarder.taken >= EPOCHS as usize * FRAMES
         && forwarder.sent == forwarder.taken
-        && played.hearing.frames == forwarder.sent
-        && played.hearing.bad == 0
+        && played.hearing.heard.frames == forwarder.sent
+        && played.hearing.heard.bad == 0
 }
 
 /// Closes both rings: whether nothing lies in their slots, and each buffer is back once.

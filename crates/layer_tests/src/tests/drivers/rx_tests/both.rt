@@ -34,6 +34,9 @@ pub(crate) struct Both {
 pub(crate) enum RxCall {
     /// The controller stores a segment of so many bytes, each of them the same, which ends its frame or not.
     Store(usize, bool, u8),
+    /// The controller stores so many frames of 60 bytes, all bytes of the first being this one, and those of each next one
+    /// one more: how many are stored, up to the first that is not.
+    Frames(u8, u8),
     /// The controller says that it stores no more.
     SayQuiet,
     IsQuiet,
@@ -81,6 +84,15 @@ impl Both {
         is_stored
     }
 
+    fn store_frames(&mut self, count: u8, first: u8) -> usize {
+        for k in 0..count {
+            if !self.store(60, true, first.wrapping_add(k)) {
+                return usize::from(k);
+            }
+        }
+        usize::from(count)
+    }
+
     fn add_blanks(&mut self, count: usize) {
         for _ in 0..MOST_BATCH {
             if self.packets.len() < count {
@@ -96,6 +108,7 @@ impl Both {
     fn own(&mut self, call: RxCall) -> Told {
         match call {
             RxCall::Store(len, eop, byte) => return Told::whether(self.store(len, eop, byte)),
+            RxCall::Frames(count, first) => return Told::Count(self.store_frames(count, first)),
             RxCall::IsQuiet => return Told::whether(self.driver.is_quiet(&self.ring)),
             RxCall::HasChain => return Told::whether(self.driver.has_chain()),
             RxCall::Packet(k, lens, first) => {

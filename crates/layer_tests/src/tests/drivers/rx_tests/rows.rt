@@ -31,26 +31,27 @@ const ENABLED: &[Row] = &[
     (Call::Enable, Told::Yes),
 ];
 
-/// Each refusal, with its number and its words.
-const WORDS: &[(DriverError, &str)] = &[
-    (DriverError::QueueOff, "51 queue off"),
-    (DriverError::StashFull, "52 stash full"),
-    (DriverError::TooLong, "53 too long"),
-    (DriverError::NotReclaimed, "54 not reclaimed"),
+/// Each refusal.
+const REFUSALS: [DriverError; 4] = [
+    DriverError::QueueOff,
+    DriverError::StashFull,
+    DriverError::TooLong,
+    DriverError::NotReclaimed,
 ];
 
-fn has_words<R: Abort>(rt: &R, alloc: Global, refused: DriverError, words: &str) {
-    let text = format!(in alloc; "{} {refused}", refused.number()).expect(rt, "memory");
-    same(rt, text.as_str(), words);
-}
+/// Their numbers and their words.
+const WORDS: &str = "51 queue off\n52 stash full\n53 too long\n54 not reclaimed\n";
 
 #[test]
 fn refusals_have_a_number_and_a_text(rt: HostRuntime) {
-    for (refused, words) in WORDS {
-        has_words(&rt, rt.alloc(), *refused, words);
+    let mut text = String::new(rt.alloc());
+    for refused in REFUSALS {
+        writeln!(text, "{} {refused}", refused.number()).expect(&rt, "memory");
     }
+    same(&rt, text.as_str(), WORDS);
 }
 
+/// A batch fills the ring and takes what is done.
 const FILLED: &[&[Row]] = &[
     &[
         (Call::Batch, Told::Refused(DriverError::QueueOff)),
@@ -63,9 +64,7 @@ const FILLED: &[&[Row]] = &[
         (Call::Batch, Told::Count(0)),
         (Call::Room, Told::Count(0)),
         (Call::AtHand, Told::Count(3)),
-        (Call::Own(RxCall::Store(60, true, 0)), Told::Yes),
-        (Call::Own(RxCall::Store(60, true, 1)), Told::Yes),
-        (Call::Own(RxCall::Store(60, true, 2)), Told::Yes),
+        (Call::Own(RxCall::Frames(3, 0)), Told::Count(3)),
         // two more are posted, after the first two segments
         (Call::Own(RxCall::Cut(2)), Told::Yes),
         (Call::Batch, Told::Count(3)),
@@ -76,31 +75,16 @@ const FILLED: &[&[Row]] = &[
         (Call::Own(RxCall::Packet(1, [60, 0, 0], 1)), Told::Yes),
         (Call::Own(RxCall::Packet(2, [60, 0, 0], 2)), Told::Yes),
         // what was posted is published: six descriptors are free
-        (Call::Own(RxCall::Store(60, true, 0)), Told::Yes),
-        (Call::Own(RxCall::Store(60, true, 1)), Told::Yes),
-        (Call::Own(RxCall::Store(60, true, 2)), Told::Yes),
-        (Call::Own(RxCall::Store(60, true, 3)), Told::Yes),
-        (Call::Own(RxCall::Store(60, true, 4)), Told::Yes),
-        (Call::Own(RxCall::Store(60, true, 5)), Told::Yes),
-        (Call::Own(RxCall::Store(60, true, 6)), Told::No),
+        (Call::Own(RxCall::Frames(7, 0)), Told::Count(6)),
     ],
 ];
 
-#[test]
-fn a_batch_fills_the_ring_and_takes_what_is_done(rt: HostRuntime) {
-    each_tells(&rt, rt.alloc(), 32, 10, FILLED);
-}
-
+/// A batch and a list have an end.
 const ENDED: &[&[Row]] = &[
     ENABLED,
     &[
         (Call::Batch, Told::Count(0)),
-        (Call::Own(RxCall::Store(60, true, 0)), Told::Yes),
-        (Call::Own(RxCall::Store(60, true, 1)), Told::Yes),
-        (Call::Own(RxCall::Store(60, true, 2)), Told::Yes),
-        (Call::Own(RxCall::Store(60, true, 3)), Told::Yes),
-        (Call::Own(RxCall::Store(60, true, 4)), Told::Yes),
-        (Call::Own(RxCall::Store(60, true, 5)), Told::Yes),
+        (Call::Own(RxCall::Frames(6, 0)), Told::Count(6)),
         (Call::Batch, Told::Count(2)),
         (Call::Batch, Told::Count(2)),
         (Call::Listed, Told::Count(4)),
@@ -115,10 +99,12 @@ const ENDED: &[&[Row]] = &[
 ];
 
 #[test]
-fn a_batch_and_a_list_have_an_end(rt: HostRuntime) {
+fn a_batch_fills_the_ring_takes_what_is_done_and_has_an_end(rt: HostRuntime) {
+    each_tells(&rt, rt.alloc(), 32, 10, FILLED);
     each_tells(&rt, rt.alloc(), 2, 7, ENDED);
 }
 
+/// A chain waits for its end.
 const CHAINED: &[&[Row]] = &[
     ENABLED,
     &[
@@ -127,8 +113,7 @@ const CHAINED: &[&[Row]] = &[
         (Call::Own(RxCall::Store(1_000, false, 1)), Told::Yes),
         (Call::Batch, Told::Count(0)),
         (Call::Own(RxCall::HasChain), Told::Yes),
-        (Call::Own(RxCall::Store(60, true, 2)), Told::Yes),
-        (Call::Own(RxCall::Store(60, true, 3)), Told::Yes),
+        (Call::Own(RxCall::Frames(2, 2)), Told::Count(2)),
         (Call::Batch, Told::Count(2)),
         (Call::Own(RxCall::HasChain), Told::No),
         (Call::Listed, Told::Count(2)),
@@ -140,11 +125,7 @@ const CHAINED: &[&[Row]] = &[
     ],
 ];
 
-#[test]
-fn a_chain_waits_for_its_end(rt: HostRuntime) {
-    each_tells(&rt, rt.alloc(), 32, 7, CHAINED);
-}
-
+/// Disabled, reclaimed and renewed.
 const RENEWED: &[&[Row]] = &[
     &[
         (Call::AskDisable, Told::Refused(DriverError::QueueOff)),
@@ -196,11 +177,7 @@ const RENEWED: &[&[Row]] = &[
     ],
 ];
 
-#[test]
-fn disabled_reclaimed_and_renewed(rt: HostRuntime) {
-    each_tells(&rt, rt.alloc(), 32, 7, RENEWED);
-}
-
+/// Quiet is seen.
 const QUIET: &[&[Row]] = &[
     ENABLED,
     &[
@@ -216,6 +193,8 @@ const QUIET: &[&[Row]] = &[
 ];
 
 #[test]
-fn quiet_by_calls(rt: HostRuntime) {
-    each_tells(&rt, rt.alloc(), 32, 7, QUIET);
+fn chains_disablings_and_quiet(rt: HostRuntime) {
+    for parts in [CHAINED, RENEWED, QUIET] {
+        each_tells(&rt, rt.alloc(), 32, 7, parts);
+    }
 }

@@ -41,8 +41,8 @@ pub(crate) enum TxCall {
     Add(usize, usize, usize),
     /// How many descriptors the controller sees published, and not sent.
     Ready,
-    /// Whether there is a descriptor to be sent, and it asks for a report or not, as is said; it is sent.
-    Asks(bool),
+    /// Whether there are as many descriptors to be sent, and each asks for a report or not, as is said; they are sent.
+    Asks(&'static [bool]),
     /// Whether there is a descriptor to be sent, with this second word; it is sent.
     Word(u64),
     Clean,
@@ -111,6 +111,15 @@ impl Queue {
         Some(read)
     }
 
+    fn ask(&mut self, reports: &[bool]) -> bool {
+        for rs in reports {
+            if !asks(self.send(), *rs) {
+                return false;
+            }
+        }
+        true
+    }
+
     /// The number of the buffer at each place.
     pub(crate) fn places(self) -> Places {
         let Queue {
@@ -134,7 +143,7 @@ impl Queue {
     fn own(&mut self, call: TxCall) -> Told {
         match call {
             TxCall::Ready => return Told::Count(self.ready() as usize),
-            TxCall::Asks(rs) => return Told::whether(asks(self.send(), rs)),
+            TxCall::Asks(reports) => return Told::whether(self.ask(reports)),
             TxCall::Word(word) => return Told::whether(has_word(self.send(), word)),
             TxCall::Clean => return Told::Count(self.driver.clean(&self.ring, &mut self.stash)),
             TxCall::Add(count, segments, len) => self.add(count, segments, len),

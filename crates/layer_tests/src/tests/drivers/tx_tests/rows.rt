@@ -40,21 +40,19 @@ const TEN: &[&[Row]] = &[
         (Call::Room, Told::Count(0)),
         (Call::Own(TxCall::Ready), Told::Count(7)),
         (Call::Batch, Told::Count(0)),
-        (Call::Own(TxCall::Asks(false)), Told::Yes),
-        (Call::Own(TxCall::Asks(false)), Told::Yes),
-        (Call::Own(TxCall::Asks(false)), Told::Yes),
-        (Call::Own(TxCall::Asks(true)), Told::Yes),
-        (Call::Own(TxCall::Asks(false)), Told::Yes),
+        (
+            Call::Own(TxCall::Asks(&[false, false, false, true, false])),
+            Told::Yes,
+        ),
         (Call::Batch, Told::Count(3)),
         (Call::Listed, Told::Count(0)),
         (Call::AtHand, Told::Count(4)),
         (Call::Room, Told::Count(1)),
         (Call::Own(TxCall::Ready), Told::Count(5)),
-        (Call::Own(TxCall::Asks(false)), Told::Yes),
-        (Call::Own(TxCall::Asks(true)), Told::Yes),
-        (Call::Own(TxCall::Asks(true)), Told::Yes),
-        (Call::Own(TxCall::Asks(false)), Told::Yes),
-        (Call::Own(TxCall::Asks(true)), Told::Yes),
+        (
+            Call::Own(TxCall::Asks(&[false, true, true, false, true])),
+            Told::Yes,
+        ),
         (Call::Own(TxCall::Ready), Told::Count(0)),
     ],
 ];
@@ -79,6 +77,7 @@ fn batches_of_ten_packets(rt: HostRuntime) {
     }
 }
 
+/// A packet that no ring of 8 has room for.
 const TOO_LONG: &[&[Row]] = &[
     &[
         (Call::Own(TxCall::Add(1, 1, 60)), Told::Yes),
@@ -90,7 +89,7 @@ const TOO_LONG: &[&[Row]] = &[
         (Call::Own(TxCall::Add(1, 9, 1_000)), Told::Yes),
         (Call::Own(TxCall::Add(1, 1, 60)), Told::Yes),
         (Call::Batch, Told::Count(1)),
-        (Call::Own(TxCall::Asks(true)), Told::Yes),
+        (Call::Own(TxCall::Asks(&[true])), Told::Yes),
         (Call::Batch, Told::Refused(DriverError::TooLong)),
         (Call::AtHand, Told::Count(1)),
         (Call::Listed, Told::Count(2)),
@@ -98,11 +97,7 @@ const TOO_LONG: &[&[Row]] = &[
     ],
 ];
 
-#[test]
-fn a_packet_that_no_ring_of_8_has_room_for(rt: HostRuntime) {
-    each_tells(&rt, rt.alloc(), Completion::Status, TOO_LONG);
-}
-
+/// Six packets in one batch.
 const SIX: &[&[Row]] = &[
     &[(Call::Own(TxCall::Add(6, 1, 60)), Told::Yes)],
     ENABLED,
@@ -120,8 +115,10 @@ const SIX: &[&[Row]] = &[
 ];
 
 #[test]
-fn six_packets_in_one_batch(rt: HostRuntime) {
-    each_tells(&rt, rt.alloc(), Completion::Status, SIX);
+fn packets_that_are_too_long_or_go_in_one_batch(rt: HostRuntime) {
+    for parts in [TOO_LONG, SIX] {
+        each_tells(&rt, rt.alloc(), Completion::Status, parts);
+    }
 }
 
 const RENEWED: &[&[Row]] = &[
@@ -129,8 +126,7 @@ const RENEWED: &[&[Row]] = &[
     ENABLED,
     &[
         (Call::Batch, Told::Count(7)),
-        (Call::Own(TxCall::Asks(false)), Told::Yes),
-        (Call::Own(TxCall::Asks(false)), Told::Yes),
+        (Call::Own(TxCall::Asks(&[false, false])), Told::Yes),
         (Call::AskDisable, Told::Yes),
         (Call::AskDisable, Told::Refused(DriverError::QueueOff)),
         (Call::Batch, Told::Count(0)),
@@ -157,11 +153,10 @@ const RENEWED: &[&[Row]] = &[
     &[
         (Call::Own(TxCall::Add(1, 1, 60)), Told::Yes),
         (Call::Batch, Told::Count(5)),
-        (Call::Own(TxCall::Asks(false)), Told::Yes),
-        (Call::Own(TxCall::Asks(false)), Told::Yes),
-        (Call::Own(TxCall::Asks(false)), Told::Yes),
-        (Call::Own(TxCall::Asks(true)), Told::Yes),
-        (Call::Own(TxCall::Asks(true)), Told::Yes),
+        (
+            Call::Own(TxCall::Asks(&[false, false, false, true, true])),
+            Told::Yes,
+        ),
     ],
 ];
 
