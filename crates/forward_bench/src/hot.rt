@@ -53,10 +53,10 @@ fn forward_hot<R: Threads + Wait + Sync>(
     let workers = config.workers as usize;
     let (pool, mut pass) = Pool::new(rt, alloc, config.buffers)?;
     let (lines, ends) = make_lines(alloc, config)?;
-    let (drivers, controllers) = make_sides(
+    let sides = make_sides(
         rt, alloc, load, config, frames, &lines, ends, &pool, &mut pass,
     )?;
-    let served = serve_flows(rt, alloc, &Open, drivers, controllers, workers);
+    let served = serve_flows(rt, alloc, &Open, sides.drivers, sides.controllers, workers);
     Ok(is_whole(&served, load))
 }
 

@@ -1,5 +1,5 @@
 //! Both sides of hot flows: the driver's is the forwarder's, the controller's is of this program.
-ghost use Rattle.std.specs.Prelude.{◌≡◌, ℕ, ◌+◌, ◌<◌, length, vec_len, slice_index_or};
+ghost use Rattle.std.specs.Prelude.{◌≡◌, ℕ, ◌<◌, [], length, vec_len, slice_index_or};
 ghost use Rattle.pool.specs.Owned.{IsOf};
 ghost use Rattle.forwarder.specs.Configs.{IsLawful};
 ghost use Rattle.forwarder.specs.Lines.{AreEnds};
@@ -7,11 +7,17 @@ ghost use Rattle.forwarder.specs.Lines.{AreEnds};
 use crate::hot_flow::HotFlow;
 use crate::load::Load;
 use anyhow::Result;
-use flows::DriverFlow;
-use forwarder::{Config, Line, LineEnds, start_flow};
+use flows::{DriverFlow, Task};
+use forwarder::{Config, Line, LineEnds};
 use pool::{Pool, PoolPass};
 use std::alloc::Global;
 use std::sync::Wait;
+
+/// The share of the pool that each flow's pass has.
+const SHARE: u32 = 1;
+
+/// How many buffers a flow may hold beyond a full receive ring.
+const STASHED: u32 = 255;
 
 /// The frames that come to a flow: these again and again, so many in all.
 #[derive(Clone, Copy)]
@@ -20,7 +26,21 @@ struct Feed<'a> {
     count: u64,
 }
 
-/// Makes both sides of a flow. A pass is split off for the driver's.
+/// Both sides of one flow.
+#[derive(Drop)]
+struct Side<'a> {
+    driver: DriverFlow<'a>,
+    controller: HotFlow<'a>,
+}
+
+/// Both sides of all flows, in the order of the flows.
+#[derive(Drop)]
+pub(crate) struct Sides<'a> {
+    pub drivers: Vec<DriverFlow<'a>>,
+    pub controllers: Vec<HotFlow<'a>>,
+}
+
+/// Makes both sides of a flow. As many of its share of the buffers as fit are posted to its receive ring.
 fn make_side<'a, R: Wait>(
     rt: &R,
     alloc: Global,
@@ -30,17 +50,34 @@ fn make_side<'a, R: Wait>(
     line: &'a Line,
     ends: LineEnds,
     pool: &'a Pool,
-    pass: &mut PoolPass,
-) -> (DriverFlow<'a>, HotFlow<'a>)
+    pass: PoolPass,
+) -> Side<'a>
     requires lawful { IsLawful config.now }
     requires ends { AreEnds config.now.ring config.now.completion line.now ends }
-    requires pool { IsOf pool.now pass.old }
-    requires share { 1 < pass.old.hand.share }
-    ensures pool { IsOf pool.entry.now pass.new }
-    ensures share { pass.new.hand.share + 1 ≡ pass.old.hand.share }
+    requires pool { IsOf pool.now pass }
+    requires share { pass.hand.share ≡ 1 }
+    requires none { pass.hand.held ≡ [] }
 {
-    let takes = (ends.takes, ends.posts);
-    let driver = start_flow(rt, config, number, line, takes, pool, pass);
+    let share = config.buffers / (2 * config.pairs);
+    let most = share.min(config.ring + STASHED) as usize;
+    let task = Task {
+        number,
+        from: &line.from,
+        to: &line.to,
+        pool,
+        share: SHARE as u64,
+        retry: config.retry,
+        turns: config.turns,
+    };
+    let driver = DriverFlow::start(
+        rt,
+        task,
+        (ends.takes, ends.posts),
+        pass,
+        most,
+        config.batch as usize,
+        config.rs_every as u16,
+    );
     let controller = HotFlow::new(
         alloc,
         (&line.from, &line.to),
@@ -48,10 +85,10 @@ fn make_side<'a, R: Wait>(
         feed.frames,
         feed.count,
     );
-    (driver, controller)
+    Side { driver, controller }
 }
 
-/// Makes both sides of each flow, in the order of the flows.
+/// Makes both sides of each flow. A pass is split off for each driver.
 pub(crate) fn make_sides<'a, R: Wait>(
     rt: &R,
     alloc: Global,
@@ -62,7 +99,7 @@ pub(crate) fn make_sides<'a, R: Wait>(
     ends: Vec<LineEnds>,
     pool: &'a Pool,
     pass: &mut PoolPass,
-) -> Result<(Vec<DriverFlow<'a>>, Vec<HotFlow<'a>>)>
+) -> Result<Sides<'a>>
     requires lawful { IsLawful config.now }
     requires flows { vec_len ends ≡ length lines.now }
     requires ends { (k : ℕ) (d : _) (e : _) → k < length lines.now → AreEnds config.now.ring config.now.completion (slice_index_or lines.now k d) (slice_index_or ends.items k e) }
@@ -75,13 +112,15 @@ pub(crate) fn make_sides<'a, R: Wait>(
     for own in ends {
         let count = load.frames_of(number);
         let feed = Feed { frames, count };
+        let share = pass.split(pool, SHARE);
         let line = &lines[number];
-        let (driver, controller) = make_side(
-            rt, alloc, config, number, feed, line, own, pool, pass,
-        );
-        drivers.push_reserved(driver);
-        controllers.push_reserved(controller);
+        let side = make_side(rt, alloc, config, number, feed, line, own, pool, share);
+        drivers.push_reserved(side.driver);
+        controllers.push_reserved(side.controller);
         number += 1;
     }
-    Ok((drivers, controllers))
+    Ok(Sides {
+        drivers,
+        controllers,
+    })
 }

@@ -6,4 +6,5 @@ mod Passing
 mod Captures
 mod Records
 pub mod CaptureEndings
+mod Pairs
 mod Sums

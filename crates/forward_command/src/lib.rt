@@ -2,13 +2,14 @@
 //! ports, from text to text, or those of captures; and `from-capture` and `to-capture` in a pipe.
 //!
 //! [`forward`] makes the text of an input and a configuration: what went onto the wires, as a script's lines, and then a
-//! line of counts a flow, or a JSON object of them ([`Printing`]). [`perform`] prints it, and [`forward_script`] is for
-//! those who have a script. [`progress`] shows how far it is while it runs. [`captured`] is `forward` with the options
-//! `--capture` and `--wire-capture`, and does the same without them: its `answer` is for a caller who wants an exit status.
-//! [`piped`] goes between captures and lines. It stands beside the crate `commands`, whose refusals it answers, so that
-//! those commands need no forwarder.
+//! line of counts a flow, or a JSON object of them ([`Printing`]). [`perform`] prints it, and [`answer`] does the same for a
+//! caller who wants an exit status; [`forward_script`] is for those who have a script. [`progress`] shows how far it is
+//! while it runs. [`captured`] is `forward` with the options `--capture` and `--wire-capture`, and [`piped`] goes between
+//! captures and lines. It stands beside the crate `commands`, whose refusals it answers, so that those commands need no
+//! forwarder.
 #![tactic(auto)]
 
+mod answering;
 pub mod captured;
 mod objects;
 mod page;
@@ -17,6 +18,7 @@ mod printing;
 pub mod progress;
 mod text;
 
-pub use page::{forward, forward_script, perform};
+pub use answering::{answer, perform};
+pub use page::{forward, forward_script};
 pub use printing::Printing;
 pub use text::text_of;

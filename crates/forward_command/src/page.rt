@@ -1,17 +1,17 @@
-//! A script, read whole, forwarded, and then answered or printed whole.
-ghost use Rattle.std.specs.Prelude.{◌≡◌, IfErr, IfOk, OnOk, None, Ok, false};
+//! A script, read whole, forwarded, and then answered whole.
+ghost use Rattle.std.specs.Prelude.{◌≡◌, IfErr, IfOk, None, Ok, false};
 ghost use Rattle.std.specs.String.{string_bytes};
 ghost use Rattle.commands.specs.declared.refusal.Refusal.TheVariants as refusal;
 ghost use Rattle.wire_script.specs.Script.{script_of};
 ghost use Rattle.wire_script.specs.ScriptError.{Fails};
 ghost use Rattle.refusals.specs.declared.errors.ScriptError.{ScriptError};
-ghost use Rattle.forward_command.specs.Forwards.{AreReports, ForwardRefused, HasPage, IsForwarded, IsUnforwarded, PrintsForward, RefusesForward, WithholdsForward};
+ghost use Rattle.forward_command.specs.Forwards.{AreReports, ForwardRefused, HasPage, HasReport, IsForwarded, IsUnforwarded, RefusesForward};
 
 use crate::printing::Printing;
 use crate::progress;
 use crate::progress::Form;
 use crate::text::text_of;
-use commands::{Refusal, print, read_text};
+use commands::{Refusal, read_text};
 use forwarder::{Config, Report};
 use forwarding::Open;
 use std::alloc::Global;
@@ -44,26 +44,6 @@ pub fn forward<R: Threads + Wait + Clock + Sync, I: Read, M: Write + IsTerminal 
     page_for(rt, alloc, config, printing, text, screen, form)
 }
 
-/// Forwards the script of `input`, and prints what came of it. What it refuses before it prints leaves `output` as it was.
-/// A `screen` that fails changes nothing.
-pub fn perform<R: Threads + Wait + Clock + Sync, I: Read, W: Write, M: Write + IsTerminal + Send>(
-    rt: &R,
-    alloc: Global,
-    config: &Config,
-    printing: Printing,
-    input: &mut I,
-    output: &mut W,
-    screen: &mut M,
-) -> Result<(), Refusal>
-    ensures done { OnOk result (PrintsForward config.now printing (I.remaining input.old) (W.contents output.old) (W.contents output.new)) }
-    ensures refused { IfErr result (λ e.
-        WithholdsForward config.now printing (I.remaining input.old) e (W.contents output.old) (W.contents output.new)) }
-    ensures screen { printing.progress ≡ false → screen.new ≡ screen.old }
-{
-    let text = forward(rt, alloc, config, printing, input, screen)?;
-    print(text.as_str(), output)
-}
-
 /// What a script's text prints.
 fn page_for<R: Threads + Wait + Clock + Sync, M: Write + Send>(
     rt: &R,
@@ -78,10 +58,26 @@ fn page_for<R: Threads + Wait + Clock + Sync, M: Write + Send>(
     ensures refused { IfErr result (λ e. ForwardRefused config.now text.items e) }
     ensures screen { form ≡ None → screen.new ≡ screen.old }
 {
-    let script = script_in(alloc, text)?;
-    let report = forwarded(rt, alloc, config, script, screen, form)?;
+    let report = report_for(rt, alloc, config, text, screen, form)?;
     let pairs = config.pairs as usize;
     text_of(alloc, report.flows.as_slice(), pairs, printing)
+}
+
+/// What became of the flows of a script's text.
+fn report_for<R: Threads + Wait + Clock + Sync, M: Write + Send>(
+    rt: &R,
+    alloc: Global,
+    config: &Config,
+    text: Vec<u8>,
+    screen: &mut M,
+    form: Option<Form>,
+) -> Result<Report, Refusal>
+    ensures report { IfOk result (λ r. HasReport config.now text.items r.flows.items) }
+    ensures refused { IfErr result (λ e. ForwardRefused config.now text.items e) }
+    ensures screen { form ≡ None → screen.new ≡ screen.old }
+{
+    let script = script_in(alloc, text)?;
+    forwarded(rt, alloc, config, script, screen, form)
 }
 
 /// The reports of a script's flows. The script is given back.

@@ -26,8 +26,7 @@ use std::thread::Threads;
 use std::time::Clock;
 use wire_script::Script;
 
-/// The same as [`forwarder::forward`], while, where a form is given, a thread of its own writes to the screen how far it is.
-/// That thread is joined before anything is answered. Where it can't be started, the numbers are shown once, at last.
+/// Forwards a script, and shows how far it is where a form is given.
 pub fn forward<R: Threads + Wait + Clock + Sync, G: Gate + Sync, M: Write + Send>(
     rt: &R,
     alloc: Global,
@@ -44,9 +43,29 @@ pub fn forward<R: Threads + Wait + Clock + Sync, G: Gate + Sync, M: Write + Send
     ensures flows { IfOk result (λ r. vec_len r.flows ≡ PORTS * config.now.pairs) }
     ensures reports { IfOk result (λ r. (flow : ℕ) (d : _) → flow < PORTS * config.now.pairs → IsReport (plan config.now script.now flow) (slice_index_or r.flows.items flow d)) }
 {
-    let Some(form) = form else {
-        return forwarder::forward(rt, alloc, script, config, gate);
-    };
+    match form {
+        Some(form) => forward_shown(rt, alloc, script, config, gate, screen, form),
+        None => forwarder::forward(rt, alloc, script, config, gate),
+    }
+}
+
+/// The same as [`forwarder::forward`], while a thread of its own writes to the screen how far it is. That thread is joined
+/// before anything is answered. Where it can't be started, the numbers are shown once, at last.
+pub fn forward_shown<R: Threads + Wait + Clock + Sync, G: Gate + Sync, M: Write + Send>(
+    rt: &R,
+    alloc: Global,
+    script: &Script,
+    config: &Config,
+    gate: &G,
+    screen: &mut M,
+    form: Form,
+) -> Result<Report, ForwardError>
+    ensures config { IsErrOf result ConfigRefused ↔ ¬ FitsIn script.now config.now }
+    ensures fits { IsErrOf result ConfigRefused ⊎ FitsIn script.now config.now }
+    ensures halted { FitsIn script.now config.now → IfErr result (λ e. Halted G.answers gate.now e) }
+    ensures flows { IfOk result (λ r. vec_len r.flows ≡ PORTS * config.now.pairs) }
+    ensures reports { IfOk result (λ r. (flow : ℕ) (d : _) → flow < PORTS * config.now.pairs → IsReport (plan config.now script.now flow) (slice_index_or r.flows.items flow d)) }
+{
     config.check(script)?;
     let flows = PORTS * config.pairs as usize;
     let Ok((cells, mut pens)) = FlowCells::of(alloc, flows) else {

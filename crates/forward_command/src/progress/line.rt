@@ -1,6 +1,6 @@
 //! What is shown of a run, and its text.
 ghost use Rattle.std.specs.Prelude.{◌≡◌, Some};
-ghost use Rattle.forward_command.specs.ShownLines.{line_text};
+ghost use Rattle.forward_command.specs.ShownLines.{line_text, members_of, words_of};
 
 use std::fmt;
 
@@ -39,6 +39,25 @@ impl fmt::Display for Line {
     ghost output = { λ l. Some (line_text l.form l.shown) };
 
     fn fmt<W: fmt::Write>(&self, f: &mut fmt::Formatter<W>) -> fmt::Result {
+        let shown = self.shown;
+        match self.form {
+            Form::Lines => write!(f, "{}", Words { shown }),
+            Form::Rewritten => write!(f, "\r\u{1b}[K{}", Words { shown }),
+            Form::Objects => write!(f, "{{{}}}", Members { shown }),
+        }
+    }
+}
+
+/// The numbers, each behind its word.
+#[derive(Clone, Copy)]
+struct Words {
+    shown: Shown,
+}
+
+impl fmt::Display for Words {
+    ghost output = { λ w. Some (words_of w.shown) };
+
+    fn fmt<W: fmt::Write>(&self, f: &mut fmt::Formatter<W>) -> fmt::Result {
         let Shown {
             offered,
             frames,
@@ -46,19 +65,33 @@ impl fmt::Display for Line {
             posted,
             per_second,
         } = self.shown;
-        match self.form {
-            Form::Lines => {}
-            Form::Rewritten => write!(f, "\r\u{1b}[K")?,
-            Form::Objects => {
-                return write!(
-                    f,
-                    "{{\"offered\":{offered},\"frames\":{frames},\"taken\":{taken},\"posted\":{posted},\"per_second\":{per_second}}}"
-                );
-            }
-        }
         write!(
             f,
             "offered {offered} of {frames} taken {taken} posted {posted} per-second {per_second}"
+        )
+    }
+}
+
+/// The members of an object that has what is shown.
+#[derive(Clone, Copy)]
+struct Members {
+    shown: Shown,
+}
+
+impl fmt::Display for Members {
+    ghost output = { λ m. Some (members_of m.shown) };
+
+    fn fmt<W: fmt::Write>(&self, f: &mut fmt::Formatter<W>) -> fmt::Result {
+        let Shown {
+            offered,
+            frames,
+            taken,
+            posted,
+            per_second,
+        } = self.shown;
+        write!(
+            f,
+            "\"offered\":{offered},\"frames\":{frames},\"taken\":{taken},\"posted\":{posted},\"per_second\":{per_second}"
         )
     }
 }

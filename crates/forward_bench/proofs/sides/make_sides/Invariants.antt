@@ -1,13 +1,17 @@
-use Rattle.std.proofs.Common.{◌+◌, ◌<◌, length}
+use Rattle.std.proofs.Common.{◌≡◌, ◌+◌, ◌<◌, ◌≤◌, drop, length, vec_len, vec_capacity}
 use Rattle.std.specs.Vec.Iter.{into_iter_items, into_iter_len}
 use Rattle.pool.specs.Owned.{IsOf}
-use Rattle.forwarder.proofs.Walking.{Makes}
 use Rattle.forward_bench.proofs.sides.make_sides.Given as goal
 
 abbrev pub invariant-loop-own : goal.invariant-loop-own
 invariant-loop-own g l =
+    let rest = l.own-iterator in
     record {
-      both : Makes l.number (length l.lines) l.fn.ends.items (into_iter_items l.own-iterator) (into_iter_len l.own-iterator) l.drivers l.controllers;
+      ends : into_iter_items rest ≡ drop l.number l.fn.ends.items;
+      count : l.number + into_iter_len rest ≡ length l.lines;
+      drivers : vec_len l.drivers ≡ l.number;
+      controllers : vec_len l.controllers ≡ l.number;
+      room : (length l.lines ≤ vec_capacity l.drivers) × (length l.lines ≤ vec_capacity l.controllers);
       pool : IsOf l.pool l.pass;
       share : length l.lines < l.number + l.pass.hand.share;
     }

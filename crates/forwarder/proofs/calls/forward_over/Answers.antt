@@ -6,7 +6,7 @@ use Rattle.forwarder.proofs.calls.forward_over.Goals as goal
 pub run_flows-requires-clause-ready : goal.run_flows-requires-clause-ready
 run_flows-requires-clause-ready g c =
     let same : c.deref.result.now ≡ c.in_ok-lines.lines.items = search rules in
-    record {
+    λ κs lasts. record {
       all_lines = search rules;
       all_ends = search rules;
       all_places = search rules;

@@ -1,6 +1,6 @@
 use Rattle.std.proofs.lemmas.Result.{err_from_is_err_and}
 use Rattle.forward_command.proofs.Refusing.{by-forward, by-script}
-use Rattle.forward_command.proofs.page.page_for.Goals as goal
+use Rattle.forward_command.proofs.page.report_for.Goals as goal
 
 pub returns-in_err-script-clause-refused : goal.returns-in_err-script-clause-refused
 returns-in_err-script-clause-refused g c =
