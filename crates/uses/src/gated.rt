@@ -6,7 +6,7 @@ use crate::ports::Ports;
 use anyhow::Result;
 use arrayvec::ArrayVec;
 use buffer_pool::Packet;
-use driver::MOST_BATCH;
+use driver::{MOST_BATCH, QueueDriver};
 use forwarding::{Event, ForwardError, Gate, Turned, Who, drive};
 use std::alloc::Global;
 use std::sync::atomic::{AtomicU64, Ordering};

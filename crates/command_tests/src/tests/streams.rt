@@ -4,26 +4,6 @@ use std::alloc::Global;
 use std::io;
 use std::io::{ErrorKind, IsTerminal, Read, Write};
 
-/// What a stream that has broken answers.
-fn fails<T>() -> io::Result<T> {
-    Err(io::Error::from(ErrorKind::BrokenPipe))
-}
-
-/// Gives at most so many of the bytes that are left, and how many.
-fn give(left: &mut &[u8], buf: &mut [u8], most: usize) -> usize {
-    let count = buf.len().min(left.len()).min(most);
-    buf[..count].copy_from_slice(&left[..count]);
-    *left = &left[count..];
-    count
-}
-
-/// Takes at most so many of these bytes, and tells how many.
-fn take(taken: &mut Vec<u8>, buf: &[u8], most: usize) -> io::Result<usize> {
-    let count = buf.len().min(most);
-    taken.extend_from_slice(&buf[..count])?;
-    Ok(count)
-}
-
 /// A stream that gives these bytes, and then fails.
 #[derive(Drop)]
 pub struct Broken {
@@ -32,10 +12,13 @@ pub struct Broken {
 
 impl Read for Broken {
     fn read(&mut self, buf: &mut [u8]) -> io::Result<usize> {
-        if self.left.is_empty() && !buf.is_empty() {
-            return fails();
+        let count = buf.len().min(self.left.len());
+        if count == 0 && !buf.is_empty() {
+            return Err(io::Error::from(ErrorKind::BrokenPipe));
         }
-        Ok(give(&mut self.left, buf, usize::MAX))
+        buf[..count].copy_from_slice(&self.left[..count]);
+        self.left = &self.left[count..];
+        Ok(count)
     }
 }
 
@@ -52,10 +35,13 @@ pub struct Halting<'a> {
 impl<'a> Read for Halting<'a> {
     fn read(&mut self, buf: &mut [u8]) -> io::Result<usize> {
         if self.pieces == 0 {
-            return fails();
+            return Err(io::Error::from(ErrorKind::BrokenPipe));
         }
         self.pieces -= 1;
-        Ok(give(&mut self.left, buf, PIECE))
+        let count = buf.len().min(self.left.len()).min(PIECE);
+        buf[..count].copy_from_slice(&self.left[..count]);
+        self.left = &self.left[count..];
+        Ok(count)
     }
 }
 
@@ -68,10 +54,11 @@ pub struct Narrow {
 
 impl Write for Narrow {
     fn write(&mut self, buf: &[u8]) -> io::Result<usize> {
-        if self.room == 0 && !buf.is_empty() {
-            return fails();
+        let count = self.room.min(buf.len());
+        if count == 0 && !buf.is_empty() {
+            return Err(io::Error::from(ErrorKind::BrokenPipe));
         }
-        let count = take(&mut self.taken, buf, self.room)?;
+        self.taken.extend_from_slice(&buf[..count])?;
         self.room -= count;
         Ok(count)
     }
@@ -91,10 +78,12 @@ pub struct Piecemeal {
 impl Write for Piecemeal {
     fn write(&mut self, buf: &[u8]) -> io::Result<usize> {
         if self.pieces == 0 {
-            return fails();
+            return Err(io::Error::from(ErrorKind::BrokenPipe));
         }
         self.pieces -= 1;
-        take(&mut self.taken, buf, PIECE)
+        let count = buf.len().min(PIECE);
+        self.taken.extend_from_slice(&buf[..count])?;
+        Ok(count)
     }
 
     fn flush(&mut self) -> io::Result<()> {
@@ -112,7 +101,7 @@ impl Write for Unflushed {
     }
 
     fn flush(&mut self) -> io::Result<()> {
-        fails()
+        Err(io::Error::from(ErrorKind::BrokenPipe))
     }
 }
 

@@ -471,22 +471,6 @@ fn is_own(action: Move) -> bool {
     }
 }
 
-/// The pair that is met where a queue is asked for a move, and the queue as it is then, where it makes it.
-fn met(queue: Queue, action: Move) -> (Pair, Option<Queue>) {
-    let (told, later) = match queue.answer(action) {
-        Some((told, later)) => (told, Some(later)),
-        None => (Told::NotEnabled, None),
-    };
-    let (driver, controller) = (queue.driver, queue.controller);
-    let pair = Pair {
-        action,
-        driver,
-        controller,
-        told,
-    };
-    (pair, later)
-}
-
 /// Which pairs are met where these moves are made one after another on a new queue of this scope, by their numbers.
 pub fn meet_along(
     scope: Scope,
@@ -495,11 +479,19 @@ pub fn meet_along(
 ) -> Result<(), AllocError> {
     let mut queue = Queue::new(scope);
     for action in moves {
-        let (pair, later) = met(queue, *action);
+        let (told, later) = match queue.answer(*action) {
+            Some((told, later)) => (told, later),
+            None => (Told::NotEnabled, queue),
+        };
+        let (driver, controller) = (queue.driver, queue.controller);
+        let pair = Pair {
+            action: *action,
+            driver,
+            controller,
+            told,
+        };
         numbers.insert(pair.number())?;
-        if let Some(later) = later {
-            queue = later;
-        }
+        queue = later;
     }
     Ok(())
 }
@@ -535,7 +527,17 @@ pub fn second_search(alloc: Global, scope: Scope) -> Result<Second, AllocError> 
             if queue.is_too_much(*action) || (scope.device_only && is_own(*action)) {
                 continue;
             }
-            let (pair, later) = met(queue, *action);
+            let (told, later) = match queue.answer(*action) {
+                Some((told, later)) => (told, Some(later)),
+                None => (Told::NotEnabled, None),
+            };
+            let (driver, controller) = (queue.driver, queue.controller);
+            let pair = Pair {
+                action: *action,
+                driver,
+                controller,
+                told,
+            };
             if numbers.insert(pair.number())? {
                 second.pairs.push(pair)?;
             }

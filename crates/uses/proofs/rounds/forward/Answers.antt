@@ -5,11 +5,7 @@ use Rattle.uses.proofs.Moving.{same-trans, batch-received, batch-sent}
 use Rattle.uses.proofs.rounds.forward.Goals as goal
 
 pub returns-clause-moved : goal.returns-clause-moved
-returns-clause-moved c = batch-received MOST_BATCH c.args.rx.now.batch c.args.rx.now c.rx_batch.new.self c.args.stash.now c.rx_batch.new.stash c.args.packets.now.items c.rx_batch.new.packets.items
-    c.rx_batch.result c.rx_batch.ensures.unchanged c.rx_batch.ensures.done c.args.tx.now
-
-pub returns-clause-moved-2 : goal.returns-clause-moved-2
-returns-clause-moved-2 c =
+returns-clause-moved c =
     let received = batch-received MOST_BATCH c.args.rx.now.batch c.args.rx.now c.rx_batch.new.self c.args.stash.now c.rx_batch.new.stash c.args.packets.now.items c.rx_batch.new.packets.items
     c.rx_batch.result c.rx_batch.ensures.unchanged c.rx_batch.ensures.done c.args.tx.now in
     let sent = batch-sent c.args.tx.now c.tx_batch.new.self c.rx_batch.new.stash c.tx_batch.new.stash c.rx_batch.new.packets.items c.tx_batch.new.packets.items
