@@ -29,12 +29,13 @@ impl QueuePair {
 
     /// What came in is received, and sent on.
     pub fn forward(&mut self) -> Result<usize, DriverError> {
+        let ports = &mut self.ports;
         forward(
-            &self.ports.from,
-            &mut self.ports.rx,
-            &self.ports.to,
-            &mut self.ports.tx,
-            &mut self.ports.stash,
+            &ports.from,
+            &mut ports.rx,
+            &ports.to,
+            &mut ports.tx,
+            &mut ports.stash,
             &mut self.packets,
         )
     }
