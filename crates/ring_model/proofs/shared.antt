@@ -4,6 +4,7 @@ pub mod Shakes
 pub mod Orders
 pub mod Owners
 pub mod Stepping
+pub mod Wanted
 pub mod Fixed
 pub mod Reaching
 pub mod Reached

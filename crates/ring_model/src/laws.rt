@@ -2,7 +2,6 @@
 ghost use Rattle.std.specs.Prelude.{◌≡◌, ℕ, ◌<◌, List};
 ghost use Rattle.ring_model.specs.declared.steps.RxStep.{RxStep};
 ghost use Rattle.ring_model.specs.declared.steps.TxStep.{TxStep};
-ghost use Rattle.ring_model.specs.shared.Frames.{Bytes};
 ghost use Rattle.ring_model.specs.receive.Ring.{RxRing};
 ghost use Rattle.ring_model.specs.receive.Steps.{IsRxReachable, rx_after_all};
 ghost use Rattle.ring_model.specs.kept.Receive.{IsRxKept};
@@ -15,61 +14,40 @@ ghost use Rattle.ring_model.specs.transmit.Lawful.{IsLawfulTx};
 ghost use Rattle.ring_model.specs.transmit.Laws.{IsTxConcluded, TxLater};
 ghost use Rattle.ring_model.specs.Worlds.{QueueMove, World, after_move, after_moves, can_move, note_in, IsLawfulWorld, IsLeftAlone, IsReachableWorld, IsStepOfQueue, WorldLater};
 
-/// Every receive ring of two places or more that a schedule gives is lawful and concluded, whether its segments carry
-/// bytes or the number of their bytes: its ledgers, of this epoch and of those that ended, and its owner map are lawful;
-/// its counts stand in their order; where the driver saw the disabling answered, the controller has ended; where its
-/// controller stores no more, the last frame is whole, and the head tells how many segments were stored until it is
-/// cleared; where the quiet word is 1, the controller said so, and stores no more in this epoch. What every step keeps
-/// says more (`IsRxKept`): which control words and values seen go with the two states, that nothing is served before the
-/// enabling is answered, and that all is back once the head is cleared.
-pub fn rx_rings_are_lawful()
-    ensures bytes { (n : ℕ) (r : RxRing Bytes) → 1 < n → IsRxReachable Bytes n r → IsLawfulRx Bytes r }
-    ensures lengths { (n : ℕ) (r : RxRing ℕ) → 1 < n → IsRxReachable ℕ n r → IsLawfulRx ℕ r }
-    ensures concluded_bytes { (n : ℕ) (r : RxRing Bytes) → 1 < n → IsRxReachable Bytes n r → IsRxConcluded r }
-    ensures concluded_lengths { (n : ℕ) (r : RxRing ℕ) → 1 < n → IsRxReachable ℕ n r → IsRxConcluded r }
-    ensures kept_bytes { (n : ℕ) (r : RxRing Bytes) → 1 < n → IsRxReachable Bytes n r → IsRxKept Bytes n r }
-    ensures kept_lengths { (n : ℕ) (r : RxRing ℕ) → 1 < n → IsRxReachable ℕ n r → IsRxKept ℕ n r }
+/// Every ring of two places or more that a schedule gives is lawful and concluded, whatever its segments carry (bytes, or
+/// the number of their bytes) and however it reports: its ledgers, of this epoch and of those that ended, and its owner map
+/// are lawful; its counts stand in their order; and where the driver saw the disabling answered, the controller has ended.
+///
+/// Of a receive ring: where its controller stores no more, the last frame is whole, and the head tells how many segments
+/// were stored until it is cleared; where the quiet word is 1, the controller said so, and stores no more in this epoch.
+///
+/// Of a transmit ring: what is published ends with a whole frame; where the controller answered the disabling, the last
+/// frame is whole, no report is owed, and the head tells how many segments were sent until it is cleared. Where all that
+/// was posted is cleaned, all was sent, in order.
+///
+/// What every step keeps says more (`IsRxKept`, `IsTxKept`): which control words and values seen go with the two states,
+/// that nothing is served before the enabling is answered, and that all is back once the head is cleared; and of reports,
+/// that of what was sent and not reported only the last may have asked.
+pub fn rings_are_lawful<Payload>()
+    ensures rx_lawful { (n : ℕ) (r : RxRing Payload) → 1 < n → IsRxReachable Payload n r → IsLawfulRx Payload r }
+    ensures rx_concluded { (n : ℕ) (r : RxRing Payload) → 1 < n → IsRxReachable Payload n r → IsRxConcluded r }
+    ensures rx_kept { (n : ℕ) (r : RxRing Payload) → 1 < n → IsRxReachable Payload n r → IsRxKept Payload n r }
+    ensures tx_lawful { (n : ℕ) (r : TxRing Payload) → 1 < n → IsTxReachable Payload n r → IsLawfulTx Payload r }
+    ensures tx_concluded { (n : ℕ) (r : TxRing Payload) → 1 < n → IsTxReachable Payload n r → IsTxConcluded r }
+    ensures tx_kept { (n : ℕ) (r : TxRing Payload) → 1 < n → IsTxReachable Payload n r → IsTxKept Payload n r }
 {}
 
-/// Whatever schedule goes on from a receive ring that a schedule gave: a schedule gave the ring after it too, of as many
-/// places, and the lists of its epoch only grow. What is posted is fixed once the driver is no longer open, what is
-/// stored once the controller answered the disabling or said that it is quiet, and what is taken once the driver saw the
-/// disabling answered. The epochs that ended stay as they were.
-pub fn rx_epochs_are_fixed()
-    ensures bytes { (n : ℕ) (r : RxRing Bytes) (more : List (RxStep Bytes)) → 1 < n → IsRxReachable Bytes n r → RxLater r (rx_after_all r more) }
-    ensures lengths { (n : ℕ) (r : RxRing ℕ) (more : List (RxStep ℕ)) → 1 < n → IsRxReachable ℕ n r → RxLater r (rx_after_all r more) }
-    ensures reached_bytes { (n : ℕ) (r : RxRing Bytes) (more : List (RxStep Bytes)) → IsRxReachable Bytes n r → IsRxReachable Bytes n (rx_after_all r more) }
-    ensures size_bytes { (n : ℕ) (r : RxRing Bytes) → 1 < n → IsRxReachable Bytes n r → r.size ≡ n }
-    ensures reached { (n : ℕ) (r : RxRing ℕ) (more : List (RxStep ℕ)) → IsRxReachable ℕ n r → IsRxReachable ℕ n (rx_after_all r more) }
-    ensures size { (n : ℕ) (r : RxRing ℕ) → 1 < n → IsRxReachable ℕ n r → r.size ≡ n }
-{}
-
-/// Every transmit ring of two places or more that a schedule gives is lawful and concluded, however it reports: its
-/// ledgers, of this epoch and of those that ended, and its owner map are lawful; its counts stand in their order; what
-/// is published ends with a whole frame; where the driver saw the disabling answered, the controller has ended; where
-/// the controller answered it, the last frame is whole, no report is owed, and the head tells how many segments were
-/// sent until it is cleared. Where all that was posted is cleaned, all was sent, in order. What every step keeps says more
-/// (`IsTxKept`), as for receive rings, and of reports: of what was sent and not reported only the last may have asked.
-pub fn tx_rings_are_lawful()
-    ensures bytes { (n : ℕ) (r : TxRing Bytes) → 1 < n → IsTxReachable Bytes n r → IsLawfulTx Bytes r }
-    ensures lengths { (n : ℕ) (r : TxRing ℕ) → 1 < n → IsTxReachable ℕ n r → IsLawfulTx ℕ r }
-    ensures concluded_bytes { (n : ℕ) (r : TxRing Bytes) → 1 < n → IsTxReachable Bytes n r → IsTxConcluded r }
-    ensures concluded_lengths { (n : ℕ) (r : TxRing ℕ) → 1 < n → IsTxReachable ℕ n r → IsTxConcluded r }
-    ensures kept_bytes { (n : ℕ) (r : TxRing Bytes) → 1 < n → IsTxReachable Bytes n r → IsTxKept Bytes n r }
-    ensures kept_lengths { (n : ℕ) (r : TxRing ℕ) → 1 < n → IsTxReachable ℕ n r → IsTxKept ℕ n r }
-{}
-
-/// Whatever schedule goes on from a transmit ring that a schedule gave: a schedule gave the ring after it too, of as
-/// many places, and the lists of its epoch only grow. What is posted is fixed once the driver is no longer open, what is
-/// sent once the controller answered the disabling, and what is cleaned once the driver saw the disabling answered. The
-/// epochs that ended stay as they were.
-pub fn tx_epochs_are_fixed()
-    ensures bytes { (n : ℕ) (r : TxRing Bytes) (more : List (TxStep (Posting Bytes))) → 1 < n → IsTxReachable Bytes n r → TxLater r (tx_after_all r more) }
-    ensures lengths { (n : ℕ) (r : TxRing ℕ) (more : List (TxStep (Posting ℕ))) → 1 < n → IsTxReachable ℕ n r → TxLater r (tx_after_all r more) }
-    ensures reached_bytes { (n : ℕ) (r : TxRing Bytes) (more : List (TxStep (Posting Bytes))) → IsTxReachable Bytes n r → IsTxReachable Bytes n (tx_after_all r more) }
-    ensures size_bytes { (n : ℕ) (r : TxRing Bytes) → 1 < n → IsTxReachable Bytes n r → r.size ≡ n }
-    ensures reached { (n : ℕ) (r : TxRing ℕ) (more : List (TxStep (Posting ℕ))) → IsTxReachable ℕ n r → IsTxReachable ℕ n (tx_after_all r more) }
-    ensures size { (n : ℕ) (r : TxRing ℕ) → 1 < n → IsTxReachable ℕ n r → r.size ≡ n }
+/// Whatever schedule goes on from a ring that a schedule gave: a schedule gave the ring after it too, of as many places,
+/// and the lists of its epoch only grow. What is posted is fixed once the driver is no longer open; what is stored, once
+/// the controller answered the disabling or said that it is quiet, and what is sent, once it answered the disabling; what is
+/// taken or cleaned, once the driver saw the disabling answered. The epochs that ended stay as they were.
+pub fn epochs_are_fixed<Payload>()
+    ensures rx_later { (n : ℕ) (r : RxRing Payload) (more : List (RxStep Payload)) → 1 < n → IsRxReachable Payload n r → RxLater r (rx_after_all r more) }
+    ensures rx_reached { (n : ℕ) (r : RxRing Payload) (more : List (RxStep Payload)) → IsRxReachable Payload n r → IsRxReachable Payload n (rx_after_all r more) }
+    ensures rx_size { (n : ℕ) (r : RxRing Payload) → 1 < n → IsRxReachable Payload n r → r.size ≡ n }
+    ensures tx_later { (n : ℕ) (r : TxRing Payload) (more : List (TxStep (Posting Payload))) → 1 < n → IsTxReachable Payload n r → TxLater r (tx_after_all r more) }
+    ensures tx_reached { (n : ℕ) (r : TxRing Payload) (more : List (TxStep (Posting Payload))) → IsTxReachable Payload n r → IsTxReachable Payload n (tx_after_all r more) }
+    ensures tx_size { (n : ℕ) (r : TxRing Payload) → 1 < n → IsTxReachable Payload n r → r.size ≡ n }
 {}
 
 /// Among queues side by side, a move makes one step of its own queue and tells what that step tells there, and leaves all

@@ -19,10 +19,7 @@ mod steps;
 
 pub use frame_laws::{chains_are_lawful, frames_are_rejoined};
 pub use handshake::Handshake;
-pub use laws::{
-    queues_stand_apart, rx_epochs_are_fixed, rx_rings_are_lawful, tx_epochs_are_fixed,
-    tx_rings_are_lawful,
-};
+pub use laws::{epochs_are_fixed, queues_stand_apart, rings_are_lawful};
 pub use notes::{FetchedSegment, Note, TakenSegment};
 pub use places::{place_after, places_between};
 pub use rows::worked_rows;

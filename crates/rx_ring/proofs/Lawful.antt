@@ -22,7 +22,7 @@ use Rattle.ring_laws.specs.Rings.{rx_lawful}
 use Rattle.ring_laws.specs.Lists.{next_number, number_at}
 use Rattle.ring_laws.specs.Frames.{follows_next}
 use Rattle.ring_laws.specs.States.{live_unanswered, stopped_answered, answered_closed, stopped_full}
-use Rattle.ring_laws.specs.Queues.{shook, held_below, answered_over, answered_unheld}
+use Rattle.ring_laws.specs.Queues.{shook, fetch_facts, held_below, answered_over, answered_unheld}
 use Rattle.shared_ring.specs.declared.events.DriverEvent.TheVariants as driver
 use Rattle.shared_ring.specs.declared.events.ControllerEvent.TheVariants as controller
 use Rattle.shared_ring.specs.Directions.{IsDirection, DriverMay, ControllerMay, Agrees, TakesOut, Fetches}
@@ -30,7 +30,7 @@ use Rattle.shared_ring.specs.Own.{Out}
 use Rattle.shared_ring.specs.Slots.{home_at}
 use Rattle.shared_ring.specs.Tables.{words_of}
 use Rattle.shared_ring.proofs.Controlling.{of-serving, of-served, of-known, of-held, of-unheld, known-looked}
-use Rattle.shared_ring.proofs.Items.{fetch_lies, fetch_facts}
+use Rattle.shared_ring.proofs.Items.{fetch_lies}
 use Rattle.shared_ring.proofs.Lying.{left-lies}
 use Rattle.shared_ring.proofs.Laying.{set-same, home-full, unheld_item, index_there}
 use Rattle.shared_ring.proofs.Shaking.{control_value}
@@ -236,7 +236,7 @@ module _ (n : ℕ) (mode : Completion) (ok : mode ≡ Status) (q : RxRing Bytes)
       let more : served_count q.queue < q.known = subst (λ (j : ℕ). served_count q.queue < j) kn (subst (λ (xs : List (Segment Bytes)). length xs < c.known) sv some_known) in
       let still : q.still ≡ false = sym m.barred ∙ moving in
       let can = can-fetch n q ds cs words homes pos l there (unheld-there unheld) more still in
-      let t = and_parts _ (not q.still) can in let f = fetch_facts says lies_there n ends_segment q.queue k.queue (slice_index words) (home_at homes) i t.0 in
+      let t = and_parts _ (not q.still) can in let f = fetch_facts n ends_segment q.queue k.queue t.0 in
       let is : lies_there (slice_get q.ledger.posted (served_count q.queue)) None ≡ Some (buffer (slice_index q.ledger.posted (served_count q.queue)) []) = ap (λ (o : Option ℕ). lies_there o None) (posted-there f.2) in record {
         buf = buffer (slice_index q.ledger.posted (served_count q.queue)) [];
         home = home-full homes p (buffer (slice_index q.ledger.posted (served_count q.queue)) [])

@@ -11,7 +11,7 @@ use Rattle.ring_model.specs.shared.Agreement.{HasItems, wanted_slot, wanted_word
 use Rattle.ring_laws.specs.Lists.{slice_get-front}
 use Rattle.ring_laws.specs.Places.{each_item-set, each_item-push, each_item-drop}
 use Rattle.ring_model.specs.kept.Queues.{IsKept}
-use Rattle.ring_laws.specs.Queues.{held_below, returned_served}
+use Rattle.ring_laws.specs.Queues.{fetch_facts, fetch_here, fetch_rest, held_below, returned_served}
 use Rattle.shared_ring.proofs.Laying.{slice_get-past, slice_get-last, slice_get-snoc_other}
 
 module _ {Posted Served Given Buffer : Type 0} (says : ℕ → Option Posted → Option Served → ℕ) (lies : Option Posted → Option Served → Option Buffer) (n : ℕ) (ends : Served → Bool)
@@ -49,32 +49,19 @@ module _ {Posted Served Given Buffer : Type 0} (says : ℕ → Option Posted →
             (λ j f below. ap (λ (g : Option Posted). if q.held && (j == served_count q) then None else lies g (slice_get q.ledger.served j)) (slice_get-front q.ledger.posted (x ∷ []) j below)) o.returned_posted i.slots);
       }
 
-  pub fetch_facts : may q Fetch ≡ true → (is_serving q.handshake.controller ≡ true) × (q.held ≡ false) × (served_count q < posted_count q)
-  fetch_facts can = let u = and_parts (is_serving q.handshake.controller && not q.held) (nat_lt (served_count q) q.known) can in let v = and_parts (is_serving q.handshake.controller) (not q.held) u.0 in
-      let less = ltb-true (served_count q) q.known u.1 in let o = k.order in let b = o.known_published v.0 in let c = o.published_posted in (v.0, not-true q.held v.1, omega arith)
-
-  -- an item other than the one that is fetched wants what it wanted
-  fetch_rest : (j : ℕ) → j ≢ served_count q → wanted_slot {Given = Given} says lies (by q Fetch) j ≡ wanted_slot {Given = Given} says lies q j
-  fetch_rest j ne = let other = ne_eqb j (served_count q) ne in
-      let chosen : Bool → Option Buffer = λ (b : Bool). if b then None else lies (slice_get q.ledger.posted j) (slice_get q.ledger.served j) in
-      ap chosen other ∙ sym (ap chosen (and_right q.held (j == served_count q) other))
-
-  fetch_here : wanted_slot {Given = Given} says lies (by q Fetch) (served_count q) ≡ None
-  fetch_here = let same = eq-eqb (served_count q) (served_count q) refl in rw same refl
-
   -- what lies where nothing is fetched yet is the buffer that is posted there
   pub fetch_lies : may q Fetch ≡ true → slot (served_count q % n) ≡ lies (slice_get q.ledger.posted (served_count q)) None
-  fetch_lies can = let t = fetch_facts can in let past = slice_get-past q.ledger.served (served_count q) (omega arith) in
+  fetch_lies can = let t = fetch_facts n ends q k can in let past = slice_get-past q.ledger.served (served_count q) (omega arith) in
       i.slots (served_count q) (returned_served n ends q k t.0) t.2
       ∙ ap (λ (b : Bool). if b then None else lies (slice_get q.ledger.posted (served_count q)) (slice_get q.ledger.served (served_count q))) (and_left q.held (served_count q == served_count q) t.1)
       ∙ ap (λ (g : Option Served). lies (slice_get q.ledger.posted (served_count q)) g) past
 
   pub items-fetch : (slot' : ℕ → Option Buffer) → may q Fetch ≡ true → Writes n slot slot' (served_count q % n) None → HasItems {Given = Given} says lies n (by q Fetch) word slot'
-  items-fetch slot' can s = let t = fetch_facts can in record {
+  items-fetch slot' can s = let t = fetch_facts n ends q k can in record {
     words = i.words;
     slots = each_item-set n (returned_count q) (posted_count q) (served_count q) slot slot'
         (wanted_slot {Given = Given} says lies q) (wanted_slot {Given = Given} says lies (by q Fetch)) pos within (returned_served n ends q k t.0) t.2
-        (record { here = s.here ∙ sym fetch_here; rest = s.rest }) (λ j x y ne. fetch_rest j ne) i.slots;
+        (record { here = s.here ∙ sym (fetch_here says lies q); rest = s.rest }) (λ j x y ne. fetch_rest says lies q j ne) i.slots;
   }
 
   serve_rest : (x : Served) (j : ℕ) → j ≢ served_count q → wanted_slot {Given = Given} says lies (by q (Serve x)) j ≡ wanted_slot {Given = Given} says lies q j

@@ -14,7 +14,7 @@ use Rattle.ring_laws.specs.Lists.{slice_get-front}
 use Rattle.ring_laws.specs.Places.{next_place, each_item-set, each_item-push, each_item-drop}
 use Rattle.ring_model.specs.kept.Queues.{IsKept}
 use Rattle.ring_laws.specs.States.{live_unanswered, serving_unended}
-use Rattle.ring_laws.specs.Queues.{held_below, returned_served}
+use Rattle.ring_laws.specs.Queues.{fetch_facts, fetch_here, fetch_rest, held_below, returned_served}
 use Rattle.ring_machine.specs.code.Sound.{IsSound}
 use Rattle.ring_model.specs.shared.Places.{place_next}
 use Rattle.ring_machine.specs.code.Shared.{word_put, after_post, after_fetch, after_serve, after_out}
@@ -96,30 +96,17 @@ module _ {Posted Served Given : Type 0} (ends : Served → Bool) (says : ℕ →
       handshake = a.handshake;
     }
 
-    fetch_facts : may q Fetch ≡ true → (is_serving q.handshake.controller ≡ true) × (q.held ≡ false) × (served_count q < posted_count q)
-    fetch_facts may = let u = and_parts (is_serving q.handshake.controller && not q.held) (nat_lt (served_count q) q.known) may in let v = and_parts (is_serving q.handshake.controller) (not q.held) u.0 in
-        let less = ltb-true (served_count q) q.known u.1 in let o = k.order in let b = o.known_published v.0 in let c = o.published_posted in (v.0, not-true q.held v.1, omega arith)
-
     serve_is : is_serving q.handshake.controller ≡ true → w.serve ≡ served_count q % q.size
     serve_is serving = a.serve (and_left (is_ended q.handshake.controller) (is_open q.handshake.driver) (serving_unended q.handshake.controller serving))
 
-    -- an item other than the one that is fetched wants what it wanted
-    fetch_rest : (j : ℕ) → j ≢ served_count q → wanted_slot {Given = Given} says lies (by q Fetch) j ≡ wanted_slot {Given = Given} says lies q j
-    fetch_rest j ne = let other = ne_eqb j (served_count q) ne in
-        let chosen : Bool → Option ℕ = λ (b : Bool). if b then None else lies (slice_get q.ledger.posted j) (slice_get q.ledger.served j) in
-        ap chosen other ∙ sym (ap chosen (and_right q.held (j == served_count q) other))
-
-    fetch_here : wanted_slot {Given = Given} says lies (by q Fetch) (served_count q) ≡ None
-    fetch_here = let same = eq-eqb (served_count q) (served_count q) refl in rw same refl
-
     -- what lies where nothing is fetched yet is the buffer that is posted there
     fetch_lies : (b : ℕ) → may q Fetch ≡ true → slot_at w.slots w.serve ≡ Some b → Some b ≡ lies (slice_get q.ledger.posted (served_count q)) None
-    fetch_lies b may e = let t = fetch_facts may in let i = a.items in let past = past_end q.ledger.served (served_count q) (omega arith) in
+    fetch_lies b may e = let t = fetch_facts q.size ends q k may in let i = a.items in let past = past_end q.ledger.served (served_count q) (omega arith) in
         let wanted : wanted_slot {Given = Given} says lies q (served_count q) ≡ lies (slice_get q.ledger.posted (served_count q)) None = rw (and_left q.held (served_count q == served_count q) t.1) (ap (λ (g : Option Served). lies (slice_get q.ledger.posted (served_count q)) g) past) in
         sym e ∙ ap (λ (p : ℕ). slot_at w.slots p) (serve_is t.0) ∙ i.slots (served_count q) (returned_served q.size ends q k t.0) t.2 ∙ wanted
 
     fits-fetched : (b : ℕ) → may q Fetch ≡ true → slot_at w.slots w.serve ≡ Some b → Agrees {Given = Given} ends says lies (after_fetch w (Some b)) (by q Fetch)
-    fits-fetched b may e = let t = fetch_facts may in let i = a.items in let s = slot-writes_at (served_count q) w.serve None (serve_is t.0) in record {
+    fits-fetched b may e = let t = fetch_facts q.size ends q k may in let i = a.items in let s = slot-writes_at (served_count q) w.serve None (serve_is t.0) in record {
       size_is = a.size_is;
       head = a.head;
       tail = a.tail;
@@ -127,7 +114,7 @@ module _ {Posted Served Given : Type 0} (ends : Served → Bool) (says : ℕ →
         words = i.words;
         slots = each_item-set q.size (returned_count q) (posted_count q) (served_count q) (slot_at w.slots) (slot_at (slice_set w.slots w.serve None))
             (wanted_slot {Given = Given} says lies q) (wanted_slot {Given = Given} says lies (by q Fetch)) pos within (returned_served q.size ends q k t.0) t.2
-            (record { here = s.here ∙ sym fetch_here; rest = s.rest }) (λ j x y ne. fetch_rest j ne) i.slots;
+            (record { here = s.here ∙ sym (fetch_here says lies q); rest = s.rest }) (λ j x y ne. fetch_rest says lies q j ne) i.slots;
       };
       empty = empty_at (served_count q) w.serve Controller None (serve_is t.0) (λ e. refl);
       fill = a.fill;

@@ -63,6 +63,13 @@ module _ {Posted Served Given : Type 0} (n : ℕ) (ends : Served → Bool) where
     pub held_below : q.held ≡ true → served_count q < posted_count q
     held_below e = served_below n (posted_count q) (served_count q) (given_count q) q.published q.known q.reclaimed q.held q.handshake k.order e
 
+    -- what may be fetched: the controller serves, holds nothing, and the next item was posted
+    pub fetch_facts : may q Fetch ≡ true → (is_serving q.handshake.controller ≡ true) × (q.held ≡ false) × (served_count q < posted_count q)
+    fetch_facts e = let u = and_parts (is_serving q.handshake.controller && not q.held) (nat_lt (served_count q) q.known) e in
+        let v = and_parts (is_serving q.handshake.controller) (not q.held) u.0 in
+        let free = ltb-true (served_count q) q.known u.1 in
+        let o = k.order in let a = o.known_published v.0 in let b = o.published_posted in (v.0, not-true q.held v.1, omega arith)
+
     -- once the disabling was seen answered, the controller has ended and holds nothing
     pub answered_over : is_answered q.handshake.driver ≡ true → is_ended q.handshake.controller ≡ true
     answered_over a = let h = q.handshake in let t = answered_ended h.driver h.controller h.control h.seen a shook in ap is_ended t.0
