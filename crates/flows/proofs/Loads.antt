@@ -99,6 +99,10 @@ loaded-still k pass d rx tx l r t = record {
 pub at-hand : (d : Driving) (h : ℕ → ℕ) → total h (d.stash ++ numbers_in d.packets) ≤ total h (all_of d)
 at-hand d h = let a = total-append h d.stash (numbers_in d.packets) in let b = parts h d in omega (arith, a, b)
 
+-- .. and the stash alone
+pub stash-at-hand : (d : Driving) (h : ℕ → ℕ) → total h d.stash ≤ total h (all_of d)
+stash-at-hand d h = let b = parts h d in omega (arith, b)
+
 -- what was at hand went to the pool, as far as it isn't in the stash
 pub given-all : (k : DriverKey) (pass pass' : Passed) (d : Driving) (stash : List ℕ) (packets : List (List Buffer)) → packets ≡ [] → IsLoaded k pass d → IsOf k.pool pass' → pass'.hand.share ≡ pass.hand.share → Keeps pass.hand.held (d.stash ++ numbers_in d.packets) pass'.hand.held stash → IsLoaded k pass' (driving d.rx d.tx stash packets)
 given-all k pass pass' d stash packets none l pool shared kept = subst (λ (ps : List (List Buffer)). IsLoaded k pass' (driving d.rx d.tx stash ps)) (sym none) (record {

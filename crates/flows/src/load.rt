@@ -102,16 +102,29 @@ impl Load {
             *counts = counts.counted(turned.taken, turned.posted, 0);
             return Ok(turned);
         }
-        let dropped = drop_packets(
+        let dropped = self.drop_waiting(rt, task);
+        *counts = counts.counted(turned.taken, turned.posted, dropped);
+        Ok(turned)
+    }
+
+    /// Drops the packets that wait, and answers how many these were. Their buffers go to the stash, and to the pool where that
+    /// is full.
+    pub(crate) fn drop_waiting<R: Wait>(&mut self, rt: &R, task: &Task<'_>) -> usize
+        requires { IsLoaded task.now self.old.pass (driving_of self.old) }
+        ensures loaded { IsLoaded task.now self.new.pass (driving_of self.new) }
+        ensures count { result ≡ length self.old.packets.items }
+        ensures few { result ≤ MOST_BATCH }
+        ensures none { self.new.packets.items ≡ [] }
+        ensures drivers { (self.new.rx ≡ self.old.rx) × (self.new.tx ≡ self.old.tx) }
+    {
+        drop_packets(
             rt,
             task.pool,
             &mut self.pass,
             &mut self.stash,
             &mut self.packets,
             &mut self.short,
-        );
-        *counts = counts.counted(turned.taken, turned.posted, dropped);
-        Ok(turned)
+        )
     }
 
     /// Takes buffers from the pool in place of those that went back to it, as far as the stash has room.

@@ -8,7 +8,7 @@ ghost use Rattle.flows.specs.Driven.{GoesTo, IsLoaded, IsRelaying, driving_of, r
 
 use crate::counts::Counts;
 use crate::disabling::{finish_rx, finish_tx};
-use crate::holding::{drop_packets, give_stash};
+use crate::holding::give_stash;
 use crate::load::{Load, Task};
 use crate::phase::{Left, Phase};
 use crate::report::Ended;
@@ -151,14 +151,7 @@ impl Load {
         ensures none { (self.new.stash ≡ []) × (self.new.packets.items ≡ []) }
         ensures drivers { (self.new.rx ≡ self.old.rx) × (self.new.tx ≡ self.old.tx) }
     {
-        drop_packets(
-            rt,
-            task.pool,
-            &mut self.pass,
-            &mut self.stash,
-            &mut self.packets,
-            &mut self.short,
-        );
+        self.drop_waiting(rt, task);
         give_stash(rt, task.pool, &mut self.pass, &mut self.stash);
     }
 }

@@ -1,25 +1,17 @@
-use Rattle.std.proofs.Common.{rules, ◌++◌}
+use Rattle.std.proofs.Common.{rules}
 use Rattle.pool.specs.Owned.{IsOf}
-use Rattle.driver.specs.transmit.Frames.{numbers_in}
-use Rattle.forwarding.specs.Driving.{driving}
 use Rattle.flows.specs.Holding.{all_of}
-use Rattle.flows.specs.Driven.{driving_of}
-use Rattle.flows.proofs.Holds.{holds-part, holds-on}
-use Rattle.flows.proofs.Loads.{at-hand, given-all, given-stash}
+use Rattle.flows.specs.Driven.{IsLoaded, driving_of}
+use Rattle.flows.proofs.Holds.{holds-part}
+use Rattle.flows.proofs.Loads.{stash-at-hand, given-stash}
 use Rattle.flows.proofs.load.Load.give_at_hand.Goals as goal
-
-pub drop_packets-requires-clause-held : goal.drop_packets-requires-clause-held
-drop_packets-requires-clause-held g c =
-    let l = c.args.self.now in holds-part l.pass.hand.held (l.stash ++ numbers_in l.packets.items) (all_of (driving_of l)) c.requires.holds (at-hand (driving_of l))
 
 pub give_stash-requires-clause-held : goal.give_stash-requires-clause-held
 give_stash-requires-clause-held g c =
-    let l = c.args.self.now in holds-on l.pass.hand.held (l.stash ++ numbers_in l.packets.items) c.drop_packets.new.pass.hand.held c.drop_packets.new.stash
-    (holds-part l.pass.hand.held (l.stash ++ numbers_in l.packets.items) (all_of (driving_of l)) c.requires.holds (at-hand (driving_of l))) c.drop_packets.ensures.kept
+    let l = c.drop_waiting.new.self in let loaded : IsLoaded c.args.task.now l.pass (driving_of l) = c.drop_waiting.ensures.loaded in
+    holds-part l.pass.hand.held l.stash (all_of (driving_of l)) loaded.holds (stash-at-hand (driving_of l))
 
 pub returns-clause-loaded : goal.returns-clause-loaded
 returns-clause-loaded g c =
-    let l = c.args.self.now in let d = c.drop_packets in let k = c.args.task.now in
-    let pool : IsOf k.pool d.new.pass = search rules in let pool' : IsOf k.pool c.give_stash.new.pass = search rules in
-    given-stash k d.new.pass c.give_stash.new.pass (driving l.rx l.tx d.new.stash d.new.packets.items) c.give_stash.new.stash c.give_stash.ensures.none
-    (given-all k l.pass d.new.pass (driving_of l) d.new.stash d.new.packets.items d.ensures.none c.requires pool d.ensures.share d.ensures.kept) pool' c.give_stash.ensures.share c.give_stash.ensures.kept
+    let l = c.drop_waiting.new.self in let k = c.args.task.now in let p = c.give_stash in let pool : IsOf k.pool p.new.pass = search rules in
+    given-stash k l.pass p.new.pass (driving_of l) p.new.stash p.ensures.none c.drop_waiting.ensures.loaded pool p.ensures.share p.ensures.kept

@@ -42,28 +42,21 @@ returns-then-task-clause-drained g c =
     let old = driving_of c.args.self.now in let d = c.drive.new in let t = c.in-Ok.turned in
     batch-drained t.taken t.posted old (driving d.rx d.tx d.stash d.packets.items) c.in-Ok.ensures.steps (search rules)
 
-pub drop_packets-dropped-requires-clause-held : goal.drop_packets-dropped-requires-clause-held
-drop_packets-dropped-requires-clause-held g c =
+pub drop_waiting-dropped-requires : goal.drop_waiting-dropped-requires
+drop_waiting-dropped-requires g c =
     let k = c.args.task.now in let old = driving_of c.args.self.now in let d = c.drive.new in let new = driving d.rx d.tx d.stash d.packets.items in let t = c.in-Ok.turned in
-    let l : IsLoaded k c.args.self.now.pass new = loaded-by k c.args.self.now.pass old new c.task.inside.from.now c.task.inside.to.now (search rules) (search rules) c.requires.loaded c.drive.ensures.can (drove-all t.taken t.posted old new c.in-Ok.ensures.steps) in
-    holds-part c.args.self.now.pass.hand.held (d.stash ++ numbers_in d.packets.items) (all_of new) l.holds (at-hand new)
-
-pub returns-clause-loaded : goal.returns-clause-loaded
-returns-clause-loaded g c =
-    let k = c.args.task.now in let old = driving_of c.args.self.now in let d = c.drive.new in let new = driving d.rx d.tx d.stash d.packets.items in let t = c.in-Ok.turned in let p = c.drop_packets-dropped in
-    let l : IsLoaded k c.args.self.now.pass new = loaded-by k c.args.self.now.pass old new c.task.inside.from.now c.task.inside.to.now (search rules) (search rules) c.requires.loaded c.drive.ensures.can (drove-all t.taken t.posted old new c.in-Ok.ensures.steps) in
-    let pool : IsOf k.pool p.new.pass = search rules in
-    given-all k c.args.self.now.pass p.new.pass new p.new.stash p.new.packets.items p.ensures.none l pool p.ensures.share p.ensures.kept
+    loaded-by k c.args.self.now.pass old new c.task.inside.from.now c.task.inside.to.now (search rules) (search rules) c.requires.loaded c.drive.ensures.can (drove-all t.taken t.posted old new c.in-Ok.ensures.steps)
 
 pub returns-clause-relayed : goal.returns-clause-relayed
 returns-clause-relayed g c =
-    let k = c.args.task.now in let old = driving_of c.args.self.now in let d = c.drive.new in let new = driving d.rx d.tx d.stash d.packets.items in let t = c.in-Ok.turned in let p = c.drop_packets-dropped in
+    let k = c.args.task.now in let old = driving_of c.args.self.now in let d = c.drive.new in let new = driving d.rx d.tx d.stash d.packets.items in let t = c.in-Ok.turned in let p = c.drop_waiting-dropped in
     let never : k.retries ≡ false = search rules in
     let is : c.counted-2.result ≡ counted c.args.counts.now t.taken t.posted (length new.packets) = search rules in
-    subst (λ (ps : List (List Buffer)). Relayed k.retries new.rx.end new.tx.end c.counted-2.result (map bytes_of ps)) (sym p.ensures.none)
-    (subst (λ (x : Counts). Relayed k.retries new.rx.end new.tx.end x []) (sym is) (relays-dropping k.retries old new c.args.counts.now t.taken t.posted c.requires.relayed c.drive.ensures.moved c.in-Ok.ensures.counted never))
+    let same = p.ensures.drivers in
+    rw (same.0, same.1) (subst (λ (ps : List (List Buffer)). Relayed k.retries new.rx.end new.tx.end c.counted-2.result (map bytes_of ps)) (sym p.ensures.none)
+    (subst (λ (x : Counts). Relayed k.retries new.rx.end new.tx.end x []) (sym is) (relays-dropping k.retries old new c.args.counts.now t.taken t.posted c.requires.relayed c.drive.ensures.moved c.in-Ok.ensures.counted never)))
 
 pub returns-clause-drained : goal.returns-clause-drained
 returns-clause-drained g c =
-    let old = driving_of c.args.self.now in let d = c.drive.new in let t = c.in-Ok.turned in
-    batch-drained t.taken t.posted old (driving d.rx d.tx d.stash d.packets.items) c.in-Ok.ensures.steps (search rules)
+    let old = driving_of c.args.self.now in let d = c.drive.new in let t = c.in-Ok.turned in let same = c.drop_waiting-dropped.ensures.drivers in
+    rw same.0 (batch-drained t.taken t.posted old (driving d.rx d.tx d.stash d.packets.items) c.in-Ok.ensures.steps (search rules))
