@@ -1,10 +1,10 @@
 -- Words and slots of the items that are out, as each step changes them.
-use Rattle.std.proofs.Common.{◌≡◌, ◌≢◌, ℕ, ◌+◌, ◌-◌, ◌%◌, ◌<◌, ◌≤◌, Bool, true, false, not, ◌&&◌, [], ◌∷◌, ◌++◌, length, Option, Some, None, sym, refl, ap, ◌∙◌, subst, arith, if◌then◌else◌, mod-lt, length-append}
+use Rattle.std.proofs.Common.{◌≡◌, ◌≢◌, ℕ, ◌+◌, ◌-◌, ◌%◌, ◌<◌, ◌≤◌, Bool, true, false, ◌&&◌, [], ◌∷◌, ◌++◌, length, Option, Some, None, sym, refl, ap, ◌∙◌, subst, arith, if◌then◌else◌, mod-lt, length-append}
 use Rattle.std.specs.Prelude.{slice_get, ◌==◌, nat_lt}
-use Rattle.std.proofs.lemmas.Bool.{and_parts, and_left, and_right, not-true, ltb-true, eq-eqb, ne_eqb}
+use Rattle.std.proofs.lemmas.Bool.{and_parts, and_left, and_right, ltb-true, ne_eqb}
 use Rattle.ring_model.specs.shared.Lists.{EachItem}
 use Rattle.ring_model.specs.kept.Writes.{Writes}
-use Rattle.ring_model.specs.shared.Handshakes.{is_open, is_serving}
+use Rattle.ring_model.specs.shared.Handshakes.{is_open}
 use Rattle.ring_model.specs.shared.QueueSteps.{Post, Fetch, Serve, Give, Reclaim, Renew}
 use Rattle.ring_model.specs.shared.Queue.{Queue, posted_count, served_count, given_count, returned_count, may, by}
 use Rattle.ring_model.specs.shared.Agreement.{HasItems, wanted_slot, wanted_word}

@@ -1,15 +1,11 @@
-use Rattle.std.proofs.Common.{rules, ◌≡◌, ◌-◌, [], ◌++◌, List, length, map, sym, subst, false}
+use Rattle.std.proofs.Common.{rules, ◌≡◌, ◌-◌, [], List, length, map, sym, subst, false}
 use Rattle.buffer_pool.specs.Buffer.{Buffer}
 use Rattle.buffer_pool.specs.Packed.{bytes_of}
-use Rattle.driver.specs.transmit.Frames.{numbers_in}
-use Rattle.pool.specs.Owned.{IsOf}
 use Rattle.forwarding.specs.Driving.{driving}
 use Rattle.flows.specs.declared.counts.Counts.{Counts}
 use Rattle.flows.specs.Counting.{counted}
-use Rattle.flows.specs.Holding.{all_of}
-use Rattle.flows.specs.Driven.{IsLoaded, Relayed, driving_of}
-use Rattle.flows.proofs.Holds.{holds-part}
-use Rattle.flows.proofs.Loads.{at-hand, drove-all, held-all, loaded-by, given-all}
+use Rattle.flows.specs.Driven.{Relayed, driving_of}
+use Rattle.flows.proofs.Loads.{drove-all, held-all, loaded-by}
 use Rattle.flows.proofs.Relays.{relays-on, relays-dropping, held-counted, batch-drained}
 use Rattle.flows.proofs.load.Load.relay.Goals as goal
 
