@@ -1,6 +1,7 @@
 -- Places of a script, and lists that go together place by place.
-use Rattle.std.proofs.Common.{◌≡◌, ◌∙◌, ℕ, ◌+◌, ◌<◌, ◌≤◌, ◌==◌, Bool, true, false, List, [], ◌∷◌, ◌++◌, All, refl, ap, sym, subst, cond, drop, map, length, get_or, zero, suc, inl, inr, arith}
+use Rattle.std.proofs.Common.{◌≡◌, ◌∙◌, ℕ, ◌+◌, ◌<◌, ◌≤◌, ◌==◌, Bool, true, false, List, [], ◌∷◌, ◌++◌, All, refl, ap, sym, subst, cond, drop, take, map, length, get_or, zero, suc, inl, inr, arith}
 use Rattle.std.proofs.lemmas.Bool.{cases_eq}
+use Rattle.std.proofs.lemmas.List.{take_more}
 use Rattle.std.proofs.lemmas.List.Elements.{All-push}
 use Rattle.std.specs.List.{AllZip}
 use Rattle.std.specs.Prelude.{slice_index_or}
@@ -59,6 +60,10 @@ zip-last R xs xs' x ys ys' y pushed pushed' all one = subst (λ l. AllZip R l ys
     further (u ∷ us) [] both = absurd both
     further (u ∷ us) (v ∷ vs) both = (both.0, further us vs both.1)
 
+-- the first n of a list and another whose items go together, one item more
+pub zip-further : {A B : Type 0} (R : A → B → Type 0) (n : ℕ) (xs : List A) (x : A) (ys ys' : List B) (y : B) → n < length xs → get_or xs n x ≡ x → ys' ≡ ys ++ y ∷ [] → AllZip R (take n xs) ys → R x y → AllZip R (take (n + 1) xs) ys'
+zip-further R n xs x ys ys' y low here pushed all one = zip-last R (take n xs) (take (n + 1) xs) x ys ys' y (take_more xs n x low ∙ ap (λ z. take n xs ++ z ∷ []) here) pushed all one
+
 -- two lists that go together place by place, one item more in each
 pub places-more : {A B : Type 0} (R : ℕ → A → B → Type 0) (xs xs' : List A) (x : A) (ys ys' : List B) (y : B) (n : ℕ)
     → length xs ≡ n → length ys ≡ n → xs' ≡ xs ++ x ∷ [] → ys' ≡ ys ++ y ∷ [] → R n x y
@@ -92,6 +97,10 @@ drop-within zero [] x tail e = absurd (omega (arith, ap length e))
 drop-within zero (y ∷ ys) x tail e = omega arith
 drop-within (suc n) [] x tail e = absurd (omega (arith, ap length e))
 drop-within (suc n) (y ∷ ys) x tail e = (let h = drop-within n ys x tail e in omega (arith, h))
+
+-- what holds of all holds of the first of what is left
+pub all-at : {X : Type 0} (P : X → Type 0) (n : ℕ) (xs : List X) (x : X) (tail : List X) → drop n xs ≡ x ∷ tail → All P xs → P x
+all-at P n xs x tail e all = subst P (drop-first n xs x tail e x) (all n x (drop-within n xs x tail e))
 
 -- a list whose items say something of their places, one item more
 pub list-more : {B : Type 0} (R : ℕ → B → Type 0) (ys ys' : List B) (y : B) (n : ℕ) → length ys ≡ n → ys' ≡ ys ++ y ∷ [] → R n y

@@ -1,4 +1,4 @@
-use Rattle.std.proofs.Common.{rules, ◌≡◌, ◌∙◌, ◌<◌, [], ◌∷◌, ◌++◌, true, length, map, get_or, ap, sym, subst, refl}
+use Rattle.std.proofs.Common.{rules, ◌≡◌, ◌∙◌, [], ◌∷◌, ◌++◌, true, length, map, get_or, ap, sym, subst, refl}
 use Rattle.std.specs.Vec.Iter.{into_iter_items, into_iter_len}
 use Rattle.std.proofs.lemmas.List.{map-append}
 use Rattle.flows.specs.Counting.{driven, driven_in, offered, offered_in}
@@ -6,28 +6,22 @@ use Rattle.flows.specs.Driven.{is_over}
 use Rattle.flows.specs.Keys.{ControllerKey, DriverKey, plan_of}
 use Rattle.flows.specs.Reports.{IsReport}
 use Rattle.forwarder.proofs.Places.{by-map}
-use Rattle.forwarder.proofs.Plans.{drop-first, drop-within, line-at, list-more}
-use Rattle.forwarder.proofs.Walking.{Grew, meets-on}
+use Rattle.forwarder.proofs.Plans.{all-at, drop-first, drop-within, list-more}
+use Rattle.forwarder.proofs.Walking.{Grew, line-met, meets-on}
 use Rattle.watching.proofs.Moving.{moved}
 use Rattle.forwarder.proofs.concluding.conclude_all.Goals as goal
 
 pub conclude_flow-report-requires : goal.conclude_flow-report-requires
 conclude_flow-report-requires c =
     let was = c.loop-driver.invariant in
-    let n = c.loop-driver.number in
-    let lines = c.args.lines.now in
-    let line = c.index-lines-number.result in
-    let first = sym was.both.one.rest ∙ c.in-Some.ensures.steps.0 in
-    let other : into_iter_items c.loop-driver.controllers ≡ c.in-Some-next.controller ∷ into_iter_items c.next-in-loop-driver.new.self = search rules in
-    let low : n < length lines = search rules in
-    let at : get_or lines n line ≡ line = search rules in (
+    let other : into_iter_items c.loop-driver.controllers ≡ c.in-Some-next.controller ∷ into_iter_items c.next-in-loop-driver.new.self = search rules in (
       (refl, refl),
       (
-        subst (λ f. is_over f.phase ≡ true) (drop-first n c.args.drivers.items c.in-Some.driver _ first c.in-Some.driver)
-            (c.requires.over n c.in-Some.driver (drop-within n c.args.drivers.items c.in-Some.driver _ first)),
+        all-at (λ f. is_over f.phase ≡ true) c.loop-driver.number c.args.drivers.items c.in-Some.driver _ (sym was.both.one.rest ∙ c.in-Some.ensures.steps.0) c.requires.over,
         (
-          line-at c.args.pool.now (length lines) n lines line c.args.drivers.items _ c.in-Some.driver c.args.controllers.items _ c.in-Some-next.controller c.requires.lines low at first
-              (sym was.both.other.rest ∙ other),
+          line-met c.args.pool.now c.loop-driver.number (length c.args.lines.now) c.args.lines.now c.index-lines-number.result c.args.drivers.items (into_iter_items c.loop-driver.driver-iterator) (into_iter_items c.next.new.self) _ c.in-Some.driver
+              c.args.controllers.items (into_iter_items c.loop-driver.controllers) (into_iter_items c.next-in-loop-driver.new.self) _ c.in-Some-next.controller c.loop-driver.reports
+              c.requires.lines was.both (search rules) (search rules) c.in-Some.ensures.steps.0 other,
           was.pool,
         ),
       ),
