@@ -40,9 +40,9 @@ asked-post n ps seen asks p at pos count is room low old j above below =
     (cases_eq j (length ps))
 
 module _ (n : ℕ) (x : TxDriven) (k : Knowing) (at : DriverPlaces) (seen done unseen : ℕ) (whole : Bool) (asks : List Bool) (passed : ℕ) (h : IsEndOf n x k at seen done unseen whole asks passed) where
-  -- a step that leaves what is posted and cleaned, and what is seen reported
-  pub end-left : (y : TxDriven) (head : Option ℕ) (at' : DriverPlaces) → IsPoster n y at' → y.posted ≡ x.posted → y.given ≡ x.given → IsEndOf n y (record k { head = head }) at' seen done unseen whole asks passed
-  end-left y head at' p posted given = record {
+  -- what is posted and cleaned, and what is seen reported, is left; how many are known to have asked for no report may change
+  end-with : (y : TxDriven) (head : Option ℕ) (at' : DriverPlaces) (passed' : ℕ) → IsPoster n y at' → y.posted ≡ x.posted → y.given ≡ x.given → HasPassed x.posted k.seen passed' → IsEndOf n y (record k { head = head }) at' seen done unseen whole asks passed'
+  end-with y head at' passed' p posted given by = record {
     poster = p;
     seen_is = h.seen_is;
     done_is = rw (given) h.done_is;
@@ -51,8 +51,12 @@ module _ (n : ℕ) (x : TxDriven) (k : Knowing) (at : DriverPlaces) (seen done u
     whole_is = rw (posted) h.whole_is;
     asks_count = h.asks_count;
     asks_are = rw (posted) h.asks_are;
-    passed_by = rw (posted) h.passed_by;
+    passed_by = rw (posted) by;
   }
+
+  -- a step that leaves all of this
+  pub end-left : (y : TxDriven) (head : Option ℕ) (at' : DriverPlaces) → IsPoster n y at' → y.posted ≡ x.posted → y.given ≡ x.given → IsEndOf n y (record k { head = head }) at' seen done unseen whole asks passed
+  end-left y head at' p posted given = end-with y head at' passed p posted given h.passed_by
 
   pub end-shaken : (step : HandshakeStep) (w : ℕ) → MayShake step x.state → IsEndOf n (record x { state = shaken step x.state w }) k (record at { state = shaken step at.state w }) seen done unseen whole asks passed
   end-shaken step w may = end-left (record x { state = shaken step x.state w }) k.head (record at { state = shaken step at.state w }) (poster-shaken n x at h.poster step w may) refl refl
@@ -105,17 +109,7 @@ module _ (n : ℕ) (x : TxDriven) (k : Knowing) (at : DriverPlaces) (seen done u
   }
 
   pub end-passed : (passed' : ℕ) → HasPassed x.posted k.seen passed' → IsEndOf n x k at seen done unseen whole asks passed'
-  end-passed passed' by = record {
-    poster = h.poster;
-    seen_is = h.seen_is;
-    done_is = h.done_is;
-    unseen_is = h.unseen_is;
-    few = h.few;
-    whole_is = h.whole_is;
-    asks_count = h.asks_count;
-    asks_are = h.asks_are;
-    passed_by = by;
-  }
+  end-passed passed' by = end-with x k.head at passed' h.poster refl refl by
 
 -- C1, C4, C5
 pub end-shake : (d new : DriverSide) (at : DriverPlaces) (seen done unseen : ℕ) (whole : Bool) (asks : List Bool) (passed : ℕ) (step : HandshakeStep) (w : ℕ) → new ≡ appended d (shake_event step w) → MayShake step (driver_state d) → IsDriverEnd d at seen done unseen whole asks passed
