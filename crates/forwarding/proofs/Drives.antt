@@ -72,14 +72,14 @@ module _ (from to : TableId) (old : Driving) (can : CanDrive from to old) (count
   }
 
   module _ (posts : ℕ) (tx : Transmitter) (stash : List ℕ) (left : List (List Buffer)) (s : Sent posts old.tx has list tx stash left) where
-    pub drove-can : All (IsTaken to.slots) left → CanDrive from to (driving rx tx stash left)
+    pub drove-can : All (IsTaken from.slots) left → CanDrive from to (driving rx tx stash left)
     drove-can waiting = record {
       receives = r.batch.grew.own ∙ can.receives;
       sends = s.own ∙ can.sends;
       one_length = can.one_length;
       rx_live = ap is_live r.batch.grew.state ∙ can.rx_live;
       tx_live = ap is_live s.batch.state ∙ can.tx_live;
-      waiting = subst (λ n. All (IsTaken n) left) can.one_length waiting;
+      waiting = waiting;
     }
 
     pub drove-moved : Moved old (driving rx tx stash left)

@@ -2,11 +2,10 @@
 ghost use Rattle.std.specs.Prelude.{◌≡◌, ◌≤◌, true, All, length, IfErr, OnErr, IfOk};
 ghost use Rattle.ring_model.specs.shared.Handshakes.{is_live};
 ghost use Rattle.rx_ring.specs.Ends as receive;
-ghost use Rattle.tx_ring.specs.Ends as transmit;
 ghost use Rattle.driver.specs.declared.rx_driver.TheConstants.{MOST_BATCH};
 ghost use Rattle.driver.specs.receive.Chains.{IsTaken};
 ghost use Rattle.forwarding.specs.declared.gate.Who.TheVariants as who;
-ghost use Rattle.forwarding.specs.Driving.{CanDrive, Counted, Drove, HeldBack, Moved, Received, Sent, driving};
+ghost use Rattle.forwarding.specs.Driving.{CanDrive, Counted, Drove, HeldBack, Moved, Received, driving};
 ghost use Rattle.forwarding.specs.Gates.{MayRefuse};
 
 use crate::gate::{Event, Gate, Who, admit};
@@ -53,7 +52,9 @@ pub fn drive<G: Gate>(
     admit(gate, Who::Driver(flow), Event::RxBatch)?;
     let taken = receive(rx, from, stash, packets);
     admit(gate, Who::Driver(flow), Event::TxBatch)?;
-    let posted = send(tx, to, stash, packets);
+    let Ok(posted) = tx.tx_batch(to, stash, packets) else {
+        unreachable!()
+    };
     Ok(Turned { taken, posted })
 }
 
@@ -80,25 +81,4 @@ fn receive(
     touch_from(packets.as_mut_slice(), had);
     let _fits = packets.len(); // which says that the list is no longer than it may be
     taken
-}
-
-/// Posts what waits, and answers how many packets left the list.
-#[inline]
-fn send(
-    tx: &mut TxDriver,
-    to: &TxRing,
-    stash: &mut Stash,
-    packets: &mut ArrayVec<Packet, MOST_BATCH>,
-) -> usize
-    requires sends { tx.old.end.table ≡ to.now }
-    requires live { is_live (transmit.driver_state tx.old.end) ≡ true }
-    requires waiting { All (IsTaken to.now.slots) packets.old.items }
-    ensures sent { Sent result tx.old stash.old packets.old.items tx.new stash.new packets.new.items }
-    ensures waiting { All (IsTaken to.now.slots) packets.new.items }
-    ensures few { result ≤ length packets.old.items }
-{
-    let Ok(posted) = tx.tx_batch(to, stash, packets) else {
-        unreachable!()
-    };
-    posted
 }
