@@ -1,16 +1,20 @@
 -- Buffers of a disabled queue as they come back, one after another.
-use Rattle.std.proofs.Common.{◌≡◌, ◌∙◌, ℕ, suc, ◌+◌, List, [], ◌∷◌, ◌++◌, length, map, drop, Some, sym, refl, ap, arith, append_assoc, length-append, add-one}
+use Rattle.std.proofs.Common.{◌≡◌, ◌∙◌, ℕ, suc, ◌+◌, List, [], ◌∷◌, ◌++◌, length, map, drop, Option, Some, None, sym, refl, ap, subst, arith, ◌-◌, ◌<◌, append_assoc, length-append, add-one}
 use Rattle.std.specs.Prelude.{slice_get}
 use Rattle.std.proofs.lemmas.List.{reverse-append}
 use Rattle.std.proofs.lemmas.Option.{slice_get_within, get_or_from_slice_get}
 use Rattle.std.proofs.Math.Seq.{drop-cons}
-use Rattle.buffer_pool.specs.Buffer.{Buffer}
+use Rattle.buffer_pool.specs.Buffer.{Buffer, buffer}
 use Rattle.shared_ring.specs.declared.events.DriverEvent.TheVariants as driver
 use Rattle.shared_ring.specs.Ends.{DriverSide, driver_record, posted, reclaimed, returned, appended}
 use Rattle.shared_ring.specs.Forms.{Form}
 use Rattle.shared_ring.specs.Records.{Driven}
 use Rattle.driver.specs.Steps.{is_reclaim}
-use Rattle.driver.specs.Reclaiming.{out_of, CameBack}
+use Rattle.rx_ring.specs.Calls as receive
+use Rattle.rx_ring.specs.Ends as received
+use Rattle.tx_ring.specs.Calls as transmit
+use Rattle.tx_ring.specs.Ends as sent
+use Rattle.driver.specs.Reclaiming.{out_of, CameBack, CameHome, ReclaimedNext}
 use Rattle.driver.proofs.Running.{runs-none, runs-one, runs-trans}
 
 -- a list from one of its items on
@@ -49,3 +53,20 @@ module _ {Ring Posted Served Given D C : Type 0} {form : Form Ring Posted Served
           ∙ (ap (λ (k : ℕ). k ∷ map number (drop (returned d + 1) (posted d))) is
           ∙ (ap (λ (k : ℕ). buf.number ∷ map number (drop k (posted d))) after
           ∙ ap (λ (x : Driven Posted Given). buf.number ∷ map number (drop (returned new) x.posted)) (sym did)))
+
+-- fewer are out
+pub fewer-out : {Ring Posted Served Given D C : Type 0} {form : Form Ring Posted Served Given D C} (d new : DriverSide form) (buf : Buffer) → CameHome d buf new → length (posted new) - returned new < length (posted d) - returned d
+fewer-out d new buf f =
+    let within = slice_get_within (posted d) (returned d) f.item f.there in
+    let many = ap (λ x. length x.posted) f.same in
+    let back = ap (λ x. length x.given + x.reclaimed) f.same in
+    omega arith
+
+-- what either ring's end says of a buffer that came back
+pub received-home : (o : Option Buffer) (old new : received.DriverSide) → receive.Reclaimed old o new → ReclaimedNext old o new
+received-home None old new f = f
+received-home (Some buf) old new f = record { item = buf.number; step = f.step; there = f.number; is_of = (refl, f.real); real = f.real; same = f.same; known = f.known }
+
+pub sent-home : (o : Option Buffer) (old new : sent.DriverSide) → transmit.Reclaimed old o new → ReclaimedNext old o new
+sent-home None old new f = f
+sent-home (Some buf) old new f = record { item = f.item; step = f.step; there = f.there; is_of = f.is; real = subst (λ (b : Buffer). b ≡ buffer b.number b.bytes) (sym f.is) refl; same = f.same; known = f.known }

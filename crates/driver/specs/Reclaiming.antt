@@ -1,6 +1,9 @@
 -- The buffers of a disabled queue, of either direction, as they come back.
-use Rattle.std.specs.Prelude.{◌≡◌, ℕ, ◌+◌, List, ◌++◌, length, map, drop, reverse}
-use Rattle.shared_ring.specs.Ends.{DriverSide, driver_record, posted, reclaimed, returned}
+use Rattle.std.specs.Prelude.{◌≡◌, ℕ, ◌+◌, List, ◌++◌, length, map, drop, reverse, Option, Some, None, slice_get}
+use Rattle.buffer_pool.specs.Buffer.{Buffer, buffer}
+use Rattle.shared_ring.specs.declared.events.DriverEvent.TheVariants as driver
+use Rattle.shared_ring.specs.Calls.{NoneOut}
+use Rattle.shared_ring.specs.Ends.{DriverSide, driver_record, posted, reclaimed, returned, known_of, next_place, appended}
 use Rattle.shared_ring.specs.Forms.{Form}
 use Rattle.driver.specs.Steps.{Runs, is_reclaim}
 
@@ -16,3 +19,17 @@ module _ {Ring Posted Served Given D C : Type 0} {form : Form Ring Posted Served
     pub did : driver_record new ≡ record (driver_record old) { reclaimed = reclaimed old + length numbers }
     pub out : out_of number old ≡ numbers ++ out_of number new
     pub stash : has ≡ reverse numbers ++ had
+
+  -- the buffer of the oldest posting that was out came back
+  pub record CameHome (old : DriverSide form) (buf : Buffer) (new : DriverSide form) : Type 0 where
+    pub item : Posted
+    pub step : new ≡ appended old (driver.Reclaimed (next_place old) buf)
+    pub there : slice_get (posted old) (returned old) ≡ Some item
+    pub is_of : form.IsOf item buf
+    pub real : buf ≡ buffer buf.number buf.bytes
+    pub same : driver_record new ≡ record (driver_record old) { reclaimed = reclaimed old + 1 }
+    pub known : known_of new ≡ known_of old
+
+  abbrev pub ReclaimedNext : DriverSide form → Option Buffer → DriverSide form → Type 0
+  ReclaimedNext old None new = NoneOut old new
+  ReclaimedNext old (Some buf) new = CameHome old buf new

@@ -11,6 +11,7 @@
 
 mod handshake;
 mod queue_driver;
+mod reclaiming;
 mod rx_driver;
 mod tx_driver;
 

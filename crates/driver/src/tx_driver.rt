@@ -14,7 +14,6 @@ ghost use Rattle.driver.specs.transmit.Batches.{CleanedAll, Batched, OnlyCleaned
 mod cleaning;
 mod handshake;
 mod posting;
-mod reclaiming;
 
 use crate::rx_driver::MOST_BATCH;
 use arrayvec::ArrayVec;

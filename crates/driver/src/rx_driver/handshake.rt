@@ -1,8 +1,9 @@
 //! The receive driver's handshake, and what comes back of a disabled queue.
 
-use super::{RxDriver, reclaiming};
-use crate::handshake;
+use super::RxDriver;
+use super::reclaiming::empty_chain;
 use crate::queue_driver::QueueDriver;
+use crate::{handshake, reclaiming};
 use buffer_pool::Stash;
 use refusals::DriverError;
 use rx_ring::{DriverEnd, RxControllerOwn, RxDriverOwn, RxRing, RxRule};
@@ -62,7 +63,7 @@ impl QueueDriver<RxDriverOwn, RxControllerOwn, RxRule> for RxDriver {
             return Ok(0);
         }
         let had = stash.len();
-        if !reclaiming::empty_chain(&mut self.chain, stash) {
+        if !empty_chain(&mut self.chain, stash) {
             return Err(DriverError::StashFull);
         }
         if !reclaiming::empty_ring(&mut self.end, ring, stash) {

@@ -1,8 +1,8 @@
 //! The transmit driver's handshake, and what comes back of a disabled queue.
 
-use super::{TxDriver, reclaiming};
-use crate::handshake;
+use super::TxDriver;
 use crate::queue_driver::QueueDriver;
+use crate::{handshake, reclaiming};
 use buffer_pool::Stash;
 use refusals::DriverError;
 use shared_ring::DriverPlaces;
