@@ -11,7 +11,14 @@ use Rattle.wire_script.specs.Frame.{Frame}
 use Rattle.wire_script.specs.Script.{script_of}
 use Rattle.refusals.specs.declared.errors.ScriptError.{ScriptError}
 use Rattle.forward_command.specs.declared.printing.Printing.{Printing}
-use Rattle.forward_command.specs.Forwards.{EndsForward, HasForwarded, HasReport, IsForwarded, PrintsForward, WithholdsForward}
+use Rattle.forward_command.specs.Forwards.{AreReports, EndsForward, HasForwarded, HasPage, HasReport, IsForwarded, PrintsForward, WithholdsForward}
+use Rattle.forward_command.specs.Text.{report_text}
+
+-- the page that the reports of a text's script print
+pub page-of : (config : Config) (printing : Printing) (text page : List ℕ) (script : List Frame) (flows : List FlowReport) → script_of text ≡ Ok script
+    → AreReports config script flows → page ≡ report_text printing config.pairs flows → HasPage config printing text page
+page-of config printing text page script flows says reports printed =
+    record { flows = flows; report = record { script = script; says = says; reports = reports }; printed = printed }
 
 -- a text that was forwarded has no fault
 no-fault : (config : Config) (text : List ℕ) (flows : List FlowReport) (e : ScriptError) → HasReport config text flows → script_of text ≡ Err e → ⊥

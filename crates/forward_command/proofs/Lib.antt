@@ -6,5 +6,4 @@ mod Passing
 mod Captures
 mod Records
 pub mod CaptureEndings
-mod Pairs
 mod Sums

@@ -1,7 +1,6 @@
 -- Why a script is not forwarded.
 use Rattle.std.proofs.Common.{◌≡◌, ℕ, List, true, false, inl, inr, refl, subst, sym}
 use Rattle.std.specs.Prelude.{◌⊎◌, Result, Ok, Err}
-use Rattle.flows.specs.declared.report.FlowReport.{FlowReport}
 use Rattle.refusals.specs.declared.errors.ForwardError.{ForwardError}
 use Rattle.refusals.specs.declared.errors.ForwardError.TheVariants as forward
 use Rattle.teams.specs.Refusals.{Halted}
@@ -13,7 +12,7 @@ use Rattle.wire_script.specs.ScriptError.{Fails}
 use Rattle.refusals.specs.declared.errors.ScriptError.{ScriptError}
 use Rattle.commands.specs.declared.refusal.Refusal.{Refusal}
 use Rattle.commands.specs.declared.refusal.Refusal.TheVariants as refusal
-use Rattle.forward_command.specs.Forwards.{ForwardRefused, HasReport, IsUnforwarded, IsUnrun}
+use Rattle.forward_command.specs.Forwards.{ForwardRefused, IsUnforwarded, IsUnrun}
 
 -- a fault of the script
 pub by-script : (config : Config) (text : List ℕ) (e : Refusal) (fault : ScriptError) → e ≡ refusal.Script fault → Fails fault (script_of text)
@@ -39,8 +38,9 @@ pub by-forward : (config : Config) (text : List ℕ) (script : List Frame) (e : 
 by-forward config text script e says (why, is, unrun) = subst (ForwardRefused config text) (sym is) (script, says, unrun)
 
 -- and want of memory for its text
-pub by-text : (config : Config) (text : List ℕ) (flows : List FlowReport) (e : Refusal) → e ≡ refusal.Memory → HasReport config text flows → ForwardRefused config text e
-by-text config text flows e is report = subst (ForwardRefused config text) (sym is) (report.script, report.says, report.reports.fits)
+pub by-text : (config : Config) (text : List ℕ) (script : List Frame) (e : Refusal) → e ≡ refusal.Memory → script_of text ≡ Ok script → FitsIn script config
+    → ForwardRefused config text e
+by-text config text script e is says fits = subst (ForwardRefused config text) (sym is) (script, says, fits)
 
 -- a forwarding that was not refused for its configuration began with one that fits
 pub fits-then : {A : Type 0} (x : A) (P : Type 0) → ◌≡◌ {A = Result A ForwardError} (Ok x) (Err forward.Config) ⊎ P → P

@@ -5,7 +5,7 @@ ghost use Rattle.commands.specs.declared.refusal.Refusal.TheVariants as refusal;
 ghost use Rattle.wire_script.specs.Script.{script_of};
 ghost use Rattle.wire_script.specs.ScriptError.{Fails};
 ghost use Rattle.refusals.specs.declared.errors.ScriptError.{ScriptError};
-ghost use Rattle.forward_command.specs.Forwards.{AreReports, ForwardRefused, HasPage, HasReport, IsForwarded, IsUnforwarded, RefusesForward};
+ghost use Rattle.forward_command.specs.Forwards.{AreReports, ForwardRefused, HasPage, IsForwarded, IsUnforwarded, RefusesForward};
 
 use crate::printing::Printing;
 use crate::progress;
@@ -58,26 +58,10 @@ fn page_for<R: Threads + Wait + Clock + Sync, M: Write + Send>(
     ensures refused { IfErr result (λ e. ForwardRefused config.now text.items e) }
     ensures screen { form ≡ None → screen.new ≡ screen.old }
 {
-    let report = report_for(rt, alloc, config, text, screen, form)?;
+    let script = script_in(alloc, text)?;
+    let report = forwarded(rt, alloc, config, script, screen, form)?;
     let pairs = config.pairs as usize;
     text_of(alloc, report.flows.as_slice(), pairs, printing)
-}
-
-/// What became of the flows of a script's text.
-fn report_for<R: Threads + Wait + Clock + Sync, M: Write + Send>(
-    rt: &R,
-    alloc: Global,
-    config: &Config,
-    text: Vec<u8>,
-    screen: &mut M,
-    form: Option<Form>,
-) -> Result<Report, Refusal>
-    ensures report { IfOk result (λ r. HasReport config.now text.items r.flows.items) }
-    ensures refused { IfErr result (λ e. ForwardRefused config.now text.items e) }
-    ensures screen { form ≡ None → screen.new ≡ screen.old }
-{
-    let script = script_in(alloc, text)?;
-    forwarded(rt, alloc, config, script, screen, form)
 }
 
 /// The reports of a script's flows. The script is given back.

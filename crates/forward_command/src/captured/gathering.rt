@@ -120,11 +120,6 @@ fn add_file<R: Files>(
     ensures refused { IfErr result (λ e. IsUnread source.now frames.old.items e) }
 {
     let bytes = read_file(rt, alloc, source.file())?;
-    Ok(add_capture(
-        alloc,
-        frames,
-        source.port(),
-        source.queue(),
-        bytes.as_slice(),
-    )?)
+    let (port, queue) = source.place();
+    Ok(add_capture(alloc, frames, port, queue, bytes.as_slice())?)
 }

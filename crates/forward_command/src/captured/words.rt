@@ -23,20 +23,12 @@ impl<'a> Model for Source<'a> {
 }
 
 impl<'a> Source<'a> {
-    /// The port at which the frames come in.
-    pub fn port(&self) -> u8
-        ensures value { result ≡ self.now.port }
-        ensures in_range { result < PORTS }
+    /// The port at which the frames come in, and the queue of that port.
+    pub fn place(&self) -> (u8, u8)
+        ensures port { (result.0 ≡ self.now.port) × (result.0 < PORTS) }
+        ensures queue { (result.1 ≡ self.now.queue) × (result.1 < MOST_PAIRS) }
     {
-        self.port
-    }
-
-    /// The queue of that port.
-    pub fn queue(&self) -> u8
-        ensures value { result ≡ self.now.queue }
-        ensures in_range { result < MOST_PAIRS }
-    {
-        self.queue
+        (self.port, self.queue)
     }
 
     /// The capture's file.

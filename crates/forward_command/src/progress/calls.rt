@@ -26,7 +26,16 @@ use std::thread::Threads;
 use std::time::Clock;
 use wire_script::Script;
 
-/// Forwards a script, and shows how far it is where a form is given.
+/// The cells of all flows, with the pens that write them and the readers of those who only look.
+#[derive(Drop)]
+struct Gauges<'c> {
+    cells: &'c [FlowCells],
+    pens: Vec<FlowPens>,
+    readers: Vec<Reader<'c>>,
+}
+
+/// Forwards a script as [`forwarder::forward`] does. Where a form is given, a thread of its own writes to the screen how far
+/// it is. That thread is joined before anything is answered; where it can't be started, the numbers are shown once, at last.
 pub fn forward<R: Threads + Wait + Clock + Sync, G: Gate + Sync, M: Write + Send>(
     rt: &R,
     alloc: Global,
@@ -43,38 +52,21 @@ pub fn forward<R: Threads + Wait + Clock + Sync, G: Gate + Sync, M: Write + Send
     ensures flows { IfOk result (λ r. vec_len r.flows ≡ PORTS * config.now.pairs) }
     ensures reports { IfOk result (λ r. (flow : ℕ) (d : _) → flow < PORTS * config.now.pairs → IsReport (plan config.now script.now flow) (slice_index_or r.flows.items flow d)) }
 {
-    match form {
-        Some(form) => forward_shown(rt, alloc, script, config, gate, screen, form),
-        None => forwarder::forward(rt, alloc, script, config, gate),
-    }
-}
-
-/// The same as [`forwarder::forward`], while a thread of its own writes to the screen how far it is. That thread is joined
-/// before anything is answered. Where it can't be started, the numbers are shown once, at last.
-pub fn forward_shown<R: Threads + Wait + Clock + Sync, G: Gate + Sync, M: Write + Send>(
-    rt: &R,
-    alloc: Global,
-    script: &Script,
-    config: &Config,
-    gate: &G,
-    screen: &mut M,
-    form: Form,
-) -> Result<Report, ForwardError>
-    ensures config { IsErrOf result ConfigRefused ↔ ¬ FitsIn script.now config.now }
-    ensures fits { IsErrOf result ConfigRefused ⊎ FitsIn script.now config.now }
-    ensures halted { FitsIn script.now config.now → IfErr result (λ e. Halted G.answers gate.now e) }
-    ensures flows { IfOk result (λ r. vec_len r.flows ≡ PORTS * config.now.pairs) }
-    ensures reports { IfOk result (λ r. (flow : ℕ) (d : _) → flow < PORTS * config.now.pairs → IsReport (plan config.now script.now flow) (slice_index_or r.flows.items flow d)) }
-{
+    let Some(form) = form else {
+        return forwarder::forward(rt, alloc, script, config, gate);
+    };
     config.check(script)?;
     let flows = PORTS * config.pairs as usize;
     let Ok((cells, mut pens)) = FlowCells::of(alloc, flows) else {
         return Err(ForwardError::Memory);
     };
     let readers = readers_of(alloc, cells.as_slice(), pens.as_mut_slice())?;
-    forward_beside(
-        rt, alloc, script, config, gate, &cells, pens, readers, screen, form,
-    )
+    let gauges = Gauges {
+        cells: &cells,
+        pens,
+        readers,
+    };
+    forward_beside(rt, alloc, script, config, gate, gauges, screen, form)
 }
 
 /// Forwards a script that fits, beside the thread that shows how far it is.
@@ -84,20 +76,23 @@ fn forward_beside<R: Threads + Wait + Clock + Sync, G: Gate + Sync, M: Write + S
     script: &Script,
     config: &Config,
     gate: &G,
-    cells: &[FlowCells],
-    pens: Vec<FlowPens>,
-    mut readers: Vec<Reader<'_>>,
+    gauges: Gauges<'_>,
     screen: &mut M,
     form: Form,
 ) -> Result<Report, ForwardError>
     requires fits { FitsIn script.now config.now }
-    requires cells { length cells.now ≡ PORTS * config.now.pairs }
-    requires pens { ArePaired cells.now pens.items }
+    requires cells { length gauges.cells.now ≡ PORTS * config.now.pairs }
+    requires pens { ArePaired gauges.cells.now gauges.pens.items }
     ensures config { ¬ (IsErrOf result ConfigRefused) }
     ensures halted { IfErr result (λ e. Halted G.answers gate.now e) }
     ensures flows { IfOk result (λ r. vec_len r.flows ≡ PORTS * config.now.pairs) }
     ensures reports { IfOk result (λ r. (flow : ℕ) (d : _) → flow < PORTS * config.now.pairs → IsReport (plan config.now script.now flow) (slice_index_or r.flows.items flow d)) }
 {
+    let Gauges {
+        cells,
+        pens,
+        mut readers,
+    } = gauges;
     let over = AtomicBool::new(false);
     let over = &over;
     let frames = script.frames().len() as u64;

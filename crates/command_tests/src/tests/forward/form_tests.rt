@@ -2,7 +2,7 @@
 
 use crate::tests::runs::{Host, text_of};
 use crate::tests::wanted::{holds, same};
-use forward_command::progress::{Form, forward, forward_shown};
+use forward_command::progress::{Form, forward};
 use forwarder::{Config, Report};
 use forwarding::Open;
 use std::alloc::Global;
@@ -40,7 +40,8 @@ fn shows<R: Host>(
 ) {
     let mut screen = Vec::new(alloc);
     let config = Config::default();
-    let report = forward_shown(rt, alloc, script, &config, &Open, &mut screen, form).expect(
+    let form = Some(form);
+    let report = forward(rt, alloc, script, &config, &Open, &mut screen, form).expect(
         rt, "a report",
     );
     same(rt, frames_sent(&report), Some(2));

@@ -3,7 +3,7 @@ use Rattle.std.proofs.lemmas.List.{set-get_or}
 use Rattle.std.proofs.lemmas.Slice.Zip.{AllZip-long}
 use Rattle.counters.specs.Paired.{ArePaired, IsFresh}
 use Rattle.counters.specs.declared.flows.FlowPens.{FlowPens}
-use Rattle.forward_command.proofs.Pairs.{zip-at}
+use Rattle.forwarder.proofs.Pairs.{zip-at}
 use Rattle.forward_command.proofs.Sums.{one-more}
 use Rattle.forward_command.specs.declared.progress.reader.Reader.{Reader}
 use Rattle.forward_command.specs.ShownSums.{read_by}
