@@ -90,7 +90,14 @@ fn read_in<R: Threads + Wait + Sync>(
         return read_in_two(rt, cell, pass, second, writes);
     }
     let third = cell.split(&mut pass);
-    read_in_three(rt, cell, pass, second, third, writes)
+    let (one, others) = join(
+        rt,
+        || read_until(rt, cell, pass, writes),
+        move || -> u32
+            requires { (second.cell ≡ cell.now) × (third.cell ≡ cell.now) }
+        { read_in_two(rt, cell, second, third, writes) },
+    );
+    one.saturating_add(others)
 }
 
 /// Writes so many times, each time one frame more.
@@ -144,27 +151,4 @@ fn read_in_two<R: Threads + Wait + Sync>(
         || read_until(rt, cell, second, writes),
     );
     one.saturating_add(two)
-}
-
-/// Three threads read, and how often all did.
-fn read_in_three<R: Threads + Wait + Sync>(
-    rt: &R,
-    cell: &StatCell,
-    first: StatPass,
-    second: StatPass,
-    third: StatPass,
-    writes: u32,
-) -> u32
-    requires first { first.cell ≡ cell.now }
-    requires second { second.cell ≡ cell.now }
-    requires third { third.cell ≡ cell.now }
-{
-    let (one, others) = join(
-        rt,
-        || read_until(rt, cell, first, writes),
-        move || -> u32
-            requires { (second.cell ≡ cell.now) × (third.cell ≡ cell.now) }
-        { read_in_two(rt, cell, second, third, writes) },
-    );
-    one.saturating_add(others)
 }
