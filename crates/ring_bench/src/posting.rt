@@ -1,7 +1,7 @@
 //! The driver's thread of a transmit ring.
-ghost use Rattle.std.specs.Prelude.{◌≡◌, ◌+◌, ◌<◌, ◌≤◌, [], length};
+ghost use Rattle.std.specs.Prelude.{◌≡◌, ◌<◌, ◌≤◌, [], length};
 ghost use Rattle.buffer_pool.specs.Stocked.{Shares};
-ghost use Rattle.tx_ring.specs.Ends.{driver_size, driver_record, posted, cleaned};
+ghost use Rattle.tx_ring.specs.Ends.{driver_size, driver_record};
 ghost use Rattle.bench_kit.specs.Copies.{IsFrameLength};
 ghost use Rattle.ring_bench.specs.Sending.{CanEnable, IsUnderWay, OnlyCleaned, PostedAll, Supplies};
 
@@ -54,7 +54,7 @@ pub fn post_all<R: Wait>(
     unreachable!()
 }
 
-/// Posts as many frames as there is room for, and publishes them.
+/// Posts the frame as often as there is room for it, each time in a buffer of the stock, and publishes these postings.
 #[inline]
 fn post_more(
     ring: &TxRing,
@@ -73,35 +73,15 @@ fn post_more(
         return;
     }
     for _ in 0..more {
-        post(ring, driver, stock, frame, course);
+        let _size = driver.size();
+        let Some(mut buf) = stock.take() else {
+            unreachable!()
+        };
+        buf.fill(frame);
+        let asks = course.next();
+        driver.post(ring, buf, true, asks, frame.len() as u16);
     }
     driver.publish(ring);
-}
-
-/// Posts the frame once more, in a buffer of the stock.
-#[inline]
-fn post(
-    ring: &TxRing,
-    driver: &mut TxDriverEnd,
-    stock: &mut Stock,
-    frame: &[u8],
-    course: &mut Course,
-)
-    requires run { IsUnderWay ring.now frame.now driver.old stock.old course.old }
-    requires frame { IsFrameLength (length frame.now) }
-    requires left { course.old.posted < course.old.plan.load.frames }
-    requires room { length (posted driver.old) + 1 < driver_size driver.old + length (cleaned driver.old) }
-    ensures run { IsUnderWay ring.now frame.now driver.new stock.new course.new }
-    ensures one { course.new ≡ record course.old { posted = course.old.posted + 1 } }
-    ensures cleaned { cleaned driver.new ≡ cleaned driver.old }
-{
-    let _size = driver.size();
-    let Some(mut buf) = stock.take() else {
-        unreachable!()
-    };
-    buf.fill(frame);
-    let asks = course.next();
-    driver.post(ring, buf, true, asks, frame.len() as u16);
 }
 
 /// Looks for the oldest report that is outstanding, and answers whether it is made: then takes back all that it covers.
