@@ -60,33 +60,40 @@ fn taken_out<R: Wait>(rt: &R, pool: &Pool, pass: &mut PoolPass) -> Numbers
     numbers
 }
 
+/// What is forwarded, and how.
+#[derive(Clone, Copy)]
+pub(crate) struct Forwarding<'a> {
+    pub script: &'a Script,
+    pub config: &'a Config,
+}
+
 /// How forwarding over a pool of its own ends, and what is in the pool then.
 fn ended<R: Threads + Wait + Sync + Abort, G: Gate + Sync>(
     rt: &R,
     alloc: Global,
-    script: &Script,
-    config: &Config,
+    forwarding: Forwarding<'_>,
     gate: &G,
 ) -> (Option<ForwardError>, Numbers) {
+    let Forwarding { script, config } = forwarding;
     config.check(script).expect(rt, "a lawful configuration");
     let (pool, pass) = Pool::new(rt, alloc, BUFFERS).expect(rt, "a pool");
-    ended_over(rt, alloc, script, config, gate, &pool, pass)
+    ended_over(rt, alloc, forwarding, gate, &pool, pass)
 }
 
 /// How forwarding over this pool ends, and what is in it then.
 pub(crate) fn ended_over<R: Threads + Wait + Sync + Abort, G: Gate + Sync>(
     rt: &R,
     alloc: Global,
-    script: &Script,
-    config: &Config,
+    forwarding: Forwarding<'_>,
     gate: &G,
     pool: &Pool,
     mut pass: PoolPass,
 ) -> (Option<ForwardError>, Numbers)
-    requires fits { FitsIn script.now config.now }
+    requires fits { FitsIn forwarding.script.now forwarding.config.now }
     requires pool { IsOf pool.now pass }
     requires share { pass.hand.share ≡ WHOLE_SHARE }
 {
+    let Forwarding { script, config } = forwarding;
     let mut spare = pass.split(pool, 1);
     let refusal = forward_in(rt, alloc, script, config, gate, pool, &mut pass).err();
     (refusal, taken_out(rt, pool, &mut spare))
@@ -118,7 +125,11 @@ pub(crate) fn are_back<R: Threads + Wait + Sync + Abort>(rt: &R, trial: Trial<'_
         ..ALL
     };
     let gate = Shuts::after(u64::from(trial.number));
-    let (refusal, numbers) = ended(rt, trial.alloc, trial.script, &config, &gate);
+    let forwarding = Forwarding {
+        script: trial.script,
+        config: &config,
+    };
+    let (refusal, numbers) = ended(rt, trial.alloc, forwarding, &gate);
     refusal == Some(ForwardError::Gate) && numbers.came_once()
 }
 
@@ -141,7 +152,11 @@ pub(crate) fn are_back_at_the_end<R: Threads + Wait + Sync + Abort>(
         retry: trial.workers % 2 == 0,
         ..ALL
     };
-    let (refusal, numbers) = ended(rt, trial.alloc, trial.script, &config, &Open);
+    let forwarding = Forwarding {
+        script: trial.script,
+        config: &config,
+    };
+    let (refusal, numbers) = ended(rt, trial.alloc, forwarding, &Open);
     refusal.is_none() && numbers.came_once()
 }
 
@@ -169,7 +184,8 @@ fn are_back_after<R: Threads + Wait + Sync + Abort, G: Gate + Sync>(
     script: &Script,
     gate: &G,
 ) -> bool {
-    let (refusal, numbers) = ended(rt, alloc, script, &ALL, gate);
+    let config = &ALL;
+    let (refusal, numbers) = ended(rt, alloc, Forwarding { script, config }, gate);
     matches!(refusal, None | Some(ForwardError::Gate)) && numbers.came_once()
 }
 

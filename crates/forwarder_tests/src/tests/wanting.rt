@@ -3,7 +3,7 @@
 
 use crate::tests::configs::SHORT;
 use crate::tests::counted::{Counts, NONE, is_drained};
-use crate::tests::gathered::{BUFFERS, ended_over};
+use crate::tests::gathered::{BUFFERS, Forwarding, ended_over};
 use crate::tests::wanted::holds;
 use forwarder::{Config, forward};
 use forwarding::{ForwardError, Open};
@@ -51,6 +51,10 @@ fn without_memory_or_threads_no_buffer_is_lost(rt: HostRuntime) {
     let Ok((pool, pass)) = Pool::new(&rt, rt.alloc(), BUFFERS) else {
         return;
     };
-    let (refusal, numbers) = ended_over(&rt, rt.alloc(), &script, &TWO_WORKERS, &Open, &pool, pass);
+    let forwarding = Forwarding {
+        script: &script,
+        config: &TWO_WORKERS,
+    };
+    let (refusal, numbers) = ended_over(&rt, rt.alloc(), forwarding, &Open, &pool, pass);
     holds(&rt, is_want(refusal) && numbers.came_once());
 }
