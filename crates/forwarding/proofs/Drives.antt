@@ -1,5 +1,5 @@
 -- A receive batch, whose packets are touched, and a transmit batch behind it.
-use Rattle.std.proofs.Common.{◌≡◌, ◌∙◌, ℕ, zero, suc, List, [], ◌++◌, length, map, take, drop, ap, sym, refl, subst, arith, length-append, append-nil}
+use Rattle.std.proofs.Common.{◌≡◌, ◌∙◌, ℕ, List, [], ◌++◌, length, map, take, drop, ap, sym, subst, arith, length-append, append-nil}
 use Rattle.std.specs.Prelude.{All}
 use Rattle.std.specs.List.{refill}
 use Rattle.std.proofs.lemmas.List.{drop_all, map-append, take-append-drop, length-take-le, take_all}
@@ -12,13 +12,11 @@ use Rattle.ring_model.specs.shared.Handshakes.{is_live}
 use Rattle.ring_model.specs.shared.Segments.{piece_of}
 use Rattle.ring_model.specs.transmit.Ring.{carried}
 use Rattle.rx_ring.specs.Ends as receive
-use Rattle.tx_ring.specs.Ends.{DriverSide, driver_state, posted, fill_place, appended}
-use Rattle.tx_ring.specs.Records.{TxDriven}
+use Rattle.tx_ring.specs.Ends.{posted, appended}
 use Rattle.driver.specs.receive.Chains.{IsTaken}
 use Rattle.driver.specs.receive.Receiver.{Receiver}
-use Rattle.driver.specs.transmit.Transmitter.{Transmitter, Sending, sending}
+use Rattle.driver.specs.transmit.Transmitter.{Transmitter, sending}
 use Rattle.driver.specs.transmit.Batches as sent
-use Rattle.driver.specs.transmit.Batches.{published_after}
 use Rattle.driver.specs.receive.Batches as received
 use Rattle.driver.specs.receive.Batches.{Hands}
 use Rattle.forwarding.specs.Touching.{touch, touched, shapes}

@@ -30,10 +30,7 @@ fn has_beginning<R: Host>(
     whole: &[u8],
     room: usize,
 ) {
-    let mut output = Narrow {
-        room,
-        taken: Vec::new(alloc),
-    };
+    let mut output = Narrow::new(alloc, room);
     is_refused(rt, alloc, words, &mut input, &mut output, NO_OUTPUT);
     same(rt, Some(output.taken.as_slice()), whole.get(..room));
 }

@@ -39,10 +39,7 @@ const NO_OUTPUT: &str = "refused 84 output\n";
 
 /// With so much room the output is refused, and full.
 fn is_full<R: Host>(rt: &R, alloc: Global, words: &[&str], room: usize) {
-    let mut output = Narrow {
-        room,
-        taken: Vec::new(alloc),
-    };
+    let mut output = Narrow::new(alloc, room);
     is_refused(
         rt,
         alloc,
@@ -78,13 +75,7 @@ fn an_output_that_fails_is_refused(rt: HostRuntime) {
 
 /// With so much room for the faults the status is this.
 fn has_status<R: Host>(rt: &R, alloc: Global, words: &[&str], room: usize, status: u8) {
-    let (mut output, mut faults) = (
-        Vec::new(alloc),
-        Narrow {
-            room,
-            taken: Vec::new(alloc),
-        },
-    );
+    let (mut output, mut faults) = (Vec::new(alloc), Narrow::new(alloc, room));
     let mut screen = Screen::new(alloc, false);
     let told = status_of(
         rt,
@@ -125,10 +116,7 @@ fn want_of_memory(rt: HostRuntime) {
         shown: NOTES,
     };
     let mut input = "r0 A1 5\nt0 B2\n".as_bytes();
-    let mut output = Narrow {
-        room: 100,
-        taken: Vec::new(rt.alloc()),
-    };
+    let mut output = Narrow::new(rt.alloc(), 100);
     match perform(
         &rt,
         rt.alloc(),

@@ -48,41 +48,40 @@ impl<'a> Read for Halting<'a> {
 /// A stream that takes so many bytes, and then fails.
 #[derive(Drop)]
 pub struct Narrow {
-    pub room: usize,
+    room: usize,
+    /// How many it takes at once.
+    most: usize,
     pub taken: Vec<u8>,
+}
+
+impl Narrow {
+    /// It takes what there is room for at once.
+    pub fn new(alloc: Global, room: usize) -> Narrow {
+        Narrow {
+            room,
+            most: room,
+            taken: Vec::new(alloc),
+        }
+    }
+
+    /// It takes so many pieces, one at a time.
+    pub fn of_pieces(alloc: Global, pieces: usize) -> Narrow {
+        Narrow {
+            room: pieces.saturating_mul(PIECE),
+            most: PIECE,
+            taken: Vec::new(alloc),
+        }
+    }
 }
 
 impl Write for Narrow {
     fn write(&mut self, buf: &[u8]) -> io::Result<usize> {
-        let count = self.room.min(buf.len());
+        let count = self.room.min(buf.len()).min(self.most);
         if count == 0 && !buf.is_empty() {
             return Err(io::Error::from(ErrorKind::BrokenPipe));
         }
         self.taken.extend_from_slice(&buf[..count])?;
         self.room -= count;
-        Ok(count)
-    }
-
-    fn flush(&mut self) -> io::Result<()> {
-        Ok(())
-    }
-}
-
-/// A stream that takes so many pieces, and then fails.
-#[derive(Drop)]
-pub struct Piecemeal {
-    pub pieces: usize,
-    pub taken: Vec<u8>,
-}
-
-impl Write for Piecemeal {
-    fn write(&mut self, buf: &[u8]) -> io::Result<usize> {
-        if self.pieces == 0 {
-            return Err(io::Error::from(ErrorKind::BrokenPipe));
-        }
-        self.pieces -= 1;
-        let count = buf.len().min(PIECE);
-        self.taken.extend_from_slice(&buf[..count])?;
         Ok(count)
     }
 

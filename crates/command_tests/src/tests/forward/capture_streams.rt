@@ -46,10 +46,7 @@ fn an_input_that_fails_in_mid_stream_is_refused(rt: HostRuntime) {
 
 /// What `to-capture` writes, or nothing where memory is refused.
 fn capture_written<A: Abort>(rt: &A, alloc: Global) -> Vec<u8> {
-    let mut output = Narrow {
-        room: 400,
-        taken: Vec::new(alloc),
-    };
+    let mut output = Narrow::new(alloc, 400);
     let request = CaptureRequest::ToCapture { port: 1 };
     match perform(alloc, request, &mut SCRIPT.as_bytes(), &mut output) {
         Ok(()) => same(rt, output.taken.len(), 54),
@@ -63,10 +60,7 @@ fn capture_written<A: Abort>(rt: &A, alloc: Global) -> Vec<u8> {
 
 /// From that capture `from-capture` writes the line again, or nothing.
 fn line_is_written<A: Abort>(rt: &A, alloc: Global, mut capture: &[u8]) {
-    let mut output = Narrow {
-        room: 400,
-        taken: Vec::new(alloc),
-    };
+    let mut output = Narrow::new(alloc, 400);
     let request = CaptureRequest::FromCapture { port: 1, queue: 0 };
     match perform(alloc, request, &mut capture, &mut output) {
         Ok(()) => same(rt, output.taken.as_slice(), SCRIPT.as_bytes()),

@@ -11,10 +11,7 @@ pub const HEADER: &[u8] = b"\xd4\xc3\xb2\xa1\x02\x00\x04\x00\0\0\0\0\0\0\0\0\xff
 pub const BIG_NANOS: &[u8] =
     b"\xa1\xb2\x3c\x4d\x00\x02\x00\x04\0\0\0\0\0\0\0\0\0\0\x01\0\0\0\0\x01";
 
-/// The beginning of a pcapng file, and a header of raw IP.
-pub const NEXT: &[u8] =
-    b"\x0a\x0d\x0d\x0a\x84\0\0\0\x4d\x3c\x2b\x1a\x01\0\0\0\xff\xff\xff\xff\xff\xff\xff\xff";
-
+/// A header of raw IP.
 pub const RAW: &[u8] = b"\xd4\xc3\xb2\xa1\x02\x00\x04\x00\0\0\0\0\0\0\0\0\xff\xff\0\0\x65\0\0\0";
 
 /// Headers of records of 14 bytes: at 0, 1 and 2 microseconds, and in big-endian order at some second.
@@ -26,21 +23,15 @@ pub const AT_2: &[u8] = b"\0\0\0\0\x02\0\0\0\x0e\0\0\0\x0e\0\0\0";
 
 pub const BIG_SOME: &[u8] = b"\x5f\x00\0\0\0\x00\0\x07\0\0\0\x0e\0\0\0\x0e";
 
-/// Headers of records that are refused: 14 bytes of 15, and 13 bytes.
+/// A header of a record that is refused: 14 bytes of 15.
 pub const SHORT: &[u8] = b"\0\0\0\0\0\0\0\0\x0e\0\0\0\x0f\0\0\0";
 
-pub const SMALL: &[u8] = b"\0\0\0\0\0\0\0\0\x0d\0\0\0\x0d\0\0\0";
-
-/// Frames of 14 bytes: the first, as a driver touches it, is `TOUCHED`. And one of 13.
+/// Frames of 14 bytes.
 pub const LETTERS: &[u8] = b"abcdefghijklmn";
-
-pub const TOUCHED: &[u8] = b"aacdefghijklmn";
 
 pub const BYTES: &[u8] = b"\0\x01\x0a\x0d\x23\x66\x7f\x80\xfe\xff\0\0\0\x0a";
 
 pub const FIVES: &[u8] = b"\x05\x06\x05\x05\x05\x05\x05\x05\x05\x05\x05\x05\x05\x05";
-
-pub const THIRTEEN: &[u8] = b"abcdefghijklm";
 
 /// What goes in, comes out or stands in a file, by its parts.
 pub type Content = &'static [&'static [u8]];

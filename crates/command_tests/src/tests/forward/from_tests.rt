@@ -1,8 +1,8 @@
 //! From captures to lines.
 
 use crate::tests::forward::captured::{
-    AT_0, AT_1, BIG_NANOS, BIG_SOME, BYTES, Content, HEADER, LETTERS, NEXT, RAW, Refusing, SHORT,
-    SMALL, THIRTEEN, Writing, brings, each_is_refused, each_writes,
+    AT_0, AT_1, BIG_NANOS, BIG_SOME, BYTES, Content, HEADER, LETTERS, RAW, Refusing, SHORT,
+    Writing, brings, each_is_refused, each_writes,
 };
 use crate::tests::runs::Host;
 use std::alloc::Global;
@@ -42,6 +42,15 @@ const OTHERS: &[Writing] = &[
     ),
     (WORDS, &[HEADER], &[b""]),
 ];
+
+/// The beginning of a pcapng file.
+const NEXT: &[u8] =
+    b"\x0a\x0d\x0d\x0a\x84\0\0\0\x4d\x3c\x2b\x1a\x01\0\0\0\xff\xff\xff\xff\xff\xff\xff\xff";
+
+/// A header of a record of 13 bytes, and a frame of as many.
+const SMALL: &[u8] = b"\0\0\0\0\0\0\0\0\x0d\0\0\0\x0d\0\0\0";
+
+const THIRTEEN: &[u8] = b"abcdefghijklm";
 
 const NOT_CAPTURE: &str = "refused 91 not a capture in classic pcap (pcapng is not read)\n";
 

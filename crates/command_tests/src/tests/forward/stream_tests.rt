@@ -3,7 +3,7 @@
 use crate::tests::failing::{each_beginning, each_cut, is_refused};
 use crate::tests::forward::forty::{FORTY_WORDS, forty, forty_forwarded};
 use crate::tests::runs::Host;
-use crate::tests::streams::{Halting, Narrow, PIECE, Piecemeal, Screen};
+use crate::tests::streams::{Halting, Narrow, PIECE, Screen};
 use crate::tests::wanted::{holds, same};
 use forward_command::{Printing, perform};
 use forwarder::Config;
@@ -38,10 +38,7 @@ fn an_input_that_fails_in_mid_stream_is_refused(rt: HostRuntime) {
 /// With so many pieces written of the 40 frames, these are the output.
 fn stops_writing<R: Host>(rt: &R, alloc: Global, (script, printed): (&str, &str), pieces: usize) {
     let mut input = script.as_bytes();
-    let mut output = Piecemeal {
-        pieces,
-        taken: Vec::new(alloc),
-    };
+    let mut output = Narrow::of_pieces(alloc, pieces);
     let line = "refused 84 output\n";
     is_refused(rt, alloc, FORTY_WORDS, &mut input, &mut output, line);
     let beginning = printed.as_bytes().get(..pieces.saturating_mul(PIECE));
@@ -82,10 +79,7 @@ fn each_read_that_fails_is_refused(rt: HostRuntime) {
 #[test]
 fn want_of_memory(rt: HostRuntime) {
     let mut input = SCRIPT.as_bytes();
-    let mut output = Narrow {
-        room: 400,
-        taken: Vec::new(rt.alloc()),
-    };
+    let mut output = Narrow::new(rt.alloc(), 400);
     let mut screen = Screen::new(rt.alloc(), false);
     match perform(
         &rt,

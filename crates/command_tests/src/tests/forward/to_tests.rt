@@ -2,7 +2,7 @@
 
 use crate::tests::forward::captured::{
     AT_0, AT_1, AT_2, BIG_NANOS, BIG_SOME, BYTES, Content, FIVES, HEADER, LETTERS, Refusing,
-    TOUCHED, Writing, each_is_refused, each_writes, is_piped,
+    Writing, each_is_refused, each_writes, is_piped,
 };
 
 /// Lines of both ports and of counts, the last without an end.
@@ -43,6 +43,9 @@ const REFUSED: &[Refusing] = &[
 fn the_frames_of_the_port_are_records(rt: HostRuntime) {
     each_writes(&rt, rt.alloc(), WRITTEN)
 }
+
+/// `LETTERS`, as a driver touches it.
+const TOUCHED: &[u8] = b"aacdefghijklmn";
 
 const FORWARD: &[&str] = &["forward", "--pairs", "2"];
 

@@ -63,10 +63,7 @@ fn lists_of_both_queues_are_printed(rt: HostRuntime) {
 #[test]
 fn an_output_that_fails_has_a_beginning(rt: HostRuntime) {
     let room = FIRST.len() + 3;
-    let mut output = Narrow {
-        room,
-        taken: Vec::new(rt.alloc()),
-    };
+    let mut output = Narrow::new(rt.alloc(), room);
     let (mut faults, mut shown) = (Vec::new(rt.alloc()), Vec::new(rt.alloc()));
     let status = answer(rt.alloc(), &REQUEST, &mut output, &mut faults, &mut shown);
     let wanted = (1, b"refused 84 output\n".as_slice());

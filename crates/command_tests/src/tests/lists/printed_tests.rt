@@ -89,10 +89,7 @@ fn is_refused<A: Abort>(
     (room, wanted): (usize, &[u8]),
     line: &str,
 ) {
-    let mut output = Narrow {
-        room,
-        taken: Vec::new(alloc),
-    };
+    let mut output = Narrow::new(alloc, room);
     let mut faults = Vec::new(alloc);
     let status = answer(alloc, request, &mut output, &mut faults);
     let told = (status, faults.as_slice(), output.taken.as_slice());

@@ -50,32 +50,37 @@ struct Queue {
     controller: ControllerState,
 }
 
+/// A queue that nobody has touched.
+const NEW: Queue = Queue {
+    items: [EMPTY; 7],
+    out: 0,
+    tail: 0,
+    known: 0,
+    unstored: 0,
+    held: false,
+    middle: false,
+    owed: false,
+    quiet: false,
+    by_head: false,
+    control: 0,
+    loaded: 0,
+    driver: DriverState::New,
+    controller: ControllerState::Off,
+};
+
 impl Queue {
     fn new(scope: Scope) -> Queue {
-        let control = if scope.device_only { 2 } else { 0 };
+        let by_head = matches!(scope.side, Side::Transmit(Completion::Head));
+        if !scope.device_only {
+            return Queue { by_head, ..NEW };
+        }
         Queue {
-            items: [EMPTY; 7],
-            out: 0,
-            tail: 0,
-            known: 0,
-            unstored: 0,
-            held: false,
-            middle: false,
-            owed: false,
-            quiet: false,
-            by_head: matches!(scope.side, Side::Transmit(Completion::Head)),
-            control,
-            loaded: control,
-            driver: if scope.device_only {
-                DriverState::On
-            } else {
-                DriverState::New
-            },
-            controller: if scope.device_only {
-                ControllerState::Serving
-            } else {
-                ControllerState::Off
-            },
+            by_head,
+            control: 2,
+            loaded: 2,
+            driver: DriverState::On,
+            controller: ControllerState::Serving,
+            ..NEW
         }
     }
 
@@ -146,16 +151,16 @@ impl Queue {
         }
     }
 
-    /// A queue with nothing out, whose driver is so far.
+    /// A queue that was disabled, with nothing out, whose driver is so far: the words stand as they were.
     fn bare(self, driver: DriverState) -> Queue {
         Queue {
-            items: [EMPTY; 7],
-            out: 0,
-            tail: 0,
-            known: 0,
-            unstored: 0,
+            quiet: self.quiet,
+            by_head: self.by_head,
+            control: self.control,
+            loaded: self.loaded,
             driver,
-            ..self
+            controller: self.controller,
+            ..NEW
         }
     }
 
@@ -471,6 +476,21 @@ fn is_own(action: Move) -> bool {
     }
 }
 
+/// The pair that is met where a queue is asked for a move, and the queue as it is then, where it makes it.
+fn met(queue: Queue, action: Move) -> (Pair, Option<Queue>) {
+    let (told, later) = match queue.answer(action) {
+        Some((told, later)) => (told, Some(later)),
+        None => (Told::NotEnabled, None),
+    };
+    let pair = Pair {
+        action,
+        driver: queue.driver,
+        controller: queue.controller,
+        told,
+    };
+    (pair, later)
+}
+
 /// Which pairs are met where these moves are made one after another on a new queue of this scope, by their numbers.
 pub fn meet_along(
     scope: Scope,
@@ -479,19 +499,9 @@ pub fn meet_along(
 ) -> Result<(), AllocError> {
     let mut queue = Queue::new(scope);
     for action in moves {
-        let (told, later) = match queue.answer(*action) {
-            Some((told, later)) => (told, later),
-            None => (Told::NotEnabled, queue),
-        };
-        let (driver, controller) = (queue.driver, queue.controller);
-        let pair = Pair {
-            action: *action,
-            driver,
-            controller,
-            told,
-        };
+        let (pair, later) = met(queue, *action);
         numbers.insert(pair.number())?;
-        queue = later;
+        queue = later.unwrap_or(queue);
     }
     Ok(())
 }
@@ -527,17 +537,7 @@ pub fn second_search(alloc: Global, scope: Scope) -> Result<Second, AllocError> 
             if queue.is_too_much(*action) || (scope.device_only && is_own(*action)) {
                 continue;
             }
-            let (told, later) = match queue.answer(*action) {
-                Some((told, later)) => (told, Some(later)),
-                None => (Told::NotEnabled, None),
-            };
-            let (driver, controller) = (queue.driver, queue.controller);
-            let pair = Pair {
-                action: *action,
-                driver,
-                controller,
-                told,
-            };
+            let (pair, later) = met(queue, *action);
             if numbers.insert(pair.number())? {
                 second.pairs.push(pair)?;
             }
