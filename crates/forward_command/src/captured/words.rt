@@ -1,5 +1,5 @@
 //! The words of `--capture` and of `--wire-capture`.
-ghost use Rattle.std.specs.Prelude.{◌≡◌, ◌+◌, ◌<◌, ◌≤◌, ◌↔◌, ◌∷◌, ℕ, List, Some, IfSome, IsTrue, MatchOption};
+ghost use Rattle.std.specs.Prelude.{◌≡◌, ◌+◌, ◌<◌, ◌≤◌, ◌↔◌, ◌∷◌, Some, IfSome, IsTrue, MatchOption};
 ghost use Rattle.limits.specs.declared.profile.TheConstants.{MOST_PAIRS, PORTS};
 ghost use Rattle.forward_command.specs.Words.{IsDigit, IsSource, IsWireFile, PortFile, SourceFile, NoField, NoFirst, source_word, wire_file_word};
 
