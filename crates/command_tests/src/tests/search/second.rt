@@ -443,6 +443,16 @@ impl Queue {
         }
     }
 
+    /// The pair that is met where it is asked for a move, and tells this.
+    fn pair(&self, action: Move, told: Told) -> Pair {
+        Pair {
+            action,
+            driver: self.driver,
+            controller: self.controller,
+            told,
+        }
+    }
+
     fn key(&self) -> u64 {
         let mut key: u64 = 0;
         for item in &self.items {
@@ -476,21 +486,6 @@ fn is_own(action: Move) -> bool {
     }
 }
 
-/// The pair that is met where a queue is asked for a move, and the queue as it is then, where it makes it.
-fn met(queue: Queue, action: Move) -> (Pair, Option<Queue>) {
-    let (told, later) = match queue.answer(action) {
-        Some((told, later)) => (told, Some(later)),
-        None => (Told::NotEnabled, None),
-    };
-    let pair = Pair {
-        action,
-        driver: queue.driver,
-        controller: queue.controller,
-        told,
-    };
-    (pair, later)
-}
-
 /// Which pairs are met where these moves are made one after another on a new queue of this scope, by their numbers.
 pub fn meet_along(
     scope: Scope,
@@ -499,9 +494,12 @@ pub fn meet_along(
 ) -> Result<(), AllocError> {
     let mut queue = Queue::new(scope);
     for action in moves {
-        let (pair, later) = met(queue, *action);
-        numbers.insert(pair.number())?;
-        queue = later.unwrap_or(queue);
+        let (told, later) = match queue.answer(*action) {
+            Some((told, later)) => (told, later),
+            None => (Told::NotEnabled, queue),
+        };
+        numbers.insert(queue.pair(*action, told).number())?;
+        queue = later;
     }
     Ok(())
 }
@@ -537,7 +535,11 @@ pub fn second_search(alloc: Global, scope: Scope) -> Result<Second, AllocError> 
             if queue.is_too_much(*action) || (scope.device_only && is_own(*action)) {
                 continue;
             }
-            let (pair, later) = met(queue, *action);
+            let (told, later) = match queue.answer(*action) {
+                Some((told, later)) => (told, Some(later)),
+                None => (Told::NotEnabled, None),
+            };
+            let pair = queue.pair(*action, told);
             if numbers.insert(pair.number())? {
                 second.pairs.push(pair)?;
             }
