@@ -10,7 +10,7 @@ use Rattle.ring_model.proofs.shared.Cuts.{ends-cut}
 use Rattle.ring_laws.specs.Frames.{follows-cut, unfinished-whole, frames-append, unfinished-append, unfinished-snoc}
 use Rattle.shared_ring.specs.declared.events.ControllerEvent.TheVariants.{StoredHead}
 use Rattle.rx_ring.specs.Records.{RxControlled}
-use Rattle.rx_ring.specs.Ends.{ControllerSide, controller_size, controller_record, stored, known_free, held, serve_place, answered}
+use Rattle.rx_ring.specs.Ends.{ControllerSide, controller_size, controller_record, stored, known_free, held, serve_place, controller_grown}
 use Rattle.controller.specs.Chained.{Chained}
 use Rattle.controller.specs.Receiving.{IsIdle, StoredSegment, StoredFrame}
 use Rattle.controller.specs.Storing.{StoredBytes}
@@ -107,7 +107,7 @@ whole_frame b f before segments pos some whole pieces =
 
 -- the last piece is stored, and the head after it
 pub ends_frame_with : (b : ℕ) (f : Bytes) (old now last new : ControllerSide) (rest : Bytes) → 0 < b → 0 < length f → unfinished piece_of (stored old) ≡ [] → IsStoring b f old rest now → length rest ≤ b
-    → StoredBytes now rest true last → new ≡ answered last (StoredHead (serve_place last)) → controller_record new ≡ record (controller_record last) { head = serve_place last }
+    → StoredBytes now rest true last → new ≡ controller_grown last (StoredHead (serve_place last)) → controller_record new ≡ record (controller_record last) { head = serve_place last }
     → StoredFrame b f old new × IsIdle new × (new.table ≡ old.table)
 ends_frame_with b f old now last new rest pos some whole i h st head e =
     let s : Segment Bytes = record { number = st.number; payload = rest; eop = true } in

@@ -5,7 +5,7 @@ use Rattle.ring_model.specs.shared.Handshakes.{is_serving}
 use Rattle.shared_ring.specs.declared.control.Control.{Control}
 use Rattle.shared_ring.specs.declared.control.Control.TheVariants as control
 use Rattle.shared_ring.specs.declared.events.ControllerEvent.TheVariants.{LoadedRequest, Enabled, Disabled}
-use Rattle.shared_ring.specs.Ends.{ControllerSide, controller_record, controller_state, answered}
+use Rattle.shared_ring.specs.Ends.{ControllerSide, controller_record, controller_state, controller_grown}
 use Rattle.shared_ring.specs.Forms.{Form}
 use Rattle.shared_ring.specs.Words.{control_word}
 
@@ -13,19 +13,19 @@ module _ {Ring Posted Served Given D C : Type 0} {form : Form Ring Posted Served
   -- C2: this request was loaded, and nothing is answered to it
   pub record OnlyLoaded (asked : Control) (old : ControllerSide form) (told : Control) (new : ControllerSide form) : Type 0 where
     pub told_is : told ≡ asked
-    pub step : new ≡ answered old (LoadedRequest (control_word asked))
+    pub step : new ≡ controller_grown old (LoadedRequest (control_word asked))
     pub same : controller_record new ≡ record (controller_record old) { seen = control_word asked }
 
   -- C2 and C3: an enabling was loaded and answered. A new epoch begins, in which nothing is served
   pub record WasEnabled (old : ControllerSide form) (told : Control) (new : ControllerSide form) : Type 0 where
     pub told_is : told ≡ control.Enabled
-    pub step : new ≡ answered (answered old (LoadedRequest 1)) Enabled
+    pub step : new ≡ controller_grown (controller_grown old (LoadedRequest 1)) Enabled
     pub fresh : controller_record new ≡ record (controller_record old) { served = []; known = 0; head = 0; state = Serving; seen = 2; barred = false }
 
   -- C2 and C3: a disabling was loaded and answered. Nothing more is served in this epoch
   pub record WasDisabled (old : ControllerSide form) (told : Control) (new : ControllerSide form) : Type 0 where
     pub told_is : told ≡ control.Disabled
-    pub step : new ≡ answered (answered old (LoadedRequest 3)) Disabled
+    pub step : new ≡ controller_grown (controller_grown old (LoadedRequest 3)) Disabled
     pub ended : controller_record new ≡ record (controller_record old) { state = Ended; seen = 0 }
 
   -- what becomes of a request that was loaded: an enabling is answered where the end doesn't serve, a disabling where it does, and nothing else is

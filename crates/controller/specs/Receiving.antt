@@ -8,7 +8,7 @@ use Rattle.ring_model.specs.shared.Handshakes.{is_serving}
 use Rattle.ring_model.specs.shared.Segments.{Segment, piece_of}
 use Rattle.shared_ring.specs.declared.events.ControllerEvent.TheVariants.{Fetched, StoredHead, Own}
 use Rattle.rx_ring.specs.declared.events.RxControllerOwn.TheVariants.{WroteBack, SaidQuiet}
-use Rattle.rx_ring.specs.Ends.{ControllerSide, controller_size, controller_record, controller_state, stored, known_free, held, is_quiet, is_between, head_stored, serve_place, answered}
+use Rattle.rx_ring.specs.Ends.{ControllerSide, controller_size, controller_record, controller_state, stored, known_free, held, is_quiet, is_between, head_stored, serve_place, controller_grown}
 use Rattle.rx_ring.specs.Calls.{FoundFree}
 use Rattle.refusals.specs.declared.errors.CtlError.{CtlError}
 use Rattle.refusals.specs.declared.errors.CtlError.TheVariants.{FrameLength, Memory}
@@ -42,7 +42,7 @@ needed r f = piece_count r.bsize (length f)
 -- A4 and A5: the next descriptor was fetched, and its buffer written back with the segment's bytes
 pub record StoredSegment (old : ControllerSide) (s : Segment Bytes) (new : ControllerSide) : Type 0 where
   pub word : ℕ
-  pub step : new ≡ answered (answered old (Fetched (serve_place old) word (buffer s.number [])))
+  pub step : new ≡ controller_grown (controller_grown old (Fetched (serve_place old) word (buffer s.number [])))
       (Own (WroteBack (serve_place old) (rx_word (length s.payload) s.eop) (buffer s.number s.payload)))
   pub grew : controller_record new ≡ record (controller_record old) { served = stored old ++ s ∷ []; held = None }
 
@@ -70,7 +70,7 @@ pub record StoredFrame (b : ℕ) (f : Bytes) (old new : ControllerSide) : Type 0
   pub segments : List (Segment Bytes)
   pub last : ControllerSide
   pub each : Chained StoredSegment old segments last
-  pub head : new ≡ answered last (StoredHead (serve_place last))
+  pub head : new ≡ controller_grown last (StoredHead (serve_place last))
   pub pieces : map piece_of segments ≡ cut b f
   pub grew : controller_record new ≡ record (controller_record old) { served = stored old ++ segments; held = None; head = serve_place last }
   pub frames_are : frames piece_of (stored new) ≡ frames piece_of (stored old) ++ f ∷ []
@@ -141,7 +141,7 @@ frames_by (Err e) f = []
 -- C7: quiet was said, once; from then on the end may store no more in this epoch
 pub record SaidItAll (old new : ControllerSide) : Type 0 where
   pub may : may_store old ≡ true
-  pub step : new ≡ answered old (Own SaidQuiet)
+  pub step : new ≡ controller_grown old (Own SaidQuiet)
   pub same : controller_record new ≡ record (controller_record old) { barred = true }
 
 -- it serves no more, or had said it

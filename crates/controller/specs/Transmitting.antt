@@ -7,7 +7,7 @@ use Rattle.ring_model.specs.transmit.Ring.{carried}
 use Rattle.shared_ring.specs.declared.events.ControllerEvent.TheVariants.{Fetched, Own}
 use Rattle.tx_ring.specs.declared.events.TxControllerOwn.TheVariants.{Sent}
 use Rattle.tx_ring.specs.Records.{Posting, posting_of}
-use Rattle.tx_ring.specs.Ends.{ControllerSide, controller_size, controller_record, controller_state, sent, held, is_owed, is_between, head_stored, serve_place, answered}
+use Rattle.tx_ring.specs.Ends.{ControllerSide, controller_size, controller_record, controller_state, sent, held, is_owed, is_between, head_stored, serve_place, controller_grown}
 use Rattle.tx_ring.specs.Calls.{FoundReady, report_of}
 use Rattle.refusals.specs.declared.errors.CtlError.{CtlError}
 use Rattle.refusals.specs.declared.errors.CtlError.TheVariants.{FrameLength, Memory}
@@ -27,7 +27,7 @@ pub record SentSegment (old : ControllerSide) (p : Posting) (new : ControllerSid
   pub word : ℕ
   pub buf : Buffer
   pub item : p ≡ posting_of word buf
-  pub step : new ≡ answered (answered old (Fetched (serve_place old) word buf)) (Own (Sent ((length (sent old) + 1) % controller_size old) word buf))
+  pub step : new ≡ controller_grown (controller_grown old (Fetched (serve_place old) word buf)) (Own (Sent ((length (sent old) + 1) % controller_size old) word buf))
   pub grew : sent new ≡ sent old ++ p ∷ []
 
 -- whether the last of these asks for a report
@@ -36,7 +36,7 @@ asks ps = ends_frame (λ p. p.rs) false ps
 
 -- B6, where a report is asked for
 abbrev pub reported : Bool → ControllerSide → ControllerSide
-reported true c = answered c (Own (report_of (controller_size c) c.completion (length (sent c))))
+reported true c = controller_grown c (Own (report_of (controller_size c) c.completion (length (sent c))))
 reported false c = c
 
 -- the postings of a whole frame were sent, and reported if the last of them asks for it

@@ -1,6 +1,6 @@
 //! The address of a buffer, which is a read descriptor's first word.
-ghost use Rattle.std.specs.Prelude.{◌≡◌, ◌*◌, IfSome, IfNone};
-ghost use Rattle.descriptor.specs.Address.{address_fields};
+ghost use Rattle.std.specs.Prelude.{◌≡◌, IfSome, IfNone};
+ghost use Rattle.descriptor.specs.Address.{address_fields, buffer_address};
 ghost use Rattle.descriptor.specs.Layout.{EachField, KeepsField};
 
 use crate::DescError;
@@ -10,14 +10,14 @@ use limits::BUFFER_BYTES;
 /// The address of the buffer with this number.
 #[inline]
 pub(crate) fn address_of(number: u16) -> u64
-    ensures { result ≡ 2048 * number }
+    ensures { result ≡ buffer_address number }
 {
     BUFFER_BYTES as u64 * u64::from(number)
 }
 
 /// The number of the buffer that has this address, if one has it.
 pub(crate) fn number_at(address: u64) -> Option<u16>
-    ensures found { IfSome result (λ number. address ≡ 2048 * number) }
+    ensures found { IfSome result (λ number. address ≡ buffer_address number) }
     ensures none { IfNone result (¬ EachField (KeepsField DescError.Reserved address) address_fields) }
 {
     let number = bits(address, 11, 16) as u16;

@@ -1,5 +1,6 @@
 //! The receive descriptor as the driver posts it (82599 datasheet, 7.1.6.1).
-ghost use Rattle.std.specs.Prelude.{◌≡◌, ◌*◌, ◌^◌, ◌<◌, ◌↔◌, IfOk};
+ghost use Rattle.std.specs.Prelude.{◌≡◌, ◌^◌, ◌<◌, ◌↔◌, IfOk};
+ghost use Rattle.descriptor.specs.Address.{buffer_address};
 
 use crate::address::{address_of, number_at};
 use crate::{DescError, Descriptor};
@@ -43,7 +44,7 @@ impl Descriptor for RxRead {
     #[inline]
     fn words(&self) -> (u64, u64)
         ensures layout { AreWords rx_read_form (rx_read_numbers self.now.number) result.0 result.1 }
-        ensures value { result ≡ (2048 * self.now.number, 0) }
+        ensures value { result ≡ (buffer_address self.now.number, 0) }
     {
         (address_of(self.number), self.second_word())
     }

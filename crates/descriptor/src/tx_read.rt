@@ -1,6 +1,7 @@
 //! The transmit descriptor as the driver posts it (82599 datasheet, 7.2.3.2.4).
 ghost use Rattle.std.specs.Prelude.{◌≡◌, ◌+◌, ◌*◌, ◌/◌, ◌%◌, ◌^◌, ◌<◌, ◌≤◌, ◌↔◌, IsTrue, IfOk};
 ghost use Rattle.limits.specs.declared.profile.TheConstants.{BUFFER_BYTES, LEAST_FRAME, MOST_FRAME};
+ghost use Rattle.descriptor.specs.Address.{buffer_address};
 ghost use Rattle.descriptor.specs.Layout.{bit};
 
 use crate::address::{address_of, number_at};
@@ -163,7 +164,7 @@ impl Descriptor for TxRead {
     #[inline]
     fn words(&self) -> (u64, u64)
         ensures layout { AreWords tx_read_form (tx_read_numbers self.now.number self.now.len self.now.eop self.now.rs self.now.paylen) result.0 result.1 }
-        ensures address { result.0 ≡ 2048 * self.now.number }
+        ensures address { result.0 ≡ buffer_address self.now.number }
     {
         (address_of(self.number), self.second_word())
     }

@@ -6,7 +6,7 @@ use Rattle.std.proofs.lemmas.Option.{slice_get_within, get_or_from_slice_get}
 use Rattle.std.proofs.Math.Seq.{drop-cons}
 use Rattle.buffer_pool.specs.Buffer.{Buffer, buffer}
 use Rattle.shared_ring.specs.declared.events.DriverEvent.TheVariants as driver
-use Rattle.shared_ring.specs.Ends.{DriverSide, driver_record, posted, reclaimed, returned, appended}
+use Rattle.shared_ring.specs.Ends.{DriverSide, driver_record, posted, reclaimed, returned, driver_grown}
 use Rattle.shared_ring.specs.Forms.{Form}
 use Rattle.shared_ring.specs.Records.{Driven}
 use Rattle.driver.specs.Steps.{is_reclaim}
@@ -34,7 +34,7 @@ module _ {Ring Posted Served Given D C : Type 0} {form : Form Ring Posted Served
 
   -- one more: the oldest that is out
   pub back-one : (old : DriverSide form) (had : List ℕ) (d : DriverSide form) (stash : List ℕ) (new : DriverSide form) (has : List ℕ) (place : ℕ) (buf : Buffer) (item : Posted)
-      → CameBack number old had d stash → new ≡ appended d (driver.Reclaimed place buf) → slice_get (posted d) (returned d) ≡ Some item → number item ≡ buf.number
+      → CameBack number old had d stash → new ≡ driver_grown d (driver.Reclaimed place buf) → slice_get (posted d) (returned d) ≡ Some item → number item ≡ buf.number
       → driver_record new ≡ record (driver_record d) { reclaimed = reclaimed d + 1 } → has ≡ buf.number ∷ stash → CameBack number old had new has
   back-one old had d stash new has place buf item f step there is did put = record {
     numbers = f.numbers ++ buf.number ∷ [];

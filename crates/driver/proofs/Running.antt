@@ -2,7 +2,7 @@
 use Rattle.std.proofs.Common.{◌≡◌, ◌∙◌, Bool, true, List, [], ◌∷◌, ◌++◌, sym, ap, append_assoc, append-nil}
 use Rattle.std.proofs.lemmas.List.Elements.{All-nil, All-push, All-append}
 use Rattle.shared_ring.specs.declared.events.DriverEvent.{DriverEvent}
-use Rattle.shared_ring.specs.Ends.{DriverSide, appended}
+use Rattle.shared_ring.specs.Ends.{DriverSide, driver_grown}
 use Rattle.shared_ring.specs.Forms.{Form}
 use Rattle.driver.specs.Steps.{Runs}
 
@@ -10,7 +10,7 @@ module _ {Ring Posted Served Given D C : Type 0} {form : Form Ring Posted Served
   pub runs-none : (d : DriverSide form) → Runs kinds d d
   runs-none d = record { steps = []; step = ap (λ (es : List (DriverEvent D)). let s : DriverSide form = record d { events = es } in s) (sym (append-nil d.events)); only = All-nil (λ e. kinds e ≡ true) }
 
-  pub runs-one : (d new : DriverSide form) (e : DriverEvent D) → new ≡ appended d e → kinds e ≡ true → Runs kinds d new
+  pub runs-one : (d new : DriverSide form) (e : DriverEvent D) → new ≡ driver_grown d e → kinds e ≡ true → Runs kinds d new
   runs-one d new e step is = record { steps = e ∷ []; step = step; only = All-push (λ x. kinds x ≡ true) [] e (All-nil (λ x. kinds x ≡ true)) is }
 
   pub runs-trans : (a b c : DriverSide form) → Runs kinds a b → Runs kinds b c → Runs kinds a c

@@ -5,7 +5,7 @@ use Rattle.ring_model.specs.declared.states.DriverState.{DriverState}
 use Rattle.ring_model.specs.declared.states.DriverState.TheVariants.{New, Asked, On, Stopping, Stopped, Cleared, Tailed}
 use Rattle.ring_model.specs.shared.Handshakes.{is_new, learned}
 use Rattle.shared_ring.specs.declared.events.DriverEvent.TheVariants as driver
-use Rattle.shared_ring.specs.Ends.{DriverSide, driver_record, driver_state, appended}
+use Rattle.shared_ring.specs.Ends.{DriverSide, driver_record, driver_state, driver_grown}
 use Rattle.shared_ring.specs.Forms.{Form}
 use Rattle.shared_ring.specs.Records.{Driven}
 use Rattle.driver.specs.Handshake.{asking, asked_in, AskedEnabling}
@@ -25,7 +25,7 @@ asking_other Cleared e = refl
 asking_other Tailed e = refl
 
 module _ {Ring Posted Served Given D C : Type 0} {form : Form Ring Posted Served Given D C} where
-  asked_new : (s : DriverState) (d : DriverSide form) → is_new s ≡ true → asked_in s d ≡ appended d driver.AskedEnable
+  asked_new : (s : DriverState) (d : DriverSide form) → is_new s ≡ true → asked_in s d ≡ driver_grown d driver.AskedEnable
   asked_new New d e = refl
   asked_new _ d e = absurd (false≢true e)
 
@@ -40,22 +40,22 @@ module _ {Ring Posted Served Given D C : Type 0} {form : Form Ring Posted Served
 
   -- C1 and C4
   pub enabling-new : (old mid new : DriverSide form) (word : ℕ) → is_new (driver_state old) ≡ true
-      → mid ≡ appended old driver.AskedEnable → driver_record mid ≡ record (driver_record old) { state = Asked }
-      → new ≡ appended mid (driver.LoadedControl word) → driver_record new ≡ record (driver_record mid) { state = learned (driver_state mid) word }
+      → mid ≡ driver_grown old driver.AskedEnable → driver_record mid ≡ record (driver_record old) { state = Asked }
+      → new ≡ driver_grown mid (driver.LoadedControl word) → driver_record new ≡ record (driver_record mid) { state = learned (driver_state mid) word }
       → AskedEnabling old new
   enabling-new old mid new word fresh one did step then = record {
     word = word;
-    step = step ∙ ap (λ (d : DriverSide form). appended d (driver.LoadedControl word)) (one ∙ sym (asked_new (driver_state old) old fresh));
+    step = step ∙ ap (λ (d : DriverSide form). driver_grown d (driver.LoadedControl word)) (one ∙ sym (asked_new (driver_state old) old fresh));
     did = then ∙ (ap (λ (x : Driven Posted Given). let y : Driven Posted Given = record x { state = learned x.state word } in y) did
         ∙ ap (λ (s : DriverState). let y : Driven Posted Given = record (driver_record old) { state = learned s word } in y) (sym (asking_new (driver_state old) fresh)));
   }
 
   -- C4 alone
   pub enabling-asked : (old new : DriverSide form) (word : ℕ) → is_new (driver_state old) ≡ false
-      → new ≡ appended old (driver.LoadedControl word) → driver_record new ≡ record (driver_record old) { state = learned (driver_state old) word }
+      → new ≡ driver_grown old (driver.LoadedControl word) → driver_record new ≡ record (driver_record old) { state = learned (driver_state old) word }
       → AskedEnabling old new
   enabling-asked old new word asked step did = record {
     word = word;
-    step = step ∙ ap (λ (d : DriverSide form). appended d (driver.LoadedControl word)) (sym (asked_other (driver_state old) old asked));
+    step = step ∙ ap (λ (d : DriverSide form). driver_grown d (driver.LoadedControl word)) (sym (asked_other (driver_state old) old asked));
     did = did ∙ ap (λ (s : DriverState). let y : Driven Posted Given = record (driver_record old) { state = learned s word } in y) (sym (asking_other (driver_state old) asked));
   }

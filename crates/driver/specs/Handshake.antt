@@ -4,7 +4,7 @@ use Rattle.ring_model.specs.declared.states.DriverState.{DriverState}
 use Rattle.ring_model.specs.declared.states.DriverState.TheVariants.{New, Asked}
 use Rattle.ring_model.specs.shared.Handshakes.{is_stopped, learned}
 use Rattle.shared_ring.specs.declared.events.DriverEvent.TheVariants as driver
-use Rattle.shared_ring.specs.Ends.{DriverSide, driver_record, driver_state, appended}
+use Rattle.shared_ring.specs.Ends.{DriverSide, driver_record, driver_state, driver_grown}
 use Rattle.shared_ring.specs.Forms.{Form}
 
 -- an enabling is asked where nothing was asked yet
@@ -14,19 +14,19 @@ asking state = state
 
 module _ {Ring Posted Served Given D C : Type 0} {form : Form Ring Posted Served Given D C} where
   abbrev pub asked_in : DriverState → DriverSide form → DriverSide form
-  asked_in New d = appended d driver.AskedEnable
+  asked_in New d = driver_grown d driver.AskedEnable
   asked_in _ d = d
 
   -- C1 where nothing was asked yet, and then C4
   pub record AskedEnabling (old new : DriverSide form) : Type 0 where
     pub word : ℕ
-    pub step : new ≡ appended (asked_in (driver_state old) old) (driver.LoadedControl word)
+    pub step : new ≡ driver_grown (asked_in (driver_state old) old) (driver.LoadedControl word)
     pub did : driver_record new ≡ record (driver_record old) { state = learned (asking (driver_state old)) word }
 
   -- C4, by which no answer to a disabling was seen
   pub record NotFinished (old new : DriverSide form) : Type 0 where
     pub word : ℕ
-    pub step : new ≡ appended old (driver.LoadedControl word)
+    pub step : new ≡ driver_grown old (driver.LoadedControl word)
     pub did : driver_record new ≡ record (driver_record old) { state = learned (driver_state old) word }
     pub unanswered : is_stopped (driver_state new) ≡ false
 
@@ -40,7 +40,7 @@ module _ {Ring Posted Served Given D C : Type 0} {form : Form Ring Posted Served
     pub word : ℕ
     pub head : ℕ
     pub going : is_stopped (driver_state old) ≡ false
-    pub step : new ≡ appended (appended old (driver.LoadedControl word)) (driver.LoadedHead head)
+    pub step : new ≡ driver_grown (driver_grown old (driver.LoadedControl word)) (driver.LoadedHead head)
     pub did : driver_record new ≡ record (driver_record old) { state = learned (driver_state old) word }
     pub answered : is_stopped (driver_state new) ≡ true
     pub left_is : told new ≡ Some left

@@ -3,7 +3,7 @@ use Rattle.std.specs.Prelude.{◌≡◌, ℕ, ◌+◌, List, ◌++◌, length, m
 use Rattle.buffer_pool.specs.Buffer.{Buffer, buffer}
 use Rattle.shared_ring.specs.declared.events.DriverEvent.TheVariants as driver
 use Rattle.shared_ring.specs.Calls.{NoneOut}
-use Rattle.shared_ring.specs.Ends.{DriverSide, driver_record, posted, reclaimed, returned, known_of, next_place, appended}
+use Rattle.shared_ring.specs.Ends.{DriverSide, driver_record, posted, reclaimed, returned, known_of, next_place, driver_grown}
 use Rattle.shared_ring.specs.Forms.{Form}
 use Rattle.driver.specs.Steps.{Runs, is_reclaim}
 
@@ -23,7 +23,7 @@ module _ {Ring Posted Served Given D C : Type 0} {form : Form Ring Posted Served
   -- the buffer of the oldest posting that was out came back
   pub record CameHome (old : DriverSide form) (buf : Buffer) (new : DriverSide form) : Type 0 where
     pub item : Posted
-    pub step : new ≡ appended old (driver.Reclaimed (next_place old) buf)
+    pub step : new ≡ driver_grown old (driver.Reclaimed (next_place old) buf)
     pub there : slice_get (posted old) (returned old) ≡ Some item
     pub is_of : form.IsOf item buf
     pub real : buf ≡ buffer buf.number buf.bytes

@@ -3,7 +3,7 @@ ghost use Rattle.std.specs.Prelude.{◌≡◌, ◌↔◌, true, false, length, I
 ghost use Rattle.ring_model.specs.declared.states.DriverState.TheVariants as state;
 ghost use Rattle.ring_model.specs.shared.Handshakes.{is_on, is_open, is_stopped};
 ghost use Rattle.shared_ring.specs.declared.events.DriverEvent.TheVariants.{AskedDisable};
-ghost use Rattle.shared_ring.specs.Ends.{driver_of, driver_record, driver_state, known_of, appended, posted, returned};
+ghost use Rattle.shared_ring.specs.Ends.{driver_of, driver_record, driver_state, known_of, driver_grown, posted, returned};
 ghost use Rattle.refusals.specs.declared.errors.DriverError.TheVariants.{QueueOff, NotReclaimed};
 ghost use Rattle.driver.specs.Handshake.{AskedEnabling};
 
@@ -46,7 +46,7 @@ pub(crate) fn ask_disable<D, C, R: Direction<D, C>, E: DriverEnd<D, C, R>>(
     ensures refused { IsErr result ↔ (is_on (driver_state (driver_of R.form (E.side end.old))) ≡ false) }
     ensures refusal { IfErr result (λ e. e ≡ QueueOff) }
     ensures unchanged { OnErr result (end.new ≡ end.old) }
-    ensures step { OnOk result (driver_of R.form (E.side end.new) ≡ appended (driver_of R.form (E.side end.old)) AskedDisable) }
+    ensures step { OnOk result (driver_of R.form (E.side end.new) ≡ driver_grown (driver_of R.form (E.side end.old)) AskedDisable) }
     ensures record { OnOk result (driver_record (driver_of R.form (E.side end.new)) ≡ record (driver_record (driver_of R.form (E.side end.old))) { state = state.Stopping }) }
     ensures known { known_of (driver_of R.form (E.side end.new)) ≡ known_of (driver_of R.form (E.side end.old)) }
 {

@@ -1,6 +1,6 @@
 //! The receive driver.
 ghost use Rattle.std.specs.Prelude.{◌≡◌, ◌+◌, ◌<◌, ◌≤◌, ◌↔◌, true, false, [], length, IsTrue, IsErr, IfErr, OnErr, IfOk, OnOk};
-ghost use Rattle.rx_ring.specs.Ends.{driver_size, driver_record, driver_state, posted, reclaimed, returned, known_of, saw_quiet, appended};
+ghost use Rattle.rx_ring.specs.Ends.{driver_size, driver_record, driver_state, posted, reclaimed, returned, known_of, saw_quiet, driver_grown};
 ghost use Rattle.ring_model.specs.shared.Handshakes.{is_live, is_on, is_open, is_stopped};
 ghost use Rattle.limits.specs.RingLength.{IsRingLength};
 ghost use Rattle.rx_ring.specs.Calls.{told_quiet};
@@ -102,7 +102,7 @@ impl RxDriver {
     pub fn is_quiet(&mut self, ring: &RxRing) -> bool
         requires own { self.old.end.table ≡ ring.now }
         ensures ring { self.new.end.table ≡ self.old.end.table }
-        ensures step { self.new ≡ record self.old { end = appended self.old.end (Own (LoadedQuiet (bit result))) } }
+        ensures step { self.new ≡ record self.old { end = driver_grown self.old.end (Own (LoadedQuiet (bit result))) } }
         ensures record { driver_record self.new.end ≡ driver_record self.old.end }
         ensures seen { result ≡ true → saw_quiet self.new.end ≡ true }
         ensures known { known_of self.new.end ≡ told_quiet result self.old.end }

@@ -19,11 +19,11 @@ use Rattle.shared_ring.proofs.Serving as shared
 use Rattle.shared_ring.proofs.Serving.{unplaced, record-after, loaded-leaves, server-fetch, server-served, server-same}
 use Rattle.rx_ring.specs.declared.events.RxControllerOwn.TheVariants.{WroteBack, SaidQuiet}
 use Rattle.rx_ring.specs.Records.{RxControlled, ControllerStep, control, segment_of}
-use Rattle.rx_ring.specs.Ends.{ControllerSide, controller_size, controller_record, stored, known_free, number_in, held_number, controller_state, serve_place, answered}
+use Rattle.rx_ring.specs.Ends.{ControllerSide, controller_size, controller_record, stored, known_free, number_in, held_number, controller_state, serve_place, controller_grown}
 use Rattle.rx_ring.specs.Calls.{IsServerOf, IsControllerEnd, Fetched, segment}
 use Rattle.rx_ring.proofs.Words.{eop_of-rx_word}
 
-pub end-after : (c new : ControllerSide) (e : ControllerStep) (at : ControllerPlaces) (head : ℕ) (finished : Bool) → new ≡ answered c e → IsServerOf (controller_size c) (control (controller_size c) (controller_record c) e) at head finished → IsControllerEnd new at head finished
+pub end-after : (c new : ControllerSide) (e : ControllerStep) (at : ControllerPlaces) (head : ℕ) (finished : Bool) → new ≡ controller_grown c e → IsServerOf (controller_size c) (control (controller_size c) (controller_record c) e) at head finished → IsControllerEnd new at head finished
 end-after c new e at head finished step h = subst (λ (n : ℕ). IsServerOf n (controller_record new) at head finished) (sym (ap controller_size step))
     (subst (λ (x : RxControlled). IsServerOf (controller_size c) x at head finished) (sym (record-after c new e step)) h)
 
@@ -52,7 +52,7 @@ module _ (c : ControllerSide) (at : ControllerPlaces) (head : ℕ) (finished : B
   pub fetched : (new : ControllerSide) (buf : Buffer) (word : ℕ) → CameOut c at.serve buf word new → Fetched now buf new
   fetched new buf word f = subst (λ (s : ControllerSide). Fetched s buf new) was (record {
     word = word;
-    step = f.step ∙ ap (λ (p : ℕ). answered c (controller.Fetched p word buf)) h.serve_is;
+    step = f.step ∙ ap (λ (p : ℕ). controller_grown c (controller.Fetched p word buf)) h.serve_is;
     empty = f.fetched;
     same = record-after c new (controller.Fetched at.serve word buf) f.step;
   })
@@ -71,7 +71,7 @@ module _ (c : ControllerSide) (at : ControllerPlaces) (head : ℕ) (finished : B
     segment-is : segment_of (rx_word (length buf.bytes) eop) buf ≡ segment buf eop
     segment-is = ap (λ (e : Bool). let s : Segment Bytes = record { number = buf.number; payload = buf.bytes; eop = e } in s) (eop_of-rx_word (length buf.bytes) eop)
 
-    pub write_back-keeps : (new : ControllerSide) (serve : ℕ) → new ≡ answered c (controller.Own (WroteBack at.serve (rx_word (length buf.bytes) eop) buf)) → serve ≡ (if (at.serve + 1) == controller_size c then 0 else (at.serve + 1))
+    pub write_back-keeps : (new : ControllerSide) (serve : ℕ) → new ≡ controller_grown c (controller.Own (WroteBack at.serve (rx_word (length buf.bytes) eop) buf)) → serve ≡ (if (at.serve + 1) == controller_size c then 0 else (at.serve + 1))
         → IsControllerEnd new (record at { serve = serve; ahead = at.ahead - 1; holding = false; between = eop }) head finished
     write_back-keeps new serve step e = end-after c new (controller.Own (WroteBack at.serve (rx_word (length buf.bytes) eop) buf)) (record at { serve = serve; ahead = at.ahead - 1; holding = false; between = eop }) head finished step (record {
       server = server-served piece_of (controller_size c) x at h.server (segment_of (rx_word (length buf.bytes) eop) buf) serve eop holds e (sym (eop_of-rx_word (length buf.bytes) eop)) x.head x.barred;
@@ -79,29 +79,29 @@ module _ (c : ControllerSide) (at : ControllerPlaces) (head : ℕ) (finished : B
       quiet_is = h.quiet_is;
     })
 
-    pub write_back-record : (new : ControllerSide) → new ≡ answered c (controller.Own (WroteBack at.serve (rx_word (length buf.bytes) eop) buf)) → controller_record new ≡ record (controller_record now) { served = stored now ++ segment buf eop ∷ []; held = None }
+    pub write_back-record : (new : ControllerSide) → new ≡ controller_grown c (controller.Own (WroteBack at.serve (rx_word (length buf.bytes) eop) buf)) → controller_record new ≡ record (controller_record now) { served = stored now ++ segment buf eop ∷ []; held = None }
     write_back-record new step = record-after c new (controller.Own (WroteBack at.serve (rx_word (length buf.bytes) eop) buf)) step
         ∙ ap (λ (s : Segment Bytes). let y : RxControlled = record x { served = x.served ++ s ∷ []; held = None } in y) segment-is
         ∙ ap (λ (s : ControllerSide). let y : RxControlled = record (controller_record s) { served = stored s ++ segment buf eop ∷ []; held = None } in y) was
 
-    pub write_back-step : (new : ControllerSide) → new ≡ answered c (controller.Own (WroteBack at.serve (rx_word (length buf.bytes) eop) buf)) → new ≡ answered now (controller.Own (WroteBack (serve_place now) (rx_word (length buf.bytes) eop) buf))
-    write_back-step new step = step ∙ ap (λ (p : ℕ). answered c (controller.Own (WroteBack p (rx_word (length buf.bytes) eop) buf))) h.serve_is
-        ∙ ap (λ (s : ControllerSide). answered s (controller.Own (WroteBack (serve_place s) (rx_word (length buf.bytes) eop) buf))) was
+    pub write_back-step : (new : ControllerSide) → new ≡ controller_grown c (controller.Own (WroteBack at.serve (rx_word (length buf.bytes) eop) buf)) → new ≡ controller_grown now (controller.Own (WroteBack (serve_place now) (rx_word (length buf.bytes) eop) buf))
+    write_back-step new step = step ∙ ap (λ (p : ℕ). controller_grown c (controller.Own (WroteBack p (rx_word (length buf.bytes) eop) buf))) h.serve_is
+        ∙ ap (λ (s : ControllerSide). controller_grown s (controller.Own (WroteBack (serve_place s) (rx_word (length buf.bytes) eop) buf))) was
 
   -- A7
-  pub head-keeps : (new : ControllerSide) → new ≡ answered c (controller.StoredHead at.serve) → IsControllerEnd new at at.serve finished
+  pub head-keeps : (new : ControllerSide) → new ≡ controller_grown c (controller.StoredHead at.serve) → IsControllerEnd new at at.serve finished
   head-keeps new step = end-after c new (controller.StoredHead at.serve) at at.serve finished step (record {
     server = server-same piece_of (controller_size c) x at h.server (record x { head = at.serve }) refl refl refl refl refl;
     head_is = refl;
     quiet_is = h.quiet_is;
   })
 
-  pub head-record : (new : ControllerSide) → new ≡ answered c (controller.StoredHead at.serve) → controller_record new ≡ record (controller_record now) { head = serve_place now }
+  pub head-record : (new : ControllerSide) → new ≡ controller_grown c (controller.StoredHead at.serve) → controller_record new ≡ record (controller_record now) { head = serve_place now }
   head-record new step = record-after c new (controller.StoredHead at.serve) step ∙ ap (λ (p : ℕ). let y : RxControlled = record x { head = p } in y) h.serve_is
       ∙ ap (λ (s : ControllerSide). let y : RxControlled = record (controller_record s) { head = serve_place s } in y) was
 
   -- C7
-  pub quiet-keeps : (new : ControllerSide) → new ≡ answered c (controller.Own SaidQuiet) → IsControllerEnd new at head true
+  pub quiet-keeps : (new : ControllerSide) → new ≡ controller_grown c (controller.Own SaidQuiet) → IsControllerEnd new at head true
   quiet-keeps new step = end-after c new (controller.Own SaidQuiet) at head true step (record {
     server = server-same piece_of (controller_size c) x at h.server (record x { barred = true }) refl refl refl refl refl;
     head_is = h.head_is;

@@ -12,7 +12,7 @@ use Rattle.ring_laws.specs.States.{live_unanswered}
 use Rattle.shared_ring.specs.declared.events.DriverEvent.TheVariants as driver
 use Rattle.rx_ring.specs.declared.events.RxDriverOwn.TheVariants.{NotDone, Taken, ClearedQuiet}
 use Rattle.rx_ring.specs.Records.{RxDriven, DriverStep, drive, segment_of, Knowing, unknown}
-use Rattle.rx_ring.specs.Ends.{DriverSide, driver_size, driver_record, posted, taken, returned, driver_state, known_of, fill_place, next_place, appended}
+use Rattle.rx_ring.specs.Ends.{DriverSide, driver_size, driver_record, posted, taken, returned, driver_state, known_of, fill_place, next_place, driver_grown}
 use Rattle.rx_ring.specs.Meeting.{left_by}
 use Rattle.limits.specs.RingLength.{IsRingLength}
 use Rattle.shared_ring.specs.declared.ends.DriverPlaces.{DriverPlaces}
@@ -44,7 +44,7 @@ module _ (d : DriverSide) (at : DriverPlaces) (h : IsDriverEnd d at) (now : Driv
       some_out = some-out;
       word = f.word;
       clear = f.clear;
-      step = f.step ∙ ap (λ (p : ℕ). appended d (driver.Own (NotDone p f.word))) h.next_is;
+      step = f.step ∙ ap (λ (p : ℕ). driver_grown d (driver.Own (NotDone p f.word))) h.next_is;
       same = record-after d new (driver.Own (NotDone at.next f.word)) f.step;
       drained = λ q. ap (λ (k : Knowing). k.drained) (known-after d new (driver.Own (NotDone at.next f.word)) f.step) ∙ or_right (known_of d).drained (known_of d).quiet q;
       known = known-after d new (driver.Own (NotDone at.next f.word)) f.step;
@@ -62,7 +62,7 @@ module _ (d : DriverSide) (at : DriverPlaces) (h : IsDriverEnd d at) (now : Driv
       live = is-live;
       some_out = some-out;
       none_back = h.unreclaimed (live_unanswered (driver_state d) is-live);
-      step = f.step ∙ ap (λ (p : ℕ). appended d (driver.Own (Taken p (rx_word (length buf.bytes) eop) buf))) h.next_is;
+      step = f.step ∙ ap (λ (p : ℕ). driver_grown d (driver.Own (Taken p (rx_word (length buf.bytes) eop) buf))) h.next_is;
       number = f.number;
       real = f.real;
       follows = f.follows;
@@ -92,10 +92,10 @@ module _ (d : DriverSide) (at : DriverPlaces) (h : IsDriverEnd d at) (now : Driv
   })
 
   -- the load of the head
-  pub left-keeps : (new : DriverSide) (head : ℕ) → new ≡ appended d (driver.LoadedHead head) → IsDriverEnd new at
+  pub left-keeps : (new : DriverSide) (head : ℕ) → new ≡ driver_grown d (driver.LoadedHead head) → IsDriverEnd new at
   left-keeps new head step = end-after d new (driver.LoadedHead head) at step (end-known (driver_size d) (driver_record d) (known_of d) at h (record (known_of d) { head = Some head }) h.sure)
 
-  pub left-found : (new : DriverSide) (head left : ℕ) → new ≡ appended d (driver.LoadedHead head) → returned now ≡ length (taken now) → left ≡ between_places at.size at.next head → FoundLeft now left new
+  pub left-found : (new : DriverSide) (head left : ℕ) → new ≡ driver_grown d (driver.LoadedHead head) → returned now ≡ length (taken now) → left ≡ between_places at.size at.next head → FoundLeft now left new
   left-found new head left step whole is = subst (λ (s : DriverSide). FoundLeft s left new) was (record {
     head = head;
     step = step;
@@ -116,10 +116,10 @@ module _ (d : DriverSide) (at : DriverPlaces) (h : IsDriverEnd d at) (now : Driv
           ∙ ap (λ (n : ℕ). (head + n - length (taken new) % n) % n) (sym (ap driver_size step))
 
   -- C9, C10 and C11
-  pub renew-cleared : (d1 : DriverSide) → d1 ≡ appended d driver.ClearedHead → is_cleared (driver_state d1) ≡ true
+  pub renew-cleared : (d1 : DriverSide) → d1 ≡ driver_grown d driver.ClearedHead → is_cleared (driver_state d1) ≡ true
   renew-cleared d1 one = ap (λ (x : RxDriven). is_cleared x.state) (record-after d d1 driver.ClearedHead one)
 
-  module _ (d1 d2 d3 : DriverSide) (one : d1 ≡ appended d driver.ClearedHead) (two : d2 ≡ appended d1 driver.ClearedTail) (back : returned now ≡ length (posted now)) where
+  module _ (d1 d2 d3 : DriverSide) (one : d1 ≡ driver_grown d driver.ClearedHead) (two : d2 ≡ driver_grown d1 driver.ClearedTail) (back : returned now ≡ length (posted now)) where
     first : driver_record d1 ≡ drive (driver_record d) driver.ClearedHead
     first = record-after d d1 driver.ClearedHead one
 
@@ -141,7 +141,7 @@ module _ (d : DriverSide) (at : DriverPlaces) (h : IsDriverEnd d at) (now : Driv
     pub renew-back : returned d2 ≡ length (posted d2)
     renew-back = subst (λ (x : RxDriven). length x.given + x.reclaimed ≡ length x.posted) (sym second) all-back
 
-    module _ (three : d3 ≡ appended d2 (driver.Own ClearedQuiet)) where
+    module _ (three : d3 ≡ driver_grown d2 (driver.Own ClearedQuiet)) where
       pub renew-keeps : IsDriverEnd d3 (anew at.size)
       renew-keeps = end-after d2 d3 (driver.Own ClearedQuiet) (anew at.size) three
           (subst (λ (n : ℕ). IsEndOf n (drive (driver_record d2) (driver.Own ClearedQuiet)) unknown (anew at.size)) (h.size_is ∙ sym same-size)
@@ -149,7 +149,7 @@ module _ (d : DriverSide) (at : DriverPlaces) (h : IsDriverEnd d at) (now : Driv
 
       pub renewed : GoneOver now d3
       renewed = record {
-        step = three ∙ ap (λ (s : DriverSide). appended s (driver.Own ClearedQuiet)) (two ∙ ap (λ (s : DriverSide). appended s driver.ClearedTail) (one ∙ ap (λ (s : DriverSide). appended s driver.ClearedHead) was));
+        step = three ∙ ap (λ (s : DriverSide). driver_grown s (driver.Own ClearedQuiet)) (two ∙ ap (λ (s : DriverSide). driver_grown s driver.ClearedTail) (one ∙ ap (λ (s : DriverSide). driver_grown s driver.ClearedHead) was));
         fresh = record-after d2 d3 (driver.Own ClearedQuiet) three ∙ ap (λ (x : RxDriven). drive x (driver.Own ClearedQuiet)) second;
         unlearnt = known-after d2 d3 (driver.Own ClearedQuiet) three;
       }

@@ -14,11 +14,11 @@ use Rattle.shared_ring.specs.Records.{undriven}
 use Rattle.shared_ring.proofs.Posting.{record-after, known-after, anew, poster-anew, poster-post, poster-back, poster-shaken, poster-published, shaken-record, shaken-known}
 use Rattle.rx_ring.specs.declared.events.RxDriverOwn.TheVariants.{NotDone, Taken, LoadedQuiet}
 use Rattle.rx_ring.specs.Records.{RxDriven, DriverStep, drive, segment_of, Knowing, unknown, know}
-use Rattle.rx_ring.specs.Ends.{DriverSide, driver_size, driver_record, driver_state, known_of, appended}
+use Rattle.rx_ring.specs.Ends.{DriverSide, driver_size, driver_record, driver_state, known_of, driver_grown}
 use Rattle.rx_ring.specs.Calls.{IsEndOf, IsDriverEnd}
 
 -- one more event
-pub end-after : (d new : DriverSide) (e : DriverStep) (at : DriverPlaces) → new ≡ appended d e → IsEndOf (driver_size d) (drive (driver_record d) e) (know (driver_record d) (known_of d) e) at → IsDriverEnd new at
+pub end-after : (d new : DriverSide) (e : DriverStep) (at : DriverPlaces) → new ≡ driver_grown d e → IsEndOf (driver_size d) (drive (driver_record d) e) (know (driver_record d) (known_of d) e) at → IsDriverEnd new at
 end-after d new e at step h = subst (λ (n : ℕ). IsEndOf n (driver_record new) (known_of new) at) (sym (ap driver_size step))
     (subst (λ (x : RxDriven). IsEndOf (driver_size d) x (known_of new) at) (sym (record-after d new e step))
     (subst (λ (k : Knowing). IsEndOf (driver_size d) (drive (driver_record d) e) k at) (sym (known-after d new e step)) h))
@@ -53,7 +53,7 @@ module _ (n : ℕ) (x : RxDriven) (k : Knowing) (at : DriverPlaces) (h : IsEndOf
   }
 
 -- C1, C4, C5
-pub end-shake : (d new : DriverSide) (at : DriverPlaces) (step : HandshakeStep) (w : ℕ) → new ≡ appended d (shake_event step w) → MayShake step (driver_state d) → IsDriverEnd d at → IsDriverEnd new (record at { state = shaken step at.state w })
+pub end-shake : (d new : DriverSide) (at : DriverPlaces) (step : HandshakeStep) (w : ℕ) → new ≡ driver_grown d (shake_event step w) → MayShake step (driver_state d) → IsDriverEnd d at → IsDriverEnd new (record at { state = shaken step at.state w })
 end-shake d new at step w is may h = end-after d new (shake_event step w) (record at { state = shaken step at.state w }) is
     (subst (λ (x : RxDriven). IsEndOf (driver_size d) x (know (driver_record d) (known_of d) (shake_event step w)) (record at { state = shaken step at.state w })) (sym (shaken-record d step w))
     (subst (λ (k : Knowing). IsEndOf (driver_size d) (record (driver_record d) { state = shaken step (driver_state d) w }) k (record at { state = shaken step at.state w })) (sym (shaken-known d step w))

@@ -12,7 +12,7 @@ use Rattle.rx_ring.specs.declared.events.RxDriverOwn.TheVariants.{NotDone, Taken
 use Rattle.rx_ring.specs.declared.driver.Poll.{Poll}
 use Rattle.rx_ring.specs.declared.driver.Poll.TheVariants as poll
 use Rattle.rx_ring.specs.Records.{RxDriven, RxControlled, Knowing, unknown}
-use Rattle.rx_ring.specs.Ends.{DriverSide, driver_size, driver_record, posted, taken, reclaimed, returned, driver_state, known_of, saw_quiet, is_drained, next_place, appended, ControllerSide, controller_size, controller_record, serve_place, answered}
+use Rattle.rx_ring.specs.Ends.{DriverSide, driver_size, driver_record, posted, taken, reclaimed, returned, driver_state, known_of, saw_quiet, is_drained, next_place, driver_grown, ControllerSide, controller_size, controller_record, serve_place, controller_grown}
 pub use Rattle.shared_ring.specs.Meeting.{IsTold}
 use Rattle.rx_ring.specs.Meeting.{left_by}
 pub use Rattle.shared_ring.specs.Calls.{IsFreshDriver, IsFreshController, NoneOut, FoundAhead as FoundFree, MayEnable, IsSettled, MayDisable, MayAnswer, AnsweredEnabling, AnsweredDisabling, Answered}
@@ -29,7 +29,7 @@ pub record SawNotDone (old new : DriverSide) : Type 0 where
   pub some_out : length (taken old) < length (posted old)
   pub word : ℕ
   pub clear : word % 2 ≡ 0
-  pub step : new ≡ appended old (driver.Own (NotDone (next_place old) word))
+  pub step : new ≡ driver_grown old (driver.Own (NotDone (next_place old) word))
   pub same : driver_record new ≡ driver_record old
   pub drained : saw_quiet old ≡ true → is_drained new ≡ true
   pub known : known_of new ≡ record (known_of old) { drained = is_drained old || saw_quiet old }
@@ -39,7 +39,7 @@ pub record TookSegment (old : DriverSide) (buf : Buffer) (eop : Bool) (new : Dri
   pub live : is_live (driver_state old) ≡ true
   pub some_out : length (taken old) < length (posted old)
   pub none_back : reclaimed old ≡ 0
-  pub step : new ≡ appended old (driver.Own (Taken (next_place old) (rx_word (length buf.bytes) eop) buf))
+  pub step : new ≡ driver_grown old (driver.Own (Taken (next_place old) (rx_word (length buf.bytes) eop) buf))
   pub number : slice_get (posted old) (length (taken old)) ≡ Some buf.number
   pub real : buf ≡ buffer buf.number buf.bytes
   pub follows : Follows piece_of (driver_size old) (unfinished piece_of (taken old)) buf.bytes eop
@@ -78,14 +78,14 @@ told_left d = left_at d (known_of d).head
 
 pub record FoundLeft (old : DriverSide) (left : ℕ) (new : DriverSide) : Type 0 where
   pub head : ℕ
-  pub step : new ≡ appended old (driver.LoadedHead head)
+  pub step : new ≡ driver_grown old (driver.LoadedHead head)
   pub same : driver_record new ≡ driver_record old
   pub known : known_of new ≡ record (known_of old) { head = Some head }
   pub told : told_left new ≡ Some left
 
 -- the oldest buffer that was out came back
 pub record CameHome (old : DriverSide) (buf : Buffer) (new : DriverSide) : Type 0 where
-  pub step : new ≡ appended old (driver.Reclaimed (next_place old) buf)
+  pub step : new ≡ driver_grown old (driver.Reclaimed (next_place old) buf)
   pub number : slice_get (posted old) (returned old) ≡ Some buf.number
   pub real : buf ≡ buffer buf.number buf.bytes
   pub same : driver_record new ≡ record (driver_record old) { reclaimed = reclaimed old + 1 }
@@ -97,7 +97,7 @@ Reclaimed old (Some buf) new = CameHome old buf new
 
 -- head, tail and quiet word are cleared, and an epoch begins in which nothing is done and nothing learnt
 pub record GoneOver (old new : DriverSide) : Type 0 where
-  pub step : new ≡ appended (appended (appended old driver.ClearedHead) driver.ClearedTail) (driver.Own ClearedQuiet)
+  pub step : new ≡ driver_grown (driver_grown (driver_grown old driver.ClearedHead) driver.ClearedTail) (driver.Own ClearedQuiet)
   pub fresh : driver_record new ≡ undriven
   pub unlearnt : known_of new ≡ unknown
 
@@ -113,7 +113,7 @@ IsDriverEnd d at = IsEndOf (driver_size d) (driver_record d) (known_of d) at
 -- A4: the next descriptor was loaded, and this empty buffer came out of its slot
 pub record Fetched (old : ControllerSide) (buf : Buffer) (new : ControllerSide) : Type 0 where
   pub word : ℕ
-  pub step : new ≡ answered old (controller.Fetched (serve_place old) word buf)
+  pub step : new ≡ controller_grown old (controller.Fetched (serve_place old) word buf)
   pub empty : buf ≡ buffer buf.number []
   pub same : controller_record new ≡ record (controller_record old) { held = Some buf }
 

@@ -9,6 +9,7 @@ use Rattle.shared_ring.specs.declared.events.ControllerEvent.{ControllerEvent}
 use Rattle.shared_ring.specs.Accesses.{Access, access}
 use Rattle.shared_ring.specs.Forms.{Reading}
 use Rattle.shared_ring.specs.Records as shared
+use Rattle.shared_ring.specs.Registers.{quiet_index}
 use Rattle.shared_ring.specs.Records.{Driven, Controlled, undriven, uncontrolled}
 use Rattle.rx_ring.specs.declared.events.RxDriverOwn.{RxDriverOwn}
 use Rattle.rx_ring.specs.declared.events.RxDriverOwn.TheVariants.{NotDone, Taken, LoadedQuiet, ClearedQuiet}
@@ -59,12 +60,12 @@ control_own c SaidQuiet = record c { barred = true }
 abbrev pub driver_names : ℕ → RxDriverOwn → Access
 driver_names n (NotDone place word) = access place word
 driver_names n (Taken place word b) = access place word
-driver_names n (LoadedQuiet word) = access (n + 3) word
-driver_names n ClearedQuiet = access (n + 3) 0
+driver_names n (LoadedQuiet word) = access (quiet_index n) word
+driver_names n ClearedQuiet = access (quiet_index n) 0
 
 abbrev pub controller_names : ℕ → RxControllerOwn → Access
 controller_names n (WroteBack place word b) = access place word
-controller_names n SaidQuiet = access (n + 3) 1
+controller_names n SaidQuiet = access (quiet_index n) 1
 
 abbrev pub control : ℕ → RxControlled → ControllerStep → RxControlled
 control n = shared.control n control_own

@@ -10,7 +10,7 @@ ghost use Rattle.ring_model.specs.shared.Handshakes.{is_serving};
 ghost use Rattle.shared_ring.specs.Words.{control_word};
 ghost use Rattle.shared_ring.specs.declared.events.ControllerEvent.TheVariants.{StoredHead, LoadedRequest, Own};
 ghost use Rattle.rx_ring.specs.declared.events.RxControllerOwn.TheVariants.{WroteBack, SaidQuiet};
-ghost use Rattle.rx_ring.specs.Ends.{controller_size, controller_record, stored, known_free, held, held_number, controller_state, is_quiet, is_between, serve_place, answered};
+ghost use Rattle.rx_ring.specs.Ends.{controller_size, controller_record, stored, known_free, held, held_number, controller_state, is_quiet, is_between, serve_place, controller_grown};
 ghost use Rattle.shared_ring.specs.Ends.{controller_of, controller_side};
 ghost use Rattle.rx_ring.specs.Form.{rx};
 ghost use Rattle.rx_ring.specs.Calls.{IsFreshController, FoundFree, Fetched, MayAnswer, IsSettled, Answered, segment};
@@ -96,7 +96,7 @@ impl RxControllerEnd {
         requires held { held_number self.old ≡ Some buf.number }
         requires real { buf ≡ buffer buf.number buf.bytes }
         requires follows { Follows piece_of (controller_size self.old) (unfinished piece_of (stored self.old)) buf.bytes eop }
-        ensures step { self.new ≡ answered self.old (Own (WroteBack (serve_place self.old) (rx_word (length buf.bytes) eop) buf)) }
+        ensures step { self.new ≡ controller_grown self.old (Own (WroteBack (serve_place self.old) (rx_word (length buf.bytes) eop) buf)) }
         ensures record { controller_record self.new ≡ record (controller_record self.old) { served = stored self.old ++ segment buf eop ∷ []; held = None } }
     {
         steps::write_back(&mut self.seat, &ring.0, self.at.serve, buf, eop);
@@ -112,12 +112,12 @@ impl RxControllerEnd {
         requires own { self.old.table ≡ ring.now }
         requires serving { is_serving (controller_state self.old) ≡ true }
         requires held { held self.old ≡ None }
-        ensures step { self.new ≡ answered self.old (StoredHead (serve_place self.old)) }
+        ensures step { self.new ≡ controller_grown self.old (StoredHead (serve_place self.old)) }
         ensures record { controller_record self.new ≡ record (controller_record self.old) { head = serve_place self.old } }
     {
-        let word = self.at.size as usize;
+        let index = self.at.size as usize;
         self.seat
-            .store_own::<HeadStore>(&ring.0, word, self.at.serve as u64);
+            .store_own::<HeadStore>(&ring.0, index, self.at.serve as u64);
         self.head = self.at.serve;
     }
 
@@ -136,7 +136,7 @@ impl RxControllerEnd {
         requires serving { is_serving (controller_state self.old) ≡ true }
         requires held { held self.old ≡ None }
         requires between { is_between self.old ≡ true }
-        ensures step { self.new ≡ answered self.old (Own SaidQuiet) }
+        ensures step { self.new ≡ controller_grown self.old (Own SaidQuiet) }
         ensures record { controller_record self.new ≡ record (controller_record self.old) { barred = true } }
     {
         self.finished = true;

@@ -9,7 +9,7 @@ ghost use Rattle.ring_model.specs.shared.Handshakes.{is_open, is_live, is_new, i
 ghost use Rattle.shared_ring.specs.Words.{control_word};
 ghost use Rattle.shared_ring.specs.declared.events.DriverEvent.TheVariants.{Posted, Published, AskedEnable, LoadedControl, AskedDisable, LoadedHead, ClearedHead, ClearedTail, Own};
 ghost use Rattle.rx_ring.specs.declared.events.RxDriverOwn.TheVariants.{LoadedQuiet, ClearedQuiet};
-ghost use Rattle.rx_ring.specs.Ends.{driver_size, driver_record, posted, taken, returned, driver_state, known_of, saw_quiet, fill_place, appended};
+ghost use Rattle.rx_ring.specs.Ends.{driver_size, driver_record, posted, taken, returned, driver_state, known_of, saw_quiet, fill_place, driver_grown};
 ghost use Rattle.shared_ring.specs.Ends.{driver_of, driver_side};
 ghost use Rattle.rx_ring.specs.Form.{rx};
 ghost use Rattle.rx_ring.specs.Calls.{IsFreshDriver, Polled, told_quiet, Reclaimed, FoundLeft, GoneOver};
@@ -80,7 +80,7 @@ impl RxDriverEnd {
         requires open { is_open (driver_state self.old) ≡ true }
         requires room { length (posted self.old) + 1 < returned self.old + driver_size self.old }
         requires empty { buf ≡ buffer buf.number [] }
-        ensures step { self.new ≡ appended self.old (Posted (fill_place self.old) 0 buf) }
+        ensures step { self.new ≡ driver_grown self.old (Posted (fill_place self.old) 0 buf) }
         ensures record { driver_record self.new ≡ record (driver_record self.old) { posted = posted self.old ++ buf.number ∷ [] } }
         ensures known { known_of self.new ≡ known_of self.old }
     {
@@ -94,7 +94,7 @@ impl RxDriverEnd {
     pub fn publish(&mut self, ring: &RxRing)
         requires own { self.old.table ≡ ring.now }
         requires open { is_open (driver_state self.old) ≡ true }
-        ensures step { self.new ≡ appended self.old (Published (fill_place self.old)) }
+        ensures step { self.new ≡ driver_grown self.old (Published (fill_place self.old)) }
         ensures record { driver_record self.new ≡ record (driver_record self.old) { published = length (posted self.old) } }
         ensures known { known_of self.new ≡ known_of self.old }
     {
@@ -130,7 +130,7 @@ impl RxDriverEnd {
     #[inline]
     pub fn is_quiet(&mut self, ring: &RxRing) -> bool
         requires own { self.old.table ≡ ring.now }
-        ensures step { self.new ≡ appended self.old (Own (LoadedQuiet (bit result))) }
+        ensures step { self.new ≡ driver_grown self.old (Own (LoadedQuiet (bit result))) }
         ensures record { driver_record self.new ≡ driver_record self.old }
         ensures seen { result ≡ true → saw_quiet self.new ≡ true }
         ensures known { known_of self.new ≡ told_quiet result self.old }

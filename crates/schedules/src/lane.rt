@@ -2,6 +2,7 @@
 
 use crate::chance::Chance;
 use crate::weights::Mood;
+use limits::{BUFFER_BYTES, LEAST_FRAME, MOST_FRAME};
 use ring_machine::{Move, RxStep, SegmentDescriptor, SegmentLength, TxStep};
 
 /// The most segments that a frame is drawn with: as many as a ring of 8 has room for.
@@ -31,13 +32,16 @@ fn frame_bytes(chance: &mut Chance, most: u32) -> u32 {
         _ => most,
     };
     let more = chance.below(range.max(1));
-    more.saturating_add(14).min(most).min(15_000)
+    more.saturating_add(LEAST_FRAME as u32)
+        .min(most)
+        .min(MOST_FRAME as u32)
 }
 
 impl Lane {
     /// A queue before its first move.
     pub fn new(chance: &mut Chance) -> Lane {
-        let fill = if chance.one_in(2) { 1024 } else { 2048 };
+        let room = BUFFER_BYTES as u32;
+        let fill = if chance.one_in(2) { room / 2 } else { room };
         let mut lane = Lane {
             mood: Mood::Even,
             bytes: 60,

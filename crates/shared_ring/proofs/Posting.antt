@@ -17,7 +17,7 @@ use Rattle.shared_ring.specs.declared.ends.HandshakeStep.TheVariants.{AskEnable,
 use Rattle.shared_ring.specs.declared.events.DriverEvent.{DriverEvent}
 use Rattle.shared_ring.specs.declared.events.DriverEvent.TheVariants as driver
 use Rattle.shared_ring.specs.Calls.{IsPoster, MayShake, shake_event, shaken}
-use Rattle.shared_ring.specs.Ends.{DriverSide, driver_size, driver_record, known_of, driver_state, appended}
+use Rattle.shared_ring.specs.Ends.{DriverSide, driver_size, driver_record, known_of, driver_state, driver_grown}
 use Rattle.shared_ring.specs.Steps.{CameBack}
 use Rattle.shared_ring.specs.Forms.{Form, drive, know}
 use Rattle.shared_ring.specs.Records.{Driven, undriven}
@@ -84,10 +84,10 @@ module _ {Posted Given : Type 0} (n : ℕ) (x : Driven Posted Given) (at : Drive
 
 -- How the record of an end, and what it has learnt, are read after a step
 module _ {Ring Posted Served Given D C : Type 0} {form : Form Ring Posted Served Given D C} where
-  pub record-after : (d new : DriverSide form) (e : DriverEvent D) → new ≡ appended d e → driver_record new ≡ drive form (driver_record d) e
+  pub record-after : (d new : DriverSide form) (e : DriverEvent D) → new ≡ driver_grown d e → driver_record new ≡ drive form (driver_record d) e
   record-after d new e step = ap driver_record step ∙ driving-snoc form.posting form.drive_own undriven d.events e
 
-  pub known-after : (d new : DriverSide form) (e : DriverEvent D) → new ≡ appended d e → known_of new ≡ know form (driver_record d) (known_of d) e
+  pub known-after : (d new : DriverSide form) (e : DriverEvent D) → new ≡ driver_grown d e → known_of new ≡ know form (driver_record d) (known_of d) e
   known-after d new e step = ap known_of step ∙ knowing-snoc form.posting form.drive_own form.saw_head form.know_own undriven form.unknown d.events e
 
   -- a step of the handshake changes the state alone, and teaches nothing else

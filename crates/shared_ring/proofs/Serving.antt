@@ -18,7 +18,7 @@ use Rattle.shared_ring.specs.declared.ends.ControllerLoad.TheVariants.{Tail, Req
 use Rattle.shared_ring.specs.declared.events.ControllerEvent.{ControllerEvent}
 use Rattle.shared_ring.specs.declared.events.ControllerEvent.TheVariants as controller
 use Rattle.shared_ring.specs.Calls.{IsServer, FoundAhead, LoadedRequested, LoadedWord, MayEnable, MayDisable, MayAnswer, IsSettled, Answered}
-use Rattle.shared_ring.specs.Ends.{ControllerSide, controller_size, controller_record, controller_state, served, held, serve_place, answered}
+use Rattle.shared_ring.specs.Ends.{ControllerSide, controller_size, controller_record, controller_state, served, held, serve_place, controller_grown}
 use Rattle.shared_ring.specs.Forms.{Form, control}
 use Rattle.shared_ring.specs.Records.{Controlled, uncontrolled, count_at, ends_whole}
 use Rattle.shared_ring.specs.Slots.{is_there}
@@ -193,11 +193,11 @@ pub record Leaves {Served : Type 0} (x y : Controlled Served) : Type 0 where
 
 -- What the end's calls answer, over its record
 module _ {Ring Posted Served Given D C : Type 0} {form : Form Ring Posted Served Given D C} where
-  pub record-after : (c new : ControllerSide form) (e : ControllerEvent C) → new ≡ answered c e → controller_record new ≡ control form (controller_size c) (controller_record c) e
+  pub record-after : (c new : ControllerSide form) (e : ControllerEvent C) → new ≡ controller_grown c e → controller_record new ≡ control form (controller_size c) (controller_record c) e
   record-after c new e step = ap controller_record step ∙ controlling-snoc (controller_size c) form.control_own uncontrolled c.events e
 
   -- over what its record is then
-  pub served-as : (c new : ControllerSide form) (e : ControllerEvent C) (y : Controlled Served) (at : ControllerPlaces) → new ≡ answered c e → controller_record new ≡ y → IsServer form.carries (controller_size c) y at → IsServer form.carries (controller_size new) (controller_record new) at
+  pub served-as : (c new : ControllerSide form) (e : ControllerEvent C) (y : Controlled Served) (at : ControllerPlaces) → new ≡ controller_grown c e → controller_record new ≡ y → IsServer form.carries (controller_size c) y at → IsServer form.carries (controller_size new) (controller_record new) at
   served-as c new e y at step is h = subst (λ (n : ℕ). IsServer form.carries n (controller_record new) at) (sym (ap controller_size step)) (subst (λ (z : Controlled Served). IsServer form.carries (controller_size c) z at) (sym is) h)
 
   -- A3, B3
@@ -228,11 +228,11 @@ module _ {Ring Posted Served Given D C : Type 0} {form : Form Ring Posted Served
 
   module _ (c : ControllerSide form) (at : ControllerPlaces) (h : IsServer form.carries (controller_size c) (controller_record c) at) where
     -- C2
-    pub request-keeps : (new : ControllerSide form) (v : Control) → new ≡ answered c (controller.LoadedRequest (control_word v)) → IsServer form.carries (controller_size new) (controller_record new) (record at { seen = v })
+    pub request-keeps : (new : ControllerSide form) (v : Control) → new ≡ controller_grown c (controller.LoadedRequest (control_word v)) → IsServer form.carries (controller_size new) (controller_record new) (record at { seen = v })
     request-keeps new v step = served-as c new (controller.LoadedRequest (control_word v)) (record (controller_record c) { seen = control_word v }) (record at { seen = v }) step (record-after c new (controller.LoadedRequest (control_word v)) step)
         (server-request form.carries (controller_size c) (controller_record c) at h v)
 
-    pub requested : (new : ControllerSide form) (v : Control) → new ≡ answered c (controller.LoadedRequest (control_word v)) → LoadedRequested c (control_word v) new
+    pub requested : (new : ControllerSide form) (v : Control) → new ≡ controller_grown c (controller.LoadedRequest (control_word v)) → LoadedRequested c (control_word v) new
     requested new v step = record { step = step; same = record-after c new (controller.LoadedRequest (control_word v)) step }
 
     -- C3
@@ -243,21 +243,21 @@ module _ {Ring Posted Served Given D C : Type 0} {form : Form Ring Posted Served
       pub asks-disable : is_serving at.state ≡ true → MayDisable c
       asks-disable serving = ⊎_elim (λ e. absurd (both_ways (is_serving (controller_state c)) e.idle (sym (ap is_serving h.state_is) ∙ serving))) (λ d. d) may
 
-      pub disable-keeps : (new : ControllerSide form) → is_serving at.state ≡ true → new ≡ answered c controller.Disabled → IsServer form.carries (controller_size new) (controller_record new) (record at { state = Ended; seen = Disabled })
+      pub disable-keeps : (new : ControllerSide form) → is_serving at.state ≡ true → new ≡ controller_grown c controller.Disabled → IsServer form.carries (controller_size new) (controller_record new) (record at { state = Ended; seen = Disabled })
       disable-keeps new serving step = let d = asks-disable serving in served-as c new controller.Disabled (record (controller_record c) { state = Ended; seen = 0 }) (record at { state = Ended; seen = Disabled }) step (record-after c new controller.Disabled step)
           (server-disable form.carries (controller_size c) (controller_record c) at h d.held)
 
     pub idle-unheld : is_serving at.state ≡ false → held c ≡ None
     idle-unheld idle = none-there (held c) (sym h.held_is ∙ ⊎_elim (λ t. absurd (both_ways (is_serving (controller_state c)) (sym (ap is_serving h.state_is) ∙ idle) (h.held_serving t))) (λ f. f) (cases_Bool at.holding))
 
-    pub enable-keeps : (new : ControllerSide form) → is_serving at.state ≡ false → new ≡ answered c controller.Enabled → IsServer form.carries (controller_size new) (controller_record new) (record at { serve = 0; ahead = 0; between = true; state = Serving; seen = Enabled })
+    pub enable-keeps : (new : ControllerSide form) → is_serving at.state ≡ false → new ≡ controller_grown c controller.Enabled → IsServer form.carries (controller_size new) (controller_record new) (record at { serve = 0; ahead = 0; between = true; state = Serving; seen = Enabled })
     enable-keeps new idle step = served-as c new controller.Enabled (record (controller_record c) { served = []; known = 0; head = 0; state = Serving; seen = 2; barred = false }) (record at { serve = 0; ahead = 0; between = true; state = Serving; seen = Enabled }) step (record-after c new controller.Enabled step)
         (server-enable form.carries (controller_size c) (controller_record c) at h idle)
 
-    pub enabled-is : (new : ControllerSide form) → is_serving at.state ≡ false → new ≡ answered c controller.Enabled → Answered c new
+    pub enabled-is : (new : ControllerSide form) → is_serving at.state ≡ false → new ≡ controller_grown c controller.Enabled → Answered c new
     enabled-is new idle step = inl (record { was = sym (ap is_serving h.state_is) ∙ idle; step = step; same = record-after c new controller.Enabled step })
 
-    pub disabled-is : (new : ControllerSide form) → is_serving at.state ≡ true → new ≡ answered c controller.Disabled → Answered c new
+    pub disabled-is : (new : ControllerSide form) → is_serving at.state ≡ true → new ≡ controller_grown c controller.Disabled → Answered c new
     disabled-is new serving step = inr (record { was = sym (ap is_serving h.state_is) ∙ serving; step = step; same = record-after c new controller.Disabled step })
 
     -- what `can_answer` reads

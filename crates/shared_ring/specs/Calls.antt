@@ -18,7 +18,7 @@ use Rattle.shared_ring.specs.declared.ends.HandshakeStep.TheVariants.{AskEnable,
 use Rattle.shared_ring.specs.declared.events.DriverEvent.{DriverEvent}
 use Rattle.shared_ring.specs.declared.events.DriverEvent.TheVariants as driver
 use Rattle.shared_ring.specs.declared.events.ControllerEvent.TheVariants as controller
-use Rattle.shared_ring.specs.Ends.{DriverSide, posted, returned, next_place, ControllerSide, controller_size, controller_record, controller_state, served, known_ahead, held, is_between, head_stored, serve_place, seen, answered}
+use Rattle.shared_ring.specs.Ends.{DriverSide, posted, returned, next_place, ControllerSide, controller_size, controller_record, controller_state, served, known_ahead, held, is_between, head_stored, serve_place, seen, controller_grown}
 use Rattle.shared_ring.specs.Forms.{Form}
 use Rattle.shared_ring.specs.Records.{Driven, Controlled, ends_whole}
 use Rattle.shared_ring.specs.Slots.{is_there}
@@ -45,7 +45,7 @@ module _ {Ring Posted Served Given D C : Type 0} {form : Form Ring Posted Served
   -- A3, B3: the tail was loaded, and so many are ahead
   pub record FoundAhead (old : ControllerSide form) (count : ℕ) (new : ControllerSide form) : Type 0 where
     pub tail : ℕ
-    pub step : new ≡ answered old (controller.Looked tail)
+    pub step : new ≡ controller_grown old (controller.Looked tail)
     pub ahead : count ≡ (tail + controller_size old - serve_place old) % controller_size old
     pub same : controller_record new ≡ record (controller_record old) { known = length (served old) + count }
     pub grows : known_ahead old ≤ count
@@ -58,7 +58,7 @@ module _ {Ring Posted Served Given D C : Type 0} {form : Form Ring Posted Served
   -- a new epoch begins: nothing is served in it, and nothing known
   pub record AnsweredEnabling (old new : ControllerSide form) : Type 0 where
     pub was : is_serving (controller_state old) ≡ false
-    pub step : new ≡ answered old controller.Enabled
+    pub step : new ≡ controller_grown old controller.Enabled
     pub same : controller_record new ≡ record (controller_record old) { served = []; known = 0; head = 0; state = Serving; seen = 2; barred = false }
 
   -- the end serves, nothing is held, the last that was served ends a frame, the head is stored after it, and the direction lets go
@@ -86,7 +86,7 @@ module _ {Ring Posted Served Given D C : Type 0} {form : Form Ring Posted Served
 
   pub record AnsweredDisabling (old new : ControllerSide form) : Type 0 where
     pub was : is_serving (controller_state old) ≡ true
-    pub step : new ≡ answered old controller.Disabled
+    pub step : new ≡ controller_grown old controller.Disabled
     pub same : controller_record new ≡ record (controller_record old) { state = Ended; seen = 0 }
 
   abbrev pub Answered : ControllerSide form → ControllerSide form → Type 0
@@ -98,7 +98,7 @@ module _ {Ring Posted Served Given D C : Type 0} {form : Form Ring Posted Served
   MayLoadWord Request c = Unit {0}
 
   pub record LoadedRequested (old : ControllerSide form) (word : ℕ) (new : ControllerSide form) : Type 0 where
-    pub step : new ≡ answered old (controller.LoadedRequest word)
+    pub step : new ≡ controller_grown old (controller.LoadedRequest word)
     pub same : controller_record new ≡ record (controller_record old) { seen = word }
 
   abbrev pub LoadedWord : ControllerLoad → ControllerSide form → ℕ → ControllerSide form → Type 0

@@ -12,6 +12,7 @@ use Rattle.shared_ring.specs.declared.events.ControllerEvent.{ControllerEvent}
 use Rattle.shared_ring.specs.declared.events.ControllerEvent.TheVariants as controller
 use Rattle.shared_ring.specs.Forms.{Form, driving, controlling}
 use Rattle.shared_ring.specs.Records.{Driven, Controlled, count_at}
+use Rattle.shared_ring.specs.Registers.{head_index, tail_index, control_index}
 use Rattle.shared_ring.specs.Tables.{words_of}
 
 module _ {Ring Posted Served Given D C : Type 0} (form : Form Ring Posted Served Given D C) (n : ℕ) (mode : Completion) where
@@ -51,23 +52,23 @@ module _ {Ring Posted Served Given D C : Type 0} (form : Form Ring Posted Served
     pub record DriverMay : Type 0 where
       pub post : (place word : ℕ) (b : Buffer) → place ≡ length d.posted % n → is_open d.state ≡ true → length d.posted + 1 < length d.given + d.reclaimed + n → form.MayPost n d.posted word b
           → Does (driver.Posted place word b) (slice_set words place word) (slice_set homes place (some b))
-      pub publish : (tail : ℕ) → tail ≡ length d.posted % n → is_open d.state ≡ true → form.MayPublish d.posted → Does (driver.Published tail) (slice_set words (n + 1) tail) homes
-      pub ask_enable : is_new d.state ≡ true → Does driver.AskedEnable (slice_set words (n + 2) 1) homes
-      pub control : (slice_index words (n + 2) ≤ 3) × Does (driver.LoadedControl (slice_index words (n + 2))) words homes
-      pub ask_disable : is_on d.state ≡ true → Does driver.AskedDisable (slice_set words (n + 2) 3) homes
-      pub head : is_stopped d.state ≡ true → (slice_index words n < n) × Does (driver.LoadedHead (slice_index words n)) words homes
+      pub publish : (tail : ℕ) → tail ≡ length d.posted % n → is_open d.state ≡ true → form.MayPublish d.posted → Does (driver.Published tail) (slice_set words (tail_index n) tail) homes
+      pub ask_enable : is_new d.state ≡ true → Does driver.AskedEnable (slice_set words (control_index n) 1) homes
+      pub control : (slice_index words (control_index n) ≤ 3) × Does (driver.LoadedControl (slice_index words (control_index n))) words homes
+      pub ask_disable : is_on d.state ≡ true → Does driver.AskedDisable (slice_set words (control_index n) 3) homes
+      pub head : is_stopped d.state ≡ true → (slice_index words (head_index n) < n) × Does (driver.LoadedHead (slice_index words (head_index n))) words homes
       pub reclaim : (place : ℕ) → place ≡ (length d.given + d.reclaimed) % n → is_stopped d.state ≡ true → length d.given + d.reclaimed < length d.posted
           → TakesOut d place homes (λ b. ds ++ driver.Reclaimed place b ∷ []) cs (slice_set words place 0)
-      pub clear_head : is_stopped d.state ≡ true → length d.given + d.reclaimed ≡ length d.posted → Does driver.ClearedHead (slice_set words n 0) homes
-      pub clear_tail : form.MayClearTail mode → is_cleared d.state ≡ true → Does driver.ClearedTail (slice_set words (n + 1) 0) homes
+      pub clear_head : is_stopped d.state ≡ true → length d.given + d.reclaimed ≡ length d.posted → Does driver.ClearedHead (slice_set words (head_index n) 0) homes
+      pub clear_tail : form.MayClearTail mode → is_cleared d.state ≡ true → Does driver.ClearedTail (slice_set words (tail_index n) 0) homes
 
     pub record ControllerMay : Type 0 where
-      pub look : is_serving c.state ≡ true → (slice_index words (n + 1) < n) × (c.known ≤ count_at n (length c.served) (slice_index words (n + 1))) × Serves (controller.Looked (slice_index words (n + 1))) words homes
+      pub look : is_serving c.state ≡ true → (slice_index words (tail_index n) < n) × (c.known ≤ count_at n (length c.served) (slice_index words (tail_index n))) × Serves (controller.Looked (slice_index words (tail_index n))) words homes
       pub fetch : (place : ℕ) → place ≡ length c.served % n → is_serving c.state ≡ true → length c.served < c.known → c.held ≡ None → c.barred ≡ false
           → Fetches c place homes ds (λ b. cs ++ controller.Fetched place (slice_index words place) b ∷ []) words
-      pub request : (slice_index words (n + 2) ≤ 3) × Serves (controller.LoadedRequest (slice_index words (n + 2))) words homes
-      pub enable : c.seen ≡ 1 → is_serving c.state ≡ false → Serves controller.Enabled (slice_set words (n + 2) 2) homes
-      pub disable : c.seen ≡ 3 → is_serving c.state ≡ true → c.held ≡ None → c.head ≡ length c.served % n → form.MayDisable c → Serves controller.Disabled (slice_set words (n + 2) 0) homes
+      pub request : (slice_index words (control_index n) ≤ 3) × Serves (controller.LoadedRequest (slice_index words (control_index n))) words homes
+      pub enable : c.seen ≡ 1 → is_serving c.state ≡ false → Serves controller.Enabled (slice_set words (control_index n) 2) homes
+      pub disable : c.seen ≡ 3 → is_serving c.state ≡ true → c.held ≡ None → c.head ≡ length c.served % n → form.MayDisable c → Serves controller.Disabled (slice_set words (control_index n) 0) homes
 
   pub record IsAllowed (q : Ring) (ds : List (DriverEvent D)) (cs : List (ControllerEvent C)) (words : List ℕ) (homes : List (maybe.Option Buffer)) : Type 0 where
     pub driver : DriverMay ds cs words homes

@@ -83,8 +83,8 @@ module _ {Ring Posted Served Given D C : Type 0} {form : Form Ring Posted Served
   abbrev pub next_place : DriverSide form → ℕ
   next_place d = returned d % driver_size d
 
-  abbrev pub appended : DriverSide form → DriverEvent D → DriverSide form
-  appended d e = record d { events = d.events ++ e ∷ [] }
+  abbrev pub driver_grown : DriverSide form → DriverEvent D → DriverSide form
+  driver_grown d e = record d { events = d.events ++ e ∷ [] }
 
   -- Words on a controller's end
   abbrev pub controller_size : ControllerSide form → ℕ
@@ -127,5 +127,5 @@ module _ {Ring Posted Served Given D C : Type 0} {form : Form Ring Posted Served
   abbrev pub serve_place : ControllerSide form → ℕ
   serve_place c = length (served c) % controller_size c
 
-  abbrev pub answered : ControllerSide form → ControllerEvent C → ControllerSide form
-  answered c e = record c { events = c.events ++ e ∷ [] }
+  abbrev pub controller_grown : ControllerSide form → ControllerEvent C → ControllerSide form
+  controller_grown c e = record c { events = c.events ++ e ∷ [] }

@@ -2,7 +2,30 @@
 use Rattle.std.specs.Prelude.{◌≡◌, ℕ, ◌+◌, ◌%◌, List, slice_index}
 use Rattle.ring_model.specs.shared.Queue.{Queue}
 
--- Head at n, tail at n + 1, control at n + 2, quiet at n + 3
+-- The indexes of these words in the table of a ring of n places: they stand behind the descriptors' words. The datasheet's names:
+--
+--   index         word     receive ring                        transmit ring
+--   n             head     RDH                                 TDH
+--   n + 1         tail     RDT                                 TDT
+--   n + 2         control  RXDCTL.ENABLE, asked and answered   TXDCTL.ENABLE, asked and answered
+--   n + 3         quiet    (none: nothing more is stored)      (none, and unused)
+--   n + 4         report   (not there)                         the head write-back, where reports are made by it
+abbrev pub head_index : ℕ → ℕ
+head_index n = n
+
+abbrev pub tail_index : ℕ → ℕ
+tail_index n = n + 1
+
+abbrev pub control_index : ℕ → ℕ
+control_index n = n + 2
+
+abbrev pub quiet_index : ℕ → ℕ
+quiet_index n = n + 3
+
+abbrev pub report_index : ℕ → ℕ
+report_index n = n + 4
+
+-- the values of the words that every ring has
 pub record Registers : Type 0 where
   pub head : ℕ
   pub tail : ℕ
@@ -13,7 +36,7 @@ abbrev pub registers_of : {Posted Served Given : Type 0} → Queue Posted Served
 registers_of q quiet = record { head = q.head; tail = q.published % q.size; control = q.handshake.control; quiet = quiet }
 
 pub record HasRegisters (n : ℕ) (g : Registers) (words : List ℕ) : Type 0 where
-  pub head : slice_index words n ≡ g.head
-  pub tail : slice_index words (n + 1) ≡ g.tail
-  pub control : slice_index words (n + 2) ≡ g.control
-  pub quiet : slice_index words (n + 3) ≡ g.quiet
+  pub head : slice_index words (head_index n) ≡ g.head
+  pub tail : slice_index words (tail_index n) ≡ g.tail
+  pub control : slice_index words (control_index n) ≡ g.control
+  pub quiet : slice_index words (quiet_index n) ≡ g.quiet

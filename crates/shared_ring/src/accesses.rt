@@ -16,14 +16,14 @@ use crate::steps::{RingSeat, RingTable};
 pub(crate) fn load<M: EndPlay<E, D, C, R>, E: EndEvent<D, C, R>, D, C, R: Direction<D, C>>(
     table: &RingTable<D, C, R>,
     seat: &mut RingSeat<D, C>,
-    word: usize,
+    index: usize,
 ) -> u64
-    requires { (seat.old.table_id ≡ table.now.shared.table_id) × (word < table.now.shared.table_id.words) × Allows (IsRuled R.form table.now.shared.key.0 table.now.shared.key.1) table.now.shared.table_id.slots seat.old.id seat.old.me word (λ n. n) (M.then (step table.now.shared.table_id.slots word 0 0 none) seat.old.me) }
+    requires { (seat.old.table_id ≡ table.now.shared.table_id) × (index < table.now.shared.table_id.words) × Allows (IsRuled R.form table.now.shared.key.0 table.now.shared.key.1) table.now.shared.table_id.slots seat.old.id seat.old.me index (λ n. n) (M.then (step table.now.shared.table_id.slots index 0 0 none) seat.old.me) }
     ensures same { (seat.new.table_id ≡ seat.old.table_id) × (seat.new.id ≡ seat.old.id) }
-    ensures told { M.then (step table.now.shared.table_id.slots word 0 0 none) seat.old.me result seat.new.me }
-    ensures counted { Counts E.whose (step table.now.shared.table_id.slots word 0 0 none) seat.old.me result seat.new.me }
+    ensures told { M.then (step table.now.shared.table_id.slots index 0 0 none) seat.old.me result seat.new.me }
+    ensures counted { Counts E.whose (step table.now.shared.table_id.slots index 0 0 none) seat.old.me result seat.new.me }
 {
-    table.shared.load::<M>(seat, word)
+    table.shared.load::<M>(seat, index)
 }
 
 /// A store by the end whose events are `E`.
@@ -31,13 +31,13 @@ pub(crate) fn load<M: EndPlay<E, D, C, R>, E: EndEvent<D, C, R>, D, C, R: Direct
 pub(crate) fn store<M: EndPlay<E, D, C, R>, E: EndEvent<D, C, R>, D, C, R: Direction<D, C>>(
     table: &RingTable<D, C, R>,
     seat: &mut RingSeat<D, C>,
-    word: usize,
+    index: usize,
     value: u64,
 )
-    requires { (seat.old.table_id ≡ table.now.shared.table_id) × (word < table.now.shared.table_id.words) × Allows (IsRuled R.form table.now.shared.key.0 table.now.shared.key.1) table.now.shared.table_id.slots seat.old.id seat.old.me word (λ _. value) (λ _. M.then (step table.now.shared.table_id.slots word value 0 none) seat.old.me value) }
+    requires { (seat.old.table_id ≡ table.now.shared.table_id) × (index < table.now.shared.table_id.words) × Allows (IsRuled R.form table.now.shared.key.0 table.now.shared.key.1) table.now.shared.table_id.slots seat.old.id seat.old.me index (λ _. value) (λ _. M.then (step table.now.shared.table_id.slots index value 0 none) seat.old.me value) }
     ensures same { (seat.new.table_id ≡ seat.old.table_id) × (seat.new.id ≡ seat.old.id) }
-    ensures told { M.then (step table.now.shared.table_id.slots word value 0 none) seat.old.me value seat.new.me }
-    ensures counted { Counts E.whose (step table.now.shared.table_id.slots word value 0 none) seat.old.me value seat.new.me }
+    ensures told { M.then (step table.now.shared.table_id.slots index value 0 none) seat.old.me value seat.new.me }
+    ensures counted { Counts E.whose (step table.now.shared.table_id.slots index value 0 none) seat.old.me value seat.new.me }
 {
-    table.shared.store::<M>(seat, word, value);
+    table.shared.store::<M>(seat, index, value);
 }

@@ -6,7 +6,7 @@ ghost use Rattle.ring_model.specs.shared.Handshakes.{is_open, is_live, is_new, i
 ghost use Rattle.ring_model.specs.shared.Frames.{unfinished};
 ghost use Rattle.ring_model.specs.declared.states.ControllerState.TheVariants as controller_state_is;
 ghost use Rattle.shared_ring.specs.Calls.{IsPoster, MayShake, StoredBy, shake_event, shaken, IsServer, IsSettled, MayAnswer, Answered, MayLoadWord, LoadedWord, FoundAhead};
-ghost use Rattle.shared_ring.specs.Ends.{Side, driver_of, driver_size, driver_record, posted, returned, driver_state, known_of, appended, controller_of, controller_size, controller_record, served, known_ahead, held, controller_state, is_between, answered};
+ghost use Rattle.shared_ring.specs.Ends.{Side, driver_of, driver_size, driver_record, posted, returned, driver_state, known_of, driver_grown, controller_of, controller_size, controller_record, served, known_ahead, held, controller_state, is_between, controller_grown};
 ghost use Rattle.shared_ring.specs.Words.{control_word};
 ghost use Rattle.shared_ring.specs.declared.events.DriverEvent.{DriverEvent};
 ghost use Rattle.shared_ring.specs.declared.events.DriverEvent.TheVariants.{AskedEnable, LoadedControl, AskedDisable};
@@ -61,9 +61,9 @@ impl DriverPlaces {
 pub enum HandshakeStep {
     /// C1: 1 is stored as the control word (RXDCTL, TXDCTL).
     AskEnable,
-    /// C4: the control word is loaded.
+    /// C4: the control word (RXDCTL, TXDCTL) is loaded.
     LoadControl,
-    /// C5: 3 is stored as the control word.
+    /// C5: 3 is stored as the control word (RXDCTL, TXDCTL).
     AskDisable,
 }
 
@@ -85,7 +85,7 @@ pub trait DriverEnd<D, C, R: Direction<D, C>>: Sized {
         requires own { (side self.old).table ≡ Self.Ring.table ring.now }
         requires may { MayShake step (driver_state (driver_of R.form (side self.old))) }
         ensures stored { StoredBy step result }
-        ensures step { driver_of R.form (side self.new) ≡ appended (driver_of R.form (side self.old)) (shake_event step (control_word result)) }
+        ensures step { driver_of R.form (side self.new) ≡ driver_grown (driver_of R.form (side self.old)) (shake_event step (control_word result)) }
         ensures record { driver_record (driver_of R.form (side self.new)) ≡ record (driver_record (driver_of R.form (side self.old))) { state = shaken step (driver_state (driver_of R.form (side self.old))) (control_word result) } }
         ensures known { known_of (driver_of R.form (side self.new)) ≡ known_of (driver_of R.form (side self.old)) };
 
@@ -155,7 +155,7 @@ pub trait DriverEnd<D, C, R: Direction<D, C>>: Sized {
     final fn ask_enable(&mut self, ring: &Self::Ring)
         requires own { (side self.old).table ≡ Self.Ring.table ring.now }
         requires new { is_new (driver_state (driver_of R.form (side self.old))) ≡ true }
-        ensures step { driver_of R.form (side self.new) ≡ appended (driver_of R.form (side self.old)) AskedEnable }
+        ensures step { driver_of R.form (side self.new) ≡ driver_grown (driver_of R.form (side self.old)) AskedEnable }
         ensures record { driver_record (driver_of R.form (side self.new)) ≡ record (driver_record (driver_of R.form (side self.old))) { state = state.Asked } }
         ensures known { known_of (driver_of R.form (side self.new)) ≡ known_of (driver_of R.form (side self.old)) }
     {
@@ -166,7 +166,7 @@ pub trait DriverEnd<D, C, R: Direction<D, C>>: Sized {
     #[inline]
     final fn state(&mut self, ring: &Self::Ring) -> Control
         requires own { (side self.old).table ≡ Self.Ring.table ring.now }
-        ensures step { driver_of R.form (side self.new) ≡ appended (driver_of R.form (side self.old)) (LoadedControl (control_word result)) }
+        ensures step { driver_of R.form (side self.new) ≡ driver_grown (driver_of R.form (side self.old)) (LoadedControl (control_word result)) }
         ensures record { driver_record (driver_of R.form (side self.new)) ≡ record (driver_record (driver_of R.form (side self.old))) { state = learned (driver_state (driver_of R.form (side self.old))) (control_word result) } }
         ensures known { known_of (driver_of R.form (side self.new)) ≡ known_of (driver_of R.form (side self.old)) }
     {
@@ -178,7 +178,7 @@ pub trait DriverEnd<D, C, R: Direction<D, C>>: Sized {
     final fn ask_disable(&mut self, ring: &Self::Ring)
         requires own { (side self.old).table ≡ Self.Ring.table ring.now }
         requires on { is_on (driver_state (driver_of R.form (side self.old))) ≡ true }
-        ensures step { driver_of R.form (side self.new) ≡ appended (driver_of R.form (side self.old)) AskedDisable }
+        ensures step { driver_of R.form (side self.new) ≡ driver_grown (driver_of R.form (side self.old)) AskedDisable }
         ensures record { driver_record (driver_of R.form (side self.new)) ≡ record (driver_record (driver_of R.form (side self.old))) { state = state.Stopping } }
         ensures known { known_of (driver_of R.form (side self.new)) ≡ known_of (driver_of R.form (side self.old)) }
     {
@@ -225,9 +225,9 @@ impl ControllerPlaces {
 /// A word that a controller loads.
 #[derive(Clone, Copy)]
 pub enum ControllerLoad {
-    /// A3, B3: the tail (RDT, TDT).
+    /// A3, B3: the tail (RDT, TDT) is loaded.
     Tail,
-    /// C2: the control word.
+    /// C2: the control word (RXDCTL, TXDCTL) is loaded.
     Request,
 }
 
@@ -326,7 +326,7 @@ pub trait ControllerEnd<D, C, R: Direction<D, C>>: Sized {
     #[inline]
     final fn asked(&mut self, ring: &Self::Ring) -> Control
         requires own { (side self.old).table ≡ Self.Ring.table ring.now }
-        ensures step { controller_of R.form (side self.new) ≡ answered (controller_of R.form (side self.old)) (LoadedRequest (control_word result)) }
+        ensures step { controller_of R.form (side self.new) ≡ controller_grown (controller_of R.form (side self.old)) (LoadedRequest (control_word result)) }
         ensures record { controller_record (controller_of R.form (side self.new)) ≡ record (controller_record (controller_of R.form (side self.old))) { seen = control_word result } }
     {
         self.load(ring, ControllerLoad::Request);

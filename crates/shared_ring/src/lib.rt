@@ -16,6 +16,7 @@ mod ends;
 mod events;
 mod lending;
 mod plays;
+mod registers;
 mod slots;
 mod steps;
 
@@ -28,4 +29,5 @@ pub use ends::{
 pub use events::{ControllerEvent, DriverEvent, View};
 pub use plays::EndEvent;
 pub use refusals::RingError;
+pub use registers::{CONTROL, QUIET, REPORT, TAIL};
 pub use steps::{ControllerSeat, DriverSeat, EndSeat, Ring, Rule};

@@ -22,14 +22,14 @@ use Rattle.shared_ring.proofs.Serving.{unplaced, record-after, loaded-leaves, se
 use Rattle.tx_ring.specs.declared.events.TxControllerOwn.TheVariants.{Sent, Reported}
 use Rattle.descriptor.specs.Transmit.{eop_of, rs_of, paylen_of}
 use Rattle.tx_ring.specs.Records.{Posting, TxControlled, ControllerStep, control, fetch_word, posting_of}
-use Rattle.tx_ring.specs.Ends.{ControllerSide, controller_size, controller_record, sent, known_ready, held, held_word, controller_state, is_owed, serve_place, answered}
+use Rattle.tx_ring.specs.Ends.{ControllerSide, controller_size, controller_record, sent, known_ready, held, held_word, controller_state, is_owed, serve_place, controller_grown}
 use Rattle.tx_ring.specs.Calls.{IsServerOf, IsControllerEnd, Fetched}
 use Rattle.tx_ring.proofs.Lying.{fetched-snoc}
 
-pub word-after : (c new : ControllerSide) (e : ControllerStep) → new ≡ answered c e → held_word new ≡ fetch_word (held_word c) e
+pub word-after : (c new : ControllerSide) (e : ControllerStep) → new ≡ controller_grown c e → held_word new ≡ fetch_word (held_word c) e
 word-after c new e step = ap held_word step ∙ fetched-snoc c.events e
 
-pub end-after : (c new : ControllerSide) (e : ControllerStep) (at : ControllerPlaces) (last : ℕ) (ends asks owing : Bool) → new ≡ answered c e
+pub end-after : (c new : ControllerSide) (e : ControllerStep) (at : ControllerPlaces) (last : ℕ) (ends asks owing : Bool) → new ≡ controller_grown c e
     → IsServerOf (controller_size c) (control (controller_size c) (controller_record c) e) (fetch_word (held_word c) e) at last ends asks owing → IsControllerEnd new at last ends asks owing
 end-after c new e at last ends asks owing step h = subst (λ (n : ℕ). IsServerOf n (controller_record new) (held_word new) at last ends asks owing) (sym (ap controller_size step))
     (subst (λ (x : TxControlled). IsServerOf (controller_size c) x (held_word new) at last ends asks owing) (sym (record-after c new e step))
@@ -61,7 +61,7 @@ module _ (c : ControllerSide) (at : ControllerPlaces) (last : ℕ) (ends asks ow
     pub fetched : (read : TxRead) → read.number ≡ buf.number → read.len ≡ length buf.bytes → read.eop ≡ eop_of word → read.rs ≡ rs_of word → read.paylen ≡ paylen_of word → Fetched now buf read new
     fetched read number len e r p = let i = h.ahead_is in subst (λ (s : ControllerSide). Fetched s buf read new) was (record {
       word = word;
-      step = f.step ∙ ap (λ (k : ℕ). answered c (controller.Fetched k word buf)) h.serve_is;
+      step = f.step ∙ ap (λ (k : ℕ). controller_grown c (controller.Fetched k word buf)) h.serve_is;
       says = f.fetched.says ∙ ap (λ (b : Bool). tx_word (length buf.bytes) b (rs_of word) (paylen_of word)) (sym e) ∙ ap (λ (b : Bool). tx_word (length buf.bytes) read.eop b (paylen_of word)) (sym r) ∙ ap (λ (v : ℕ). tx_word (length buf.bytes) read.eop read.rs v) (sym p);
       eop = e;
       rs = r;
@@ -89,7 +89,7 @@ module _ (c : ControllerSide) (at : ControllerPlaces) (last : ℕ) (ends asks ow
     pub send-head : (head : ℕ) → head ≡ (if (at.serve + 1) == controller_size c then 0 else (at.serve + 1)) → head ≡ (length (sent c) + 1) % controller_size c
     send-head head e = shared.next-is carried (controller_size c) x at h.server head e
 
-    module _ (new : ControllerSide) (head : ℕ) (is : head ≡ (if (at.serve + 1) == controller_size c then 0 else (at.serve + 1))) (step : new ≡ answered c (controller.Own (Sent head (held_word c) buf))) where
+    module _ (new : ControllerSide) (head : ℕ) (is : head ≡ (if (at.serve + 1) == controller_size c then 0 else (at.serve + 1))) (step : new ≡ controller_grown c (controller.Own (Sent head (held_word c) buf))) where
       pub send-keeps : IsControllerEnd new (record at { serve = head; ahead = at.ahead - 1; holding = false; between = ends }) at.serve ends asks asks
       send-keeps = let len = length-append x.served (posting_of (held_word c) buf ∷ []) in
           end-after c new (controller.Own (Sent head (held_word c) buf)) (record at { serve = head; ahead = at.ahead - 1; holding = false; between = ends }) at.serve ends asks asks step (record {
@@ -102,8 +102,8 @@ module _ (c : ControllerSide) (at : ControllerPlaces) (last : ℕ) (ends asks ow
             last_is = λ f. h.serve_is ∙ ap (λ (j : ℕ). j % n) (let g : length x.served ≡ length (x.served ++ posting_of (held_word c) buf ∷ []) - 1 = omega arith in g);
           })
 
-      pub send-step : new ≡ answered now (controller.Own (Sent ((length (sent now) + 1) % controller_size now) (held_word now) buf))
-      send-step = step ∙ ap (λ (k : ℕ). answered c (controller.Own (Sent k (held_word c) buf))) (send-head head is) ∙ ap (λ (s : ControllerSide). answered s (controller.Own (Sent ((length (sent s) + 1) % controller_size s) (held_word s) buf))) was
+      pub send-step : new ≡ controller_grown now (controller.Own (Sent ((length (sent now) + 1) % controller_size now) (held_word now) buf))
+      send-step = step ∙ ap (λ (k : ℕ). controller_grown c (controller.Own (Sent k (held_word c) buf))) (send-head head is) ∙ ap (λ (s : ControllerSide). controller_grown s (controller.Own (Sent ((length (sent s) + 1) % controller_size s) (held_word s) buf))) was
 
       pub send-record : controller_record new ≡ record (controller_record now) { served = sent now ++ posting_of (held_word now) buf ∷ []; held = None; head = (length (sent now) + 1) % controller_size now; barred = rs_of (held_word now) }
       send-record = record-after c new (controller.Own (Sent head (held_word c) buf)) step
@@ -115,7 +115,7 @@ module _ (c : ControllerSide) (at : ControllerPlaces) (last : ℕ) (ends asks ow
     pub owing-now : owing ≡ true
     owing-now = h.owing_is ∙ ap is_owed was ∙ owes
 
-    pub report-keeps : (new : ControllerSide) (p w : ℕ) → new ≡ answered c (controller.Own (Reported p w)) → IsControllerEnd new at last ends asks false
+    pub report-keeps : (new : ControllerSide) (p w : ℕ) → new ≡ controller_grown c (controller.Own (Reported p w)) → IsControllerEnd new at last ends asks false
     report-keeps new p w step = end-after c new (controller.Own (Reported p w)) at last ends asks false step (record {
       server = server-same carried (controller_size c) x at h.server (record x { barred = false }) refl refl refl refl refl;
       head_is = h.head_is;
@@ -126,7 +126,7 @@ module _ (c : ControllerSide) (at : ControllerPlaces) (last : ℕ) (ends asks ow
       last_is = λ f. absurd (false≢true f);
     })
 
-    pub report-record : (new : ControllerSide) (p w : ℕ) → new ≡ answered c (controller.Own (Reported p w)) → controller_record new ≡ record (controller_record now) { barred = false }
+    pub report-record : (new : ControllerSide) (p w : ℕ) → new ≡ controller_grown c (controller.Own (Reported p w)) → controller_record new ≡ record (controller_record now) { barred = false }
     report-record new p w step = record-after c new (controller.Own (Reported p w)) step ∙ ap (λ (s : ControllerSide). let y : TxControlled = record (controller_record s) { barred = false } in y) was
 
   -- what the places and the word of a held buffer still tell

@@ -19,7 +19,7 @@ use Rattle.shared_ring.specs.Records.{undriven}
 use Rattle.tx_ring.specs.declared.events.TxDriverOwn.TheVariants.{NoReport, SawReport, Cleaned, EndedEpoch, ClearedReport}
 use Rattle.tx_ring.specs.Records.{Posting, TxDriven, DriverStep, drive, posting_of, Knowing, know, unknown, seen_after}
 use Rattle.tx_ring.specs.Plays.{report_word}
-use Rattle.tx_ring.specs.Ends.{DriverSide, driver_size, driver_record, posted, cleaned, reclaimed, returned, seen_reported, outstanding, driver_state, known_of, next_place, appended}
+use Rattle.tx_ring.specs.Ends.{DriverSide, driver_size, driver_record, posted, cleaned, reclaimed, returned, seen_reported, outstanding, driver_state, known_of, next_place, driver_grown}
 use Rattle.tx_ring.specs.Meeting.{left_by, left_at}
 use Rattle.shared_ring.specs.Calls.{IsPoster, ReclaimedNext}
 use Rattle.tx_ring.specs.Steps.{OldestAt, Looked, CameClean}
@@ -46,7 +46,7 @@ module _ (d : DriverSide) (at : DriverPlaces) (seen done unseen : ℕ) (whole : 
     item-is : posting_of (tx_word (length buf.bytes) eop rs paylen) buf ≡ item_of buf eop rs paylen
     item-is = let f = follows.follows in posting-posted (item_of buf eop rs paylen) f.few_bytes
 
-    module _ (new : DriverSide) (step : new ≡ appended d (driver.Posted at.fill (tx_word (length buf.bytes) eop rs paylen) buf)) where
+    module _ (new : DriverSide) (step : new ≡ driver_grown d (driver.Posted at.fill (tx_word (length buf.bytes) eop rs paylen) buf)) where
       pub post-keeps : (fill' : ℕ) → is_open (driver_state now) ≡ true → length (posted now) + 1 < returned now + driver_size now → fill' ≡ (if (at.fill + 1) == driver_size d then 0 else (at.fill + 1))
           → IsDriverEnd new (record at { fill = fill'; out = at.out + 1 }) seen done (unseen + 1) eop (slice_set asks at.fill rs) passed
       post-keeps fill' opened room f = end-as d new (driver.Posted at.fill (tx_word (length buf.bytes) eop rs paylen) buf) (record (driver_record d) { posted = posted d ++ item_of buf eop rs paylen ∷ [] }) (known_of d)
@@ -76,7 +76,7 @@ module _ (d : DriverSide) (at : DriverPlaces) (seen done unseen : ℕ) (whole : 
     pub cleaned-one : (new : DriverSide) (buf : Buffer) → CameClean d at.next buf new → CleanedOne now buf new
     cleaned-one new buf f = subst (λ (s : DriverSide). CleanedOne s buf new) was (record {
       item = f.item;
-      step = f.step ∙ ap (λ (p : ℕ). appended d (driver.Own (Cleaned p buf))) h.next_is;
+      step = f.step ∙ ap (λ (p : ℕ). driver_grown d (driver.Own (Cleaned p buf))) h.next_is;
       there = f.there;
       is = f.is;
       same = record-after d new (driver.Own (Cleaned at.next buf)) f.step;
@@ -104,11 +104,11 @@ module _ (d : DriverSide) (at : DriverPlaces) (seen done unseen : ℕ) (whole : 
   })
 
   -- the load of the head
-  pub left-keeps : (new : DriverSide) (head : ℕ) → new ≡ appended d (driver.LoadedHead head) → IsDriverEnd new at seen done unseen whole asks passed
+  pub left-keeps : (new : DriverSide) (head : ℕ) → new ≡ driver_grown d (driver.LoadedHead head) → IsDriverEnd new at seen done unseen whole asks passed
   left-keeps new head step = end-as d new (driver.LoadedHead head) (driver_record d) (record (known_of d) { head = Some head }) at seen done unseen whole asks passed step refl refl
       (end-same (driver_size d) (driver_record d) (known_of d) at seen done unseen whole asks passed h (Some head))
 
-  pub left-found : (new : DriverSide) (head left : ℕ) → new ≡ appended d (driver.LoadedHead head) → left ≡ between_places at.size head at.fill → FoundLeft now left new
+  pub left-found : (new : DriverSide) (head left : ℕ) → new ≡ driver_grown d (driver.LoadedHead head) → left ≡ between_places at.size head at.fill → FoundLeft now left new
   left-found new head left step is = subst (λ (s : DriverSide). FoundLeft s left new) was (record {
     head = head;
     step = step;
@@ -234,13 +234,13 @@ module _ (d : DriverSide) (at : DriverPlaces) (seen done unseen : ℕ) (whole : 
 
   -- C9, C10 and C12
   gone-record : (mode : Completion) (x : DriverSide) → driver_record (gone_over mode x) ≡ undriven
-  gone-record Status x = let y = appended x driver.ClearedHead in record-after y (appended y (driver.Own EndedEpoch)) (driver.Own EndedEpoch) refl
-  gone-record Head x = let y = appended x driver.ClearedHead in let z = appended y driver.ClearedTail in record-after z (appended z (driver.Own ClearedReport)) (driver.Own ClearedReport) refl
-      ∙ ap (λ (r : TxDriven). drive r (driver.Own ClearedReport)) (record-after y (appended y driver.ClearedTail) driver.ClearedTail refl)
+  gone-record Status x = let y = driver_grown x driver.ClearedHead in record-after y (driver_grown y (driver.Own EndedEpoch)) (driver.Own EndedEpoch) refl
+  gone-record Head x = let y = driver_grown x driver.ClearedHead in let z = driver_grown y driver.ClearedTail in record-after z (driver_grown z (driver.Own ClearedReport)) (driver.Own ClearedReport) refl
+      ∙ ap (λ (r : TxDriven). drive r (driver.Own ClearedReport)) (record-after y (driver_grown y driver.ClearedTail) driver.ClearedTail refl)
 
   gone-known : (mode : Completion) (x : DriverSide) → known_of (gone_over mode x) ≡ unknown
-  gone-known Status x = let y = appended x driver.ClearedHead in known-after y (appended y (driver.Own EndedEpoch)) (driver.Own EndedEpoch) refl
-  gone-known Head x = let z = appended (appended x driver.ClearedHead) driver.ClearedTail in known-after z (appended z (driver.Own ClearedReport)) (driver.Own ClearedReport) refl
+  gone-known Status x = let y = driver_grown x driver.ClearedHead in known-after y (driver_grown y (driver.Own EndedEpoch)) (driver.Own EndedEpoch) refl
+  gone-known Head x = let z = driver_grown (driver_grown x driver.ClearedHead) driver.ClearedTail in known-after z (driver_grown z (driver.Own ClearedReport)) (driver.Own ClearedReport) refl
 
   gone-size : (mode : Completion) (x : DriverSide) → driver_size (gone_over mode x) ≡ driver_size x
   gone-size Status x = refl

@@ -18,12 +18,12 @@ use Rattle.shared_ring.proofs.Laying.{slice_get-last}
 use Rattle.shared_ring.proofs.Posting.{record-after, known-after, anew, poster-anew, poster-post, poster-back, poster-shaken, poster-published, shaken-record, shaken-known}
 use Rattle.shared_ring.proofs.Serving.{whole-snoc}
 use Rattle.tx_ring.specs.Records.{Posting, TxDriven, DriverStep, drive, Knowing, unknown, know}
-use Rattle.tx_ring.specs.Ends.{DriverSide, driver_size, driver_record, driver_state, known_of, appended}
+use Rattle.tx_ring.specs.Ends.{DriverSide, driver_size, driver_record, driver_state, known_of, driver_grown}
 use Rattle.tx_ring.specs.Calls.{IsEndOf, IsDriverEnd, AskedAt, HasPassed}
 use Rattle.tx_ring.proofs.Passed.{passed-nothing, passed-snoc}
 
 -- one more event, with what it makes of the record and of what is learnt
-pub end-as : (d new : DriverSide) (e : DriverStep) (x : TxDriven) (k : Knowing) (at : DriverPlaces) (seen done unseen : ℕ) (whole : Bool) (asks : List Bool) (passed : ℕ) → new ≡ appended d e → drive (driver_record d) e ≡ x → know (driver_record d) (known_of d) e ≡ k
+pub end-as : (d new : DriverSide) (e : DriverStep) (x : TxDriven) (k : Knowing) (at : DriverPlaces) (seen done unseen : ℕ) (whole : Bool) (asks : List Bool) (passed : ℕ) → new ≡ driver_grown d e → drive (driver_record d) e ≡ x → know (driver_record d) (known_of d) e ≡ k
     → IsEndOf (driver_size d) x k at seen done unseen whole asks passed → IsDriverEnd new at seen done unseen whole asks passed
 end-as d new e x k at seen done unseen whole asks passed step a b h = subst (λ (n : ℕ). IsEndOf n (driver_record new) (known_of new) at seen done unseen whole asks passed) (sym (ap driver_size step))
     (subst (λ (y : TxDriven). IsEndOf (driver_size d) y (known_of new) at seen done unseen whole asks passed) (sym (record-after d new e step ∙ a))
@@ -112,7 +112,7 @@ module _ (n : ℕ) (x : TxDriven) (k : Knowing) (at : DriverPlaces) (seen done u
   end-passed passed' by = end-with x k.head at passed' h.poster refl refl by
 
 -- C1, C4, C5
-pub end-shake : (d new : DriverSide) (at : DriverPlaces) (seen done unseen : ℕ) (whole : Bool) (asks : List Bool) (passed : ℕ) (step : HandshakeStep) (w : ℕ) → new ≡ appended d (shake_event step w) → MayShake step (driver_state d) → IsDriverEnd d at seen done unseen whole asks passed
+pub end-shake : (d new : DriverSide) (at : DriverPlaces) (seen done unseen : ℕ) (whole : Bool) (asks : List Bool) (passed : ℕ) (step : HandshakeStep) (w : ℕ) → new ≡ driver_grown d (shake_event step w) → MayShake step (driver_state d) → IsDriverEnd d at seen done unseen whole asks passed
     → IsDriverEnd new (record at { state = shaken step at.state w }) seen done unseen whole asks passed
 end-shake d new at seen done unseen whole asks passed step w is may h = end-as d new (shake_event step w) (record (driver_record d) { state = shaken step (driver_state d) w }) (known_of d) (record at { state = shaken step at.state w }) seen done unseen whole asks passed is (shaken-record d step w) (shaken-known d step w)
     (end-shaken (driver_size d) (driver_record d) (known_of d) at seen done unseen whole asks passed h step w may)

@@ -9,7 +9,7 @@ use Rattle.ring_model.specs.transmit.Steps.{by_head}
 use Rattle.ring_laws.specs.Places.{next_place as next_place-of}
 use Rattle.shared_ring.specs.declared.events.DriverEvent.TheVariants as driver
 use Rattle.tx_ring.specs.declared.events.TxDriverOwn.TheVariants.{NoReport, SawReport}
-use Rattle.tx_ring.specs.Ends.{DriverSide, driver_size, seen_reported, appended}
+use Rattle.tx_ring.specs.Ends.{DriverSide, driver_size, seen_reported, driver_grown}
 use Rattle.tx_ring.specs.Plays.{is_done, report_word, reports_item, shows_report}
 use Rattle.tx_ring.specs.Steps.{OldestAt, Looked}
 
@@ -48,12 +48,12 @@ module _ (s : DriverSide) (big : 8 ≤ driver_size s) (place : ℕ) (o : OldestA
 
   -- what was found at that word
   module _ (i r : ℕ) (at : i ≡ report_word (driver_size s) s.completion o.item) (new : DriverSide)
-      (step : new ≡ appended s (driver.Own (if shows_report (driver_size s) s.events i r then SawReport i r else NoReport i r))) where
+      (step : new ≡ driver_grown s (driver.Own (if shows_report (driver_size s) s.events i r then SawReport i r else NoReport i r))) where
     found : shows_report (driver_size s) s.events i r ≡ reports_item (driver_size s) (seen_reported s) (Some o.item) i r
     found = ap (λ (x : Option ℕ). reports_item (driver_size s) (seen_reported s) x i r) o.oldest
 
-    stepped : (b c : Bool) → shows_report (driver_size s) s.events i r ≡ b → b ≡ c → new ≡ appended s (driver.Own (if c then SawReport (report_word (driver_size s) s.completion o.item) r else NoReport (report_word (driver_size s) s.completion o.item) r))
-    stepped b c e f = step ∙ ap (λ (x : Bool). appended s (driver.Own (if x then SawReport i r else NoReport i r))) (e ∙ f) ∙ ap (λ (k : ℕ). appended s (driver.Own (if c then SawReport k r else NoReport k r))) at
+    stepped : (b c : Bool) → shows_report (driver_size s) s.events i r ≡ b → b ≡ c → new ≡ driver_grown s (driver.Own (if c then SawReport (report_word (driver_size s) s.completion o.item) r else NoReport (report_word (driver_size s) s.completion o.item) r))
+    stepped b c e f = step ∙ ap (λ (x : Bool). driver_grown s (driver.Own (if x then SawReport i r else NoReport i r))) (e ∙ f) ∙ ap (λ (k : ℕ). driver_grown s (driver.Own (if c then SawReport k r else NoReport k r))) at
 
     pub looked : (b : Bool) → reports_item (driver_size s) (seen_reported s) (Some o.item) i r ≡ b → Looked s new b
     looked b e = record {

@@ -3,10 +3,10 @@ use Rattle.std.proofs.Common.{◌≡◌, ℕ, ◌+◌, ◌%◌, true, length, sy
 use Rattle.ring_model.specs.shared.Handshakes.{is_cleared, is_tailed}
 use Rattle.shared_ring.specs.declared.events.DriverEvent.TheVariants as driver
 use Rattle.tx_ring.specs.Records.{TxDriven, drive}
-use Rattle.tx_ring.specs.Ends.{DriverSide, driver_size, driver_record, posted, returned, driver_state, fill_place, appended}
+use Rattle.tx_ring.specs.Ends.{DriverSide, driver_size, driver_record, posted, returned, driver_state, fill_place, driver_grown}
 use Rattle.shared_ring.proofs.Posting.{record-after}
 
-module _ (d d1 : DriverSide) (one : d1 ≡ appended d driver.ClearedHead) where
+module _ (d d1 : DriverSide) (one : d1 ≡ driver_grown d driver.ClearedHead) where
   first : driver_record d1 ≡ drive (driver_record d) driver.ClearedHead
   first = record-after d d1 driver.ClearedHead one
 
@@ -19,7 +19,7 @@ module _ (d d1 : DriverSide) (one : d1 ≡ appended d driver.ClearedHead) where
   pub head-back : returned d ≡ length (posted d) → returned d1 ≡ length (posted d1)
   head-back e = subst (λ (x : TxDriven). length x.given + x.reclaimed ≡ length x.posted) (sym first) e
 
-  module _ (d2 : DriverSide) (two : d2 ≡ appended d1 driver.ClearedTail) where
+  module _ (d2 : DriverSide) (two : d2 ≡ driver_grown d1 driver.ClearedTail) where
     second : driver_record d2 ≡ drive (driver_record d1) driver.ClearedTail
     second = record-after d1 d2 driver.ClearedTail two
 

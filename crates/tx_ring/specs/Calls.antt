@@ -19,9 +19,10 @@ use Rattle.tx_ring.specs.Rule.{filled}
 use Rattle.tx_ring.specs.Steps.{Looked}
 use Rattle.tx_ring.specs.declared.events.TxDriverOwn.TheVariants.{Cleaned, EndedEpoch, ClearedReport}
 use Rattle.shared_ring.specs.Records.{undriven}
+use Rattle.shared_ring.specs.Registers.{report_index}
 use Rattle.descriptor.specs.Transmit.{eop_of, rs_of, paylen_of}
 use Rattle.tx_ring.specs.Records.{Posting, TxDriven, TxControlled, Knowing, unknown, posting_of}
-use Rattle.tx_ring.specs.Ends.{DriverSide, driver_size, driver_record, posted, cleaned, reclaimed, returned, seen_reported, outstanding, driver_state, known_of, next_place, appended, ControllerSide, controller_size, controller_record, sent, known_ready, held_word, seen, serve_place, answered}
+use Rattle.tx_ring.specs.Ends.{DriverSide, driver_size, driver_record, posted, cleaned, reclaimed, returned, seen_reported, outstanding, driver_state, known_of, next_place, driver_grown, ControllerSide, controller_size, controller_record, sent, known_ready, held_word, seen, serve_place, controller_grown}
 pub use Rattle.shared_ring.specs.Calls.{IsFreshDriver, IsFreshController, NoneOut, FoundAhead as FoundReady, MayEnable, IsSettled, MayDisable, MayAnswer, AnsweredEnabling, AnsweredDisabling, Answered}
 use Rattle.shared_ring.specs.Calls.{IsPoster, IsServer}
 use Rattle.shared_ring.specs.declared.ends.DriverPlaces.{DriverPlaces}
@@ -30,7 +31,7 @@ use Rattle.shared_ring.specs.declared.ends.ControllerPlaces.{ControllerPlaces}
 -- B4: the next descriptor was loaded, and its buffer came out with the bytes that were posted. The word says what the descriptor that is answered does; what the descriptor says may follow the frame so far; and where it does not end its frame, more is known to be ready
 pub record Fetched (old : ControllerSide) (buf : Buffer) (read : TxRead) (new : ControllerSide) : Type 0 where
   pub word : ℕ
-  pub step : new ≡ answered old (controller.Fetched (serve_place old) word buf)
+  pub step : new ≡ controller_grown old (controller.Fetched (serve_place old) word buf)
   pub says : word ≡ tx_word (length buf.bytes) read.eop read.rs read.paylen
   pub eop : read.eop ≡ eop_of word
   pub rs : read.rs ≡ rs_of word
@@ -46,7 +47,7 @@ pub record Fetched (old : ControllerSide) (buf : Buffer) (read : TxRead) (new : 
 -- B6, of the last that was sent
 abbrev pub report_of : ℕ → Completion → ℕ → TxControllerOwn
 report_of n Status count = Reported ((count - 1) % n) done_word
-report_of n Head count = Reported (n + 4) (count % n)
+report_of n Head count = Reported (report_index n) (count % n)
 
 -- What the fields of a controller's end keep, over its record and the word that it fetched last
 pub record IsServerOf (n : ℕ) (x : TxControlled) (word : ℕ) (at : ControllerPlaces) (last : ℕ) (ends asks owing : Bool) : Type 0 where
@@ -97,7 +98,7 @@ Polled old false new = SawUnreported old new ⊎ NoneOutstanding old new
 -- B8: the oldest buffer that was not cleaned came back, as it was posted
 pub record CleanedOne (old : DriverSide) (buf : Buffer) (new : DriverSide) : Type 0 where
   pub item : Posting
-  pub step : new ≡ appended old (driver.Own (Cleaned (next_place old) buf))
+  pub step : new ≡ driver_grown old (driver.Own (Cleaned (next_place old) buf))
   pub there : slice_get (posted old) (length (cleaned old)) ≡ Some item
   pub is : buf ≡ filled item
   pub same : driver_record new ≡ record (driver_record old) { given = cleaned old ++ buf.number ∷ [] }
@@ -106,14 +107,14 @@ pub record CleanedOne (old : DriverSide) (buf : Buffer) (new : DriverSide) : Typ
 -- the head was loaded, and tells how many of the postings were not sent
 pub record FoundLeft (old : DriverSide) (left : ℕ) (new : DriverSide) : Type 0 where
   pub head : ℕ
-  pub step : new ≡ appended old (driver.LoadedHead head)
+  pub step : new ≡ driver_grown old (driver.LoadedHead head)
   pub same : driver_record new ≡ driver_record old
   pub told : told_left new ≡ Some left
 
 -- the oldest buffer that was out came back, as it was posted
 pub record CameHome (old : DriverSide) (buf : Buffer) (new : DriverSide) : Type 0 where
   pub item : Posting
-  pub step : new ≡ appended old (driver.Reclaimed (next_place old) buf)
+  pub step : new ≡ driver_grown old (driver.Reclaimed (next_place old) buf)
   pub there : slice_get (posted old) (returned old) ≡ Some item
   pub is : buf ≡ filled item
   pub same : driver_record new ≡ record (driver_record old) { reclaimed = reclaimed old + 1 }
@@ -125,8 +126,8 @@ Reclaimed old (Some buf) new = CameHome old buf new
 
 -- head and tail are cleared, and the head word of reports where there is one
 abbrev pub gone_over : Completion → DriverSide → DriverSide
-gone_over Status d = appended (appended d driver.ClearedHead) (driver.Own EndedEpoch)
-gone_over Head d = appended (appended (appended d driver.ClearedHead) driver.ClearedTail) (driver.Own ClearedReport)
+gone_over Status d = driver_grown (driver_grown d driver.ClearedHead) (driver.Own EndedEpoch)
+gone_over Head d = driver_grown (driver_grown (driver_grown d driver.ClearedHead) driver.ClearedTail) (driver.Own ClearedReport)
 
 -- an epoch begins in which nothing is done and nothing learnt
 pub record GoneOver (old new : DriverSide) : Type 0 where

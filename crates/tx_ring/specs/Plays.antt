@@ -6,6 +6,7 @@ use Rattle.ring_model.specs.declared.states.Completion.TheVariants.{Status, Head
 use Rattle.ring_model.specs.shared.Places.{between_places}
 use Rattle.shared_ring.specs.declared.events.DriverEvent.TheVariants as driver
 use Rattle.shared_ring.specs.declared.events.ControllerEvent.TheVariants as controller
+use Rattle.shared_ring.specs.Registers.{report_index}
 use Rattle.tx_ring.specs.declared.events.TxDriverOwn.TheVariants.{NoReport, SawReport, Cleaned, EndedEpoch, ClearedReport}
 use Rattle.tx_ring.specs.declared.events.TxControllerOwn.TheVariants.{Sent, Reported}
 use Rattle.tx_ring.specs.Records.{Posting, DriverStep, ControllerStep, driving, knowing, outstanding, fetched_word}
@@ -18,7 +19,7 @@ is_done word = (word / 2 ^ 32) % 2 == 1
 -- where item j is reported: in its descriptor, or in the head word
 abbrev pub report_word : ℕ → Completion → ℕ → ℕ
 report_word n Status j = j % n
-report_word n Head j = n + 4
+report_word n Head j = report_index n
 
 -- Whether the word loaded at this place reports item j, where so many are seen reported: DD in its descriptor, or a head that is past its place
 abbrev pub reports_item : ℕ → ℕ → Option ℕ → ℕ → ℕ → Bool

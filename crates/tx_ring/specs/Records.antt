@@ -14,6 +14,7 @@ use Rattle.shared_ring.specs.Accesses.{Access, access}
 use Rattle.shared_ring.specs.Forms.{Reading}
 use Rattle.shared_ring.specs.Records as shared
 use Rattle.shared_ring.specs.Records.{Driven, Controlled, undriven, uncontrolled}
+use Rattle.shared_ring.specs.Registers.{head_index, tail_index, report_index}
 use Rattle.tx_ring.specs.declared.events.TxDriverOwn.{TxDriverOwn}
 use Rattle.tx_ring.specs.declared.events.TxDriverOwn.TheVariants.{NoReport, SawReport, Cleaned, EndedEpoch, ClearedReport}
 use Rattle.tx_ring.specs.declared.events.TxControllerOwn.{TxControllerOwn}
@@ -62,11 +63,11 @@ abbrev pub driver_names : ℕ → TxDriverOwn → Access
 driver_names n (NoReport place word) = access place word
 driver_names n (SawReport place word) = access place word
 driver_names n (Cleaned place b) = access place 0
-driver_names n EndedEpoch = access (n + 1) 0
-driver_names n ClearedReport = access (n + 4) 0
+driver_names n EndedEpoch = access (tail_index n) 0
+driver_names n ClearedReport = access (report_index n) 0
 
 abbrev pub controller_names : ℕ → TxControllerOwn → Access
-controller_names n (Sent head word b) = access n head
+controller_names n (Sent head word b) = access (head_index n) head
 controller_names n (Reported place word) = access place word
 
 abbrev pub control : ℕ → TxControlled → ControllerStep → TxControlled

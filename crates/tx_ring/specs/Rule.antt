@@ -1,5 +1,5 @@
 -- The rule of a transmit ring's table: between any two steps words, slots and both records agree with one ring that a schedule makes. It is one rule for both ways to report.
-use Rattle.std.specs.Prelude.{◌≡◌, ℕ, ◌+◌, ◌%◌, Bool, true, List, length, Option, Some, take, slice_get, slice_index}
+use Rattle.std.specs.Prelude.{◌≡◌, ℕ, ◌%◌, Bool, true, List, length, Option, Some, take, slice_get, slice_index}
 use mathlib.Core.Option as maybe
 use Rattle.buffer_pool.specs.Buffer.{Buffer, buffer}
 use Rattle.ring_model.specs.declared.states.Completion.{Completion}
@@ -11,6 +11,7 @@ use Rattle.ring_model.specs.transmit.Frames.{AllMayFollow}
 use Rattle.ring_model.specs.transmit.Ring.{TxRing, are_whole}
 use Rattle.ring_model.specs.transmit.Steps.{IsTxReachable, by_head}
 use Rattle.shared_ring.specs.Lies.{driven, IsControlled, LiesIn}
+use Rattle.shared_ring.specs.Registers.{report_index}
 use Rattle.shared_ring.specs.Tables.{words_of}
 use Rattle.tx_ring.specs.Records.{Posting, DriverStep, ControllerStep, driving, controlling, fetched_word, Knowing, knowing}
 
@@ -31,7 +32,7 @@ lies_there = tx_lies {Payload = Bytes} length filled
 
 -- the head word has the place up to which all is reported
 abbrev pub TellsReports : ℕ → Completion → ℕ → List ℕ → Type 0
-TellsReports n mode reported words = by_head mode ≡ true → slice_index words (n + 4) ≡ reported % n
+TellsReports n mode reported words = by_head mode ≡ true → slice_index words (report_index n) ≡ reported % n
 
 -- while a buffer is held, the word that was fetched is its posting's
 abbrev pub IsFetched : ℕ → Bool → List Posting → List Posting → Type 0

@@ -6,7 +6,7 @@ use Rattle.tx_ring.specs.declared.events.TxDriverOwn.TheVariants.{NoReport, SawR
 use Rattle.tx_ring.specs.Records.{Posting}
 use Rattle.tx_ring.specs.Rule.{filled}
 use Rattle.tx_ring.specs.Plays.{report_word, shows_report}
-use Rattle.tx_ring.specs.Ends.{DriverSide, driver_size, posted, cleaned, outstanding, appended}
+use Rattle.tx_ring.specs.Ends.{DriverSide, driver_size, posted, cleaned, outstanding, driver_grown}
 
 -- the oldest report that was asked for and not seen is at this place
 pub record OldestAt (old : DriverSide) (place : ℕ) : Type 0 where
@@ -20,12 +20,12 @@ pub record Looked (old : DriverSide) (new : DriverSide) (result : Bool) : Type 0
   pub oldest : outstanding old ≡ Some item
   pub word : ℕ
   pub shows : shows_report (driver_size old) old.events (report_word (driver_size old) old.completion item) word ≡ result
-  pub nothing : result ≡ false → new ≡ appended old (driver.Own (NoReport (report_word (driver_size old) old.completion item) word))
-  pub report : result ≡ true → new ≡ appended old (driver.Own (SawReport (report_word (driver_size old) old.completion item) word))
+  pub nothing : result ≡ false → new ≡ driver_grown old (driver.Own (NoReport (report_word (driver_size old) old.completion item) word))
+  pub report : result ≡ true → new ≡ driver_grown old (driver.Own (SawReport (report_word (driver_size old) old.completion item) word))
 
 -- B8: the buffer is that of the oldest item that is not cleaned, as it was posted
 pub record CameClean (old : DriverSide) (place : ℕ) (buf : Buffer) (new : DriverSide) : Type 0 where
   pub item : Posting
-  pub step : new ≡ appended old (driver.Own (Cleaned place buf))
+  pub step : new ≡ driver_grown old (driver.Own (Cleaned place buf))
   pub there : slice_get (posted old) (length (cleaned old)) ≡ Some item
   pub is : buf ≡ filled item

@@ -12,7 +12,7 @@ ghost use Rattle.descriptor.specs.Transmit.{rs_of};
 ghost use Rattle.tx_ring.specs.Records.{posting_of};
 ghost use Rattle.shared_ring.specs.Ends.{controller_of, controller_side};
 ghost use Rattle.tx_ring.specs.Form.{tx};
-ghost use Rattle.tx_ring.specs.Ends.{controller_size, controller_record, sent, known_ready, held, held_word, controller_state, is_owed, is_between, serve_place, answered};
+ghost use Rattle.tx_ring.specs.Ends.{controller_size, controller_record, sent, known_ready, held, held_word, controller_state, is_owed, is_between, serve_place, controller_grown};
 ghost use Rattle.tx_ring.specs.Calls.{IsFreshController, FoundReady, Fetched, MayAnswer, IsSettled, Answered, report_of};
 
 use crate::direction::{TxControllerSeat, TxRule};
@@ -111,7 +111,7 @@ impl TxControllerEnd {
     pub fn give_back(&mut self, ring: &TxRing, buf: Buf)
         requires own { self.old.table ≡ ring.now }
         requires held { held self.old ≡ Some buf }
-        ensures step { self.new ≡ answered self.old (Own (Sent ((length (sent self.old) + 1) % controller_size self.old) (held_word self.old) buf)) }
+        ensures step { self.new ≡ controller_grown self.old (Own (Sent ((length (sent self.old) + 1) % controller_size self.old) (held_word self.old) buf)) }
         ensures record { controller_record self.new ≡ record (controller_record self.old) { served = sent self.old ++ posting_of (held_word self.old) buf ∷ []; held = None; head = (length (sent self.old) + 1) % controller_size self.old; barred = rs_of (held_word self.old) } }
     {
         let head = place_after(self.at.serve, self.at.size);
@@ -137,7 +137,7 @@ impl TxControllerEnd {
     pub fn report(&mut self, ring: &TxRing)
         requires own { self.old.table ≡ ring.now }
         requires owed { is_owed self.old ≡ true }
-        ensures step { self.new ≡ answered self.old (Own (report_of (controller_size self.old) self.old.completion (length (sent self.old)))) }
+        ensures step { self.new ≡ controller_grown self.old (Own (report_of (controller_size self.old) self.old.completion (length (sent self.old)))) }
         ensures record { controller_record self.new ≡ record (controller_record self.old) { barred = false } }
     {
         if self.seat.completion().is_by_head() {

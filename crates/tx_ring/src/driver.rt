@@ -14,7 +14,7 @@ ghost use Rattle.shared_ring.specs.Words.{control_word};
 ghost use Rattle.shared_ring.specs.declared.events.DriverEvent.TheVariants.{Posted, Published, AskedEnable, LoadedControl, AskedDisable};
 ghost use Rattle.shared_ring.specs.Ends.{driver_of, driver_side};
 ghost use Rattle.tx_ring.specs.Form.{tx};
-ghost use Rattle.tx_ring.specs.Ends.{driver_size, driver_record, posted, cleaned, returned, seen_reported, driver_state, known_of, fill_place, appended};
+ghost use Rattle.tx_ring.specs.Ends.{driver_size, driver_record, posted, cleaned, returned, seen_reported, driver_state, known_of, fill_place, driver_grown};
 ghost use Rattle.tx_ring.specs.Calls.{IsFreshDriver, item_of, OldestAhead, Polled, CleanedOne, Reclaimed, FoundLeft, GoneOver};
 
 use crate::direction::{TxDriverSeat, TxRule};
@@ -110,7 +110,7 @@ impl TxDriverEnd {
         requires room { length (posted self.old) + 1 < returned self.old + driver_size self.old }
         requires real { buf ≡ buffer buf.number buf.bytes }
         requires follows { MayFollow (driver_size self.old) (unfinished carried (posted self.old)) (item_of buf eop rs paylen) }
-        ensures step { self.new ≡ appended self.old (Posted (fill_place self.old) (tx_word (length buf.bytes) eop rs paylen) buf) }
+        ensures step { self.new ≡ driver_grown self.old (Posted (fill_place self.old) (tx_word (length buf.bytes) eop rs paylen) buf) }
         ensures record { driver_record self.new ≡ record (driver_record self.old) { posted = posted self.old ++ item_of buf eop rs paylen ∷ [] } }
         ensures known { known_of self.new ≡ known_of self.old }
     {
@@ -128,7 +128,7 @@ impl TxDriverEnd {
         requires own { self.old.table ≡ ring.now }
         requires open { is_open (driver_state self.old) ≡ true }
         requires whole { are_whole (posted self.old) ≡ true }
-        ensures step { self.new ≡ appended self.old (Published (fill_place self.old)) }
+        ensures step { self.new ≡ driver_grown self.old (Published (fill_place self.old)) }
         ensures record { driver_record self.new ≡ record (driver_record self.old) { published = length (posted self.old) } }
         ensures known { known_of self.new ≡ known_of self.old }
     {

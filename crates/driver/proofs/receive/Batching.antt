@@ -9,14 +9,14 @@ use Rattle.ring_model.specs.shared.Frames.{Bytes, frames}
 use Rattle.ring_model.specs.shared.Handshakes.{is_open}
 use Rattle.shared_ring.specs.declared.events.DriverEvent.TheVariants as driver
 use Rattle.rx_ring.specs.Records.{RxDriven, Knowing}
-use Rattle.rx_ring.specs.Ends.{DriverSide, driver_size, driver_record, driver_state, posted, taken, known_of, saw_quiet, is_drained, appended, fill_place}
+use Rattle.rx_ring.specs.Ends.{DriverSide, driver_size, driver_record, driver_state, posted, taken, known_of, saw_quiet, is_drained, driver_grown, fill_place}
 use Rattle.driver.specs.receive.Chains.{going_on, IsTaken}
 use Rattle.driver.specs.receive.Exchanges.{Polls, PolledAll, Exchanges, IsFilled, Published}
 use Rattle.driver.specs.receive.Batches.{Hands, at, itself, GrewBy, Filled, Polled, Stopped, batch_of, Batched}
 use Rattle.driver.proofs.receive.Growing.{out-same, grew-trans, grew-filled, filled-none}
 
 -- the storing of the tail leaves the lists
-pub grew-published : (d new : DriverSide) (chain : List Buffer) (stash : List ℕ) (list : List (List Buffer)) (tail published : ℕ) → new ≡ appended d (driver.Published tail)
+pub grew-published : (d new : DriverSide) (chain : List Buffer) (stash : List ℕ) (list : List (List Buffer)) (tail published : ℕ) → new ≡ driver_grown d (driver.Published tail)
     → driver_record new ≡ record (driver_record d) { published = published } → known_of new ≡ known_of d → GrewBy (at d chain stash list) (at new chain stash list)
 grew-published d new chain stash list tail published step did known = record {
   own = ap (λ (x : DriverSide). x.table) step;
@@ -69,7 +69,7 @@ module _ (batch most count : ℕ) (old polled : Hands) (h : Polled old count pol
     }
 
     -- something was posted, and the tail stored
-    pub batched-published : (new : DriverSide) → length has < length old.stash → new ≡ appended filled (driver.Published (fill_place filled))
+    pub batched-published : (new : DriverSide) → length has < length old.stash → new ≡ driver_grown filled (driver.Published (fill_place filled))
         → driver_record new ≡ record (driver_record filled) { published = length (posted filled) } → known_of new ≡ known_of filled → Batched batch most count old (at new polled.chain has polled.list)
     batched-published new fewer step did known = let all = grew-trans old (at filled polled.chain has polled.list) (at new polled.chain has polled.list) grew
         (grew-published filled new polled.chain has polled.list (fill_place filled) (length (posted filled)) step did known) in

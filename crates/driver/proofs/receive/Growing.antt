@@ -11,7 +11,7 @@ use Rattle.ring_model.specs.shared.Handshakes.{is_open}
 use Rattle.shared_ring.specs.declared.events.DriverEvent.TheVariants as driver
 use Rattle.rx_ring.specs.declared.events.RxDriverOwn.TheVariants.{NotDone, Taken}
 use Rattle.rx_ring.specs.Records.{RxDriven, Knowing}
-use Rattle.rx_ring.specs.Ends.{DriverSide, driver_size, driver_record, driver_state, posted, taken, returned, known_of, fill_place, next_place, appended}
+use Rattle.rx_ring.specs.Ends.{DriverSide, driver_size, driver_record, driver_state, posted, taken, returned, known_of, fill_place, next_place, driver_grown}
 use Rattle.rx_ring.specs.Calls.{segment, TookSegment, SawNotDone}
 use Rattle.shared_ring.proofs.Posting.{known-after}
 use Rattle.driver.specs.Steps.{is_post}
@@ -123,7 +123,7 @@ filled-none d stash = record {
   shut = λ e. refl;
 }
 
-pub filled-one : (d new : DriverSide) (had has : List ℕ) (number : ℕ) → is_open (driver_state d) ≡ true → returned d ≤ length (posted d) → new ≡ appended d (driver.Posted (fill_place d) 0 (buffer number []))
+pub filled-one : (d new : DriverSide) (had has : List ℕ) (number : ℕ) → is_open (driver_state d) ≡ true → returned d ≤ length (posted d) → new ≡ driver_grown d (driver.Posted (fill_place d) 0 (buffer number []))
     → driver_record new ≡ record (driver_record d) { posted = posted d ++ number ∷ [] } → known_of new ≡ known_of d → had ≡ number ∷ has → Filled d had new has
 filled-one d new had has number opened within step did known stash = record {
   numbers = number ∷ [];
@@ -138,7 +138,7 @@ filled-one d new had has number opened within step did known stash = record {
 
 pub posting-append : (xs ys : List ℕ) (d : DriverSide) → posting (xs ++ ys) d ≡ posting ys (posting xs d)
 posting-append [] ys d = refl
-posting-append (x ∷ xs) ys d = posting-append xs ys (appended d (driver.Posted (fill_place d) 0 (buffer x [])))
+posting-append (x ∷ xs) ys d = posting-append xs ys (driver_grown d (driver.Posted (fill_place d) 0 (buffer x [])))
 
 pub filled-trans : (a b c : DriverSide) (had has left : List ℕ) → Filled a had b has → Filled b has c left → Filled a had c left
 filled-trans a b c had has left f g = record {

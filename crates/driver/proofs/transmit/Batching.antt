@@ -8,7 +8,7 @@ use Rattle.buffer_pool.specs.Packed.{bytes_of}
 use Rattle.ring_model.specs.shared.Handshakes.{is_on}
 use Rattle.ring_model.specs.transmit.Ring.{number_of_posting}
 use Rattle.shared_ring.specs.declared.events.DriverEvent.TheVariants.{Published}
-use Rattle.tx_ring.specs.Ends.{DriverSide, driver_size, driver_record, posted, cleaned, reclaimed, returned, driver_state, known_of, fill_place, appended}
+use Rattle.tx_ring.specs.Ends.{DriverSide, driver_size, driver_record, posted, cleaned, reclaimed, returned, driver_state, known_of, fill_place, driver_grown}
 use Rattle.tx_ring.specs.Records.{Posting, TxDriven}
 use Rattle.shared_ring.proofs.Posting.{record-after}
 use Rattle.driver.specs.Reclaiming.{out_of}
@@ -44,7 +44,7 @@ numbers_posted every count (p ∷ ps) =
     ∙ ap (λ (l : List ℕ). map (λ b. b.number) p ++ l) (numbers_posted every (count + 1) ps))
 
 module _ (every before : ℕ) (had : List (List Buffer)) (old new : DriverSide) (has : List (List Buffer)) (room : ℕ) where
-  room_left : (count : ℕ) (filled : DriverSide) → WentOn is_post old (frames_of every before (take count had)) [] filled → new ≡ appended filled (Published (fill_place filled))
+  room_left : (count : ℕ) (filled : DriverSide) → WentOn is_post old (frames_of every before (take count had)) [] filled → new ≡ driver_grown filled (Published (fill_place filled))
       → driver_record new ≡ record (driver_record filled) { published = length (posted filled) } → room + length (posted old) + 1 ≡ driver_size old + returned old
       → room_of new ≡ room - segment_count (take count had)
   room_left count filled went step same room_is =
@@ -69,7 +69,7 @@ module _ (every before : ℕ) (had : List (List Buffer)) (old new : DriverSide) 
         ∙ (map-append number_of_posting (drop (returned old) (posted old)) fr
         ∙ ap (λ l. out_of number_of_posting old ++ l) (numbers_posted every before (take count had)))))
 
-  pub posted_front : (count : ℕ) (filled : DriverSide) → ¬ (count ≡ 0) → WentOn is_post old (frames_of every before (take count had)) [] filled → new ≡ appended filled (Published (fill_place filled))
+  pub posted_front : (count : ℕ) (filled : DriverSide) → ¬ (count ≡ 0) → WentOn is_post old (frames_of every before (take count had)) [] filled → new ≡ driver_grown filled (Published (fill_place filled))
       → driver_record new ≡ record (driver_record filled) { published = length (posted filled) } → room + length (posted old) + 1 ≡ driver_size old + returned old
       → count ≤ length had → has ≡ drop count had → is_on (driver_state old) ≡ true → NeedsMore (room - segment_count (take count had)) (drop count had)
       → room < driver_size old → known_of new ≡ known_of filled → PostedFront every before count old had new has
@@ -90,7 +90,7 @@ module _ (every before : ℕ) (had : List (List Buffer)) (old new : DriverSide) 
 -- publishing leaves all of the record but how much is published
 after : {Y : Type 0} (of : TxDriven → Y) → ((x : TxDriven) (k : ℕ) → of (record x { published = k }) ≡ of x) → (count : ℕ) (d : DriverSide) → of (driver_record (published_after count d)) ≡ of (driver_record d)
 after of same zero d = refl
-after of same (suc k) d = ap of (record-after d (appended d (Published (fill_place d))) (Published (fill_place d)) refl) ∙ same (driver_record d) (length (posted d))
+after of same (suc k) d = ap of (record-after d (driver_grown d (Published (fill_place d))) (Published (fill_place d)) refl) ∙ same (driver_record d) (length (posted d))
 
 pub batched : (count every frames frames' : ℕ) (old between new : DriverSide) (had has : List ℕ) (ps qs : List (List Buffer)) → CleanedAll old had between has → PostedFront every frames count between ps new qs → frames' ≡ (frames + count) % every
     → Batched count (sending (record { end = old; every = every; frames = frames }) had ps) (sending (record { end = new; every = every; frames = frames' }) has qs)

@@ -5,7 +5,7 @@ use Rattle.std.proofs.lemmas.Bool.{false≢true}
 use Rattle.std.proofs.lemmas.List.Elements.{All-head, All-tail}
 use Rattle.shared_ring.specs.declared.events.DriverEvent.TheVariants.{Posted}
 use Rattle.shared_ring.proofs.Posting.{known-after}
-use Rattle.tx_ring.specs.Ends.{DriverSide, driver_record, known_of, appended}
+use Rattle.tx_ring.specs.Ends.{DriverSide, driver_record, known_of, driver_grown}
 use Rattle.tx_ring.specs.Records.{DriverStep, Posting, TxDriven, knowing, know}
 use Rattle.driver.specs.Steps.{Runs, is_post}
 use Rattle.driver.specs.transmit.Going.{WentOn}
@@ -48,8 +48,8 @@ posts-known : (steps : List DriverStep) (d : DriverSide) → All (λ e. is_post 
 posts-known [] d only = ap (λ (es : List DriverStep). knowing es) (append-nil d.events)
 posts-known (e ∷ steps) d only =
     ap (λ (es : List DriverStep). knowing es) (sym (append_assoc d.events (e ∷ []) steps))
-    ∙ (posts-known steps (appended d e) (All-tail (λ x. is_post x ≡ true) e steps only)
-    ∙ (known-after d (appended d e) e refl ∙ post-known d e (All-head (λ x. is_post x ≡ true) e steps only)))
+    ∙ (posts-known steps (driver_grown d e) (All-tail (λ x. is_post x ≡ true) e steps only)
+    ∙ (known-after d (driver_grown d e) e refl ∙ post-known d e (All-head (λ x. is_post x ≡ true) e steps only)))
 
 pub runs-known : (d new : DriverSide) → Runs is_post d new → known_of new ≡ known_of d
 runs-known d new f = ap (λ (s : DriverSide). known_of s) f.step ∙ posts-known f.steps d f.only

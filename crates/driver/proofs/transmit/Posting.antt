@@ -14,7 +14,7 @@ use Rattle.ring_laws.specs.Lists.{slice_get-snoc}
 use Rattle.ring_laws.specs.Frames.{unfinished-snoc, length-join-snoc}
 use Rattle.shared_ring.specs.declared.events.DriverEvent.TheVariants.{Posted}
 use Rattle.tx_ring.specs.Calls.{item_of}
-use Rattle.tx_ring.specs.Ends.{DriverSide, driver_size, driver_record, posted, cleaned, returned, known_of, appended}
+use Rattle.tx_ring.specs.Ends.{DriverSide, driver_size, driver_record, posted, cleaned, returned, known_of, driver_grown}
 use Rattle.tx_ring.specs.Records.{Posting, TxDriven, Knowing}
 use Rattle.driver.specs.Steps.{is_post}
 use Rattle.driver.specs.transmit.Frames.{postings_of}
@@ -23,7 +23,7 @@ use Rattle.driver.proofs.Running.{runs-one}
 use Rattle.driver.proofs.transmit.Going.{stood, and_on, with_lists}
 
 -- One posting more
-pub posted_one : (old new : DriverSide) (place word : ℕ) (b : Buffer) (x : Posting) → new ≡ appended old (Posted place word b) → driver_record new ≡ record (driver_record old) { posted = posted old ++ x ∷ [] } → known_of new ≡ known_of old
+pub posted_one : (old new : DriverSide) (place word : ℕ) (b : Buffer) (x : Posting) → new ≡ driver_grown old (Posted place word b) → driver_record new ≡ record (driver_record old) { posted = posted old ++ x ∷ [] } → known_of new ≡ known_of old
     → WentOn is_post old (x ∷ []) [] new
 posted_one old new place word b x step same known = record {
   runs = runs-one is_post old new (Posted place word b) step refl;
@@ -115,7 +115,7 @@ module _ {paylen : ℕ} {rs : Bool} {packet : List Buffer} {old now : DriverSide
 
   -- the next is posted
   pub begun_more : (b c : Buffer) (bs : List Buffer) (new : DriverSide) (place word : ℕ) → FrameBegun paylen rs packet old (b ∷ c ∷ bs) now
-      → new ≡ appended now (Posted place word b) → driver_record new ≡ record (driver_record now) { posted = posted now ++ item_of b false false paylen ∷ [] } → known_of new ≡ known_of now
+      → new ≡ driver_grown now (Posted place word b) → driver_record new ≡ record (driver_record now) { posted = posted now ++ item_of b false false paylen ∷ [] } → known_of new ≡ known_of now
       → FrameBegun paylen rs packet old (c ∷ bs) new
   begun_more b c bs new place word h step same known =
       let x = item_of b false false paylen in
@@ -137,7 +137,7 @@ module _ {paylen : ℕ} {rs : Bool} {packet : List Buffer} {old now : DriverSide
 
   -- the last is posted, and ends the frame
   pub begun_last : (b : Buffer) (new : DriverSide) (place word : ℕ) → FrameBegun paylen rs packet old (b ∷ []) now
-      → new ≡ appended now (Posted place word b) → driver_record new ≡ record (driver_record now) { posted = posted now ++ item_of b true rs paylen ∷ [] } → known_of new ≡ known_of now
+      → new ≡ driver_grown now (Posted place word b) → driver_record new ≡ record (driver_record now) { posted = posted now ++ item_of b true rs paylen ∷ [] } → known_of new ≡ known_of now
       → WentOn is_post old (postings_of paylen rs packet) [] new
   begun_last b new place word h step same known =
       subst (λ (xs : List Posting). WentOn is_post old xs [] new) h.all (and_on h.went (posted_one now new place word b (item_of b true rs paylen) step same known))
@@ -159,7 +159,7 @@ module _ {paylen : ℕ} {rs : Bool} {packet : List Buffer} {old now : DriverSide
         subst (λ (l : List Posting). MayFollow (driver_size now) l (item_of b true rs paylen)) (sym g.unfinished_is) (may_end (driver_size now) whole paylen_is short b few g)
     last_follows rest (c ∷ bs) is none h = absurd (omega (arith, none))
 
-  module _ (new : DriverSide) (place word : ℕ) (step : new ≡ appended now (Posted place word b)) (known : known_of new ≡ known_of now) where
+  module _ (new : DriverSide) (place word : ℕ) (step : new ≡ driver_grown now (Posted place word b)) (known : known_of new ≡ known_of now) where
     pub next_posted : (rest after : List Buffer) → rest ≡ b ∷ after → 0 < length after → FrameBegun paylen rs packet old rest now
         → driver_record new ≡ record (driver_record now) { posted = posted now ++ item_of b false false paylen ∷ [] } → FrameBegun paylen rs packet old after new
     next_posted rest [] is more h same = absurd (omega (arith, more))

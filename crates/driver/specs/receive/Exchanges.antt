@@ -5,13 +5,13 @@ use Rattle.ring_model.specs.shared.Segments.{Segment}
 use Rattle.ring_model.specs.shared.Frames.{Bytes}
 use Rattle.ring_model.specs.shared.Handshakes.{is_open}
 use Rattle.shared_ring.specs.declared.events.DriverEvent.TheVariants as driver
-use Rattle.rx_ring.specs.Ends.{DriverSide, driver_size, driver_state, posted, published, taken, returned, fill_place, appended}
+use Rattle.rx_ring.specs.Ends.{DriverSide, driver_size, driver_state, posted, published, taken, returned, fill_place, driver_grown}
 use Rattle.rx_ring.specs.Calls.{TookSegment, SawNotDone, SawEmpty}
 
 -- the end after buffers with these numbers were posted one after another, each empty and at the next place
 abbrev pub posting : List ℕ → DriverSide → DriverSide
 posting [] d = d
-posting (number ∷ numbers) d = posting numbers (appended d (driver.Posted (fill_place d) 0 (buffer number [])))
+posting (number ∷ numbers) d = posting numbers (driver_grown d (driver.Posted (fill_place d) 0 (buffer number [])))
 
 -- what is posted in place of a taken buffer: the next one of the stash, if it has one; none where a disabling was asked
 abbrev pub in_place : Bool → List ℕ → List ℕ
@@ -52,7 +52,7 @@ IsFilled end stash = (stash ≡ []) ⊎ (length (posted end) + 1 ≡ returned en
 -- the tail was stored if more is posted than before, so that all is published; and else nothing was done
 abbrev pub Published : DriverSide → DriverSide → DriverSide → Type 0
 Published before filled new = ((posted filled ≡ posted before) × (new ≡ filled) × (published new ≡ published before))
-    ⊎ ((length (posted before) < length (posted filled)) × (new ≡ appended filled (driver.Published (fill_place filled))) × (published new ≡ length (posted new)))
+    ⊎ ((length (posted before) < length (posted filled)) × (new ≡ driver_grown filled (driver.Published (fill_place filled))) × (published new ≡ length (posted new)))
 
 -- All steps of a batch that took these segments, where so many packets may be added: polling, an exchange for each segment; then postings while the stash has a buffer and the ring has room, none where a disabling was asked; and then one store of the tail, if anything was posted
 pub record Exchanges (most : ℕ) (segments : List (Segment Bytes)) (old : DriverSide) (had : List ℕ) (new : DriverSide) (has : List ℕ) : Type 0 where

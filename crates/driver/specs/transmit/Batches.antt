@@ -6,7 +6,7 @@ use Rattle.ring_model.specs.shared.Handshakes.{is_on}
 use Rattle.ring_model.specs.transmit.Ring.{number_of_posting}
 use Rattle.shared_ring.specs.declared.events.DriverEvent.TheVariants.{Published}
 use Rattle.tx_ring.specs.Calls.{Polled}
-use Rattle.tx_ring.specs.Ends.{DriverSide, posted, published, cleaned, reclaimed, seen_reported, driver_state, known_of, fill_place, appended}
+use Rattle.tx_ring.specs.Ends.{DriverSide, posted, published, cleaned, reclaimed, seen_reported, driver_state, known_of, fill_place, driver_grown}
 use Rattle.driver.specs.Reclaiming.{out_of}
 use Rattle.driver.specs.Steps.{is_post}
 use Rattle.driver.specs.transmit.Cleaning.{CleanedBy, Cleans}
@@ -39,7 +39,7 @@ pub record CleanedAll (old : DriverSide) (had : List ℕ) (new : DriverSide) (ha
 -- what is posted is published, once
 abbrev pub published_after : ℕ → DriverSide → DriverSide
 published_after zero d = d
-published_after (suc k) d = appended d (Published (fill_place d))
+published_after (suc k) d = driver_grown d (Published (fill_place d))
 
 -- So many packets left the front, and were posted and published; the next one stays for want of room; none where a disabling is asked
 pub record PostedFront (every frames count : ℕ) (old : DriverSide) (had : List (List Buffer)) (new : DriverSide) (has : List (List Buffer)) : Type 0 where

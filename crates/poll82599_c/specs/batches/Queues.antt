@@ -3,7 +3,7 @@ use Rattle.std.specs.Prelude.{◌≡◌, ℕ, zero, suc, ◌+◌, Bool, true, fa
 use Rattle.buffer_pool.specs.declared.stash.TheConstants.{STASH_BUFFERS}
 use Rattle.ring_model.specs.shared.Handshakes.{is_live, is_on, is_open, is_stopped}
 use Rattle.shared_ring.specs.declared.events.DriverEvent.TheVariants as driver
-use Rattle.shared_ring.specs.Ends.{DriverSide, appended, driver_state}
+use Rattle.shared_ring.specs.Ends.{DriverSide, driver_grown, driver_state}
 use Rattle.shared_ring.specs.Forms.{Form}
 use Rattle.driver.specs.Handshake.{AskedEnabling, Finishes}
 use Rattle.poll82599_c.specs.Held.{Between}
@@ -62,7 +62,7 @@ module _ {Ring Posted Served Given D C : Type 0} {form : Form Ring Posted Served
 
   -- C5
   abbrev pub AskedDisable : Q → Q → Type 0
-  AskedDisable old new = new ≡ kind.with_end old (appended (kind.end_of old) driver.AskedDisable)
+  AskedDisable old new = new ≡ kind.with_end old (driver_grown (kind.end_of old) driver.AskedDisable)
 
   -- the control word was loaded, and where it showed the disabling answered the head; it is told how many segments are left
   pub record TriedFinish (told : Option ℕ) (old new : Q) : Type 0 where

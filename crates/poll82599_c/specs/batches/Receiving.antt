@@ -9,7 +9,7 @@ use Rattle.shared_ring.specs.declared.events.DriverEvent.TheVariants as driver
 use Rattle.shared_ring.specs.Words.{control_word}
 use Rattle.rx_ring.specs.declared.events.RxDriverOwn.TheVariants.{LoadedQuiet}
 use Rattle.rx_ring.specs.Calls.{GoneOver, IsTold, told_left}
-use Rattle.rx_ring.specs.Ends.{appended, driver_size, driver_state, stored, taken}
+use Rattle.rx_ring.specs.Ends.{driver_grown, driver_size, driver_state, stored, taken}
 use Rattle.rx_ring.specs.Form.{rx}
 use Rattle.rx_ring.specs.Meeting.{MadeSeats, ledger_of, stored_now}
 use Rattle.driver.specs.declared.rx_driver.TheConstants.{MOST_BATCH}
@@ -80,7 +80,7 @@ receiver = record { end_of = λ q. q.end; with_end = λ q e. record q { end = e 
 
 -- C8: the quiet word had this value
 abbrev pub FoundQuiet : ℕ → Receiver → Receiver → Type 0
-FoundQuiet value old new = new ≡ record old { end = appended old.end (driver.Own (LoadedQuiet value)) }
+FoundQuiet value old new = new ≡ record old { end = driver_grown old.end (driver.Own (LoadedQuiet value)) }
 
 -- ---- what a driver's calls answer, and what they did then
 

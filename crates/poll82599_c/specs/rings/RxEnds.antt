@@ -12,7 +12,7 @@ use Rattle.shared_ring.specs.declared.events.ControllerEvent.TheVariants as cont
 use Rattle.rx_ring.specs.Calls.{FoundFree, FoundLeft, GoneOver, IsTold, SawNotDone, TookSegment, told_left}
 use Rattle.rx_ring.specs.declared.events.RxDriverOwn.TheVariants.{LoadedQuiet}
 use Rattle.rx_ring.specs.declared.events.RxControllerOwn.TheVariants.{SaidQuiet, WroteBack}
-use Rattle.rx_ring.specs.Ends.{DriverSide, ControllerSide, answered, appended, driver_size, fill_place, is_between, known_free, reclaimed, serve_place, stored, taken}
+use Rattle.rx_ring.specs.Ends.{DriverSide, ControllerSide, controller_grown, driver_grown, driver_size, fill_place, is_between, known_free, reclaimed, serve_place, stored, taken}
 use Rattle.rx_ring.specs.Meeting.{MadeSeats, ledger_of, stored_now}
 use Rattle.poll82599_c.specs.Held.{Both, OfBoth, Tried}
 use Rattle.poll82599_c.specs.rings.Following.{IsBegun}
@@ -36,7 +36,7 @@ AreTold = OfBoth (λ d c. IsTold (told_left d) (length (taken d)) (length (store
 -- A1: an empty buffer is posted at the place where the driver posts next
 pub record PostedOne (old new : DriverSide) : Type 0 where
   pub buf : Buffer
-  pub step : new ≡ appended old (driver.Posted (fill_place old) 0 buf)
+  pub step : new ≡ driver_grown old (driver.Posted (fill_place old) 0 buf)
 
 -- A6: one more segment is taken, and its bytes are at the beginning of the room
 pub record TookOne (len eop : ℕ) (before after : Bytes) (old new : DriverSide) : Type 0 where
@@ -55,7 +55,7 @@ pub record TookNone (answer : ℕ) (before after : Bytes) (old new : DriverSide)
 
 -- C8: the quiet word had this value
 abbrev pub FoundQuiet : ℕ → DriverSide → DriverSide → Type 0
-FoundQuiet value old new = new ≡ appended old (driver.Own (LoadedQuiet value))
+FoundQuiet value old new = new ≡ driver_grown old (driver.Own (LoadedQuiet value))
 
 -- a poll with this answer
 abbrev pub TriedPoll : ℕ → ℕ → ℕ → Bytes → Bytes → DriverSide → DriverSide → Type 0
@@ -82,8 +82,8 @@ pub record WroteOne (bytes : Bytes) (eop : Bool) (old new : ControllerSide) : Ty
   pub number : ℕ
   pub word : ℕ
   pub written : ControllerSide
-  pub segment : written ≡ answered (answered old (controller.Fetched (serve_place old) word (buffer number []))) (controller.Own (WroteBack (serve_place old) (rx_word (length bytes) eop) (buffer number bytes)))
-  pub head : new ≡ (if eop then answered written (controller.StoredHead (serve_place written)) else written)
+  pub segment : written ≡ controller_grown (controller_grown old (controller.Fetched (serve_place old) word (buffer number []))) (controller.Own (WroteBack (serve_place old) (rx_word (length bytes) eop) (buffer number bytes)))
+  pub head : new ≡ (if eop then controller_grown written (controller.StoredHead (serve_place written)) else written)
   pub grew : stored new ≡ stored old ++ record { number = number; payload = bytes; eop = eop } ∷ []
 
 -- the same, where a descriptor was known to be free, or a load of the tail (A3) showed one
@@ -100,7 +100,7 @@ pub record FoundNoneFree (old new : ControllerSide) : Type 0 where
 
 -- C7
 abbrev pub SaidNoMore : ControllerSide → ControllerSide → Type 0
-SaidNoMore old new = new ≡ answered old (controller.Own SaidQuiet)
+SaidNoMore old new = new ≡ controller_grown old (controller.Own SaidQuiet)
 
 -- a storing with this answer
 abbrev pub TriedStore : ℕ → Bytes → Bool → ControllerSide → ControllerSide → Type 0

@@ -6,7 +6,7 @@ use Rattle.shared_ring.specs.declared.ends.HandshakeStep.TheVariants.{AskEnable,
 use Rattle.shared_ring.specs.declared.events.DriverEvent.TheVariants as driver
 use Rattle.shared_ring.specs.declared.events.ControllerEvent.TheVariants as controller
 use Rattle.shared_ring.specs.Calls.{Answered}
-use Rattle.shared_ring.specs.Ends.{ControllerSide, DriverSide, answered, appended, fill_place, next_place}
+use Rattle.shared_ring.specs.Ends.{ControllerSide, DriverSide, controller_grown, driver_grown, fill_place, next_place}
 use Rattle.shared_ring.specs.Forms.{Form}
 use Rattle.poll82599_c.specs.Held.{Between, OfBoth, Tried}
 
@@ -26,18 +26,18 @@ module _ {Ring Posted Served Given D C : Type 0} {form : Form Ring Posted Served
 
   -- A2, B2
   abbrev pub PublishedAll : DriverSide form → DriverSide form → Type 0
-  PublishedAll old new = new ≡ appended old (driver.Published (fill_place old))
+  PublishedAll old new = new ≡ driver_grown old (driver.Published (fill_place old))
 
   -- C1 and C5
   abbrev pub AskedEnable : DriverSide form → DriverSide form → Type 0
-  AskedEnable old new = new ≡ appended old driver.AskedEnable
+  AskedEnable old new = new ≡ driver_grown old driver.AskedEnable
 
   abbrev pub AskedDisable : DriverSide form → DriverSide form → Type 0
-  AskedDisable old new = new ≡ appended old driver.AskedDisable
+  AskedDisable old new = new ≡ driver_grown old driver.AskedDisable
 
   -- C4: the control word had this value
   abbrev pub LoadedControl : ℕ → DriverSide form → DriverSide form → Type 0
-  LoadedControl value old new = new ≡ appended old (driver.LoadedControl value)
+  LoadedControl value old new = new ≡ driver_grown old (driver.LoadedControl value)
 
   -- a step of the handshake with this answer
   abbrev pub TriedShake : HandshakeStep → ℕ → DriverSide form → DriverSide form → Type 0
@@ -48,19 +48,19 @@ module _ {Ring Posted Served Given D C : Type 0} {form : Form Ring Posted Served
   -- C6: the oldest buffer that was out is back
   pub record ReclaimedOne (old new : DriverSide form) : Type 0 where
     pub buf : Buffer
-    pub step : new ≡ appended old (driver.Reclaimed (next_place old) buf)
+    pub step : new ≡ driver_grown old (driver.Reclaimed (next_place old) buf)
 
   -- ---- a controller's steps
 
   -- C2: what is asked was loaded, and not answered
   pub record LookedAsked (old new : ControllerSide form) : Type 0 where
     pub value : ℕ
-    pub step : new ≡ answered old (controller.LoadedRequest value)
+    pub step : new ≡ controller_grown old (controller.LoadedRequest value)
 
   -- C2 and C3: it was loaded, and answered
   pub record AnsweredAsked (old new : ControllerSide form) : Type 0 where
     pub value : ℕ
-    pub step : Answered (answered old (controller.LoadedRequest value)) new
+    pub step : Answered (controller_grown old (controller.LoadedRequest value)) new
 
   -- 1 answers that it was answered, and another number that it was not
   abbrev pub TriedAnswer : ℕ → ControllerSide form → ControllerSide form → Type 0

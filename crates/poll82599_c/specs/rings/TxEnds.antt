@@ -11,7 +11,7 @@ use Rattle.ring_model.specs.transmit.Ring.{are_whole, new_posting}
 use Rattle.shared_ring.specs.declared.events.DriverEvent.TheVariants as driver
 use Rattle.shared_ring.specs.declared.events.ControllerEvent.TheVariants as controller
 use Rattle.tx_ring.specs.Calls.{CleanedOne, FoundLeft, FoundReady, GoneOver, Polled, SawReported, report_of}
-use Rattle.tx_ring.specs.Ends.{DriverSide, ControllerSide, answered, appended, controller_size, driver_size, fill_place, known_ready, posted, sent}
+use Rattle.tx_ring.specs.Ends.{DriverSide, ControllerSide, controller_grown, driver_grown, controller_size, driver_size, fill_place, known_ready, posted, sent}
 use Rattle.tx_ring.specs.Meeting.{IsTold, MadeSeats, ledger_of, sent_now, told_left}
 use Rattle.tx_ring.specs.Records.{Posting}
 use Rattle.poll82599_c.specs.Held.{Both, OfBoth, Tried}
@@ -36,7 +36,7 @@ AreTold = OfBoth (λ d c. IsTold (told_left d) (length (sent_now d c)) (length (
 -- B1: one more segment is posted, of these bytes, with EOP, RS and PAYLEN
 pub record PostedSegment (bytes : Bytes) (eop rs : Bool) (paylen : ℕ) (old new : DriverSide) : Type 0 where
   pub number : ℕ
-  pub step : new ≡ appended old (driver.Posted (fill_place old) (tx_word (length bytes) eop rs paylen) (buffer number bytes))
+  pub step : new ≡ driver_grown old (driver.Posted (fill_place old) (tx_word (length bytes) eop rs paylen) (buffer number bytes))
   pub grew : posted new ≡ posted old ++ new_posting number bytes eop rs paylen ∷ []
 
 -- B7: a load showed no report, or without a step none was outstanding
@@ -77,7 +77,7 @@ pub record SentOne (len eop : ℕ) (before after : Bytes) (old new : ControllerS
   pub copied : after ≡ item.payload ++ drop (length item.payload) before
   pub given : ControllerSide
   pub sent_is : sent given ≡ sent new
-  pub reported : item.rs ≡ true → new ≡ answered given (controller.Own (report_of (controller_size given) given.completion (length (sent given))))
+  pub reported : item.rs ≡ true → new ≡ controller_grown given (controller.Own (report_of (controller_size given) given.completion (length (sent given))))
   pub unreported : item.rs ≡ false → new ≡ given
 
 -- none was known to be ready, and a load of the tail (B3) showed none

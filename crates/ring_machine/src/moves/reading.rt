@@ -79,7 +79,7 @@ fn rx_step(kind: &[u8], arguments: &[u16]) -> Option<RxStep<SegmentLength>>
     }
 }
 
-// A5 with these arguments.
+// The write-back (A5) that these arguments say.
 fn store_of(len: u16, eop: u16) -> Option<RxStep<SegmentLength>>
     ensures { (s : RxStep ℕ) → (result ≡ Some s) ↔ SpellsRx (codes "A5") (len ∷ eop ∷ []) s }
 {
@@ -124,7 +124,7 @@ fn tx_step(kind: &[u8], arguments: &[u16]) -> Option<TxStep<SegmentDescriptor>>
     }
 }
 
-// B1 with these arguments.
+// The posting (B1) that these arguments say.
 fn post_of(
     number: u16,
     len: u16,

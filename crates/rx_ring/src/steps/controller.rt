@@ -11,7 +11,7 @@ ghost use Rattle.shared_ring.specs.declared.events.ControllerEvent.TheVariants a
 ghost use Rattle.shared_ring.specs.Ends.{driver_of, controller_of};
 ghost use Rattle.rx_ring.specs.declared.events.RxDriverOwn.TheVariants.{LoadedQuiet, ClearedQuiet};
 ghost use Rattle.rx_ring.specs.declared.events.RxControllerOwn.TheVariants.{WroteBack, SaidQuiet};
-ghost use Rattle.rx_ring.specs.Ends.{controller_size, posted, returned, driver_state, fill_place, next_place, appended, stored, held_number, controller_state, is_between, serve_place, answered};
+ghost use Rattle.rx_ring.specs.Ends.{controller_size, posted, returned, driver_state, fill_place, next_place, driver_grown, stored, held_number, controller_state, is_between, serve_place, controller_grown};
 ghost use Rattle.rx_ring.specs.Form.{rx};
 ghost use Rattle.rx_ring.specs.Steps.{Found};
 
@@ -19,7 +19,7 @@ use crate::direction::{RxControllerSeat, RxShared};
 use crate::events::RxControllerEvent;
 use buffer_pool::Buf;
 use descriptor::RxBack;
-use shared_ring::OwnStep;
+use shared_ring::{OwnStep, QUIET};
 
 /// A5: stores a descriptor's write-back (DD, EOP, length), and gives its buffer back.
 struct WriteBackStore;
@@ -45,7 +45,7 @@ pub(crate) fn write_back(
     requires held { held_number (controller_of rx seat.old) ≡ Some buf.number }
     requires real { buf ≡ buffer buf.number buf.bytes }
     requires follows { Follows piece_of (controller_size (controller_of rx seat.old)) (unfinished piece_of (stored (controller_of rx seat.old))) buf.bytes eop }
-    ensures { controller_of rx seat.new ≡ answered (controller_of rx seat.old) (controller.Own (WroteBack place (rx_word (length buf.bytes) eop) buf)) }
+    ensures { controller_of rx seat.new ≡ controller_grown (controller_of rx seat.old) (controller.Own (WroteBack place (rx_word (length buf.bytes) eop) buf)) }
 {
     let _size = seat.size(); // which says that the length is lawful
     let word = RxBack::new(buf.len() as u16, eop).second_word();
@@ -77,8 +77,8 @@ pub(crate) fn say_quiet(seat: &mut RxControllerSeat, ring: &RxShared)
     requires serving { is_serving (controller_state (controller_of rx seat.old)) ≡ true }
     requires held { held_number (controller_of rx seat.old) ≡ None }
     requires between { is_between (controller_of rx seat.old) ≡ true }
-    ensures { controller_of rx seat.new ≡ answered (controller_of rx seat.old) (controller.Own SaidQuiet) }
+    ensures { controller_of rx seat.new ≡ controller_grown (controller_of rx seat.old) (controller.Own SaidQuiet) }
 {
-    let word = seat.size() as usize + 3;
-    seat.store_own::<QuietStore>(ring, word, 1);
+    let index = seat.size() as usize + QUIET;
+    seat.store_own::<QuietStore>(ring, index, 1);
 }

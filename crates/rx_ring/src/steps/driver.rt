@@ -11,7 +11,7 @@ ghost use Rattle.shared_ring.specs.declared.events.ControllerEvent.TheVariants a
 ghost use Rattle.shared_ring.specs.Ends.{driver_of, controller_of};
 ghost use Rattle.rx_ring.specs.declared.events.RxDriverOwn.TheVariants.{LoadedQuiet, ClearedQuiet};
 ghost use Rattle.rx_ring.specs.declared.events.RxControllerOwn.TheVariants.{WroteBack, SaidQuiet};
-ghost use Rattle.rx_ring.specs.Ends.{controller_size, posted, returned, driver_state, fill_place, next_place, appended, stored, held_number, controller_state, is_between, serve_place, answered};
+ghost use Rattle.rx_ring.specs.Ends.{controller_size, posted, returned, driver_state, fill_place, next_place, driver_grown, stored, held_number, controller_state, is_between, serve_place, controller_grown};
 ghost use Rattle.rx_ring.specs.Form.{rx};
 ghost use Rattle.rx_ring.specs.Steps.{Found};
 
@@ -19,7 +19,7 @@ use crate::direction::{RxDriverSeat, RxShared};
 use crate::events::RxDriverEvent;
 use buffer_pool::Buf;
 use descriptor::RxBack;
-use shared_ring::{OwnStep, OwnTake};
+use shared_ring::{OwnStep, OwnTake, QUIET};
 
 /// A6: loads a descriptor's status word, and takes its buffer where DD is set.
 struct StatusLoad;
@@ -76,10 +76,10 @@ impl OwnStep<RxDriverEvent> for QuietLoad {
 #[inline]
 pub(crate) fn load_quiet(seat: &mut RxDriverSeat, ring: &RxShared) -> bool
     requires own { seat.old.table ≡ ring.now }
-    ensures { driver_of rx seat.new ≡ appended (driver_of rx seat.old) (driver.Own (LoadedQuiet (bit result))) }
+    ensures { driver_of rx seat.new ≡ driver_grown (driver_of rx seat.old) (driver.Own (LoadedQuiet (bit result))) }
 {
-    let word = seat.size() as usize + 3;
-    seat.load_own::<QuietLoad>(ring, word) == 1
+    let index = seat.size() as usize + QUIET;
+    seat.load_own::<QuietLoad>(ring, index) == 1
 }
 
 /// C11: stores 0 as the quiet word, as the last step of an epoch.
@@ -91,15 +91,15 @@ impl OwnStep<RxDriverEvent> for ClearQuietStore {
     ghost event = { clears_quiet };
 }
 
-/// C11. The epoch ends.
+/// C11: stores 0 as the quiet word, by which the epoch ends.
 #[inline]
 pub(crate) fn clear_quiet(seat: &mut RxDriverSeat, ring: &RxShared, fill: u16)
     requires own { seat.old.table ≡ ring.now }
     requires place { fill ≡ fill_place (driver_of rx seat.old) }
     requires tailed { is_tailed (driver_state (driver_of rx seat.old)) ≡ true }
     requires back { returned (driver_of rx seat.old) ≡ length (posted (driver_of rx seat.old)) }
-    ensures { driver_of rx seat.new ≡ appended (driver_of rx seat.old) (driver.Own ClearedQuiet) }
+    ensures { driver_of rx seat.new ≡ driver_grown (driver_of rx seat.old) (driver.Own ClearedQuiet) }
 {
-    let word = seat.size() as usize + 3;
-    seat.end_own::<ClearQuietStore>(ring, word, fill);
+    let index = seat.size() as usize + QUIET;
+    seat.end_own::<ClearQuietStore>(ring, index, fill);
 }

@@ -15,20 +15,21 @@ use crate::direction::Direction;
 use crate::ends::{ControllerLoad, ControllerPlaces};
 use crate::events::ControllerEvent;
 use crate::plays::{AnswerStore, Loads, NextLoad, RequestLoad, Stores, TailLoad, Takes};
+use crate::registers::{CONTROL, TAIL};
 use crate::slots::take_out;
 use buffer_pool::Buf;
 use ring_model::{ControllerState, places_between};
 
 impl<D, C, R: Direction<D, C>> EndSeat<ControllerEvent<C>, D, C, R> {
-    /// A3, B3: the tail.
+    /// A3, B3: loads the tail (RDT, TDT).
     #[inline]
     pub fn look(&mut self, ring: &Ring<D, C, R>) -> u16
         requires own { self.old.table ≡ ring.now }
         requires serving { is_serving (controller_state (controller_of R.form self.old)) ≡ true }
         ensures { FoundTail (controller_of R.form self.old) result (controller_of R.form self.new) }
     {
-        let word = self.size as usize + 1;
-        load::<Loads<TailLoad<D, R>, _, R>, _, _, _, _>(&ring.table, &mut self.seat, word) as u16
+        let index = self.size as usize + TAIL;
+        load::<Loads<TailLoad<D, R>, _, R>, _, _, _, _>(&ring.table, &mut self.seat, index) as u16
     }
 
     /// A4, B4: the next descriptor is loaded, and its buffer taken; beside it, the word.
@@ -58,8 +59,12 @@ impl<D, C, R: Direction<D, C>> EndSeat<ControllerEvent<C>, D, C, R> {
         requires own { self.old.table ≡ ring.now }
         ensures { self.new ≡ grown self.old (LoadedRequest (control_word result)) }
     {
-        let word = self.size as usize + 2;
-        let value = load::<Loads<RequestLoad, _, R>, _, _, _, _>(&ring.table, &mut self.seat, word);
+        let index = self.size as usize + CONTROL;
+        let value = load::<Loads<RequestLoad, _, R>, _, _, _, _>(
+            &ring.table,
+            &mut self.seat,
+            index,
+        );
         Control::of_word(value)
     }
 
@@ -70,12 +75,12 @@ impl<D, C, R: Direction<D, C>> EndSeat<ControllerEvent<C>, D, C, R> {
         requires may { MayTell told (controller_of R.form self.old) }
         ensures { self.new ≡ grown self.old (answers (control_word told)) }
     {
-        let word = self.size as usize + 2;
+        let index = self.size as usize + CONTROL;
         let value = told.word() as u64;
-        store::<Stores<AnswerStore, _, R>, _, _, _, _>(&ring.table, &mut self.seat, word, value);
+        store::<Stores<AnswerStore, _, R>, _, _, _, _>(&ring.table, &mut self.seat, index, value);
     }
 
-    /// A3, B3 or C2: what the word tells is kept.
+    /// A3, B3 or C2: loads the tail or the control word, and keeps what it tells.
     #[inline]
     pub fn load(
         &mut self,
@@ -102,7 +107,7 @@ impl<D, C, R: Direction<D, C>> EndSeat<ControllerEvent<C>, D, C, R> {
         }
     }
 
-    /// C3: an enabling, of which a new epoch begins, or a disabling.
+    /// C3: stores the answer as the control word (RXDCTL, TXDCTL): 2, by which an epoch begins, or 0.
     #[inline]
     pub fn answer(&mut self, ring: &Ring<D, C, R>, at: &mut ControllerPlaces)
         requires own { self.old.table ≡ ring.now }

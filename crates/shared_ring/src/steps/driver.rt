@@ -19,6 +19,7 @@ use crate::plays::{
     AskStore, ClearHeadStore, ClearTailStore, ControlLoad, Gives, HeadLoad, Loads, PostStore,
     PublishStore, Stores,
 };
+use crate::registers::{CONTROL, TAIL};
 use crate::slots::put_in;
 use buffer_pool::Buf;
 use ring_model::{DriverState, place_after};
@@ -48,8 +49,8 @@ impl<D, C, R: Direction<D, C>> EndSeat<DriverEvent<D>, D, C, R> {
         requires may { R.form.MayPublish (posted (driver_of R.form self.old)) }
         ensures { self.new ≡ grown self.old (Published tail) }
     {
-        let (word, tail) = (self.size as usize + 1, tail as u64);
-        store::<Stores<PublishStore, _, R>, _, _, _, _>(&ring.table, &mut self.seat, word, tail);
+        let (index, tail) = (self.size as usize + TAIL, tail as u64);
+        store::<Stores<PublishStore, _, R>, _, _, _, _>(&ring.table, &mut self.seat, index, tail);
     }
 
     /// C1 or C5: 1, enabling asked, or 3, disabling asked, is stored as the control word (RXDCTL, TXDCTL).
@@ -59,9 +60,9 @@ impl<D, C, R: Direction<D, C>> EndSeat<DriverEvent<D>, D, C, R> {
         requires may { MayAsk request (driver_state (driver_of R.form self.old)) }
         ensures { self.new ≡ grown self.old (asks (control_word request)) }
     {
-        let word = self.size as usize + 2;
+        let index = self.size as usize + CONTROL;
         let value = request.word() as u64;
-        store::<Stores<AskStore, _, R>, _, _, _, _>(&ring.table, &mut self.seat, word, value);
+        store::<Stores<AskStore, _, R>, _, _, _, _>(&ring.table, &mut self.seat, index, value);
     }
 
     /// C4: loads the control word (RXDCTL, TXDCTL), for what the controller answered.
@@ -70,12 +71,16 @@ impl<D, C, R: Direction<D, C>> EndSeat<DriverEvent<D>, D, C, R> {
         requires own { self.old.table ≡ ring.now }
         ensures { self.new ≡ grown self.old (LoadedControl (control_word result)) }
     {
-        let word = self.size as usize + 2;
-        let value = load::<Loads<ControlLoad, _, R>, _, _, _, _>(&ring.table, &mut self.seat, word);
+        let index = self.size as usize + CONTROL;
+        let value = load::<Loads<ControlLoad, _, R>, _, _, _, _>(
+            &ring.table,
+            &mut self.seat,
+            index,
+        );
         Control::of_word(value)
     }
 
-    /// The load of the head.
+    /// Loads the head (RDH, TDH).
     #[inline]
     pub fn load_head(&mut self, ring: &Ring<D, C, R>) -> u16
         requires own { self.old.table ≡ ring.now }
@@ -83,8 +88,8 @@ impl<D, C, R: Direction<D, C>> EndSeat<DriverEvent<D>, D, C, R> {
         ensures step { self.new ≡ grown self.old (LoadedHead result) }
         ensures below { result < self.old.table.slots }
     {
-        let word = self.size as usize;
-        load::<Loads<HeadLoad, _, R>, _, _, _, _>(&ring.table, &mut self.seat, word) as u16
+        let index = self.size as usize;
+        load::<Loads<HeadLoad, _, R>, _, _, _, _>(&ring.table, &mut self.seat, index) as u16
     }
 
     /// C6: the oldest descriptor that is out becomes 0, and its buffer comes back.
@@ -100,7 +105,7 @@ impl<D, C, R: Direction<D, C>> EndSeat<DriverEvent<D>, D, C, R> {
         self.clear_own::<Reclaiming<C, R>>(ring, place)
     }
 
-    /// C6, where a buffer is out.
+    /// C6: takes the oldest buffer that is out back, where one is.
     #[inline]
     pub fn reclaim_next(&mut self, ring: &Ring<D, C, R>, at: &mut DriverPlaces) -> Option<Buf>
         requires own { self.old.table ≡ ring.now }
@@ -126,11 +131,11 @@ impl<D, C, R: Direction<D, C>> EndSeat<DriverEvent<D>, D, C, R> {
         requires back { returned (driver_of R.form self.old) ≡ length (posted (driver_of R.form self.old)) }
         ensures { self.new ≡ grown self.old ClearedHead }
     {
-        let word = self.size as usize;
-        store::<Stores<ClearHeadStore, _, R>, _, _, _, _>(&ring.table, &mut self.seat, word, 0);
+        let index = self.size as usize;
+        store::<Stores<ClearHeadStore, _, R>, _, _, _, _>(&ring.table, &mut self.seat, index, 0);
     }
 
-    /// C10, where the epoch does not end by it.
+    /// C10: stores 0 as the tail (RDT, TDT), where the epoch does not end by it.
     #[inline]
     pub fn clear_tail(&mut self, ring: &Ring<D, C, R>)
         requires own { self.old.table ≡ ring.now }
@@ -138,8 +143,8 @@ impl<D, C, R: Direction<D, C>> EndSeat<DriverEvent<D>, D, C, R> {
         requires cleared { is_cleared (driver_state (driver_of R.form self.old)) ≡ true }
         ensures { self.new ≡ grown self.old ClearedTail }
     {
-        let word = self.size as usize + 1;
-        store::<Stores<ClearTailStore, _, R>, _, _, _, _>(&ring.table, &mut self.seat, word, 0);
+        let index = self.size as usize + TAIL;
+        store::<Stores<ClearTailStore, _, R>, _, _, _, _>(&ring.table, &mut self.seat, index, 0);
     }
 
     /// C1, C4 or C5: how far the driver is goes on, and the control value that was stored or loaded is answered.

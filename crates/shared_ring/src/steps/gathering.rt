@@ -13,6 +13,7 @@ ghost use Rattle.shared_ring.specs.declared.events.View.TheVariants.{Driver, Con
 use super::{ControllerSeat, DriverSeat, EndSeat, Ring, RingSeat, RingTable};
 use crate::direction::Direction;
 use crate::lending::{Deal, Halve, Lend, MeetLoad, Return, Unite};
+use crate::registers::CONTROL;
 use atomic_table::{Closed, Table};
 use buffer_pool::Buf;
 use ring_model::{Completion, places_between};
@@ -39,7 +40,7 @@ impl<D, C, R: Direction<D, C>> Ring<D, C, R> {
         let Ok((table, mut seat)) = Table::new(alloc, words.as_slice(), blanks, &key) else {
             return Err(AllocError);
         };
-        table.shared.load::<Deal>(&mut seat, count + 2);
+        table.shared.load::<Deal>(&mut seat, count + CONTROL);
         let served = table.shared.split_seat::<Halve>(&mut seat);
         let ring = Ring { table, room };
         Ok((

@@ -16,7 +16,7 @@ use atomic_table::Seat;
 use buffer_pool::Buf;
 use std::marker::PhantomData;
 
-/// C6, as a store by which a buffer comes back.
+/// C6: stores 0 as the oldest descriptor that is out, by which its buffer comes back.
 pub(crate) struct Reclaiming<C, R>(PhantomData<(C, R)>);
 
 impl<D, C, R: Direction<D, C>> OwnStep<DriverEvent<D>> for Reclaiming<C, R> {
@@ -30,13 +30,17 @@ impl<D, C, R: Direction<D, C>> OwnStep<DriverEvent<D>> for Reclaiming<C, R> {
 impl<D, C, R: Direction<D, C>> EndSeat<DriverEvent<D>, D, C, R> {
     /// A load.
     #[inline]
-    pub fn load_own<P: OwnStep<DriverEvent<D>>>(&mut self, ring: &Ring<D, C, R>, word: usize) -> u64
+    pub fn load_own<P: OwnStep<DriverEvent<D>>>(
+        &mut self,
+        ring: &Ring<D, C, R>,
+        index: usize,
+    ) -> u64
         requires own { self.old.table ≡ ring.now }
-        requires may { MayLoad R.form P.event P.tells self.old.table.slots self.old.completion self.old.events word }
-        ensures step { self.new ≡ grown self.old (P.event self.old.table.slots self.old.events word result blank) }
-        ensures told { P.tells self.old.table.slots self.old.events word result blank }
+        requires may { MayLoad R.form P.event P.tells self.old.table.slots self.old.completion self.old.events index }
+        ensures step { self.new ≡ grown self.old (P.event self.old.table.slots self.old.events index result blank) }
+        ensures told { P.tells self.old.table.slots self.old.events index result blank }
     {
-        load::<Loads<P, _, R>, _, _, _, _>(&ring.table, &mut self.seat, word)
+        load::<Loads<P, _, R>, _, _, _, _>(&ring.table, &mut self.seat, index)
     }
 
     /// A store of 0 into the oldest descriptor that is out, whose buffer comes back.
@@ -86,16 +90,16 @@ impl<D, C, R: Direction<D, C>> EndSeat<DriverEvent<D>, D, C, R> {
     pub fn end_own<P: OwnStep<DriverEvent<D>>>(
         &mut self,
         ring: &Ring<D, C, R>,
-        word: usize,
+        index: usize,
         fill: u16,
     )
         requires own { self.old.table ≡ ring.now }
         requires place { fill ≡ fill_place (driver_of R.form self.old) }
         requires back { returned (driver_of R.form self.old) ≡ length (posted (driver_of R.form self.old)) }
-        requires may { MayEnd R.form P.event self.old.table.slots self.old.completion self.old.events word }
-        ensures { self.new ≡ grown self.old (P.event self.old.table.slots self.old.events word 0 blank) }
+        requires may { MayEnd R.form P.event self.old.table.slots self.old.completion self.old.events index }
+        ensures { self.new ≡ grown self.old (P.event self.old.table.slots self.old.events index 0 blank) }
     {
-        store::<Stores<P, _, R>, _, _, _, _>(&ring.table, &mut self.seat, word, 0);
+        store::<Stores<P, _, R>, _, _, _, _>(&ring.table, &mut self.seat, index, 0);
         turn_round(&mut self.seat, fill, self.size);
     }
 }
@@ -106,14 +110,14 @@ impl<D, C, R: Direction<D, C>> EndSeat<ControllerEvent<C>, D, C, R> {
     pub fn store_own<P: OwnStep<ControllerEvent<C>>>(
         &mut self,
         ring: &Ring<D, C, R>,
-        word: usize,
+        index: usize,
         value: u64,
     )
         requires own { self.old.table ≡ ring.now }
-        requires may { MayStore R.form P.event self.old.table.slots self.old.completion self.old.events word value }
-        ensures { self.new ≡ grown self.old (P.event self.old.table.slots self.old.events word value blank) }
+        requires may { MayStore R.form P.event self.old.table.slots self.old.completion self.old.events index value }
+        ensures { self.new ≡ grown self.old (P.event self.old.table.slots self.old.events index value blank) }
     {
-        store::<Stores<P, _, R>, _, _, _, _>(&ring.table, &mut self.seat, word, value);
+        store::<Stores<P, _, R>, _, _, _, _>(&ring.table, &mut self.seat, index, value);
     }
 
     /// The fetched buffer goes back into its slot, which the store gives to the ring.
@@ -123,17 +127,17 @@ impl<D, C, R: Direction<D, C>> EndSeat<ControllerEvent<C>, D, C, R> {
         ring: &Ring<D, C, R>,
         place: u16,
         buf: Buf,
-        word: usize,
+        index: usize,
         value: u64,
     )
         requires own { self.old.table ≡ ring.now }
         requires place { place ≡ serve_place (controller_of R.form self.old) }
         requires held { (h : Buffer) × (held (controller_of R.form self.old) ≡ Some h) }
-        requires may { MayGive R.form P.event self.old.table.slots self.old.completion self.old.events place word value buf }
-        ensures { self.new ≡ grown self.old (P.event self.old.table.slots self.old.events word value buf) }
+        requires may { MayGive R.form P.event self.old.table.slots self.old.completion self.old.events place index value buf }
+        ensures { self.new ≡ grown self.old (P.event self.old.table.slots self.old.events index value buf) }
     {
         put_in(&ring.table, &mut self.seat, place as usize, buf);
-        store::<Gives<P, _, R>, _, _, _, _>(&ring.table, &mut self.seat, word, value);
+        store::<Gives<P, _, R>, _, _, _, _>(&ring.table, &mut self.seat, index, value);
     }
 }
 

@@ -5,15 +5,16 @@ ghost use Rattle.ring_model.specs.transmit.Agreement.{done_word};
 ghost use Rattle.ring_model.specs.transmit.Steps.{by_head};
 ghost use Rattle.shared_ring.specs.declared.events.ControllerEvent.TheVariants.{Own};
 ghost use Rattle.shared_ring.specs.Ends.{controller_of};
+ghost use Rattle.shared_ring.specs.Registers.{report_index};
 ghost use Rattle.tx_ring.specs.declared.events.TxControllerOwn.TheVariants.{Sent, Reported};
-ghost use Rattle.tx_ring.specs.Ends.{controller_size, sent, held, held_word, controller_state, is_owed, serve_place, answered};
+ghost use Rattle.tx_ring.specs.Ends.{controller_size, sent, held, held_word, controller_state, is_owed, serve_place, controller_grown};
 ghost use Rattle.tx_ring.specs.Form.{tx};
 
 use crate::direction::{TxControllerSeat, TxShared};
 use crate::events::TxControllerEvent;
 use buffer_pool::Buf;
 use descriptor::TxBack;
-use shared_ring::OwnStep;
+use shared_ring::{OwnStep, REPORT};
 
 /// B5: stores the head (TDH), and gives the sent buffer back.
 struct SendStore;
@@ -32,10 +33,10 @@ pub(crate) fn send(seat: &mut TxControllerSeat, ring: &TxShared, place: u16, hea
     requires head { head ≡ (length (sent (controller_of tx seat.old)) + 1) % controller_size (controller_of tx seat.old) }
     requires serving { is_serving (controller_state (controller_of tx seat.old)) ≡ true }
     requires held { held (controller_of tx seat.old) ≡ Some buf }
-    ensures { controller_of tx seat.new ≡ answered (controller_of tx seat.old) (Own (Sent head (held_word (controller_of tx seat.old)) buf)) }
+    ensures { controller_of tx seat.new ≡ controller_grown (controller_of tx seat.old) (Own (Sent head (held_word (controller_of tx seat.old)) buf)) }
 {
-    let word = seat.size() as usize;
-    seat.give_own::<SendStore>(ring, place, buf, word, head as u64);
+    let index = seat.size() as usize;
+    seat.give_own::<SendStore>(ring, place, buf, index, head as u64);
 }
 
 /// B6: stores a report: DD in the descriptor that asked for it, or the head as the head word of reports.
@@ -47,7 +48,7 @@ impl OwnStep<TxControllerEvent> for ReportStore {
     ghost event = { reports };
 }
 
-/// B6, by the descriptor at this place.
+/// B6: writes DD back into the descriptor at this place.
 #[inline]
 pub(crate) fn report_status(seat: &mut TxControllerSeat, ring: &TxShared, place: u16)
     requires own { seat.old.table ≡ ring.now }
@@ -55,14 +56,14 @@ pub(crate) fn report_status(seat: &mut TxControllerSeat, ring: &TxShared, place:
     requires place { place ≡ (length (sent (controller_of tx seat.old)) - 1) % controller_size (controller_of tx seat.old) }
     requires serving { is_serving (controller_state (controller_of tx seat.old)) ≡ true }
     requires owed { is_owed (controller_of tx seat.old) ≡ true }
-    ensures { controller_of tx seat.new ≡ answered (controller_of tx seat.old) (Own (Reported place done_word)) }
+    ensures { controller_of tx seat.new ≡ controller_grown (controller_of tx seat.old) (Own (Reported place done_word)) }
 {
     let _size = seat.size();
     let word = TxBack.second_word();
     seat.store_own::<ReportStore>(ring, place as usize, word);
 }
 
-/// B6, by the head word.
+/// B6: writes the head back, as the head word of reports.
 #[inline]
 pub(crate) fn report_head(seat: &mut TxControllerSeat, ring: &TxShared, head: u16)
     requires own { seat.old.table ≡ ring.now }
@@ -70,8 +71,8 @@ pub(crate) fn report_head(seat: &mut TxControllerSeat, ring: &TxShared, head: u1
     requires head { head ≡ serve_place (controller_of tx seat.old) }
     requires serving { is_serving (controller_state (controller_of tx seat.old)) ≡ true }
     requires owed { is_owed (controller_of tx seat.old) ≡ true }
-    ensures { controller_of tx seat.new ≡ answered (controller_of tx seat.old) (Own (Reported (controller_size (controller_of tx seat.old) + 4) head)) }
+    ensures { controller_of tx seat.new ≡ controller_grown (controller_of tx seat.old) (Own (Reported (report_index (controller_size (controller_of tx seat.old))) head)) }
 {
-    let word = seat.size() as usize + 4;
-    seat.store_own::<ReportStore>(ring, word, head as u64);
+    let index = seat.size() as usize + REPORT;
+    seat.store_own::<ReportStore>(ring, index, head as u64);
 }

@@ -9,7 +9,7 @@ ghost use Rattle.ring_model.specs.transmit.Ring.{are_whole, carried, new_posting
 ghost use Rattle.ring_model.specs.transmit.Steps.{by_head};
 ghost use Rattle.shared_ring.specs.Ends.{driver_of};
 ghost use Rattle.shared_ring.specs.declared.events.DriverEvent.TheVariants.{Posted};
-ghost use Rattle.tx_ring.specs.Ends.{driver_size, posted, cleaned, returned, seen_reported, outstanding, driver_state, fill_place, next_place, appended};
+ghost use Rattle.tx_ring.specs.Ends.{driver_size, posted, cleaned, returned, seen_reported, outstanding, driver_state, fill_place, next_place, driver_grown};
 ghost use Rattle.tx_ring.specs.Calls.{gone_over};
 ghost use Rattle.tx_ring.specs.Form.{tx};
 ghost use Rattle.tx_ring.specs.Steps.{OldestAt, Looked, CameClean};
@@ -19,7 +19,7 @@ use crate::events::TxDriverEvent;
 use buffer_pool::Buf;
 use descriptor::{TxBack, TxRead};
 use ring_model::{place_after, places_between};
-use shared_ring::OwnStep;
+use shared_ring::{OwnStep, REPORT, TAIL};
 
 /// B1: a buffer goes into the next slot, and its descriptor says what is in it.
 #[inline]
@@ -38,7 +38,7 @@ pub(crate) fn post(
     requires room { length (posted (driver_of tx seat.old)) + 1 < returned (driver_of tx seat.old) + driver_size (driver_of tx seat.old) }
     requires real { buf ≡ buffer buf.number buf.bytes }
     requires follows { MayFollow (driver_size (driver_of tx seat.old)) (unfinished carried (posted (driver_of tx seat.old))) (new_posting buf.number buf.bytes eop rs paylen) }
-    ensures { driver_of tx seat.new ≡ appended (driver_of tx seat.old) (Posted place (tx_word (length buf.bytes) eop rs paylen) buf) }
+    ensures { driver_of tx seat.new ≡ driver_grown (driver_of tx seat.old) (Posted place (tx_word (length buf.bytes) eop rs paylen) buf) }
 {
     let _size = seat.size();
     let word = TxRead::new(buf.number(), buf.len() as u16, eop, rs, paylen).second_word();
@@ -106,7 +106,7 @@ fn load_report(seat: &mut TxDriverSeat, ring: &TxShared, place: u16, seen: u16) 
     ensures { Looked (driver_of tx seat.old) (driver_of tx seat.new) result }
 {
     let size = seat.size();
-    let head = seat.load_own::<ReportLoad>(ring, size as usize + 4) as u16;
+    let head = seat.load_own::<ReportLoad>(ring, size as usize + REPORT) as u16;
     let wanted = places_between(seen, place_after(place, size), size);
     !(places_between(seen, head, size) < wanted)
 }
@@ -127,7 +127,7 @@ pub(crate) fn find_report(seat: &mut TxDriverSeat, ring: &TxShared, place: u16, 
     }
 }
 
-/// C10, as the last step of an epoch of a ring that reports by its descriptors.
+/// C10: stores 0 as the tail (TDT), as the last step of an epoch of a ring that reports by its descriptors.
 struct EndEpochStore;
 
 impl OwnStep<TxDriverEvent> for EndEpochStore {
@@ -158,8 +158,8 @@ pub(crate) fn go_over(seat: &mut TxDriverSeat, ring: &TxShared, fill: u16)
     seat.clear_head(ring);
     if seat.completion().is_by_head() {
         seat.clear_tail(ring);
-        seat.end_own::<ClearReportStore>(ring, size + 4, fill);
+        seat.end_own::<ClearReportStore>(ring, size + REPORT, fill);
     } else {
-        seat.end_own::<EndEpochStore>(ring, size + 1, fill);
+        seat.end_own::<EndEpochStore>(ring, size + TAIL, fill);
     }
 }
