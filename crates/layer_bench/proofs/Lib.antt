@@ -1,2 +1,1 @@
-pub mod Forwards
 pub mod Through

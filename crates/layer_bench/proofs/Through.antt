@@ -1,16 +1,14 @@
 -- What the records of both rings' ends amount to, where frames went through both layers.
-use Rattle.std.proofs.Common.{◌≡◌, ◌∙◌, ℕ, ◌≤◌, Bool, true, false, List, [], ◌∷◌, ◌++◌, length, map, ap, sym, refl, subst, if◌then◌else◌}
+use Rattle.std.proofs.Common.{◌≡◌, ◌∙◌, ℕ, Bool, true, List, [], ◌∷◌, ◌++◌, length, ap, sym, refl, subst, if◌then◌else◌}
 use Rattle.std.specs.Prelude.{◌&&◌, All, Result, Ok, Err, replicate}
 use Rattle.std.proofs.lemmas.List.Elements.{All-nil, All-append, All-head, All-tail, All-same, All-replicate}
 use Rattle.atomic_table.specs.Seated.{TableId}
-use Rattle.buffer_pool.specs.Packed.{bytes_of}
 use Rattle.refusals.specs.declared.errors.CtlError.{CtlError}
 use Rattle.controller.specs.declared.offer.Offer.{Offer}
 use Rattle.controller.specs.declared.offer.Offer.TheVariants.{Off, Oversize, Stored, Dropped, Held}
 use Rattle.controller.specs.Receiving.{frames_by}
-use Rattle.ring_model.specs.receive.Lawful.{IsLawfulRxLedger}
 use Rattle.ring_model.specs.transmit.Lawful.{IsLawfulTxLedger}
-use Rattle.ring_model.specs.shared.Frames.{Bytes, Piece, frames}
+use Rattle.ring_model.specs.shared.Frames.{Bytes, frames}
 use Rattle.ring_model.specs.shared.Handshakes.{is_open, is_serving}
 use Rattle.ring_model.specs.shared.Lists.{IsBeginning}
 use Rattle.ring_model.specs.shared.Segments.{piece_of}
@@ -18,26 +16,19 @@ use Rattle.ring_model.specs.transmit.Ring.{carried}
 use Rattle.ring_laws.specs.Lists.{beginning-trans}
 use Rattle.ring_laws.specs.Frames.{frames-beginning}
 use Rattle.rx_ring.specs.Ends as receive
-use Rattle.rx_ring.specs.Meeting as received
 use Rattle.tx_ring.specs.Ends as transmit
 use Rattle.tx_ring.specs.Meeting as transmitted
 use Rattle.tx_ring.specs.Records.{Posting}
-use Rattle.layer_bench.specs.declared.forwarding.Forwarder.{Forwarder}
-use Rattle.layer_bench.specs.declared.meeting.Ends.{Ends}
-use Rattle.bench_kit.specs.Copies.{AllWhole}
+use Rattle.bench_kit.specs.declared.meeting.Ends.{Ends}
 use Rattle.layer_bench.specs.declared.serving.Device.{Device}
-use Rattle.layer_bench.specs.Forwarding.{CanForward, HasMet, HasRelayed, SentAtLeast}
-use Rattle.bench_kit.specs.Storing.{StoredOnly}
+use Rattle.bench_kit.specs.Forwarding.{HasMet}
 use Rattle.layer_bench.specs.Serving.{HasGone, Serves}
 use Rattle.bench_kit.proofs.Copies.{All-beginning, copies}
 use Rattle.bench_kit.proofs.Handshakes.{serving_on}
+use Rattle.bench_kit.proofs.Taken.{taken_copies}
 
 abbrev AreCopies : Bytes → List Bytes → Type 0
 AreCopies frame fs = All (λ f. f ≡ frame) fs
-
--- items that each carry the whole frame are copies of it
-pub whole_copies : {X : Type 0} (carries : X → Piece) (frame : Bytes) (xs : List X) → AllWhole carries frame xs → AreCopies frame (frames carries xs)
-whole_copies carries frame xs all = All-same (λ f. f ≡ frame) (frames carries xs) (replicate (length xs) frame) (copies carries frame xs all) (All-replicate (λ f. f ≡ frame) (length xs) frame refl)
 
 -- copies of a frame are as many of it
 pub as_replicate : (frame : Bytes) (fs : List Bytes) → AreCopies frame fs → fs ≡ replicate (length fs) frame
@@ -63,17 +54,6 @@ offered_copies frame before after told all grew = All-same (λ f. f ≡ frame) a
     more (Ok Held) = none
     more (Err e) = none
 
-copies_unless : {X : Type 0} (carries : X → Piece) (frame : Bytes) (xs : List X) (none : Bool) → AreCopies frame (frames carries xs) → AreCopies frame (frames carries (if none then [] else xs))
-copies_unless carries frame xs true all = All-nil (λ f. f ≡ frame)
-copies_unless carries frame xs false all = all
-
--- where only copies of the frame were stored, only such were taken
-pub taken_copies : (frame : Bytes) (d : receive.DriverSide) (c : receive.ControllerSide) → IsLawfulRxLedger Bytes (receive.driver_size d) (received.ledger_of d c)
-    → AreCopies frame (frames piece_of (receive.stored c)) → AreCopies frame (frames piece_of (receive.taken d))
-taken_copies frame d c lawful all =
-    All-beginning (λ f. f ≡ frame) (frames piece_of (receive.taken d)) (frames piece_of (received.stored_now d c)) (frames-beginning piece_of (receive.taken d) (received.stored_now d c) lawful.taken)
-    (copies_unless piece_of frame (receive.stored c) (received.is_unanswered d c) all)
-
 -- what a controller that serves has sent is a beginning of what was posted
 sent_begins : (d : transmit.DriverSide) (c : transmit.ControllerSide) → is_serving (transmit.controller_state c) ≡ true → IsLawfulTxLedger Bytes (transmit.driver_size d) (transmitted.ledger_of d c)
     → IsBeginning (transmit.sent c) (transmit.posted d)
@@ -90,30 +70,6 @@ sent_copies frame e met serving all =
     let taken : List Bytes = frames piece_of (receive.taken e.rx) in
     let begins = frames-beginning carried (transmit.sent e.tx_controller) (transmit.posted e.tx) (sent_begins e.tx e.tx_controller serving met.sent) in
     All-beginning (λ f. f ≡ frame) sent taken (beginning-trans sent posted taken begins met.sent_on) (taken_copies frame e.rx e.rx_controller met.received all)
-
--- the ends of two drivers that forwarded have met those of the controllers
-pub has_met : (from to : TableId) (f : Forwarder) (rx : receive.DriverSide) (rx_controller : receive.ControllerSide) (tx : transmit.DriverSide) (tx_controller : transmit.ControllerSide)
-    → CanForward from to f → rx ≡ f.rx.end → tx ≡ f.tx.end → rx_controller.table ≡ from → tx_controller.table ≡ to
-    → IsLawfulRxLedger Bytes (receive.driver_size rx) (received.ledger_of rx rx_controller) → IsLawfulTxLedger Bytes (transmit.driver_size tx) (transmitted.ledger_of tx tx_controller)
-    → HasMet (record { rx = rx; rx_controller = rx_controller; tx = tx; tx_controller = tx_controller })
-has_met from to f rx rx_controller tx tx_controller can rx_is tx_is stores sends received sent =
-    let waiting : List Bytes = map bytes_of f.packets.items in record {
-      one_rx = stores ∙ sym (ap (λ (d : receive.DriverSide). d.table) rx_is ∙ can.receives);
-      one_tx = sends ∙ sym (ap (λ (d : transmit.DriverSide). d.table) tx_is ∙ can.sends);
-      received = received;
-      sent = sent;
-      sent_on = (waiting, ap (λ (d : transmit.DriverSide). frames carried (transmit.posted d) ++ waiting) tx_is ∙ (sym can.relayed ∙ ap (λ (d : receive.DriverSide). frames piece_of (receive.taken d)) (sym rx_is)));
-    }
-
--- so many copies were relayed, where the controller stored nothing else
-pub has_relayed : (ring : TableId) (count : ℕ) (frame : Bytes) (f : Forwarder) (c : receive.ControllerSide) (e : Ends) → HasMet e → e.tx ≡ f.tx.end → e.rx_controller ≡ c
-    → SentAtLeast count f → StoredOnly ring frame c → HasRelayed count frame e
-has_relayed ring count frame f c e met tx_is c_is enough only =
-    let all = whole_copies piece_of frame (receive.stored c) only.only in record {
-      met = met;
-      enough = subst (λ (d : transmit.DriverSide). count ≤ length (frames carried (transmit.posted d))) (sym tx_is) enough;
-      copies = taken_copies frame e.rx e.rx_controller met.received (subst (λ (k : receive.ControllerSide). AreCopies frame (frames piece_of (receive.stored k))) (sym c_is) all);
-    }
 
 -- so many copies are on the wire, where it has so many frames and the controllers stored nothing else
 pub has_gone : (from to : TableId) (count : ℕ) (frame : Bytes) (d : Device) (e : Ends) → HasMet e → e.rx_controller ≡ d.rx.end → e.tx_controller ≡ d.tx

@@ -1,3 +1,1 @@
-pub mod Forwarding
-pub mod Relaying
 pub mod Serving

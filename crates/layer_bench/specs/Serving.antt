@@ -7,10 +7,10 @@ use Rattle.ring_model.specs.shared.Segments.{piece_of}
 use Rattle.ring_model.specs.transmit.Ring.{carried}
 use Rattle.rx_ring.specs.Ends.{stored}
 use Rattle.tx_ring.specs.Ends.{ControllerSide, sent}
-use Rattle.layer_bench.specs.declared.meeting.Ends.{Ends}
+use Rattle.bench_kit.specs.declared.meeting.Ends.{Ends}
 use Rattle.layer_bench.specs.declared.serving.Device.{Device}
-use Rattle.layer_bench.specs.declared.forwarding.Forwarder.{Forwarder}
-use Rattle.layer_bench.specs.Forwarding.{CanForward, HasMet}
+use Rattle.bench_kit.specs.declared.forwarding.Forwarder.{Forwarder}
+use Rattle.bench_kit.specs.Forwarding.{CanForward, HasMet}
 
 -- it stored no frame but this one at the ring
 pub record StoresCopies (ring : TableId) (frame : Bytes) (controller : Receiving) : Type 0 where

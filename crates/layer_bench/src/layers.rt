@@ -2,17 +2,16 @@
 ghost use Rattle.std.specs.Prelude.{◌≡◌, true, length, replicate, IfOk, Ok, OnOk};
 ghost use Rattle.ring_model.specs.shared.Handshakes.{is_serving};
 ghost use Rattle.tx_ring.specs.Ends.{controller_state};
-ghost use Rattle.layer_bench.specs.Forwarding.{CanForward};
+ghost use Rattle.bench_kit.specs.Forwarding.{CanForward};
 ghost use Rattle.layer_bench.specs.Serving.{AreAtWork, HasGone, HasNothing, Serves};
 ghost use Rattle.bench_kit.specs.declared.supply.TheConstants.{BYTE};
 
-use crate::forwarding::Forwarder;
-use crate::meeting::{Ends, meet};
 use crate::serving::Device;
-use crate::track::{Track, Way};
 use crate::words::Threading;
 use anyhow::{Result, bail};
-use bench_kit::{BatchPlan, Patience, Timed, both, no_thread, now, since};
+use bench_kit::{
+    BatchPlan, Ends, Forwarder, Patience, Timed, Track, Way, both, meet, no_thread, now, since,
+};
 use controller::Wire;
 use std::alloc::Global;
 use std::rt::Clock;

@@ -4,8 +4,7 @@ ghost use Rattle.rx_ring.specs.Calls as receive;
 ghost use Rattle.tx_ring.specs.Calls as transmit;
 ghost use Rattle.layer_bench.specs.Serving.{HasNothing, PutsOn, Serves, StoresCopies};
 
-use crate::track::Way;
-use bench_kit::BatchPlan;
+use bench_kit::{BatchPlan, Way};
 use controller::{CtlError, Offer, RxController, Turn, TxController, Wire};
 use rx_ring::{ControllerEnd, RxControllerEnd, RxRing};
 use std::alloc::Global;

@@ -12,44 +12,28 @@ pub enum Threading {
     Apart,
 }
 
-/// What is run.
-#[derive(Clone, Copy)]
-pub enum Plan {
-    /// Through both drivers. A batch is how many frames are stored and received at once.
-    Batch(BatchPlan),
-    /// Through both layers, controllers and drivers. A batch is how many frames are offered, received and put onto the wire
-    /// at once.
-    Pass(BatchPlan, Threading),
-}
-
 /// What is told in place of a run.
-pub const USAGE: &str = "Usage: layer_bench batch --ring N --frames N --size N --batch N
-       layer_bench pass --ring N --frames N --size N --batch N --threads 1|2
+pub const USAGE: &str = "Usage: layer_bench --ring N --frames N --size N --batch N --threads 1|2
 
-Passes frames through a receive ring, both drivers and a transmit ring on one thread (batch), or through controllers and
-drivers of both rings onto a wire (pass); and prints what one frame costs.
+Passes frames through controllers and drivers of a receive ring and of a transmit ring onto a wire, and prints what one
+frame costs.
 
   --ring        the descriptors of each ring, a power of two from 8 to 4096
   --frames      how many frames are passed, from 1
   --size        the bytes of each frame, 14 to 2048
-  --batch       how many frames are stored, received and sent at once, 1 to 32
+  --batch       how many frames are offered, received and put onto the wire at once, 1 to 32
   --threads     1, or 2 where controllers and drivers have a thread each
 
-Examples:
-  layer_bench batch --ring 512 --frames 1000000 --size 60 --batch 32
-  layer_bench pass --ring 512 --frames 1000000 --size 60 --batch 32 --threads 2";
+Example:
+  layer_bench --ring 512 --frames 1000000 --size 60 --batch 32 --threads 2";
 
-/// Reads the words after the program's name: the command, and each of its options once with its value.
-pub fn plan_of(words: &[String]) -> Option<Plan> {
-    let (command, options) = words.split_first()?;
-    match (command.as_str(), options.len()) {
-        ("batch", 8) => Some(Plan::Batch(batch_plan(options, MOST_BATCH as u32)?)),
-        ("pass", 10) => {
-            let plan = batch_plan(options, MOST_BATCH as u32)?;
-            Some(Plan::Pass(plan, threading_of(options)?))
-        }
-        _ => None,
+/// Reads the words after the program's name: each option once with its value.
+pub fn plan_of(options: &[String]) -> Option<(BatchPlan, Threading)> {
+    if options.len() != 10 {
+        return None;
     }
+    let plan = batch_plan(options, MOST_BATCH as u32)?;
+    Some((plan, threading_of(options)?))
 }
 
 fn threading_of(options: &[String]) -> Option<Threading> {

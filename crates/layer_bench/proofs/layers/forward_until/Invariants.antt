@@ -1,4 +1,4 @@
-use Rattle.layer_bench.specs.Forwarding.{CanForward}
+use Rattle.bench_kit.specs.Forwarding.{CanForward}
 use Rattle.layer_bench.proofs.layers.forward_until.Given as goal
 
 abbrev pub invariant-loop : goal.invariant-loop

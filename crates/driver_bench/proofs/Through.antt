@@ -1,0 +1,29 @@
+-- What the records of both rings' ends amount to, where frames were relayed from one to the other.
+use Rattle.std.proofs.Common.{◌≡◌, ℕ, ◌≤◌, List, length, sym, subst}
+use Rattle.std.specs.Prelude.{All}
+use Rattle.atomic_table.specs.Seated.{TableId}
+use Rattle.ring_model.specs.shared.Frames.{Bytes, frames}
+use Rattle.ring_model.specs.shared.Segments.{piece_of}
+use Rattle.ring_model.specs.transmit.Ring.{carried}
+use Rattle.rx_ring.specs.Ends as receive
+use Rattle.tx_ring.specs.Ends as transmit
+use Rattle.bench_kit.specs.declared.forwarding.Forwarder.{Forwarder}
+use Rattle.bench_kit.specs.declared.meeting.Ends.{Ends}
+use Rattle.bench_kit.specs.Forwarding.{HasMet}
+use Rattle.bench_kit.specs.Storing.{StoredOnly}
+use Rattle.bench_kit.proofs.Copies.{copies}
+use Rattle.bench_kit.proofs.Taken.{taken_copies, whole_copies}
+use Rattle.driver_bench.specs.Relaying.{HasRelayed, SentAtLeast}
+
+abbrev AreCopies : Bytes → List Bytes → Type 0
+AreCopies frame fs = All (λ f. f ≡ frame) fs
+
+-- so many copies were relayed, where the controller stored nothing else
+pub has_relayed : (ring : TableId) (count : ℕ) (frame : Bytes) (f : Forwarder) (c : receive.ControllerSide) (e : Ends) → HasMet e → e.tx ≡ f.tx.end → e.rx_controller ≡ c
+    → SentAtLeast count f → StoredOnly ring frame c → HasRelayed count frame e
+has_relayed ring count frame f c e met tx_is c_is enough only =
+    let all = whole_copies piece_of frame (receive.stored c) only.only in record {
+      met = met;
+      enough = subst (λ (d : transmit.DriverSide). count ≤ length (frames carried (transmit.posted d))) (sym tx_is) enough;
+      copies = taken_copies frame e.rx e.rx_controller met.received (subst (λ (k : receive.ControllerSide). AreCopies frame (frames piece_of (receive.stored k))) (sym c_is) all);
+    }
