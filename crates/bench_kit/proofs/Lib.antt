@@ -1,5 +1,5 @@
 pub mod Copies
 pub mod Forwards
 pub mod Handshakes
-pub mod Met
+pub mod BothMet
 pub mod Taken

@@ -1,4 +1,4 @@
-use Rattle.bench_kit.proofs.Met.{has_met}
+use Rattle.bench_kit.proofs.BothMet.{has_met}
 use Rattle.bench_kit.proofs.meeting.meet.Goals as goal
 
 pub returns-clause-met : goal.returns-clause-met
