@@ -129,7 +129,7 @@ given-stash k pass pass' d stash none l pool shared kept = subst (λ (xs : List 
 
 -- ---- at the start
 
-pub posted-one : (a b c : receive.DriverSide) (n : ℕ) (e : DriverStep) → OnlyPosted a b → c ≡ receive.appended b e → receive.driver_record c ≡ record (receive.driver_record b) { posted = receive.posted b ++ n ∷ [] } → OnlyPosted a c
+pub posted-one : (a b c : receive.DriverSide) (n : ℕ) (e : DriverStep) → OnlyPosted a b → c ≡ receive.driver_grown b e → receive.driver_record c ≡ record (receive.driver_record b) { posted = receive.posted b ++ n ∷ [] } → OnlyPosted a c
 posted-one a b c n e o step did = record {
   own = ap (λ (d : receive.DriverSide). d.table) step ∙ o.own;
   taken = ap (λ (x : RxDriven). x.given) did ∙ o.taken;

@@ -6,9 +6,7 @@ ghost use Rattle.forwarder.specs.Configs.{IsLawful, HasLawfulQueues, HasLawfulBu
 use controller::is_fill_size;
 use driver::MOST_BATCH;
 use forwarding::ForwardError;
-use limits::{
-    BUFFER_BYTES, FEWEST_BUFFERS, MOST_BUFFERS, MOST_PAIRS, MOST_RS_EVERY, is_ring_length,
-};
+use limits::{FEWEST_BUFFERS, MOST_BUFFERS, MOST_PAIRS, MOST_RS_EVERY, is_ring_length};
 use std::fmt;
 use tx_ring::Completion;
 use wire_script::{Script, WireFrame};
@@ -84,7 +82,7 @@ impl Config {
         ring: 512,
         batch: 32,
         buffers: 4_096,
-        bsize: BUFFER_BYTES as u32,
+        bsize: 2_048,
         rs_every: 32,
         drop_en: false,
         retry: true,
