@@ -1,5 +1,5 @@
 -- The first seat takes all slots, and is cut into the seats of the two ends.
-use Rattle.std.proofs.Common.{◌≡◌, ◌≤◌, [], length, ap, ◌∙◌, arith}
+use Rattle.std.proofs.Common.{rules, refl, ◌≡◌, ◌≤◌, [], length, ap, ◌∙◌, arith}
 use Rattle.std.proofs.lemmas.List.{length-replicate}
 use Rattle.buffer_pool.specs.Buffer.{blank}
 use Rattle.shared_ring.specs.Tables.{words_of}
@@ -27,3 +27,15 @@ split_seat-served-requires g c =
       omega arith,
       halve-asks g.R.Direction.form c.requires.law c.in-Ok.table.shared.key c.load.new.seat.id c.load.new.seat.me.0 [] [] (ap (λ m. m.0) c.load.ensures.2.seat),
     )
+
+pub returns : goal.returns
+returns g c = let made = c.in-Ok.ensures.ok in record {
+  length_is = c.requires.length;
+  size_is = made.1 ∙ ap length c.in_ok-blanks.ensures ∙ length-replicate c.args.size blank;
+  driver_own = search rules;
+  controller_own = search rules;
+  driver_reports = refl;
+  controller_reports = refl;
+  driver_empty = search rules;
+  controller_empty = search rules;
+}
