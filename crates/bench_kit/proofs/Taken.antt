@@ -11,7 +11,7 @@ use Rattle.rx_ring.specs.Meeting as received
 use Rattle.bench_kit.specs.Copies.{AllWhole}
 use Rattle.bench_kit.proofs.Copies.{All-beginning, copies}
 
-abbrev AreCopies : Bytes → List Bytes → Type 0
+abbrev pub AreCopies : Bytes → List Bytes → Type 0
 AreCopies frame fs = All (λ f. f ≡ frame) fs
 
 -- items that each carry the whole frame are copies of it

@@ -1,4 +1,4 @@
-//! What the benchmarks of rings (`ring_bench`), of drivers (`driver_bench`) and of both layers (`layer_bench`) share.
+//! What the benchmarks of rings (`rx_bench`, `tx_bench`), of drivers (`driver_bench`) and of both layers (`layer_bench`) share.
 //!
 //! `words` reads a command line's options and what passes, `supply` makes the frame and the buffers, `patience` is how a thread waits, and
 //! `tally` what it reads. `enabling` is how a queue of either kind is enabled, and `storing` and `fetching` are the step of

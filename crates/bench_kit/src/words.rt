@@ -18,8 +18,11 @@ pub struct Load {
     pub size: usize,
 }
 
-/// What passes, in the options `--ring`, `--frames` and `--size`.
-pub fn load_of(options: &[String]) -> Option<Load> {
+/// What passes, in the options `--ring`, `--frames` and `--size`, where the options have so many words with their values.
+pub fn load_of(options: &[String], words: usize) -> Option<Load> {
+    if options.len() != words {
+        return None;
+    }
     Some(Load {
         ring: number_of(options, "--ring", MOST_RING as u32)?,
         frames: number_of(options, "--frames", u32::MAX)?,
@@ -35,10 +38,10 @@ pub struct BatchPlan {
     pub batch: u32,
 }
 
-/// What passes, and in the option `--batch` in batches of how many frames, up to `most`.
-pub fn batch_plan(options: &[String], most: u32) -> Option<BatchPlan> {
+/// What passes, and in the option `--batch` in batches of how many frames, up to `most`; of so many words likewise.
+pub fn batch_plan(options: &[String], words: usize, most: u32) -> Option<BatchPlan> {
     Some(BatchPlan {
-        load: load_of(options)?,
+        load: load_of(options, words)?,
         batch: number_of(options, "--batch", most)?,
     })
 }

@@ -1,6 +1,5 @@
 -- What the records of both rings' ends amount to, where frames were relayed from one to the other.
-use Rattle.std.proofs.Common.{◌≡◌, ℕ, ◌≤◌, List, length, sym, subst}
-use Rattle.std.specs.Prelude.{All}
+use Rattle.std.proofs.Common.{◌≡◌, ℕ, ◌≤◌, length, sym, subst}
 use Rattle.atomic_table.specs.Seated.{TableId}
 use Rattle.ring_model.specs.shared.Frames.{Bytes, frames}
 use Rattle.ring_model.specs.shared.Segments.{piece_of}
@@ -12,11 +11,8 @@ use Rattle.bench_kit.specs.declared.meeting.Ends.{Ends}
 use Rattle.bench_kit.specs.Forwarding.{HasMet}
 use Rattle.bench_kit.specs.Storing.{StoredOnly}
 use Rattle.bench_kit.proofs.Copies.{copies}
-use Rattle.bench_kit.proofs.Taken.{taken_copies, whole_copies}
+use Rattle.bench_kit.proofs.Taken.{AreCopies, taken_copies, whole_copies}
 use Rattle.driver_bench.specs.Relaying.{HasRelayed, SentAtLeast}
-
-abbrev AreCopies : Bytes → List Bytes → Type 0
-AreCopies frame fs = All (λ f. f ≡ frame) fs
 
 -- so many copies were relayed, where the controller stored nothing else
 pub has_relayed : (ring : TableId) (count : ℕ) (frame : Bytes) (f : Forwarder) (c : receive.ControllerSide) (e : Ends) → HasMet e → e.tx ≡ f.tx.end → e.rx_controller ≡ c

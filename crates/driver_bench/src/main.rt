@@ -1,22 +1,34 @@
 //! The program `driver_bench`: what a frame costs through both drivers, between a receive ring and a transmit ring.
 //!
-//! `words` reads the command line. In `relaying` the device's side are the rings' ends, and all is done on one thread.
+//! In `relaying` the device's side are the rings' ends, and all is done on one thread.
 //!
 //! What is printed was passed: at the end the ends of both rings meet, and what was sent are copies of the one frame.
 #![tactic(auto)]
 
 mod relaying;
-mod words;
 
 use anyhow::Result;
-use bench_kit::{refuse, report, words_of};
+use bench_kit::{batch_plan, refuse, report, words_of};
+use driver::MOST_BATCH;
 use relaying::relay;
 use std::process::ExitCode;
-use words::{USAGE, plan_of};
+
+/// What is told in place of a run.
+const USAGE: &str = "Usage: driver_bench --ring N --frames N --size N --batch N
+
+Passes frames through a receive ring, both drivers and a transmit ring on one thread, and prints what one frame costs.
+
+  --ring        the descriptors of each ring, a power of two from 8 to 4096
+  --frames      how many frames are passed, from 1
+  --size        the bytes of each frame, 14 to 2048
+  --batch       how many frames are stored, received and sent at once, 1 to 32
+
+Example:
+  driver_bench --ring 512 --frames 1000000 --size 60 --batch 32";
 
 fn main(rt: HostRuntime) -> Result<ExitCode> {
-    let words = words_of(&rt)?;
-    match plan_of(words.as_slice()) {
+    let options = words_of(&rt)?;
+    match batch_plan(options.as_slice(), 8, MOST_BATCH as u32) {
         Some(plan) => report(&rt, plan.load.frames, relay(&rt, rt.alloc(), plan)),
         None => refuse(&rt, USAGE),
     }

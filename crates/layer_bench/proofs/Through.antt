@@ -1,6 +1,6 @@
 -- What the records of both rings' ends amount to, where frames went through both layers.
 use Rattle.std.proofs.Common.{◌≡◌, ◌∙◌, ℕ, Bool, true, List, [], ◌∷◌, ◌++◌, length, ap, sym, refl, subst, if◌then◌else◌}
-use Rattle.std.specs.Prelude.{◌&&◌, All, Result, Ok, Err, replicate}
+use Rattle.std.specs.Prelude.{◌&&◌, Result, Ok, Err, replicate}
 use Rattle.std.proofs.lemmas.List.Elements.{All-nil, All-append, All-head, All-tail, All-same, All-replicate}
 use Rattle.atomic_table.specs.Seated.{TableId}
 use Rattle.refusals.specs.declared.errors.CtlError.{CtlError}
@@ -25,10 +25,7 @@ use Rattle.bench_kit.specs.Forwarding.{HasMet}
 use Rattle.layer_bench.specs.Serving.{HasGone, Serves}
 use Rattle.bench_kit.proofs.Copies.{All-beginning, copies}
 use Rattle.bench_kit.proofs.Handshakes.{serving_on}
-use Rattle.bench_kit.proofs.Taken.{taken_copies}
-
-abbrev AreCopies : Bytes → List Bytes → Type 0
-AreCopies frame fs = All (λ f. f ≡ frame) fs
+use Rattle.bench_kit.proofs.Taken.{AreCopies, taken_copies}
 
 -- copies of a frame are as many of it
 pub as_replicate : (frame : Bytes) (fs : List Bytes) → AreCopies frame fs → fs ≡ replicate (length fs) frame

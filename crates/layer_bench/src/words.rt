@@ -29,10 +29,7 @@ Example:
 
 /// Reads the words after the program's name: each option once with its value.
 pub fn plan_of(options: &[String]) -> Option<(BatchPlan, Threading)> {
-    if options.len() != 10 {
-        return None;
-    }
-    let plan = batch_plan(options, MOST_BATCH as u32)?;
+    let plan = batch_plan(options, 10, MOST_BATCH as u32)?;
     Some((plan, threading_of(options)?))
 }
 

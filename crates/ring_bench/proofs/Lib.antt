@@ -1,3 +1,0 @@
-pub mod Countdown
-pub mod Ends
-pub mod TxEnds

@@ -1,0 +1,40 @@
+//! The program `rx_bench`: what a frame costs through a receive ring that two threads share.
+//!
+//! `storing` and `taking` are the threads of controller and driver, and `passing` makes the ring, runs both and takes the
+//! time.
+//!
+//! What is printed was passed: at the end the two ends meet, and the driver's record has so many frames, each byte for
+//! byte the one that the controller was given.
+#![tactic(auto)]
+
+mod passing;
+mod storing;
+mod taking;
+
+use anyhow::Result;
+use bench_kit::{batch_plan, refuse, report, words_of};
+use limits::MOST_RING;
+use passing::pass;
+use std::process::ExitCode;
+
+/// What is told in place of a run.
+const USAGE: &str = "Usage: rx_bench --ring N --frames N --size N --batch N
+
+Passes frames through a receive ring with a thread at each end, and prints what one frame costs. The driver publishes the
+buffers that it posted again once a batch.
+
+  --ring        the descriptors of the ring, a power of two from 8 to 4096
+  --frames      how many frames are passed, from 1
+  --size        the bytes of each frame, 14 to 2048
+  --batch       after how many frames at most the driver publishes, 1 to 4096
+
+Example:
+  rx_bench --ring 512 --frames 1000000 --size 60 --batch 32";
+
+fn main(rt: HostRuntime) -> Result<ExitCode> {
+    let options = words_of(&rt)?;
+    match batch_plan(options.as_slice(), 8, MOST_RING as u32) {
+        Some(plan) => report(&rt, plan.load.frames, pass(&rt, rt.alloc(), plan)),
+        None => refuse(&rt, USAGE),
+    }
+}

@@ -1,0 +1,2 @@
+pub mod Countdown
+pub mod Ends

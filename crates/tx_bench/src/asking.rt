@@ -1,0 +1,63 @@
+//! Which frames are still to be posted, and with which a report is asked for.
+ghost use Rattle.std.specs.Prelude.{◌≡◌, ◌+◌, ◌<◌};
+ghost use Rattle.tx_bench.specs.Sending.{asks_after};
+
+use crate::words::TxPlan;
+use std::marker::Model;
+
+/// Goes over the frames of a plan.
+#[derive(Drop)]
+pub struct Course {
+    plan: TxPlan,
+    posted: u32,
+    // a report is asked for with the last of so many more
+    until: u32,
+}
+
+impl Model for Course {
+    ghost use Rattle.tx_bench.specs.Sending.{Progress, IsCourse};
+
+    ghost Value = { Progress };
+
+    ghost view = { λ c. record { plan = c.plan; posted = c.posted } };
+
+    ghost invariant = { λ c. IsCourse c.plan c.posted c.until };
+}
+
+impl Course {
+    pub fn new(plan: TxPlan) -> Course
+        requires { 0 < plan.report }
+        ensures { result ≡ record { plan = plan; posted = 0 } }
+    {
+        Course {
+            plan,
+            posted: 0,
+            until: plan.report,
+        }
+    }
+
+    /// How many frames are still to be posted.
+    #[inline]
+    pub fn left(&self) -> u32
+        ensures { result + self.now.posted ≡ self.now.plan.load.frames }
+    {
+        self.plan.load.frames - self.posted
+    }
+
+    /// Goes on to the next frame, and answers whether a report is asked for with it.
+    #[inline]
+    pub fn next(&mut self) -> bool
+        requires { self.old.posted < self.old.plan.load.frames }
+        ensures asks { result ≡ asks_after self.old.plan self.old.posted }
+        ensures one { self.new ≡ record self.old { posted = self.old.posted + 1 } }
+    {
+        let due = self.until == 1;
+        self.until = if due {
+            self.plan.report
+        } else {
+            self.until - 1
+        };
+        self.posted += 1;
+        due || self.posted == self.plan.load.frames
+    }
+}

@@ -1,0 +1,46 @@
+//! The command line.
+
+use bench_kit::{Load, load_of, number_of, value_of};
+use ring_model::Completion;
+
+/// A run of a transmit ring.
+#[derive(Clone, Copy)]
+pub struct TxPlan {
+    pub load: Load,
+    /// A report is asked for by each frame of this number, and by the last.
+    pub report: u32,
+    pub completion: Completion,
+}
+
+/// What is told in place of a run.
+pub const USAGE: &str =
+    "Usage: tx_bench --ring N --frames N --size N --report N --completion status|head
+
+Passes frames through a transmit ring with a thread at each end, and prints what one frame costs.
+
+  --ring        the descriptors of the ring, a power of two from 8 to 4096
+  --frames      how many frames are passed, from 1
+  --size        the bytes of each frame, 14 to 2048
+  --report      how many frames one report covers, from 1 to the ring's descriptors less one
+  --completion  how frames are reported as sent: by their descriptors, or by the head
+
+Example:
+  tx_bench --ring 512 --frames 1000000 --size 60 --report 32 --completion status";
+
+/// Reads the words after the program's name: each option once with its value.
+pub fn plan_of(options: &[String]) -> Option<TxPlan> {
+    let load = load_of(options, 10)?;
+    Some(TxPlan {
+        load,
+        report: number_of(options, "--report", load.ring.saturating_sub(1))?,
+        completion: completion_of(value_of(options, "--completion")?)?,
+    })
+}
+
+fn completion_of(word: &str) -> Option<Completion> {
+    match word {
+        "status" => Some(Completion::Status),
+        "head" => Some(Completion::Head),
+        _ => None,
+    }
+}
