@@ -1,5 +1,4 @@
 //! The enabling of a queue, in which both kinds of rings are alike.
-ghost use Rattle.std.specs.Prelude.{◌≡◌};
 ghost use Rattle.shared_ring.specs.Ends.{controller_of, driver_of};
 ghost use Rattle.bench_kit.specs.Enabling.{CanAsk, CanServe, HasBegun, SawEnabled};
 

@@ -1,5 +1,5 @@
 -- How a capture's numbers stand in its bytes: the header's fields and a record's.
-use Rattle.std.specs.Prelude.{◌≡◌, ℕ, ◌==◌, if◌then◌else◌, List, drop, Option, Some, None}
+use Rattle.std.specs.Prelude.{ℕ, ◌==◌, if◌then◌else◌, List, drop, Option, Some, None}
 use Rattle.byteorder.specs.Endian.{big_number, little_number}
 use Rattle.capture.specs.declared.header.Form.{Form}
 use Rattle.capture.specs.declared.header.Order.{Order}

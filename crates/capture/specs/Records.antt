@@ -1,5 +1,5 @@
 -- The records of a port's frames.
-use Rattle.std.specs.Prelude.{ℕ, ◌+◌, ◌/◌, ◌%◌, ◌==◌, List, [], ◌∷◌, length, map}
+use Rattle.std.specs.Prelude.{ℕ, ◌+◌, ◌/◌, ◌%◌, ◌==◌, List, [], ◌∷◌, length}
 use Rattle.std.specs.List.{filter}
 use Rattle.capture.specs.Record.{Record, record_of}
 use Rattle.wire_script.specs.Frame.{Frame}

@@ -1,6 +1,6 @@
 //! Reading a capture.
 
-ghost use Rattle.std.specs.Prelude.{◌≡◌, ◌<◌, ◌≤◌, ◌+◌, drop, length, vec_len, Ok, Err, IfOk, MatchResult};
+ghost use Rattle.std.specs.Prelude.{◌≡◌, ◌<◌, ◌≤◌, ◌+◌, length, vec_len, Ok, Err, IfOk, MatchResult};
 ghost use Rattle.limits.specs.declared.profile.TheConstants.{MOST_SCRIPT_FRAMES};
 ghost use Rattle.capture.specs.CaptureError.{Answers, AnswersAs};
 ghost use Rattle.capture.specs.Reading.{capture_in, checked_header, header_in, record_in, records_in};

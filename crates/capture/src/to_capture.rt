@@ -1,10 +1,8 @@
 //! The capture of a port.
 
 ghost use Rattle.std.specs.Prelude.{◌≡◌, IfErr, IfOk, Ok};
-ghost use Rattle.capture.specs.Reading.{capture_in};
 ghost use Rattle.capture.specs.Writing.{capture_of};
 ghost use Rattle.refusals.specs.declared.errors.CaptureError.TheVariants.{Memory};
-ghost use Rattle.capture.specs.declared.header.TimeUnit.TheVariants.{Micros};
 ghost use Rattle.capture.specs.Records.{records_of_port};
 
 use crate::reading::{HEADER, RECORD_HEADER};

@@ -1,8 +1,8 @@
 //! How a frame is sent.
-ghost use Rattle.std.specs.Prelude.{◌≡◌, ◌<◌, ◌≤◌, true, [], None};
+ghost use Rattle.std.specs.Prelude.{◌≡◌, ◌<◌, ◌≤◌, true, []};
 ghost use Rattle.limits.specs.declared.profile.TheConstants.{MOST_FRAME};
 ghost use Rattle.ring_model.specs.shared.Handshakes.{is_serving};
-ghost use Rattle.tx_ring.specs.Ends.{controller_state, known_ready, held, seen, is_owed};
+ghost use Rattle.tx_ring.specs.Ends.{controller_state, known_ready, seen};
 ghost use Rattle.controller.specs.Sending.{CanSend, SentBytes, SentOn};
 ghost use Rattle.controller.specs.Transmitting.{IsIdle};
 

@@ -1,6 +1,5 @@
 //! How a frame is stored.
-ghost use Rattle.std.specs.Prelude.{◌≡◌, ◌<◌, ◌≤◌, true, false, [], length, None};
-ghost use Rattle.limits.specs.RingLength.{IsRingLength};
+ghost use Rattle.std.specs.Prelude.{◌≡◌, ◌<◌, ◌≤◌, true, false, length, None};
 ghost use Rattle.limits.specs.declared.profile.TheConstants.{BUFFER_BYTES};
 ghost use Rattle.ring_model.specs.shared.Frames.{Follows, HasFrameLength, piece_count, unfinished};
 ghost use Rattle.ring_model.specs.shared.Handshakes.{is_serving};

@@ -1,5 +1,4 @@
 //! The kinds of cells: their numbers, what these owe one another, and the names of their cells.
-ghost use Rattle.std.specs.Prelude.{◌≡◌};
 
 use cells::{MomentCell, MomentPass, MomentPen};
 use crossbeam_utils::atomic::seq_cell::Words;

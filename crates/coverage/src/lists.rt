@@ -1,5 +1,5 @@
 //! Lists of moves that together meet all pairs that a search has met.
-ghost use Rattle.std.specs.Prelude.{◌≡◌, All, IfOk, IfSome, OnOk};
+ghost use Rattle.std.specs.Prelude.{All, IfOk, IfSome};
 ghost use Rattle.coverage.specs.Lists.{Meets};
 
 use crate::pairs::Pair;

@@ -1,5 +1,5 @@
 //! The search over the states of one queue.
-ghost use Rattle.std.specs.Prelude.{◌≡◌, ◌≤◌, OnOk, IfOk};
+ghost use Rattle.std.specs.Prelude.{◌≡◌, IfOk};
 ghost use Rattle.ring_machine.specs.Queues.{QueuesAgree};
 ghost use Rattle.coverage.specs.Lists.{beginning};
 

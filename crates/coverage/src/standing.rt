@@ -1,5 +1,4 @@
 //! What decides what a queue of 8 does next.
-ghost use Rattle.std.specs.Prelude.{◌≡◌};
 
 use crate::pairs::{controller_number, driver_number};
 use crate::tried::{Scope, Side};

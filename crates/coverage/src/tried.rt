@@ -1,5 +1,5 @@
 //! The moves that a search tries in each state.
-ghost use Rattle.std.specs.Prelude.{◌≡◌, All, IfSome, IsTrue};
+ghost use Rattle.std.specs.Prelude.{◌≡◌, IfSome, IsTrue};
 ghost use Rattle.coverage.specs.Tried.{InScope, completion_of, is_data, receive_moves, rx_is_data, transmit_moves, tried_on, tx_is_data};
 
 use ring_machine::{

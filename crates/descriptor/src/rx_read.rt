@@ -1,5 +1,5 @@
 //! The receive descriptor as the driver posts it (82599 datasheet, 7.1.6.1).
-ghost use Rattle.std.specs.Prelude.{◌≡◌, ◌^◌, ◌<◌, ◌↔◌, IfOk};
+ghost use Rattle.std.specs.Prelude.{◌≡◌, ◌^◌, ◌<◌};
 ghost use Rattle.descriptor.specs.Address.{buffer_address};
 
 use crate::address::{address_of, number_at};

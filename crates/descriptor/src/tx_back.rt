@@ -1,5 +1,5 @@
 //! The transmit write-back (82599 datasheet, 7.2.3.2.4).
-ghost use Rattle.std.specs.Prelude.{◌≡◌, ◌/◌, ◌%◌, ◌^◌, ◌↔◌, IsTrue, IfOk};
+ghost use Rattle.std.specs.Prelude.{◌≡◌, ◌/◌, ◌%◌, ◌^◌, ◌↔◌, IsTrue};
 
 use crate::words::is_set;
 use crate::{DescError, Descriptor};

@@ -1,5 +1,5 @@
 //! The transmit descriptor as the driver posts it (82599 datasheet, 7.2.3.2.4).
-ghost use Rattle.std.specs.Prelude.{◌≡◌, ◌+◌, ◌*◌, ◌/◌, ◌%◌, ◌^◌, ◌<◌, ◌≤◌, ◌↔◌, IsTrue, IfOk};
+ghost use Rattle.std.specs.Prelude.{◌≡◌, ◌+◌, ◌*◌, ◌/◌, ◌%◌, ◌^◌, ◌<◌, ◌≤◌, ◌↔◌, IsTrue};
 ghost use Rattle.limits.specs.declared.profile.TheConstants.{BUFFER_BYTES, LEAST_FRAME, MOST_FRAME};
 ghost use Rattle.descriptor.specs.Address.{buffer_address};
 ghost use Rattle.descriptor.specs.Layout.{bit};

@@ -1,8 +1,7 @@
 //! The receive driver.
 ghost use Rattle.std.specs.Prelude.{◌≡◌, ◌+◌, ◌<◌, ◌≤◌, ◌↔◌, true, false, [], length, IsTrue, IsErr, IfErr, OnErr, IfOk, OnOk};
 ghost use Rattle.rx_ring.specs.Ends.{driver_size, driver_record, driver_state, posted, reclaimed, returned, known_of, saw_quiet, driver_grown};
-ghost use Rattle.ring_model.specs.shared.Handshakes.{is_live, is_on, is_open, is_stopped};
-ghost use Rattle.limits.specs.RingLength.{IsRingLength};
+ghost use Rattle.ring_model.specs.shared.Handshakes.{is_live, is_open};
 ghost use Rattle.rx_ring.specs.Calls.{told_quiet};
 ghost use Rattle.ring_model.specs.shared.Agreement.{bit};
 ghost use Rattle.shared_ring.specs.declared.events.DriverEvent.TheVariants.{Own};

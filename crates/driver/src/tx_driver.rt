@@ -1,8 +1,7 @@
 //! The driver of a transmit queue.
 ghost use Rattle.std.specs.Prelude.{◌≡◌, ◌+◌, ◌<◌, ◌≤◌, ◌↔◌, ◌⊎◌, true, false, ◌++◌, length, take, map, All, IfOk, IfErr, Err};
 ghost use Rattle.buffer_pool.specs.Packed.{IsPacket, bytes_of};
-ghost use Rattle.limits.specs.RingLength.{IsRingLength};
-ghost use Rattle.ring_model.specs.shared.Handshakes.{is_answered, is_live, is_on, is_stopped};
+ghost use Rattle.ring_model.specs.shared.Handshakes.{is_answered, is_live};
 ghost use Rattle.ring_model.specs.shared.Frames.{frames};
 ghost use Rattle.ring_model.specs.transmit.Ring.{are_whole, carried};
 ghost use Rattle.tx_ring.specs.Ends.{driver_size, posted, reclaimed, returned, driver_state};

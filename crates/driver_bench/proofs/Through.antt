@@ -10,7 +10,6 @@ use Rattle.bench_kit.specs.declared.forwarding.Forwarder.{Forwarder}
 use Rattle.bench_kit.specs.declared.meeting.Ends.{Ends}
 use Rattle.bench_kit.specs.Forwarding.{HasMet}
 use Rattle.bench_kit.specs.Storing.{StoredOnly}
-use Rattle.bench_kit.proofs.Copies.{copies}
 use Rattle.bench_kit.proofs.Taken.{AreCopies, taken_copies, whole_copies}
 use Rattle.driver_bench.specs.Relaying.{HasRelayed, SentAtLeast}
 

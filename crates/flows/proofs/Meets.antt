@@ -1,5 +1,5 @@
 -- What follows for a flow once both its rings' ends met.
-use Rattle.std.proofs.Common.{◌≡◌, ◌∙◌, ℕ, ◌+◌, ◌≤◌, ◌<◌, Bool, true, false, List, [], ◌∷◌, ◌++◌, length, map, take, ap, sym, refl, subst, arith, append-nil, if◌then◌else◌, ⊎_elim, ◌⊎◌}
+use Rattle.std.proofs.Common.{◌≡◌, ◌∙◌, ℕ, ◌+◌, ◌≤◌, Bool, true, false, List, [], length, map, take, ap, sym, refl, subst, arith, if◌then◌else◌, ⊎_elim, ◌⊎◌}
 use Rattle.std.specs.Prelude.{◌&&◌, Option, Some}
 use Rattle.std.proofs.lemmas.List.{length-map, take-append-drop, take_all}
 use Rattle.atomic_table.specs.Seated.{TableId}
@@ -11,7 +11,7 @@ use Rattle.ring_model.specs.receive.Lawful.{IsLawfulRxLedger}
 use Rattle.ring_model.specs.transmit.Lawful.{IsLawfulTxLedger}
 use Rattle.ring_model.specs.transmit.Ring.{carried}
 use Rattle.ring_laws.specs.Frames.{frames-beginning}
-use Rattle.shared_ring.specs.Meeting.{served_now, IsTold}
+use Rattle.shared_ring.specs.Meeting.{IsTold}
 use Rattle.rx_ring.specs.Ends as receive
 use Rattle.rx_ring.specs.Calls as received
 use Rattle.rx_ring.specs.Meeting as meeting

@@ -1,5 +1,5 @@
 //! The receive queue of a flow, as its controller serves it.
-ghost use Rattle.std.specs.Prelude.{◌≡◌, ◌<◌, ◌≤◌, All, length, [], None, IfErr};
+ghost use Rattle.std.specs.Prelude.{◌≡◌, ◌<◌, ◌≤◌, All, length, None, IfErr};
 ghost use Rattle.limits.specs.declared.profile.TheConstants.{MOST_SCRIPT_FRAMES};
 ghost use Rattle.controller.specs.FillSize.{IsFillSize};
 ghost use Rattle.controller.specs.Tallying.{AddsUp, nothing};

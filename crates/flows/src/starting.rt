@@ -1,7 +1,7 @@
 //! How a driver's side begins: its buffers, and those of them that are posted.
 ghost use Rattle.std.specs.Prelude.{◌≡◌, true, [], ◌++◌, length};
 ghost use Rattle.ring_model.specs.shared.Handshakes.{is_open};
-ghost use Rattle.rx_ring.specs.Ends.{driver_record, driver_state, posted, published};
+ghost use Rattle.rx_ring.specs.Ends.{driver_state, posted, published};
 ghost use Rattle.pool.specs.Owned.{IsOf};
 ghost use Rattle.flows.specs.Holding.{Keeps};
 ghost use Rattle.flows.specs.Driven.{OnlyPosted};

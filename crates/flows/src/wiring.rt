@@ -1,5 +1,5 @@
 //! The transmit queue of a flow, as its controller serves it.
-ghost use Rattle.std.specs.Prelude.{◌≡◌, [], None, IfErr};
+ghost use Rattle.std.specs.Prelude.{◌≡◌, None, IfErr};
 ghost use Rattle.tx_ring.specs.Ends.{held, sent};
 ghost use Rattle.ring_model.specs.shared.Frames.{frames};
 ghost use Rattle.ring_model.specs.transmit.Ring.{carried};

@@ -1,5 +1,5 @@
 -- How a forwarding with captures ends, from what it did to the output.
-use Rattle.std.proofs.Common.{◌≡◌, ◌⊎◌, inl, inr, ℕ, List, [], Option, Some, None, refl, subst}
+use Rattle.std.proofs.Common.{◌≡◌, inl, inr, ℕ, List, [], Option, Some, None, refl, subst}
 use Rattle.std.specs.Io.KnownBytes.{Keeps}
 use Rattle.commands.specs.declared.answering.TheConstants.{DONE, REFUSED}
 use Rattle.commands.specs.declared.refusal.Refusal.TheVariants as refusal

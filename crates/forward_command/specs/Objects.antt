@@ -1,5 +1,5 @@
 -- A flow's report as a JSON object, on a line of its own.
-use Rattle.std.specs.Prelude.{ℕ, List, [], ◌∷◌, ◌++◌, codes, decimal, length, sum_by}
+use Rattle.std.specs.Prelude.{ℕ, List, ◌++◌, codes, decimal, length, sum_by}
 use Rattle.flows.specs.declared.report.Ended.{Ended}
 use Rattle.flows.specs.declared.report.Ended.TheVariants.{Cut, Drained}
 use Rattle.flows.specs.declared.report.FlowReport.{FlowReport}

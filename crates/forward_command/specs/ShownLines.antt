@@ -1,5 +1,5 @@
 -- What is shown of a run.
-use Rattle.std.specs.Prelude.{ℕ, List, [], ◌∷◌, ◌++◌, codes, decimal}
+use Rattle.std.specs.Prelude.{ℕ, List, ◌∷◌, ◌++◌, codes, decimal}
 use Rattle.forward_command.specs.declared.progress.line.Form.{Form}
 use Rattle.forward_command.specs.declared.progress.line.Form.TheVariants.{Lines, Rewritten, Objects}
 use Rattle.forward_command.specs.declared.progress.line.Shown.{Shown}

@@ -1,5 +1,5 @@
 -- The frames at the places of a flow are the script's frames of that flow.
-use Rattle.std.proofs.Common.{◌≡◌, ◌∙◌, ℕ, ◌+◌, ◌==◌, List, [], ◌∷◌, ◌++◌, Bool, true, false, Some, refl, ap, sym, cond, length, append_assoc, length-append, zero, suc, arith}
+use Rattle.std.proofs.Common.{◌≡◌, ◌∙◌, ℕ, ◌+◌, ◌==◌, List, [], ◌∷◌, ◌++◌, Bool, true, false, Some, refl, ap, sym, cond, length, append_assoc, length-append, arith}
 use Rattle.std.specs.Prelude.{slice_get}
 use Rattle.flows.specs.Keys.{bytes_at, frames_at}
 use Rattle.ring_model.specs.shared.Frames.{Bytes}

@@ -1,8 +1,8 @@
 //! The whole of a forwarding.
 ghost use Rattle.std.specs.Option.{ForSome};
-ghost use Rattle.std.specs.Prelude.{◌≡◌, ◌↔◌, ◌⊎◌, ℕ, ◌*◌, ◌<◌, ◌≤◌, IfSome, IfOk, IfErr, IsErrOf, length, vec_len, slice_index_or};
+ghost use Rattle.std.specs.Prelude.{◌≡◌, ◌↔◌, ◌⊎◌, ℕ, ◌*◌, ◌<◌, IfSome, IfOk, IfErr, IsErrOf, length, vec_len, slice_index_or};
 ghost use Rattle.counters.specs.Paired.{ArePaired};
-ghost use Rattle.limits.specs.declared.profile.TheConstants.{FEWEST_BUFFERS, MOST_BUFFERS, MOST_PAIRS, PORTS};
+ghost use Rattle.limits.specs.declared.profile.TheConstants.{MOST_PAIRS, PORTS};
 ghost use Rattle.refusals.specs.declared.errors.ForwardError.TheVariants.{Memory, Config as ConfigRefused};
 ghost use Rattle.pool.specs.declared.hand.TheConstants.{WHOLE_SHARE};
 ghost use Rattle.pool.specs.Owned.{IsOf};

@@ -1,7 +1,7 @@
 //! The rings of all flows.
 ghost use Rattle.std.specs.Prelude.{◌≡◌, ℕ, ◌*◌, ◌<◌, IfOk, IfErr, vec_len, slice_index_or};
 ghost use Rattle.limits.specs.RingLength.{IsRingLength};
-ghost use Rattle.limits.specs.declared.profile.TheConstants.{MOST_PAIRS, PORTS};
+ghost use Rattle.limits.specs.declared.profile.TheConstants.{PORTS};
 ghost use Rattle.refusals.specs.declared.errors.ForwardError.TheVariants.{Memory};
 ghost use Rattle.forwarder.specs.Configs.{HasLawfulQueues};
 ghost use Rattle.forwarder.specs.Lines.{AreEnds};

@@ -1,8 +1,7 @@
 //! Flows that were stopped before they were over: their rings are closed, and their buffers go back to the pool.
 ghost use Rattle.std.specs.Prelude.{◌≡◌, ◌+◌, ◌≤◌, [], length, map, vec_len, vec_capacity};
 ghost use Rattle.std.specs.List.{AllZip};
-ghost use Rattle.flows.specs.Keys.{ControllerKey, DriverKey};
-ghost use Rattle.pool.specs.Owned.{IsOf, Pooled};
+ghost use Rattle.pool.specs.Owned.{IsOf};
 ghost use Rattle.forwarder.specs.Plans.{AreOfLine, AreOfLines};
 ghost use Rattle.forwarder.specs.Stopped.{IsStopped};
 

@@ -12,7 +12,7 @@ use Rattle.ring_model.specs.shared.Handshakes.{is_live}
 use Rattle.ring_model.specs.shared.Segments.{piece_of}
 use Rattle.ring_model.specs.transmit.Ring.{carried}
 use Rattle.rx_ring.specs.Ends as receive
-use Rattle.tx_ring.specs.Ends.{posted, driver_grown}
+use Rattle.tx_ring.specs.Ends.{posted}
 use Rattle.driver.specs.receive.Chains.{IsTaken}
 use Rattle.driver.specs.receive.Receiver.{Receiver}
 use Rattle.driver.specs.transmit.Transmitter.{Transmitter, sending}

@@ -1,5 +1,5 @@
 //! What a forwarder changes of a frame.
-ghost use Rattle.std.specs.Prelude.{◌≡◌, ◌≤◌, All, length};
+ghost use Rattle.std.specs.Prelude.{◌≤◌, All, length};
 ghost use Rattle.buffer_pool.specs.Packed.{IsPacket};
 ghost use Rattle.forwarding.specs.Touching.{Touched, TouchedFrom};
 

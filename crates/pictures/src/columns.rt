@@ -2,7 +2,6 @@
 ghost use Rattle.std.specs.Prelude.{◌≡◌, ◌++◌, ◌<◌, OnOk, Some};
 ghost use Rattle.std.specs.String.{string_bytes};
 ghost use Rattle.ring_machine.specs.declared.registers.Side.TheVariants.{Receive, Transmit};
-ghost use Rattle.ring_machine.specs.Registers.{registers_held};
 ghost use Rattle.pictures.specs.Pictures.{age_at, columns, flag_words, item_of, line, mark, marks, number_or_dash, owner_word, says_done, says_eop, says_rs, word_words};
 
 use ring_machine::{QueueMachine, Registers, Side};

@@ -1,7 +1,7 @@
 //! A queue's lines.
 ghost use Rattle.std.specs.Prelude.{◌≡◌, ◌++◌, ◌<◌, OnOk};
 ghost use Rattle.std.specs.String.{string_bytes};
-ghost use Rattle.pictures.specs.Pictures.{begins_fold, is_near, is_shown, picture, place_before, place_text, places_text};
+ghost use Rattle.pictures.specs.Pictures.{begins_fold, is_near, is_shown, picture, place_before, place_text};
 
 use crate::columns::{Spot, write_line};
 use ring_machine::{QueueMachine, Registers, Side};

@@ -1,7 +1,7 @@
 //! One of several queues.
 ghost use Rattle.std.specs.Prelude.{◌≡◌, ◌++◌, OnOk};
 ghost use Rattle.std.specs.String.{string_bytes};
-ghost use Rattle.pictures.specs.Pictures.{picture_if_there, queue_picture};
+ghost use Rattle.pictures.specs.Pictures.{queue_picture};
 
 use crate::picture::write_picture;
 use ring_machine::{Move, Queues, Side};

@@ -1,5 +1,5 @@
 //! Lists of moves, answered by the machines of queues.
-ghost use Rattle.std.specs.Prelude.{◌≡◌, ◌≢◌, length};
+ghost use Rattle.std.specs.Prelude.{◌≡◌, ◌≢◌};
 ghost use Rattle.commands.specs.Refusals.{refused_line};
 ghost use Rattle.plain_c.specs.Moves.{IsRefused, Printed, TooSmall, line_of, plan_of};
 

@@ -1,5 +1,5 @@
 //! One pool for four threads.
-ghost use Rattle.std.specs.Prelude.{◌≡◌, ◌+◌, ◌<◌};
+ghost use Rattle.std.specs.Prelude.{◌+◌, ◌<◌};
 ghost use Rattle.pool.specs.declared.hand.TheConstants.{WHOLE_SHARE};
 ghost use Rattle.pool_uses.specs.Idle.{HoldsNone};
 

@@ -1,5 +1,5 @@
 //! One worker of a pool.
-ghost use Rattle.std.specs.Prelude.{◌≡◌, [], ◌≤◌, length};
+ghost use Rattle.std.specs.Prelude.{◌≡◌, []};
 ghost use Rattle.pool.specs.Owned.{IsOf};
 
 use buffer_pool::Stash;

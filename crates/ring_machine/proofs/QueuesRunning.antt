@@ -7,7 +7,7 @@ use Rattle.ring_model.specs.declared.notes.Note.{Note}
 use Rattle.ring_model.specs.shared.Schedules.{next}
 use Rattle.ring_model.specs.receive.Steps.{rx_can, rx_note_of}
 use Rattle.ring_model.specs.transmit.Steps.{tx_can, tx_note_of}
-use Rattle.ring_model.specs.Worlds.{QueueMove, World, after_move, after_moves, can_at, can_move, moves_happened, note_at, note_in, IsReachableWorld}
+use Rattle.ring_model.specs.Worlds.{QueueMove, World, after_move, after_moves, can_at, can_move, note_at, note_in}
 use Rattle.ring_model.specs.Worlds as world
 use Rattle.ring_laws.specs.Worlds.{reached_world}
 use Rattle.refusals.specs.declared.errors.MachineError.{MachineError}

@@ -8,7 +8,6 @@ use Rattle.ring_model.specs.shared.Segments.{ends_segment}
 use Rattle.ring_model.specs.receive.Ring.{RxRing}
 use Rattle.ring_model.specs.transmit.Agreement.{is_told}
 use Rattle.ring_model.specs.transmit.Ring.{TxRing, ends_posting}
-use Rattle.ring_model.specs.Worlds.{World}
 use Rattle.ring_machine.specs.declared.moves.Move.{Move}
 use Rattle.ring_machine.specs.declared.moves.Move.TheVariants.{Receive, Transmit}
 use Rattle.ring_machine.specs.declared.registers.Registers.{Registers}
@@ -16,7 +15,7 @@ use Rattle.ring_machine.specs.declared.registers.Side.{Side}
 use Rattle.ring_machine.specs.declared.registers.Side.TheVariants as side
 use Rattle.ring_machine.specs.receive.Machine.{RxAgrees, RxParts, lies_rx, says_rx}
 use Rattle.ring_machine.specs.transmit.Machine.{TxAgrees, TxParts, lies_tx, says_tx}
-use Rattle.ring_machine.specs.Queues.{AllAgree, QueueParts, QueuesAgree}
+use Rattle.ring_machine.specs.Queues.{AllAgree, QueueParts}
 use Rattle.ring_machine.specs.Registers.{QueuesRead, registers_held, registers_of}
 use Rattle.ring_machine.proofs.SideBySide.{found-within}
 

@@ -1,6 +1,6 @@
 //! Several queues side by side: the receive and the transmit queues of one port.
 
-ghost use Rattle.std.specs.Prelude.{◌≡◌, ◌≤◌, ◌↔◌, ◌⊎◌, [], ◌∷◌, IfOk, IfErr, option_map, replicate, slice_get};
+ghost use Rattle.std.specs.Prelude.{◌≡◌, ◌↔◌, ◌⊎◌, IfOk, IfErr, option_map, replicate, slice_get};
 ghost use Rattle.refusals.specs.declared.errors.MachineError.TheVariants.{Memory, NotEnabled, RingLength};
 ghost use Rattle.ring_machine.specs.declared.moves.Move.TheVariants as queue_move;
 ghost use Rattle.limits.specs.RingLength.{IsRingLength};

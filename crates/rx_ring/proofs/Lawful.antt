@@ -35,8 +35,8 @@ use Rattle.shared_ring.proofs.Lying.{left-lies}
 use Rattle.shared_ring.proofs.Laying.{set-same, home-full, unheld_item, index_there}
 use Rattle.shared_ring.proofs.Shaking.{control_value}
 use Rattle.rx_ring.specs.Form as form
-use Rattle.rx_ring.specs.Form.{AreOf, RxLies}
-use Rattle.rx_ring.specs.Plays.{takes, finds_none, is_done, loads_quiet, IsBit, clears_quiet, writes_back, stores_head, says_quiet}
+use Rattle.rx_ring.specs.Form.{AreOf}
+use Rattle.rx_ring.specs.Plays.{takes, finds_none, is_done}
 use Rattle.rx_ring.specs.Plays as plays
 use Rattle.rx_ring.specs.Records.{RxDriven, RxControlled, DriverStep, ControllerStep, driving, controlling, eop_of}
 use Rattle.rx_ring.specs.Rule.{LiesAs, says, lies_there}

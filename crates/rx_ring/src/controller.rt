@@ -1,19 +1,17 @@
 //! The controller's end: it answers enabling and disabling, loads the tail, fetches posted buffers, writes them back
 //! filled, and stores the head.
-ghost use Rattle.std.specs.Prelude.{◌≡◌, ◌+◌, ◌<◌, ◌≤◌, ◌↔◌, true, false, [], ◌∷◌, ◌++◌, length, Some, None, IsTrue};
+ghost use Rattle.std.specs.Prelude.{◌≡◌, ◌+◌, ◌<◌, true, false, [], ◌∷◌, ◌++◌, length, Some, None};
 ghost use Rattle.buffer_pool.specs.Buffer.{buffer};
-ghost use Rattle.limits.specs.RingLength.{IsRingLength};
 ghost use Rattle.ring_model.specs.receive.Agreement.{rx_word};
 ghost use Rattle.ring_model.specs.shared.Segments.{piece_of};
 ghost use Rattle.ring_model.specs.shared.Frames.{Follows, unfinished};
 ghost use Rattle.ring_model.specs.shared.Handshakes.{is_serving};
-ghost use Rattle.shared_ring.specs.Words.{control_word};
-ghost use Rattle.shared_ring.specs.declared.events.ControllerEvent.TheVariants.{StoredHead, LoadedRequest, Own};
+ghost use Rattle.shared_ring.specs.declared.events.ControllerEvent.TheVariants.{StoredHead, Own};
 ghost use Rattle.rx_ring.specs.declared.events.RxControllerOwn.TheVariants.{WroteBack, SaidQuiet};
 ghost use Rattle.rx_ring.specs.Ends.{controller_size, controller_record, stored, known_free, held, held_number, controller_state, is_quiet, is_between, serve_place, controller_grown};
 ghost use Rattle.shared_ring.specs.Ends.{controller_of, controller_side};
 ghost use Rattle.rx_ring.specs.Form.{rx};
-ghost use Rattle.rx_ring.specs.Calls.{IsFreshController, FoundFree, Fetched, MayAnswer, IsSettled, Answered, segment};
+ghost use Rattle.rx_ring.specs.Calls.{IsFreshController, Fetched, segment};
 
 use crate::direction::{RxControllerSeat, RxRule};
 use crate::events::{RxControllerOwn, RxDriverOwn};

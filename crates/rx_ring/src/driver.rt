@@ -1,14 +1,12 @@
 //! The driver's end: it enables and disables the queue, posts empty buffers, publishes them by the tail, and takes what
 //! was written back.
-ghost use Rattle.std.specs.Prelude.{◌≡◌, ◌+◌, ◌-◌, ◌%◌, ◌<◌, true, [], ◌∷◌, ◌++◌, length, Some};
+ghost use Rattle.std.specs.Prelude.{◌≡◌, ◌+◌, ◌-◌, ◌<◌, true, [], ◌∷◌, ◌++◌, length, Some};
 ghost use Rattle.buffer_pool.specs.Buffer.{buffer};
-ghost use Rattle.limits.specs.RingLength.{IsRingLength};
 ghost use Rattle.ring_model.specs.shared.Agreement.{bit};
 ghost use Rattle.ring_model.specs.declared.states.DriverState.TheVariants as state;
-ghost use Rattle.ring_model.specs.shared.Handshakes.{is_open, is_live, is_new, is_on, is_stopped, learned};
-ghost use Rattle.shared_ring.specs.Words.{control_word};
-ghost use Rattle.shared_ring.specs.declared.events.DriverEvent.TheVariants.{Posted, Published, AskedEnable, LoadedControl, AskedDisable, LoadedHead, ClearedHead, ClearedTail, Own};
-ghost use Rattle.rx_ring.specs.declared.events.RxDriverOwn.TheVariants.{LoadedQuiet, ClearedQuiet};
+ghost use Rattle.ring_model.specs.shared.Handshakes.{is_open, is_live, is_new, is_on, is_stopped};
+ghost use Rattle.shared_ring.specs.declared.events.DriverEvent.TheVariants.{Posted, Published, Own};
+ghost use Rattle.rx_ring.specs.declared.events.RxDriverOwn.TheVariants.{LoadedQuiet};
 ghost use Rattle.rx_ring.specs.Ends.{driver_size, driver_record, posted, taken, returned, driver_state, known_of, saw_quiet, fill_place, driver_grown};
 ghost use Rattle.shared_ring.specs.Ends.{driver_of, driver_side};
 ghost use Rattle.rx_ring.specs.Form.{rx};

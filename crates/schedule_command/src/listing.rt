@@ -1,8 +1,8 @@
 //! The text of one list.
-ghost use Rattle.std.specs.Prelude.{◌≡◌, ◌++◌, IfErr, IfOk, IsErr};
+ghost use Rattle.std.specs.Prelude.{◌≡◌, IfErr, IfOk, IsErr};
 ghost use Rattle.std.specs.String.{string_bytes};
 ghost use Rattle.ring_machine.specs.Queues.{AreQueues};
-ghost use Rattle.schedule_command.specs.Lists.{IsPrinted, NotPrinted, list_text, move_lines, queues_of};
+ghost use Rattle.schedule_command.specs.Lists.{IsPrinted, NotPrinted, list_text, queues_of};
 
 use crate::request::ScheduleRequest;
 use commands::{NOTES, QueuePlan, Refusal, replay_text};

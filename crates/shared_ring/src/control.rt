@@ -1,5 +1,5 @@
 //! The control word of a queue.
-ghost use Rattle.std.specs.Prelude.{◌≡◌, ◌≤◌, Some, None, IfSome, IfNone, ◌<◌};
+ghost use Rattle.std.specs.Prelude.{◌≡◌, ◌≤◌};
 ghost use Rattle.shared_ring.specs.Words.{control_word};
 
 /// What the control word of a queue says (82599 datasheet, RXDCTL.ENABLE and TXDCTL.ENABLE, which read as 1 for

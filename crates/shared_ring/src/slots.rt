@@ -1,5 +1,5 @@
 //! The exchange of a slot. Nothing else reads or writes one.
-ghost use Rattle.std.specs.Prelude.{◌≡◌, ◌∷◌, Some, None};
+ghost use Rattle.std.specs.Prelude.{◌≡◌, ◌∷◌};
 ghost use Rattle.atomic_table.specs.Table.{rest};
 ghost use Rattle.buffer_pool.specs.Buffer.{blank};
 ghost use Rattle.shared_ring.specs.Slots.{front_buffer};

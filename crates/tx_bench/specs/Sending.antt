@@ -7,7 +7,7 @@ use Rattle.ring_model.specs.shared.Frames.{Bytes, frames}
 use Rattle.ring_model.specs.transmit.Lawful.{IsLawfulTxLedger}
 use Rattle.ring_model.specs.transmit.Ring.{carried, number_of_posting}
 use Rattle.tx_ring.specs.Calls.{IsFreshDriver}
-use Rattle.tx_ring.specs.Ends.{DriverSide, ControllerSide, driver_size, driver_record, driver_state, posted, cleaned, sent, is_owed}
+use Rattle.tx_ring.specs.Ends.{DriverSide, ControllerSide, driver_size, driver_record, posted, cleaned, sent, is_owed}
 use Rattle.tx_ring.specs.Meeting.{ledger_of}
 use Rattle.tx_ring.specs.Records.{Posting, TxDriven}
 use Rattle.bench_kit.specs.Copies.{AllWhole, IsFrameLength}

@@ -3,7 +3,7 @@ use Rattle.std.proofs.Common.{◌≡◌, ℕ, ◌+◌, ◌-◌, ◌%◌, ◌<◌
 use Rattle.std.specs.Prelude.{slice_get, slice_index, slice_set, nat_lt}
 use Rattle.std.proofs.lemmas.Bool.{ltb-true, false≢true}
 use mathlib.Core.Option as maybe
-use mathlib.Core.Option.{some, none}
+use mathlib.Core.Option.{some}
 use Rattle.buffer_pool.specs.Buffer.{Buffer}
 use Rattle.ring_model.specs.declared.states.Completion.{Completion}
 use Rattle.ring_model.specs.declared.states.Completion.TheVariants.{Status, Head}

@@ -1,19 +1,15 @@
 //! The controller's end: it answers enabling and disabling, loads the tail, fetches posted descriptors with their
 //! buffers, gives the buffers back once they are sent, and reports.
-ghost use Rattle.std.specs.Prelude.{◌≡◌, ◌+◌, ◌%◌, ◌<◌, ◌≤◌, ◌↔◌, true, false, [], ◌∷◌, ◌++◌, length, Some, None, IsTrue};
-ghost use Rattle.limits.specs.RingLength.{IsRingLength};
+ghost use Rattle.std.specs.Prelude.{◌≡◌, ◌+◌, ◌%◌, ◌<◌, true, false, [], ◌∷◌, ◌++◌, length, Some, None};
 ghost use Rattle.ring_model.specs.shared.Handshakes.{is_serving};
-ghost use Rattle.ring_model.specs.shared.Frames.{unfinished};
-ghost use Rattle.ring_model.specs.transmit.Ring.{carried};
-ghost use Rattle.shared_ring.specs.Words.{control_word};
-ghost use Rattle.shared_ring.specs.declared.events.ControllerEvent.TheVariants.{LoadedRequest, Own};
+ghost use Rattle.shared_ring.specs.declared.events.ControllerEvent.TheVariants.{Own};
 ghost use Rattle.tx_ring.specs.declared.events.TxControllerOwn.TheVariants.{Sent};
 ghost use Rattle.descriptor.specs.Transmit.{rs_of};
 ghost use Rattle.tx_ring.specs.Records.{posting_of};
 ghost use Rattle.shared_ring.specs.Ends.{controller_of, controller_side};
 ghost use Rattle.tx_ring.specs.Form.{tx};
-ghost use Rattle.tx_ring.specs.Ends.{controller_size, controller_record, sent, known_ready, held, held_word, controller_state, is_owed, is_between, serve_place, controller_grown};
-ghost use Rattle.tx_ring.specs.Calls.{IsFreshController, FoundReady, Fetched, MayAnswer, IsSettled, Answered, report_of};
+ghost use Rattle.tx_ring.specs.Ends.{controller_size, controller_record, sent, known_ready, held, held_word, controller_state, is_owed, controller_grown};
+ghost use Rattle.tx_ring.specs.Calls.{IsFreshController, Fetched, report_of};
 
 use crate::direction::{TxControllerSeat, TxRule};
 use crate::events::{TxControllerOwn, TxDriverOwn};

@@ -3,15 +3,13 @@
 ghost use Rattle.std.specs.Prelude.{◌≡◌, ◌+◌, ◌-◌, ◌%◌, ◌<◌, ◌≤◌, true, false, [], ◌∷◌, ◌++◌, length};
 ghost use Rattle.std.specs.Box.{boxed_slice_items};
 ghost use Rattle.buffer_pool.specs.Buffer.{buffer};
-ghost use Rattle.limits.specs.RingLength.{IsRingLength};
 ghost use Rattle.ring_model.specs.declared.states.DriverState.TheVariants as state;
 ghost use Rattle.ring_model.specs.shared.Frames.{unfinished};
-ghost use Rattle.ring_model.specs.shared.Handshakes.{is_open, is_live, is_new, is_on, is_stopped, learned};
+ghost use Rattle.ring_model.specs.shared.Handshakes.{is_open, is_live, is_new, is_on, is_stopped};
 ghost use Rattle.ring_model.specs.transmit.Agreement.{tx_word};
 ghost use Rattle.ring_model.specs.transmit.Frames.{MayFollow};
 ghost use Rattle.ring_model.specs.transmit.Ring.{are_whole, carried};
-ghost use Rattle.shared_ring.specs.Words.{control_word};
-ghost use Rattle.shared_ring.specs.declared.events.DriverEvent.TheVariants.{Posted, Published, AskedEnable, LoadedControl, AskedDisable};
+ghost use Rattle.shared_ring.specs.declared.events.DriverEvent.TheVariants.{Posted, Published};
 ghost use Rattle.shared_ring.specs.Ends.{driver_of, driver_side};
 ghost use Rattle.tx_ring.specs.Form.{tx};
 ghost use Rattle.tx_ring.specs.Ends.{driver_size, driver_record, posted, cleaned, returned, seen_reported, driver_state, known_of, fill_place, driver_grown};

@@ -1,6 +1,5 @@
 //! One line of a script.
 
-ghost use Rattle.std.specs.Prelude.{◌≡◌};
 ghost use Rattle.wire_script.specs.Line.{frame_with, line_says};
 ghost use Rattle.wire_script.specs.ScriptError.{Answers};
 ghost use Rattle.wire_script.specs.Split.{bytes_in};

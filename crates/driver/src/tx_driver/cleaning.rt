@@ -1,5 +1,5 @@
 //! Buffers of what is reported as sent come back.
-ghost use Rattle.std.specs.Prelude.{◌≡◌, ◌≤◌, ◌⊎◌, true, length};
+ghost use Rattle.std.specs.Prelude.{◌≡◌, ◌⊎◌, true, length};
 ghost use Rattle.ring_model.specs.shared.Handshakes.{is_live};
 ghost use Rattle.tx_ring.specs.Ends.{cleaned, reclaimed, seen_reported, driver_state, known_of};
 ghost use Rattle.driver.specs.transmit.Going.{is_clean};

@@ -1,5 +1,5 @@
 //! What is shown of a run, and its text.
-ghost use Rattle.std.specs.Prelude.{◌≡◌, Some};
+ghost use Rattle.std.specs.Prelude.{Some};
 ghost use Rattle.forward_command.specs.ShownLines.{line_text, members_of, words_of};
 
 use std::fmt;

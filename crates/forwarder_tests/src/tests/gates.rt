@@ -52,7 +52,7 @@ impl Meeting {
 }
 
 impl Gate for Meeting {
-    ghost use Rattle.std.specs.Prelude.{◌≡◌, Bool};
+    ghost use Rattle.std.specs.Prelude.{◌≡◌};
 
     ghost answers = { λ _ _ _ b. b ≡ b };
 
@@ -142,7 +142,7 @@ impl Shuts {
 }
 
 impl Gate for Shuts {
-    ghost use Rattle.std.specs.Prelude.{◌≡◌, Bool};
+    ghost use Rattle.std.specs.Prelude.{◌≡◌};
 
     ghost answers = { λ _ _ _ b. b ≡ b };
 
@@ -186,7 +186,7 @@ impl Leaving {
 }
 
 impl Gate for Leaving {
-    ghost use Rattle.std.specs.Prelude.{◌≡◌, Bool};
+    ghost use Rattle.std.specs.Prelude.{◌≡◌};
 
     ghost answers = { λ _ _ _ b. b ≡ b };
 
@@ -234,7 +234,7 @@ impl Paced {
 }
 
 impl Gate for Paced {
-    ghost use Rattle.std.specs.Prelude.{◌≡◌, Bool};
+    ghost use Rattle.std.specs.Prelude.{◌≡◌};
 
     ghost answers = { λ _ _ _ b. b ≡ b };
 
@@ -265,7 +265,7 @@ impl Stops {
 }
 
 impl Gate for Stops {
-    ghost use Rattle.std.specs.Prelude.{◌≡◌, Bool};
+    ghost use Rattle.std.specs.Prelude.{◌≡◌};
 
     ghost answers = { λ _ _ _ b. b ≡ b };
 
@@ -315,7 +315,7 @@ impl Midway {
 }
 
 impl Gate for Midway {
-    ghost use Rattle.std.specs.Prelude.{◌≡◌, Bool};
+    ghost use Rattle.std.specs.Prelude.{◌≡◌};
 
     ghost answers = { λ _ _ _ b. b ≡ b };
 

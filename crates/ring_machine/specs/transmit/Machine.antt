@@ -3,7 +3,6 @@ use Rattle.std.specs.Prelude.{◌≡◌, ℕ, ◌%◌, ◌^◌, ◌<◌, ◌≤�
 use Rattle.ring_model.specs.declared.states.Completion.{Completion}
 use Rattle.ring_model.specs.declared.states.Owner.{Owner}
 use Rattle.ring_model.specs.declared.steps.TxStep.{TxStep}
-use Rattle.ring_model.specs.declared.steps.TxStep.TheVariants.{Post}
 use Rattle.ring_model.specs.declared.notes.Note.{Note}
 use Rattle.ring_model.specs.shared.Queue.{returned_count}
 use Rattle.ring_model.specs.shared.Agreement.{Agrees, Wrapped}

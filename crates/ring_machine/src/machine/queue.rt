@@ -1,7 +1,7 @@
 //! One queue as a machine, whichever its direction: its words and slots by place, and what driver and controller keep for
 //! themselves.
 
-ghost use Rattle.std.specs.Prelude.{◌≡◌, ◌<◌, ◌≤◌, ◌↔◌, ◌⊎◌, ◌&&◌, not, ◌==◌, Some, IfErr, IfOk, is_none, length, replicate, slice_index, slice_set};
+ghost use Rattle.std.specs.Prelude.{◌≡◌, ◌<◌, ◌≤◌, ◌↔◌, ◌⊎◌, ◌&&◌, not, ◌==◌, Some, IfErr, IfOk, is_none, length, replicate, slice_index};
 ghost use Rattle.limits.specs.RingLength.{IsRingLength};
 ghost use Rattle.limits.specs.declared.profile.TheConstants.{MOST_RING};
 ghost use Rattle.ring_model.specs.shared.Handshakes.{control_value, enables};

@@ -1,6 +1,6 @@
 //! One receive queue as a machine: what both directions have, and what is its own.
 
-ghost use Rattle.std.specs.Prelude.{◌≡◌, ◌<◌, ◌↔◌, ◌⊎◌, ◌∷◌, ◌≤◌, [], IfErr, IfOk};
+ghost use Rattle.std.specs.Prelude.{◌≡◌, ◌<◌, ◌↔◌, ◌⊎◌, IfErr, IfOk};
 ghost use Rattle.limits.specs.RingLength.{IsRingLength};
 ghost use Rattle.ring_model.specs.declared.steps.RxStep.TheVariants as step;
 ghost use Rattle.ring_model.specs.receive.Agreement.{rx_word};
@@ -8,7 +8,7 @@ ghost use Rattle.ring_model.specs.receive.Ring.{rx_opening};
 ghost use Rattle.refusals.specs.declared.errors.MachineError.TheVariants.{Memory, NotEnabled, RingLength};
 ghost use Rattle.ring_machine.specs.code.Sound.{IsSound};
 ghost use Rattle.ring_machine.specs.receive.Machine.{RxAgrees, RxFollows, RxOwns, RxRuns};
-ghost use Rattle.ring_machine.specs.code.Receive.{has_dd, has_eop, rx_begun, rx_may, rx_moved, rx_told};
+ghost use Rattle.ring_machine.specs.code.Receive.{rx_may, rx_moved, rx_told};
 
 use crate::counting::count_of;
 use crate::machine::queue::QueueMachine;

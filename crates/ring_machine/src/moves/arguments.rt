@@ -57,7 +57,7 @@ pub struct SegmentDescriptor {
 }
 
 impl Model for SegmentDescriptor {
-    ghost use Rattle.std.specs.Prelude.{◌≡◌, ℕ, ◌<◌, ◌≤◌, true};
+    ghost use Rattle.std.specs.Prelude.{◌≡◌, ℕ, ◌<◌, ◌≤◌};
     ghost use Rattle.ring_model.specs.transmit.Ring.{Posting, new_posting};
 
     ghost Value = { Posting ℕ };

@@ -1,19 +1,16 @@
 //! The controller's own steps.
-ghost use Rattle.std.specs.Prelude.{◌≡◌, ◌+◌, ◌<◌, true, false, length, None, Some};
+ghost use Rattle.std.specs.Prelude.{◌≡◌, ◌+◌, ◌<◌, true, length, None, Some};
 ghost use Rattle.buffer_pool.specs.Buffer.{buffer};
 ghost use Rattle.ring_model.specs.receive.Agreement.{rx_word};
 ghost use Rattle.ring_model.specs.shared.Segments.{piece_of};
-ghost use Rattle.ring_model.specs.shared.Agreement.{bit};
 ghost use Rattle.ring_model.specs.shared.Frames.{Follows, unfinished};
-ghost use Rattle.ring_model.specs.shared.Handshakes.{is_live, is_serving, is_tailed};
+ghost use Rattle.ring_model.specs.shared.Handshakes.{is_serving};
 ghost use Rattle.shared_ring.specs.declared.events.DriverEvent.TheVariants as driver;
 ghost use Rattle.shared_ring.specs.declared.events.ControllerEvent.TheVariants as controller;
-ghost use Rattle.shared_ring.specs.Ends.{driver_of, controller_of};
-ghost use Rattle.rx_ring.specs.declared.events.RxDriverOwn.TheVariants.{LoadedQuiet, ClearedQuiet};
+ghost use Rattle.shared_ring.specs.Ends.{controller_of};
 ghost use Rattle.rx_ring.specs.declared.events.RxControllerOwn.TheVariants.{WroteBack, SaidQuiet};
-ghost use Rattle.rx_ring.specs.Ends.{controller_size, posted, returned, driver_state, fill_place, next_place, driver_grown, stored, held_number, controller_state, is_between, serve_place, controller_grown};
+ghost use Rattle.rx_ring.specs.Ends.{controller_size, stored, held_number, controller_state, is_between, serve_place, controller_grown};
 ghost use Rattle.rx_ring.specs.Form.{rx};
-ghost use Rattle.rx_ring.specs.Steps.{Found};
 
 use crate::direction::{RxControllerSeat, RxShared};
 use crate::events::RxControllerEvent;

@@ -1,6 +1,6 @@
 //! The steps of one direction's own, each by the event that its `OwnStep` names: what the direction's agreement says of
 //! them is asked of the caller.
-ghost use Rattle.std.specs.Prelude.{◌≡◌, ◌+◌, ◌<◌, length, IfSome, IfNone, Some};
+ghost use Rattle.std.specs.Prelude.{◌≡◌, ◌<◌, length, IfSome, IfNone, Some};
 ghost use Rattle.buffer_pool.specs.Buffer.{Buffer, blank};
 ghost use Rattle.shared_ring.specs.Ends.{posted, returned, fill_place, next_place, serve_place, held, driver_of, controller_of, grown};
 ghost use Rattle.shared_ring.specs.Own.{MayLoad, MayClear, MayTake, MayEnd, MayStore, MayGive, Missed, Came};

@@ -1,11 +1,11 @@
 //! The driver's own steps.
-ghost use Rattle.std.specs.Prelude.{◌≡◌, ◌+◌, ◌%◌, ◌<◌, ◌≤◌, true, false, [], length, Some};
+ghost use Rattle.std.specs.Prelude.{◌≡◌, ◌+◌, ◌%◌, ◌<◌, true, false, length};
 ghost use Rattle.buffer_pool.specs.Buffer.{buffer};
 ghost use Rattle.ring_model.specs.shared.Frames.{unfinished};
 ghost use Rattle.ring_model.specs.shared.Handshakes.{is_open, is_live, is_stopped};
 ghost use Rattle.ring_model.specs.transmit.Frames.{MayFollow};
 ghost use Rattle.ring_model.specs.transmit.Agreement.{tx_word};
-ghost use Rattle.ring_model.specs.transmit.Ring.{are_whole, carried, new_posting};
+ghost use Rattle.ring_model.specs.transmit.Ring.{carried, new_posting};
 ghost use Rattle.ring_model.specs.transmit.Steps.{by_head};
 ghost use Rattle.shared_ring.specs.Ends.{driver_of};
 ghost use Rattle.shared_ring.specs.declared.events.DriverEvent.TheVariants.{Posted};

@@ -1,4 +1,4 @@
-use Rattle.std.proofs.Common.{sym, ap, ◌∙◌}
+use Rattle.std.proofs.Common.{sym, ap}
 use Rattle.std.proofs.lemmas.Result.{err_from_is_err_and}
 use Rattle.capture.specs.Layout.{numbers_in}
 use Rattle.capture.proofs.Steps.{fails, header_faulty, record_faulty, whole}

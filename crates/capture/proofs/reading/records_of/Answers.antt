@@ -1,10 +1,10 @@
-use Rattle.std.proofs.Common.{rules, ◌≡◌, ◌≢◌, ℕ, ◌+◌, ◌<◌, List, [], ◌∷◌, ◌++◌, length, Err, Ok, arith, ap, subst, sym, ◌∙◌}
+use Rattle.std.proofs.Common.{rules, ◌≡◌, ◌≢◌, ℕ, ◌+◌, ◌<◌, List, [], ◌∷◌, ◌++◌, length, Err, Ok, arith, subst}
 use Rattle.std.proofs.lemmas.Bool.Decides.{nat_tests}
 use Rattle.std.proofs.lemmas.Result.{err_from_is_err_and}
 use Rattle.limits.specs.declared.profile.TheConstants.{MOST_SCRIPT_FRAMES}
 use Rattle.capture.specs.Reading.{record_in, records_in}
 use Rattle.capture.specs.Record.{Record}
-use Rattle.capture.proofs.Steps.{Reads, fails, goes_on, is_read, stops, stops_full}
+use Rattle.capture.proofs.Steps.{fails, goes_on, is_read, stops, stops_full}
 use Rattle.capture.proofs.reading.records_of.Goals as goal
 
 pub returns-in_err-found-clause-value : goal.returns-in_err-found-clause-value

@@ -1,4 +1,4 @@
-use Rattle.std.proofs.Common.{rules, ◌≡◌, length, subst, sym}
+use Rattle.std.proofs.Common.{rules, ◌≡◌, subst, sym}
 use Rattle.std.specs.Prelude.{slice_index_or}
 use Rattle.forwarder.specs.Lines.{AreEnds}
 use Rattle.forwarder.proofs.calls.forward_over.Goals as goal

@@ -4,7 +4,6 @@ use Rattle.controller.specs.Tallying.{nothing}
 use Rattle.flows.specs.Counting.{none}
 use Rattle.limits.specs.declared.profile.TheConstants.{PORTS}
 use Rattle.std.specs.Vec.Iter.{into_iter_items, into_iter_len}
-use Rattle.pool.specs.Owned.{IsOf}
 use Rattle.forwarder.specs.Lines.{AreEnds}
 use Rattle.forwarder.specs.Plans.{AreSides, plan}
 use Rattle.forwarder.specs.declared.lines.Line.{Line}

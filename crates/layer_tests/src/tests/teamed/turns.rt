@@ -1,5 +1,5 @@
 //! Flows that are nothing but a number of turns, and a gate that refuses one of them.
-ghost use Rattle.std.specs.Prelude.{◌<◌, IfOk, vec_len};
+ghost use Rattle.std.specs.Prelude.{◌<◌};
 
 use forwarding::{Event, Flow, ForwardError, Gate, Progress, Who, admit};
 use std::alloc::{AllocError, Global};

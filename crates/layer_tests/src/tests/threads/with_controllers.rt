@@ -1,5 +1,5 @@
 //! Drivers beside a device with controllers.
-ghost use Rattle.std.specs.Prelude.{◌≡◌, ◌<◌, ◌≤◌, ◌⊎◌};
+ghost use Rattle.std.specs.Prelude.{◌≡◌, ◌<◌};
 ghost use Rattle.controller.specs.Receiving.{IsIdle as IsIdleRx};
 ghost use Rattle.controller.specs.Transmitting.{IsIdle as IsIdleTx};
 

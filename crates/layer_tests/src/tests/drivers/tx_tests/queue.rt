@@ -1,5 +1,5 @@
 //! The transmit driver on a ring of 8, beside a controller end in the same thread.
-ghost use Rattle.std.specs.Prelude.{◌≡◌, ◌≤◌, All};
+ghost use Rattle.std.specs.Prelude.{◌≡◌, All};
 ghost use Rattle.buffer_pool.specs.Packed.{IsPacket};
 
 use crate::made;

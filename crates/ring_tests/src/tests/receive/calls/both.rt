@@ -1,7 +1,7 @@
 //! Both ends of a ring in one thread, with what the controller holds, and the pure machine beside them. Each call is made
 //! where its condition holds, and left out where not; it answers its step's note, with 0 for a place, since no call tells
 //! one.
-ghost use Rattle.std.specs.Prelude.{◌≡◌, ◌+◌, ◌<◌, ◌≤◌, true, [], length};
+ghost use Rattle.std.specs.Prelude.{◌≡◌, ◌+◌, ◌<◌, ◌≤◌, true, length};
 ghost use Rattle.limits.specs.declared.profile.TheConstants.{LEAST_FRAME, MOST_FRAME, MOST_SEGMENTS};
 ghost use Rattle.ring_model.specs.shared.Segments.{piece_of};
 ghost use Rattle.ring_model.specs.shared.Frames.{join, unfinished};

@@ -1,4 +1,4 @@
-use Rattle.std.proofs.Common.{rules, ◌≡◌, ◌∙◌, ◌+◌, length, ap}
+use Rattle.std.proofs.Common.{rules, ◌∙◌, ◌+◌, length, ap}
 use Rattle.ring_model.specs.shared.Segments.{piece_of}
 use Rattle.ring_model.specs.shared.Frames.{join, unfinished}
 use Rattle.rx_ring.specs.Records.{RxControlled}
