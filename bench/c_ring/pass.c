@@ -1,6 +1,6 @@
-/* Two threads pass frames through a receive ring, and the driver's takes the time; or with a third word one thread makes both
- * ends' steps, 32 frames of each in turn, and takes its processor time, which other work on the machine hardly changes. The
- * ring is the library's, or with -DPLAIN that of ring.c.
+/* Passes frames through a receive ring and prints the nanoseconds per frame. Two threads share the ring, and the driver's measures
+ * wall-clock time. With a third argument one thread makes the steps of both ends, 32 frames of each in turn, and measures its processor
+ * time, which other work on the machine hardly changes. The ring is the library's, or with -DPLAIN that of ring.c.
  *
  *     pass [FRAMES [BYTES [alone]]] */
 #ifdef PLAIN
@@ -19,7 +19,7 @@
 static uint64_t frames = 1000000;
 static size_t bytes = 60;
 
-/* Passes the processor on, after some tries in vain. */
+/* Yields the processor after 1,000 attempts without success. */
 static void wait(unsigned *tries)
 {
     if (++*tries > 1000) {
@@ -51,7 +51,7 @@ static double now(clockid_t clock)
     return (double)at.tv_sec * 1e9 + (double)at.tv_nsec;
 }
 
-/* Takes up to so many frames, posts a buffer for each, and adds those that are wrong: how many it took. */
+/* Takes up to so many frames, posts a buffer for each, and counts the wrong ones. Returns how many frames it took. */
 static uint64_t take(struct poll82599_rx_driver *driver, uint64_t taken, uint64_t most, uint64_t *wrong)
 {
     uint8_t got[POLL82599_BUFFER_BYTES];

@@ -1,6 +1,6 @@
-/* A receive ring in C with the steps of the library's: each is one sequentially consistent load or store of a word that both
- * ends share, and a buffer goes from end to end through its slot. It has the library's calls that passing frames needs, frames
- * of several segments among them, with the same refusals, and none of its proofs. */
+/* A receive ring in C that makes the same steps as the library's: each is one sequentially consistent load or store of a word that
+ * both ends share, and a buffer passes from one end to the other through the slot of its descriptor. It has the calls of the library
+ * that passing frames needs, including frames of several segments, with the same refusals, and no proofs. */
 #ifndef C_RING_H
 #define C_RING_H
 

@@ -1,5 +1,5 @@
-/* Each call of the layer of batches once, on one thread, and each number that it can be brought to answer: a line for each says what
- * was seen, and whether it is as it should be. */
+/* Makes each call of the batch interface on one thread, and brings about nearly every result that it can return. Prints a line for each
+ * check, and exits with status 1 if one is wrong. */
 #include <poll82599.h>
 
 #include <stdio.h>
@@ -22,7 +22,7 @@ static uint8_t frame[POLL82599_MOST_FRAME + 1], got[POLL82599_MOST_FRAME];
 static size_t count, len, empty;
 static uint8_t byte;
 
-/* Ends that are empty, before anything is made and after all is closed. */
+/* Calls with empty handles, before anything is made and after everything is closed. */
 static void hold_nothing(void)
 {
     is("a packet for nobody", poll82599_packets_put(&packets, frame, 60), POLL82599_NO_END);
@@ -38,7 +38,7 @@ static void hold_nothing(void)
     is("nobody's packets back", poll82599_packets_close(&packets) == SIZE_MAX, 1);
 }
 
-/* Two ends of different kinds, which a cast makes one of the other's kind, and one that is there beside one that is empty. */
+/* Calls with handles of the wrong kind, by a cast, and with one full and one empty handle. */
 static void mix(void)
 {
     struct poll82599_packets none = {0};

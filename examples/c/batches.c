@@ -1,8 +1,8 @@
-/* A poll-mode forwarder in batches, with ixy's loop: one thread plays the device that is offered frames, one drives a receive and a
- * transmit queue and adds 1 to byte 1 of each packet where it lies, and one plays the device that sends them, and compares. At the end
- * the driver has both queues disabled and all buffers back.
+/* A poll-mode forwarder in batches, with the loop of ixy. One thread plays the device that is offered frames. One drives a receive and a
+ * transmit queue, and adds 1 to byte 1 of each packet in place. One plays the device that sends the frames, and compares each of them.
+ * At the end the driver has both queues disabled and takes all buffers back.
  *
- *     batches [FRAMES [BYTES [BY_HEAD]]]     14 to 15,000 bytes, cut into segments by the library */
+ *     batches [FRAMES [BYTES [BY_HEAD]]]     14 to 15,000 bytes; the library cuts frames into segments */
 #include <poll82599.h>
 
 #include <pthread.h>
@@ -24,14 +24,14 @@ static uint64_t frames = 100000;
 static size_t bytes = 60;
 static size_t back;
 
-/* Frame k, as it is offered. */
+/* Makes frame k, as it is offered. */
 static void fill(uint8_t *frame, uint64_t k)
 {
     for (size_t at = 0; at < bytes; at++)
         frame[at] = (uint8_t)((k * 2654435761u >> (at & 15)) + at);
 }
 
-/* Passes the processor on, after some tries in vain. */
+/* Yields the processor after 1,000 attempts without success. */
 static void wait(unsigned *tries)
 {
     if (++*tries > 1000) {
@@ -40,7 +40,7 @@ static void wait(unsigned *tries)
     }
 }
 
-/* The device that frames come in at. */
+/* The receive device's thread. */
 static void *offer(void *unused)
 {
     static uint8_t frame[POLL82599_MOST_FRAME];
@@ -61,7 +61,7 @@ static void *offer(void *unused)
     return 0;
 }
 
-/* The device that frames go out of. */
+/* The transmit device's thread. */
 static void *turn(void *unused)
 {
     static uint8_t got[POLL82599_MOST_FRAME], wanted[POLL82599_MOST_FRAME];
@@ -85,7 +85,7 @@ static void *turn(void *unused)
     return (void *)(uintptr_t)wrong;
 }
 
-/* One turn of the forwarder: how many packets were posted. Those for which there was no room wait. */
+/* One turn of the forwarder. Returns how many packets were posted; those that did not fit wait for the next turn. */
 static size_t forward(void)
 {
     static size_t waiting;
@@ -104,7 +104,7 @@ static size_t forward(void)
     return posted;
 }
 
-/* Has both queues disabled, and all buffers back: how many segments were left in them. */
+/* Disables both queues and takes all buffers back. Returns how many segments were left in the queues. */
 static size_t stop(void)
 {
     size_t untaken, unsent, count;

@@ -1,5 +1,5 @@
-/* A poll-mode forwarder over a receive and a transmit ring, with ixy's loop: one thread plays the device that stores frames, one
- * drives both rings and adds 1 to the second byte of each frame, and one plays the device that sends them, and compares.
+/* A poll-mode forwarder segment by segment, with the loop of ixy. One thread plays the device that stores frames. One drives a receive
+ * and a transmit ring, and adds 1 to byte 1 of each frame. One plays the device that sends the frames, and compares each of them.
  *
  *     forward [FRAMES [BYTES [BY_HEAD]]] */
 #include <poll82599.h>
@@ -21,14 +21,14 @@ static struct poll82599_tx_controller tx_device;
 static uint64_t frames = 100000;
 static size_t bytes = 60;
 
-/* Frame k, as it is stored. */
+/* Makes frame k, as it is stored. */
 static void fill(uint8_t *frame, uint64_t k)
 {
     for (size_t at = 0; at < bytes; at++)
         frame[at] = (uint8_t)((k * 2654435761u >> (at & 15)) + at);
 }
 
-/* Passes the processor on, after some tries in vain. */
+/* Yields the processor after 1,000 attempts without success. */
 static void wait(unsigned *tries)
 {
     if (++*tries > 1000) {
@@ -75,7 +75,7 @@ static void *send(void *unused)
     return (void *)(uintptr_t)wrong;
 }
 
-/* Waits until both queues are on. */
+/* Posts all buffers, asks for both queues to be enabled, and waits until they are. */
 static void enable(void)
 {
     unsigned tries = 0;
@@ -90,7 +90,7 @@ static void enable(void)
         wait(&tries);
 }
 
-/* Has sent buffers back. */
+/* Takes the buffers of reported frames back. */
 static void clean(void)
 {
     while (poll82599_tx_poll_report(&tx))

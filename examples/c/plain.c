@@ -1,6 +1,6 @@
-/* Plain data, for whoever keeps rings of their own: a descriptor between its 16 bytes and numbers, and a list of moves answered by
- * the machines of queues, as an oracle for a driver or a device in C; and a frame through a ring of eight. It prints a line of each call, and ends with status 1 where one
- * is not as it should be. */
+/* The calls for plain data, for programs that have rings of their own: encodes and decodes descriptors, runs a list of moves, as an oracle
+ * for a driver or a device, and passes frames through a ring of 8. Prints a line for each check, and exits with status 1 if one is
+ * wrong. */
 #include <poll82599.h>
 
 #include <stdio.h>

@@ -1,6 +1,6 @@
-/* Two threads share one receive ring: one drives it, one serves it. In each of some epochs the controller stores so many
- * frames and says that it is quiet; the driver takes and compares them, disables the queue, takes its buffers back and
- * renews it.
+/* A receive ring between two threads, the driver's and the controller's. In each epoch the driver enables the queue, the controller stores
+ * its frames and says that it stores no more, and the driver takes and compares them, disables the queue, takes its buffers back and
+ * renews the ring.
  *
  *     receive [FRAMES [BYTES [EPOCHS]]] */
 #include <poll82599.h>
@@ -15,14 +15,14 @@
 static uint64_t frames = 100000, epochs = 2;
 static size_t bytes = 60;
 
-/* Frame k of an epoch. */
+/* Makes frame k of an epoch. */
 static void fill(uint8_t *frame, uint64_t k)
 {
     for (size_t at = 0; at < bytes; at++)
         frame[at] = (uint8_t)((k * 2654435761u >> (at & 15)) + at);
 }
 
-/* Passes the processor on, after some tries in vain. */
+/* Yields the processor after 1,000 attempts without success. */
 static void wait(unsigned *tries)
 {
     if (++*tries > 1000) {

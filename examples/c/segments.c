@@ -1,5 +1,5 @@
-/* Frames of several segments on both kinds of rings, on one thread, and what a disabling leaves. It prints a line of each, and ends
- * with status 1 where one is not as it should be. */
+/* Passes frames of several segments through both kinds of rings on one thread, and looks at what is left after a disabling. Prints a line
+ * for each check, and exits with status 1 if one is wrong. */
 #include <poll82599.h>
 
 #include <stdio.h>
@@ -15,7 +15,7 @@ static void check(int good, const char *what)
     failed |= !good;
 }
 
-/* Stores a frame in segments of 2,048 bytes: how many it took, or 0. */
+/* Stores a frame in segments of 2,048 bytes. Returns how many segments it took, or 0 if one was refused. */
 static uint32_t store(struct poll82599_rx_controller *controller, const uint8_t *frame, size_t len)
 {
     uint32_t count = 0;
@@ -84,7 +84,7 @@ static void transmit(const uint8_t *frame)
     check(poll82599_tx_close(&driver, &controller) == 1, "its buffer lay in the ring");
 }
 
-/* Ends that are empty, and an end of another kind. */
+/* Calls with empty handles, and with handles of another kind. */
 static void hold_nothing(const uint8_t *frame)
 {
     struct poll82599_rx_driver driver = {0};

@@ -1,12 +1,12 @@
 #!/usr/bin/env python3
-"""A receive and a transmit queue of an 82599, written for itself: registers, descriptors of 16 bytes in memory, and a driver's
-own notes. It is made to be tested by lists of moves, and is no part of the crates.
+"""An independent model of the receive and transmit queues of an 82599: registers, descriptors of 16 bytes in memory, and the
+driver's own state. It is an example of a model that lists of moves test, and shares no code with the crates.
 
     ring.py [--ring N] [--pairs N] [--off] [--head] < LISTS
 
-LISTS are lists of moves, each ended by a line '# end' and followed by what has to come out of it, a line a move and one of
-how many were made. The model makes the moves of each list on queues as they are made, and compares, line by line. It prints
-how many lists agreed, or the first difference, and ends with status 0 or 1.
+LISTS are lists of moves. Each ends with a line '# end', and its expected output follows: a line for each move, and one with the
+number of moves made. The model makes the moves of each list on new queues, and compares its output line by line. It prints how
+many lists agreed (exit status 0), or the first difference (exit status 1).
 """
 import argparse, struct, sys
 
@@ -15,7 +15,7 @@ OPEN, LIVE = ("New", "Asked", "On"), ("On", "Stopping")
 
 
 class NotNow(Exception):
-    """There is no such step now."""
+    """The step is not possible now."""
 
 
 def need(*conditions):
@@ -24,7 +24,7 @@ def need(*conditions):
 
 
 class Queue:
-    """What both directions have. Places and registers count modulo the ring's length."""
+    """The parts that both directions share. Places and registers count modulo the length of the ring."""
 
     def __init__(self, length, enabled):
         self.length = length
@@ -286,7 +286,7 @@ class Transmit(Queue):
 
 
 def lists_in(lines):
-    """Each list's moves, and what has to come out of them."""
+    """The moves of each list, and its expected output."""
     moves, expected, ended = [], [], False
     for line in (it.rstrip("\n") for it in lines):
         if not ended:
@@ -304,7 +304,7 @@ def lists_in(lines):
 
 
 def replay(moves, queues):
-    """What the moves tell, a line each, and how many were made."""
+    """The output of the moves: a line for each, and one with the number of moves made."""
     made = 0
     for move in moves:
         name, kind, *numbers = move.split(" ")

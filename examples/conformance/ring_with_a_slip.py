@@ -1,7 +1,7 @@
 #!/usr/bin/env python3
-"""The model of ring.py with one slip: a fetch looks at the tail register, and not at the tail that the device loaded last.
+"""The model of ring.py with one bug: a fetch uses the tail register instead of the tail that the device loaded last.
 
-It is run as ring.py is, and has to fail."""
+It runs as ring.py does, and must fail."""
 import sys
 from ring import Receive, SERVING, main, need
 

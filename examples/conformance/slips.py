@@ -1,18 +1,18 @@
 #!/usr/bin/env python3
-"""How many slips of the model of ring.py some texts of lists find.
+"""Counts how many bugs in the model of ring.py some files of lists find.
 
     slips.py TEXT[:OPTION..] ..
 
-A slip is one change of the model: a condition that is left out, or a field that is not set, or set to something else. For each
-text the model with the slip is run as ring.py is, with the options behind the text's name, as in lists.txt:--off:--head. A text
-finds a slip where the model then differs from it, or breaks down. It prints each slip with the texts that find it, and how many
-each finds.
+A slip is one bug: a condition that is left out, or a field that is not set or is set to another value. For each file the model with
+the slip runs as ring.py does, with the options after the file's name, as in lists.txt:--off:--head. A file finds a slip if the
+model's output then differs, or if the model raises an error. It prints each slip with the files that find it, and how many each
+file finds.
 """
 import contextlib, io, pathlib, re, sys
 
 SOURCE = (pathlib.Path(__file__).parent / "ring.py").read_text()
 
-# what stands in the model once or more, of which the first is changed, and what stands there then
+# a text in the model, of which the first occurrence is replaced, and its replacement
 CHANGED = [
     ("self.known = self.tail", "pass"),
     ('self.control, self.driver = 1, "Asked"', 'self.control, self.driver = 2, "Asked"'),

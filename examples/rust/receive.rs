@@ -1,9 +1,10 @@
-//! The same ring as `examples/c/receive.c` has, from plain Rust: the driver's thread takes what the controller's stores.
+//! A receive ring between two threads of a program in plain Rust: the controller's thread stores frames, and the driver's takes and
+//! compares them. It calls the exported functions by their operation numbers (docs/LIBRARY.md).
 
 use std::ptr::null_mut;
 use std::thread;
 
-/// What an end's call is to do, and what it answers.
+/// The operation that a call makes, and its result: `struct poll82599_call` of the header.
 #[repr(C)]
 #[derive(Default)]
 struct Call {
@@ -15,11 +16,11 @@ struct Call {
     paylen: u32,
 }
 
-/// An end, which is never copied, and in one call at a time.
+/// A handle. It is never copied, and is in one call at a time.
 #[repr(C)]
 struct End(*mut u8);
 
-// SAFETY: an end of the library is its own thread's alone, and may go to another thread between two calls.
+// SAFETY: a handle of the library may go to another thread between two calls.
 unsafe impl Send for End {}
 
 unsafe extern "C" {
@@ -29,18 +30,18 @@ unsafe extern "C" {
     fn poll82599_rx_close(driver: &mut End, controller: &mut End) -> i64;
 }
 
-/// A driver's step, with a room for a segment.
+/// Makes a step of the driver, with room for a segment.
 fn drive(driver: &mut End, operation: u32, room: &mut [u8]) -> Call {
     let mut call = Call { operation, ..Call::default() };
-    // SAFETY: the end was filled by `poll82599_rx_new`, and this thread alone has it.
+    // SAFETY: `poll82599_rx_new` filled the handle, and only this thread has it.
     unsafe { poll82599_rx_drive(driver, &mut call, room.as_mut_ptr(), room.len()) };
     call
 }
 
-/// A controller's step, with a frame of one segment.
+/// Makes a step of the controller, with a frame of one segment.
 fn serve(controller: &mut End, operation: u32, frame: &[u8]) -> u32 {
     let mut call = Call { operation, eop: 1, ..Call::default() };
-    // SAFETY: the end was filled by `poll82599_rx_new`, and this thread alone has it.
+    // SAFETY: `poll82599_rx_new` filled the handle, and only this thread has it.
     unsafe { poll82599_rx_serve(controller, &mut call, frame.as_ptr(), frame.len()) };
     call.answer
 }
@@ -52,7 +53,7 @@ fn frame(k: u32) -> [u8; 60] {
 fn main() {
     const FRAMES: u32 = 100_000;
     let (mut driver, mut controller) = (End(null_mut()), End(null_mut()));
-    // SAFETY: both ends are empty.
+    // SAFETY: both handles are empty.
     let made = unsafe { poll82599_rx_new(64, 128, &mut driver, &mut controller) };
     assert_eq!(made, 0);
     let driving = thread::spawn(move || {
@@ -93,7 +94,7 @@ fn main() {
     });
     let mut controller = serving.join().unwrap();
     let (mut driver, wrong) = driving.join().unwrap();
-    // SAFETY: both ends are of one ring, and no thread has them any more.
+    // SAFETY: both handles are ends of one ring, and no other thread has them.
     let left = unsafe { poll82599_rx_close(&mut driver, &mut controller) };
     println!("{FRAMES} frames, {wrong} wrong; {left} buffers lay in the ring");
     assert_eq!(wrong, 0);
