@@ -1,5 +1,5 @@
--- What is printed of a note in a JSON object: a member for each number of its text, behind a comma. Where nothing was found,
--- there is no buffer, or no report.
+-- The printed members of a note in a JSON object: one for each number of its text, each after a comma. If nothing was
+-- found, there is no buffer, or no report.
 use Rattle.std.specs.Prelude.{ℕ, List, ◌++◌, codes, decimal, Some, None}
 use Rattle.ring_model.specs.declared.notes.FetchedSegment.{FetchedSegment}
 use Rattle.ring_model.specs.declared.notes.Note.{Note}

@@ -1,5 +1,5 @@
-//! What a step tells, as members of a JSON object. [`NoteMembers`] prints a note's numbers so, under the words by which a note
-//! itself prints them, each with a comma before it: they stand behind the members that say which move it was.
+//! Notes as members of a JSON object. Depends on `ring_model`. [`NoteMembers`] prints the numbers of a note under the
+//! words of the note's text, each with a comma before it, so that they can follow the members that name the move.
 #![tactic(auto)]
 
 mod members;

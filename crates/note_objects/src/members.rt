@@ -6,11 +6,11 @@ ghost use Rattle.note_objects.specs.NoteMembers.{fetched_members, member, note_m
 use ring_model::{FetchedSegment, Note, TakenSegment};
 use std::fmt;
 
-/// A note that is printed as members of a JSON object, with a comma before each: `,"place":0,"buffer":5`. Where nothing was
-/// found, the first member is `null`.
+/// A note, printed as members of a JSON object with a comma before each: `,"place":0,"buffer":5`. If nothing was found,
+/// the first member is `null`.
 #[derive(Clone, Copy, PartialEq, Eq)]
 pub struct NoteMembers {
-    /// The note whose members they are.
+    /// The printed note.
     pub note: Note,
 }
 
@@ -44,14 +44,14 @@ fn write_member<W: fmt::Write>(f: &mut fmt::Formatter<W>, name: &str, number: u1
     write!(f, ",\"{name}\":{number}")
 }
 
-/// Writes the place that was fetched, and the buffer's number.
+/// Writes the fetched place and the number of its buffer.
 fn write_fetched<W: fmt::Write>(f: &mut fmt::Formatter<W>, place: u16, buffer: u16) -> fmt::Result
     ensures { DisplaysOnOk W.write_str_gives f.old result (Some (fetched_members place buffer)) f.new }
 {
     write!(f, ",\"place\":{place},\"buffer\":{buffer}")
 }
 
-/// Writes the place that was fetched to be sent, and what its descriptor says.
+/// Writes the place fetched for sending and the contents of its descriptor.
 fn write_sending<W: fmt::Write>(
     f: &mut fmt::Formatter<W>,
     place: u16,
@@ -64,7 +64,7 @@ fn write_sending<W: fmt::Write>(
     write!(f, ",\"length\":{},\"eop\":{eop},\"rs\":{rs}", segment.len)
 }
 
-/// Writes what a taken descriptor says.
+/// Writes the contents of a taken descriptor.
 fn write_taken<W: fmt::Write>(f: &mut fmt::Formatter<W>, segment: TakenSegment) -> fmt::Result
     ensures { DisplaysOnOk W.write_str_gives f.old result (Some (taken_members segment)) f.new }
 {

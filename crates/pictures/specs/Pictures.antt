@@ -1,5 +1,5 @@
--- A queue as lines of text, one a place: which item lies there, who has it, what its descriptor says, the buffer in its slot,
--- and what stands there. Columns are apart by a tab.
+-- A queue as lines of text, one for each place: the item there, its owner, the contents of its descriptor, the buffer
+-- in its slot, and the marks there. Columns are separated by tabs.
 use Rattle.std.specs.Prelude.{ℕ, zero, suc, ◌-◌, ◌/◌, ◌%◌, Bool, true, false, ◌||◌, ◌==◌, nat_lt, List, [], ◌∷◌, ◌++◌, Option, Some, None, codes, decimal, option_map, slice_get, slice_index, if◌then◌else◌}
 use Rattle.ring_model.specs.declared.states.Owner.{Owner}
 use Rattle.ring_model.specs.declared.states.Owner.TheVariants.{Driver, Ring, Controller}

@@ -1,4 +1,4 @@
-//! What is written of one place.
+//! The columns of one place.
 ghost use Rattle.std.specs.Prelude.{◌≡◌, ◌++◌, ◌<◌, OnOk, Some};
 ghost use Rattle.std.specs.String.{string_bytes};
 ghost use Rattle.ring_machine.specs.declared.registers.Side.TheVariants.{Receive, Transmit};
@@ -9,7 +9,7 @@ use ring_model::{Owner, places_between};
 use std::alloc::AllocError;
 use std::fmt;
 
-// A number, or a dash where there is none.
+// A number, or a dash for `None`.
 #[derive(Clone, Copy)]
 struct OrDash(Option<u16>);
 
@@ -24,7 +24,7 @@ impl fmt::Display for OrDash {
     }
 }
 
-/// The words of who has a place, in the order of [`Owner`].
+/// The printed owners, in the order of [`Owner`].
 const OWNER_WORDS: [&str; 3] = ["drv", "ring", "ctl"];
 
 fn owner_word(owner: Owner) -> &'static str
@@ -85,7 +85,7 @@ fn word_words(side: Side, owner: Owner, word: u64) -> &'static str
     }
 }
 
-// How many places lie from the oldest that is out up to this one.
+// Returns the number of places from the oldest that is out up to this one.
 fn age_of(machine: &QueueMachine, place: u16) -> u16
     requires { place < machine.now.size }
     ensures { result ≡ age_at machine.now place }
@@ -93,7 +93,7 @@ fn age_of(machine: &QueueMachine, place: u16) -> u16
     places_between(machine.next(), place, machine.size())
 }
 
-/// A place of a queue, which receives or transmits.
+/// A place of a receive or transmit queue.
 #[derive(Clone, Copy)]
 pub(crate) struct Spot {
     pub side: Side,
@@ -114,7 +114,7 @@ fn write_columns(text: &mut String, machine: &QueueMachine, spot: Spot) -> Resul
     write!(text, "{place}\t{item}\t{owner}\t{word}\t{buffer}")
 }
 
-// Writes a name where this stands at the place.
+// Writes the name of a mark if it is at the place.
 fn write_mark(text: &mut String, at: u16, place: u16, name: &str) -> Result<(), AllocError>
     ensures { OnOk result (string_bytes text.new ≡ string_bytes text.old ++ mark at place name.now) }
 {
@@ -125,7 +125,7 @@ fn write_mark(text: &mut String, at: u16, place: u16, name: &str) -> Result<(), 
     Ok(())
 }
 
-// Writes what stands at a place.
+// Writes the marks at a place.
 fn write_marks(text: &mut String, machine: &QueueMachine, place: u16) -> Result<(), AllocError>
     ensures { OnOk result (string_bytes text.new ≡ string_bytes text.old ++ marks machine.now place) }
 {

@@ -1,4 +1,5 @@
-//! A queue's machine as lines of text: what `docs/MODEL.md` draws, one line a place, with its owner as the machine tells it.
+//! Pictures of a queue's machine, like that in `docs/MODEL.md`, as lines of text: one for each place, with its owner.
+//! Depends on `ring_machine` and `ring_model`. The contracts give the exact text.
 #![tactic(auto)]
 
 mod columns;

@@ -1,4 +1,4 @@
-//! A queue's lines.
+//! The lines of a queue.
 ghost use Rattle.std.specs.Prelude.{◌≡◌, ◌++◌, ◌<◌, OnOk};
 ghost use Rattle.std.specs.String.{string_bytes};
 ghost use Rattle.pictures.specs.Pictures.{begins_fold, is_near, is_shown, picture, place_before, place_text};
@@ -10,7 +10,7 @@ use std::alloc::AllocError;
 
 const HEADING: &str = "place\titem\towner\tword\tbuffer\n";
 
-/// The longest ring of which each place is shown.
+/// The longest ring whose places are all shown.
 const SHORT_RING: u16 = 8;
 
 fn place_before(size: u16, place: u16) -> u16
@@ -20,7 +20,7 @@ fn place_before(size: u16, place: u16) -> u16
     if place == 0 { size - 1 } else { place - 1 }
 }
 
-// Whether this stands at the place, or beside it.
+// Whether `at` is the place or one beside it.
 fn is_near(size: u16, place: u16, at: u16) -> bool
     requires { place < size }
     ensures { result ≡ is_near size place at }
@@ -44,7 +44,7 @@ fn is_shown(machine: &QueueMachine, place: u16) -> bool
         || is_near(size, place, machine.known())
 }
 
-// Whether a place that is not shown is the first such.
+// Whether a hidden place is the first of its gap.
 fn begins_fold(machine: &QueueMachine, place: u16) -> bool
     requires { place < machine.now.size }
     ensures { result ≡ begins_fold machine.now place }
@@ -52,7 +52,7 @@ fn begins_fold(machine: &QueueMachine, place: u16) -> bool
     place == 0 || is_shown(machine, place - 1)
 }
 
-// Writes a place's line, or that places are passed over.
+// Writes a place's line, or `..` at the first place of a gap.
 fn write_place(text: &mut String, machine: &QueueMachine, spot: Spot) -> Result<(), AllocError>
     requires { spot.place < machine.now.size }
     ensures { OnOk result (string_bytes text.new ≡ string_bytes text.old
@@ -67,13 +67,13 @@ fn write_place(text: &mut String, machine: &QueueMachine, spot: Spot) -> Result<
     Ok(())
 }
 
-/// Writes a queue behind a text: a heading, and then a line a place, of a ring of more than 8 only of those places at which
-/// something stands, with the place before and the place behind, and `..` for those between. Columns are apart by a tab:
-/// the place; the item there, counted from the oldest that is out; who has it (`drv`, `ring`, `ctl`); what its descriptor
-/// says of DD, EOP and RS (82599 datasheet, 7.1.6.2 and 7.2.3.2.4), or `any` at a driver's place; the buffer's number; and
-/// which of `head`, `tail`, `fill`, `next`, `use` and `known` stand there.
+/// Appends a picture of a queue to a text: a heading, and then a line for each place. A ring of more than 8 places
+/// shows only the places with a mark and their neighbours, and `..` for each gap. Columns are separated by tabs: the
+/// place; the item there, counted from the oldest that is out; its owner (`drv`, `ring`, `ctl`); DD, EOP and RS of its
+/// descriptor (82599 datasheet, 7.1.6.2 and 7.2.3.2.4), or `any` at a driver's place; the buffer's number; and the
+/// marks there, of `head`, `tail`, `fill`, `next`, `use` and `known`.
 ///
-/// An `Err` says that memory was refused; the text may then have some of the lines.
+/// An `Err` means that memory was refused; the text may then have some of the lines.
 pub fn write_picture(
     text: &mut String,
     side: Side,

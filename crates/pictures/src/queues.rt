@@ -1,4 +1,4 @@
-//! One of several queues.
+//! The picture of one of several queues.
 ghost use Rattle.std.specs.Prelude.{◌≡◌, ◌++◌, OnOk};
 ghost use Rattle.std.specs.String.{string_bytes};
 ghost use Rattle.pictures.specs.Pictures.{queue_picture};
@@ -7,9 +7,9 @@ use crate::picture::write_picture;
 use ring_machine::{Move, Queues, Side};
 use std::alloc::AllocError;
 
-/// Writes the queue that a move names behind a text, as [`write_picture`] does, and nothing where it is not there.
+/// Appends the queue that a move names to a text, as [`write_picture`] does. Writes nothing if there is no such queue.
 ///
-/// An `Err` says that memory was refused; the text may then have some of the lines.
+/// An `Err` means that memory was refused; the text may then have some of the lines.
 pub fn write_queue(text: &mut String, queues: &Queues, action: &Move) -> Result<(), AllocError>
     ensures { OnOk result (string_bytes text.new ≡ string_bytes text.old ++ queue_picture queues.now action.now) }
 {

@@ -1,4 +1,4 @@
--- The lemmas that are clauses of `src/rings.rt`, by name, for proofs of crates above.
+-- The lemmas behind the clauses of `src/rings.rt`, by name, for the proofs of other crates.
 pub use Rattle.ring_model.proofs.receive.Reached.{rx_kept, rx_lawful, rx_concluded, rx_later-all}
 pub use Rattle.ring_model.proofs.receive.Stepping.{rx_kept-opening}
 pub use Rattle.ring_model.proofs.receive.Over.{over-ended, said-stays}

@@ -1,2 +1,2 @@
--- The lemma that is the clause `reached` of `queues_stand_apart` in `ring_model`, by name.
+-- The lemma behind the clause `reached` of `queues_stand_apart` in `ring_model`, by name.
 pub use Rattle.ring_model.proofs.Apart.{reached_world}

@@ -1,4 +1,4 @@
-//! What holds of frames as they grow, as contracts of functions that do nothing.
+//! Laws about growing lists of segments, stated as contracts of functions that do nothing.
 ghost use Rattle.std.specs.Prelude.{◌≡◌, ℕ, ◌+◌, true, List, [], ◌∷◌, ◌++◌, map, length, take, Some, slice_get, if◌then◌else◌};
 ghost use Rattle.ring_model.specs.shared.Lists.{IsBeginning};
 ghost use Rattle.ring_model.specs.shared.Frames.{Bytes, Piece, join, unfinished_from, unfinished, chains_from, frames, ends_frame, cut, AllFollow, Follows};
@@ -6,7 +6,7 @@ ghost use Rattle.ring_model.specs.kept.CanCut.{CanCut};
 ghost use Rattle.ring_model.specs.transmit.Ring.{Posting, carried};
 ghost use Rattle.ring_model.specs.transmit.Frames.{MayFollow, AllMayFollow};
 
-/// What one more, or a list behind, makes of the bytes, of the unfinished rest and of the frames.
+/// How an appended item or list changes the bytes, the unfinished rest and the frames.
 pub fn frames_grow<X>()
     ensures join_append { (carries : X → Piece) (xs : List X) (ys : List X) → join carries (xs ++ ys) ≡ join carries xs ++ join carries ys }
     ensures length_join_snoc { (carries : X → Piece) (xs : List X) (x : X) → length (join carries (xs ++ x ∷ [])) ≡ length (join carries xs) + length (carries x).bytes }
@@ -19,7 +19,8 @@ pub fn frames_grow<X>()
     ensures unfinished_whole { (carries : X → Piece) (xs : List X) → unfinished carries xs ≡ [] → ends_frame (λ x. (carries x).eop) true xs ≡ true }
 {}
 
-/// What follows lawfully goes on to: none, one more, the next of a beginning, and the pieces of a frame that is cut.
+/// "Each item may follow" holds for the empty list, after an append, for the next item of a prefix, and for the pieces
+/// of a cut frame.
 pub fn what_follows_goes_on<X>()
     ensures follow_nil { (carries : X → Piece) (n : ℕ) → AllFollow carries n [] }
     ensures follow_snoc { (carries : X → Piece) (n : ℕ) (xs : List X) (x : X) → AllFollow carries n xs → Follows carries n (unfinished carries xs) (carries x).bytes (carries x).eop → AllFollow carries n (xs ++ x ∷ []) }
@@ -27,7 +28,7 @@ pub fn what_follows_goes_on<X>()
     ensures follows_cut { (carries : X → Piece) (n : ℕ) (b : ℕ) (f : Bytes) (rest : List X) (j : ℕ) (p : Piece) → CanCut n b (length f) → map carries rest ≡ take j (cut b f) → slice_get (cut b f) j ≡ Some p → Follows carries n rest p.bytes p.eop }
 {}
 
-/// The same of postings.
+/// The same for postings.
 pub fn postings_go_on()
     ensures may_follow_nil { (n : ℕ) → AllMayFollow n [] }
     ensures may_follow_snoc { (n : ℕ) (ps : List (Posting Bytes)) (p : Posting Bytes) → AllMayFollow n ps → MayFollow n (unfinished carried ps) p → AllMayFollow n (ps ++ p ∷ []) }

@@ -1,9 +1,10 @@
-//! The laws of `ring_model` that crates above rest on, each a clause of a public function that does nothing.
+//! Step-by-step laws of `ring_model` for the proofs of machines and running rings: states, places, lists, frames,
+//! queues, schedules and rings. Depends on `ring_model` alone. Each law is a clause of a public function that does
+//! nothing.
 //!
-//! What is said of every ring as a whole stands in `ring_model` itself. Here is what proofs of machines and of running
-//! rings go by, step for step: states, places, lists, frames, queues, schedules and rings. A file of `specs/` passes each
-//! clause's lemma on under its name, so that a proof can cite it: a crate's own `specs/` may not name its `proofs/`, and a
-//! clause can't be cited where nothing is called, so these stand in a crate above.
+//! The laws about whole rings are in `ring_model`. A file of `specs/` re-exports each clause's lemma under its name, so
+//! that a proof can cite it: a crate's `specs/` may not name its own `proofs/`, and a clause cannot be cited where
+//! nothing is called. This is why these laws are in a crate of their own.
 #![tactic(auto)]
 
 mod frames;

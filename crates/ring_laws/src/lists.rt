@@ -1,9 +1,9 @@
-//! What holds of lists that are beginnings of others, as contracts of functions that do nothing.
+//! Laws about prefixes of lists, stated as contracts of functions that do nothing.
 ghost use Rattle.std.specs.Prelude.{◌≡◌, ℕ, ◌<◌, ◌≤◌, ◌⊎◌, List, [], ◌∷◌, ◌++◌, map, length, Some, slice_get, slice_index};
 ghost use Rattle.ring_model.specs.shared.Lists.{IsBeginning};
 ghost use Rattle.ring_model.specs.shared.Segments.{Segment, number_of_segment};
 
-/// What lies in a beginning of a list lies in the whole, and one more is the last.
+/// An item of a prefix has the same index in the whole list, and an appended item is the last.
 pub fn beginnings_agree<X>()
     ensures front { (xs : List X) (ys : List X) (k : ℕ) → k < length xs → slice_get (xs ++ ys) k ≡ slice_get xs k }
     ensures beginning_at { (xs : List X) (ys : List X) (k : ℕ) (x : X) → IsBeginning xs ys → slice_get xs k ≡ Some x → slice_get ys k ≡ Some x }

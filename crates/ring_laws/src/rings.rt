@@ -1,4 +1,4 @@
-//! What holds of every ring that a schedule gives, as contracts of functions that do nothing.
+//! Laws about every ring that a schedule reaches, stated as contracts of functions that do nothing.
 ghost use Rattle.std.specs.Prelude.{◌≡◌, ℕ, ◌<◌, ◌≤◌, Bool, true, ◌&&◌, ◌||◌, List, Some};
 ghost use Rattle.ring_model.specs.declared.handshake.Handshake.{Handshake};
 ghost use Rattle.ring_model.specs.declared.steps.RxStep.{RxStep};
@@ -16,8 +16,8 @@ ghost use Rattle.ring_model.specs.kept.Transmit.{IsTxKept};
 ghost use Rattle.ring_model.specs.transmit.Lawful.{IsLawfulTx};
 ghost use Rattle.ring_model.specs.transmit.Laws.{IsTxConcluded, TxLater};
 
-/// Of receive rings, whatever a payload is: one that a schedule gives has what every step keeps (`IsRxKept`), and what has that
-/// is lawful, concluded, and goes on as a ring has to.
+/// Receive rings, for every payload: a reachable ring has the invariant `IsRxKept`, and a ring with this invariant is
+/// lawful, concluded, and continues lawfully.
 pub fn rx_rings_are_kept<Payload>()
     ensures rx_kept { (n : ℕ) (r : RxRing Payload) → 1 < n → IsRxReachable Payload n r → IsRxKept Payload n r }
     ensures rx_lawful { (n : ℕ) (r : RxRing Payload) → IsRxKept Payload n r → IsLawfulRx Payload r }
@@ -28,8 +28,8 @@ pub fn rx_rings_are_kept<Payload>()
     ensures said_stays { (n : ℕ) (r : RxRing Payload) → IsRxKept Payload n r → (s : RxStep Payload) → rx_can r s ≡ true → rx_over r ≡ true → r.still ≡ true → (rx_changed r s).still ≡ true }
 {}
 
-/// Of transmit rings, whatever a payload is: one that a schedule gives has what every step keeps (`IsTxKept`), and what has that
-/// is lawful, concluded, and goes on as a ring has to.
+/// Transmit rings, for every payload: a reachable ring has the invariant `IsTxKept`, and a ring with this invariant is
+/// lawful, concluded, and continues lawfully.
 pub fn tx_rings_are_kept<Payload>()
     ensures tx_kept { (n : ℕ) (r : TxRing Payload) → 1 < n → IsTxReachable Payload n r → IsTxKept Payload n r }
     ensures tx_lawful { (n : ℕ) (r : TxRing Payload) → IsTxKept Payload n r → IsLawfulTx Payload r }

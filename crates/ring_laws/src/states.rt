@@ -1,4 +1,4 @@
-//! What the states of a queue's two sides tell, as contracts of functions that do nothing.
+//! Laws about the states of a queue's two sides, stated as contracts of functions that do nothing.
 ghost use Rattle.std.specs.Prelude.{◌≡◌, ℕ, true, false};
 ghost use Rattle.ring_model.specs.declared.states.DriverState.{DriverState};
 ghost use Rattle.ring_model.specs.declared.states.ControllerState.{ControllerState};
@@ -6,8 +6,7 @@ ghost use Rattle.ring_model.specs.declared.states.ControllerState.TheVariants.{S
 ghost use Rattle.ring_model.specs.shared.Handshakes.{is_new, is_on, is_open, is_live, is_answered, is_stopped, is_cleared, is_tailed, is_serving, is_ended, learned};
 ghost use Rattle.ring_model.specs.kept.Queues.{is_emptied, ShakesAs};
 
-/// What one test on a driver's or a controller's state tells of another, and which control words and values seen go with
-/// them.
+/// What one test of a driver's or controller's state implies for another, and for the control word and the value seen.
 pub fn states_tell()
     ensures new_open { (d : DriverState) → is_new d ≡ true → is_open d ≡ true }
     ensures on_open { (d : DriverState) → is_on d ≡ true → is_open d ≡ true }

@@ -1,4 +1,4 @@
--- Machines side by side: what is promised of their moves by the world that they agree with.
+-- Machines side by side: what the world that they agree with guarantees of their moves.
 use Rattle.std.specs.Prelude.{◌≡◌, ℕ, ◌≤◌, List, length, map, Some, Result, slice_get}
 use Rattle.limits.specs.declared.profile.TheConstants.{MOST_PAIRS}
 use Rattle.limits.specs.RingLength.{IsRingLength}

@@ -1,4 +1,4 @@
--- What a queue's registers hold: of a machine, and by the world that the machines agree with.
+-- The values of a queue's registers: in a machine, and in the world that the machines agree with.
 use Rattle.std.specs.Prelude.{◌≡◌, ℕ, ◌%◌, Option, option_map, slice_get}
 use Rattle.ring_model.specs.shared.Agreement.{Wrapped}
 use Rattle.ring_model.specs.shared.Handshakes.{is_serving}

@@ -1,9 +1,10 @@
-//! Receive and transmit queues of the 82599 as pure machines: words and slots by place, and places that wrap.
+//! Receive and transmit queues of the 82599 as pure machines, with words and slots by place, and places that wrap.
+//! Depends on `ring_model`, whose types it re-exports, and on `limits`, `refusals`, `arrayvec` and `text_lines`. A
+//! machine that agrees with a ring of `ring_model` agrees, after any schedule, with the ring after that schedule, and
+//! so do queues side by side with their world.
 //!
-//! What a ring is, what each atomic step changes, and what every schedule of steps keeps stands in `ring_model`, whose
-//! types are passed on from here. A machine that agrees with a ring agrees, after any schedule, with the ring after that
-//! schedule; and so do queues side by side with their world. One core of places, words and slots serves both
-//! directions. Moves have one text each, which is printed and read back.
+//! One core of places, words and slots serves both directions. Each move has one line of text, which is printed and
+//! read.
 #![tactic(auto)]
 
 mod counting;

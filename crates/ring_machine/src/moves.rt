@@ -1,4 +1,4 @@
-//! Moves: a move is one step of one queue, with its arguments in range; it is printed and read as one line.
+//! Moves. A move is one step of one queue, with its arguments in range. It is printed and read as one line.
 
 ghost use Rattle.std.specs.Prelude.{◌≡◌, ◌<◌, ◌↔◌, IsSome, IfSome};
 ghost use Rattle.limits.specs.declared.profile.TheConstants.{MOST_PAIRS};
@@ -14,7 +14,7 @@ pub use printing::MoveName;
 use ring_model::{RxStep, TxStep};
 use std::marker::Model;
 
-/// The number of a queue of its kind: 0 to 7.
+/// The number of a queue among those of its kind: 0 to 7.
 #[derive(Clone, Copy, PartialEq, Eq)]
 pub struct QueueNumber {
     number: u8,
@@ -34,7 +34,7 @@ impl Model for QueueNumber {
 }
 
 impl QueueNumber {
-    /// This number, if a queue may have it.
+    /// Returns a queue number, or `None` above 7.
     pub fn new(number: u8) -> Option<QueueNumber>
         ensures lawful { IsSome result ↔ (number < MOST_PAIRS) }
         ensures value { IfSome result (λ q. q ≡ number) }
@@ -46,7 +46,7 @@ impl QueueNumber {
         }
     }
 
-    /// The number.
+    /// Returns the number.
     pub fn number(self) -> u8
         ensures { result ≡ self }
     {
@@ -54,7 +54,7 @@ impl QueueNumber {
     }
 }
 
-/// One step of one queue. A move that can't be written can't be made.
+/// One step of one queue. Every value has a line, and no value is out of range.
 #[derive(Clone, Copy, PartialEq, Eq)]
 pub enum Move {
     /// A step of a receive queue.

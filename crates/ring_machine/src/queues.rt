@@ -24,7 +24,7 @@ use ring_model::{Completion, Note, RxStep, TxStep};
 use std::alloc::Global;
 use std::marker::Model;
 
-/// Receive and transmit queues, each numbered from 0. A move names one of them and leaves all others alone.
+/// Receive and transmit queues, each numbered from 0. A move names one of them and leaves all others unchanged.
 #[derive(Drop)]
 pub struct Queues {
     receive: Vec<RxMachine>,
@@ -39,7 +39,7 @@ impl Model for Queues {
     ghost view = { queue_parts_of };
 }
 
-// So many receive queues as they are made.
+// Makes `pairs` receive queues.
 fn receive_queues(
     alloc: Global,
     pairs: usize,
@@ -60,7 +60,7 @@ fn receive_queues(
     Ok(queues)
 }
 
-// So many transmit queues as they are made.
+// Makes `pairs` transmit queues.
 fn transmit_queues(
     alloc: Global,
     pairs: usize,
@@ -83,10 +83,10 @@ fn transmit_queues(
 }
 
 impl Queues {
-    /// So many pairs of a receive and a transmit queue, 1 to 8, each of `n` descriptors, with nothing posted, enabled
-    /// and seen enabled or never enabled; the transmit queues report by their descriptors. It answers `RingLength`
-    /// where there may not be so many or `n` is no power of two from 8 to 4,096, and `Memory` only where memory was
-    /// refused.
+    /// Makes `pairs` pairs of a receive and a transmit queue, 1 to 8, each of `n` descriptors with nothing posted:
+    /// enabled and seen enabled if `enabled`, else never enabled. The transmit queues report by their descriptors.
+    /// Returns `RingLength` if `pairs` is out of range or `n` is not a power of two from 8 to 4,096, and `Memory` only
+    /// if memory was refused.
     pub fn new(alloc: Global, pairs: usize, n: usize, enabled: bool) -> Result<Queues, MachineError>
         ensures refused { (result ≡ Err RingLength) ↔ ¬ (AreQueues pairs n) }
         ensures error { IfErr result (λ e. (e ≡ RingLength) ⊎ (e ≡ Memory)) }
@@ -95,7 +95,7 @@ impl Queues {
         Queues::new_with(alloc, pairs, n, enabled, Completion::Status)
     }
 
-    /// The same queues, whose transmit queues report as they are told.
+    /// Like `new`, with transmit queues that report as `completion` says.
     pub fn new_with(
         alloc: Global,
         pairs: usize,
@@ -115,14 +115,14 @@ impl Queues {
         Ok(Queues { receive, transmit })
     }
 
-    /// The receive queue of this number, if it is there.
+    /// Returns the receive queue of this number, or `None` if there is none.
     pub fn receive(&self, queue: QueueNumber) -> Option<&RxMachine>
         ensures { option_map (λ m. m.now) result ≡ slice_get self.now.receive queue }
     {
         self.receive.get(usize::from(queue.number()))
     }
 
-    /// What the registers of the queue that a move names hold now, if the queue is there.
+    /// Returns the register values of the queue that a move names, or `None` if there is no such queue.
     #[tactic(auto, using(crate::proofs::Reading::read_at))]
     pub fn registers(&self, action: &Move) -> Option<Registers>
         ensures { QueuesRead self.now action.now result }
@@ -139,14 +139,14 @@ impl Queues {
         }
     }
 
-    /// The transmit queue of this number, if it is there.
+    /// Returns the transmit queue of this number, or `None` if there is none.
     pub fn transmit(&self, queue: QueueNumber) -> Option<&TxMachine>
         ensures { option_map (λ m. m.now) result ≡ slice_get self.now.transmit queue }
     {
         self.transmit.get(usize::from(queue.number()))
     }
 
-    // The step of a receive queue, or 11 where it does not have it or is not there.
+    // Makes a step of a receive queue. Returns `NotEnabled` if the queue cannot make it or does not exist.
     fn receive_step(
         &mut self,
         queue: QueueNumber,
@@ -161,7 +161,7 @@ impl Queues {
         machine.step(step)
     }
 
-    // The step of a transmit queue, or 11 where it does not have it or is not there.
+    // Makes a step of a transmit queue. Returns `NotEnabled` if the queue cannot make it or does not exist.
     fn transmit_step(
         &mut self,
         queue: QueueNumber,
@@ -176,8 +176,8 @@ impl Queues {
         machine.step(step)
     }
 
-    /// Makes one move. Where its queue has no such step, or is not there, it answers `NotEnabled`. An `Err` leaves the
-    /// queues as they were.
+    /// Makes one move. Returns `NotEnabled` if its queue cannot make the step or does not exist. An `Err` leaves the
+    /// queues unchanged.
     pub fn step(&mut self, action: Move) -> Result<Note, MachineError>
         ensures follows { QueuesFollow self.old action result self.new }
         ensures refused { IfErr result (λ e. (e ≡ NotEnabled) × (self.new ≡ self.old)) }
@@ -188,7 +188,7 @@ impl Queues {
         }
     }
 
-    /// Makes each move that its queue has when its turn comes, passes over the others, and answers how many it made.
+    /// Makes each move that its queue can make at its turn, skips the others, and returns the number of moves made.
     pub fn run(&mut self, moves: &[Move]) -> usize
         ensures { QueuesRun self.old moves.now result self.new }
     {

@@ -1,4 +1,4 @@
--- Several queues side by side: each move names its queue, and leaves all others alone.
+-- Several queues side by side: each move names its queue and leaves all others unchanged.
 use Rattle.std.specs.Prelude.{◌≡◌, ◌≢◌, ℕ, Bool, false, List, length, replicate, Option, Some, None, slice_get, slice_set, if◌then◌else◌}
 use Rattle.ring_model.specs.declared.steps.RxStep.{RxStep}
 use Rattle.ring_model.specs.declared.steps.TxStep.{TxStep}

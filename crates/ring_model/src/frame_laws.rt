@@ -1,4 +1,4 @@
-//! What holds of frames, as contracts of functions that do nothing.
+//! Laws about frames, stated as contracts of functions that do nothing.
 ghost use Rattle.std.specs.Prelude.{◌≡◌, ℕ, ◌<◌, List, [], ◌∷◌, map, length, Some, slice_get};
 ghost use Rattle.ring_model.specs.shared.Lists.{IsBeginning};
 ghost use Rattle.ring_model.specs.shared.Frames.{Bytes, cut, itself, join, chains, frames, AllFollow, HasFrameLength, IsChain, IsCutBy};
@@ -6,9 +6,9 @@ ghost use Rattle.ring_model.specs.shared.Segments.{Segment, piece_of};
 ghost use Rattle.ring_model.specs.transmit.Ring.{Posting, carried};
 ghost use Rattle.ring_model.specs.transmit.Frames.{AllMayFollow};
 
-/// A frame that is cut into pieces of `b` bytes has full pieces but for its last, which alone ends it, and is the same
-/// frame again when its pieces are put together, and when they are stored as segments or posted. More segments leave the
-/// frames before them as they are.
+/// A frame cut into pieces of `b` bytes has full pieces except for the last, which alone ends it. Joining the pieces
+/// restores the frame, also when they are stored as segments or posted. More segments leave the frames before them
+/// unchanged.
 pub fn frames_are_rejoined()
     ensures cut { (b : ℕ) (f : Bytes) → 0 < b → 0 < length f → IsCutBy b (cut b f) }
     ensures pieces { (b : ℕ) (f : Bytes) → 0 < b → join itself (cut b f) ≡ f }
@@ -18,9 +18,9 @@ pub fn frames_are_rejoined()
     ensures posted_beginnings { (xs : List (Posting Bytes)) (ys : List (Posting Bytes)) → IsBeginning xs ys → IsBeginning (frames carried xs) (frames carried ys) }
 {}
 
-/// Where each segment follows the unfinished frame before it, every frame has a lawful length, and is a chain of 1 to 15
-/// segments, at most as many as may be out, of 1 to 2,048 bytes each. So it is for postings, and the PAYLEN of each
-/// descriptor is the length of its whole frame.
+/// If each segment may follow the unfinished frame before it, every frame has a lawful length. It is a chain of 1 to 15
+/// segments of 1 to 2,048 bytes each, and of at most `n - 1` segments in a ring of `n`. The same holds for postings,
+/// and the PAYLEN of each descriptor is the length of its whole frame.
 pub fn chains_are_lawful()
     ensures stored { (n : ℕ) (ss : List (Segment Bytes)) → AllFollow piece_of n ss → (k : ℕ) (f : Bytes) → slice_get (frames piece_of ss) k ≡ Some f → HasFrameLength f }
     ensures posted { (n : ℕ) (ps : List (Posting Bytes)) → AllMayFollow n ps → (k : ℕ) (f : Bytes) → slice_get (frames carried ps) k ≡ Some f → HasFrameLength f }

@@ -1,18 +1,19 @@
-//! The handshake over the control word (82599 datasheet, RXDCTL.ENABLE and TXDCTL.ENABLE), the same for both directions.
+//! The handshake over the control word (82599 datasheet, RXDCTL.ENABLE and TXDCTL.ENABLE), the same for both
+//! directions.
 
 ghost use Rattle.std.specs.Prelude.{◌≡◌, if◌then◌else◌};
 
 use crate::states::{ControllerState, DriverState};
 use crate::steps::ControlStep;
 
-/// The control word, the last control value that the controller loaded or answered, and how far each side is.
+/// The control word, the control value that the controller last loaded or stored, and the state of each side.
 ///
 /// Control is 0 disabled, 1 enabling asked, 2 enabled, 3 disabling asked.
 #[derive(Clone, Copy)]
 pub struct Handshake {
     /// The control word.
     pub control: u8,
-    /// What the controller loaded last, or answered since.
+    /// The control value that the controller last loaded or stored.
     pub seen: u8,
     /// How far the driver is.
     pub driver: DriverState,
@@ -23,7 +24,7 @@ pub struct Handshake {
 impl Handshake {
     ghost use Rattle.ring_model.specs.shared.Handshakes.{can_enable, control_value, disable, enable, first_handshake, may_shake, shaken};
 
-    /// How a queue begins: enabled and seen enabled on both sides, or never enabled.
+    /// Returns the handshake of a new queue: enabled and seen enabled on both sides, or never enabled.
     pub fn first(enabled: bool) -> Handshake
         ensures { result ≡ first_handshake enabled }
     {
@@ -51,7 +52,7 @@ impl Handshake {
         self.seen == 1 && !self.controller.is_serving()
     }
 
-    /// Whether this step can happen; `settled` says whether a disabling may be answered now.
+    /// Whether this step can happen. `settled` says whether a disabling may be answered now.
     pub fn may_shake(self, step: ControlStep, settled: bool) -> bool
         ensures { result ≡ may_shake self step settled }
     {
@@ -65,7 +66,7 @@ impl Handshake {
         }
     }
 
-    /// The control value that this step stores or loads.
+    /// Returns the control value that this step stores or loads.
     pub fn control_value(self, step: ControlStep) -> u8
         ensures { result ≡ control_value self step }
     {
@@ -77,7 +78,7 @@ impl Handshake {
         }
     }
 
-    /// The handshake after this step, which can happen.
+    /// Returns the handshake after this step, assuming that it can happen.
     pub fn shaken(self, step: ControlStep) -> Handshake
         ensures { result ≡ shaken self step }
     {
@@ -104,7 +105,7 @@ impl Handshake {
         }
     }
 
-    // The handshake after the controller's answer.
+    // Returns the handshake after the controller's answer.
     fn answered(self) -> Handshake
         ensures { result ≡ (if can_enable self then enable self else disable self) }
     {

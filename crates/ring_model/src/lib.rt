@@ -1,10 +1,11 @@
-//! What receive and transmit queues of the 82599 are, as plain data: segments and frames, rings, their steps, and what
-//! every schedule of steps keeps. The pure machines and the running rings cite the same definitions.
+//! Receive and transmit queues of the 82599 as plain data: segments and frames, rings, their atomic steps, and what
+//! every schedule of steps preserves. Depends on `limits` alone. The laws hold for every ring that a schedule reaches;
+//! they are contracts of functions that do nothing.
 //!
-//! The definitions stand in `specs/`: what both directions share in `shared`, what is a direction's own in `receive` and
-//! `transmit`, queues side by side in `Worlds`, and the texts of notes. Apart from these, `kept` has what every step keeps,
-//! and `rows` the worked rows. The laws are contracts of functions that do nothing; those that proofs of crates above go
-//! by, step for step, are in `ring_laws`. Nothing here wraps but the place of an item, and nothing knows of threads.
+//! The pure machines and the running rings use the same definitions, which are in `specs/`: `shared` for both
+//! directions, `receive` and `transmit` for one, `Worlds` for queues side by side, `NoteTexts` for the texts of notes,
+//! `kept` for the invariants of steps, and `rows` for the worked rows. `ring_laws` has the laws that proofs of other
+//! crates use step by step. Only the place of an item wraps, and nothing here knows of threads.
 #![tactic(auto)]
 
 mod frame_laws;

@@ -1,4 +1,4 @@
-//! How notes are printed.
+//! The printed form of notes.
 
 ghost use Rattle.std.specs.Prelude.{Some};
 ghost use Rattle.ring_model.specs.NoteTexts.{note_text};

@@ -1,49 +1,49 @@
-//! What a step tells of itself: one variant for each row of the table of notes.
+//! Notes: what a step reports about itself. [`Note`] has one variant for each row of the table of notes.
 
-/// What a taken descriptor says.
+/// The contents of a taken receive descriptor.
 #[derive(Clone, Copy, PartialEq, Eq)]
 pub struct TakenSegment {
-    /// The buffer's number.
+    /// The number of the buffer.
     pub buffer: u16,
-    /// The bytes in it.
+    /// The number of bytes in it.
     pub len: u32,
-    /// Whether it ends its frame.
+    /// Whether the segment ends its frame (EOP).
     pub eop: bool,
 }
 
-/// What a fetched transmit descriptor says.
+/// The contents of a fetched transmit descriptor.
 #[derive(Clone, Copy, PartialEq, Eq)]
 pub struct FetchedSegment {
-    /// The buffer's number.
+    /// The number of the buffer.
     pub buffer: u16,
-    /// The bytes in it.
+    /// The number of bytes in it.
     pub len: u16,
-    /// Whether it ends its frame.
+    /// Whether the segment ends its frame (EOP).
     pub eop: bool,
-    /// Whether a report is asked for.
+    /// Whether the descriptor asks for a report (RS).
     pub rs: bool,
 }
 
-/// What a step tells of itself. Places, heads and tails are below the ring's length.
+/// The note of a step. Places, heads and tails are below the ring's length.
 #[derive(Clone, Copy, PartialEq, Eq)]
 pub enum Note {
     /// The place that was posted or written back.
     Place(u16),
-    /// The tail that was stored.
+    /// The stored tail.
     Tail(u16),
-    /// How many descriptors the controller of a receive queue knows to be free.
+    /// How many free descriptors the controller of a receive queue knows of.
     Free(u16),
-    /// How many descriptors the controller of a transmit queue knows to be ready.
+    /// How many ready descriptors the controller of a transmit queue knows of.
     Ready(u16),
-    /// The place that was fetched, and the buffer's number.
+    /// The fetched place, and the number of its buffer.
     Fetched(u16, u16),
-    /// The place that was fetched to be sent, and what its descriptor says.
+    /// The place fetched for sending, and the contents of its descriptor.
     Sending(u16, FetchedSegment),
-    /// The segment that was taken, if DD was set.
+    /// The taken segment, or `None` if DD was not set.
     Taken(Option<TakenSegment>),
-    /// The place whose report was seen, if there is one.
+    /// The place whose report was seen, or `None` if the report is not made yet.
     Reported(Option<u16>),
-    /// The head that was stored.
+    /// The stored head.
     Head(u16),
     /// The number of the buffer that came out.
     Buffer(u16),

@@ -1,9 +1,9 @@
-//! Places of a ring: they wrap at its length.
+//! Places of a ring, which wrap at its length.
 
 ghost use Rattle.std.specs.Prelude.{◌≡◌, ◌<◌};
 ghost use Rattle.ring_model.specs.shared.Places.{between_places, place_next};
 
-/// The place after this one.
+/// Returns the place after this one.
 #[inline]
 pub fn place_after(place: u16, size: u16) -> u16
     requires { place < size }
@@ -13,7 +13,7 @@ pub fn place_after(place: u16, size: u16) -> u16
     if place + 1 == size { 0 } else { place + 1 }
 }
 
-/// How many places lie from `from` up to `to`.
+/// Returns the number of places from `from` up to, but not including, `to`.
 #[inline]
 pub fn places_between(from: u16, to: u16, size: u16) -> u16
     requires from { from < size }

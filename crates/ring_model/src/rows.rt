@@ -1,4 +1,4 @@
-//! Worked rows: what schedules tell and how frames are cut, computed from the definitions alone.
+//! Worked rows: the notes of schedules and the pieces of frames, computed from the definitions alone.
 
 ghost use Rattle.ring_model.specs.rows.Frames.{CutRows, FollowRows};
 ghost use Rattle.ring_model.specs.rows.Receive.{RxRows};
@@ -8,8 +8,9 @@ ghost use Rattle.ring_model.specs.rows.TransmitStates.{TxStateRows};
 ghost use Rattle.ring_model.specs.rows.Postings.{PostingRows};
 ghost use Rattle.ring_model.specs.rows.Worlds.{WorldRows};
 
-/// The notes of each schedule, the pieces of each frame, and what may follow an unfinished frame are those that were
-/// worked out apart from the definitions: by hand, and the notes of the rows of states by a machine of plain lists.
+/// The definitions give the expected notes of each schedule, pieces of each frame, and segments that may follow an
+/// unfinished frame. The expected values were worked out independently: by hand, and for the rows of states by a
+/// machine of plain lists.
 pub fn worked_rows()
     ensures cut { CutRows }
     ensures follow { FollowRows }

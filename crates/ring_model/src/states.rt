@@ -1,32 +1,32 @@
-//! Who has a place, how far each side is in enabling and disabling a queue, and how a transmit queue reports.
+//! Who owns a place, how far each side is in enabling and disabling a queue, and how a transmit queue reports.
 
-/// Who has a place of a ring, with its buffer.
+/// The owner of a place of a ring and its buffer.
 #[derive(Clone, Copy, PartialEq, Eq)]
 pub enum Owner {
-    /// It can post a buffer there, or it took the buffer from there.
+    /// The driver can post a buffer there, or took the buffer from there.
     Driver,
-    /// A buffer lies there, posted or written back.
+    /// The place holds a buffer, posted or written back.
     Ring,
-    /// The controller has fetched the descriptor and not yet given it back.
+    /// The controller has fetched the descriptor and has not given it back yet.
     Controller,
 }
 
-/// How far the driver is with a queue.
+/// How far the driver is in enabling and disabling a queue.
 #[derive(Clone, Copy, PartialEq, Eq)]
 pub enum DriverState {
-    /// Nothing was asked yet, in this epoch.
+    /// It has asked for nothing in this epoch.
     New,
-    /// Enabling was asked, and not yet seen answered.
+    /// It asked for enabling, and has not seen the answer.
     Asked,
-    /// The queue was seen enabled.
+    /// It saw the queue enabled.
     On,
-    /// Disabling was asked, and not yet seen answered.
+    /// It asked for disabling, and has not seen the answer.
     Stopping,
-    /// The disabling was seen answered.
+    /// It saw the disabling answered.
     Stopped,
-    /// The head was cleared for the next epoch.
+    /// It cleared the head for the next epoch.
     Cleared,
-    /// The tail was cleared too.
+    /// It cleared the tail too.
     Tailed,
 }
 
@@ -34,7 +34,7 @@ impl DriverState {
     ghost use Rattle.std.specs.Prelude.{◌≡◌};
     ghost use Rattle.ring_model.specs.shared.Handshakes.{is_cleared, is_live, is_new, is_on, is_open, is_stopped, is_tailed, learned};
 
-    /// Whether the driver may post and publish: no disabling was asked in this epoch.
+    /// Whether the driver may post and publish: it has not asked for disabling in this epoch.
     #[inline]
     pub fn is_open(self) -> bool
         ensures { result ≡ is_open self }
@@ -45,7 +45,7 @@ impl DriverState {
         )
     }
 
-    /// Whether the driver may look for completed work: the queue was seen enabled, and not yet seen disabled.
+    /// Whether the driver may look for completed work: it saw the queue enabled, and has not seen it disabled.
     #[inline]
     pub fn is_live(self) -> bool
         ensures { result ≡ is_live self }
@@ -53,7 +53,7 @@ impl DriverState {
         matches!(self, DriverState::On | DriverState::Stopping)
     }
 
-    /// Whether nothing was asked yet in this epoch.
+    /// Whether the driver has asked for nothing in this epoch.
     #[inline]
     pub fn is_new(self) -> bool
         ensures { result ≡ is_new self }
@@ -61,7 +61,7 @@ impl DriverState {
         matches!(self, DriverState::New)
     }
 
-    /// Whether the queue was seen enabled, and no disabling asked.
+    /// Whether the driver saw the queue enabled, and has not asked for disabling.
     #[inline]
     pub fn is_on(self) -> bool
         ensures { result ≡ is_on self }
@@ -69,7 +69,7 @@ impl DriverState {
         matches!(self, DriverState::On)
     }
 
-    /// Whether the disabling was seen answered, and nothing cleared since.
+    /// Whether the driver saw the disabling answered, and has cleared nothing since.
     #[inline]
     pub fn is_stopped(self) -> bool
         ensures { result ≡ is_stopped self }
@@ -93,7 +93,7 @@ impl DriverState {
         matches!(self, DriverState::Tailed)
     }
 
-    /// What the driver knows once it has loaded this control value, from 0 to 3.
+    /// Returns the state after loading this control value, 0 to 3.
     #[inline]
     pub fn learned(self, control: u8) -> DriverState
         ensures { result ≡ learned self control }
@@ -106,7 +106,7 @@ impl DriverState {
     }
 }
 
-/// How far the controller is with a queue.
+/// How far the controller is in enabling and disabling a queue.
 #[derive(Clone, Copy, PartialEq, Eq)]
 pub enum ControllerState {
     /// It never served the queue.
@@ -121,7 +121,7 @@ impl ControllerState {
     ghost use Rattle.std.specs.Prelude.{◌≡◌};
     ghost use Rattle.ring_model.specs.shared.Handshakes.{is_serving};
 
-    /// Whether it answered the enabling, and no disabling since.
+    /// Whether the controller answered the enabling, and no disabling since.
     #[inline]
     pub fn is_serving(self) -> bool
         ensures { result ≡ is_serving self }
@@ -130,12 +130,12 @@ impl ControllerState {
     }
 }
 
-/// How a transmit queue's controller reports that frames are sent.
+/// How the controller of a transmit queue reports sent frames.
 #[derive(Clone, Copy, PartialEq, Eq)]
 pub enum Completion {
     /// It stores DD in the descriptor that asked for the report.
     Status,
-    /// It stores its head in a word of its own, after the queue's other words.
+    /// It stores its head in a separate word, after the queue's other words.
     Head,
 }
 

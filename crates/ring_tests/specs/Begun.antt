@@ -1,4 +1,4 @@
--- The postings of a frame that is begun say one length of the frame.
+-- All postings of an unfinished frame give the same frame length.
 use Rattle.std.specs.Prelude.{◌≡◌, ℕ, List, Some, slice_get}
 use Rattle.tx_ring.specs.Records.{Posting}
 

@@ -1,4 +1,4 @@
--- What a controller holds between a fetch and its write-back.
+-- The buffer that a controller holds between a fetch and its write-back.
 use Rattle.std.specs.Prelude.{[], Option, Some, None}
 use Rattle.buffer_pool.specs.Buffer.{Buffer, buffer}
 

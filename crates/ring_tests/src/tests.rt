@@ -1,4 +1,4 @@
-//! The tests: `receive` and `transmit` of the running rings, the others of machines and their texts.
+//! The tests: `receive` and `transmit` for the running rings, the others for machines and their texts.
 
 mod back;
 mod machine_tests;

@@ -1,4 +1,4 @@
--- What the calls of both ends do, where their answer depends on what was loaded; and what the fields of an end keep.
+-- The effects of both ends' calls whose result depends on a loaded value, and the invariants of an end's fields.
 use Rattle.std.specs.Prelude.{◌≡◌, ℕ, ◌+◌, ◌%◌, ◌<◌, Bool, true, false, ◌||◌, ◌&&◌, [], ◌∷◌, ◌++◌, length, Option, Some, None, slice_get, ◌==◌}
 use Rattle.buffer_pool.specs.Buffer.{Buffer, buffer}
 use Rattle.ring_model.specs.receive.Agreement.{rx_word}

@@ -1,4 +1,4 @@
--- What is of the receive direction.
+-- The parts of the receive direction.
 use Rattle.std.specs.Prelude.{◌≡◌, ℕ, true, List, []}
 use mathlib.Core.Option as maybe
 use Rattle.buffer_pool.specs.Buffer.{Buffer, buffer}

@@ -1,4 +1,4 @@
--- What both ends know together: as they are made, as they meet, and as the ring is closed.
+-- What the two ends together establish: when they are made, when they meet, and when the ring is closed.
 use Rattle.std.specs.Prelude.{◌≡◌, ℕ, ◌+◌, ◌-◌, ◌%◌, List, length, Option, Some, slice_get}
 use Rattle.atomic_table.specs.Seated.{TableId}
 use Rattle.buffer_pool.specs.Buffer.{Buffer}

@@ -1,4 +1,4 @@
--- The receive ring's own steps: the event of each, and what it tells beside that.
+-- The steps that only the receive ring has: the event of each, and what else it establishes.
 use Rattle.std.specs.Prelude.{◌≡◌, ℕ, ◌%◌, ◌≤◌, Bool, ◌==◌, List, length, Some, slice_get}
 use Rattle.buffer_pool.specs.Buffer.{Buffer, buffer}
 use Rattle.ring_model.specs.shared.Frames.{Follows, unfinished}

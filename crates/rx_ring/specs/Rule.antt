@@ -1,4 +1,5 @@
--- The rule of a receive ring's table: between any two steps words, slots and both records agree with one ring that a schedule makes.
+-- The rule of a receive ring's table: between any two steps, the words, the slots and both records agree with one ring
+-- that a schedule reaches.
 use Rattle.std.specs.Prelude.{◌≡◌, ℕ, ◌+◌, ◌%◌, true, List, [], length, Option, Some}
 use mathlib.Core.Option as maybe
 use Rattle.buffer_pool.specs.Buffer.{Buffer, buffer}

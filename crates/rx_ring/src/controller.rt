@@ -1,4 +1,4 @@
-//! The controller's end: it answers enabling and disabling, loads the tail, fetches posted buffers, writes them back
+//! The controller's end: answers enabling and disabling, loads the tail, fetches posted buffers, writes them back
 //! filled, and stores the head.
 ghost use Rattle.std.specs.Prelude.{◌≡◌, ◌+◌, ◌<◌, true, false, [], ◌∷◌, ◌++◌, length, Some, None};
 ghost use Rattle.buffer_pool.specs.Buffer.{buffer};
@@ -24,13 +24,13 @@ use std::marker::Model;
 
 /// The controller's end of a receive ring. Contracts see the ring's identity and the record of the end's own steps.
 ///
-/// Whether a call's condition holds is told by `is_serving`, `is_holding`, `is_between_frames`, `has_finished`,
-/// `can_answer` and `free`.
+/// `is_serving`, `is_holding`, `is_between_frames`, `has_finished`, `can_answer` and `free` test the conditions of its
+/// calls.
 #[derive(Drop)]
 pub struct RxControllerEnd {
     pub(crate) seat: RxControllerSeat,
     pub(crate) at: ControllerPlaces,
-    // the head that was stored last: a place
+    // the head that the end stored last: a place
     head: u16,
     // whether the end said in this epoch that it stores no more
     finished: bool,
@@ -63,7 +63,7 @@ impl RxControllerEnd {
         }
     }
 
-    /// How many descriptors the end knows to be free: from the next one up to the tail that it loaded last.
+    /// How many descriptors the end knows to be free, from the next one up to the tail that it loaded last.
     #[inline]
     pub fn free(&self) -> u32
         ensures { result ≡ known_free self.now }
@@ -86,8 +86,8 @@ impl RxControllerEnd {
         buf
     }
 
-    /// Puts the fetched buffer back, and stores the write-back of its bytes: DD, the length, and EOP where they end
-    /// the frame (82599 datasheet, 7.1.6.2). The bytes have to be ones that may follow the frame's segments so far.
+    /// Puts the fetched buffer back and stores its write-back: DD, the length, and EOP if its bytes end the frame
+    /// (82599 datasheet, 7.1.6.2). The bytes must be allowed after the frame's segments so far.
     #[inline]
     pub fn write_back(&mut self, ring: &RxRing, buf: Buf, eop: bool)
         requires own { self.old.table ≡ ring.now }
@@ -104,7 +104,7 @@ impl RxControllerEnd {
         self.at.between = eop;
     }
 
-    /// Stores the head (RDH): the place after that of the last stored segment.
+    /// Stores the head (RDH): the place after the last stored segment.
     #[inline]
     pub fn set_head(&mut self, ring: &RxRing)
         requires own { self.old.table ≡ ring.now }
@@ -119,7 +119,7 @@ impl RxControllerEnd {
         self.head = self.at.serve;
     }
 
-    /// Whether the end said that it stores no more in this epoch.
+    /// Whether the end said in this epoch that it stores no more.
     #[inline]
     pub fn has_finished(&self) -> bool
         ensures { result ≡ is_quiet self.now }

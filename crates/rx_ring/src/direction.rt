@@ -3,7 +3,8 @@
 use crate::events::{RxControllerOwn, RxDriverOwn};
 use shared_ring::{ControllerSeat, Direction, DriverSeat, Ring};
 
-/// Between any two steps, the words, the slots and both records agree with one ring that a schedule makes.
+/// The rule of a receive ring: between any two steps, the words, the slots and both records agree with one ring that a
+/// schedule reaches.
 pub struct RxRule;
 
 impl Direction<RxDriverOwn, RxControllerOwn> for RxRule {

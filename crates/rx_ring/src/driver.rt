@@ -1,5 +1,5 @@
-//! The driver's end: it enables and disables the queue, posts empty buffers, publishes them by the tail, and takes what
-//! was written back.
+//! The driver's end: enables and disables the queue, posts empty buffers, publishes them by the tail, and takes buffers
+//! that were written back.
 ghost use Rattle.std.specs.Prelude.{◌≡◌, ◌+◌, ◌-◌, ◌<◌, true, [], ◌∷◌, ◌++◌, length, Some};
 ghost use Rattle.buffer_pool.specs.Buffer.{buffer};
 ghost use Rattle.ring_model.specs.shared.Agreement.{bit};
@@ -21,27 +21,27 @@ use ring_model::{place_after, places_between};
 use shared_ring::{Control, DriverEnd, DriverPlaces, HandshakeStep};
 use std::marker::Model;
 
-/// What a look at the next descriptor found.
+/// The result of a poll of the next descriptor.
 #[derive(Drop)]
 pub enum Poll {
     /// DD was set.
     Segment {
         /// The buffer, with the bytes that were written to it.
         buf: Buf,
-        /// EOP: whether they end their frame.
+        /// Whether the bytes end their frame (EOP).
         eop: bool,
     },
-    /// The next descriptor was loaded, and had no DD.
+    /// The next descriptor was loaded, and DD was not set.
     NotDone,
-    /// Nothing is posted that did not come back. No step was made.
+    /// No posted buffer is out. No step was made.
     Empty,
-    /// The queue was not seen enabled, or its disabling was seen answered. No step was made.
+    /// The end has not seen the queue enabled, or saw its disabling answered. No step was made.
     Off,
 }
 
 /// The driver's end of a receive ring. Contracts see the ring's identity and the record of the end's own steps.
 ///
-/// Whether a call's condition on the state holds is told by `is_new`, `is_open`, `is_live`, `is_on` and `is_stopped`.
+/// `is_new`, `is_open`, `is_live`, `is_on` and `is_stopped` test the state that a call requires.
 #[derive(Drop)]
 pub struct RxDriverEnd {
     pub(crate) seat: RxDriverSeat,
@@ -70,8 +70,8 @@ impl RxDriverEnd {
         RxDriverEnd { seat, at }
     }
 
-    /// Posts an empty buffer at the next place: it goes into the slot, and the descriptor becomes 0, so that DD is
-    /// clear. The controller sees it once it is published.
+    /// Posts an empty buffer at the next place: puts it into the slot and stores 0 as the descriptor, which clears DD.
+    /// The controller sees it after `publish`.
     #[inline]
     pub fn post(&mut self, ring: &RxRing, buf: Buf)
         requires own { self.old.table ≡ ring.now }
@@ -87,7 +87,7 @@ impl RxDriverEnd {
         self.at.out += 1;
     }
 
-    /// Stores the tail (RDT): all that is posted is the controller's to fill.
+    /// Stores the tail (RDT), which gives all posted buffers to the controller.
     #[inline]
     pub fn publish(&mut self, ring: &RxRing)
         requires own { self.old.table ≡ ring.now }
@@ -99,8 +99,8 @@ impl RxDriverEnd {
         self.seat.publish(&ring.0, self.at.fill);
     }
 
-    /// Loads the next descriptor, and takes its buffer where DD is set. A chain of segments that ends with EOP is a
-    /// lawful frame of the order in which it was stored.
+    /// Loads the next descriptor, and takes its buffer if DD is set. The segments up to one with EOP form a lawful
+    /// frame, in the order in which they were stored.
     #[inline]
     pub fn poll(&mut self, ring: &RxRing) -> Poll
         requires own { self.old.table ≡ ring.now }
@@ -123,8 +123,8 @@ impl RxDriverEnd {
         }
     }
 
-    /// Loads the quiet word: whether the controller said that it stores no more. Once it did, and a later `poll`
-    /// answers `NotDone` or `Empty`, all that was stored is taken.
+    /// Loads the quiet word. Returns whether the controller said that it stores no more. If it did, and a later `poll`
+    /// returns `NotDone` or `Empty`, everything stored is taken.
     #[inline]
     pub fn is_quiet(&mut self, ring: &RxRing) -> bool
         requires own { self.old.table ≡ ring.now }
@@ -136,8 +136,8 @@ impl RxDriverEnd {
         steps::load_quiet(&mut self.seat, &ring.0)
     }
 
-    /// Loads the head, and answers how many segments were stored and not taken when the disabling was answered. It
-    /// stays so: nothing more is stored in this epoch.
+    /// Loads the head. Returns the number of segments that were stored and not taken when the disabling was answered.
+    /// The number is final: nothing more is stored in this epoch.
     #[inline]
     pub fn left(&mut self, ring: &RxRing) -> u32
         requires own { self.old.table ≡ ring.now }
@@ -149,8 +149,8 @@ impl RxDriverEnd {
         places_between(self.at.next, head, self.at.size) as u32
     }
 
-    /// Takes the oldest buffer that is out back, of a queue whose disabling was seen answered; none where all came
-    /// back. Its bytes are whatever was written to it.
+    /// Takes back the oldest buffer that is out, after the disabling was seen answered. Returns `None` if all are back.
+    /// The buffer has whatever bytes were written to it.
     #[inline]
     pub fn reclaim(&mut self, ring: &RxRing) -> Option<Buf>
         requires own { self.old.table ≡ ring.now }
@@ -161,8 +161,8 @@ impl RxDriverEnd {
         self.seat.reclaim_next(&ring.0, &mut self.at)
     }
 
-    /// Clears head, tail and quiet word of a queue from which all buffers came back, so that it can be enabled again:
-    /// a new epoch begins.
+    /// Clears the head, the tail and the quiet word once all buffers are back, so that the queue can be enabled again.
+    /// A new epoch begins.
     pub fn renew(&mut self, ring: &RxRing)
         requires own { self.old.table ≡ ring.now }
         requires stopped { is_stopped (driver_state self.old) ≡ true }

@@ -1,26 +1,25 @@
-//! What an end's record has in it beside the steps that both directions share. Values of these types are in proofs
-//! alone: no code makes one.
+//! The events that only the receive ring's ends record. Values of these types exist in proofs only: no code makes one.
 
 use buffer_pool::Buf;
 use shared_ring::{ControllerEvent, DriverEvent};
 
-/// A step of a receive driver's own, with the place and the word that it stored or loaded.
+/// A step that only a receive driver has, with the place and the word that it stored or loaded.
 pub enum RxDriverOwn {
-    /// A6: a descriptor without DD was loaded.
+    /// A6: loaded a descriptor without DD.
     NotDone(u64, u64),
-    /// A6: a descriptor with DD was loaded, and this buffer taken out of its slot.
+    /// A6: loaded a descriptor with DD, and took this buffer out of its slot.
     Taken(u64, u64, Buf),
-    /// C8: the quiet word was loaded.
+    /// C8: loaded the quiet word.
     LoadedQuiet(u64),
-    /// C11: the quiet word was stored as 0.
+    /// C11: stored 0 as the quiet word.
     ClearedQuiet,
 }
 
-/// A step of a receive controller's own.
+/// A step that only a receive controller has.
 pub enum RxControllerOwn {
-    /// A5: a descriptor was written back, and this buffer put into its slot.
+    /// A5: wrote a descriptor back, and put this buffer into its slot.
     WroteBack(u64, u64, Buf),
-    /// C7: the quiet word was stored as 1.
+    /// C7: stored 1 as the quiet word.
     SaidQuiet,
 }
 

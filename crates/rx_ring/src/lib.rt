@@ -1,16 +1,19 @@
-//! One receive ring of the 82599 that a driver and a controller share without a lock, each in a thread of its own.
+//! A receive ring of the 82599 that a driver and a controller share without a lock, each in its own thread. Depends on
+//! `shared_ring`, `ring_model`, `buffer_pool`, `descriptor` and `limits`, and on `atomic_table` in contracts.
+//! Guarantees for every interleaving that the taken segments are a prefix of the stored ones, byte for byte, each once
+//! and in order.
 //!
 //! A ring has a word for each descriptor, a head, a tail, a control word and a quiet word, and a slot for a buffer at
-//! each place. Each call of an end is one sequentially consistent load or store of one word, or none, but for `renew`,
-//! which makes three stores; and a slot is exchanged only by the end to which that step gave it. No call takes a lock or
-//! waits: none is passed what it would need for that.
+//! each place. Each call of an end makes one sequentially consistent load or store of one word, or none; only `renew`
+//! makes three stores. A slot's buffer is exchanged only by the end to which a step gave the slot. No call locks or
+//! waits: none takes a parameter that would let it.
 //!
-//! A ring begins disabled. The driver asks for it to be enabled and disabled, and the controller answers; once all
-//! buffers of a disabled ring are reclaimed, it can be renewed and enabled again.
+//! A ring begins disabled. The driver asks for enabling and disabling, and the controller answers. Once all buffers of
+//! a disabled ring are reclaimed, it can be renewed and enabled again.
 //!
-//! Each end keeps a record of the words that it loaded and stored, in proofs alone. Between any two steps the words,
-//! the slots and both records agree with a ring of `ring_model` that some schedule of steps makes, and so with a
-//! lawful one: what is taken is a beginning of what is stored, byte for byte, in order, each once.
+//! Each end keeps a record of the words that it loaded and stored, in proofs only. Between any two steps the words, the
+//! slots and both records agree with a ring of `ring_model` that some schedule reaches, and therefore with a lawful
+//! one.
 #![tactic(auto)]
 
 mod controller;

@@ -1,4 +1,4 @@
-//! The making of a ring, the meeting of its ends, and its closing.
+//! Making a ring, the meeting of its ends, and closing it.
 ghost use Rattle.std.specs.Prelude.{◌≡◌, ◌↔◌, ◌<◌, true, length, IfOk};
 ghost use Rattle.limits.specs.RingLength.{IsRingLength};
 ghost use Rattle.ring_model.specs.receive.Lawful.{IsLawfulRxLedger};
@@ -18,8 +18,8 @@ use shared_ring::{DriverEnd, RingError};
 use std::alloc::Global;
 
 impl RxRing {
-    /// A ring of `n` descriptors, disabled, with nothing posted. It answers `RingLength` where `n` is no power of two
-    /// from 8 to 4,096, and `Memory` only where memory was refused.
+    /// Makes a ring of `n` descriptors, disabled, with nothing posted. Returns `RingLength` if `n` is not a power of
+    /// two from 8 to 4,096, and `Memory` only if memory was refused.
     pub fn new(alloc: Global, n: u32) -> Result<(RxRing, RxDriverEnd, RxControllerEnd), RingError>
         ensures refused { (result ≡ Err RingError.RingLength) ↔ ¬ (IsRingLength n) }
         ensures made { IfOk result (λ r. MadeSeats n r.0 r.1 r.2) }
@@ -36,13 +36,13 @@ impl RxRing {
     }
 }
 
-/// Both ends, in one place, learn that their records are those of one lawful ring. It changes nothing of the ring and
-/// of the ends. Its loads are kept in no record.
+/// Establishes, with both ends in one place, that their records belong to one lawful ring. The ring and its ends do not
+/// change, and no record keeps the loads.
 ///
-/// What is said of the ledger is of the driver's epoch: as long as the controller has not answered its enabling,
-/// nothing is stored in it. What the driver has learnt in this epoch is so: where it loaded the head after its
-/// disabling was answered, so many segments were left as that told; where it saw the queue quiet, the controller said
-/// that it is; where it saw it quiet and drained, all that is stored is taken.
+/// The ledger is that of the driver's epoch: until the controller answers its enabling, nothing is stored in it. What
+/// the driver learned in this epoch is true. A number that `left` returned is the number of segments stored and not
+/// taken. If it saw the queue quiet, the controller said so. If it saw the queue quiet and drained, everything stored
+/// is taken.
 pub fn meet_rx(ring: &RxRing, driver: &mut RxDriverEnd, controller: &mut RxControllerEnd)
     requires driver { driver.old.table ≡ ring.now }
     requires controller { controller.old.table ≡ ring.now }
@@ -58,10 +58,10 @@ pub fn meet_rx(ring: &RxRing, driver: &mut RxDriverEnd, controller: &mut RxContr
     ring.0.meet(&mut driver.seat, &mut controller.seat);
 }
 
-/// Closes a ring, wherever its two ends stand: one entry a place, with the buffer that lay there where one did, be it
-/// posted, published or written back. A place whose buffer the controller has fetched, and those of the driver, have
-/// none. So each buffer that is out comes back once, but one that the controller holds; none is a blank. The list
-/// stands in the room that `new` reserved, so this takes no memory.
+/// Closes a ring in any state of its two ends. Returns one entry for each place, with the buffer in its slot: posted,
+/// published or written back. The entry is `None` for a place of the driver, and for one whose buffer the controller
+/// has fetched. Each buffer that is out comes back once, except one that the controller holds; none is a blank. The
+/// list uses the room that `new` reserved, so this takes no memory.
 pub fn close(ring: RxRing, driver: RxDriverEnd, controller: RxControllerEnd) -> Vec<Option<Buf>>
     requires driver { driver.table ≡ ring }
     requires controller { controller.table ≡ ring }

@@ -1,5 +1,5 @@
-//! The steps of the receive ring's own, each by the event that its end's record grows by. All others are those that
-//! both directions share, and all stand on the seats of `shared_ring`, whose fields nothing here can name.
+//! The steps that only the receive ring has, each with the event that it adds to its end's record. All other steps are
+//! shared by both directions. All use the seats of `shared_ring`, whose fields no code here can name.
 mod controller;
 mod driver;
 

@@ -1,4 +1,5 @@
--- Which word of the table a step loads or stores, and the value that it finds or stores there: each event names both.
+-- The word of the table that a step loads or stores, and the value that it finds or stores there: each event names
+-- both.
 use Rattle.std.specs.Prelude.{ℕ}
 use Rattle.shared_ring.specs.declared.events.DriverEvent.{DriverEvent}
 use Rattle.shared_ring.specs.declared.events.DriverEvent.TheVariants as driver

@@ -1,4 +1,4 @@
--- What calls of both directions do, where their answer depends on what was loaded.
+-- The effects of calls of both directions whose result depends on a loaded value.
 use Rattle.std.specs.Prelude.{◌≡◌, ℕ, ◌+◌, ◌-◌, ◌%◌, ◌<◌, ◌≤◌, ◌⊎◌, true, false, [], length, Option, Some, None}
 use Rattle.buffer_pool.specs.Buffer.{Buffer}
 use Rattle.limits.specs.RingLength.{IsRingLength}

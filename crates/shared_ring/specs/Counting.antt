@@ -1,4 +1,4 @@
--- The law of plays: by each the record of the end that makes the step is longer by exactly one event.
+-- The law of plays: each adds exactly one event to the record of the end that makes the step.
 use Rattle.std.specs.Prelude.{◌≡◌, ℕ, Bool, true, false, refl, List}
 use Rattle.atomic_table.specs.Table.{Me, Step}
 use Rattle.buffer_pool.specs.Buffer.{Buffer}

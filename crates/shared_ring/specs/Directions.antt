@@ -1,4 +1,5 @@
--- What the agreement of a direction allows each end to do, wherever words, slots and records agree with one of its rings.
+-- What the agreement of a direction allows each end to do whenever words, slots and records agree with one of its
+-- rings.
 use Rattle.std.specs.Prelude.{◌≡◌, ℕ, ◌+◌, ◌%◌, ◌<◌, ◌≤◌, true, false, List, [], ◌∷◌, ◌++◌, length, slice_get, slice_index, slice_set, replicate, None, Some}
 use mathlib.Core.Option as maybe
 use mathlib.Core.Option.{some, none}

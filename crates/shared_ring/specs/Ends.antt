@@ -1,4 +1,5 @@
--- What contracts see of a ring's two ends: its identity, how it reports, and the record of the end's own steps, with words on what it amounts to.
+-- The contracts' view of a ring's two ends: its identity, how it reports, and the record of the end's own steps, with
+-- words for its contents.
 use Rattle.std.specs.Prelude.{ℕ, ◌+◌, ◌-◌, ◌%◌, Bool, List, [], ◌∷◌, ◌++◌, length, Option}
 use Rattle.atomic_table.specs.Seated.{TableId}
 use Rattle.buffer_pool.specs.Buffer.{Buffer}

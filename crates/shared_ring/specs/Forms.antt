@@ -1,4 +1,5 @@
--- What is of one direction: what its steps make of both records, what each shared step asks and tells, and how words, slots and records agree with its ring.
+-- The parts of a direction: how its steps change both records, what each shared step requires and establishes, and how
+-- words, slots and records agree with its ring.
 use Rattle.std.specs.Prelude.{ℕ, List}
 use mathlib.Core.Option as maybe
 use Rattle.buffer_pool.specs.Buffer.{Buffer}

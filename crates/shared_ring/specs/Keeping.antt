@@ -1,4 +1,4 @@
--- What the fields of a ring and of its two seats keep, and the rule that they lie under.
+-- The invariants of a ring and its two seats, and the rule of its table.
 use Rattle.std.specs.Prelude.{◌≡◌, ℕ, ◌≤◌, [], List, Option}
 use Rattle.atomic_table.specs.Table.{State}
 use Rattle.atomic_table.specs.Seated.{TableId}

@@ -1,4 +1,4 @@
--- What both ends know together: as they are made, as they meet, and as the ring is closed.
+-- What the two ends together establish: when they are made, when they meet, and when the ring is closed.
 use Rattle.std.specs.Prelude.{◌≡◌, ℕ, zero, suc, ◌+◌, ◌%◌, ◌<◌, ◌≤◌, Bool, not, ◌&&◌, ◌==◌, nat_lt, List, [], ◌∷◌, ◌++◌, length, map, drop, slice_get, Option, Some, None, IfSome, All, IsPermutation, if◌then◌else◌}
 use mathlib.Core.Option as maybe
 use mathlib.Core.Option.{some, none}

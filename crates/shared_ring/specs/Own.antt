@@ -1,4 +1,7 @@
--- Steps of one direction's own: what each asks of the agreement, and what it makes of its end's record. An event names the word of its step, and the value found or stored there. `event` is the event by which the record grows, of the ring's length, the record so far, the place of the word, the number found or stored there, and the buffer of the slot that it takes or gives; `tells` is what it tells beside that.
+-- The steps of one direction: what each requires of the agreement, and how it changes its end's record. An event names
+-- the word of its step and the value found or stored there. `event` maps the ring's length, the record so far, the
+-- place of the word, the value, and the buffer of the slot that the step takes or gives to the event; `tells` states
+-- further facts about them.
 use Rattle.std.specs.Prelude.{◌≡◌, ℕ, ◌+◌, ◌<◌, Bool, true, false, List, [], ◌∷◌, ◌++◌, length, slice_index, slice_set, None}
 use mathlib.Core.Option as maybe
 use mathlib.Core.Option.{some, none}

@@ -1,4 +1,5 @@
--- What a step on the table tells, by whichever end: its record has one more event, with what was found and what the rule says of that.
+-- The effect of a step on the table, by either end: its record gets one more event, with the value found and what the
+-- rule says of it.
 use Rattle.std.specs.Prelude.{◌≡◌, ℕ, ◌<◌, ◌≤◌, Bool, true, false, List, [], ◌∷◌, ◌++◌, length, ◌==◌, if◌then◌else◌}
 use Rattle.atomic_table.specs.Table.{Me, Step, rest}
 use Rattle.buffer_pool.specs.Buffer.{Buffer, blank}

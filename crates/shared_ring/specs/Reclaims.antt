@@ -1,4 +1,4 @@
--- The reclaiming of a buffer, as a step by which a buffer comes back.
+-- Reclaiming a buffer, as a step that takes a buffer back.
 use Rattle.std.specs.Prelude.{◌≡◌, ℕ, ◌+◌, List, length, Some, slice_get}
 use Rattle.buffer_pool.specs.Buffer.{Buffer}
 use Rattle.shared_ring.specs.declared.events.DriverEvent.{DriverEvent}

@@ -1,4 +1,4 @@
--- The words of a ring's table that are no descriptor, and what a queue has of them.
+-- The words of a ring's table that are not descriptors, and their values in a queue.
 use Rattle.std.specs.Prelude.{◌≡◌, ℕ, ◌+◌, ◌%◌, List, slice_index}
 use Rattle.ring_model.specs.shared.Queue.{Queue}
 

@@ -1,4 +1,5 @@
--- Whose record each seat at a ring's table has, for any kinds of events: one seat has the driver's, one the controller's, and the others none.
+-- The record of each seat at a ring's table, for any events: one seat has the driver's record, one the controller's,
+-- and the others none.
 use Rattle.std.specs.Prelude.{◌≡◌, ℕ, List, []}
 use mathlib.Core.Option.{some}
 use lib.ListN.{get_elem?}

@@ -1,4 +1,4 @@
--- Slots: at home in the table, or out with a seat, in the order in which it took them.
+-- Slots: in the table, or out with a seat, in the order in which the seat took them.
 use Rattle.std.specs.Prelude.{ℕ, zero, suc, ◌+◌, ◌%◌, List, [], ◌∷◌, Bool, true, false, Option, Some, None}
 use mathlib.Core.Option as maybe
 use mathlib.Core.Option.{some, none}

@@ -1,4 +1,4 @@
--- What the shared steps answer whose result depends on what was loaded.
+-- The effects of the shared steps whose result depends on a loaded value.
 use Rattle.std.specs.Prelude.{◌≡◌, ℕ, ◌<◌, ◌≤◌, length, Some, slice_get}
 use Rattle.buffer_pool.specs.Buffer.{Buffer}
 use Rattle.shared_ring.specs.declared.events.DriverEvent.TheVariants as driver

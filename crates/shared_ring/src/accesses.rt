@@ -1,6 +1,6 @@
-//! The loads and stores of a ring's words by its two ends. Each is made by a play whose law says that the end's record
-//! gets longer by one event, which names the word and the value. But for the making, the meeting and the closing of a
-//! ring, nothing else loads or stores a word.
+//! The loads and stores of a ring's words by its two ends. Each is made by a play that adds one event to the end's
+//! record, with the word and the value. Apart from the making, meeting and closing of a ring, no other code loads or
+//! stores a word.
 ghost use Rattle.std.specs.Prelude.{◌≡◌, ◌<◌};
 ghost use mathlib.Core.Option.{none};
 ghost use Rattle.atomic_table.specs.Table.{Allows, step};
@@ -11,7 +11,7 @@ use crate::direction::Direction;
 use crate::plays::{EndEvent, EndPlay};
 use crate::steps::{RingSeat, RingTable};
 
-/// A load by the end whose events are `E`.
+/// Loads a word for the end whose events are `E`.
 #[inline]
 pub(crate) fn load<M: EndPlay<E, D, C, R>, E: EndEvent<D, C, R>, D, C, R: Direction<D, C>>(
     table: &RingTable<D, C, R>,
@@ -26,7 +26,7 @@ pub(crate) fn load<M: EndPlay<E, D, C, R>, E: EndEvent<D, C, R>, D, C, R: Direct
     table.shared.load::<M>(seat, index)
 }
 
-/// A store by the end whose events are `E`.
+/// Stores a word for the end whose events are `E`.
 #[inline]
 pub(crate) fn store<M: EndPlay<E, D, C, R>, E: EndEvent<D, C, R>, D, C, R: Direction<D, C>>(
     table: &RingTable<D, C, R>,

@@ -2,22 +2,22 @@
 ghost use Rattle.std.specs.Prelude.{◌≡◌, ◌≤◌};
 ghost use Rattle.shared_ring.specs.Words.{control_word};
 
-/// What the control word of a queue says (82599 datasheet, RXDCTL.ENABLE and TXDCTL.ENABLE, which read as 1 for
-/// `Enabled` and `DisableAsked`).
+/// The value of a queue's control word (82599 datasheet, RXDCTL.ENABLE and TXDCTL.ENABLE, which read as 1 for `Enabled`
+/// and `DisableAsked`).
 #[derive(Clone, Copy, Debug, PartialEq, Eq)]
 pub enum Control {
-    /// 0: nothing was asked, or a disabling was answered.
+    /// 0: nothing was asked, or the controller answered a disabling.
     Disabled,
-    /// 1: the driver asked for the queue to be enabled.
+    /// 1: the driver asked the controller to enable the queue.
     EnableAsked,
     /// 2: the controller answered, and serves the queue.
     Enabled,
-    /// 3: the driver asked for the queue to be disabled.
+    /// 3: the driver asked the controller to disable the queue.
     DisableAsked,
 }
 
 impl Control {
-    /// The word, from 0 to 3.
+    /// Returns the word, 0 to 3.
     #[inline]
     pub fn word(self) -> u8
         ensures { result ≡ control_word self }
@@ -30,7 +30,7 @@ impl Control {
         }
     }
 
-    /// What a control word of 0 to 3 says.
+    /// Returns the meaning of a control word of 0 to 3.
     #[inline]
     pub fn of_word(word: u64) -> Control
         requires { word ≤ 3 }

@@ -1,7 +1,7 @@
-//! What the ring of one direction brings to the steps that both share.
+//! The parts of a ring that depend on its direction.
 
-/// A direction: the forms of its steps, and how words, slots and records agree with its ring. `D` and `C` are the steps
-/// of its own driver and controller. A ring is made of a direction alone whose agreement allows the shared steps.
+/// A direction: the forms of its steps, and how words, slots and records agree with its ring. `D` and `C` are the own
+/// steps of its driver and controller. A ring can be made only if the direction's agreement allows the shared steps.
 pub trait Direction<D, C> {
     ghost use Rattle.shared_ring.specs.Forms.{Form};
 
@@ -16,8 +16,8 @@ pub trait Direction<D, C> {
     ghost form: { Form Ring Posted Served Given D C };
 }
 
-/// A step of one direction's own, by the event that it adds to its end's record and what it tells beside that. `E` are
-/// the events of its end.
+/// A step that only one direction has: the event that it adds to its end's record, and the facts that it establishes
+/// besides. `E` is the type of the end's events.
 pub trait OwnStep<E> {
     ghost use Rattle.shared_ring.specs.Own.{Event, Tells};
 
@@ -26,7 +26,7 @@ pub trait OwnStep<E> {
     ghost tells: { Tells E } = { λ n es place r b. Unit {0} };
 }
 
-/// A load by which a buffer comes back where the word is done.
+/// A load that takes a buffer back if the word is done.
 pub trait OwnTake<E>: OwnStep<E> {
     ghost use Rattle.std.specs.Prelude.{◌≡◌, ℕ, Bool};
 

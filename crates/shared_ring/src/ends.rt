@@ -1,4 +1,5 @@
-//! What the ends of both directions have: where an end stands, and the calls that depend on nothing else.
+//! The common interface of the ends of both directions: their places and states, and the calls that depend on nothing
+//! else.
 ghost use Rattle.std.specs.Prelude.{◌≡◌, ◌+◌, ◌<◌, ◌↔◌, true, false, [], length, None, IsTrue};
 ghost use Rattle.limits.specs.RingLength.{IsRingLength};
 ghost use Rattle.ring_model.specs.declared.states.DriverState.TheVariants as state;
@@ -18,7 +19,7 @@ use crate::control::Control;
 use crate::direction::Direction;
 use ring_model::{ControllerState, DriverState};
 
-/// A ring of one direction, which its two ends share.
+/// A ring of one direction, shared by its two ends.
 pub trait SharedRing {
     ghost use Rattle.atomic_table.specs.Seated.{TableId};
 
@@ -26,23 +27,23 @@ pub trait SharedRing {
     ghost table: { Self → TableId };
 }
 
-/// Where a driver's end stands.
+/// The places and the state of a driver's end.
 #[derive(Clone, Copy)]
 pub struct DriverPlaces {
     /// The ring's length.
     pub size: u16,
     /// The next place to post.
     pub fill: u16,
-    /// The oldest place that is out.
+    /// The oldest place that is out: posted, and not back.
     pub next: u16,
-    /// How many places are out: posted, and not back.
+    /// How many places are out.
     pub out: u16,
     /// How far the driver is in enabling and disabling the queue.
     pub state: DriverState,
 }
 
 impl DriverPlaces {
-    /// In a ring of this length, at the beginning of an epoch.
+    /// Returns the places at the beginning of an epoch in a ring of this length.
     pub fn new(size: u16) -> DriverPlaces
         ensures { result ≡ record { size = size; fill = 0; next = 0; out = 0; state = state.New } }
     {
@@ -59,16 +60,16 @@ impl DriverPlaces {
 /// A step of the driver's half of the handshake.
 #[derive(Clone, Copy)]
 pub enum HandshakeStep {
-    /// C1: 1 is stored as the control word (RXDCTL, TXDCTL).
+    /// C1: stores 1 as the control word (RXDCTL, TXDCTL).
     AskEnable,
-    /// C4: the control word (RXDCTL, TXDCTL) is loaded.
+    /// C4: loads the control word (RXDCTL, TXDCTL).
     LoadControl,
-    /// C5: 3 is stored as the control word (RXDCTL, TXDCTL).
+    /// C5: stores 3 as the control word (RXDCTL, TXDCTL).
     AskDisable,
 }
 
-/// A driver's end of a ring of either direction. Whether a call's condition on the state holds is told by `is_new`,
-/// `is_open`, `is_live`, `is_on` and `is_stopped`.
+/// A driver's end of a ring of either direction. `is_new`, `is_open`, `is_live`, `is_on` and `is_stopped` test the
+/// state that a call requires.
 pub trait DriverEnd<D, C, R: Direction<D, C>>: Sized {
     /// The ring that the end was made with, which each call takes.
     type Ring: SharedRing;
@@ -76,11 +77,11 @@ pub trait DriverEnd<D, C, R: Direction<D, C>>: Sized {
     /// The record of the end's own steps.
     ghost side: { Self → Side (DriverEvent D) };
 
-    /// Where the end stands.
+    /// Returns the end's places and state.
     fn at(&self) -> DriverPlaces
         ensures { IsPoster (driver_size (driver_of R.form (side self.now))) (driver_record (driver_of R.form (side self.now))) result };
 
-    /// Makes a step of the handshake, and answers the control value that it stored or loaded.
+    /// Makes a step of the handshake. Returns the control value that it stored or loaded.
     fn shake(&mut self, ring: &Self::Ring, step: HandshakeStep) -> Control
         requires own { (side self.old).table ≡ Self.Ring.table ring.now }
         requires may { MayShake step (driver_state (driver_of R.form (side self.old))) }
@@ -89,8 +90,8 @@ pub trait DriverEnd<D, C, R: Direction<D, C>>: Sized {
         ensures record { driver_record (driver_of R.form (side self.new)) ≡ record (driver_record (driver_of R.form (side self.old))) { state = shaken step (driver_state (driver_of R.form (side self.old))) (control_word result) } }
         ensures known { known_of (driver_of R.form (side self.new)) ≡ known_of (driver_of R.form (side self.old)) };
 
-    /// The ring's length. A function that uses no field of an end or a seat learns nothing of what they keep: where it
-    /// needs that the length is lawful, it says `let _size = end.size();`.
+    /// Returns the ring's length. A function that uses no field of an end or a seat learns none of their invariants; to
+    /// learn that the length is lawful, it says `let _size = end.size();`.
     #[inline]
     final fn size(&self) -> u32
         ensures lawful { IsRingLength result }
@@ -99,8 +100,8 @@ pub trait DriverEnd<D, C, R: Direction<D, C>>: Sized {
         self.at().size as u32
     }
 
-    /// How many more buffers can be posted: `n - 1` less those posted that did not come back, since head equal to tail
-    /// means an empty ring (82599 datasheet, 7.1.9 and 7.2.3.4).
+    /// How many more buffers can be posted: `n - 1` less those that are out, since head equal to tail means an empty
+    /// ring (82599 datasheet, 7.1.9 and 7.2.3.4).
     #[inline]
     final fn room(&self) -> u32
         ensures most { result < driver_size (driver_of R.form (side self.now)) }
@@ -110,7 +111,7 @@ pub trait DriverEnd<D, C, R: Direction<D, C>>: Sized {
         (at.size - 1 - at.out) as u32
     }
 
-    /// Whether nothing was asked yet in this epoch.
+    /// Whether the end has asked for nothing in this epoch.
     #[inline]
     final fn is_new(&self) -> bool
         ensures { result ≡ is_new (driver_state (driver_of R.form (side self.now))) }
@@ -118,7 +119,7 @@ pub trait DriverEnd<D, C, R: Direction<D, C>>: Sized {
         self.at().state.is_new()
     }
 
-    /// Whether the end may post and publish: no disabling was asked in this epoch.
+    /// Whether the end may post and publish: it has not asked for disabling in this epoch.
     #[inline]
     final fn is_open(&self) -> bool
         ensures { result ≡ is_open (driver_state (driver_of R.form (side self.now))) }
@@ -126,7 +127,7 @@ pub trait DriverEnd<D, C, R: Direction<D, C>>: Sized {
         self.at().state.is_open()
     }
 
-    /// Whether the queue was seen enabled, and its disabling not yet seen answered.
+    /// Whether the end saw the queue enabled, and has not seen a disabling answered.
     #[inline]
     final fn is_live(&self) -> bool
         ensures { result ≡ is_live (driver_state (driver_of R.form (side self.now))) }
@@ -134,7 +135,7 @@ pub trait DriverEnd<D, C, R: Direction<D, C>>: Sized {
         self.at().state.is_live()
     }
 
-    /// Whether the queue was seen enabled, and no disabling asked.
+    /// Whether the end saw the queue enabled, and has not asked for disabling.
     #[inline]
     final fn is_on(&self) -> bool
         ensures { result ≡ is_on (driver_state (driver_of R.form (side self.now))) }
@@ -142,7 +143,7 @@ pub trait DriverEnd<D, C, R: Direction<D, C>>: Sized {
         self.at().state.is_on()
     }
 
-    /// Whether the disabling was seen answered.
+    /// Whether the end saw the disabling answered.
     #[inline]
     final fn is_stopped(&self) -> bool
         ensures { result ≡ is_stopped (driver_state (driver_of R.form (side self.now))) }
@@ -162,7 +163,7 @@ pub trait DriverEnd<D, C, R: Direction<D, C>>: Sized {
         self.shake(ring, HandshakeStep::AskEnable);
     }
 
-    /// Loads the control word. By it the end sees whether an enabling or a disabling that it asked was answered.
+    /// Loads the control word. It shows the end whether the controller answered its request.
     #[inline]
     final fn state(&mut self, ring: &Self::Ring) -> Control
         requires own { (side self.old).table ≡ Self.Ring.table ring.now }
@@ -186,27 +187,27 @@ pub trait DriverEnd<D, C, R: Direction<D, C>>: Sized {
     }
 }
 
-/// Where a controller's end stands.
+/// The places and the state of a controller's end.
 #[derive(Clone, Copy)]
 pub struct ControllerPlaces {
     /// The ring's length.
     pub size: u16,
     /// The next place to serve.
     pub serve: u16,
-    /// How many descriptors it knows to be ready, from that one on.
+    /// How many descriptors the end knows to be ready, from that place on.
     pub ahead: u16,
-    /// Whether a fetched buffer is not served yet.
+    /// Whether the end holds a fetched buffer.
     pub holding: bool,
-    /// Whether the last that was served ends a frame, or none is served.
+    /// Whether the last served segment ends a frame, or none is served.
     pub between: bool,
-    /// How far the controller is with the queue.
+    /// How far the controller is in enabling and disabling the queue.
     pub state: ControllerState,
-    /// The control value that it loaded or stored last.
+    /// The control value that the end last loaded or stored.
     pub seen: Control,
 }
 
 impl ControllerPlaces {
-    /// In a ring of this length that was never enabled.
+    /// Returns the places in a ring of this length that was never enabled.
     pub fn new(size: u16) -> ControllerPlaces
         ensures { result ≡ record { size = size; serve = 0; ahead = 0; holding = false; between = true; state = controller_state_is.Off; seen = control.Disabled } }
     {
@@ -225,14 +226,14 @@ impl ControllerPlaces {
 /// A word that a controller loads.
 #[derive(Clone, Copy)]
 pub enum ControllerLoad {
-    /// A3, B3: the tail (RDT, TDT) is loaded.
+    /// A3, B3: the tail (RDT, TDT).
     Tail,
-    /// C2: the control word (RXDCTL, TXDCTL) is loaded.
+    /// C2: the control word (RXDCTL, TXDCTL).
     Request,
 }
 
-/// A controller's end of a ring of either direction. Whether a call's condition holds is told by `is_serving`,
-/// `is_holding`, `is_between_frames` and `can_answer`.
+/// A controller's end of a ring of either direction. `is_serving`, `is_holding`, `is_between_frames` and `can_answer`
+/// test the conditions of its calls.
 pub trait ControllerEnd<D, C, R: Direction<D, C>>: Sized {
     /// The ring that the end was made with, which each call takes.
     type Ring: SharedRing;
@@ -240,28 +241,28 @@ pub trait ControllerEnd<D, C, R: Direction<D, C>>: Sized {
     /// The record of the end's own steps.
     ghost side: { Self → Side (ControllerEvent C) };
 
-    /// Where the end stands.
+    /// Returns the end's places and state.
     fn at(&self) -> ControllerPlaces
         ensures { IsServer R.form.carries (controller_size (controller_of R.form (side self.now))) (controller_record (controller_of R.form (side self.now))) result };
 
-    /// Whether a disabling may be answered, where one was loaded last.
+    /// Whether a disabling may be answered, if the end last loaded one.
     fn is_settled(&self) -> bool
         ensures { IsTrue result ↔ IsSettled (controller_of R.form (side self.now)) };
 
-    /// Loads a word.
+    /// Loads the tail or the control word.
     fn load(&mut self, ring: &Self::Ring, which: ControllerLoad) -> u16
         requires own { (side self.old).table ≡ Self.Ring.table ring.now }
         requires may { MayLoadWord which (controller_of R.form (side self.old)) }
         ensures { LoadedWord which (controller_of R.form (side self.old)) result (controller_of R.form (side self.new)) };
 
-    /// Answers the enabling or the disabling that was loaded last: once after each load, and a disabling between two
-    /// frames alone, with the head stored and no report owed.
+    /// Answers the enabling or disabling that the end last loaded: once after each load, and a disabling only between
+    /// two frames, with the head stored and no report owed.
     fn answer(&mut self, ring: &Self::Ring)
         requires own { (side self.old).table ≡ Self.Ring.table ring.now }
         requires asked { MayAnswer (controller_of R.form (side self.old)) }
         ensures { Answered (controller_of R.form (side self.old)) (controller_of R.form (side self.new)) };
 
-    /// The ring's length.
+    /// Returns the ring's length.
     #[inline]
     final fn size(&self) -> u32
         ensures lawful { IsRingLength result }
@@ -278,7 +279,7 @@ pub trait ControllerEnd<D, C, R: Direction<D, C>>: Sized {
         self.at().state.is_serving()
     }
 
-    /// Whether a fetched buffer is not back in its slot yet.
+    /// Whether the end holds a fetched buffer.
     #[inline]
     final fn is_holding(&self) -> bool
         ensures { (result ≡ false) ↔ (held (controller_of R.form (side self.now)) ≡ None) }
@@ -286,7 +287,7 @@ pub trait ControllerEnd<D, C, R: Direction<D, C>>: Sized {
         self.at().holding
     }
 
-    /// Whether the last that was stored or sent ends a frame, or none was.
+    /// Whether the last stored or sent segment ends a frame, or none was stored or sent.
     #[inline]
     final fn is_between_frames(&self) -> bool
         ensures value { result ≡ is_between (controller_of R.form (side self.now)) }
@@ -295,8 +296,8 @@ pub trait ControllerEnd<D, C, R: Direction<D, C>>: Sized {
         self.at().between
     }
 
-    /// Whether `answer` may be called: an enabling was loaded last and the end does not serve, or a disabling and the
-    /// end stands between two frames, with the head stored and no report owed.
+    /// Whether `answer` may be called: the end last loaded an enabling and does not serve, or last loaded a disabling
+    /// and is between two frames, with the head stored and no report owed.
     #[inline]
     final fn can_answer(&self) -> bool
         ensures { IsTrue result ↔ MayAnswer (controller_of R.form (side self.now)) }
@@ -309,8 +310,8 @@ pub trait ControllerEnd<D, C, R: Direction<D, C>>: Sized {
         }
     }
 
-    /// Loads the tail (RDT, TDT), and answers how many descriptors are ready, from the next one on (82599 datasheet,
-    /// 7.1.9 and 7.2.3.4).
+    /// Loads the tail (RDT, TDT). Returns the number of ready descriptors, from the next one on (82599 datasheet, 7.1.9
+    /// and 7.2.3.4).
     #[inline]
     final fn look(&mut self, ring: &Self::Ring) -> u32
         requires own { (side self.old).table ≡ Self.Ring.table ring.now }
@@ -322,7 +323,7 @@ pub trait ControllerEnd<D, C, R: Direction<D, C>>: Sized {
         self.at().ahead as u32
     }
 
-    /// Loads the control word: whether an enabling or a disabling is asked.
+    /// Loads the control word, to see whether the driver asks for enabling or disabling.
     #[inline]
     final fn asked(&mut self, ring: &Self::Ring) -> Control
         requires own { (side self.old).table ≡ Self.Ring.table ring.now }

@@ -1,5 +1,5 @@
-//! How the records of two ends are cut and put together, and the two loads that belong to neither: as a ring is made, and
-//! as its ends meet. These types are for proofs alone.
+//! How the records of two ends are split and joined, and the two loads that belong to neither end: at the making of a
+//! ring, and at the meeting of its ends. These types exist for proofs only.
 
 use crate::direction::Direction;
 use crate::events::{ControllerEvent, DriverEvent, View};
@@ -7,7 +7,7 @@ use atomic_table::{Join, Play, Split};
 use buffer_pool::Buf;
 use std::marker::PhantomData;
 
-/// The driver's record stays, and the controller's goes to the new seat.
+/// The seat keeps the driver's record, and the new seat gets the controller's.
 pub struct Halve;
 
 impl<D, C> Split<View<D, C>> for Halve {
@@ -18,7 +18,7 @@ impl<D, C> Split<View<D, C>> for Halve {
     ghost right = { controller_half };
 }
 
-/// The record goes to the new seat, and the slots stay.
+/// The new seat gets the record, and the seat keeps its slots.
 pub struct Lend;
 
 impl<D, C> Split<View<D, C>> for Lend {
@@ -29,7 +29,7 @@ impl<D, C> Split<View<D, C>> for Lend {
     ghost right = { λ v. v };
 }
 
-/// The driver's seat takes in the controller's record.
+/// The driver's seat gets the controller's record too.
 pub struct Unite;
 
 impl<D, C> Join<View<D, C>> for Unite {
@@ -41,7 +41,7 @@ impl<D, C> Join<View<D, C>> for Unite {
     ghost spent = { Nobody };
 }
 
-/// The seat that lent its record has it back.
+/// The seat that lent its record gets it back.
 pub struct Return;
 
 impl<D, C> Join<View<D, C>> for Return {
@@ -52,7 +52,7 @@ impl<D, C> Join<View<D, C>> for Return {
     ghost spent = { Nobody };
 }
 
-/// The load by which the first seat takes all slots, as the ring is made.
+/// The load by which the first seat takes all slots, at the making of the ring.
 pub struct Deal;
 
 impl<D, C> Play<Buf, View<D, C>> for Deal {
@@ -61,7 +61,7 @@ impl<D, C> Play<Buf, View<D, C>> for Deal {
     ghost then = { Deals };
 }
 
-/// The load of two ends that meet.
+/// The load of the ends that meet.
 pub struct MeetLoad<R>(PhantomData<R>);
 
 impl<D, C, R: Direction<D, C>> Play<Buf, View<DriverEvent<D>, ControllerEvent<C>>> for MeetLoad<R> {

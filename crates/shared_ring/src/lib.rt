@@ -1,12 +1,12 @@
-//! What the rings of both directions share: a driver and a controller on one descriptor ring of the 82599, without a lock.
+//! The shared part of the receive and transmit rings: a driver and a controller on one descriptor ring of the 82599,
+//! without a lock. Depends on `atomic_table`, `buffer_pool`, `limits`, `refusals` and `ring_model`. Every access to a
+//! ring's table is made here, since no other code can name a table, a seat's fields or a slot; each step of an end adds
+//! its event to the end's record.
 //!
 //! A ring's table has a word for each descriptor, then head, tail, control and quiet, and a slot for a buffer at each
-//! place. Here stand the values of the control word, the refusals, the records of the two ends, the table with the seats
-//! that carry them, each step that both directions have, and the making, meeting and closing of a ring. A ring of one
-//! direction brings what its agreement of words, slots and records is (`Direction`), and its own steps (`OwnStep`).
-//!
-//! Nothing outside can name a table, a seat's fields or a slot: whatever reaches a table is one of the steps here, each
-//! of which makes its end's record longer by its event.
+//! place. This crate has the values of the control word, the refusals, the records of the two ends, the table with the
+//! seats that carry them, the steps of both directions, and the making, meeting and closing of a ring. A ring of one
+//! direction adds how its words, slots and records agree (`Direction`), and its own steps (`OwnStep`).
 #![tactic(auto)]
 
 mod accesses;

@@ -1,5 +1,5 @@
-//! The plays by which an end makes a step: a kind for each way to treat a slot, for either end, and for any step by the
-//! event that it adds to the end's record. These types are for proofs alone.
+//! The plays by which an end makes a step: one kind for each treatment of a slot, generic in the end and in the step's
+//! event. These types exist for proofs only.
 
 mod steps;
 
@@ -13,7 +13,7 @@ pub use steps::{
     PostStore, PublishStore, RequestLoad, TailLoad,
 };
 
-/// The events of one end of a ring: `whose` says which end.
+/// The events of one end of a ring; `whose` names the end.
 pub trait EndEvent<D, C, R: Direction<D, C>> {
     ghost use Rattle.shared_ring.specs.declared.events.DriverEvent.{DriverEvent};
     ghost use Rattle.shared_ring.specs.declared.events.ControllerEvent.{ControllerEvent};
@@ -35,8 +35,8 @@ impl<D, C, R: Direction<D, C>> EndEvent<D, C, R> for ControllerEvent<C> {
     ghost whose = { controller_end R.form };
 }
 
-/// A play by which an end makes a step: its record gets longer by exactly one event, which names the word that was
-/// loaded or stored, and the value. So no end makes a step that its record doesn't tell of.
+/// A play by which an end makes a step. It adds exactly one event to the end's record, with the word that was loaded or
+/// stored and the value, so no step is missing from the record.
 pub trait EndPlay<E: EndEvent<D, C, R>, D, C, R: Direction<D, C>>: Play<
     Buf,
     View<DriverEvent<D>, ControllerEvent<C>>,
@@ -89,7 +89,7 @@ impl<D, C, R: Direction<D, C>, E: EndEvent<D, C, R>, P: OwnStep<E>> EndPlay<E, D
     ghost counts = { λ st m r m' t. counts t.adds };
 }
 
-/// A load or a store by which the seat takes the slot of its place.
+/// A load or store by which the seat takes the slot of its place.
 pub struct Takes<P, E, R>(PhantomData<(P, E, R)>);
 
 impl<D, C, R: Direction<D, C>, E: EndEvent<D, C, R>, P: OwnStep<E>> Play<
@@ -108,7 +108,7 @@ impl<D, C, R: Direction<D, C>, E: EndEvent<D, C, R>, P: OwnStep<E>> EndPlay<E, D
     ghost counts = { λ st m r m' t. counts t.adds };
 }
 
-/// A load by which it does where the word is done.
+/// A load by which the seat takes the slot of its place if the word is done.
 pub struct Finds<P, E, R>(PhantomData<(P, E, R)>);
 
 impl<D, C, R: Direction<D, C>, E: EndEvent<D, C, R>, P: OwnTake<E>> Play<

@@ -1,4 +1,4 @@
-//! The exchange of a slot. Nothing else reads or writes one.
+//! The exchange of a slot's buffer. No other code reads or writes a slot.
 ghost use Rattle.std.specs.Prelude.{◌≡◌, ◌∷◌};
 ghost use Rattle.atomic_table.specs.Table.{rest};
 ghost use Rattle.buffer_pool.specs.Buffer.{blank};

@@ -1,4 +1,4 @@
-//! The steps on a ring's table. Each function below makes one kind of step, by which its end's record grows.
+//! The steps on a ring's table. Each function makes one kind of step, which adds its event to its end's record.
 ghost use Rattle.std.specs.Prelude.{◌≡◌};
 ghost use Rattle.limits.specs.RingLength.{IsRingLength};
 ghost use Rattle.shared_ring.specs.Directions.{IsDirection};
@@ -31,7 +31,7 @@ pub(crate) type RingTable<D, C, R> = Table<
 pub(crate) type RingSeat<D, C> = Seat<Buf, View<DriverEvent<D>, ControllerEvent<C>>>;
 
 /// The rule of a direction's table: between any two steps, the words, the slots and both records agree with one ring
-/// that a schedule makes.
+/// that a schedule reaches.
 pub struct Rule<R>(PhantomData<R>);
 
 impl<D, C, R: Direction<D, C>> TableRule<Buf, View<DriverEvent<D>, ControllerEvent<C>>, Key>
@@ -44,7 +44,7 @@ impl<D, C, R: Direction<D, C>> TableRule<Buf, View<DriverEvent<D>, ControllerEve
     ghost first = { λ _. Maker };
 }
 
-/// A ring of one direction. Its two ends are made with it, and each call on an end takes the ring that the end was made
+/// A ring of one direction, made together with its two ends. Each call on an end takes the ring that the end was made
 /// with. Contracts see it as the identity of its table, whose `slots` are the ring's length.
 #[derive(Drop)]
 pub struct Ring<D, C, R: Direction<D, C>> {
@@ -64,8 +64,8 @@ impl<D, C, R: Direction<D, C>> Model for Ring<D, C, R> {
     ghost invariant = { λ r. IsRing R.form r.table.shared.table_id r.table.shared.key r.room.items (vec_capacity r.room) };
 }
 
-/// An end's seat at a ring's table, by the end's events: with the slots of the places that are not out where it is the
-/// driver's, and with the slot of the buffer that it fetched where it is the controller's.
+/// An end's seat at a ring's table. A driver's seat has the slots of the places that are not out, a controller's seat
+/// the slot of the buffer that it fetched.
 #[derive(Drop)]
 pub struct EndSeat<E: EndEvent<D, C, R>, D, C, R: Direction<D, C>> {
     seat: Seat<Buf, View<DriverEvent<D>, ControllerEvent<C>>>,
@@ -92,7 +92,7 @@ impl<E: EndEvent<D, C, R>, D, C, R: Direction<D, C>> Model for EndSeat<E, D, C, 
 }
 
 impl<E: EndEvent<D, C, R>, D, C, R: Direction<D, C>> EndSeat<E, D, C, R> {
-    /// The ring's length.
+    /// Returns the ring's length.
     #[inline]
     pub fn size(&self) -> u16
         ensures value { result ≡ self.now.table.slots }
@@ -102,7 +102,7 @@ impl<E: EndEvent<D, C, R>, D, C, R: Direction<D, C>> EndSeat<E, D, C, R> {
         self.size
     }
 
-    /// How the ring reports.
+    /// Returns how the ring reports.
     #[inline]
     pub fn completion(&self) -> Completion
         ensures { result ≡ self.now.completion }

@@ -1,48 +1,48 @@
-//! A running ring beside its pure machine: both make the same moves, and tell the same.
+//! A running ring beside its pure machine: both make the same moves and must report the same.
 
 use crate::buffers::{BUFFERS, Closed};
 use crate::random::Random;
 use buffer_pool::Buf;
 use ring_model::{ControlStep, Note, Owner};
 
-/// A running ring, whose steps are made by calls in one thread, and its pure machine.
+/// A running ring, driven by calls in one thread, and its pure machine.
 pub trait Beside {
     /// A step of either.
     type Step: Copy;
 
-    /// Whether the step's arguments are such as the ring's user may give now, which no test of the ring tells.
+    /// Whether the ring's user may give the step's arguments now. No test on the ring's ends shows this.
     fn is_lawful(&self, step: Self::Step) -> bool;
 
-    /// Makes the step by a call, and answers what the call told; nothing where its condition doesn't hold, and the call
-    /// is left out. Clearing the head stands for a whole renewal.
+    /// Makes the step by a call and returns its note. Returns `None` if the call's condition does not hold, and leaves
+    /// the call out. Clearing the head means a whole renewal.
     fn call(&mut self, step: Self::Step) -> Option<Note>;
 
-    /// Makes the machine's step, or its steps; nothing where it isn't enabled.
+    /// Makes the machine's step or steps. Returns `None` if the machine does not allow it.
     fn step(&mut self, step: Self::Step) -> Option<Note>;
 
-    /// The step of the handshake.
+    /// Returns the step that makes this step of the handshake.
     fn control(step: ControlStep) -> Self::Step;
 
     /// Whether this is a renewal.
     fn renews(step: Self::Step) -> bool;
 
-    /// The number of the buffer that was posted, if this is a post.
+    /// Returns the number of the posted buffer, if the step is a post.
     fn posted(&self, step: Self::Step) -> Option<u16>;
 
-    /// What is left, as the ring tells and as the calls were counted, where it can be told.
+    /// Returns the number left according to the ring and according to the counted calls, if the ring can report it.
     fn left(&mut self) -> Option<(u32, u32)>;
 
-    /// Who has a place of the machine's.
+    /// Returns the owner of a place of the machine.
     fn owner(&self, place: u16) -> Option<Owner>;
 
-    /// Some step, as the random numbers tell, which may not be enabled.
+    /// Returns a random step, which may not be possible.
     fn random_step(&self, random: &mut Random) -> Self::Step;
 
     /// Closes the ring.
     fn close(self) -> Closed;
 }
 
-// The note with 0 for each place, tail and head, of which the calls of a ring tell nothing.
+// The note with 0 for each place, tail and head, which the calls of a ring do not return.
 fn without_place(note: Note) -> Note {
     match note {
         Note::Place(_) => Note::Place(0),
@@ -55,10 +55,10 @@ fn without_place(note: Note) -> Note {
     }
 }
 
-/// A schedule of steps that a ring and its machine make, one by one.
+/// A schedule of steps that a ring and its machine make one by one.
 #[derive(Drop)]
 pub struct Walk<B: Beside + Drop> {
-    /// The ring with its machine.
+    /// The ring and its machine.
     pub both: B,
     lying: Lying,
     /// How many steps were made.
@@ -68,7 +68,7 @@ pub struct Walk<B: Beside + Drop> {
 }
 
 impl<B: Beside + Drop> Walk<B> {
-    /// No step was made.
+    /// Begins a schedule without steps.
     pub fn new(both: B) -> Walk<B> {
         Walk {
             both,
@@ -78,7 +78,7 @@ impl<B: Beside + Drop> Walk<B> {
         }
     }
 
-    /// Makes the step on both, or on neither: whether both told the same.
+    /// Makes the step on both, or on neither. Returns whether both reported the same.
     pub fn make(&mut self, step: B::Step) -> bool {
         if !self.both.is_lawful(step) {
             return true;
@@ -101,7 +101,7 @@ impl<B: Beside + Drop> Walk<B> {
         self.both.left().is_none_or(|left| left.0 == left.1)
     }
 
-    /// Makes the steps: whether both told the same at each.
+    /// Makes the steps. Returns whether both reported the same at each.
     pub fn walk(&mut self, steps: &[B::Step]) -> bool {
         for step in steps {
             if !self.make(*step) {
@@ -111,7 +111,7 @@ impl<B: Beside + Drop> Walk<B> {
         true
     }
 
-    /// Makes so many random steps: whether both told the same at each.
+    /// Makes `count` random steps. Returns whether both reported the same at each.
     pub fn wander(&mut self, random: &mut Random, count: usize) -> bool {
         for _ in 0..count {
             let step = self.both.random_step(random);
@@ -122,7 +122,7 @@ impl<B: Beside + Drop> Walk<B> {
         true
     }
 
-    /// Whether the closed ring gives back what the machine has at each place, and each buffer is there once.
+    /// Closes the ring. Returns whether each place has what the machine says, and each buffer is there once.
     pub fn closes(self) -> bool {
         let Walk { both, lying, .. } = self;
         let mut owners = [None; 16];
@@ -141,7 +141,7 @@ impl<B: Beside + Drop> Walk<B> {
     }
 }
 
-/// What many random schedules come to.
+/// The totals of many random schedules.
 #[derive(Drop)]
 pub struct Survey {
     random: Random,
@@ -150,7 +150,7 @@ pub struct Survey {
 }
 
 impl Survey {
-    /// No schedule was made.
+    /// Begins without schedules.
     pub fn new(random: Random) -> Survey {
         Survey {
             random,
@@ -159,7 +159,8 @@ impl Survey {
         }
     }
 
-    /// Makes 600 random steps on a new ring and its machine, and closes it: whether both told the same.
+    /// Makes 600 random steps on a new ring and its machine, and closes the ring. Returns whether both reported the
+    /// same.
     pub fn agrees<B: Beside + Drop>(&mut self, both: B) -> bool {
         let mut walk = Walk::new(both);
         let agrees = walk.wander(&mut self.random, 600);
@@ -168,13 +169,13 @@ impl Survey {
         agrees && walk.closes()
     }
 
-    /// Whether there were a renewal and a hundred steps in so many schedules each, and more, on the average.
+    /// Whether the given number of schedules had more than one renewal and a hundred steps each, on average.
     pub fn is_rich(&self, schedules: usize) -> bool {
         self.made / 100 > schedules && self.renewals > schedules
     }
 }
 
-/// Makes each of the calls: whether all could be made.
+/// Makes the calls up to the first that is not possible. Returns whether all were made.
 pub fn makes<B: Beside>(both: &mut B, steps: &[B::Step]) -> bool {
     for step in steps {
         if both.call(*step).is_none() {
@@ -184,12 +185,12 @@ pub fn makes<B: Beside>(both: &mut B, steps: &[B::Step]) -> bool {
     true
 }
 
-/// Asks for the queue to be enabled, answers, and sees it: whether all that could be done.
+/// Asks for enabling, answers, and loads the answer. Returns whether all could be done.
 pub fn enable<B: Beside>(both: &mut B) -> bool {
     ask(both, ControlStep::AskEnable)
 }
 
-/// The same for a disabling.
+/// The same for disabling.
 pub fn disable<B: Beside>(both: &mut B) -> bool {
     ask(both, ControlStep::AskDisable)
 }
@@ -201,7 +202,7 @@ fn ask<B: Beside>(both: &mut B, asks: ControlStep) -> bool {
         && both.call(B::control(ControlStep::LookAnswered)).is_some()
 }
 
-/// A step of the handshake.
+/// Returns a random step of the handshake.
 pub fn random_control(random: &mut Random) -> ControlStep {
     match random.below(7) {
         0 => ControlStep::AskEnable,
@@ -212,19 +213,19 @@ pub fn random_control(random: &mut Random) -> ControlStep {
     }
 }
 
-// Which buffer was posted last at each place of a ring of at most 16, as the machine told it.
+// The buffer that was last posted at each place of a ring of at most 16, according to the machine.
 #[derive(Drop)]
 struct Lying {
     numbers: [u16; 16],
 }
 
 impl Lying {
-    // Nothing was posted.
+    // Nothing is posted.
     fn new() -> Lying {
         Lying { numbers: [0; 16] }
     }
 
-    // Hears the note of a post of this buffer.
+    // Records the place of a posted buffer from its note.
     fn post(&mut self, number: u16, note: &Note) {
         if let Note::Place(place) = note
             && let Some(lies) = self.numbers.get_mut(usize::from(*place))
@@ -233,8 +234,8 @@ impl Lying {
         }
     }
 
-    // Whether a closed ring gave back at this place what the machine has there: the buffer that was posted there, where
-    // the place is with the ring, and none elsewhere.
+    // Whether a closed ring returned at this place what the machine has there: the buffer posted there if the ring owns
+    // the place, else none.
     fn is_at(&self, place: usize, owner: Owner, slots: &[Option<Buf>]) -> bool {
         let Some(slot) = slots.get(place) else {
             return false;
@@ -248,8 +249,8 @@ impl Lying {
     }
 }
 
-/// Renews the queue, where all its buffers came back; else the method that says this returns nothing. It is for a struct
-/// with fields `ring` and `driver`.
+/// Renews the queue if all its buffers are back; otherwise the calling method returns `None`. For a struct with fields
+/// `ring` and `driver`.
 #[macro_export]
 macro_rules! renewed {
     ($both:expr) => {
@@ -261,8 +262,9 @@ macro_rules! renewed {
     };
 }
 
-/// Asks for what the driver may ask for, has the controller answer, and lets the driver see it: whether both saw it so. It
-/// is for a struct with fields `ring`, `driver` and `controller`, of which the last is one of `controller`.
+/// Makes a request of the driver if it may, lets the controller answer it and the driver load the answer. The value is
+/// whether both saw the expected state. For a struct with fields `ring`, `driver` and `controller`, the last from the
+/// crate `controller`.
 #[macro_export]
 macro_rules! asked {
     ($both:expr, $may:ident, $ask:ident, $wanted:path, $then:ident) => {
@@ -275,7 +277,7 @@ macro_rules! asked {
     };
 }
 
-/// Makes a step of the handshake by a call, where its condition holds, on a struct with fields `ring`, `driver` and
+/// Makes a step of the handshake by a call, if its condition holds. For a struct with fields `ring`, `driver` and
 /// `controller` and a method `answer`.
 #[macro_export]
 macro_rules! shake {

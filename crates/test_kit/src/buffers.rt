@@ -1,4 +1,4 @@
-//! Buffers at hand, and their numbers counted.
+//! Spare buffers, and the counting of their numbers.
 ghost use Rattle.std.specs.Prelude.{◌≡◌, ◌≤◌, length};
 ghost use Rattle.buffer_pool.specs.Buffer.{buffer};
 ghost use Rattle.limits.specs.declared.profile.TheConstants.{BUFFER_BYTES};
@@ -7,10 +7,10 @@ use buffer_pool::{Buf, PoolError, Stash, Stock};
 use limits::BUFFER_BYTES;
 use std::alloc::Global;
 
-/// How many buffers a ring has that is walked beside its machine.
+/// The number of buffers of a ring that a test compares with its machine.
 pub const BUFFERS: u32 = 32;
 
-/// A stash of the buffers `0` to `count - 1`, 16 to 256 of them, of which the last comes out first.
+/// Makes a stash of the buffers `0` to `count - 1`, 16 to 256 of them. The last comes out first.
 pub fn full_stash(alloc: Global, count: u32) -> Result<Stash, PoolError> {
     let mut stock = Stock::new(alloc, 0, count)?;
     let mut stash = Stash::new();
@@ -22,14 +22,14 @@ pub fn full_stash(alloc: Global, count: u32) -> Result<Stash, PoolError> {
     Ok(stash)
 }
 
-/// Puts a buffer that has room into a stash that isn't full; any other is dropped.
+/// Puts a buffer with full capacity into a stash that is not full; drops any other.
 pub fn put_back(stash: &mut Stash, buf: Buf) {
     if buf.capacity() == BUFFER_BYTES {
         let _ = stash.put(buf);
     }
 }
 
-/// The buffer with so many bytes in it, each the last byte of `k`.
+/// Returns the buffer filled with `len` bytes, each the last byte of `k`.
 pub fn filled(mut buf: Buf, len: u16, k: u32) -> Buf
     requires room { buf.capacity ≡ BUFFER_BYTES }
     requires fits { len ≤ BUFFER_BYTES }
@@ -50,24 +50,24 @@ pub fn is_filled(buf: &Buf, k: u32) -> bool {
     buf.bytes().iter().all(|byte| *byte == last_byte(k))
 }
 
-/// What a closed ring and its ends gave back.
+/// The buffers that a closed ring and its ends returned.
 #[derive(Drop)]
 pub struct Closed {
-    /// What lay at each place.
+    /// The buffers in the slots, by place.
     pub slots: Vec<Option<Buf>>,
-    /// What was at hand.
+    /// The spare buffers.
     pub spare: Stash,
-    /// What a controller held.
+    /// The buffer that the controller held.
     pub held: Option<Buf>,
 }
 
 impl Closed {
-    /// All of these.
+    /// Collects these buffers.
     pub fn of(slots: Vec<Option<Buf>>, spare: Stash, held: Option<Buf>) -> Closed {
         Closed { slots, spare, held }
     }
 
-    /// Whether the buffers `0` to `count - 1`, 256 at most, are there once each, and no other.
+    /// Whether each of the buffers `0` to `count - 1`, at most 256, is there once, and no other.
     pub fn has_each_once(self, count: usize) -> bool {
         let Closed {
             slots,
@@ -89,13 +89,13 @@ impl Closed {
         numbers.are_each_once(count)
     }
 
-    /// How many places have a buffer.
+    /// Returns the number of places with a buffer.
     pub fn lying(&self) -> usize {
         self.slots.iter().flatten().count()
     }
 }
 
-// Which numbers below 256 were counted.
+// The counted numbers below 256.
 #[derive(Drop)]
 struct Numbers {
     counted: [bool; 256],
@@ -117,7 +117,7 @@ impl Numbers {
         }
     }
 
-    // Whether the numbers below `count` were counted once each, and no other.
+    // Whether each number below `count` was counted once, and no other.
     fn are_each_once(&self, count: usize) -> bool {
         !self.twice
             && self

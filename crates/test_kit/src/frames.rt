@@ -1,9 +1,9 @@
-//! Frames that are told apart by their lengths and their bytes.
+//! Frames with recognizable lengths and bytes.
 ghost use Rattle.std.specs.Prelude.{◌≤◌};
 
 use limits::BUFFER_BYTES;
 
-/// The length of frame `k`: it fits into one buffer.
+/// Returns the length of frame `k`, which fits into one buffer.
 pub fn frame_len(k: u32) -> usize
     ensures { (14 ≤ result) × (result ≤ 2048) }
 {
@@ -15,7 +15,7 @@ fn frame_byte(k: u32, i: usize) -> u8 {
     ((i % 251 + k as usize % 241) % 256) as u8
 }
 
-/// The bytes of frame `k`, and others after its length.
+/// Returns the bytes of frame `k`, followed by others up to a full buffer.
 pub fn frame(k: u32) -> [u8; BUFFER_BYTES] {
     let mut bytes = [0; BUFFER_BYTES];
     for (i, byte) in bytes.iter_mut().enumerate() {
@@ -24,7 +24,7 @@ pub fn frame(k: u32) -> [u8; BUFFER_BYTES] {
     bytes
 }
 
-/// Whether these are the bytes of frame `k`, each of them and no more.
+/// Whether these are exactly the bytes of frame `k`.
 pub fn is_frame(k: u32, bytes: &[u8]) -> bool {
     bytes.len() == frame_len(k)
         && bytes

@@ -1,7 +1,7 @@
-//! What the tests of rings, drivers and controllers share: random numbers, frames that tell themselves apart by their
-//! bytes, buffers that are counted, a running ring beside its pure machine, rows of steps with what each has to tell, and
-//! a controller's end that stores segments. Its contracts have what a test needs to call a ring, and promise nothing else;
-//! of a frame that is begun, `proofs/Begun` has how it grows.
+//! Shared tools for the tests of rings, drivers and controllers: random numbers, frames with recognizable bytes,
+//! counted buffers, a running ring beside its pure machine, rows of steps with expected results, and a controller's end
+//! that stores segments. Depends on `rx_ring`, `ring_model`, `buffer_pool` and `limits`. Its contracts say what a test
+//! needs to call a ring and guarantee nothing else; `proofs/Begun` shows how an unfinished frame grows.
 #![tactic(auto)]
 
 mod beside;

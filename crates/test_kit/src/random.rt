@@ -1,4 +1,4 @@
-//! Random numbers that a seed determines.
+//! Random numbers, determined by a seed.
 ghost use Rattle.std.specs.Prelude.{◌<◌};
 
 /// A generator of random numbers (splitmix64).
@@ -8,12 +8,12 @@ pub struct Random {
 }
 
 impl Random {
-    /// The generator that begins with this seed.
+    /// Makes a generator with this seed.
     pub fn new(seed: u64) -> Random {
         Random { state: seed }
     }
 
-    /// The next number.
+    /// Returns the next number.
     pub fn next(&mut self) -> u64 {
         self.state = self.state.wrapping_add(0x9E37_79B9_7F4A_7C15);
         let mut mixed = self.state;
@@ -22,7 +22,7 @@ impl Random {
         mixed ^ (mixed >> 31)
     }
 
-    /// A number below `count`.
+    /// Returns a number below `count`.
     pub fn below(&mut self, count: u64) -> u64
         requires { 0 < count }
         ensures { result < count }

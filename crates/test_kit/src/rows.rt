@@ -1,17 +1,17 @@
-//! Rows of steps, and of what each has to tell.
+//! Rows of steps with expected results.
 
-/// What makes steps, and tells something of each.
+/// A subject that makes steps and reports a result of each.
 pub trait Tells {
     /// A step.
     type Step: Copy;
-    /// What is told of it.
+    /// The result of a step.
     type Told: Copy + PartialEq;
 
-    /// Makes the step, as far as it can be made.
+    /// Makes the step, as far as it can be made, and returns its result.
     fn make(&mut self, step: Self::Step) -> Self::Told;
 }
 
-/// Makes the steps of the rows, until one tells something else than its row says: how many did not.
+/// Makes the steps of the rows up to the first whose result differs. Returns the number of rows that agreed.
 pub fn told_so<T: Tells>(tells: &mut T, rows: &[(T::Step, T::Told)]) -> usize {
     let mut count = 0usize;
     for (step, wanted) in rows {

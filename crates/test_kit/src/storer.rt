@@ -1,4 +1,4 @@
-//! A controller's end that stores segments. Each call is made where its condition holds, and left out where not.
+//! A controller's end that stores segments. It leaves out each call whose condition does not hold.
 ghost use Rattle.std.specs.Prelude.{◌≡◌, ◌+◌, ◌<◌, ◌≤◌, true, length};
 ghost use Rattle.limits.specs.declared.profile.TheConstants.{BUFFER_BYTES, LEAST_FRAME, MOST_FRAME, MOST_SEGMENTS};
 ghost use Rattle.ring_model.specs.shared.Segments.{piece_of};
@@ -9,7 +9,7 @@ ghost use Rattle.rx_ring.specs.Calls.{IsFreshController};
 use limits::{BUFFER_BYTES, LEAST_FRAME, MOST_FRAME, MOST_SEGMENTS};
 use rx_ring::{ControllerEnd, RxControllerEnd, RxRing};
 
-/// A controller's end, and what is stored of a frame that is begun.
+/// A controller's end, and the size of the unfinished frame.
 #[derive(Drop)]
 pub struct Storer {
     pub controller: RxControllerEnd,
@@ -32,7 +32,7 @@ impl Storer {
         }
     }
 
-    /// Answers what is asked, and tells whether the end serves then.
+    /// Answers a request, if there is one. Returns whether the end then serves.
     pub fn answer(&mut self, ring: &RxRing) -> bool
         requires { self.old.controller.table ≡ ring.now }
         ensures { self.new.controller.table ≡ ring.now }
@@ -49,7 +49,7 @@ impl Storer {
         self.controller.is_serving()
     }
 
-    /// Says that it stores no more.
+    /// Stores the quiet word.
     pub fn say_quiet(&mut self, ring: &RxRing)
         requires { self.old.controller.table ≡ ring.now }
         ensures { self.new.controller.table ≡ ring.now }
@@ -62,7 +62,7 @@ impl Storer {
         }
     }
 
-    /// How many descriptors are free.
+    /// Loads the tail. Returns the number of free descriptors, 0 if the end does not serve.
     pub fn free(&mut self, ring: &RxRing) -> u32
         requires { self.old.controller.table ≡ ring.now }
         ensures { self.new.controller.table ≡ ring.now }
@@ -73,7 +73,7 @@ impl Storer {
         self.controller.look(ring)
     }
 
-    // Whether so many bytes may follow the frame that is begun.
+    // Whether `len` bytes may follow the unfinished frame.
     fn may_follow(&self, len: usize, eop: bool) -> bool
         ensures some { result ≡ true → (0 < len) × (len ≤ BUFFER_BYTES) }
         ensures segments { result ≡ true → self.now.segments < MOST_SEGMENTS }
@@ -89,7 +89,7 @@ impl Storer {
             && (!eop || LEAST_FRAME <= self.bytes + len)
     }
 
-    /// Stores a segment, if a descriptor is free.
+    /// Stores a segment. Returns whether it could.
     pub fn store(&mut self, ring: &RxRing, bytes: &[u8], eop: bool) -> bool
         requires { self.old.controller.table ≡ ring.now }
         ensures { self.new.controller.table ≡ ring.now }

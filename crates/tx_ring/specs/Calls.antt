@@ -1,4 +1,5 @@
--- What the calls of both ends do, where their answer depends on what was loaded; and what the fields of an end keep. It is the same for both ways to report.
+-- The effects of both ends' calls whose result depends on a loaded value, and the invariants of an end's fields. They
+-- are the same for both ways to report.
 use Rattle.std.specs.Prelude.{◌≡◌, ℕ, ◌+◌, ◌-◌, ◌%◌, ◌<◌, ◌≤◌, ◌⊎◌, Bool, true, false, List, [], ◌∷◌, ◌++◌, length, Option, Some, None, slice_get}
 use Rattle.buffer_pool.specs.Buffer.{Buffer, buffer}
 use Rattle.descriptor.specs.declared.tx_read.TxRead.{TxRead}

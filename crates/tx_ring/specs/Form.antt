@@ -1,4 +1,4 @@
--- What is of the transmit direction.
+-- The parts of the transmit direction.
 use Rattle.std.specs.Prelude.{◌≡◌, ℕ, ◌+◌, ◌<◌, true, false, List, length}
 use Rattle.buffer_pool.specs.Buffer.{Buffer, buffer}
 use Rattle.ring_model.specs.shared.Frames.{Bytes, unfinished}

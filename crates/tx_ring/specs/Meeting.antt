@@ -1,4 +1,4 @@
--- What both ends know together: as they are made, as they meet, and as the ring is closed.
+-- What the two ends together establish: when they are made, when they meet, and when the ring is closed.
 use Rattle.std.specs.Prelude.{◌≡◌, ℕ, ◌+◌, ◌-◌, ◌%◌, List, length, Option, Some, None, slice_get}
 use Rattle.buffer_pool.specs.Buffer.{Buffer}
 use Rattle.ring_model.specs.shared.Frames.{Bytes}

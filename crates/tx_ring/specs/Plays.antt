@@ -1,4 +1,4 @@
--- The transmit ring's own steps: the event of each, and what it tells beside that.
+-- The steps that only the transmit ring has: the event of each, and what else it establishes.
 use Rattle.std.specs.Prelude.{◌≡◌, ℕ, ◌+◌, ◌/◌, ◌%◌, ◌^◌, ◌<◌, ◌≤◌, Bool, false, not, nat_lt, ◌==◌, List, length, Option, Some, None, slice_get, if◌then◌else◌}
 use Rattle.buffer_pool.specs.Buffer.{Buffer}
 use Rattle.ring_model.specs.declared.states.Completion.{Completion}

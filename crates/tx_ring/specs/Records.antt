@@ -1,4 +1,4 @@
--- What the records of a transmit ring's two ends amount to.
+-- The contents of the records of a transmit ring's two ends.
 use Rattle.std.specs.Prelude.{ℕ, ◌+◌, ◌-◌, false, List, [], ◌∷◌, ◌++◌, length, Option, Some, None}
 use Rattle.buffer_pool.specs.Buffer.{Buffer}
 use Rattle.descriptor.specs.Transmit.{eop_of, rs_of, paylen_of}

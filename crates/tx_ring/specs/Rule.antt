@@ -1,4 +1,5 @@
--- The rule of a transmit ring's table: between any two steps words, slots and both records agree with one ring that a schedule makes. It is one rule for both ways to report.
+-- The rule of a transmit ring's table: between any two steps, the words, the slots and both records agree with one ring
+-- that a schedule reaches. It is the same for both ways to report.
 use Rattle.std.specs.Prelude.{◌≡◌, ℕ, ◌%◌, Bool, true, List, length, Option, Some, take, slice_get, slice_index}
 use mathlib.Core.Option as maybe
 use Rattle.buffer_pool.specs.Buffer.{Buffer, buffer}

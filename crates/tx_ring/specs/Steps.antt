@@ -1,4 +1,4 @@
--- What the steps answer whose result depends on what was loaded.
+-- The effects of the steps whose result depends on a loaded value.
 use Rattle.std.specs.Prelude.{◌≡◌, ℕ, ◌%◌, Bool, true, false, length, Some, slice_get}
 use Rattle.buffer_pool.specs.Buffer.{Buffer}
 use Rattle.shared_ring.specs.declared.events.DriverEvent.TheVariants as driver

@@ -1,5 +1,5 @@
-//! The controller's end: it answers enabling and disabling, loads the tail, fetches posted descriptors with their
-//! buffers, gives the buffers back once they are sent, and reports.
+//! The controller's end: answers enabling and disabling, loads the tail, fetches posted descriptors with their buffers,
+//! gives the buffers back once they are sent, and reports.
 ghost use Rattle.std.specs.Prelude.{◌≡◌, ◌+◌, ◌%◌, ◌<◌, true, false, [], ◌∷◌, ◌++◌, length, Some, None};
 ghost use Rattle.ring_model.specs.shared.Handshakes.{is_serving};
 ghost use Rattle.shared_ring.specs.declared.events.ControllerEvent.TheVariants.{Own};
@@ -23,19 +23,19 @@ use std::marker::Model;
 
 /// The controller's end of a transmit ring. Contracts see the ring's identity and the record of the end's own steps.
 ///
-/// Whether a call's condition holds is told by `is_serving`, `is_holding`, `is_between_frames`, `owes_report`,
-/// `can_answer` and `ready`.
+/// `is_serving`, `is_holding`, `is_between_frames`, `owes_report`, `can_answer` and `ready` test the conditions of its
+/// calls.
 #[derive(Drop)]
 pub struct TxControllerEnd {
     pub(crate) seat: TxControllerSeat,
     pub(crate) at: ControllerPlaces,
-    // the place of the last that was sent, for its report
+    // the place of the last sent segment, for its report
     last: u16,
-    // whether the descriptor that was fetched last ends its frame (EOP)
+    // whether the last fetched descriptor ends its frame (EOP)
     ends: bool,
     // whether it asks for a report (RS)
     asks: bool,
-    // whether a report is owed, of the last that was sent
+    // whether a report of the last sent segment is owed
     owed: bool,
 }
 
@@ -68,8 +68,8 @@ impl TxControllerEnd {
         }
     }
 
-    /// Loads the next descriptor and takes its buffer: what the descriptor says, and the bytes that were posted. Once a
-    /// frame is begun, all of it is known to be ready.
+    /// Loads the next descriptor and takes its buffer. Returns the buffer with the posted bytes, and the contents of
+    /// the descriptor. Once a frame is begun, all of its descriptors are known to be ready.
     #[inline]
     pub fn fetch(&mut self, ring: &TxRing) -> (Buf, TxRead)
         requires own { self.old.table ≡ ring.now }
@@ -93,7 +93,7 @@ impl TxControllerEnd {
         (buf, read)
     }
 
-    /// How many descriptors the end knows to be ready: from the next one up to the tail that it loaded last.
+    /// How many descriptors the end knows to be ready, from the next one up to the tail that it loaded last.
     #[inline]
     pub fn ready(&self) -> u32
         ensures { result ≡ known_ready self.now }
@@ -101,8 +101,8 @@ impl TxControllerEnd {
         self.at.ahead as u32
     }
 
-    /// Gives the buffer that was fetched back into its slot, as sent, and stores the head (TDH): the place after it.
-    /// Where its descriptor asked for a report (RS), one is owed.
+    /// Gives the fetched buffer back into its slot, as sent, and stores the head (TDH): the place after it. If its
+    /// descriptor asked for a report (RS), the end owes one.
     #[inline]
     pub fn give_back(&mut self, ring: &TxRing, buf: Buf)
         requires own { self.old.table ≡ ring.now }
@@ -120,7 +120,7 @@ impl TxControllerEnd {
         self.owed = self.asks;
     }
 
-    /// Whether the last that was sent asked for a report, and none is made yet.
+    /// Whether the last sent segment asked for a report that is not made yet.
     #[inline]
     pub fn owes_report(&self) -> bool
         ensures { result ≡ is_owed self.now }
@@ -128,7 +128,7 @@ impl TxControllerEnd {
         self.owed
     }
 
-    /// Reports the last that was sent, and so all before it (82599 datasheet, 7.2.3.5).
+    /// Reports the last that was sent, and so all segments before it (82599 datasheet, 7.2.3.5).
     #[inline]
     pub fn report(&mut self, ring: &TxRing)
         requires own { self.old.table ≡ ring.now }

@@ -3,8 +3,8 @@
 use crate::events::{TxControllerOwn, TxDriverOwn};
 use shared_ring::{ControllerSeat, Direction, DriverSeat, Ring};
 
-/// Between any two steps, the words, the slots and both records agree with one ring that a schedule makes. It is one
-/// rule for both ways to report.
+/// The rule of a transmit ring: between any two steps, the words, the slots and both records agree with one ring that a
+/// schedule reaches. It is the same for both ways to report.
 pub struct TxRule;
 
 impl Direction<TxDriverOwn, TxControllerOwn> for TxRule {

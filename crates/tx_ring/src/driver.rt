@@ -1,5 +1,5 @@
-//! The driver's end: it enables and disables the queue, posts frames, publishes them by the tail, looks for reports, and
-//! cleans up after what is reported.
+//! The driver's end: enables and disables the queue, posts frames, publishes them by the tail, looks for reports, and
+//! cleans up after reported frames.
 ghost use Rattle.std.specs.Prelude.{◌≡◌, ◌+◌, ◌-◌, ◌%◌, ◌<◌, ◌≤◌, true, false, [], ◌∷◌, ◌++◌, length};
 ghost use Rattle.std.specs.Box.{boxed_slice_items};
 ghost use Rattle.buffer_pool.specs.Buffer.{buffer};
@@ -28,23 +28,22 @@ use std::marker::Model;
 
 /// The driver's end of a transmit ring. Contracts see the ring's identity and the record of the end's own steps.
 ///
-/// Whether a call's condition on the state holds is told by `is_new`, `is_open`, `is_live`, `is_on`, `is_stopped`,
-/// `is_whole` and `reported`.
+/// `is_new`, `is_open`, `is_live`, `is_on`, `is_stopped`, `is_whole` and `reported` test the conditions of its calls.
 #[derive(Drop)]
 pub struct TxDriverEnd {
     pub(crate) seat: TxDriverSeat,
     pub(crate) at: DriverPlaces,
-    // the place after the newest item that is seen reported
+    // the place after the newest item that the end saw reported
     seen: u16,
-    // how many items are seen reported and not cleaned
+    // how many items the end saw reported and has not cleaned
     done: u16,
     // how many items are posted and not seen reported
     unseen: u16,
-    // whether the last that was posted ends a frame, or nothing is posted
+    // whether the last posted segment ends a frame, or nothing is posted
     whole: bool,
-    // at each place, whether a report was asked for
+    // whether a report was asked for, by place
     asks: BoxedSlice<bool, Global>,
-    // how many of those that are not seen reported, the oldest first, are known to have asked for none
+    // how many of the oldest items not seen reported are known to ask for no report
     passed: u16,
 }
 
@@ -81,7 +80,7 @@ impl TxDriverEnd {
         }
     }
 
-    /// How many buffers are seen reported and not cleaned.
+    /// How many buffers the end saw reported and has not cleaned.
     #[inline]
     pub fn reported(&self) -> u32
         ensures { result + length (cleaned self.now) ≡ seen_reported self.now }
@@ -89,7 +88,7 @@ impl TxDriverEnd {
         self.done as u32
     }
 
-    /// Whether the last that was posted ends a frame, or nothing is posted.
+    /// Whether the last posted segment ends a frame, or nothing is posted.
     #[inline]
     pub fn is_whole(&self) -> bool
         ensures value { result ≡ are_whole (posted self.now) }
@@ -99,8 +98,8 @@ impl TxDriverEnd {
     }
 
     /// Posts a buffer with the next segment of a frame: it goes into the slot, and the descriptor says its length, EOP
-    /// where it ends the frame, RS where a report is asked for, and the whole frame's length (82599 datasheet,
-    /// 7.2.3.2.4). The controller sees it once it is published.
+    /// if it ends the frame, RS if it asks for a report, and the length of the whole frame (82599 datasheet,
+    /// 7.2.3.2.4). The controller sees it after `publish`.
     #[inline]
     pub fn post(&mut self, ring: &TxRing, buf: Buf, eop: bool, rs: bool, paylen: u16)
         requires own { self.old.table ≡ ring.now }
@@ -120,7 +119,7 @@ impl TxDriverEnd {
         self.whole = eop;
     }
 
-    /// Stores the tail (TDT): all that is posted is the controller's to send.
+    /// Stores the tail (TDT), which gives all posted segments to the controller.
     #[inline]
     pub fn publish(&mut self, ring: &TxRing)
         requires own { self.old.table ≡ ring.now }
@@ -133,7 +132,7 @@ impl TxDriverEnd {
         self.seat.publish(&ring.0, self.at.fill);
     }
 
-    // How many places the oldest outstanding report is ahead of those that are seen reported.
+    // Returns how many places the oldest outstanding report is ahead of those seen reported.
     fn oldest(&self) -> Option<u16>
         ensures { OldestAhead self.now result }
     {
@@ -147,9 +146,9 @@ impl TxDriverEnd {
         None
     }
 
-    /// Looks for the oldest report that was asked for and not seen, and answers whether it is made: then all up to it
-    /// can be cleaned (82599 datasheet, 7.2.3.5). Without a step where no report is outstanding, or the queue isn't
-    /// live.
+    /// Looks for the oldest report that was asked for and not seen, and returns whether it is made. If it is, all
+    /// buffers up to it can be cleaned (82599 datasheet, 7.2.3.5). Makes no step if no report is outstanding or the
+    /// queue is not live.
     #[inline]
     pub fn poll_report(&mut self, ring: &TxRing) -> bool
         requires own { self.old.table ≡ ring.now }
@@ -174,7 +173,7 @@ impl TxDriverEnd {
         true
     }
 
-    /// Takes the oldest buffer that is reported back, with the bytes that were posted.
+    /// Takes back the oldest reported buffer, with the bytes that were posted.
     #[inline]
     pub fn clean(&mut self, ring: &TxRing) -> Buf
         requires own { self.old.table ≡ ring.now }
@@ -189,8 +188,8 @@ impl TxDriverEnd {
         buf
     }
 
-    /// Loads the head, and answers how many of the postings were not sent when the disabling was answered. It stays
-    /// so: nothing more is sent in this epoch.
+    /// Loads the head. Returns the number of postings that were not sent when the disabling was answered. The number is
+    /// final: nothing more is sent in this epoch.
     #[inline]
     pub fn left(&mut self, ring: &TxRing) -> u32
         requires own { self.old.table ≡ ring.now }
@@ -201,8 +200,8 @@ impl TxDriverEnd {
         places_between(head, self.at.fill, self.at.size) as u32
     }
 
-    /// Takes the oldest buffer that is out back, of a queue whose disabling was seen answered; none where all came
-    /// back. Its bytes are those that were posted.
+    /// Takes back the oldest buffer that is out, after the disabling was seen answered. Returns `None` if all are back.
+    /// The buffer has the bytes that were posted.
     #[inline]
     pub fn reclaim(&mut self, ring: &TxRing) -> Option<Buf>
         requires own { self.old.table ≡ ring.now }
@@ -212,8 +211,8 @@ impl TxDriverEnd {
         self.seat.reclaim_next(&ring.0, &mut self.at)
     }
 
-    /// Clears head and tail of a queue from which all buffers came back, and the head word of reports where there is
-    /// one, so that it can be enabled again: a new epoch begins.
+    /// Clears the head, the tail, and the head word of reports if there is one, once all buffers are back, so that the
+    /// queue can be enabled again. A new epoch begins.
     pub fn renew(&mut self, ring: &TxRing)
         requires own { self.old.table ≡ ring.now }
         requires stopped { is_stopped (driver_state self.old) ≡ true }
@@ -230,7 +229,7 @@ impl TxDriverEnd {
     }
 }
 
-/// The place so many after `place`.
+/// Returns the place `ahead` places after `place`.
 #[inline]
 fn place_ahead(place: u16, ahead: u16, size: u16) -> u16
     requires place { place < size }

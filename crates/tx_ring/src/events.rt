@@ -1,28 +1,27 @@
-//! What an end's record has in it beside the steps that both directions share. Values of these types are in proofs
-//! alone: no code makes one.
+//! The events that only the transmit ring's ends record. Values of these types exist in proofs only: no code makes one.
 
 use buffer_pool::Buf;
 use shared_ring::{ControllerEvent, DriverEvent};
 
-/// A step of a transmit driver's own, with the place of the word that it stored or loaded, and that word.
+/// A step that only a transmit driver has, with the place of the word that it stored or loaded, and that word.
 pub enum TxDriverOwn {
-    /// B7: the word of the oldest outstanding report was loaded, and does not report it.
+    /// B7: loaded the word of the oldest outstanding report, which does not report it.
     NoReport(u64, u64),
-    /// B7: the word of the oldest outstanding report was loaded, and reports it and all before it.
+    /// B7: loaded the word of the oldest outstanding report, which reports it and all before it.
     SawReport(u64, u64),
-    /// B8: a descriptor was stored as 0, and this buffer taken out of its slot.
+    /// B8: stored 0 as a descriptor, and took this buffer out of its slot.
     Cleaned(u64, Buf),
-    /// C10 of a ring that reports by its descriptors: the tail was stored as 0, and the epoch ended.
+    /// C10 in a ring that reports by its descriptors: stored 0 as the tail, which ended the epoch.
     EndedEpoch,
-    /// C12: the head word of reports was stored as 0, and the epoch ended.
+    /// C12: stored 0 as the head word of reports, which ended the epoch.
     ClearedReport,
 }
 
-/// A step of a transmit controller's own.
+/// A step that only a transmit controller has.
 pub enum TxControllerOwn {
-    /// B5: the head was stored, and this buffer, whose descriptor had this word, put into its slot.
+    /// B5: stored the head, and put this buffer, whose descriptor had this word, into its slot.
     Sent(u64, u64, Buf),
-    /// B6: a report was stored at the place of this word.
+    /// B6: stored this word as a report at this place.
     Reported(u64, u64),
 }
 

@@ -1,19 +1,22 @@
-//! One transmit ring of the 82599 that a driver and a controller share without a lock, each in a thread of its own.
+//! A transmit ring of the 82599 that a driver and a controller share without a lock, each in its own thread. Depends on
+//! `shared_ring`, `ring_model`, `buffer_pool`, `descriptor` and `limits`, and on `atomic_table` in contracts.
+//! Guarantees for every interleaving that the sent segments are a prefix of the posted ones, byte for byte, each once
+//! and in order.
 //!
-//! A ring has a word for each descriptor, a head, a tail and a control word, and a slot for a buffer at each place. Each
-//! call of an end is one sequentially consistent load or store of one word, or none (a renewal is two or three), and a
-//! slot is exchanged only by the end to which that step gave it. No call takes a lock or waits: none is passed what it
-//! would need for that.
+//! A ring has a word for each descriptor, a head, a tail and a control word, and a slot for a buffer at each place.
+//! Each call of an end makes one sequentially consistent load or store of one word, or none; only `renew` makes two or
+//! three stores. A slot's buffer is exchanged only by the end to which a step gave the slot. No call locks or waits:
+//! none takes a parameter that would let it.
 //!
-//! The controller reports what it has sent either by DD in the descriptor that asked for a report, or by its head in a
-//! word of its own (`Completion`). A caller of `poll_report`, `report` and `clean` may rely on the same in both.
+//! The controller reports sent segments either by DD in the descriptor that asked for a report, or by its head in a
+//! separate word (`Completion`). `poll_report`, `report` and `clean` guarantee the same for both.
 //!
-//! A ring begins disabled. The driver asks for it to be enabled and disabled, and the controller answers; once all
-//! buffers of a disabled ring are reclaimed, it can be renewed and enabled again.
+//! A ring begins disabled. The driver asks for enabling and disabling, and the controller answers. Once all buffers of
+//! a disabled ring are reclaimed, it can be renewed and enabled again.
 //!
-//! Each end keeps a record of the words that it loaded and stored, in proofs alone. Between any two steps the words,
-//! the slots and both records agree with a ring of `ring_model` that some schedule of steps makes, and so with a
-//! lawful one: what is sent is a beginning of what is posted, byte for byte, in order, each once.
+//! Each end keeps a record of the words that it loaded and stored, in proofs only. Between any two steps the words, the
+//! slots and both records agree with a ring of `ring_model` that some schedule reaches, and therefore with a lawful
+//! one.
 #![tactic(auto)]
 
 mod controller;

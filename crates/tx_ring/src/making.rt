@@ -1,4 +1,4 @@
-//! The making of a ring, the meeting of its ends, and its closing.
+//! Making a ring, the meeting of its ends, and closing it.
 ghost use Rattle.std.specs.Prelude.{◌≡◌, ◌↔◌, ◌≤◌, length, IfOk};
 ghost use Rattle.limits.specs.RingLength.{IsRingLength};
 ghost use Rattle.ring_model.specs.declared.states.Completion.TheVariants as completion;
@@ -18,8 +18,8 @@ use shared_ring::{DriverEnd, RingError};
 use std::alloc::Global;
 
 impl TxRing {
-    /// A ring of `n` descriptors that reports by its descriptors, disabled, with nothing posted. It answers
-    /// `RingLength` where `n` is no power of two from 8 to 4,096, and `Memory` only where memory was refused.
+    /// Makes a ring of `n` descriptors that reports by its descriptors, disabled, with nothing posted. Returns
+    /// `RingLength` if `n` is not a power of two from 8 to 4,096, and `Memory` only if memory was refused.
     pub fn new(alloc: Global, n: u32) -> Result<(TxRing, TxDriverEnd, TxControllerEnd), RingError>
         ensures refused { (result ≡ Err RingError.RingLength) ↔ ¬ (IsRingLength n) }
         ensures made { IfOk result (λ r. MadeSeats n completion.Status r.0 r.1 r.2) }
@@ -27,7 +27,7 @@ impl TxRing {
         Self::new_with(alloc, n, Completion::Status)
     }
 
-    /// The same for a ring that reports as is said.
+    /// Like `new`, for a ring that reports as `completion` says.
     pub fn new_with(
         alloc: Global,
         n: u32,
@@ -53,12 +53,11 @@ impl TxRing {
     }
 }
 
-/// Both ends, in one place, learn that their records are those of one lawful ring. It changes nothing of the ring and
-/// of the ends. Its loads are kept in no record.
+/// Establishes, with both ends in one place, that their records belong to one lawful ring. The ring and its ends do not
+/// change, and no record keeps the loads.
 ///
-/// What is said of the ledger is of the driver's epoch: as long as the controller has not answered its enabling,
-/// nothing is sent in it. Where the driver loaded the head after its disabling was answered, so many postings were left
-/// as that told; where all that was posted is cleaned, all of it was sent.
+/// The ledger is that of the driver's epoch: until the controller answers its enabling, nothing is sent in it. A number
+/// that `left` returned is the number of postings not sent. If all postings are cleaned, all were sent.
 pub fn meet_tx(ring: &TxRing, driver: &mut TxDriverEnd, controller: &mut TxControllerEnd)
     requires driver { driver.old.table ≡ ring.now }
     requires controller { controller.old.table ≡ ring.now }
@@ -73,10 +72,10 @@ pub fn meet_tx(ring: &TxRing, driver: &mut TxDriverEnd, controller: &mut TxContr
     ring.0.meet(&mut driver.seat, &mut controller.seat);
 }
 
-/// Closes a ring, wherever its two ends stand: one entry a place, with the buffer that lay there where one did, be it
-/// posted, published or sent. A place whose buffer the controller has fetched, and those of the driver, have
-/// none. So each buffer that is out comes back once, but one that the controller holds; none is a blank. The list
-/// stands in the room that `new` reserved, so this takes no memory.
+/// Closes a ring in any state of its two ends. Returns one entry for each place, with the buffer in its slot: posted,
+/// published or sent. The entry is `None` for a place of the driver, and for one whose buffer the controller has
+/// fetched. Each buffer that is out comes back once, except one that the controller holds; none is a blank. The list
+/// uses the room that `new_with` reserved, so this takes no memory.
 pub fn close(ring: TxRing, driver: TxDriverEnd, controller: TxControllerEnd) -> Vec<Option<Buf>>
     requires driver { driver.table ≡ ring }
     requires controller { controller.table ≡ ring }

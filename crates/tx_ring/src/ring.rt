@@ -5,7 +5,7 @@ use crate::direction::TxShared;
 use shared_ring::SharedRing;
 use std::marker::Model;
 
-/// A transmit ring. Its two ends are made with it, and each call on an end takes the ring that the end was made with.
+/// A transmit ring, made together with its two ends. Each call on an end takes the ring that the end was made with.
 /// Contracts see it as the identity of its table, whose `slots` are the ring's length.
 #[derive(Drop)]
 pub struct TxRing(pub(crate) TxShared);

@@ -1,4 +1,4 @@
--- The fields of a move's line as the reader has them.
+-- The fields of a move's line, as the reader sees them.
 use Rattle.std.specs.Prelude.{◌≡◌, ◌<◌, ◌^◌, ℕ, List, Option}
 use Rattle.std.specs.Borrow.{Bor}
 use Rattle.std.specs.List.{AllByRecursion}

@@ -1,4 +1,5 @@
--- What a receive queue's machine computes of each step, over its places and words: whether it makes it, what it answers, and what it is then.
+-- What a receive queue's machine computes for each step, over its places and words: whether it makes the step, its
+-- result, and its next state.
 use Rattle.std.specs.Prelude.{ℕ, ◌/◌, ◌%◌, ◌^◌, Bool, true, false, not, ◌&&◌, ◌==◌, Option, Some, None, Result, Ok, is_none, slice_index, if◌then◌else◌}
 use Rattle.ring_model.specs.declared.steps.RxStep.{RxStep}
 use Rattle.ring_model.specs.declared.steps.RxStep.TheVariants.{Post, Publish, Look, Fetch, Store, Take, Head, Control, Reclaim, StoreQuiet, LoadQuiet, ClearHead, ClearTail, ClearQuiet}

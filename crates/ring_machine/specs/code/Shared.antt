@@ -1,4 +1,4 @@
--- What a queue's machine computes of each step that both directions share, over its places and words.
+-- What a queue's machine computes for each step of both directions, over its places and words.
 use Rattle.std.specs.Prelude.{ℕ, replicate, Bool, true, not, ◌&&◌, ◌==◌, List, Option, Some, None, Result, Ok, Err, is_none, slice_set, if◌then◌else◌}
 use Rattle.ring_model.specs.declared.states.DriverState.TheVariants.{New, Cleared, Tailed}
 use Rattle.ring_model.specs.declared.steps.ControlStep.{ControlStep}

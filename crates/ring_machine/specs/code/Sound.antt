@@ -1,4 +1,4 @@
--- What the fields of a machine's core keep, whatever it agrees with.
+-- The invariants of a machine's core, whatever it agrees with.
 use Rattle.std.specs.Prelude.{◌≡◌, ℕ, ◌<◌, ◌≤◌, length}
 use Rattle.limits.specs.declared.profile.TheConstants.{MOST_RING}
 use Rattle.ring_model.specs.shared.Agreement.{Wrapped}

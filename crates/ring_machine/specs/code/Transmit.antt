@@ -1,4 +1,5 @@
--- What a transmit queue's machine computes of each step, over its places and words: whether it makes it, what it answers, and what it is then.
+-- What a transmit queue's machine computes for each step, over its places and words: whether it makes the step, its
+-- result, and its next state.
 use Rattle.std.specs.Prelude.{ℕ, nat_le, Bool, true, false, not, ◌&&◌, ◌==◌, Option, Some, None, Result, Ok, is_none, slice_index, if◌then◌else◌}
 use Rattle.ring_model.specs.declared.steps.TxStep.{TxStep}
 use Rattle.ring_model.specs.declared.steps.TxStep.TheVariants.{Post, Publish, Look, Fetch, Send, Report, LoadReport, Clean, Control, Reclaim, ClearHead, ClearTail, ClearReport}

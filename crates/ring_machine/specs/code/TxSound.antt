@@ -1,4 +1,4 @@
--- What the fields of a transmit machine keep, whatever it agrees with, and which postings its words can hold.
+-- The invariants of a transmit machine, whatever it agrees with, and which postings its words can hold.
 use Rattle.std.specs.Prelude.{ℕ, ◌^◌, ◌<◌}
 use Rattle.ring_model.specs.declared.steps.TxStep.{TxStep}
 use Rattle.ring_model.specs.declared.steps.TxStep.TheVariants.{Post}

@@ -1,4 +1,4 @@
--- What the words of transmit descriptors say, and where the first of them stands that asks for a report.
+-- The fields of transmit descriptors' words, and the first descriptor that asks for a report.
 use Rattle.std.specs.Prelude.{ℕ, zero, suc, ◌-◌, ◌/◌, ◌%◌, ◌^◌, Bool, ◌||◌, ◌==◌, List, Option, Some, None, slice_index, if◌then◌else◌}
 use Rattle.ring_model.specs.transmit.Agreement.{done_word}
 use Rattle.ring_model.specs.shared.Places.{place_next}

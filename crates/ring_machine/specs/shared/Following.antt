@@ -1,4 +1,4 @@
--- What is promised of a machine's steps by the ring that it agrees with.
+-- What the ring that a machine agrees with guarantees of the machine's steps.
 use Rattle.std.specs.Prelude.{◌≡◌, ℕ, Bool, List, Option, Some, None, Result, if◌then◌else◌, Ok, Err}
 use Rattle.std.specs.Option.{ok_or}
 use Rattle.ring_model.specs.declared.notes.Note.{Note}

@@ -1,4 +1,4 @@
--- What every machine's places, words and slots are.
+-- The places, words and slots of every machine.
 use Rattle.std.specs.Prelude.{ℕ, nat_lt, not, ◌&&◌, ◌==◌, is_none, if◌then◌else◌}
 use Rattle.ring_model.specs.declared.states.Owner.{Owner}
 use Rattle.ring_model.specs.declared.states.Owner.TheVariants.{Driver, Ring, Controller}

@@ -1,4 +1,4 @@
--- The ranges of what a transmit descriptor is posted with.
+-- The ranges of the contents of a posted transmit descriptor.
 use Rattle.std.specs.Prelude.{◌≡◌, ℕ, ◌<◌, ◌≤◌, Bool, true}
 use Rattle.limits.specs.declared.profile.TheConstants.{BUFFER_BYTES, LEAST_FRAME, MOST_FRAME}
 

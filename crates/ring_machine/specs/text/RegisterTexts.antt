@@ -1,4 +1,4 @@
--- What is printed of a queue's registers.
+-- The printed text of a queue's registers.
 use Rattle.std.specs.Prelude.{ℕ, Bool, List, ◌++◌, codes, decimal}
 use Rattle.ring_model.specs.shared.Agreement.{bit}
 use Rattle.ring_machine.specs.declared.registers.Registers.{Registers}

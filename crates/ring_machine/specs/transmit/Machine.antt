@@ -1,4 +1,4 @@
--- A transmit queue's machine: what it has, and what is promised of its steps by the ring that it agrees with.
+-- A transmit queue's machine: its parts, and what the ring that it agrees with guarantees of its steps.
 use Rattle.std.specs.Prelude.{◌≡◌, ℕ, ◌%◌, ◌^◌, ◌<◌, ◌≤◌, Bool, true, List, Option, Some, Result, slice_get}
 use Rattle.ring_model.specs.declared.states.Completion.{Completion}
 use Rattle.ring_model.specs.declared.states.Owner.{Owner}

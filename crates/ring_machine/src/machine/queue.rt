@@ -1,5 +1,5 @@
-//! One queue as a machine, whichever its direction: its words and slots by place, and what driver and controller keep for
-//! themselves.
+//! The core of a machine of either direction: its words and slots by place, and the private state of driver and
+//! controller.
 
 ghost use Rattle.std.specs.Prelude.{◌≡◌, ◌<◌, ◌≤◌, ◌↔◌, ◌⊎◌, ◌&&◌, not, ◌==◌, Some, IfErr, IfOk, is_none, length, replicate, slice_index};
 ghost use Rattle.limits.specs.RingLength.{IsRingLength};
@@ -20,8 +20,8 @@ use ring_model::{ControlStep, DriverState, Handshake, Owner, place_after, places
 use std::alloc::Global;
 use std::marker::Model;
 
-/// What a receive and a transmit queue's machine share. It has no lists of what was posted, served and given back: they
-/// are the ring's that it agrees with.
+/// The common part of a receive and a transmit queue's machine. It has no lists of posted, served and returned items:
+/// these belong to the ring that it agrees with.
 #[derive(Drop)]
 pub struct QueueMachine {
     size: u16,
@@ -51,9 +51,9 @@ impl Model for QueueMachine {
     ghost invariant = { λ m. IsSound (wrapped_of m) };
 }
 
-// What the queue is.
+// Reading the queue.
 impl QueueMachine {
-    /// How many places it has.
+    /// Returns the number of places.
     pub fn size(&self) -> u16
         ensures value { result ≡ self.now.size }
         ensures sound { IsSound self.now }
@@ -61,7 +61,7 @@ impl QueueMachine {
         self.size
     }
 
-    /// How far the two sides are with enabling and disabling it.
+    /// Returns how far the two sides are in enabling and disabling the queue.
     pub fn handshake(&self) -> Handshake
         ensures value { result ≡ self.now.handshake }
         ensures sound { IsSound self.now }
@@ -69,7 +69,7 @@ impl QueueMachine {
         self.handshake
     }
 
-    /// The next place to post.
+    /// Returns the next place to post.
     pub fn fill(&self) -> u16
         ensures value { result ≡ self.now.fill }
         ensures below { result < self.now.size }
@@ -77,7 +77,7 @@ impl QueueMachine {
         self.fill
     }
 
-    /// The next place to take out.
+    /// Returns the next place to take out.
     pub fn next(&self) -> u16
         ensures value { result ≡ self.now.next }
         ensures below { result < self.now.size }
@@ -85,7 +85,7 @@ impl QueueMachine {
         self.next
     }
 
-    /// The controller's next place to fetch.
+    /// Returns the next place that the controller fetches.
     pub fn serve_place(&self) -> u16
         ensures value { result ≡ self.now.serve }
         ensures below { result < self.now.size }
@@ -93,14 +93,14 @@ impl QueueMachine {
         self.serve
     }
 
-    /// The tail that the controller loaded last.
+    /// Returns the tail that the controller loaded last.
     pub fn known(&self) -> u16
         ensures { result ≡ self.now.known }
     {
         self.known
     }
 
-    /// What its registers hold, as those of a queue of this side.
+    /// Returns the values of the registers, as those of a queue of this side.
     pub fn registers(&self, side: Side) -> Registers
         ensures { result ≡ registers_held side self.now }
     {
@@ -112,21 +112,21 @@ impl QueueMachine {
         }
     }
 
-    /// Whether the last that was served ends a frame, or nothing was served.
+    /// Whether the last served segment ends a frame, or nothing was served.
     pub(crate) fn is_whole(&self) -> bool
         ensures { result ≡ self.now.whole }
     {
         self.whole
     }
 
-    /// Whether the controller has fetched a buffer.
+    /// Whether the controller holds a fetched buffer.
     pub(crate) fn is_holding(&self) -> bool
         ensures { result ≡ not (is_none self.now.held) }
     {
         self.held.is_some()
     }
 
-    /// The word at a place.
+    /// Returns the word at a place.
     pub fn word(&self, place: u16) -> u64
         requires { place < self.now.size }
         ensures { result ≡ slice_index self.now.words place }
@@ -134,7 +134,7 @@ impl QueueMachine {
         self.words[usize::from(place)]
     }
 
-    /// The words by place.
+    /// Returns the words by place.
     pub(crate) fn words(&self) -> &[u64]
         ensures value { result.now ≡ self.now.words }
         ensures all { length result.now ≡ self.now.size }
@@ -163,7 +163,7 @@ impl QueueMachine {
         self.is_idle() && self.serve != self.known
     }
 
-    /// Whether all that was posted is with the driver again.
+    /// Whether all posted buffers are back with the driver.
     pub(crate) fn are_all_back(&self) -> bool
         ensures { result ≡ are_all_back self.now }
     {
@@ -184,7 +184,7 @@ impl QueueMachine {
         matches!(step, ControlStep::Answer) && self.handshake.can_enable()
     }
 
-    /// Who has this place, as its places tell.
+    /// Returns the owner of this place, computed from the held buffer and the places `serve`, `next` and `fill`.
     pub fn owner(&self, place: u16) -> Owner
         requires { place < self.now.size }
         ensures told { result ≡ told_owner self.now place }
@@ -201,7 +201,7 @@ impl QueueMachine {
         }
     }
 
-    /// The number of the buffer in the slot at a place, if one lies there.
+    /// Returns the number of the buffer in the slot at a place, or `None` if it is empty.
     pub fn slot(&self, place: u16) -> Option<u16>
         requires { place < self.now.size }
         ensures { result ≡ slot_at self.now.slots place }
@@ -210,9 +210,9 @@ impl QueueMachine {
     }
 }
 
-// What each step does.
+// The effect of each step.
 impl QueueMachine {
-    /// Posts a buffer with this word. It answers the place.
+    /// Posts a buffer with this word. Returns the place.
     pub(crate) fn post(&mut self, buffer: u16, word: u64) -> u16
         ensures place { result ≡ self.old.fill }
         ensures moved { self.new ≡ after_post self.old buffer word }
@@ -224,7 +224,7 @@ impl QueueMachine {
         place
     }
 
-    /// Stores the tail, and answers it.
+    /// Stores the tail and returns it.
     pub(crate) fn publish(&mut self) -> u16
         ensures tail { result ≡ self.old.fill }
         ensures moved { self.new ≡ after_publish self.old }
@@ -233,7 +233,7 @@ impl QueueMachine {
         self.fill
     }
 
-    /// Loads the tail. It answers how many descriptors the controller then knows of.
+    /// Loads the tail. Returns how many descriptors the controller then knows of.
     pub(crate) fn look(&mut self) -> u16
         ensures count { result ≡ between_places self.old.size self.old.serve self.old.tail }
         ensures moved { self.new ≡ after_look self.old }
@@ -242,7 +242,7 @@ impl QueueMachine {
         places_between(self.serve, self.tail, self.size)
     }
 
-    /// Fetches the next buffer, and answers it.
+    /// Fetches the next buffer and returns its number.
     pub(crate) fn fetch(&mut self) -> Option<u16>
         ensures buffer { result ≡ slot_at self.old.slots self.old.serve }
         ensures moved { self.new ≡ after_fetch self.old (slot_at self.old.slots self.old.serve) }
@@ -254,8 +254,8 @@ impl QueueMachine {
         Some(buffer)
     }
 
-    /// Gives the fetched buffer back, with this word where it gets one, and answers it. `ends` says whether it ends a
-    /// frame.
+    /// Gives the fetched buffer back, with this word if there is one, and returns its number. `ends` says whether it
+    /// ends a frame.
     pub(crate) fn serve(&mut self, word: Option<u64>, ends: bool) -> Option<u16>
         ensures buffer { result ≡ self.old.held }
         ensures moved { self.new ≡ after_serve self.old word ends self.old.held }
@@ -270,7 +270,7 @@ impl QueueMachine {
         Some(buffer)
     }
 
-    /// Stores the head, and answers it.
+    /// Stores the head and returns it.
     pub(crate) fn store_head(&mut self) -> u16
         ensures head { result ≡ self.old.serve }
         ensures moved { self.new ≡ after_head self.old }
@@ -279,7 +279,7 @@ impl QueueMachine {
         self.serve
     }
 
-    /// Takes the next buffer out, with this word where it gets one, and answers it.
+    /// Takes the next buffer out, with this word if there is one, and returns its number.
     pub(crate) fn take_out(&mut self, word: Option<u64>) -> Option<u16>
         ensures buffer { result ≡ slot_at self.old.slots self.old.next }
         ensures moved { self.new ≡ after_out self.old word (slot_at self.old.slots self.old.next) }
@@ -292,7 +292,7 @@ impl QueueMachine {
         Some(buffer)
     }
 
-    /// Stores a word at a place, if there is one to store.
+    /// Stores a word at a place, if there is one.
     pub(crate) fn write(&mut self, place: u16, word: Option<u64>)
         requires { place < self.old.size }
         ensures { self.new ≡ record self.old { words = word_put self.old.words place word } }
@@ -302,7 +302,7 @@ impl QueueMachine {
         }
     }
 
-    /// Makes a step of the handshake. It answers the control value that was stored or loaded.
+    /// Makes a step of the handshake. Returns the control value that was stored or loaded.
     pub(crate) fn shake(&mut self, step: ControlStep) -> u8
         ensures control { result ≡ control_value self.old.handshake step }
         ensures moved { self.new ≡ after_shake self.old step }
@@ -332,7 +332,7 @@ impl QueueMachine {
         self.handshake.driver = DriverState::Tailed;
     }
 
-    /// Begins another epoch.
+    /// Begins the next epoch.
     pub(crate) fn renew(&mut self)
         ensures { self.new ≡ after_renew self.old }
     {
@@ -342,9 +342,9 @@ impl QueueMachine {
     }
 }
 
-// How it is made.
+// Construction.
 impl QueueMachine {
-    // A queue with nothing in it.
+    // An empty queue.
     fn begun(words: Vec<u64>, slots: Vec<Option<u16>>, size: u16, enabled: bool) -> QueueMachine
         requires some_places { 1 < size }
         requires few_places { size ≤ MOST_RING }
@@ -368,8 +368,8 @@ impl QueueMachine {
         }
     }
 
-    /// A queue of `n` places with nothing posted. It answers `RingLength` where `n` is no power of two from 8 to 4,096,
-    /// and `Memory` only where memory was refused.
+    /// Makes a queue of `n` places with nothing posted. Returns `RingLength` if `n` is not a power of two from 8 to
+    /// 4,096, and `Memory` only if memory was refused.
     pub(crate) fn new(alloc: Global, n: usize, enabled: bool) -> Result<QueueMachine, MachineError>
         ensures refused { (result ≡ Err RingLength) ↔ ¬ (IsRingLength n) }
         ensures error { IfErr result (λ e. (e ≡ RingLength) ⊎ (e ≡ Memory)) }

@@ -1,4 +1,4 @@
-//! One receive queue as a machine: what both directions have, and what is its own.
+//! One receive queue as a machine: the shared core, and the quiet word.
 
 ghost use Rattle.std.specs.Prelude.{◌≡◌, ◌<◌, ◌↔◌, ◌⊎◌, IfErr, IfOk};
 ghost use Rattle.limits.specs.RingLength.{IsRingLength};
@@ -18,7 +18,7 @@ use ring_model::{ControlStep, Note, Owner, RxStep, TakenSegment};
 use std::alloc::Global;
 use std::marker::Model;
 
-/// One receive queue. It has no lists of what was posted, stored and taken: they are the ring's that it agrees with.
+/// One receive queue. It has no lists of posted, stored and taken items: these belong to the ring that it agrees with.
 #[derive(Drop)]
 pub struct RxMachine {
     queue: QueueMachine,
@@ -34,7 +34,7 @@ impl Model for RxMachine {
     ghost view = { rx_parts_of };
 }
 
-// The second word of a write-back (82599 datasheet, 7.1.6.2).
+// Returns the second word of a write-back (82599 datasheet, 7.1.6.2).
 fn written_back(len: u16, eop: bool) -> u64
     ensures { result ≡ rx_word len eop }
 {
@@ -43,7 +43,7 @@ fn written_back(len: u16, eop: bool) -> u64
 }
 
 impl RxMachine {
-    /// Makes one step. Where the queue has no such step, it answers `NotEnabled`. An `Err` leaves the machine as it was.
+    /// Makes one step. Returns `NotEnabled` if the queue cannot make it. An `Err` leaves the machine unchanged.
     pub fn step(&mut self, step: RxStep<SegmentLength>) -> Result<Note, MachineError>
         ensures follows { RxFollows self.old step result self.new }
         ensures refused { IfErr result (λ e. (e ≡ NotEnabled) × (self.new ≡ self.old)) }
@@ -146,7 +146,7 @@ impl RxMachine {
         Note::Quiet(0)
     }
 
-    // Whether the queue has the step, as far as words and places tell.
+    // Whether words and places allow the step.
     fn may(&self, step: &RxStep<SegmentLength>) -> bool
         ensures told { result ≡ rx_may self.now step.now }
         ensures sound { IsSound self.now.queue }
@@ -170,7 +170,7 @@ impl RxMachine {
         }
     }
 
-    // The step, where the queue has it.
+    // Makes the step, if the queue can.
     fn make(&mut self, step: &RxStep<SegmentLength>) -> Result<Note, MachineError>
         ensures told { result ≡ rx_told self.old step.now }
         ensures moved { self.new ≡ rx_moved self.old step.now }
@@ -193,14 +193,14 @@ impl RxMachine {
         }
     }
 
-    /// Its words, slots and places, as both directions have them.
+    /// Returns the core, with the words, slots and places.
     pub fn queue(&self) -> &QueueMachine
         ensures { result.now ≡ self.now.queue }
     {
         &self.queue
     }
 
-    /// Who has this place, which is below the size.
+    /// Returns the owner of this place.
     pub fn owner(&self, place: u16) -> Owner
         requires { place < self.now.queue.size }
         ensures { RxOwns self.now place result }
@@ -208,7 +208,7 @@ impl RxMachine {
         self.queue.owner(place)
     }
 
-    /// Makes each step that the queue has when its turn comes, passes over the others, and answers how many it made.
+    /// Makes each step that the queue can make at its turn, skips the others, and returns the number of steps made.
     pub fn run(&mut self, steps: &[RxStep<SegmentLength>]) -> usize
         ensures { RxRuns self.old steps.now result self.new }
     {
@@ -219,8 +219,9 @@ impl RxMachine {
         made
     }
 
-    /// A receive queue of `n` descriptors with nothing posted, enabled and seen enabled or never enabled. It answers
-    /// `RingLength` where `n` is no power of two from 8 to 4,096, and `Memory` only where memory was refused.
+    /// Makes a receive queue of `n` descriptors with nothing posted: enabled and seen enabled if `enabled`, else never
+    /// enabled. Returns `RingLength` if `n` is not a power of two from 8 to 4,096, and `Memory` only if memory was
+    /// refused.
     pub fn new(alloc: Global, n: usize, enabled: bool) -> Result<RxMachine, MachineError>
         ensures refused { (result ≡ Err RingLength) ↔ ¬ (IsRingLength n) }
         ensures error { IfErr result (λ e. (e ≡ RingLength) ⊎ (e ≡ Memory)) }
@@ -234,7 +235,7 @@ impl RxMachine {
         })
     }
 
-    /// How many places the ring has, and so descriptors.
+    /// Returns the number of places, and so of descriptors.
     pub fn size(&self) -> u16
         ensures { result ≡ self.now.queue.size }
     {

@@ -1,4 +1,4 @@
-//! One transmit queue as a machine: what both directions have, and how it reports.
+//! One transmit queue as a machine: the shared core, and its reports.
 
 ghost use Rattle.std.specs.Prelude.{◌≡◌, ◌^◌, ◌<◌, ◌↔◌, ◌⊎◌, IfErr, IfOk, IfSome};
 ghost use Rattle.limits.specs.RingLength.{IsRingLength};
@@ -21,7 +21,7 @@ use ring_model::{
 use std::alloc::Global;
 use std::marker::Model;
 
-/// One transmit queue. It has no lists of what was posted, sent and cleaned: they are the ring's that it agrees with.
+/// One transmit queue. It has no lists of posted, sent and cleaned items: these belong to the ring that it agrees with.
 #[derive(Drop)]
 pub struct TxMachine {
     queue: QueueMachine,
@@ -43,9 +43,9 @@ impl Model for TxMachine {
     ghost invariant = { λ m. IsTxSound (tx_parts_of m) };
 }
 
-// What it tells.
+// Queries, and the checked step.
 impl TxMachine {
-    // The place of the oldest report that was asked for and not seen.
+    // Returns the place of the oldest report that was asked for and not seen.
     fn oldest_report(&self) -> Option<u16>
         ensures value { result ≡ oldest_place self.now }
         ensures below { IfSome result (λ place. place < self.now.queue.size) }
@@ -68,7 +68,7 @@ impl TxMachine {
         places_between(self.rep, place_after(place, size), size) <= reported
     }
 
-    /// Makes one step. Where the queue has no such step, it answers `NotEnabled`. An `Err` leaves the machine as it was.
+    /// Makes one step. Returns `NotEnabled` if the queue cannot make it. An `Err` leaves the machine unchanged.
     pub fn step(&mut self, step: TxStep<SegmentDescriptor>) -> Result<Note, MachineError>
         ensures follows { TxFollows self.old step result self.new }
         ensures refused { IfErr result (λ e. (e ≡ NotEnabled) × (self.new ≡ self.old)) }
@@ -79,7 +79,7 @@ impl TxMachine {
         self.make(&step)
     }
 
-    // Whether the queue has the step, as far as words and places tell.
+    // Whether words and places allow the step.
     fn may(&self, step: &TxStep<SegmentDescriptor>) -> bool
         ensures told { result ≡ tx_may self.now step.now }
         ensures sound { IsTxSound self.now }
@@ -104,14 +104,14 @@ impl TxMachine {
         }
     }
 
-    /// Its words, slots and places, as both directions have them.
+    /// Returns the core, with the words, slots and places.
     pub fn queue(&self) -> &QueueMachine
         ensures { result.now ≡ self.now.queue }
     {
         &self.queue
     }
 
-    /// Who has this place, which is below the size.
+    /// Returns the owner of this place.
     pub fn owner(&self, place: u16) -> Owner
         requires { place < self.now.queue.size }
         ensures { TxOwns self.now place result }
@@ -120,7 +120,7 @@ impl TxMachine {
     }
 }
 
-// What each step does.
+// The effect of each step.
 impl TxMachine {
     fn post(&mut self, posted: &SegmentDescriptor) -> Note
         ensures told { Ok result ≡ tx_told self.old (step.Post posted.now) }
@@ -152,7 +152,7 @@ impl TxMachine {
         ))
     }
 
-    // The word is still the one that was fetched: nothing but a report changes it.
+    // The word is still the fetched one: only a report changes it.
     fn send(&mut self) -> Result<Note, MachineError>
         ensures told { result ≡ tx_told self.old step.Send }
         ensures moved { self.new ≡ tx_moved self.old step.Send }
@@ -195,7 +195,7 @@ impl TxMachine {
         Note::Reported(Some(place))
     }
 
-    // Cleaning and reclaiming alike.
+    // Both cleaning and reclaiming.
     fn take_out(&mut self) -> Result<Note, MachineError>
         ensures told { result ≡ tx_told self.old step.Clean }
         ensures moved { self.new ≡ tx_moved self.old step.Clean }
@@ -252,7 +252,7 @@ impl TxMachine {
         Note::Head(0)
     }
 
-    // The step, where the queue has it.
+    // Makes the step, if the queue can.
     fn make(&mut self, step: &TxStep<SegmentDescriptor>) -> Result<Note, MachineError>
         ensures told { result ≡ tx_told self.old step.now }
         ensures moved { self.new ≡ tx_moved self.old step.now }
@@ -274,7 +274,7 @@ impl TxMachine {
         }
     }
 
-    /// Makes each step that the queue has when its turn comes, passes over the others, and answers how many it made.
+    /// Makes each step that the queue can make at its turn, skips the others, and returns the number of steps made.
     pub fn run(&mut self, steps: &[TxStep<SegmentDescriptor>]) -> usize
         ensures { TxRuns self.old steps.now result self.new }
     {
@@ -286,11 +286,11 @@ impl TxMachine {
     }
 }
 
-// How it is made.
+// Construction.
 impl TxMachine {
-    /// A transmit queue of `n` descriptors with nothing posted, enabled and seen enabled or never enabled, that reports
-    /// by its descriptors. It answers `RingLength` where `n` is no power of two from 8 to 4,096, and `Memory` only where
-    /// memory was refused.
+    /// Makes a transmit queue of `n` descriptors that reports by its descriptors, with nothing posted: enabled and seen
+    /// enabled if `enabled`, else never enabled. Returns `RingLength` if `n` is not a power of two from 8 to 4,096, and
+    /// `Memory` only if memory was refused.
     pub fn new(alloc: Global, n: usize, enabled: bool) -> Result<TxMachine, MachineError>
         ensures refused { (result ≡ Err RingLength) ↔ ¬ (IsRingLength n) }
         ensures error { IfErr result (λ e. (e ≡ RingLength) ⊎ (e ≡ Memory)) }
@@ -299,7 +299,7 @@ impl TxMachine {
         TxMachine::new_with(alloc, n, enabled, Completion::Status)
     }
 
-    /// The same queue, which reports as it is told.
+    /// Like `new`, for a queue that reports as `completion` says.
     pub fn new_with(
         alloc: Global,
         n: usize,
@@ -321,7 +321,7 @@ impl TxMachine {
         })
     }
 
-    /// How many places the ring has, and so descriptors.
+    /// Returns the number of places, and so of descriptors.
     pub fn size(&self) -> u16
         ensures { result ≡ self.now.queue.size }
     {

@@ -1,4 +1,4 @@
-//! What the words of transmit descriptors say (82599 datasheet, 7.2.3.2.4), and where a report is asked for.
+//! The fields of transmit descriptors' words (82599 datasheet, 7.2.3.2.4), and the search for the oldest report.
 
 ghost use Rattle.std.specs.Prelude.{◌≡◌, ◌<◌, IfSome, length};
 ghost use Rattle.ring_machine.specs.code.Words.{first_asking, place_before, word_asks, word_eop, word_len, word_rs};
@@ -29,14 +29,14 @@ pub(crate) fn rs_in(word: u64) -> bool
     word / 0x800_0000 % 2 == 1
 }
 
-// Whether a report was asked for here. A done word has no RS any more.
+// Whether the descriptor asks for a report. A done word no longer has RS.
 fn word_asks(word: u64) -> bool
     ensures { result ≡ word_asks word }
 {
     word == DONE || rs_in(word)
 }
 
-// The first of so many places, from this one on, whose descriptor asks for a report.
+// Returns the first of `count` places from `from` on whose descriptor asks for a report.
 pub(crate) fn first_asking(words: &[u64], size: u16, from: u16, count: u16) -> Option<u16>
     requires all { length words.now ≡ size }
     requires inside { from < size }
@@ -53,7 +53,7 @@ pub(crate) fn first_asking(words: &[u64], size: u16, from: u16, count: u16) -> O
     None
 }
 
-// The place before this one.
+// Returns the place before this one.
 pub(crate) fn place_before(place: u16, size: u16) -> u16
     requires some { 0 < size }
     requires inside { place < size }

@@ -1,4 +1,4 @@
-//! The arguments of moves, whose types keep their ranges.
+//! The arguments of moves. Their types keep their ranges.
 
 ghost use Rattle.std.specs.Prelude.{◌≡◌, ◌^◌, ℕ, ◌<◌, ◌≤◌, ◌↔◌, IsSome, IfSome};
 ghost use Rattle.limits.specs.declared.profile.TheConstants.{BUFFER_BYTES, LEAST_FRAME, MOST_FRAME};
@@ -6,7 +6,7 @@ ghost use Rattle.limits.specs.declared.profile.TheConstants.{BUFFER_BYTES, LEAST
 use limits::{BUFFER_BYTES, LEAST_FRAME, MOST_FRAME};
 use std::marker::Model;
 
-/// How many bytes a segment has: 1 to 2,048.
+/// The length of a segment: 1 to 2,048 bytes.
 #[derive(Clone, Copy, PartialEq, Eq)]
 pub struct SegmentLength {
     bytes: u16,
@@ -23,7 +23,7 @@ impl Model for SegmentLength {
 }
 
 impl SegmentLength {
-    /// This many bytes, if a segment may have them.
+    /// Returns a segment length of `bytes`, or `None` outside the range.
     pub fn new(bytes: u16) -> Option<SegmentLength>
         ensures lawful { IsSome result ↔ ((0 < bytes) × (bytes ≤ BUFFER_BYTES)) }
         ensures value { IfSome result (λ s. s ≡ bytes) }
@@ -35,7 +35,7 @@ impl SegmentLength {
         }
     }
 
-    /// The number of bytes.
+    /// Returns the number of bytes.
     pub fn bytes(self) -> u16
         ensures value { result ≡ self }
         ensures some { 0 < result }
@@ -45,8 +45,8 @@ impl SegmentLength {
     }
 }
 
-/// What a transmit descriptor is posted with: the buffer's number, 1 to 2,048 bytes, whether they end the frame,
-/// whether a report is asked for, at the end of a frame alone, and the frame's length, 14 to 15,000.
+/// The contents of a posted transmit descriptor: the buffer's number, its length of 1 to 2,048 bytes, whether it ends
+/// the frame, whether it asks for a report (only at the end of a frame), and the frame's length, 14 to 15,000 bytes.
 #[derive(Clone, Copy, PartialEq, Eq)]
 pub struct SegmentDescriptor {
     number: u16,
@@ -76,7 +76,7 @@ impl SegmentDescriptor {
     ghost use Rattle.ring_model.specs.transmit.Agreement.{tx_word};
     ghost use Rattle.ring_model.specs.transmit.Ring.{new_posting};
 
-    /// These values, if a descriptor may have them.
+    /// Returns a descriptor with these values, or `None` outside their ranges.
     pub fn new(number: u16, len: u16, eop: bool, rs: bool, paylen: u16) -> Option<SegmentDescriptor>
         ensures lawful { IsSome result ↔ IsDescriptor len eop rs paylen }
         ensures value { IfSome result (λ d. d ≡ new_posting number len eop rs paylen) }
@@ -98,14 +98,14 @@ impl SegmentDescriptor {
         })
     }
 
-    /// The buffer's number.
+    /// Returns the buffer's number.
     pub fn number(&self) -> u16
         ensures { result ≡ self.now.number }
     {
         self.number
     }
 
-    /// How many bytes the buffer has.
+    /// Returns the number of bytes in the buffer.
     pub fn len(&self) -> u16
         ensures value { result ≡ self.now.payload }
         ensures few { self.now.payload ≤ BUFFER_BYTES }
@@ -113,28 +113,28 @@ impl SegmentDescriptor {
         self.len
     }
 
-    /// Whether they end the frame.
+    /// Whether the buffer ends the frame.
     pub fn eop(&self) -> bool
         ensures { result ≡ self.now.eop }
     {
         self.eop
     }
 
-    /// Whether a report is asked for.
+    /// Whether the descriptor asks for a report.
     pub fn rs(&self) -> bool
         ensures { result ≡ self.now.rs }
     {
         self.rs
     }
 
-    /// The length of the whole frame.
+    /// Returns the length of the whole frame.
     pub fn paylen(&self) -> u16
         ensures { result ≡ self.now.paylen }
     {
         self.paylen
     }
 
-    // The second word of the descriptor (82599 datasheet, 7.2.3.2.4).
+    // Returns the second word of the descriptor (82599 datasheet, 7.2.3.2.4).
     pub(crate) fn word(&self) -> u64
         ensures value { result ≡ tx_word self.now.payload self.now.eop self.now.rs self.now.paylen }
         ensures short { self.now.payload < 2 ^ 16 }

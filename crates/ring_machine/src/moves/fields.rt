@@ -7,10 +7,10 @@ ghost use Rattle.ring_machine.specs.declared.moves.fields.TheConstants.{MOST_ARG
 use arrayvec::ArrayVec;
 use text_lines::{cut, number_in};
 
-/// The most arguments of a move.
+/// The maximum number of arguments of a move.
 pub const MOST_ARGUMENTS: usize = 5;
 
-/// The arguments that the fields say, if each is a number and they are not too many.
+/// Returns the arguments in the fields, or `None` if one is not a number or there are too many.
 pub fn arguments_in(rest: Option<&[u8]>) -> Option<ArrayVec<u16, MOST_ARGUMENTS>>
     ensures found { IfSome result (λ v. later_fields rest.entry ≡ map decimal v.items) }
     ensures small { IfSome result (λ v. AreSmall v.items) }
@@ -31,7 +31,7 @@ pub fn arguments_in(rest: Option<&[u8]>) -> Option<ArrayVec<u16, MOST_ARGUMENTS>
     Some(arguments)
 }
 
-// The number up to 65,535 that a field says in decimal, without leading zero.
+// Returns the number up to 65,535 of a field: decimal, without leading zero.
 fn number_of(field: &[u8]) -> Option<u16>
     ensures { (n : ℕ) → (result ≡ Some n) ↔ ((n < 2 ^ 16) × (field.now ≡ decimal n)) }
 {

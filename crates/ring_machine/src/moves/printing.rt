@@ -1,8 +1,8 @@
-//! How moves are printed.
+//! Printing moves.
 //!
-//! A move's line is its queue, its kind and its arguments, with one space between two fields. A queue is `r` or `t` and
-//! a digit from 0 to 7. A kind is the name that [`RxStep`] and [`TxStep`] give with each step, as `A5`. Numbers are in
-//! decimal, and EOP and RS are 0 or 1: `r0 A5 60 1` writes back 60 bytes that end their frame.
+//! A move's line is its queue, its kind and its arguments, separated by single spaces. A queue is `r` or `t` and a
+//! digit from 0 to 7. A kind is the name of the step in [`RxStep`] and [`TxStep`], such as `A5`. Numbers are decimal,
+//! and EOP and RS are 0 or 1: `r0 A5 60 1` writes back 60 bytes that end their frame.
 
 ghost use Rattle.std.specs.Prelude.{◌≡◌, Some};
 ghost use Rattle.ring_machine.specs.text.Moves.{IsInRange, control_kind, kind_of, name_of, text_of};
@@ -11,15 +11,15 @@ use crate::moves::Move;
 use ring_model::{ControlStep, RxStep, TxStep};
 use std::fmt;
 
-/// The first two fields of a move's line, its queue and its kind, as `r0 A1`.
+/// The first two fields of a move's line, its queue and its kind, such as `r0 A1`.
 #[derive(Clone, Copy, PartialEq, Eq)]
 pub struct MoveName {
-    /// The move that is named.
+    /// The named move.
     pub named: Move,
 }
 
 impl Move {
-    /// The first two fields of the move's line. Each move is in range, so `parse` reads its line.
+    /// Returns the first two fields of the move's line. Each move is in range, so `parse` reads its line.
     pub fn name(self) -> MoveName
         ensures value { result.named ≡ self }
         ensures in_range { IsInRange self }

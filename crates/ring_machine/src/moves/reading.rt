@@ -1,4 +1,4 @@
-//! How moves are read.
+//! Reading moves.
 
 ghost use Rattle.std.specs.Prelude.{◌≡◌, ◌↔◌, ◌<◌, ◌+◌, ℕ, Bool, [], ◌∷◌, codes, Ok, Some, IfErr};
 ghost use Rattle.ring_machine.specs.code.Fields.{Spells, SpellsRx, SpellsTx};
@@ -19,8 +19,8 @@ use ring_model::{ControlStep, RxStep, TxStep};
 use text_lines::cut;
 
 impl Move {
-    /// The move of a line, which has to be just as `Display` prints it. Anything else is refused, an empty line and a
-    /// comment too. Nothing is allocated.
+    /// Reads the move of a line, which must be exactly as `Display` prints it. Returns `Text` for anything else, also
+    /// for an empty line or a comment. Allocates nothing.
     pub fn parse(line: &[u8]) -> Result<Move, MachineError>
         ensures exact { (m : Move) → (result ≡ Ok m) ↔ (IsInRange m × (line.now ≡ text_of m)) }
         ensures error { IfErr result (λ e. e ≡ Text) }
@@ -42,7 +42,7 @@ fn read(line: &[u8]) -> Option<Move>
     move_of(queue, kind, &arguments)
 }
 
-// The move of these fields.
+// The move with these fields.
 fn move_of(queue: &[u8], kind: &[u8], arguments: &[u16]) -> Option<Move>
     ensures { (m : Move) → (result ≡ Some m) ↔ Spells queue.now kind.now arguments.now m }
 {
@@ -57,7 +57,7 @@ fn move_of(queue: &[u8], kind: &[u8], arguments: &[u16]) -> Option<Move>
     }
 }
 
-// The number of a queue, of its digit.
+// The queue number of a digit.
 fn number_of(digit: u8) -> Option<QueueNumber>
     ensures { (q : ℕ) → (result ≡ Some q) ↔ ((q < MOST_PAIRS) × (digit ≡ 48 + q)) }
 {
@@ -67,7 +67,7 @@ fn number_of(digit: u8) -> Option<QueueNumber>
     QueueNumber::new(digit - b'0')
 }
 
-// The receive step of these fields.
+// The receive step with these fields.
 fn rx_step(kind: &[u8], arguments: &[u16]) -> Option<RxStep<SegmentLength>>
     ensures { (s : RxStep ℕ) → (result ≡ Some s) ↔ SpellsRx kind.now arguments.now s }
 {
@@ -79,7 +79,7 @@ fn rx_step(kind: &[u8], arguments: &[u16]) -> Option<RxStep<SegmentLength>>
     }
 }
 
-// The write-back (A5) that these arguments say.
+// The write-back (A5) with these arguments.
 fn store_of(len: u16, eop: u16) -> Option<RxStep<SegmentLength>>
     ensures { (s : RxStep ℕ) → (result ≡ Some s) ↔ SpellsRx (codes "A5") (len ∷ eop ∷ []) s }
 {
@@ -88,7 +88,7 @@ fn store_of(len: u16, eop: u16) -> Option<RxStep<SegmentLength>>
     Some(RxStep::Store(len, eop))
 }
 
-// The receive step of a kind that has no arguments.
+// The receive step of a kind without arguments.
 fn plain_rx_step(kind: &[u8]) -> Option<RxStep<SegmentLength>>
     ensures { (s : RxStep ℕ) → (result ≡ Some s) ↔ SpellsRx kind.now [] s }
 {
@@ -113,7 +113,7 @@ fn plain_rx_step(kind: &[u8]) -> Option<RxStep<SegmentLength>>
     }
 }
 
-// The transmit step of these fields.
+// The transmit step with these fields.
 fn tx_step(kind: &[u8], arguments: &[u16]) -> Option<TxStep<SegmentDescriptor>>
     ensures { (s : TxStep (Posting ℕ)) → (result ≡ Some s) ↔ SpellsTx kind.now arguments.now s }
 {
@@ -124,7 +124,7 @@ fn tx_step(kind: &[u8], arguments: &[u16]) -> Option<TxStep<SegmentDescriptor>>
     }
 }
 
-// The posting (B1) that these arguments say.
+// The posting (B1) with these arguments.
 fn post_of(
     number: u16,
     len: u16,
@@ -141,7 +141,7 @@ fn post_of(
     Some(TxStep::Post(descriptor))
 }
 
-// The transmit step of a kind that has no arguments.
+// The transmit step of a kind without arguments.
 fn plain_tx_step(kind: &[u8]) -> Option<TxStep<SegmentDescriptor>>
     ensures { (s : TxStep (Posting ℕ)) → (result ≡ Some s) ↔ SpellsTx kind.now [] s }
 {
@@ -166,7 +166,7 @@ fn plain_tx_step(kind: &[u8]) -> Option<TxStep<SegmentDescriptor>>
     }
 }
 
-// 0 or 1.
+// The flag with the value 0 or 1.
 fn bool_of(value: u16) -> Option<bool>
     ensures { (b : Bool) → (result ≡ Some b) ↔ (value ≡ bit b) }
 {

@@ -1,4 +1,4 @@
--- Which frames can be cut to pieces that fit a ring.
+-- Which frames can be cut into pieces that fit a ring.
 use Rattle.std.specs.Prelude.{ℕ, ◌<◌, ◌≤◌}
 use Rattle.limits.specs.declared.profile.TheConstants.{BUFFER_BYTES, LEAST_FRAME, MOST_FRAME, MOST_SEGMENTS}
 use Rattle.ring_model.specs.shared.Frames.{piece_count}

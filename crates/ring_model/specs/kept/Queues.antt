@@ -1,4 +1,5 @@
--- What every step of a queue keeps, whichever its direction. The laws follow from it, and so does what running rings ask of a ring that a schedule gave.
+-- The invariants of the steps of a queue, in both directions. They imply the laws, and the facts that running rings
+-- need about a reachable ring.
 use Rattle.std.specs.Prelude.{◌≡◌, ℕ, ◌+◌, ◌<◌, ◌≤◌, Bool, true, false}
 use Rattle.ring_model.specs.declared.states.DriverState.{DriverState}
 use Rattle.ring_model.specs.declared.states.DriverState.TheVariants.{New, Asked, On, Stopping, Stopped, Cleared, Tailed}

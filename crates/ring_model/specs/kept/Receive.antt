@@ -1,4 +1,4 @@
--- What every step of a receive ring keeps.
+-- The invariants of the steps of a receive ring.
 use Rattle.std.specs.Prelude.{◌≡◌, ℕ, ◌≤◌, true, false, map, Some, slice_get}
 use Rattle.ring_model.specs.shared.Lists.{IsBeginning}
 use Rattle.ring_model.specs.shared.Handshakes.{is_serving}

@@ -1,4 +1,4 @@
--- What every step of a transmit ring keeps.
+-- The invariants of the steps of a transmit ring.
 use Rattle.std.specs.Prelude.{◌≡◌, ℕ, ◌+◌, ◌-◌, ◌<◌, ◌≤◌, Bool, true, false, List, map, length, take, Some, slice_get}
 use Rattle.ring_model.specs.shared.Lists.{IsBeginning}
 use Rattle.ring_model.specs.shared.Handshakes.{is_serving}

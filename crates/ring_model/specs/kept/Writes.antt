@@ -1,4 +1,4 @@
--- What one write changes, read by place.
+-- The effect of one write, by place.
 use Rattle.std.specs.Prelude.{◌≡◌, ◌≢◌, ℕ, ◌<◌}
 
 -- after one write: x at the place p, and all else as it was

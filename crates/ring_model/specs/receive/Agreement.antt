@@ -1,4 +1,4 @@
--- What a receive ring's words and slots have.
+-- The contents of a receive ring's words and slots.
 use Rattle.std.specs.Prelude.{ℕ, ◌+◌, ◌*◌, ◌^◌, Bool, Option, Some, None}
 use Rattle.ring_model.specs.shared.Agreement.{bit}
 use Rattle.ring_model.specs.shared.Segments.{Segment}

@@ -1,4 +1,4 @@
--- What is settled in a receive ring, and what goes on for ever.
+-- Settled and lasting facts of a receive ring.
 use Rattle.std.specs.Prelude.{◌≡◌, ◌≤◌, Bool, true, ◌&&◌, ◌||◌}
 use Rattle.ring_model.specs.shared.Handshakes.{has_ended, is_serving}
 use Rattle.ring_model.specs.shared.Laws.{IsConcluded, IsOrdered, Later}

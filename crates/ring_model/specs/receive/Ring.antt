@@ -1,4 +1,4 @@
--- A receive ring: a queue of buffers' numbers, filled to segments that the driver takes.
+-- A receive ring: a queue of buffers, by number, that become segments for the driver to take.
 use Rattle.std.specs.Prelude.{ℕ, Bool, true, false, Option, slice_get, slice_index}
 use Rattle.ring_model.specs.shared.Frames.{ends_frame}
 use Rattle.ring_model.specs.shared.Queue.{Ledger, Queue, opening, given_count, served_count}

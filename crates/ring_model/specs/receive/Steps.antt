@@ -1,4 +1,4 @@
--- The steps of a receive ring: where each can happen, what it changes, and what it tells.
+-- The steps of a receive ring: when each can happen, what it changes, and its note.
 use Rattle.std.specs.Prelude.{ℕ, ◌-◌, ◌%◌, Bool, true, not, ◌&&◌, nat_lt, List, Option, Some, None, slice_index}
 use Rattle.ring_model.specs.declared.steps.RxStep.{RxStep}
 use Rattle.ring_model.specs.declared.steps.RxStep.TheVariants.{Post, Publish, Look, Fetch, Store, Take, Head, Control, Reclaim, StoreQuiet, LoadQuiet, ClearHead, ClearTail, ClearQuiet}

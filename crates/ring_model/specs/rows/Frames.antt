@@ -1,4 +1,4 @@
--- Worked rows of cutting: how long the pieces of a frame are, and which of them ends it, whatever the frame's bytes.
+-- Worked rows of cutting: the lengths of a frame's pieces, and which of them ends it, for any bytes.
 use Rattle.std.specs.Prelude.{◌≡◌, ℕ, Bool, true, false, List, [], ◌∷◌, map, length}
 use Rattle.ring_model.specs.shared.Frames.{Bytes, Piece, Follows, cut, itself, join}
 

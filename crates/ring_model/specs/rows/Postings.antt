@@ -1,4 +1,4 @@
--- Worked rows of postings: what may be posted first, and behind the first 60 bytes of a frame, whatever the bytes are.
+-- Worked rows of postings: what may be posted first, and after the first 60 bytes of a frame, for any bytes.
 use Rattle.std.specs.Prelude.{◌≡◌, ℕ, Bool, true, false, List, [], ◌∷◌, length}
 use Rattle.ring_model.specs.shared.Frames.{Bytes}
 use Rattle.ring_model.specs.transmit.Ring.{Posting, new_posting}

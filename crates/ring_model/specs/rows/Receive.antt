@@ -1,4 +1,4 @@
--- Worked rows of receive rings: what schedules tell, computed from the definitions alone.
+-- Worked rows of receive rings: the notes of schedules, computed from the definitions alone.
 use Rattle.std.specs.Prelude.{◌≡◌, ℕ, zero, suc, ◌+◌, Bool, true, false, List, [], ◌∷◌, ◌++◌, map, length, take, drop, Option, Some, None}
 use Rattle.ring_model.specs.declared.steps.ControlStep.TheVariants.{AskEnable, LookAsked, Answer, LookAnswered, AskDisable}
 use Rattle.ring_model.specs.declared.steps.RxStep.{RxStep}

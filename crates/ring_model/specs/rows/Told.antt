@@ -1,4 +1,4 @@
--- What a step that happens tells, as the worked rows of both directions have it.
+-- The note of a step that happens, as in the worked rows of both directions.
 use Rattle.std.specs.Prelude.{ℕ, Option, Some}
 use Rattle.ring_model.specs.declared.notes.Note.{Note}
 use Rattle.ring_model.specs.declared.notes.Note.TheVariants as note

@@ -1,4 +1,4 @@
--- Worked rows of transmit rings: what schedules tell, computed from the definitions alone.
+-- Worked rows of transmit rings: the notes of schedules, computed from the definitions alone.
 use Rattle.std.specs.Prelude.{◌≡◌, ℕ, zero, suc, ◌+◌, Bool, true, false, List, [], ◌∷◌, ◌++◌, length, Option, Some, None}
 use Rattle.ring_model.specs.declared.states.Completion.TheVariants as by
 use Rattle.ring_model.specs.declared.steps.ControlStep.TheVariants.{AskEnable, LookAsked, Answer, LookAnswered, AskDisable}

@@ -1,4 +1,4 @@
--- Worked rows of two pairs side by side: whose queue makes each step, and what it tells.
+-- Worked rows of two pairs side by side: the queue of each step, and its note.
 use Rattle.std.specs.Prelude.{◌≡◌, ℕ, true, false, List, [], ◌∷◌, map, length, Option, None}
 use Rattle.ring_model.specs.declared.steps.ControlStep.TheVariants.{AskEnable, LookAsked, Answer}
 use Rattle.ring_model.specs.declared.steps.RxStep.TheVariants as rx

@@ -1,4 +1,4 @@
--- How a queue whose places wrap, with words and slots, agrees with the unbounded one.
+-- How a queue of words and slots, whose places wrap, agrees with the unbounded queue.
 use Rattle.std.specs.Prelude.{◌≡◌, ℕ, ◌%◌, Bool, true, false, ◌&&◌, ◌==◌, List, Option, Some, None, slice_get, slice_index, if◌then◌else◌}
 use Rattle.ring_model.specs.declared.states.Owner.TheVariants.{Driver}
 use Rattle.ring_model.specs.declared.handshake.Handshake.{Handshake}

@@ -1,4 +1,5 @@
--- Frames and segments: a frame is cut into pieces, whatever carries pieces joins to frames, and what may follow an unfinished frame.
+-- Frames and segments: how a frame is cut into pieces, how segments join to frames, and what may follow an unfinished
+-- frame.
 use Rattle.std.specs.Prelude.{◌≡◌, ℕ, zero, suc, ◌+◌, ◌-◌, ◌/◌, ◌<◌, ◌≤◌, Bool, true, false, List, [], ◌∷◌, ◌++◌, map, length, take, drop, Some, slice_get, if◌then◌else◌}
 use Rattle.limits.specs.declared.profile.TheConstants.{BUFFER_BYTES, LEAST_FRAME, MOST_FRAME, MOST_SEGMENTS}
 

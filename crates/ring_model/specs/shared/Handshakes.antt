@@ -1,4 +1,5 @@
--- The handshake of enabling and disabling, which both directions share. Control is 0 disabled, 1 enabling asked, 2 enabled, 3 disabling asked.
+-- The handshake of enabling and disabling, the same for both directions. Control is 0 disabled, 1 enabling asked, 2
+-- enabled, 3 disabling asked.
 use Rattle.std.specs.Prelude.{ℕ, Bool, true, false, not, ◌&&◌, ◌||◌, ◌==◌, if◌then◌else◌}
 use Rattle.ring_model.specs.declared.states.DriverState.{DriverState}
 use Rattle.ring_model.specs.declared.states.DriverState.TheVariants.{New, Asked, On, Stopping, Stopped, Cleared, Tailed}

@@ -1,4 +1,5 @@
--- What is settled, and what goes on for ever: the counts of an epoch in their order; its lists only grow, a list that has ended stays as it is, and so do the epochs that ended.
+-- Settled and lasting facts: the counts of an epoch are in order, its lists only grow, a finished list never changes,
+-- and neither do ended epochs.
 use Rattle.std.specs.Prelude.{◌≡◌, ◌<◌, ◌≤◌, ◌⊎◌, Bool, true, false, ◌||◌, List, ◌∷◌, ◌++◌}
 use Rattle.ring_model.specs.shared.Lists.{IsBeginning}
 use Rattle.ring_model.specs.shared.Handshakes.{is_answered, is_ended, is_live, is_open, is_serving, is_stopped}

@@ -1,4 +1,4 @@
--- Words on lists, and on items that lie round a ring: item k lies at the place k % n.
+-- Lists, and the items of a ring: item k has the place k % n.
 use Rattle.std.specs.Prelude.{◌≡◌, ℕ, ◌%◌, ◌<◌, ◌≤◌, List, ◌++◌, Option, Some, None, slice_get}
 
 -- ys is xs followed by something, perhaps by nothing

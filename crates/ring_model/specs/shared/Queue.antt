@@ -1,4 +1,5 @@
--- What every queue has, whichever its direction: unbounded lists, counts, an owner map and a handshake. Nothing here wraps but the place of an item.
+-- The common part of queues of both directions: unbounded lists, counts, an owner map and a handshake. Only the place
+-- of an item wraps.
 use Rattle.std.specs.Prelude.{ℕ, ◌+◌, ◌-◌, ◌%◌, Bool, true, false, not, ◌&&◌, ◌==◌, nat_lt, List, [], ◌∷◌, ◌++◌, length, replicate, slice_set, if◌then◌else◌}
 use Rattle.ring_model.specs.declared.states.Owner.{Owner}
 use Rattle.ring_model.specs.declared.states.Owner.TheVariants.{Driver, Ring, Controller}

@@ -1,4 +1,4 @@
--- The steps that every queue has, whichever its direction.
+-- The steps of every queue, in both directions.
 use Rattle.std.specs.Prelude.{Bool}
 use Rattle.ring_model.specs.declared.steps.ControlStep.{ControlStep}
 

@@ -1,4 +1,5 @@
--- A schedule is any list of steps. A step that can't happen when its turn comes is passed over. So it is for one ring, and for queues side by side.
+-- A schedule is any list of steps. A step that cannot happen at its turn is skipped. This holds for one ring and for
+-- queues side by side.
 use Rattle.std.specs.Prelude.{◌≡◌, ℕ, suc, Bool, List, [], ◌∷◌, Option, Some, None, if◌then◌else◌}
 
 -- `can` says whether a step can happen, and `changed` what it makes

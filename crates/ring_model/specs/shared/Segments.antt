@@ -1,4 +1,4 @@
--- What one descriptor carries, in either direction.
+-- The contents of one descriptor, in both directions.
 use Rattle.std.specs.Prelude.{ℕ, Bool}
 use Rattle.ring_model.specs.shared.Frames.{Bytes, Piece}
 

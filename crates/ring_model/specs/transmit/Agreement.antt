@@ -1,4 +1,4 @@
--- What a transmit ring's words and slots have, however it reports.
+-- The contents of a transmit ring's words and slots, for both ways to report.
 use Rattle.std.specs.Prelude.{ℕ, ◌+◌, ◌*◌, ◌^◌, Bool, not, ◌&&◌, nat_lt, Option, Some, None, if◌then◌else◌}
 use Rattle.ring_model.specs.shared.Agreement.{bit}
 use Rattle.ring_model.specs.transmit.Ring.{Posting, TxRing}

@@ -1,4 +1,5 @@
--- Which posting may follow an unfinished frame: its bytes may, and PAYLEN is the whole frame's length in each descriptor of the frame, from the least to the most that a frame may have.
+-- Which posting may follow an unfinished frame: its bytes may, and PAYLEN in each descriptor of the frame is the whole
+-- frame's length, within the lawful range.
 use Rattle.std.specs.Prelude.{◌≡◌, ℕ, ◌+◌, ◌≤◌, true, List, Some, length, slice_get, take}
 use Rattle.limits.specs.declared.profile.TheConstants.{LEAST_FRAME, MOST_FRAME}
 use Rattle.ring_model.specs.shared.Frames.{Bytes, Follows, join, unfinished}

@@ -1,4 +1,4 @@
--- What is true of a lawful transmit ring: its ledgers and its owner map.
+-- Lawful transmit rings: their ledgers and their owner map.
 use Rattle.std.specs.Prelude.{ℕ, ◌-◌, ◌≤◌, map, length}
 use Rattle.ring_model.specs.shared.Lists.{IsBeginning}
 use Rattle.ring_model.specs.shared.Lawful.{IsLawfulQueue}

@@ -1,4 +1,4 @@
--- What is settled in a transmit ring, and what goes on for ever.
+-- Settled and lasting facts of a transmit ring.
 use Rattle.std.specs.Prelude.{◌≡◌, ◌≤◌, Bool, true, false, map, take}
 use Rattle.ring_model.specs.shared.Handshakes.{has_ended}
 use Rattle.ring_model.specs.shared.Queue.{posted_count, served_count, given_count}

@@ -1,4 +1,4 @@
--- The steps of a transmit ring: where each can happen, what it changes, and what it tells.
+-- The steps of a transmit ring: when each can happen, what it changes, and its note.
 use Rattle.std.specs.Prelude.{ℕ, zero, suc, ◌+◌, ◌-◌, ◌%◌, Bool, true, false, not, ◌&&◌, nat_lt, List, Option, Some, None, slice_get, if◌then◌else◌}
 use Rattle.ring_model.specs.declared.states.Completion.{Completion}
 use Rattle.ring_model.specs.declared.states.Completion.TheVariants as completion

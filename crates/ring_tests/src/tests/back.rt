@@ -1,17 +1,17 @@
-//! What comes back of a ring of 16 buffers that two threads used.
+//! The buffers that come back from a ring of 16 buffers after two threads used it.
 
 use test_kit::Closed;
 
-/// What the closed ring gave back.
+/// Counts of the buffers that the closed ring returned.
 #[derive(Clone, Copy)]
 pub(crate) struct Back {
-    /// How many buffers lay in the ring.
+    /// How many were in the ring.
     pub lying: usize,
-    /// How many were at hand.
+    /// How many were spare.
     pub at_hand: usize,
     /// Whether the controller held one.
     pub held: bool,
-    /// Whether each came back once.
+    /// Whether each came back exactly once.
     pub is_whole: bool,
 }
 

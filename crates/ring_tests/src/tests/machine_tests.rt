@@ -1,4 +1,4 @@
-//! Rows of machines and queues: which are made, what each move prints, and who has a place after it.
+//! Rows of machines and queues: which can be made, what each move prints, and the owners of places after it.
 
 use crate::tests::wanted::{holds, same};
 use ring_machine::{
@@ -7,12 +7,12 @@ use ring_machine::{
 use std::alloc::{AllocError, Global};
 use std::process::Abort;
 
-// How it is refused, if it is.
+// The refusal, if there is one.
 fn refusal<T: Drop>(made: Result<T, MachineError>) -> Option<MachineError> {
     made.err()
 }
 
-// How a receive machine and a transmit machine of this length that begin so are refused.
+// The refusals of a receive machine and of transmit machines with these arguments.
 fn refusals(alloc: Global, n: usize, enabled: bool) -> [Option<MachineError>; 4] {
     [
         refusal(RxMachine::new(alloc, n, enabled)),
@@ -24,7 +24,7 @@ fn refusals(alloc: Global, n: usize, enabled: bool) -> [Option<MachineError>; 4]
 
 const LAWFUL: &[usize] = &[8, 16, 32, 64, 128, 256, 512, 1_024, 2_048, 4_096];
 
-// Machines of this length that begin so are all refused so, or none is.
+// Checks that machines with these arguments are all refused so, or all made.
 fn are_refused<R: Abort>(
     rt: &R,
     alloc: Global,
@@ -53,7 +53,7 @@ fn other_lengths_are_refused(rt: HostRuntime) {
     }
 }
 
-// So many pairs of queues of this length that begin so are refused so, or not at all.
+// Checks that these pairs of queues are refused so, or made.
 fn are_pairs<R: Abort>(
     rt: &R,
     alloc: Global,
@@ -72,7 +72,7 @@ fn one_to_eight_pairs_are_made(rt: HostRuntime) {
     }
 }
 
-// How many pairs, and how many places.
+// Unlawful numbers of pairs and places.
 const NO_QUEUES: &[(usize, usize)] = &[(0, 8), (9, 8), (1, 12), (8, 12)];
 
 #[test]
@@ -88,7 +88,7 @@ fn other_pairs_are_refused(rt: HostRuntime) {
     }
 }
 
-// The move of the line is made, and this is printed: its name, and its note or the refusal.
+// Makes the move of the line. Returns its name with its note or refusal, as printed.
 fn printed(alloc: Global, queues: &mut Queues, line: &str) -> Result<String, AllocError> {
     let Ok(action) = Move::parse(line.as_bytes()) else {
         return String::from_str(alloc, "no move");
@@ -100,16 +100,16 @@ fn printed(alloc: Global, queues: &mut Queues, line: &str) -> Result<String, All
     }
 }
 
-// A line, and what its move prints.
+// A line, and the output of its move.
 type Row = (&'static str, &'static str);
 
-// The move of the line prints this.
+// Checks the output of the line's move.
 fn prints<R: Abort>(rt: &R, alloc: Global, queues: &mut Queues, (line, wanted): Row) {
     let told = printed(alloc, queues, line).expect(rt, "memory");
     same(rt, (line, told.as_str()), (line, wanted));
 }
 
-// Each line prints what stands beside it, on one pair of queues of 8, enabled, whose transmit queue reports as told.
+// Checks the output of each line on one enabled pair of queues of 8 with this completion.
 fn each_prints<R: Abort>(rt: &R, alloc: Global, completion: Completion, rows: &[Row]) {
     let mut queues = Queues::new_with(alloc, 1, 8, true, completion).expect(rt, "queues");
     for row in rows {
@@ -139,7 +139,7 @@ fn receive_moves_print_their_notes(rt: HostRuntime) {
     each_prints(&rt, rt.alloc(), Completion::Status, RECEIVED)
 }
 
-// What is transmitted, where a report prints what stands here.
+// The rows of a transmission, with this output for the report.
 macro_rules! transmitted {
     ($reported:expr) => {
         [
@@ -170,14 +170,14 @@ fn transmit_moves_print_their_notes(rt: HostRuntime) {
     each_prints(&rt, rt.alloc(), Completion::Head, BY_HEAD)
 }
 
-// A pair of queues makes so many of these moves, and then none of none.
+// Checks how many of these moves a pair of queues makes, and that it makes none of none.
 fn makes<R: Abort>(rt: &R, alloc: Global, completion: Completion, moves: &[Move], wanted: usize) {
     let mut queues = Queues::new_with(alloc, 1, 8, true, completion).expect(rt, "queues");
     let made = queues.run(moves);
     same(rt, (made, queues.run(&[])), (wanted, 0));
 }
 
-// One frame each way, with a move that can't be made at the end of each way, and one of a queue that is not there.
+// One frame each way. A move that cannot be made follows each way, and one move is of a missing queue.
 const ONE_EACH_WAY: [&str; 17] = [
     "r0 A1 5",
     "r0 A2",
@@ -226,7 +226,7 @@ fn is_made(queues: &mut Queues, line: &str) -> bool {
     }
 }
 
-// Place 0 of the first receive queue, and of the first transmit queue, is with these.
+// Whether place 0 of the first receive queue and of the first transmit queue have these owners.
 fn are_with<R: Abort>(rt: &R, queues: &Queues, sides: (Owner, Owner)) -> bool {
     let first = QueueNumber::new(0).expect(rt, "a number");
     let receive = queues.receive(first).expect(rt, "a queue");
@@ -245,16 +245,16 @@ fn are_one_pair(queues: &Queues) -> bool {
     }
 }
 
-// A line, and who has these places after its move.
+// A line, and the owners of both places after its move.
 type Given = (&'static str, Owner, Owner);
 
-// The move of the line is made, and the places are with these after it.
+// Checks that the line's move is made, and the owners after it.
 fn is_given<R: Abort>(rt: &R, queues: &mut Queues, (line, receive, transmit): Given) {
     let is_given = is_made(queues, line) && are_with(rt, queues, (receive, transmit));
     same(rt, (line, is_given), (line, true));
 }
 
-// From their drivers to a ring's two sides, and back.
+// Both ways from the driver to the ring and the controller, and back.
 const GIVEN: &[Given] = &[
     ("r0 A1 5", Owner::Ring, Owner::Driver),
     ("r0 A2", Owner::Ring, Owner::Driver),
@@ -272,7 +272,7 @@ const GIVEN: &[Given] = &[
     ("t0 B8", Owner::Driver, Owner::Driver),
 ];
 
-// Of new queues all places are with their drivers; then they are with whom stands beside each line.
+// Checks the owners of a new pair of queues, and after each line.
 fn are_given<R: Abort>(rt: &R, queues: &mut Queues, rows: &[Given]) {
     holds(rt, are_with(rt, queues, (Owner::Driver, Owner::Driver)));
     for row in rows {
@@ -288,7 +288,7 @@ fn a_place_is_with_one_side(rt: HostRuntime) {
     drop(queues)
 }
 
-// Each of these lines is a move that is made.
+// Checks that the move of each line is made.
 fn are_made<R: Abort>(rt: &R, queues: &mut Queues, lines: &[&str]) {
     for line in lines {
         same(rt, (*line, is_made(queues, line)), (*line, true));
@@ -297,7 +297,7 @@ fn are_made<R: Abort>(rt: &R, queues: &mut Queues, lines: &[&str]) {
 
 const RECEIVES: &[&str] = &["r1 A1 5", "r1 A2", "r1 A3", "r1 A4", "r1 A5 60 1", "r1 A6"];
 
-// With any one allocation refused, as `rt try --test --fail-alloc N` does, this passes too.
+// Also passes with any one allocation refused, as in `rt try --test --fail-alloc N`.
 #[test]
 fn want_of_memory_is_13_and_changes_no_answer(rt: HostRuntime) {
     match Queues::new(rt.alloc(), 2, 8, true) {

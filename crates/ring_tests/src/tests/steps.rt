@@ -1,15 +1,14 @@
-//! Steps as rows name them. A row of a step that has a lawful length in it would be made by statements, and proved one
-//! by one.
+//! Steps as rows write them, with plain numbers. A step with a lawful length needs code, and each row of it a proof.
 
 use ring_machine::{RxStep, SegmentDescriptor, SegmentLength, TxStep};
 
-/// A step of a receive queue, which stores so many bytes.
+/// A step of a receive queue, with the number of stored bytes.
 pub type RxNamed = RxStep<u16>;
 
-/// A step of a transmit queue, which posts the buffer of this number with so many bytes, EOP, RS, and a frame's length.
+/// A step of a transmit queue, with the buffer's number, its length, EOP, RS, and the frame's length.
 pub type TxNamed = TxStep<(u16, u16, bool, bool, u16)>;
 
-/// The receive queue's step, if its length is lawful.
+/// The receive step, if its length is lawful.
 pub fn rx_step(named: RxNamed) -> Option<RxStep<SegmentLength>> {
     Some(match named {
         RxStep::Post(number) => RxStep::Post(number),
@@ -29,7 +28,7 @@ pub fn rx_step(named: RxNamed) -> Option<RxStep<SegmentLength>> {
     })
 }
 
-/// The transmit queue's step, if its segment is lawful.
+/// The transmit step, if its segment is lawful.
 pub fn tx_step(named: TxNamed) -> Option<TxStep<SegmentDescriptor>> {
     Some(match named {
         TxStep::Post((number, len, eop, rs, paylen)) => {

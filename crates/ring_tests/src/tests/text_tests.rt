@@ -1,4 +1,4 @@
-//! Rows of the texts of moves and notes: what each line means, which lines are refused, and the printed words.
+//! Rows of the texts of moves and notes: the meaning of each line, the refused lines, and the printed words.
 
 mod receive_lines;
 mod transmit_lines;
@@ -15,25 +15,25 @@ use std::fmt::Display;
 use std::process::Abort;
 use transmit_lines::TRANSMIT;
 
-// What is printed.
+// The printed text.
 fn text_of<T: Display>(alloc: Global, printed: &T) -> Result<String, AllocError> {
     format!(in alloc; "{printed}")
 }
 
-// It is printed so.
+// Checks that it prints as `wanted`.
 fn is_printed<R: Abort, T: Display>(rt: &R, alloc: Global, printed: &T, wanted: &str) {
     let text = text_of(alloc, printed).expect(rt, "memory");
     same(rt, text.as_str(), wanted);
 }
 
-// The line begins with what is printed.
+// Checks that the line begins with the printed text.
 fn begins_with<R: Abort, T: Display>(rt: &R, alloc: Global, line: &str, printed: &T) {
     let text = text_of(alloc, printed).expect(rt, "memory");
     let begins = line.as_bytes().starts_with(text.as_bytes());
     same(rt, (line, begins), (line, true));
 }
 
-// The line is this move's, both ways, and begins with its name.
+// Checks that the line is this move's, read and printed, and begins with its name.
 fn is_line_of<R: Abort>(rt: &R, alloc: Global, line: &str, wanted: Option<Move>) {
     let read = Move::parse(line.as_bytes()).ok();
     holds(rt, read == wanted);
@@ -42,11 +42,11 @@ fn is_line_of<R: Abort>(rt: &R, alloc: Global, line: &str, wanted: Option<Move>)
     is_printed(rt, alloc, &read, line)
 }
 
-/// A step of one direction, as rows name it.
+/// A step of one direction, as rows write it.
 trait Named: Copy {
     fn of_control(step: ControlStep) -> Self;
 
-    /// The move of the queue of this number, if the step's numbers are lawful.
+    /// The move of this queue, or `None` if the step's numbers are not lawful.
     fn on(self, queue: u8) -> Option<Move>;
 }
 
@@ -70,10 +70,10 @@ impl Named for TxNamed {
     }
 }
 
-/// A line behind its queue, and its step.
+/// A line without its queue, and its step.
 type Line<S> = (&'static str, S);
 
-/// The lines of both directions.
+/// The lines that both directions have.
 const CONTROLS: &[Line<ControlStep>] = &[
     ("C1", ControlStep::AskEnable),
     ("C2", ControlStep::LookAsked),
@@ -82,7 +82,7 @@ const CONTROLS: &[Line<ControlStep>] = &[
     ("C5", ControlStep::AskDisable),
 ];
 
-// The line is this step's on each queue, whose name begins with this letter.
+// Checks the line of a step on each queue of the kind with this letter.
 fn is_line<R: Abort, S: Named>(rt: &R, alloc: Global, letter: char, line: &str, step: S) {
     for queue in 0..8 {
         let line = format!(in alloc; "{letter}{queue} {line}").expect(rt, "memory");
@@ -90,14 +90,14 @@ fn is_line<R: Abort, S: Named>(rt: &R, alloc: Global, letter: char, line: &str, 
     }
 }
 
-// The lines are these steps'.
+// Checks the lines of these steps.
 fn are_lines<R: Abort, S: Named>(rt: &R, alloc: Global, letter: char, rows: &[Line<S>]) {
     for (line, step) in rows {
         is_line(rt, alloc, letter, line, *step);
     }
 }
 
-// And those of both directions are a control's.
+// Checks the lines of the handshake.
 fn are_controls<R: Abort, S: Named>(rt: &R, alloc: Global, letter: char) {
     for (line, step) in CONTROLS {
         is_line(rt, alloc, letter, line, S::of_control(*step));
@@ -201,12 +201,12 @@ fn may_be_posted(len: u16, eop: bool, rs: bool, paylen: u16) -> bool {
     SegmentDescriptor::new(7, len, eop, rs, paylen).is_some()
 }
 
-// What has bounds.
+// A number with bounds.
 #[derive(Clone, Copy, PartialEq, Debug)]
 enum Bounded {
-    // the bytes of a segment that is stored
+    // the bytes of a stored segment
     Stored,
-    // and of one that is posted
+    // the bytes of a posted segment
     Posted,
     Paylen,
     Queue,
@@ -221,7 +221,7 @@ fn is_lawful(bounded: Bounded, number: u16) -> bool {
     }
 }
 
-// What has bounds, and the least and the greatest number that is lawful.
+// Each bounded number, with the least and the greatest lawful value.
 const BOUNDS: &[(Bounded, u16, u16)] = &[
     (Bounded::Stored, 1, 2_048),
     (Bounded::Posted, 1, 2_048),
@@ -229,7 +229,7 @@ const BOUNDS: &[(Bounded, u16, u16)] = &[
     (Bounded::Queue, 0, 7),
 ];
 
-// These bounds are lawful, and the numbers beside them are not.
+// Checks that these bounds are lawful, and the numbers beyond them are not.
 fn has_bounds<R: Abort>(rt: &R, bounded: Bounded, least: u16, most: u16) {
     let lawful = (is_lawful(bounded, least), is_lawful(bounded, most));
     let beyond = is_lawful(bounded, most.saturating_add(1));
@@ -266,10 +266,10 @@ fn a_middle_segment_asks_for_no_report(rt: HostRuntime) {
     }
 }
 
-// A note, and how it is printed.
+// A note and its text.
 type Printed = (Note, &'static str);
 
-// Each of these notes is printed so.
+// Checks the printed texts of these notes.
 fn are_printed<R: Abort>(rt: &R, alloc: Global, rows: &[Printed]) {
     for (note, line) in rows {
         is_printed(rt, alloc, note, line);
@@ -333,7 +333,7 @@ fn notes_of_a_segment_are_printed(rt: HostRuntime) {
     are_printed(&rt, rt.alloc(), OF_A_SEGMENT)
 }
 
-// Each refusal, with its number.
+// Each refusal, with its printed number and text.
 const REFUSALS: &[(MachineError, &str)] = &[
     (MachineError::NotEnabled, "11 not enabled"),
     (MachineError::RingLength, "12 ring length"),

@@ -1,4 +1,4 @@
-//! The running transmit ring: the rows that no clause says, in both completions.
+//! The running transmit ring, in both completions: the facts that no clause states.
 
 mod calls;
 mod threads;

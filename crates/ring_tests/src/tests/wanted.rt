@@ -1,14 +1,13 @@
-//! What a test was told, beside what it wanted. Each is a call, since a macro's branches stated in the
-//! test itself would be proved anew at each place.
+//! Assertions as calls. A macro's branches in the test itself would be proved again at each use.
 use std::fmt::Debug;
 use std::process::Abort;
 
-/// The two are the same; a row that is named in both is seen where they aren't.
+/// Asserts that the two are equal. A row named in both shows in the failure.
 pub fn same<R: Abort, T: PartialEq + Debug + Drop>(rt: &R, told: T, wanted: T) {
     assert_eq!(rt; told, wanted);
 }
 
-/// It is so.
+/// Asserts the fact.
 pub fn holds<R: Abort>(rt: &R, fact: bool) {
     assert!(rt; fact);
 }

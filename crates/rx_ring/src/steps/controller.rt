@@ -1,4 +1,4 @@
-//! The controller's own steps.
+//! The controller's steps that only a receive ring has.
 ghost use Rattle.std.specs.Prelude.{◌≡◌, ◌+◌, ◌<◌, true, length, None, Some};
 ghost use Rattle.buffer_pool.specs.Buffer.{buffer};
 ghost use Rattle.ring_model.specs.receive.Agreement.{rx_word};
@@ -18,7 +18,7 @@ use buffer_pool::Buf;
 use descriptor::RxBack;
 use shared_ring::{OwnStep, QUIET};
 
-/// A5: stores a descriptor's write-back (DD, EOP, length), and gives its buffer back.
+/// A5: stores a descriptor's write-back (DD, EOP, length) and gives its buffer back.
 struct WriteBackStore;
 
 impl OwnStep<RxControllerEvent> for WriteBackStore {
@@ -27,7 +27,7 @@ impl OwnStep<RxControllerEvent> for WriteBackStore {
     ghost event = { writes_back };
 }
 
-/// A5: the buffer goes back into its slot, and its descriptor becomes the write-back of its bytes.
+/// A5: puts the buffer back into its slot and stores the write-back of its bytes as its descriptor.
 #[inline]
 pub(crate) fn write_back(
     seat: &mut RxControllerSeat,
@@ -67,7 +67,7 @@ impl OwnStep<RxControllerEvent> for QuietStore {
     ghost event = { says_quiet };
 }
 
-/// C7: stores 1 as the quiet word, after which nothing is fetched in this epoch.
+/// C7: stores 1 as the quiet word, after which the end fetches nothing in this epoch.
 #[inline]
 pub(crate) fn say_quiet(seat: &mut RxControllerSeat, ring: &RxShared)
     requires own { seat.old.table ≡ ring.now }

@@ -1,4 +1,4 @@
-//! The driver's own steps.
+//! The driver's steps that only a receive ring has.
 ghost use Rattle.std.specs.Prelude.{◌≡◌, ◌+◌, ◌<◌, true, length, None, Some};
 ghost use Rattle.buffer_pool.specs.Buffer.{buffer};
 ghost use Rattle.ring_model.specs.shared.Agreement.{bit};
@@ -17,7 +17,7 @@ use buffer_pool::Buf;
 use descriptor::RxBack;
 use shared_ring::{OwnStep, OwnTake, QUIET};
 
-/// A6: loads a descriptor's status word, and takes its buffer where DD is set.
+/// A6: loads a descriptor's status word, and takes its buffer if DD is set.
 struct StatusLoad;
 
 impl OwnStep<RxDriverEvent> for StatusLoad {
@@ -41,7 +41,7 @@ impl OwnTake<RxDriverEvent> for StatusLoad {
     }
 }
 
-/// A6: the oldest descriptor that is out is loaded, and its buffer taken where DD is set.
+/// A6: loads the oldest descriptor that is out, and takes its buffer if DD is set. Returns the buffer with EOP.
 #[inline]
 pub(crate) fn take(seat: &mut RxDriverSeat, ring: &RxShared, place: u16) -> Option<(Buf, bool)>
     requires own { seat.old.table ≡ ring.now }
@@ -68,7 +68,7 @@ impl OwnStep<RxDriverEvent> for QuietLoad {
     ghost tells = { IsBit };
 }
 
-/// C8: loads the quiet word, and answers whether it is 1.
+/// C8: loads the quiet word, and returns whether it is 1.
 #[inline]
 pub(crate) fn load_quiet(seat: &mut RxDriverSeat, ring: &RxShared) -> bool
     requires own { seat.old.table ≡ ring.now }
@@ -87,7 +87,7 @@ impl OwnStep<RxDriverEvent> for ClearQuietStore {
     ghost event = { clears_quiet };
 }
 
-/// C11: stores 0 as the quiet word, by which the epoch ends.
+/// C11: stores 0 as the quiet word, which ends the epoch.
 #[inline]
 pub(crate) fn clear_quiet(seat: &mut RxDriverSeat, ring: &RxShared, fill: u16)
     requires own { seat.old.table ≡ ring.now }

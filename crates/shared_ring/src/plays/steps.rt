@@ -1,10 +1,10 @@
-//! The steps that both directions share, each by the event that it adds to its end's record.
+//! The steps of both directions, each with the event that it adds to its end's record.
 
 use crate::direction::{Direction, OwnStep};
 use crate::events::{ControllerEvent, DriverEvent};
 use std::marker::PhantomData;
 
-/// A1, B1: stores a descriptor, and gives its slot to the ring.
+/// A1, B1: stores a descriptor and gives its slot to the ring.
 pub struct PostStore;
 
 impl<D> OwnStep<DriverEvent<D>> for PostStore {
@@ -34,7 +34,7 @@ impl<D, C, R: Direction<D, C>> OwnStep<ControllerEvent<C>> for TailLoad<D, R> {
     ghost tells = { IsTail R.form };
 }
 
-/// A4, B4: loads the next descriptor, and takes its buffer.
+/// A4, B4: loads the next descriptor and takes its buffer.
 pub struct NextLoad<D, R>(PhantomData<(D, R)>);
 
 impl<D, C, R: Direction<D, C>> OwnStep<ControllerEvent<C>> for NextLoad<D, R> {
@@ -46,7 +46,7 @@ impl<D, C, R: Direction<D, C>> OwnStep<ControllerEvent<C>> for NextLoad<D, R> {
     ghost tells = { IsNext R.form };
 }
 
-/// The driver's load of the head.
+/// Loads the head (RDH, TDH) for the driver.
 pub struct HeadLoad;
 
 impl<D> OwnStep<DriverEvent<D>> for HeadLoad {
@@ -58,16 +58,16 @@ impl<D> OwnStep<DriverEvent<D>> for HeadLoad {
     ghost tells = { IsPlace };
 }
 
-/// C1 and C5: stores as the control word (RXDCTL, TXDCTL) what the driver asks, 1 for enabling or 3 for disabling.
+/// C1 and C5: stores the driver's request as the control word (RXDCTL, TXDCTL), 1 for enabling or 3 for disabling.
 pub struct AskStore;
 
-/// C2: loads the control word, for what the driver asks.
+/// C2: loads the control word for the driver's request.
 pub struct RequestLoad;
 
-/// C3: stores as the control word what the controller answers, 2 for enabled or 0 for disabled.
+/// C3: stores the controller's answer as the control word, 2 for enabled or 0 for disabled.
 pub struct AnswerStore;
 
-/// C4: loads the control word, for what the controller answered.
+/// C4: loads the control word for the controller's answer.
 pub struct ControlLoad;
 
 impl<D> OwnStep<DriverEvent<D>> for ControlLoad {

@@ -32,7 +32,7 @@ impl<D, C, R: Direction<D, C>> EndSeat<ControllerEvent<C>, D, C, R> {
         load::<Loads<TailLoad<D, R>, _, R>, _, _, _, _>(&ring.table, &mut self.seat, index) as u16
     }
 
-    /// A4, B4: the next descriptor is loaded, and its buffer taken; beside it, the word.
+    /// A4, B4: loads the next descriptor and takes its buffer. Returns the buffer and the word.
     #[inline]
     pub fn fetch(&mut self, ring: &Ring<D, C, R>, place: u16) -> (Buf, u64)
         requires own { self.old.table ≡ ring.now }
@@ -53,7 +53,7 @@ impl<D, C, R: Direction<D, C>> EndSeat<ControllerEvent<C>, D, C, R> {
         (buf, word)
     }
 
-    /// C2: loads the control word (RXDCTL, TXDCTL), for what the driver asks.
+    /// C2: loads the control word (RXDCTL, TXDCTL) for the driver's request.
     #[inline]
     pub fn load_request(&mut self, ring: &Ring<D, C, R>) -> Control
         requires own { self.old.table ≡ ring.now }
@@ -68,7 +68,7 @@ impl<D, C, R: Direction<D, C>> EndSeat<ControllerEvent<C>, D, C, R> {
         Control::of_word(value)
     }
 
-    /// C3: 2, enabled, or 0, disabled, is stored as the control word (RXDCTL, TXDCTL).
+    /// C3: stores the answer as the control word (RXDCTL, TXDCTL), 2 for enabled or 0 for disabled.
     #[inline]
     pub fn tell(&mut self, ring: &Ring<D, C, R>, told: Control)
         requires own { self.old.table ≡ ring.now }
@@ -80,7 +80,7 @@ impl<D, C, R: Direction<D, C>> EndSeat<ControllerEvent<C>, D, C, R> {
         store::<Stores<AnswerStore, _, R>, _, _, _, _>(&ring.table, &mut self.seat, index, value);
     }
 
-    /// A3, B3 or C2: loads the tail or the control word, and keeps what it tells.
+    /// A3, B3 or C2: loads the tail or the control word, and updates `at` with it.
     #[inline]
     pub fn load(
         &mut self,
@@ -107,7 +107,7 @@ impl<D, C, R: Direction<D, C>> EndSeat<ControllerEvent<C>, D, C, R> {
         }
     }
 
-    /// C3: stores the answer as the control word (RXDCTL, TXDCTL): 2, by which an epoch begins, or 0.
+    /// C3: stores the answer as the control word (RXDCTL, TXDCTL): 2, which begins an epoch, or 0.
     #[inline]
     pub fn answer(&mut self, ring: &Ring<D, C, R>, at: &mut ControllerPlaces)
         requires own { self.old.table ≡ ring.now }

@@ -25,7 +25,7 @@ use buffer_pool::Buf;
 use ring_model::{DriverState, place_after};
 
 impl<D, C, R: Direction<D, C>> EndSeat<DriverEvent<D>, D, C, R> {
-    /// A1, B1: a buffer goes into the next slot, and its descriptor becomes this word.
+    /// A1, B1: puts a buffer into the next slot and stores the word as its descriptor.
     #[inline]
     pub fn post(&mut self, ring: &Ring<D, C, R>, place: u16, word: u64, buf: Buf)
         requires own { self.old.table ≡ ring.now }
@@ -40,7 +40,7 @@ impl<D, C, R: Direction<D, C>> EndSeat<DriverEvent<D>, D, C, R> {
         store::<Gives<PostStore, _, R>, _, _, _, _>(&ring.table, &mut self.seat, place, word);
     }
 
-    /// A2, B2: the tail is stored.
+    /// A2, B2: stores the tail (RDT, TDT).
     #[inline]
     pub fn publish(&mut self, ring: &Ring<D, C, R>, tail: u16)
         requires own { self.old.table ≡ ring.now }
@@ -53,7 +53,7 @@ impl<D, C, R: Direction<D, C>> EndSeat<DriverEvent<D>, D, C, R> {
         store::<Stores<PublishStore, _, R>, _, _, _, _>(&ring.table, &mut self.seat, index, tail);
     }
 
-    /// C1 or C5: 1, enabling asked, or 3, disabling asked, is stored as the control word (RXDCTL, TXDCTL).
+    /// C1 or C5: stores the request as the control word (RXDCTL, TXDCTL), 1 for enabling or 3 for disabling.
     #[inline]
     pub fn ask(&mut self, ring: &Ring<D, C, R>, request: Control)
         requires own { self.old.table ≡ ring.now }
@@ -65,7 +65,7 @@ impl<D, C, R: Direction<D, C>> EndSeat<DriverEvent<D>, D, C, R> {
         store::<Stores<AskStore, _, R>, _, _, _, _>(&ring.table, &mut self.seat, index, value);
     }
 
-    /// C4: loads the control word (RXDCTL, TXDCTL), for what the controller answered.
+    /// C4: loads the control word (RXDCTL, TXDCTL) for the controller's answer.
     #[inline]
     pub fn load_control(&mut self, ring: &Ring<D, C, R>) -> Control
         requires own { self.old.table ≡ ring.now }
@@ -92,7 +92,7 @@ impl<D, C, R: Direction<D, C>> EndSeat<DriverEvent<D>, D, C, R> {
         load::<Loads<HeadLoad, _, R>, _, _, _, _>(&ring.table, &mut self.seat, index) as u16
     }
 
-    /// C6: the oldest descriptor that is out becomes 0, and its buffer comes back.
+    /// C6: stores 0 as the oldest descriptor that is out, and takes its buffer back.
     #[inline]
     pub fn reclaim(&mut self, ring: &Ring<D, C, R>, place: u16) -> Buf
         requires own { self.old.table ≡ ring.now }
@@ -105,7 +105,7 @@ impl<D, C, R: Direction<D, C>> EndSeat<DriverEvent<D>, D, C, R> {
         self.clear_own::<Reclaiming<C, R>>(ring, place)
     }
 
-    /// C6: takes the oldest buffer that is out back, where one is.
+    /// C6: takes back the oldest buffer that is out. Returns `None` if none is out.
     #[inline]
     pub fn reclaim_next(&mut self, ring: &Ring<D, C, R>, at: &mut DriverPlaces) -> Option<Buf>
         requires own { self.old.table ≡ ring.now }
@@ -135,7 +135,7 @@ impl<D, C, R: Direction<D, C>> EndSeat<DriverEvent<D>, D, C, R> {
         store::<Stores<ClearHeadStore, _, R>, _, _, _, _>(&ring.table, &mut self.seat, index, 0);
     }
 
-    /// C10: stores 0 as the tail (RDT, TDT), where the epoch does not end by it.
+    /// C10: stores 0 as the tail (RDT, TDT), if this does not end the epoch.
     #[inline]
     pub fn clear_tail(&mut self, ring: &Ring<D, C, R>)
         requires own { self.old.table ≡ ring.now }
@@ -147,7 +147,8 @@ impl<D, C, R: Direction<D, C>> EndSeat<DriverEvent<D>, D, C, R> {
         store::<Stores<ClearTailStore, _, R>, _, _, _, _>(&ring.table, &mut self.seat, index, 0);
     }
 
-    /// C1, C4 or C5: how far the driver is goes on, and the control value that was stored or loaded is answered.
+    /// C1, C4 or C5: makes a step of the handshake and updates the driver's state. Returns the control value that was
+    /// stored or loaded.
     #[inline]
     pub fn shake(
         &mut self,

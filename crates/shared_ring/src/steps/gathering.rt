@@ -1,4 +1,4 @@
-//! The making of a ring, the meeting of its ends, and its end.
+//! Making a ring, the meeting of its ends, and closing it.
 ghost use Rattle.std.specs.Prelude.{◌≡◌, ◌+◌, ◌<◌, ◌≤◌, [], IfOk, replicate, vec_capacity};
 ghost use Rattle.std.specs.Mem.Slots.{slots_items, slots_len, IsFull};
 ghost use Rattle.limits.specs.RingLength.{IsRingLength};
@@ -21,7 +21,7 @@ use std::alloc::{AllocError, Global};
 use std::marker::PhantomData;
 
 impl<D, C, R: Direction<D, C>> Ring<D, C, R> {
-    /// The ring's table, and the seats of its two ends.
+    /// Makes the ring's table and the seats of its two ends. Fails only if memory was refused.
     pub fn deal(
         alloc: Global,
         size: u16,
@@ -60,7 +60,7 @@ impl<D, C, R: Direction<D, C>> Ring<D, C, R> {
         ))
     }
 
-    /// Both seats, in one place, learn that their records are those of one lawful ring.
+    /// Establishes, with both seats in one place, that their records belong to one lawful ring.
     pub fn meet(&self, driver: &mut DriverSeat<D, C, R>, controller: &mut ControllerSeat<D, C, R>)
         requires driver { driver.old.table ≡ self.now }
         requires controller { controller.old.table ≡ self.now }
@@ -75,7 +75,7 @@ impl<D, C, R: Direction<D, C>> Ring<D, C, R> {
         table.join_seat::<Return>(&mut controller.seat, lent);
     }
 
-    /// Both seats come together, and the table is closed: what is left are its slots, and the room for their buffers.
+    /// Joins both seats and closes the table. Returns its slots, and the room for their buffers.
     fn gather(
         self,
         driver: DriverSeat<D, C, R>,
@@ -97,8 +97,8 @@ impl<D, C, R: Direction<D, C>> Ring<D, C, R> {
         (table.close_with(seat), room)
     }
 
-    /// Takes the buffers out of a ring's slots, place by place: of each place that lies fewer than `out` after `next`,
-    /// but that of a held buffer.
+    /// Takes the buffers out of a ring's slots: of each place fewer than `out` after `next`, except that of a held
+    /// buffer.
     pub fn take_apart(
         self,
         driver: DriverSeat<D, C, R>,
@@ -119,7 +119,7 @@ impl<D, C, R: Direction<D, C>> Ring<D, C, R> {
     }
 }
 
-/// The driver's seat takes in the controller's record, and the controller's has none.
+/// Joins the controller's record to that of the driver's seat, and leaves the controller's seat without one.
 fn unite<D, C, R: Direction<D, C>>(
     table: &RingTable<D, C, R>,
     driver: &mut RingSeat<D, C>,
@@ -136,7 +136,7 @@ fn unite<D, C, R: Direction<D, C>>(
     table.shared.join_seat::<Unite>(driver, lent);
 }
 
-/// The buffers of a closed table, in the room that was reserved for them.
+/// Returns the buffers of a closed table, in the room that was reserved for them.
 fn empty(
     mut closed: Closed<Buf, Global>,
     mut room: Vec<Option<Buf>>,
@@ -164,7 +164,7 @@ fn empty(
     room
 }
 
-/// The words of a ring as it is made, all 0: one more where it reports by a head word.
+/// Returns the words of a new ring, all 0, with one more if it reports by a head word.
 fn opening_words(
     alloc: Global,
     count: usize,

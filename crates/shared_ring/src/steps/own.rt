@@ -1,5 +1,5 @@
-//! The steps of one direction's own, each by the event that its `OwnStep` names: what the direction's agreement says of
-//! them is asked of the caller.
+//! The steps of one direction, each with the event that its `OwnStep` names. The caller shows that the direction's
+//! agreement allows them.
 ghost use Rattle.std.specs.Prelude.{◌≡◌, ◌<◌, length, IfSome, IfNone, Some};
 ghost use Rattle.buffer_pool.specs.Buffer.{Buffer, blank};
 ghost use Rattle.shared_ring.specs.Ends.{posted, returned, fill_place, next_place, serve_place, held, driver_of, controller_of, grown};
@@ -16,7 +16,7 @@ use atomic_table::Seat;
 use buffer_pool::Buf;
 use std::marker::PhantomData;
 
-/// C6: stores 0 as the oldest descriptor that is out, by which its buffer comes back.
+/// C6: stores 0 as the oldest descriptor that is out, and takes its buffer back.
 pub(crate) struct Reclaiming<C, R>(PhantomData<(C, R)>);
 
 impl<D, C, R: Direction<D, C>> OwnStep<DriverEvent<D>> for Reclaiming<C, R> {
@@ -28,7 +28,7 @@ impl<D, C, R: Direction<D, C>> OwnStep<DriverEvent<D>> for Reclaiming<C, R> {
 }
 
 impl<D, C, R: Direction<D, C>> EndSeat<DriverEvent<D>, D, C, R> {
-    /// A load.
+    /// Loads a word.
     #[inline]
     pub fn load_own<P: OwnStep<DriverEvent<D>>>(
         &mut self,
@@ -43,7 +43,7 @@ impl<D, C, R: Direction<D, C>> EndSeat<DriverEvent<D>, D, C, R> {
         load::<Loads<P, _, R>, _, _, _, _>(&ring.table, &mut self.seat, index)
     }
 
-    /// A store of 0 into the oldest descriptor that is out, whose buffer comes back.
+    /// Stores 0 as the oldest descriptor that is out, and takes its buffer back.
     #[inline]
     pub fn clear_own<P: OwnStep<DriverEvent<D>>>(&mut self, ring: &Ring<D, C, R>, place: u16) -> Buf
         requires own { self.old.table ≡ ring.now }
@@ -60,8 +60,8 @@ impl<D, C, R: Direction<D, C>> EndSeat<DriverEvent<D>, D, C, R> {
         buf
     }
 
-    /// A load of the oldest descriptor that is out, whose buffer comes back where it is done; beside the buffer, the
-    /// word.
+    /// Loads the oldest descriptor that is out, and takes its buffer back if it is done. Returns the word with the
+    /// buffer.
     #[inline]
     pub fn take_own<P: OwnTake<DriverEvent<D>>>(
         &mut self,
@@ -85,7 +85,7 @@ impl<D, C, R: Direction<D, C>> EndSeat<DriverEvent<D>, D, C, R> {
         (word, Some(buf))
     }
 
-    /// A store of 0 that ends the epoch. The next one begins with the slot of place 0 in front.
+    /// Stores 0 as the last step of an epoch. The next epoch begins with the slot of place 0 in front.
     #[inline]
     pub fn end_own<P: OwnStep<DriverEvent<D>>>(
         &mut self,
@@ -105,7 +105,7 @@ impl<D, C, R: Direction<D, C>> EndSeat<DriverEvent<D>, D, C, R> {
 }
 
 impl<D, C, R: Direction<D, C>> EndSeat<ControllerEvent<C>, D, C, R> {
-    /// A store.
+    /// Stores a word.
     #[inline]
     pub fn store_own<P: OwnStep<ControllerEvent<C>>>(
         &mut self,
@@ -120,7 +120,7 @@ impl<D, C, R: Direction<D, C>> EndSeat<ControllerEvent<C>, D, C, R> {
         store::<Stores<P, _, R>, _, _, _, _>(&ring.table, &mut self.seat, index, value);
     }
 
-    /// The fetched buffer goes back into its slot, which the store gives to the ring.
+    /// Puts the fetched buffer back into its slot, which the store gives to the ring.
     #[inline]
     pub fn give_own<P: OwnStep<ControllerEvent<C>>>(
         &mut self,
@@ -141,8 +141,8 @@ impl<D, C, R: Direction<D, C>> EndSeat<ControllerEvent<C>, D, C, R> {
     }
 }
 
-/// Turns all slots, of which that of `place` stands in front, until that of place 0 does. A seat has no bytes, so this
-/// moves nothing.
+/// Turns the list of all slots, with that of `place` in front, until that of place 0 is in front. A seat has no bytes,
+/// so this moves nothing.
 fn turn_round<V>(seat: &mut Seat<Buf, V>, place: u16, size: u16)
     requires place { place < size }
     requires all { seat.old.me.1 ≡ empty_slots size place size }

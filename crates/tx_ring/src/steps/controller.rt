@@ -1,4 +1,4 @@
-//! The controller's own steps.
+//! The controller's steps that only a transmit ring has.
 ghost use Rattle.std.specs.Prelude.{◌≡◌, ◌+◌, ◌-◌, ◌%◌, true, false, length, Some};
 ghost use Rattle.ring_model.specs.shared.Handshakes.{is_serving};
 ghost use Rattle.ring_model.specs.transmit.Agreement.{done_word};
@@ -16,7 +16,7 @@ use buffer_pool::Buf;
 use descriptor::TxBack;
 use shared_ring::{OwnStep, REPORT};
 
-/// B5: stores the head (TDH), and gives the sent buffer back.
+/// B5: stores the head (TDH) and gives the sent buffer back.
 struct SendStore;
 
 impl OwnStep<TxControllerEvent> for SendStore {
@@ -25,7 +25,7 @@ impl OwnStep<TxControllerEvent> for SendStore {
     ghost event = { sends };
 }
 
-/// B5: the buffer goes back into its slot, and the head is stored.
+/// B5: puts the buffer back into its slot and stores the head.
 #[inline]
 pub(crate) fn send(seat: &mut TxControllerSeat, ring: &TxShared, place: u16, head: u16, buf: Buf)
     requires own { seat.old.table ≡ ring.now }
@@ -63,7 +63,7 @@ pub(crate) fn report_status(seat: &mut TxControllerSeat, ring: &TxShared, place:
     seat.store_own::<ReportStore>(ring, place as usize, word);
 }
 
-/// B6: writes the head back, as the head word of reports.
+/// B6: writes the head to the head word of reports.
 #[inline]
 pub(crate) fn report_head(seat: &mut TxControllerSeat, ring: &TxShared, head: u16)
     requires own { seat.old.table ≡ ring.now }

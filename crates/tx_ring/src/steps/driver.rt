@@ -1,4 +1,4 @@
-//! The driver's own steps.
+//! The driver's steps that only a transmit ring has.
 ghost use Rattle.std.specs.Prelude.{◌≡◌, ◌+◌, ◌%◌, ◌<◌, true, false, length};
 ghost use Rattle.buffer_pool.specs.Buffer.{buffer};
 ghost use Rattle.ring_model.specs.shared.Frames.{unfinished};
@@ -21,7 +21,7 @@ use descriptor::{TxBack, TxRead};
 use ring_model::{place_after, places_between};
 use shared_ring::{OwnStep, REPORT, TAIL};
 
-/// B1: a buffer goes into the next slot, and its descriptor says what is in it.
+/// B1: puts a buffer into the next slot and stores a descriptor of its contents.
 #[inline]
 pub(crate) fn post(
     seat: &mut TxDriverSeat,
@@ -45,7 +45,7 @@ pub(crate) fn post(
     seat.post(ring, place, word, buf);
 }
 
-/// B8: stores 0 as the oldest reported descriptor, and takes its buffer.
+/// B8: stores 0 as the oldest reported descriptor and takes its buffer.
 struct CleanStore;
 
 impl OwnStep<TxDriverEvent> for CleanStore {
@@ -56,7 +56,7 @@ impl OwnStep<TxDriverEvent> for CleanStore {
     ghost tells = { IsCleaned };
 }
 
-/// B8: the oldest descriptor that is out becomes 0, and its buffer comes back.
+/// B8: stores 0 as the oldest descriptor that is out, which is reported, and takes its buffer back.
 #[inline]
 pub(crate) fn clean(seat: &mut TxDriverSeat, ring: &TxShared, place: u16) -> Buf
     requires own { seat.old.table ≡ ring.now }
@@ -69,7 +69,7 @@ pub(crate) fn clean(seat: &mut TxDriverSeat, ring: &TxShared, place: u16) -> Buf
     seat.clear_own::<CleanStore>(ring, place)
 }
 
-/// B7: loads the word that tells of the oldest outstanding report: its descriptor, or the head word of reports.
+/// B7: loads the word for the oldest outstanding report: its descriptor, or the head word of reports.
 struct ReportLoad;
 
 impl OwnStep<TxDriverEvent> for ReportLoad {
@@ -80,7 +80,7 @@ impl OwnStep<TxDriverEvent> for ReportLoad {
     ghost tells = { IsPlace };
 }
 
-/// B7, of a ring that reports by its descriptors: whether that of the oldest outstanding report has DD.
+/// B7, reporting by descriptors: whether the descriptor of the oldest outstanding report has DD.
 #[inline]
 fn load_status(seat: &mut TxDriverSeat, ring: &TxShared, place: u16) -> bool
     requires own { seat.old.table ≡ ring.now }
@@ -94,8 +94,8 @@ fn load_status(seat: &mut TxDriverSeat, ring: &TxShared, place: u16) -> bool
     TxBack::is_done(word)
 }
 
-/// B7, of a ring that reports by a head word: whether that is past the place of the oldest outstanding report.
-/// `seen` is the place up to which all is seen reported.
+/// B7, reporting by a head word: whether the head is past the place of the oldest outstanding report. `seen` is the
+/// place up to which the end saw everything reported.
 #[inline]
 fn load_report(seat: &mut TxDriverSeat, ring: &TxShared, place: u16, seen: u16) -> bool
     requires own { seat.old.table ≡ ring.now }
@@ -145,8 +145,8 @@ impl OwnStep<TxDriverEvent> for ClearReportStore {
     ghost event = { clears_report };
 }
 
-/// C9 and C10, and C12 where there is a head word of reports: the epoch ends, and the next one begins with the slot of
-/// place 0 in front.
+/// C9 and C10, and C12 if there is a head word of reports: ends the epoch. The next epoch begins with the slot of place
+/// 0 in front.
 pub(crate) fn go_over(seat: &mut TxDriverSeat, ring: &TxShared, fill: u16)
     requires own { seat.old.table ≡ ring.now }
     requires place { fill ≡ fill_place (driver_of tx seat.old) }

@@ -1,4 +1,4 @@
-//! Both ends of a ring in one thread: every step by a call.
+//! Both ends of a ring in one thread, with each step made by a call.
 
 mod both;
 mod rows;

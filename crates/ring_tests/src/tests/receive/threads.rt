@@ -1,4 +1,4 @@
-//! Threads that really run over one ring of 8.
+//! Real threads on one ring of 8.
 ghost use Rattle.std.specs.Prelude.{◌≡◌};
 ghost use Rattle.rx_ring.specs.Ends.{reclaimed};
 
@@ -16,22 +16,22 @@ use std::thread;
 use std::thread::Threads;
 use test_kit::{Closed, full_stash};
 
-/// How many frames go through in one epoch.
+/// The number of frames in one epoch.
 const FRAMES: u32 = 300;
 
-/// What the two threads do.
+/// The plan of the two threads.
 #[derive(Clone, Copy)]
 enum Plan {
-    /// So many epochs, the queue renewed after each, and the ends meet before the ring is closed.
+    /// This many epochs, with a renewal after each. The ends meet before the ring is closed.
     Epochs(u32),
-    /// The queue is not disabled: so many frames are stored, one buffer more is fetched, and so many frames are taken.
+    /// The queue is not disabled. The given numbers of frames are stored and taken, and one more buffer is fetched.
     On(u32, u32),
 }
 
-/// What a driver's thread has to tell.
+/// The report of a driver's thread.
 #[derive(Clone, Copy)]
 struct Driven {
-    /// How many frames were as they should be.
+    /// How many frames were as expected.
     good: u32,
     /// How many segments were left to take in the last epoch.
     left: Option<u32>,
@@ -50,7 +50,7 @@ impl Driven {
     };
 }
 
-/// A driver's end with the buffers at hand, and what its thread has to tell.
+/// A driver's end with the spare buffers and its thread's report.
 #[derive(Drop)]
 struct Driving {
     end: RxDriverEnd,
@@ -58,7 +58,7 @@ struct Driving {
     told: Driven,
 }
 
-/// A controller's end with the buffer that it holds, and how many frames it stored in the last epoch.
+/// A controller's end with the buffer that it holds, and the number of frames stored in the last epoch.
 #[derive(Drop)]
 struct Serving {
     end: RxControllerEnd,
@@ -66,7 +66,7 @@ struct Serving {
     stored: u32,
 }
 
-/// One epoch of a driver: the queue is enabled, used and disabled, and the buffers come back.
+/// One epoch of a driver: enables, uses and disables the queue, and takes the buffers back.
 fn epoch<R: Wait>(
     rt: &R,
     ring: &RxRing,
@@ -86,7 +86,7 @@ fn epoch<R: Wait>(
     told.back = told.back.saturating_add(reclaim_all(ring, driver, spare));
 }
 
-/// The driver's side of so many epochs.
+/// The driver's side of `epochs` epochs.
 fn drive_epochs<R: Wait>(
     rt: &R,
     ring: &RxRing,
@@ -109,7 +109,7 @@ fn drive_epochs<R: Wait>(
     told
 }
 
-/// The driver's side of a queue that nobody disables: it takes so many frames.
+/// The driver's side of a queue that nobody disables. Takes `takes` frames.
 fn drive_on<R: Wait>(rt: &R, ring: &RxRing, side: &mut Driving, takes: u32)
     requires { side.old.end.table ≡ ring.now }
     ensures { side.new.end.table ≡ ring.now }
@@ -134,7 +134,7 @@ fn drive<R: Wait>(rt: &R, ring: &RxRing, mut side: Driving, plan: Plan) -> Drivi
     side
 }
 
-/// The controller's side of so many epochs: how many frames it stored in the last.
+/// The controller's side of `epochs` epochs. Returns the number of frames stored in the last.
 fn control_epochs<R: Wait>(rt: &R, ring: &RxRing, end: &mut RxControllerEnd, epochs: u32) -> u32
     requires { end.old.table ≡ ring.now }
     ensures { end.new.table ≡ ring.now }
@@ -175,7 +175,7 @@ fn control<R: Wait>(rt: &R, ring: &RxRing, mut side: Serving, plan: Plan) -> Ser
     side
 }
 
-/// What both threads came to.
+/// The results of both threads.
 #[derive(Clone, Copy)]
 struct Ran {
     told: Driven,
@@ -184,7 +184,7 @@ struct Ran {
     back: Back,
 }
 
-/// Each side of the plan in a thread of its own.
+/// Runs each side of the plan in its own thread.
 fn join_both<R: Threads + Wait + Sync>(
     rt: &R,
     ring: &RxRing,
@@ -205,7 +205,7 @@ fn join_both<R: Threads + Wait + Sync>(
     )
 }
 
-/// Lets the ends meet where the queue was disabled.
+/// Lets the ends meet if the queue was disabled.
 fn meet(ring: &RxRing, serving: &mut Serving, driving: &mut Driving, plan: Plan)
     requires serves { serving.old.end.table ≡ ring.now }
     requires drives { driving.old.end.table ≡ ring.now }
@@ -231,7 +231,7 @@ fn close_both(ring: RxRing, serving: Serving, driving: Driving) -> Ran
     }
 }
 
-/// Both sides of a new ring of 8 and 16 buffers, each in a thread of its own until both are done; then the ring is closed.
+/// Runs both sides of a new ring of 8 with 16 buffers, each in its own thread, and then closes the ring.
 fn run<R: Threads + Wait + Sync + Abort>(rt: &R, alloc: Global, plan: Plan) -> Ran {
     let spare = full_stash(alloc, 16).expect(rt, "buffers");
     let (ring, driver, controller) = RxRing::new(alloc, 8).expect(rt, "a ring");

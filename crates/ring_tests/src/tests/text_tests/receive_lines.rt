@@ -7,7 +7,7 @@ use ring_machine::RxStep::{
     StoreQuiet, Take,
 };
 
-/// Each line but those of the controls, and its step.
+/// Each line, except those of the handshake, with its step.
 pub const RECEIVE: &[Line<RxNamed>] = &[
     ("A1 0", Post(0)),
     ("A1 65535", Post(65_535)),

@@ -7,7 +7,7 @@ use ring_machine::TxStep::{
     Report, Send,
 };
 
-/// Each line but those of the controls, and its step.
+/// Each line, except those of the handshake, with its step.
 pub const TRANSMIT: &[Line<TxNamed>] = &[
     ("B1 0 1 0 0 14", Post((0, 1, false, false, 14))),
     (

@@ -1,4 +1,4 @@
-//! Threads that really run over one ring of 8, in both completions.
+//! Real threads on one ring of 8, in both completions.
 ghost use Rattle.std.specs.Prelude.{◌≡◌};
 
 mod hands;
@@ -15,30 +15,30 @@ use std::thread::Threads;
 use test_kit::{Closed, full_stash};
 use tx_ring::{Completion, Control, TxControllerEnd, TxDriverEnd, TxRing, close, meet_tx};
 
-/// How many frames are posted in one epoch; the last asks for a report.
+/// The number of frames posted in one epoch; the last asks for a report.
 const FRAMES: u32 = 300;
 
-/// What the two threads do.
+/// The plan of the two threads.
 #[derive(Clone, Copy)]
 enum Plan {
-    /// So many epochs, in each of which the driver waits until so many frames are cleaned.
+    /// This many epochs. In each, the driver waits until the given number of frames is cleaned.
     Epochs(u32, u32),
-    /// The queue is not disabled: so many frames are posted, sent, and cleaned.
+    /// The queue is not disabled. The given numbers of frames are posted, sent and cleaned.
     On(u32, u32, u32),
 }
 
-/// A driver's end with the buffers at hand, and what its thread has to tell.
+/// A driver's end with the spare buffers and its thread's report.
 #[derive(Drop)]
 struct Driving {
     end: TxDriverEnd,
     spare: Stash,
-    /// The frames whose buffers came back by cleaning, and then by reclaiming, in all epochs.
+    /// The frames whose buffers came back, cleaned and then reclaimed, in all epochs.
     back: Passed,
-    /// How many were not sent in all epochs, if each told it.
+    /// How many frames were not sent in all epochs, if known for each.
     left: Option<u32>,
 }
 
-/// A controller's end with the buffer that it holds, and what it sent in all.
+/// A controller's end with the buffer that it holds, and the frames that it sent in all.
 #[derive(Drop)]
 struct Serving {
     end: TxControllerEnd,
@@ -46,12 +46,12 @@ struct Serving {
     sent: Passed,
 }
 
-/// The sum of both numbers, if both are told.
+/// The sum of both numbers, if both are known.
 fn sum_of(before: Option<u32>, more: Option<u32>) -> Option<u32> {
     Some(before?.saturating_add(more?))
 }
 
-/// Has the queue enabled, posts so many frames, and cleans so many: what was cleaned.
+/// Enables the queue, posts `posts` frames and cleans `cleans`. Returns the cleaned frames.
 fn posts_on<R: Wait>(rt: &R, ring: &TxRing, side: &mut Driving, posts: u32, cleans: u32) -> Passed
     requires { side.old.end.table ≡ ring.now }
     ensures { side.new.end.table ≡ ring.now }
@@ -63,7 +63,7 @@ fn posts_on<R: Wait>(rt: &R, ring: &TxRing, side: &mut Driving, posts: u32, clea
     cleaned
 }
 
-/// The driver's side of one epoch of so many frames; it waits until all are cleaned, or leaves the rest to the disabling.
+/// The driver's side of one epoch. Waits until `waits_for` frames are cleaned, and leaves the rest to the disabling.
 fn epoch<R: Wait>(rt: &R, ring: &TxRing, side: &mut Driving, waits_for: u32)
     requires { side.old.end.table ≡ ring.now }
     ensures { side.new.end.table ≡ ring.now }
@@ -76,7 +76,7 @@ fn epoch<R: Wait>(rt: &R, ring: &TxRing, side: &mut Driving, waits_for: u32)
     side.back = side.back.then(back);
 }
 
-/// The driver's side of so many epochs.
+/// The driver's side of `epochs` epochs.
 fn drive_epochs<R: Wait>(rt: &R, ring: &TxRing, side: &mut Driving, epochs: u32, waits_for: u32)
     requires { side.old.end.table ≡ ring.now }
     ensures { side.new.end.table ≡ ring.now }
@@ -86,7 +86,7 @@ fn drive_epochs<R: Wait>(rt: &R, ring: &TxRing, side: &mut Driving, epochs: u32,
     }
 }
 
-/// The driver's side of the plan; where nobody disables the queue, it posts so many frames, and cleans so many.
+/// The driver's side of the plan.
 fn drive<R: Wait>(rt: &R, ring: &TxRing, mut side: Driving, plan: Plan) -> Driving
     requires { side.end.table ≡ ring.now }
     ensures { result.end.table ≡ ring.now }
@@ -98,7 +98,7 @@ fn drive<R: Wait>(rt: &R, ring: &TxRing, mut side: Driving, plan: Plan) -> Drivi
     side
 }
 
-/// The controller's side of so many epochs: what it sent in all.
+/// The controller's side of `epochs` epochs. Returns all frames sent.
 fn control_epochs<R: Wait>(rt: &R, ring: &TxRing, end: &mut TxControllerEnd, epochs: u32) -> Passed
     requires { end.old.table ≡ ring.now }
     ensures { end.new.table ≡ ring.now }
@@ -124,7 +124,7 @@ fn fetch_when_ready<R: Wait>(rt: &R, ring: &TxRing, controller: &mut TxControlle
     unreachable!()
 }
 
-/// The controller's side of the plan: where not all are sent, it holds one buffer more.
+/// The controller's side of the plan. If not all frames are sent, it holds one more buffer.
 fn control<R: Wait>(rt: &R, ring: &TxRing, mut side: Serving, plan: Plan) -> Serving
     requires { side.end.table ≡ ring.now }
     ensures { result.end.table ≡ ring.now }
@@ -141,8 +141,8 @@ fn control<R: Wait>(rt: &R, ring: &TxRing, mut side: Serving, plan: Plan) -> Ser
     side
 }
 
-/// What both threads came to: what was sent, how many frames were not, what came back to the driver, and what the closed
-/// ring gave back.
+/// The results of both threads: the frames sent, the number not sent, the frames back with the driver, and the buffers
+/// that the closed ring returned.
 #[derive(Clone, Copy)]
 struct Ran {
     sent: Passed,
@@ -151,7 +151,7 @@ struct Ran {
     closed: Back,
 }
 
-/// Each side of the plan in a thread of its own.
+/// Runs each side of the plan in its own thread.
 fn join_both<R: Threads + Wait + Sync>(
     rt: &R,
     ring: &TxRing,
@@ -196,8 +196,8 @@ fn close_both(ring: TxRing, serving: Serving, driving: Driving) -> Ran
     }
 }
 
-/// Both sides of a new ring of 8 and 16 buffers, each in a thread of its own until both are done; then the ends meet, and
-/// the ring is closed.
+/// Runs both sides of a new ring of 8 with 16 buffers, each in its own thread. Then lets the ends meet and closes the
+/// ring.
 fn run<R: Threads + Wait + Sync + Abort>(
     rt: &R,
     alloc: Global,
@@ -224,7 +224,7 @@ fn run<R: Threads + Wait + Sync + Abort>(
 
 const BOTH_WAYS: [Completion; 2] = [Completion::Status, Completion::Head];
 
-/// In ten epochs the queue is disabled while frames are sent.
+/// Ten epochs, in each of which the queue is disabled while frames are sent.
 #[test]
 fn stop_while_running(rt: HostRuntime) {
     for completion in BOTH_WAYS {
@@ -237,7 +237,7 @@ fn stop_while_running(rt: HostRuntime) {
     }
 }
 
-/// In three epochs all is sent and cleaned.
+/// Three epochs, in each of which all frames are sent and cleaned.
 #[test]
 fn three_epochs(rt: HostRuntime) {
     for completion in BOTH_WAYS {
@@ -262,7 +262,7 @@ fn two_threads_tx(rt: HostRuntime) {
     }
 }
 
-/// A queue that nobody disables is closed with a buffer that its controller holds.
+/// A queue that nobody disables is closed while its controller holds a buffer.
 #[test]
 fn closed(rt: HostRuntime) {
     for completion in BOTH_WAYS {

@@ -1,6 +1,5 @@
-//! Both ends of a ring in one thread, with what the controller holds, and the pure machine beside them. Each call is made
-//! where its condition holds, and left out where not; it answers its step's note, with 0 for a place, since no call tells
-//! one.
+//! Both ends of a ring in one thread, with the buffer that the controller holds, and the pure machine. A call whose
+//! condition does not hold is left out. It returns the note of its step, with 0 for a place, since no call returns one.
 ghost use Rattle.std.specs.Prelude.{◌≡◌, ◌+◌, ◌<◌, ◌≤◌, true, length};
 ghost use Rattle.limits.specs.declared.profile.TheConstants.{LEAST_FRAME, MOST_FRAME, MOST_SEGMENTS};
 ghost use Rattle.ring_model.specs.shared.Segments.{piece_of};
@@ -26,22 +25,22 @@ use test_kit::{
 /// A step of a receive ring.
 pub(crate) type Step = RxStep<SegmentLength>;
 
-/// A ring with its two ends, the buffers that are in neither, and the ring's machine.
+/// A ring with its two ends, the buffers outside it, and its machine.
 #[derive(Drop)]
 pub(crate) struct Both {
     pub ring: RxRing,
     pub driver: RxDriverEnd,
     pub controller: RxControllerEnd,
     machine: RxMachine,
-    /// The buffers at hand.
+    /// The spare buffers.
     pub spare: Stash,
-    /// The number of the buffer that was posted last.
+    /// The number of the buffer posted last.
     pub posted: u16,
-    /// The segments that were stored in this epoch, each filled with its number, and those that were taken.
+    /// The number of segments stored in this epoch, each filled with its own number, and of those taken.
     pub stored_count: u32,
     pub taken_count: u32,
     held: Option<Buf>,
-    // of the frame that is begun
+    // of the unfinished frame
     segments: usize,
     bytes: usize,
     untouched: bool,
@@ -55,7 +54,7 @@ pub(crate) struct Both {
 }
 
 impl Both {
-    /// A ring of so many places that is not enabled, and all buffers at hand.
+    /// A disabled ring of `n` places, with all buffers spare.
     pub(crate) fn new<R: Abort>(rt: &R, alloc: Global, n: u32) -> Both {
         let machine = RxMachine::new(alloc, n as usize, false).expect(rt, "a machine");
         let spare = full_stash(alloc, BUFFERS).expect(rt, "buffers");
@@ -99,7 +98,7 @@ impl Both {
         Some(note)
     }
 
-    // Whether so many bytes may follow the frame that is begun.
+    // Whether `len` bytes may follow the unfinished frame.
     fn may_follow(&self, len: SegmentLength, eop: bool) -> bool
         ensures segments { result ≡ true → self.now.segments < MOST_SEGMENTS }
         ensures descriptors { result ≡ true → self.now.segments + 1 < controller_size self.now.controller }
@@ -210,7 +209,7 @@ impl Both {
         Some(Note::Head(0))
     }
 
-    /// Whether a poll says that the queue is disabled; then the ends meet.
+    /// Whether a poll says that the queue is disabled. Then lets the ends meet.
     pub(crate) fn is_off(&mut self) -> bool {
         let is_off = matches!(self.driver.poll(&self.ring), Poll::Off);
         meet_rx(&self.ring, &mut self.driver, &mut self.controller);
@@ -273,7 +272,7 @@ impl Beside for Both {
         matches!(step, RxStep::Post(_)).then_some(self.posted)
     }
 
-    // Where none is reclaimed yet.
+    // Only while nothing is reclaimed.
     fn left(&mut self) -> Option<(u32, u32)> {
         if !self.driver.is_stopped() || !self.untouched {
             return None;
@@ -312,7 +311,7 @@ impl Beside for Both {
     }
 }
 
-/// The step that a random number below 51 stands for, but those of a store.
+/// The step for a random number below 51, other than a store.
 fn step_at(at: u64) -> Step {
     match at {
         0..=6 => RxStep::Post(0),

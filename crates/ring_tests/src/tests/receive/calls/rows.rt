@@ -10,30 +10,30 @@ use std::alloc::Global;
 use std::process::Abort;
 use test_kit::{Beside, Tells, disable, enable, told_so};
 
-/// What a row does on a ring, or looks at.
+/// An action of a row on a ring, or a look at it.
 #[derive(Clone, Copy)]
 pub(crate) enum Act {
     /// Makes a step.
     Make(RxNamed),
-    /// Makes a step so many times, as long as it can be made.
+    /// Makes a step up to this many times, as long as it can be made.
     Times(u32, RxNamed),
-    /// Makes a step of the handshake, after which the driver is in this state.
+    /// Makes a step of the handshake, then checks that the driver is in this state.
     Shake(ControlStep, State),
     Enable,
     Disable,
-    /// Stores so many frames of 60 bytes in one segment, each with its head.
+    /// Stores this many frames of 60 bytes in one segment each, and the head after each.
     Stores(u32),
-    /// Stores, takes and posts anew so many frames, one after another.
+    /// Stores, takes and posts again this many frames, one after another.
     GoRound(u32),
-    /// What is left to take.
+    /// The number of segments left to take.
     Left,
-    /// How many segments were stored, and how many were taken.
+    /// The numbers of segments stored and taken.
     Counts,
     HasFinished,
     IsOff,
 }
 
-/// What it tells.
+/// The result of an action.
 #[derive(Clone, Copy, PartialEq)]
 pub(crate) enum Told {
     Yes,
@@ -53,14 +53,14 @@ impl Told {
 #[derive(Clone, Copy, PartialEq)]
 pub(crate) enum State {
     New,
-    /// It asked to be enabled.
+    /// It asked for enabling.
     Asked,
     On,
     Stopping,
     Disabled,
 }
 
-/// Whether the tests beside the conditions say that the driver is in this state.
+/// Whether the state tests show that the driver is in this state.
 fn is_in(driver: &RxDriverEnd, state: State) -> bool {
     driver.is_new() == (state == State::New)
         && driver.is_on() == (state == State::On)
@@ -69,12 +69,12 @@ fn is_in(driver: &RxDriverEnd, state: State) -> bool {
         && driver.is_open() == matches!(state, State::New | State::Asked | State::On)
 }
 
-/// What the step tells; nothing where it can't be made.
+/// Makes the step and returns its note, or `None` if it cannot be made.
 fn make(both: &mut Both, named: RxNamed) -> Option<Note> {
     both.call(rx_step(named)?)
 }
 
-/// How many of so many times the step could be made.
+/// Makes the step up to `count` times. Returns how often it could be made.
 fn times(both: &mut Both, count: u32, named: RxNamed) -> u32 {
     for k in 0..count {
         if make(both, named).is_none() {
@@ -84,7 +84,7 @@ fn times(both: &mut Both, count: u32, named: RxNamed) -> u32 {
     count
 }
 
-/// Whether each of these steps could be made.
+/// Makes these steps. Returns whether all could be made.
 fn makes(both: &mut Both, steps: &[RxNamed]) -> bool {
     for step in steps {
         if make(both, *step).is_none() {
@@ -103,7 +103,7 @@ const STORING: &[RxNamed] = &[
 
 const TAKING: &[RxNamed] = &[RxStep::Take, RxStep::Post(0), RxStep::Publish];
 
-/// Stores so many frames of 60 bytes: how many could be stored.
+/// Stores frames of 60 bytes. Returns how many could be stored.
 fn stores(both: &mut Both, frames: u32) -> u32 {
     for k in 0..frames {
         if !makes(both, STORING) {
@@ -113,7 +113,7 @@ fn stores(both: &mut Both, frames: u32) -> u32 {
     frames
 }
 
-/// Stores, takes and posts anew so many frames, one after another: how many went round.
+/// Stores, takes and posts again frames, one after another. Returns how many went round.
 fn go_round(both: &mut Both, frames: u32) -> u32 {
     for k in 0..frames {
         if !makes(both, STORING) || !makes(both, TAKING) {
@@ -152,10 +152,10 @@ impl Tells for Both {
     }
 }
 
-/// What is done on a ring of 8, and what it has to tell.
+/// An action on a ring of 8, and its expected result.
 type Row = (Act, Told);
 
-/// The place of a closed ring that alone is empty.
+/// The only empty place of a closed ring.
 fn empty_place(slots: &[Option<Buf>]) -> Option<usize> {
     let mut empty = None;
     for k in 0..slots.len() {
@@ -169,8 +169,8 @@ fn empty_place(slots: &[Option<Buf>]) -> Option<usize> {
     empty
 }
 
-/// How many rows told what they should before the first that didn't, and the place of the ring that alone was empty when
-/// it was closed then. It is generic, since an owner of a queue is dear to prove.
+/// Returns how many rows agreed before the first that did not, and the only empty place of the ring when it was closed
+/// then. Generic, since an owner of a queue is expensive to prove.
 fn walked<B: Beside + Drop + Tells<Step = Act, Told = Told>>(
     mut both: B,
     rows: &[Row],
@@ -179,14 +179,14 @@ fn walked<B: Beside + Drop + Tells<Step = Act, Told = Told>>(
     (told, empty_place(&both.close().slots))
 }
 
-/// On a new ring of 8 each row tells what it should: the place that alone was empty when it was closed then.
+/// Checks the rows on a new ring of 8. Returns the only empty place when it was closed then.
 fn comes_to<R: Abort>(rt: &R, alloc: Global, rows: &[Row]) -> Option<usize> {
     let (told, place) = walked(Both::new(rt, alloc, 8), rows);
     same(rt, told, rows.len());
     place
 }
 
-/// The head is 5 then, as the place to take next.
+/// The head is 5 at the end, and so is the place to take next.
 const ROUND: &[Row] = &[
     (Act::Enable, Told::Yes),
     (Act::Times(7, RxStep::Post(0)), Told::Count(7)),
@@ -202,10 +202,10 @@ fn frames_with_heads_go_round(rt: HostRuntime) {
     same(&rt, comes_to(&rt, rt.alloc(), ROUND), Some(4));
 }
 
-/// The step can't be made.
+/// The step cannot be made.
 const NOTHING: Told = Told::Note(None);
 
-/// This step of the handshake brings the driver to this state, and the control word has this value.
+/// A step of the handshake, with the driver's state after it and the value of the control word.
 macro_rules! shaken {
     ($step:ident, $state:ident, $value:expr) => {
         (
@@ -215,7 +215,7 @@ macro_rules! shaken {
     };
 }
 
-/// Enabled as it should be, and then disabled, and nothing else can be done.
+/// The queue is enabled and then disabled, and nothing else can be done.
 const SHAKEN: &[Row] = &[
     shaken!(LookAnswered, New, 0),
     (Act::Shake(ControlStep::AskDisable, State::New), NOTHING),
@@ -238,14 +238,15 @@ fn enabling_and_disabling_by_calls(rt: HostRuntime) {
     comes_to(&rt, rt.alloc(), SHAKEN);
 }
 
-/// The first buffer that was posted, with a whole frame of 60 bytes.
+/// The first posted buffer, with a whole frame of 60 bytes.
 const TAKEN: TakenSegment = TakenSegment {
     buffer: 31,
     len: 60,
     eop: true,
 };
 
-/// Three of seven frames are stored, and one is taken: two are left, neither side gets more, and seven buffers come back.
+/// Three of seven frames are stored and one is taken: two are left, neither side gets more, and seven buffers come
+/// back.
 const TWO_LEFT: &[Row] = &[
     (Act::Enable, Told::Yes),
     (Act::Times(7, RxStep::Post(0)), Told::Count(7)),
@@ -271,7 +272,8 @@ fn disabled_with_two_left(rt: HostRuntime) {
     comes_to(&rt, rt.alloc(), TWO_LEFT);
 }
 
-/// A queue can't be said quiet before it is enabled. What is left of a quiet one is still taken, and nothing more stored.
+/// A queue cannot become quiet before it is enabled. The segments left in a quiet queue can still be taken, and nothing
+/// more is stored.
 const QUIET: &[Row] = &[
     (Act::Make(RxStep::StoreQuiet), NOTHING),
     (Act::Enable, Told::Yes),
@@ -305,7 +307,7 @@ fn quiet_by_calls(rt: HostRuntime) {
     comes_to(&rt, rt.alloc(), QUIET);
 }
 
-/// The sizes of a new ring's ends, the room in it, and how many descriptors are free.
+/// The sizes of a new ring's ends, its room, and its number of free descriptors.
 fn sizes(alloc: Global, n: u32) -> Result<[u32; 4], RingError> {
     let (_ring, driver, controller) = RxRing::new(alloc, n)?;
     Ok([

@@ -8,7 +8,7 @@ use std::alloc::Global;
 use std::process::Abort;
 use test_kit::{Beside, Random, Survey, Walk};
 
-// The list of a frame of two segments, whose queue is disabled and reclaimed, without the asking for it.
+// A frame of two segments, whose queue is disabled and reclaimed. The request for disabling is not in the list.
 const LIST: &[RxNamed] = &[
     RxStep::Post(0),
     RxStep::Post(0),
@@ -38,7 +38,7 @@ const ENABLING: &[RxNamed] = &[
     RxStep::Control(ControlStep::LookAnswered),
 ];
 
-// Makes the steps: whether the ring and its machine told the same at each.
+// Makes the steps. Returns whether the ring and its machine agreed at each.
 fn walks<B: Beside<Step = Step> + Drop>(walk: &mut Walk<B>, steps: &[RxNamed]) -> bool {
     for step in steps {
         match rx_step(*step) {
@@ -49,8 +49,8 @@ fn walks<B: Beside<Step = Step> + Drop>(walk: &mut Walk<B>, steps: &[RxNamed]) -
     true
 }
 
-// Makes the list on an enabled queue, with a disabling asked before the move of this index: how many moves were made, if
-// the ring and its machine told the same.
+// Makes the list on an enabled queue, with the request for disabling before the move of this index. Returns the number
+// of moves made, if the ring and its machine agreed.
 fn made_with<B: Beside<Step = Step> + Drop>(both: B, index: usize) -> Option<usize> {
     let mut walk = Walk::new(both);
     let (before, after) = LIST.split_at(index.min(LIST.len()));
@@ -81,7 +81,7 @@ fn at_every_step(rt: HostRuntime) {
     }
 }
 
-// A thousand schedules on rings of 8 and 16: the first on which the ring and its machine differ.
+// Runs a thousand schedules on rings of 8 and 16. Returns the first on which the ring and its machine differ.
 fn first_differing<R: Abort>(rt: &R, alloc: Global, survey: &mut Survey) -> Option<u32> {
     for schedule in 0..1_000u32 {
         let n = if schedule % 2 == 0 { 8 } else { 16 };

@@ -1,4 +1,4 @@
-//! What a thread does with its end of a ring. Each step is made where its condition holds, and left out where not.
+//! The actions of a thread on its end of a ring. A step whose condition does not hold is left out.
 ghost use Rattle.std.specs.Prelude.{◌≡◌, ◌≤◌, true, length};
 ghost use Rattle.rx_ring.specs.Ends.{reclaimed};
 
@@ -8,7 +8,7 @@ use std::sync::Wait;
 use std::thread;
 use test_kit::{frame, frame_len, is_frame, put_back};
 
-/// Asks for the queue to be enabled, if nothing was asked in this epoch, or disabled, if it was seen enabled.
+/// Asks for enabling if nothing was asked in this epoch, or for disabling if the queue was seen enabled.
 fn ask(ring: &RxRing, driver: &mut RxDriverEnd)
     requires { driver.old.table ≡ ring.now }
     ensures own { driver.new.table ≡ ring.now }
@@ -21,7 +21,7 @@ fn ask(ring: &RxRing, driver: &mut RxDriverEnd)
     }
 }
 
-/// Asks for it, and waits until it is so.
+/// Asks for it, and waits for the answer.
 pub(crate) fn ask_for<R: Wait>(rt: &R, ring: &RxRing, driver: &mut RxDriverEnd, wanted: Control)
     requires { driver.old.table ≡ ring.now }
     ensures own { driver.new.table ≡ ring.now }
@@ -36,7 +36,7 @@ pub(crate) fn ask_for<R: Wait>(rt: &R, ring: &RxRing, driver: &mut RxDriverEnd, 
     }
 }
 
-/// Posts a buffer of the stash, if it has one and the ring has room.
+/// Posts a spare buffer, if there is one and the ring has room.
 fn post_one(ring: &RxRing, driver: &mut RxDriverEnd, spare: &mut Stash) -> bool
     requires { driver.old.table ≡ ring.now }
     ensures own { driver.new.table ≡ ring.now }
@@ -52,7 +52,7 @@ fn post_one(ring: &RxRing, driver: &mut RxDriverEnd, spare: &mut Stash) -> bool
     true
 }
 
-/// Posts what the stash has and the ring has room for, and publishes it.
+/// Posts the spare buffers that the ring has room for, and publishes them.
 pub(crate) fn fill_ring(ring: &RxRing, driver: &mut RxDriverEnd, spare: &mut Stash)
     requires { driver.old.table ≡ ring.now }
     ensures own { driver.new.table ≡ ring.now }
@@ -68,7 +68,7 @@ pub(crate) fn fill_ring(ring: &RxRing, driver: &mut RxDriverEnd, spare: &mut Sta
     }
 }
 
-/// Takes frame `k` and posts its buffer again: whether it is as it should be, if it is there.
+/// Takes frame `k` and posts its buffer again. Returns whether it was as expected, or `None` if none was there.
 fn receive_one(ring: &RxRing, driver: &mut RxDriverEnd, k: u32) -> Option<bool>
     requires { driver.old.table ≡ ring.now }
     ensures own { driver.new.table ≡ ring.now }
@@ -86,7 +86,7 @@ fn receive_one(ring: &RxRing, driver: &mut RxDriverEnd, k: u32) -> Option<bool>
     Some(is_good)
 }
 
-/// Takes frames until so many were taken, and answers how many were as they should be.
+/// Takes frames until `most` were taken. Returns how many were as expected.
 pub(crate) fn receive<R: Wait>(rt: &R, ring: &RxRing, driver: &mut RxDriverEnd, most: u32) -> u32
     requires { driver.old.table ≡ ring.now }
     ensures own { driver.new.table ≡ ring.now }
@@ -108,7 +108,7 @@ pub(crate) fn receive<R: Wait>(rt: &R, ring: &RxRing, driver: &mut RxDriverEnd, 
     good
 }
 
-/// Takes one buffer of a disabled queue back, if any is left.
+/// Takes back one buffer of a disabled queue, if any is left.
 fn reclaim(ring: &RxRing, driver: &mut RxDriverEnd, spare: &mut Stash) -> bool
     requires { driver.old.table ≡ ring.now }
     ensures { driver.new.table ≡ ring.now }
@@ -123,7 +123,7 @@ fn reclaim(ring: &RxRing, driver: &mut RxDriverEnd, spare: &mut Stash) -> bool
     true
 }
 
-/// Takes all that is left back, and answers how many buffers that was.
+/// Takes back all buffers that are left. Returns their number.
 pub(crate) fn reclaim_all(ring: &RxRing, driver: &mut RxDriverEnd, spare: &mut Stash) -> u32
     requires { driver.old.table ≡ ring.now }
     ensures { driver.new.table ≡ ring.now }
@@ -138,7 +138,7 @@ pub(crate) fn reclaim_all(ring: &RxRing, driver: &mut RxDriverEnd, spare: &mut S
     count
 }
 
-/// How many segments are left to take, where the disabling was seen answered.
+/// The number of segments left to take, if the disabling was seen answered.
 pub(crate) fn left(ring: &RxRing, driver: &mut RxDriverEnd) -> Option<u32>
     requires own { driver.old.table ≡ ring.now }
     requires fresh { reclaimed driver.old ≡ 0 }
@@ -150,7 +150,7 @@ pub(crate) fn left(ring: &RxRing, driver: &mut RxDriverEnd) -> Option<u32>
     Some(driver.left(ring))
 }
 
-/// Renews the queue, if all its buffers came back.
+/// Renews the queue, if all its buffers are back.
 pub(crate) fn renew(ring: &RxRing, driver: &mut RxDriverEnd) -> bool
     requires { driver.old.table ≡ ring.now }
     ensures own { driver.new.table ≡ ring.now }
@@ -201,7 +201,7 @@ fn store_frame(ring: &RxRing, controller: &mut RxControllerEnd, frame: &[u8]) ->
     true
 }
 
-/// Answers what is asked: whether that disabled the queue.
+/// Answers a request. Returns whether that disabled the queue.
 fn answers_disabling(ring: &RxRing, controller: &mut RxControllerEnd) -> bool
     requires { controller.old.table ≡ ring.now }
     ensures { controller.new.table ≡ ring.now }
@@ -214,7 +214,7 @@ fn answers_disabling(ring: &RxRing, controller: &mut RxControllerEnd) -> bool
     was_on && !controller.is_serving()
 }
 
-/// Stores frame `k` as soon as a descriptor is free, and answers what is asked; false where the queue is disabled.
+/// Stores frame `k` as soon as a descriptor is free, and answers requests. Returns `false` if the queue was disabled.
 fn store_when_free<R: Wait>(rt: &R, ring: &RxRing, controller: &mut RxControllerEnd, k: u32) -> bool
     requires { controller.old.table ≡ ring.now }
     ensures { controller.new.table ≡ ring.now }
@@ -232,7 +232,7 @@ fn store_when_free<R: Wait>(rt: &R, ring: &RxRing, controller: &mut RxController
     unreachable!()
 }
 
-/// Serves the queue until it is disabled, or so many frames are stored: how many were.
+/// Serves the queue until it is disabled or `most` frames are stored. Returns the number of frames stored.
 pub(crate) fn serve<R: Wait>(rt: &R, ring: &RxRing, end: &mut RxControllerEnd, most: u32) -> u32
     requires { end.old.table ≡ ring.now }
     ensures { end.new.table ≡ ring.now }

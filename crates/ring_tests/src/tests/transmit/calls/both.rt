@@ -1,5 +1,5 @@
-//! Both ends of a ring in one thread, with what the controller holds, and the pure machine beside them. Each call is made
-//! where its condition holds, and left out where not; it answers its step's note, with 0 for a place.
+//! Both ends of a ring in one thread, with the buffer that the controller holds, and the pure machine. A call whose
+//! condition does not hold is left out. It returns the note of its step, with 0 for a place.
 ghost use Rattle.std.specs.Prelude.{◌≡◌, ◌+◌, ◌<◌, ◌≤◌, ◌⊎◌, true, length, Some};
 ghost use Rattle.limits.specs.declared.profile.TheConstants.{LEAST_FRAME, MOST_FRAME, MOST_SEGMENTS};
 ghost use Rattle.ring_model.specs.transmit.Ring.{carried};
@@ -26,7 +26,7 @@ use tx_ring::{
 /// A step of a transmit ring.
 pub(crate) type Step = TxStep<SegmentDescriptor>;
 
-/// The frame that is begun: its postings so far, their bytes, and the length of the whole.
+/// The unfinished frame: its postings so far, their bytes, and the length of the whole.
 #[derive(Clone, Copy, Drop)]
 struct Begun {
     segments: usize,
@@ -34,14 +34,14 @@ struct Begun {
     paylen: u16,
 }
 
-/// No frame is begun.
+/// No unfinished frame.
 const NONE: Begun = Begun {
     segments: 0,
     bytes: 0,
     paylen: 0,
 };
 
-/// A ring with its two ends, the buffers that are in neither, and the ring's machine.
+/// A ring with its two ends, the buffers outside it, and its machine.
 #[derive(Drop)]
 pub(crate) struct Both {
     pub ring: TxRing,
@@ -49,17 +49,17 @@ pub(crate) struct Both {
     pub controller: TxControllerEnd,
     machine: TxMachine,
     pub completion: Completion,
-    /// The buffers at hand.
+    /// The spare buffers.
     spare: Stash,
-    /// The number of the buffer that was posted last.
+    /// The number of the buffer posted last.
     number: u16,
-    /// The segments of this epoch that were posted, each filled with its number, those that were sent, and those that
-    /// were cleaned or reclaimed.
+    /// The numbers of segments posted in this epoch, each filled with its own number, of those sent, and of those
+    /// cleaned or reclaimed.
     posted_count: u32,
     sent_count: u32,
     back_count: u32,
     begun: Begun,
-    /// The second word of the descriptor that was fetched last.
+    /// The second word of the descriptor fetched last.
     pub word: u64,
     held_buf: Option<Buf>,
     ghost drives: { driver.table ≡ ring },
@@ -72,7 +72,7 @@ pub(crate) struct Both {
 }
 
 impl Both {
-    /// A ring of so many places that is not enabled, and all buffers at hand.
+    /// A disabled ring of `n` places, with all buffers spare.
     pub(crate) fn new<R: Abort>(rt: &R, alloc: Global, n: u32, completion: Completion) -> Both {
         let machine = TxMachine::new_with(alloc, n as usize, false, completion).expect(
             rt,
@@ -99,7 +99,7 @@ impl Both {
         }
     }
 
-    // Whether this may be posted behind the frame that is begun.
+    // Whether this posting may follow the unfinished frame.
     fn may_follow(&self, next: &SegmentDescriptor) -> bool
         ensures segments { result ≡ true → self.now.begun.segments < MOST_SEGMENTS }
         ensures descriptors { result ≡ true → self.now.begun.segments + 1 < driver_size self.now.driver }
@@ -232,7 +232,7 @@ impl Both {
         self.came_back(buf)
     }
 
-    // A buffer that comes back has the bytes with which it was posted.
+    // Checks that a returned buffer has the bytes with which it was posted.
     fn came_back(&mut self, buf: Buf) -> Option<Note> {
         let is_next = is_filled(&buf, self.back_count);
         self.back_count = self.back_count.wrapping_add(1);
@@ -281,7 +281,7 @@ impl Both {
         Some(Note::Head(0))
     }
 
-    // What is posted next: a frame's first segment, or the next of the one that is begun; of four at most.
+    // A random posting: a frame's first segment, or the next of the unfinished frame, with at most four segments.
     fn random_posting(&self, random: &mut Random) -> Step {
         let Begun {
             segments,
@@ -319,7 +319,7 @@ impl Beside for Both {
         }
     }
 
-    // That no report is outstanding, and that it isn't made yet, is told alike.
+    // The call returns the same for no outstanding report and for one that is not made yet.
     fn call(&mut self, step: Step) -> Option<Note> {
         match step {
             TxStep::Post(posted) => self.post(posted),
@@ -390,7 +390,7 @@ impl Beside for Both {
     }
 }
 
-/// The step that a random number below 53 stands for, but that of a posting.
+/// The step for a random number below 53, other than a posting.
 fn step_at(at: u64) -> Step {
     match at {
         0..=12 => TxStep::Publish,
@@ -407,7 +407,7 @@ fn step_at(at: u64) -> Step {
     }
 }
 
-/// A step as rows name it: where it posts no lawful segment, it is none that can be made.
+/// The step of a row. If it posts no lawful segment, a step that can never be made.
 pub(crate) fn step_of(named: TxNamed) -> Step {
     tx_step(named).unwrap_or(TxStep::ClearReport)
 }

@@ -1,4 +1,4 @@
-//! Rows by calls, on one thread, in both completions.
+//! Worked rows by calls in one thread, in both completions.
 
 use crate::tests::steps::TxNamed;
 use crate::tests::transmit::calls::both::{Both, Step, step_of};
@@ -12,26 +12,26 @@ use tx_ring::{Completion, ControllerEnd, DriverEnd, RingError, TxRing};
 
 const BOTH_WAYS: [Completion; 2] = [Completion::Status, Completion::Head];
 
-/// What a row does on a ring, or looks at.
+/// An action of a row on a ring, or a look at it.
 #[derive(Clone, Copy)]
 pub(crate) enum Act {
     /// Makes a step that posts nothing.
     Make(TxNamed),
     /// Posts a whole frame of 60 bytes, with RS or without.
     Post(bool),
-    /// Makes a report, as the ring's completion has it.
+    /// Makes a report in the way of the ring's completion.
     Report,
     Enable,
     Disable,
-    /// What is left to send.
+    /// The number of postings left to send.
     Left,
-    /// Enables the queue, and posts and sends the frame with its words.
+    /// Enables the queue, and posts and sends the frame, checking its words.
     Words(Worded),
     /// Lets the ends meet.
     Meet,
 }
 
-/// What it tells.
+/// The result of an action.
 #[derive(Clone, Copy, PartialEq)]
 pub(crate) enum Told {
     Yes,
@@ -46,12 +46,12 @@ impl Told {
     }
 }
 
-/// A posting of so many bytes.
+/// A posting with these values.
 fn posting(len: u16, eop: bool, rs: bool, paylen: u16) -> Step {
     SegmentDescriptor::new(0, len, eop, rs, paylen).map_or(TxStep::ClearTail, TxStep::Post)
 }
 
-/// Whether a report tells what it should: a place, or a head.
+/// Whether a report returns what it should: a place, or a head.
 fn is_reported(both: &mut Both) -> bool {
     let wanted = match both.completion {
         Completion::Status => Note::Place(0),
@@ -82,16 +82,16 @@ impl Tells for Both {
     }
 }
 
-/// What is done on a new ring, and what it has to tell.
+/// An action on a new ring, and its expected result.
 type Row = (Act, Told);
 
-/// How many rows told what they should before the first that didn't. It is generic, since an owner of a queue is dear to
+/// Returns how many rows agreed before the first that did not. Generic, since an owner of a queue is expensive to
 /// prove.
 fn walked<B: Tells<Step = Act, Told = Told> + Drop>(mut both: B, rows: &[Row]) -> usize {
     told_so(&mut both, rows)
 }
 
-/// On a new ring of so many places each row tells what it should, in both completions.
+/// Checks the rows on a new ring of `n` places, in both completions.
 fn come_out<R: Abort>(rt: &R, alloc: Global, n: u32, rows: &[Row]) {
     for completion in BOTH_WAYS {
         let told = walked(Both::new(rt, alloc, n, completion), rows);
@@ -99,13 +99,13 @@ fn come_out<R: Abort>(rt: &R, alloc: Global, n: u32, rows: &[Row]) {
     }
 }
 
-/// The step can't be made.
+/// The step cannot be made.
 const NOTHING: Told = Told::Note(None);
 
-/// The report covers the first place.
+/// The report is made. Its place is 0, since no call returns one.
 const REPORTED: Told = Told::Note(Some(Note::Reported(Some(0))));
 
-/// A frame of 60 bytes in the buffer of this number is to be sent, with RS or without.
+/// A fetched frame of 60 bytes in the buffer of this number, with RS or without.
 macro_rules! sending {
     ($buffer:expr, $rs:expr) => {
         Told::Note(Some(Note::Sending(
@@ -136,7 +136,7 @@ const ONE: &[Row] = &[
     (Act::Meet, Told::Yes),
 ];
 
-/// Of two frames the first asks for no report: that of the second covers it.
+/// The first of two frames asks for no report: the second's covers it.
 const TWO: &[Row] = &[
     (Act::Enable, Told::Yes),
     (Act::Post(false), Told::Note(Some(Note::Place(0)))),
@@ -167,8 +167,8 @@ fn reports(rt: HostRuntime) {
 /// A frame is posted without RS.
 const POSTED: Row = (Act::Post(false), Told::Note(Some(Note::Place(0))));
 
-/// Three frames are posted without RS, and the first is sent: two are left, three buffers come back, and nothing else can be
-/// done.
+/// Three frames are posted without RS, and the first is sent: two are left, three buffers come back, and nothing else
+/// can be done.
 const TWO_LEFT: &[Row] = &[
     (Act::Enable, Told::Yes),
     POSTED,
@@ -203,19 +203,20 @@ fn two_are_left_of_three(rt: HostRuntime) {
     come_out(&rt, rt.alloc(), 8, TWO_LEFT)
 }
 
-/// A frame, and the second words of its descriptors as they are fetched.
+/// A frame and the second words of its descriptors.
 #[derive(Clone, Copy)]
 pub(crate) struct Worded {
     paylen: u16,
-    /// How many full segments of 1,024 bytes it begins with, and the word of each.
+    /// The number of full segments of 1,024 bytes before the last, and the word of each.
     full: u16,
     word: u64,
-    /// The bytes of its last segment, and the word of that.
+    /// The length of the last segment, and its word.
     len: u16,
     last: u64,
 }
 
-/// Posts the frame on an enabled queue and publishes it, which can't be done before its last segment: whether that is so.
+/// Posts the frame on an enabled queue and publishes it. Returns whether it could be published, and not before its last
+/// segment.
 fn posts(both: &mut Both, frame: &Worded) -> bool {
     for _ in 0..frame.full {
         both.call(posting(1_024, false, false, frame.paylen));
@@ -225,7 +226,7 @@ fn posts(both: &mut Both, frame: &Worded) -> bool {
     is_begun && makes(both, &[TxStep::Publish, TxStep::Look])
 }
 
-/// Sends the frame: whether the words are these.
+/// Sends the frame. Returns whether its words are these.
 fn sends_words(both: &mut Both, frame: &Worded) -> bool {
     for _ in 0..frame.full {
         if !makes(both, &[TxStep::Fetch, TxStep::Send]) || both.word != frame.word {
@@ -268,8 +269,7 @@ fn second_words_are_those_of_the_datasheet(rt: HostRuntime) {
     come_out(&rt, rt.alloc(), 16, LONG)
 }
 
-/// The sizes of a new ring's ends, and the room in it. Of no completion it is one that is made without a word on how it
-/// reports.
+/// The sizes of a new ring's ends, and its room. For `None` the ring is made by `new`.
 fn sizes(alloc: Global, n: u32, completion: Option<Completion>) -> Result<[u32; 3], RingError> {
     let made = match completion {
         Some(completion) => TxRing::new_with(alloc, n, completion),
@@ -281,7 +281,7 @@ fn sizes(alloc: Global, n: u32, completion: Option<Completion>) -> Result<[u32; 
 
 const LAWFUL: &[u32] = &[8, 16, 32, 64, 128, 256, 512, 1_024, 2_048, 4_096];
 
-/// A ring of such a length is made.
+/// Checks that a ring of this length is made.
 fn is_made<R: Abort>(rt: &R, alloc: Global, n: u32, completion: Option<Completion>) {
     let told = sizes(alloc, n, completion);
     same(rt, told, Ok([n, n, n.wrapping_sub(1)]));
@@ -298,7 +298,7 @@ fn lawful_lengths_are_made(rt: HostRuntime) {
 
 const UNLAWFUL: &[u32] = &[0, 4, 7, 9, 12, 4_097, 8_192, u32::MAX];
 
-/// A ring of such a length is refused.
+/// Checks that a ring of this length is refused.
 fn is_refused<R: Abort>(rt: &R, alloc: Global, n: u32, completion: Completion) {
     let told = sizes(alloc, n, Some(completion));
     same(rt, (n, told), (n, Err(RingError::RingLength)));

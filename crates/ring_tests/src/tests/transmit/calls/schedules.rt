@@ -7,7 +7,7 @@ use std::process::Abort;
 use test_kit::{Random, Survey};
 use tx_ring::Completion;
 
-// A thousand schedules on rings of 8 and 16: the first on which the ring and its machine differ.
+// Runs a thousand schedules on rings of 8 and 16. Returns the first on which the ring and its machine differ.
 fn first_differing<R: Abort>(
     rt: &R,
     alloc: Global,
@@ -23,7 +23,7 @@ fn first_differing<R: Abort>(
     None
 }
 
-// A thousand schedules agree, and do much.
+// Checks that a thousand schedules agree and do enough.
 fn all_agree<R: Abort>(rt: &R, alloc: Global, completion: Completion) {
     let mut survey = Survey::new(Random::new(15_000));
     same(

@@ -1,4 +1,4 @@
-//! What a thread does with its end of a ring. Each step is made where its condition holds, and left out where not.
+//! The actions of a thread on its end of a ring. A step whose condition does not hold is left out.
 ghost use Rattle.std.specs.Prelude.{◌≡◌, IfSome, Some};
 ghost use Rattle.tx_ring.specs.Ends.{held};
 
@@ -9,19 +9,19 @@ use std::thread;
 use test_kit::{frame, frame_len, is_frame, put_back};
 use tx_ring::{Control, ControllerEnd, DriverEnd, TxControllerEnd, TxDriverEnd, TxRing};
 
-/// What became of frames `0`, `1` .. in turn.
+/// The fate of frames `0`, `1` and so on, in order.
 #[derive(Clone, Copy, Drop)]
 pub(crate) struct Passed {
-    /// How many there were.
+    /// How many frames there were.
     pub count: u32,
-    /// How many of them were as they should be.
+    /// How many of them were as expected.
     pub good: u32,
 }
 
 impl Passed {
     pub(crate) const NONE: Passed = Passed { count: 0, good: 0 };
 
-    /// These after those.
+    /// Adds the later frames.
     pub(crate) fn then(self, more: Passed) -> Passed {
         Passed {
             count: self.count.saturating_add(more.count),
@@ -29,7 +29,7 @@ impl Passed {
         }
     }
 
-    /// One more, with these bytes.
+    /// Adds one frame with these bytes.
     fn add(&mut self, bytes: &[u8]) {
         if is_frame(self.count, bytes) {
             self.good = self.good.saturating_add(1);
@@ -38,7 +38,7 @@ impl Passed {
     }
 }
 
-/// Asks for what is wanted, enabled or disabled, and waits until it is so.
+/// Asks for the wanted state, enabled or disabled, and waits for it.
 pub(crate) fn ask_for<R: Wait>(rt: &R, ring: &TxRing, driver: &mut TxDriverEnd, wanted: Control)
     requires { driver.old.table ≡ ring.now }
     ensures { driver.new.table ≡ ring.now }
@@ -56,7 +56,7 @@ pub(crate) fn ask_for<R: Wait>(rt: &R, ring: &TxRing, driver: &mut TxDriverEnd, 
     }
 }
 
-/// Posts and publishes frame `k`, if there is room and a buffer. A report is asked for at each third frame.
+/// Posts and publishes frame `k`, if there is room and a buffer. Each third frame asks for a report.
 fn post(ring: &TxRing, driver: &mut TxDriverEnd, spare: &mut Stash, k: u32) -> bool
     requires { driver.old.table ≡ ring.now }
     ensures { driver.new.table ≡ ring.now }
@@ -78,7 +78,7 @@ fn post(ring: &TxRing, driver: &mut TxDriverEnd, spare: &mut Stash, k: u32) -> b
     true
 }
 
-/// Looks for one report, and takes the buffers back that are reported.
+/// Looks for one report, and takes back the reported buffers.
 fn clean(ring: &TxRing, driver: &mut TxDriverEnd, spare: &mut Stash, cleaned: &mut Passed)
     requires { driver.old.table ≡ ring.now }
     ensures { driver.new.table ≡ ring.now }
@@ -94,7 +94,7 @@ fn clean(ring: &TxRing, driver: &mut TxDriverEnd, spare: &mut Stash, cleaned: &m
     }
 }
 
-/// Posts so many frames, and cleans up after those that are reported: what was cleaned.
+/// Posts frames, and cleans up after the reported ones. Returns the cleaned frames.
 pub(crate) fn transmit<R: Wait>(
     rt: &R,
     ring: &TxRing,
@@ -121,7 +121,7 @@ pub(crate) fn transmit<R: Wait>(
     cleaned
 }
 
-/// Cleans up until so many are cleaned.
+/// Cleans up until the given number of frames is cleaned.
 pub(crate) fn drain<R: Wait>(
     rt: &R,
     ring: &TxRing,
@@ -142,7 +142,7 @@ pub(crate) fn drain<R: Wait>(
     }
 }
 
-/// How many were not sent, where the disabling was seen answered.
+/// How many postings were not sent, if the disabling was seen answered.
 pub(crate) fn left(ring: &TxRing, driver: &mut TxDriverEnd) -> Option<u32>
     requires { driver.old.table ≡ ring.now }
     ensures { driver.new.table ≡ ring.now }
@@ -153,7 +153,7 @@ pub(crate) fn left(ring: &TxRing, driver: &mut TxDriverEnd) -> Option<u32>
     Some(driver.left(ring))
 }
 
-/// Takes all buffers of a disabled queue back, and renews it.
+/// Takes back all buffers of a disabled queue, and renews it.
 pub(crate) fn renew(ring: &TxRing, driver: &mut TxDriverEnd, spare: &mut Stash, back: &mut Passed)
     requires { driver.old.table ≡ ring.now }
     ensures { driver.new.table ≡ ring.now }
@@ -190,7 +190,7 @@ pub(crate) fn fetch(ring: &TxRing, controller: &mut TxControllerEnd) -> Option<(
     Some(controller.fetch(ring))
 }
 
-/// Sends one frame of one segment, if one is ready, and reports it where that is asked.
+/// Sends one frame of one segment, if one is ready, and reports it if asked.
 fn send(ring: &TxRing, controller: &mut TxControllerEnd, sent: &mut Passed) -> bool
     requires { controller.old.table ≡ ring.now }
     ensures { controller.new.table ≡ ring.now }
@@ -208,7 +208,8 @@ fn send(ring: &TxRing, controller: &mut TxControllerEnd, sent: &mut Passed) -> b
     true
 }
 
-/// Serves the queue until it is disabled, whatever is left then, or so many frames are sent: what was sent.
+/// Serves the queue until it is disabled, whatever is left then, or the given number of frames is sent. Returns the
+/// sent frames.
 pub(crate) fn serve<R: Wait>(rt: &R, ring: &TxRing, end: &mut TxControllerEnd, most: u32) -> Passed
     requires { end.old.table ≡ ring.now }
     ensures { end.new.table ≡ ring.now }
