@@ -1,9 +1,9 @@
--- One frame that is passed again and again, each time in one buffer.
+-- One frame, passed again and again, each time in one buffer.
 use Rattle.std.specs.Prelude.{◌≡◌, ℕ, ◌≤◌, true, List, All}
 use Rattle.limits.specs.declared.profile.TheConstants.{BUFFER_BYTES, LEAST_FRAME}
 use Rattle.ring_model.specs.shared.Frames.{Bytes, Piece}
 
--- at least an Ethernet header, and no more than a buffer has room for
+-- at least an Ethernet header, and at most a full buffer
 abbrev pub IsFrameLength : ℕ → Type 0
 IsFrameLength len = (LEAST_FRAME ≤ len) × (len ≤ BUFFER_BYTES)
 

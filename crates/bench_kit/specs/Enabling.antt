@@ -1,4 +1,4 @@
--- What the enabling of a queue begins with, and what it leaves, in which both kinds of rings are alike.
+-- The state before and after the enabling of a queue, for rings of both directions.
 use Rattle.std.specs.Prelude.{◌≡◌, true, false, [], None}
 use Rattle.atomic_table.specs.Seated.{TableId}
 use Rattle.ring_model.specs.declared.states.Completion.{Completion}
@@ -25,7 +25,7 @@ module _ {Ring Posted Served Given D C : Type 0} {form : Form Ring Posted Served
     pub idle : is_serving (controller_state controller) ≡ false
     pub none_held : held controller ≡ None
 
-  -- the controller, which reports in this way, serves the ring, and has served nothing yet
+  -- the controller reports in this way, serves the ring, and has served nothing yet
   pub record HasBegun (ring : TableId) (way : Completion) (controller : ControllerSide form) : Type 0 where
     pub own : controller.table ≡ ring
     pub reports : controller.completion ≡ way

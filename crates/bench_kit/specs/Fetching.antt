@@ -1,4 +1,4 @@
--- What a transmit ring's controller keeps while it sends.
+-- The invariant of a transmit ring's controller that sends.
 use Rattle.std.specs.Prelude.{◌≡◌, true, false, None}
 use Rattle.atomic_table.specs.Seated.{TableId}
 use Rattle.ring_model.specs.declared.states.Completion.{Completion}
@@ -12,7 +12,7 @@ pub record CanFetch (ring : TableId) (controller : ControllerSide) : Type 0 wher
   pub none_held : held controller ≡ None
   pub paid : is_owed controller ≡ false
 
--- what is left of an end that reports like this, after it was served
+-- an end that reports in this way, after it has served
 pub record HasServed (ring : TableId) (way : Completion) (controller : ControllerSide) : Type 0 where
   pub can : CanFetch ring controller
   pub reports : controller.completion ≡ way

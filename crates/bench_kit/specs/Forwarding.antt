@@ -1,4 +1,4 @@
--- What is forwarded from a receive ring to a transmit ring.
+-- The frames that are forwarded from a receive ring to a transmit ring.
 use Rattle.std.specs.Prelude.{◌≡◌, ◌++◌, All, map}
 use Rattle.atomic_table.specs.Seated.{TableId}
 use Rattle.buffer_pool.specs.Packed.{IsPacket, bytes_of}
@@ -15,14 +15,14 @@ use Rattle.tx_ring.specs.Meeting as transmitted
 use Rattle.bench_kit.specs.declared.forwarding.Forwarder.{Forwarder}
 use Rattle.bench_kit.specs.declared.meeting.Ends.{Ends}
 
--- The drivers belong to these rings, and the frames that were received are those that were sent on and then those at hand
+-- The drivers belong to these rings, and the frames received are those sent on, followed by those at hand
 pub record CanForward (from to : TableId) (f : Forwarder) : Type 0 where
   pub receives : f.rx.end.table ≡ from
   pub sends : f.tx.end.table ≡ to
   pub whole : All IsPacket f.packets.items
   pub relayed : frames piece_of (receive.taken f.rx.end) ≡ frames carried (transmit.posted f.tx.end) ++ map bytes_of f.packets.items
 
--- Both ends of each ring have met: their ledgers are lawful, and the frames that were sent on are a beginning of those that were received
+-- Both ends of each ring have met: their ledgers are lawful, and the frames sent on are a beginning of those received
 pub record HasMet (e : Ends) : Type 0 where
   pub one_rx : e.rx_controller.table ≡ e.rx.table
   pub one_tx : e.tx_controller.table ≡ e.tx.table

@@ -1,4 +1,4 @@
--- What a receive ring's controller keeps while it stores one frame again and again.
+-- The invariant of a receive ring's controller that stores one frame again and again.
 use Rattle.std.specs.Prelude.{◌≡◌, true, false, [], None}
 use Rattle.atomic_table.specs.Seated.{TableId}
 use Rattle.ring_model.specs.shared.Segments.{piece_of}
@@ -12,7 +12,7 @@ pub record StoredOnly (ring : TableId) (frame : Bytes) (controller : ControllerS
   pub own : controller.table ≡ ring
   pub only : AllWhole piece_of frame (stored controller)
 
--- the controller stored nothing but the frame at the ring, and can store it again where a descriptor is free
+-- the controller stored nothing but the frame at the ring, and can store it again if a descriptor is free
 pub record CanStore (ring : TableId) (frame : Bytes) (controller : ControllerSide) : Type 0 where
   pub stored_only : StoredOnly ring frame controller
   pub none_unfinished : unfinished piece_of (stored controller) ≡ []

@@ -1,4 +1,4 @@
-//! The enabling of a queue, in which both kinds of rings are alike.
+//! The enabling of a queue, for rings of both directions.
 ghost use Rattle.shared_ring.specs.Ends.{controller_of, driver_of};
 ghost use Rattle.bench_kit.specs.Enabling.{CanAsk, CanServe, HasBegun, SawEnabled};
 
@@ -27,7 +27,7 @@ pub fn await_enabling<W: Wait, D, C, R: Direction<D, C>, E: DriverEnd<D, C, R>>(
     unreachable!()
 }
 
-/// Waits until the enabling is asked, and answers it.
+/// Waits until the enabling is asked for, and answers it.
 pub fn answer_enabling<W: Wait, D, C, R: Direction<D, C>, E: ControllerEnd<D, C, R>>(
     rt: &W,
     ring: &E::Ring,

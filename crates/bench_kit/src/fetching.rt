@@ -6,7 +6,7 @@ ghost use Rattle.bench_kit.specs.Fetching.{CanFetch, HasServed};
 use crate::tally::Tally;
 use tx_ring::{ControllerEnd, TxControllerEnd, TxRing};
 
-/// Sends the next frame, and reports where it asks for that.
+/// Sends the next frame, and reports it if it asks for a report.
 #[inline]
 pub fn send(ring: &TxRing, controller: &mut TxControllerEnd, tally: &mut Tally)
     requires can { CanFetch ring.now controller.old }

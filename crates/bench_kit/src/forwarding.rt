@@ -1,4 +1,4 @@
-//! The drivers' side of the layers: what a receive queue gets is sent on a transmit queue.
+//! The drivers' side of the layers: it sends the packets of a receive queue on a transmit queue.
 ghost use Rattle.std.specs.Prelude.{◌≡◌, ◌+◌, ◌<◌, ◌≤◌, length, IfOk, OnOk};
 ghost use Rattle.ring_model.specs.shared.Frames.{frames};
 ghost use Rattle.ring_model.specs.transmit.Ring.{carried};
@@ -17,7 +17,7 @@ use rx_ring::{RxDriverEnd, RxRing};
 use std::alloc::Global;
 use tx_ring::{TxDriverEnd, TxRing};
 
-/// Of how many frames one asks for a report, beside the last of each batch.
+/// Each 32nd frame asks for a report, and so does the last of each batch.
 const REPORT_EVERY: u16 = 32;
 
 /// How many packets a call received and sent on.
@@ -27,7 +27,7 @@ pub struct Moved {
     pub sent: usize,
 }
 
-/// A driver of either direction, the empty buffers at hand, and the packets that were received and are not sent yet.
+/// A driver of either direction, the empty buffers, and the packets that were received and not yet sent.
 #[derive(Drop)]
 pub struct Forwarder {
     pub rx: RxDriver,
@@ -37,7 +37,7 @@ pub struct Forwarder {
 }
 
 impl Forwarder {
-    /// Drivers of two ends that have done nothing yet.
+    /// Makes drivers of two fresh ends.
     pub fn new(rx: RxDriverEnd, tx: TxDriverEnd, batch: usize) -> Forwarder
         requires some { 0 < batch }
         requires few { batch ≤ MOST_BATCH }
@@ -53,7 +53,7 @@ impl Forwarder {
         }
     }
 
-    /// Asks for both queues to be enabled, if nothing was asked yet, and answers whether they are seen so.
+    /// Asks for both queues to be enabled, if nothing was asked yet. Returns whether both were seen enabled.
     pub fn enable(&mut self, from: &RxRing, to: &TxRing) -> Result<bool, DriverError>
         requires can { CanForward from.now to.now self.old }
         ensures can { OnOk result (CanForward from.now to.now self.new) }
@@ -63,7 +63,7 @@ impl Forwarder {
         Ok(receives && sends)
     }
 
-    /// Sees that both queues are enabled, after that was asked for and answered.
+    /// Sees that both queues are enabled, after a request and its answer. Refuses if one is not.
     pub fn see_enabled(&mut self, from: &RxRing, to: &TxRing) -> Result<()>
         requires can { CanForward from.now to.now self.old }
         ensures can { OnOk result (CanForward from.now to.now self.new) }
@@ -72,7 +72,7 @@ impl Forwarder {
         Ok(())
     }
 
-    /// Fills the receive ring of so many descriptors, and the stash, with buffers of a new stock.
+    /// Fills the receive ring, of `ring` descriptors, and the stash with buffers of a new stock.
     pub fn supply(&mut self, alloc: Global, from: &RxRing, to: &TxRing, ring: u32) -> Result<()>
         requires can { CanForward from.now to.now self.old }
         ensures can { OnOk result (CanForward from.now to.now self.new) }
@@ -94,7 +94,7 @@ impl Forwarder {
         Ok(())
     }
 
-    /// Receives a batch of packets, and sends those on that are at hand.
+    /// Receives a batch of packets, and sends on the packets at hand.
     #[inline]
     pub fn forward(&mut self, from: &RxRing, to: &TxRing) -> Result<Moved, DriverError>
         requires can { CanForward from.now to.now self.old }
@@ -106,7 +106,7 @@ impl Forwarder {
         Ok(Moved { received, sent })
     }
 
-    /// The drivers' ends.
+    /// Returns the drivers' ends.
     pub fn into_ends(self) -> (RxDriverEnd, TxDriverEnd)
         ensures rx { result.0 ≡ self.rx.end }
         ensures tx { result.1 ≡ self.tx.end }

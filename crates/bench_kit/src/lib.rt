@@ -1,12 +1,13 @@
-//! What the benchmarks of rings (`rx_bench`, `tx_bench`), of drivers (`driver_bench`) and of both layers (`layer_bench`) share.
+//! The common parts of the benchmarks of rings (`rx_bench`, `tx_bench`), of drivers (`driver_bench`) and of both layers
+//! (`layer_bench`).
 //!
-//! `words` reads a command line's options and what passes, `supply` makes the frame and the buffers, `patience` is how a thread waits, and
-//! `tally` what it reads. `enabling` is how a queue of either kind is enabled, and `storing` and `fetching` are the step of
-//! the device's side of a receive ring and of a transmit ring. `timing` takes the time and prints it, and `outcome` joins
-//! outcomes.
+//! `words` parses a command line, `supply` makes the frame and the buffers, `patience` is how a thread waits, and
+//! `tally` sums up the frames that were read. `enabling` enables a queue of either direction, and `storing` and
+//! `fetching` are the device's step at a receive ring and at a transmit ring. `timing` takes the time and prints it,
+//! and `outcome` joins results.
 //!
-//! `track` makes a receive ring and a transmit ring with the drivers of both, `forwarding`, which send on what they receive;
-//! `meeting` lets the ends of both rings meet.
+//! `track` makes a receive ring and a transmit ring with the drivers of both, which forward in `forwarding`. `meeting`
+//! lets the ends of both rings meet.
 #![tactic(auto)]
 
 mod enabling;

@@ -1,4 +1,4 @@
-//! The ends of both rings between which drivers forward meet.
+//! The meeting of the ends of both rings between which drivers forward.
 ghost use Rattle.std.specs.Prelude.{◌≡◌};
 ghost use Rattle.bench_kit.specs.Forwarding.{CanForward, HasMet};
 
@@ -15,7 +15,7 @@ pub struct Ends {
     pub tx_controller: TxControllerEnd,
 }
 
-/// Lets both ends of each ring meet: by that their ledgers are lawful.
+/// Lets both ends of each ring meet, which makes their ledgers lawful.
 pub fn meet(
     from: &RxRing,
     to: &TxRing,

@@ -1,10 +1,10 @@
-//! Outcomes of functions that hold a ring's ends. To let a value go is a single step where it is of any type, and one for each
-//! of its parts where it is known: so such a function gives what it holds to these, in place of leaving by `?`.
+//! Results of functions that hold a ring's ends. A `?` that drops a value of a known type costs the proof a step for
+//! each of its parts; in a generic function it costs one step. So such functions pass their values to these.
 ghost use Rattle.std.specs.Prelude.{◌≡◌, IfOk, IsErr, Ok};
 
 use anyhow::{Result, bail};
 
-/// Both values, where neither has failed; else the first error.
+/// Returns both values, or the first error.
 pub fn both<A: Drop, B: Drop>(first: Result<A>, second: Result<B>) -> Result<(A, B)>
     ensures { IfOk result (λ r. (first ≡ Ok r.0) × (second ≡ Ok r.1)) }
 {
@@ -13,7 +13,7 @@ pub fn both<A: Drop, B: Drop>(first: Result<A>, second: Result<B>) -> Result<(A,
     Ok((first, second))
 }
 
-/// No thread could be made for what there was to do, and what was to go on beside it is let go too.
+/// Drops the work for which no thread could be started and the work beside it, and refuses.
 pub fn no_thread<F: Drop, A: Drop, T>(unmade: F, beside: A) -> Result<T>
     ensures { IsErr result }
 {

@@ -1,11 +1,11 @@
-//! How a thread waits for the other.
+//! How a thread waits for another.
 
 use std::{hint, thread};
 
-/// After this many tries in vain in a row a thread lets another run.
+/// The vain tries in a row after which a thread lets another run.
 const TRIES_BEFORE_YIELD: u32 = 10_000;
 
-/// Counts tries in vain.
+/// Counts vain tries.
 #[derive(Drop)]
 pub struct Patience {
     tries: u32,
@@ -16,7 +16,7 @@ impl Patience {
         Patience { tries: 0 }
     }
 
-    /// After a try in vain: waits a moment, and every so often lets another thread run. Answers whether it did that.
+    /// Waits a moment after a vain try, and lets another thread run after many. Returns whether it did that.
     #[inline]
     pub fn wait(&mut self) -> bool {
         if self.tries < TRIES_BEFORE_YIELD {
@@ -29,7 +29,7 @@ impl Patience {
         true
     }
 
-    /// After a try that was not in vain.
+    /// Starts the count again after a successful try.
     #[inline]
     pub fn reset(&mut self) {
         self.tries = 0;

@@ -1,4 +1,4 @@
-//! What a run is made with: the frame that is passed, and buffers.
+//! The frame that a run passes, and its buffers.
 ghost use Rattle.std.specs.Prelude.{◌≡◌, ◌≤◌, [], length, replicate, IfOk};
 ghost use Rattle.buffer_pool.specs.Stocked.{Shares};
 ghost use Rattle.bench_kit.specs.Copies.{IsFrameLength};
@@ -11,7 +11,7 @@ use std::alloc::Global;
 /// Each byte of a frame.
 pub const BYTE: u8 = 0xab;
 
-/// A frame of so many bytes, which has to fit into one buffer.
+/// Makes a frame of `size` bytes. Refuses if it is too short or does not fit into one buffer.
 pub fn frame_of(alloc: Global, size: usize) -> Result<Vec<u8>>
     ensures bytes { IfOk result (λ frame. frame.items ≡ replicate size BYTE) }
     ensures length { IfOk result (λ frame. IsFrameLength (length frame.items)) }
@@ -22,7 +22,7 @@ pub fn frame_of(alloc: Global, size: usize) -> Result<Vec<u8>>
     Ok(vec![in alloc; BYTE; size]?)
 }
 
-/// At least as many buffers as a ring has descriptors.
+/// Makes at least as many buffers as a ring has descriptors.
 pub fn stock_for(alloc: Global, ring: u32) -> Result<Stock>
     ensures full { IfOk result (λ stock. Shares stock []) }
     ensures enough { IfOk result (λ stock. ring ≤ length stock.numbers) }
@@ -30,7 +30,7 @@ pub fn stock_for(alloc: Global, ring: u32) -> Result<Stock>
     Ok(Stock::new(alloc, 0, ring.max(FEWEST_BUFFERS))?)
 }
 
-/// Buffers for each descriptor of a ring and for a stash beside it.
+/// Makes buffers for each descriptor of a ring, and for a stash beside it.
 pub fn spare_for(alloc: Global, ring: u32) -> Result<Stock> {
     Ok(Stock::new(alloc, 0, ring.saturating_add(STASH_BUFFERS as u32))?)
 }

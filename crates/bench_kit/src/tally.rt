@@ -1,6 +1,6 @@
-//! What is read in frames.
+//! A summary of the frames that were read.
 
-/// What was read in some frames: their bytes, and the sum of their first bytes.
+/// The total bytes of some frames, and the sum of their first bytes.
 #[derive(Clone, Copy, PartialEq, Eq)]
 pub struct Tally {
     bytes: u64,
@@ -8,7 +8,7 @@ pub struct Tally {
 }
 
 impl Tally {
-    /// That of no frame.
+    /// The tally of no frame.
     pub fn new() -> Tally {
         Tally {
             bytes: 0,
@@ -16,7 +16,7 @@ impl Tally {
         }
     }
 
-    /// What so many frames like this one come to.
+    /// The tally of `frames` frames like this one.
     pub fn of(frame: &[u8], frames: u32) -> Tally {
         let first = frame.first().map_or(0, |byte| u64::from(*byte));
         let count = u64::from(frames);
@@ -26,7 +26,7 @@ impl Tally {
         }
     }
 
-    /// Reads one more frame.
+    /// Adds one more frame.
     #[inline]
     pub fn add(&mut self, frame: &[u8]) {
         let first = frame.first().map_or(0, |byte| u64::from(*byte));

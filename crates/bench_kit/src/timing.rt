@@ -1,28 +1,28 @@
-//! The time that a run takes, and what is printed of it or in place of one.
+//! The time of a run, and the lines that are printed.
 
 use anyhow::Result;
 use std::process::ExitCode;
 use std::rt::Clock;
 use std::time::{Duration, Instant};
 
-/// What was done, and how long it took.
+/// The result of some work, and how long it took.
 #[derive(Drop)]
 pub struct Timed<T> {
     pub done: T,
     pub spent: Duration,
 }
 
-/// This moment.
+/// Returns the current time.
 pub fn now<R: Clock>(rt: &R) -> Result<Instant> {
     Ok(Instant::now(rt)?)
 }
 
-/// How long it took from then on.
+/// Returns the time since `start`.
 pub fn since<R: Clock>(rt: &R, start: Instant) -> Result<Duration> {
     Ok(start.elapsed(rt)?)
 }
 
-/// Prints how many frames were passed, and what one of them cost. What was done is let go.
+/// Prints the number of frames and the cost of one. Drops the result.
 pub fn report<T: Drop>(rt: &impl Print, frames: u32, timed: Result<Timed<T>>) -> Result<ExitCode> {
     let nanoseconds = timed?.spent.as_secs_f64() * 1e9 / f64::from(frames);
     println!(rt; "frames {frames}")?;
@@ -31,7 +31,7 @@ pub fn report<T: Drop>(rt: &impl Print, frames: u32, timed: Result<Timed<T>>) ->
     Ok(ExitCode::SUCCESS)
 }
 
-/// Tells on the standard error what words there are, where nothing was asked for by them.
+/// Prints the usage on standard error, when the command line asks for nothing. Returns status 2.
 pub fn refuse(rt: &impl Eprint, usage: &str) -> Result<ExitCode> {
     eprintln!(rt; "{usage}")?;
     Ok(ExitCode::from(2))

@@ -1,4 +1,4 @@
-//! A receive ring and a transmit ring, with drivers that forward from the one to the other, and what passes through both.
+//! A receive ring and a transmit ring, with drivers that forward from one to the other.
 ghost use Rattle.std.specs.Prelude.{◌≡◌, length, replicate, IfOk};
 ghost use Rattle.limits.specs.RingLength.{IsRingLength};
 ghost use Rattle.ring_model.specs.declared.states.Completion.TheVariants.{Status};
@@ -20,7 +20,7 @@ use rx_ring::{RxControllerEnd, RxDriverEnd, RxRing};
 use std::alloc::Global;
 use tx_ring::{TxControllerEnd, TxDriverEnd, TxRing};
 
-/// From which ring to which is forwarded, and the frame.
+/// The two rings between which is forwarded, and the frame.
 #[derive(Drop)]
 pub struct Way {
     pub from: RxRing,
@@ -28,7 +28,7 @@ pub struct Way {
     pub frame: Vec<u8>,
 }
 
-/// What there is at the two rings: the controllers' ends of both, and drivers that forward a batch at once.
+/// The controllers' ends of both rings, and the drivers that forward a batch at once.
 #[derive(Drop)]
 pub struct Parts {
     pub rx: RxControllerEnd,
@@ -36,7 +36,7 @@ pub struct Parts {
     pub forwarder: Forwarder,
 }
 
-/// Two rings and the frame, with what there is at the rings.
+/// Two rings and the frame, with both sides of the rings.
 #[derive(Drop)]
 pub struct Track {
     pub way: Way,
@@ -44,7 +44,7 @@ pub struct Track {
 }
 
 impl Track {
-    /// New rings as the plan has them.
+    /// Makes the plan's rings and both sides.
     pub fn new(alloc: Global, plan: BatchPlan) -> Result<Track>
         ensures frame { IfOk result (λ t. (t.way.frame.items ≡ replicate plan.load.size BYTE) × IsFrameLength (length t.way.frame.items)) }
         ensures size { IfOk result (λ t. IsRingLength t.way.from.slots) }
@@ -71,14 +71,14 @@ impl Track {
     }
 }
 
-/// A receive ring and its ends.
+/// Makes a receive ring and its ends.
 fn new_rx(alloc: Global, ring: u32) -> Result<(RxRing, RxDriverEnd, RxControllerEnd)>
     ensures { IfOk result (λ r. received.MadeSeats ring r.0 r.1 r.2) }
 {
     Ok(RxRing::new(alloc, ring)?)
 }
 
-/// A transmit ring and its ends.
+/// Makes a transmit ring and its ends.
 fn new_tx(alloc: Global, ring: u32) -> Result<(TxRing, TxDriverEnd, TxControllerEnd)>
     ensures { IfOk result (λ r. transmitted.MadeSeats ring Status r.0 r.1 r.2) }
 {

@@ -1,16 +1,16 @@
-//! The words of a command line: options, each once with its value.
+//! The command line: options, each once with its value.
 
 use anyhow::Result;
 use limits::{BUFFER_BYTES, MOST_RING};
 use std::env;
 use std::rt::Env;
 
-/// The words after the program's name.
+/// Returns the words after the program's name.
 pub fn words_of<R: Env + AllocGlobal>(rt: &R) -> Result<Vec<String>> {
     Ok(env::args(rt)?.skip(1).collect(rt.alloc())?)
 }
 
-/// What passes: through a ring of so many descriptors so many frames, of so many bytes each.
+/// A load: `frames` frames of `size` bytes each, through a ring of `ring` descriptors.
 #[derive(Clone, Copy)]
 pub struct Load {
     pub ring: u32,
@@ -18,7 +18,8 @@ pub struct Load {
     pub size: usize,
 }
 
-/// What passes, in the options `--ring`, `--frames` and `--size`, where the options have so many words with their values.
+/// Parses the load from the options `--ring`, `--frames` and `--size`. Returns nothing unless there are `words` words
+/// in all.
 pub fn load_of(options: &[String], words: usize) -> Option<Load> {
     if options.len() != words {
         return None;
@@ -34,11 +35,12 @@ pub fn load_of(options: &[String], words: usize) -> Option<Load> {
 #[derive(Clone, Copy)]
 pub struct BatchPlan {
     pub load: Load,
-    /// Of how many frames a batch has at most.
+    /// The most frames of a batch.
     pub batch: u32,
 }
 
-/// What passes, and in the option `--batch` in batches of how many frames, up to `most`; of so many words likewise.
+/// Parses the load and, from `--batch`, the most frames of a batch, 1 to `most`. Returns nothing unless there are
+/// `words` words.
 pub fn batch_plan(options: &[String], words: usize, most: u32) -> Option<BatchPlan> {
     Some(BatchPlan {
         load: load_of(options, words)?,

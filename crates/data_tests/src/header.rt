@@ -1,4 +1,4 @@
-//! Whether the constants of the C header are those of the library.
+//! Compares the constants of the C header with those of the library.
 
 use anyhow::Result;
 use buffer_pool::STASH_BUFFERS;
@@ -11,7 +11,7 @@ use ring_machine::{QUEUE_STRIDE, RDH, RDT, RXDCTL, TDH, TDT, TXDCTL};
 use shared_ring::Control;
 use std::str;
 
-/// The constants of the header that are the library's, with their values there.
+/// The header's constants that are the library's, with their values in the library.
 fn constants() -> [(&'static str, usize); 15] {
     [
         ("LEAST_RING", LEAST_RING),
@@ -32,7 +32,7 @@ fn constants() -> [(&'static str, usize); 15] {
     ]
 }
 
-/// The registers of the header, with their offsets in the library.
+/// The header's registers, with their offsets in the library.
 fn offsets() -> [(&'static str, u32); 7] {
     [
         ("RDH", RDH),
@@ -45,7 +45,7 @@ fn offsets() -> [(&'static str, u32); 7] {
     ]
 }
 
-/// Whether the header has this text, and no letter or digit behind it.
+/// Whether the header has this text, with no letter or digit after it.
 fn says(header: &str, wanted: &str) -> bool {
     match header.split_once(wanted) {
         Some((_, behind)) => {
@@ -56,7 +56,7 @@ fn says(header: &str, wanted: &str) -> bool {
     }
 }
 
-/// Prints what the header is to say, or that it does not.
+/// Prints the text if the header has it, otherwise says that the header lacks it.
 fn tell_line<R: Print>(rt: &R, header: &str, wanted: &str) -> Result<()> {
     if says(header, wanted) {
         println!(rt; "{wanted}")?;
@@ -66,7 +66,7 @@ fn tell_line<R: Print>(rt: &R, header: &str, wanted: &str) -> Result<()> {
     Ok(())
 }
 
-/// Prints a line for each constant of `constants`.
+/// Prints a line for each of `constants`.
 fn tell_constants<R: Print + AllocGlobal>(rt: &R, header: &str) -> Result<()> {
     for (name, value) in constants() {
         let wanted = format!(in rt.alloc(); "POLL82599_{name} = {value}")?;
@@ -75,7 +75,7 @@ fn tell_constants<R: Print + AllocGlobal>(rt: &R, header: &str) -> Result<()> {
     Ok(())
 }
 
-/// Prints a line for each register of `offsets`.
+/// Prints a line for each of `offsets`.
 fn tell_offsets<R: Print + AllocGlobal>(rt: &R, header: &str) -> Result<()> {
     for (name, offset) in offsets() {
         let wanted = format!(in rt.alloc(); "POLL82599_{name} = {offset:#x}")?;
@@ -84,7 +84,7 @@ fn tell_offsets<R: Print + AllocGlobal>(rt: &R, header: &str) -> Result<()> {
     Ok(())
 }
 
-/// Prints a line for each constant that this header has with the library's value, or says that it has not.
+/// Prints a line for each constant and register: that the header has the library's value, or that it lacks it.
 pub fn tell_header<R: Print + AllocGlobal>(rt: &R, bytes: &[u8]) -> Result<()> {
     let header = str::from_utf8(bytes).unwrap_or("");
     tell_constants(rt, header)?;

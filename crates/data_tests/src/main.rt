@@ -1,11 +1,10 @@
-//! A program that says what files have: captures that others made, and the C header with which the library is delivered.
+//! A test program for files: captures made by other programs, and the C header of the library.
 //!
-//! `data_tests read FILE..` prints each file's name and then, of a capture, its frames, one a line: the time, the length on
-//! the wire and the bytes, as `tshark` tells them; or the refusal. Of a header it prints each constant that it has with the
-//! library's value, or that it has not. The gate runs it on the files in `data/` and compares what it prints: with what
-//! `tshark` printed of captures that programs of others made, and with the constants as they are to be. `data_tests write
-//! FROM TO` reads a capture and writes its records into another file, in microseconds: it is run by hand. The tests of
-//! captures beside it stand in `part_tests`.
+//! `data_tests read FILE..` prints each file's name. Of a capture it prints a line for each frame: its time, its length
+//! on the wire and its bytes, as `tshark` prints them; or the refusal. Of a header it prints each constant that has the
+//! library's value, and each that does not. The gate runs it on the files in `data/` and compares its output with the
+//! output of `tshark`, and with the expected constants. `data_tests write FROM TO` rewrites a capture with times in
+//! microseconds; it is run by hand. `part_tests` has further tests of captures.
 #![tactic(auto)]
 
 mod header;
@@ -50,7 +49,7 @@ fn copy_named<R: Files + AllocGlobal>(rt: &R, mut names: Args) -> Result<()> {
     copy(rt, from.as_str(), to.as_str())
 }
 
-// Whether the command behind the program's name is `read`, if there is one.
+// Whether the command after the program's name is `read`, if there is one.
 fn asks_to_read(words: &mut Args) -> Option<bool> {
     let command = words.nth(1)?;
     Some(command.as_str() == "read")

@@ -1,9 +1,9 @@
-//! A capture, as another of microseconds.
+//! Rewriting a capture with times in microseconds.
 
 use capture::{CaptureError, CaptureRecord, TimeUnit, read, write_header, write_record};
 use std::alloc::Global;
 
-// Writes a record of a capture in this unit, in microseconds.
+// Writes a record, whose time has this unit, with its time in microseconds.
 fn write_in_micros(
     written: &mut Vec<u8>,
     unit: TimeUnit,
@@ -31,7 +31,7 @@ fn write_all(
     Ok(())
 }
 
-/// What these bytes say as a capture, as a capture of microseconds.
+/// Reads a capture, and returns it with times in microseconds.
 pub fn rewritten(alloc: Global, bytes: &[u8]) -> Result<Vec<u8>, CaptureError> {
     let capture = read(alloc, bytes)?;
     let mut written = Vec::new(alloc);

@@ -1,10 +1,10 @@
-//! What a capture has, as text.
+//! Printing a capture as text.
 
 use anyhow::Result;
 use capture::{CaptureError, CaptureRecord, TimeUnit, read};
 
 /// Prints a line for each frame of a capture: its time with nine digits after the point, its length on the wire and its
-/// bytes. Or the refusal.
+/// bytes. Prints the refusal instead if there is one.
 pub fn tell_capture<R: Print + AllocGlobal>(rt: &R, bytes: &[u8]) -> Result<()> {
     match read(rt.alloc(), bytes) {
         Ok(capture) => tell_records(rt, capture.unit(), capture.records()),

@@ -1,4 +1,4 @@
--- What rings' ends keep that relay one frame from a receive ring to a transmit ring again and again.
+-- The invariant of the rings' ends that relay one frame from a receive ring to a transmit ring again and again.
 use Rattle.std.specs.Prelude.{◌≡◌, ℕ, ◌≤◌, All, length}
 use Rattle.atomic_table.specs.Seated.{TableId}
 use Rattle.limits.specs.RingLength.{IsRingLength}
@@ -32,18 +32,18 @@ module _ (from to : TableId) (frame : Bytes) (rx : receive.ControllerSide) (tx :
     pub sends : CanFetch to tx
     pub forwards : CanForward from to f
 
--- at least so many frames were sent on
+-- at least this many frames were sent on
 abbrev pub SentAtLeast : ℕ → Forwarder → Type 0
 SentAtLeast count f = count ≤ length (frames carried (transmit.posted f.tx.end))
 
--- at least so many frames were sent on, and nothing but the frame was stored
+-- at least `count` frames were sent on, and nothing but the frame was stored
 pub record RelayedAll (count : ℕ) (from to : TableId) (frame : Bytes) (rx : receive.ControllerSide) (tx : transmit.ControllerSide) (f : Forwarder) : Type 0 where
   pub stores : StoredOnly from frame rx
   pub sends : CanFetch to tx
   pub forwards : CanForward from to f
   pub enough : SentAtLeast count f
 
--- At least so many copies of the frame were stored, received and sent on, and no other frame
+-- At least `count` copies of the frame were stored, received and sent on, and no other frame
 pub record HasRelayed (count : ℕ) (frame : Bytes) (e : Ends) : Type 0 where
   pub met : HasMet e
   pub enough : count ≤ length (frames carried (transmit.posted e.tx))

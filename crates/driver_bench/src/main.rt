@@ -1,8 +1,9 @@
-//! The program `driver_bench`: what a frame costs through both drivers, between a receive ring and a transmit ring.
+//! The program `driver_bench`: the cost of a frame through both drivers, between a receive ring and a transmit ring.
 //!
-//! In `relaying` the device's side are the rings' ends, and all is done on one thread.
+//! `relaying` does everything on one thread. The device's side are the rings' ends.
 //!
-//! What is printed was passed: at the end the ends of both rings meet, and what was sent are copies of the one frame.
+//! The frames that it counts did pass: at the end the ends of both rings meet, and the frames sent are copies of the
+//! one frame.
 #![tactic(auto)]
 
 mod relaying;
@@ -13,7 +14,7 @@ use driver::MOST_BATCH;
 use relaying::relay;
 use std::process::ExitCode;
 
-/// What is told in place of a run.
+/// The usage, printed when the command line is wrong.
 const USAGE: &str = "Usage: driver_bench --ring N --frames N --size N --batch N
 
 Passes frames through a receive ring, both drivers and a transmit ring on one thread, and prints what one frame costs.

@@ -1,4 +1,5 @@
-//! Frames through a receive ring, both drivers and a transmit ring, on one thread. The device's side are the rings' ends.
+//! Frames through a receive ring, both drivers and a transmit ring, on one thread. The device's side are the rings'
+//! ends.
 ghost use Rattle.std.specs.Prelude.{◌<◌, ◌≤◌, length, replicate, IfOk, OnOk};
 ghost use Rattle.limits.specs.RingLength.{IsRingLength};
 ghost use Rattle.bench_kit.specs.Copies.{IsFrameLength};
@@ -19,7 +20,7 @@ use std::sync::Wait;
 use std::time::Duration;
 use tx_ring::{TxControllerEnd, TxRing};
 
-/// The device's side, and what it read in the frames that it sent.
+/// The device's side, and a tally of the frames that it sent.
 #[derive(Drop)]
 struct Device {
     rx: RxControllerEnd,
@@ -27,14 +28,14 @@ struct Device {
     tally: Tally,
 }
 
-/// Device and drivers.
+/// The device and the drivers.
 #[derive(Drop)]
 struct Sides {
     device: Device,
     forwarder: Forwarder,
 }
 
-/// Relays the plan's frames from one ring to another, and answers how long that took.
+/// Relays the plan's frames from one ring to another, and returns the time.
 pub fn relay<R: Wait + Clock>(rt: &R, alloc: Global, plan: BatchPlan) -> Result<Timed<Ends>>
     ensures { IfOk result (λ r. HasRelayed plan.load.frames (replicate plan.load.size BYTE) r.done) }
 {
@@ -69,7 +70,7 @@ fn relay_run<R: Wait + Clock>(
     Ok(Timed { done, spent })
 }
 
-/// Has both queues enabled, and the receive ring filled.
+/// Enables both queues, and fills the receive ring.
 fn begin<R: Wait>(
     rt: &R,
     alloc: Global,
@@ -89,8 +90,8 @@ fn begin<R: Wait>(
         .supply(alloc, &way.from, &way.to, plan.load.ring)
 }
 
-/// Relays all frames, answers how long that took once the queues were enabled and the receive ring full, and sees that
-/// what was sent is what was stored.
+/// Relays all frames, and checks that the frames sent are the frames stored. Returns the time, which starts when the
+/// queues are enabled and the receive ring is full.
 fn timed<R: Wait + Clock>(
     rt: &R,
     alloc: Global,
@@ -121,7 +122,7 @@ fn finish(way: &Way, plan: BatchPlan, sides: Sides) -> Ends
     meet(&way.from, &way.to, forwarder, device.rx, device.tx)
 }
 
-/// Stores, forwards and sends in turn, until so many frames as planned are sent.
+/// Stores, forwards and sends in turn, until all frames of the plan are sent.
 fn relay_all<R: Wait>(rt: &R, way: &Way, plan: BatchPlan, sides: &mut Sides) -> Result<()>
     requires { CanRelay way.now.from way.now.to way.now.frame.items sides.old.device.rx sides.old.device.tx sides.old.forwarder }
     ensures { OnOk result (RelayedAll plan.load.frames way.now.from way.now.to way.now.frame.items sides.new.device.rx sides.new.device.tx sides.new.forwarder) }
@@ -142,7 +143,7 @@ fn relay_all<R: Wait>(rt: &R, way: &Way, plan: BatchPlan, sides: &mut Sides) -> 
     unreachable!()
 }
 
-/// Stores the frame as often as descriptors are free, at most so many times, and answers how often.
+/// Stores the frame while descriptors are free, at most `most` times. Returns how often.
 #[inline]
 fn store_more(ring: &RxRing, controller: &mut RxControllerEnd, frame: &[u8], most: u32) -> u32
     requires size { IsRingLength ring.now.slots }
@@ -160,7 +161,7 @@ fn store_more(ring: &RxRing, controller: &mut RxControllerEnd, frame: &[u8], mos
     most
 }
 
-/// Sends what is ready.
+/// Sends the frames that are ready.
 #[inline]
 fn send_ready(ring: &TxRing, controller: &mut TxControllerEnd, tally: &mut Tally)
     requires can { CanFetch ring.now controller.old }

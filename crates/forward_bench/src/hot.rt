@@ -1,4 +1,4 @@
-//! The hot forward: a few frames come to each flow again and again, and the wires are thrown away.
+//! The hot forward: a few frames come to each flow again and again, and the wires are dropped.
 ghost use Rattle.forwarder.specs.Configs.{IsLawful};
 
 use crate::hot_flow::HotFlow;
@@ -15,7 +15,7 @@ use std::sync::Wait;
 use std::thread::Threads;
 use std::time::{Duration, Instant};
 
-/// How many frames a flow goes over again and again.
+/// How many different frames come to a flow again and again.
 const FRAMES: usize = 256;
 
 /// Whether all frames of a flow were stored, taken, posted and sent.
@@ -39,8 +39,8 @@ fn is_whole(served: &Served<DriverFlow<'_>, HotFlow<'_>>, load: &Load) -> bool {
     rest == 0 && served.refusal.is_none()
 }
 
-/// Makes a pool, and rings and both sides of each flow, and has workers serve them as they serve the forwarder's. It tells
-/// whether all frames went out.
+/// Makes a pool, and rings and both sides of each flow, and lets workers serve them as they serve the forwarder's.
+/// Returns whether all frames went out.
 fn forward_hot<R: Threads + Wait + Sync>(
     rt: &R,
     alloc: Global,
@@ -60,7 +60,7 @@ fn forward_hot<R: Threads + Wait + Sync>(
     Ok(is_whole(&served, load))
 }
 
-/// Forwards the load by hot flows, and answers how long that took.
+/// Forwards the load by hot flows, and returns the time.
 pub(crate) fn run_hot<R: Threads + Wait + Clock + Sync>(
     rt: &R,
     alloc: Global,

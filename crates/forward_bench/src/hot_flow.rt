@@ -1,4 +1,4 @@
-//! Flows whose frames come again and again, and whose wires are thrown away.
+//! Flows whose frames come again and again, and whose wires are dropped.
 ghost use Rattle.std.specs.Prelude.{◌≡◌, ◌&&◌, IfErr};
 ghost use Rattle.flows.specs.Sides.{has_ended};
 ghost use Rattle.refusals.specs.declared.errors.ForwardError.TheVariants.{Memory};
@@ -12,10 +12,10 @@ use std::alloc::Global;
 use std::sync::Wait;
 use tx_ring::{TxControllerEnd, TxRing};
 
-/// After how many frames a new wire is begun: before the memory of the old one has to grow, with frames of 1,500 bytes.
+/// The frames after which a new wire begins: before the memory of the old one has to grow, with frames of 1,500 bytes.
 const KEPT: usize = 4;
 
-/// To how many bytes buffers are filled.
+/// The bytes to which buffers are filled.
 const FILL: usize = 2_048;
 
 /// The controller's side of a flow: it offers a few frames again and again, and keeps no wire for long.
@@ -28,9 +28,9 @@ pub(crate) struct HotFlow<'a> {
     receiving: Service,
     sending: Service,
     frames: &'a [Vec<u8>],
-    /// The place of the frame that is offered next.
+    /// The index of the next frame to offer.
     next: usize,
-    /// How many frames are still to be decided on.
+    /// How many frames still have to be stored, dropped or refused.
     left: u64,
     alloc: Global,
     wire: Wire,
@@ -41,7 +41,7 @@ pub(crate) struct HotFlow<'a> {
 }
 
 impl<'a> HotFlow<'a> {
-    /// A flow to which `count` frames come, these again and again. The ends have done nothing yet.
+    /// Makes a flow to which `count` frames come, these again and again. The ends must be fresh.
     pub(crate) fn new(
         alloc: Global,
         rings: (&'a RxRing, &'a TxRing),
@@ -69,12 +69,12 @@ impl<'a> HotFlow<'a> {
         }
     }
 
-    /// What became of the frames that were offered, and how many went out.
+    /// The tally of the offered frames, and how many frames went out.
     pub(crate) fn counts(&self) -> (Tally, u64) {
         (self.rx.tally(), self.sent)
     }
 
-    /// Answers what is asked of either queue, and tells whether anything was.
+    /// Answers the requests of both queues. Returns whether it answered any.
     fn shake(&mut self) -> bool {
         let was = (self.receiving, self.sending);
         if self.receiving != Service::Ended {
@@ -88,7 +88,7 @@ impl<'a> HotFlow<'a> {
         was != (self.receiving, self.sending)
     }
 
-    /// Offers the next frame, and tells whether that decided on it. Once all are decided it says that no more comes.
+    /// Offers the next frame. Returns whether it is settled. After the last frame it says that no more comes.
     fn offer(&mut self) -> bool {
         if self.receiving != Service::Serving {
             return false;
@@ -113,7 +113,7 @@ impl<'a> HotFlow<'a> {
         true
     }
 
-    /// Sends the next frame, and tells whether there was one. The wire is thrown away once it has many.
+    /// Sends the next frame. Returns whether there was one. Drops the wire once it has many frames.
     fn send(&mut self) -> Result<bool, ForwardError>
         ensures { IfErr result (λ e. e ≡ Memory) }
     {

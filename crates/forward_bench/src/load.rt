@@ -1,4 +1,4 @@
-//! What is forwarded.
+//! The load that is forwarded.
 
 use anyhow::{Result, ensure};
 use forwarder::Config;
@@ -6,10 +6,10 @@ use limits::{LEAST_FRAME, MOST_FRAME, MOST_SCRIPT_FRAMES};
 use std::alloc::Global;
 use wire_script::{Script, WireFrame};
 
-/// How many buffers all flows have together.
+/// The number of buffers of all flows together.
 const BUFFERS: u32 = 16_384;
 
-/// So many frames of so many bytes, shared out to so many flows in turn, and how they are forwarded.
+/// `frames` frames of `size` bytes each, shared out to `flows` flows in turn, and how they are forwarded.
 #[derive(Clone, Copy)]
 pub struct Load {
     pub frames: u32,
@@ -18,12 +18,12 @@ pub struct Load {
     ring: u32,
     batch: u32,
     workers: u32,
-    /// Whether the wires are kept. Else a few frames come again and again, and the wires are thrown away.
+    /// Whether the wires are kept. Otherwise a few frames come again and again, and the wires are dropped.
     pub keeps: bool,
 }
 
 impl Load {
-    /// Reads the words after the program's name. The forwarder itself refuses a configuration that is not lawful.
+    /// Parses the words after the program's name. The forwarder itself refuses an unlawful configuration.
     pub fn of(words: &[String]) -> Option<Load> {
         let keeps = match number_of(words, "--keep")? {
             0 => false,
@@ -48,7 +48,7 @@ impl Load {
             && matches!(self.flows, 1 | 2 | 4 | 8 | 16)
     }
 
-    /// How the frames are forwarded: on pairs enough for these flows, of which there are two at least, one a port.
+    /// The configuration: enough pairs for these flows, but at least one, which has two flows, one for each port.
     pub fn config(&self) -> Config {
         Config {
             pairs: (self.flows / 2).max(1),
@@ -60,7 +60,7 @@ impl Load {
         }
     }
 
-    /// How many frames the flow of this number has: none beyond the load's flows.
+    /// How many frames flow number `flow` has: none beyond the load's flows.
     pub fn frames_of(&self, flow: usize) -> u64 {
         if self.flows as usize <= flow {
             return 0;
@@ -69,7 +69,7 @@ impl Load {
         u64::from(self.frames / self.flows) + u64::from(more)
     }
 
-    /// The frames, those of the flows in turn: port 0's flows first.
+    /// The frames as a script, flow by flow in turn, port 0's flows first.
     pub fn script(&self, alloc: Global) -> Result<Script> {
         let mut frames = Vec::new(alloc);
         for k in 0..self.frames {
@@ -82,7 +82,7 @@ impl Load {
         Ok(Script::new(frames))
     }
 
-    /// So many frames of the load's size.
+    /// Makes `count` frames of the load's size.
     pub fn bytes(&self, alloc: Global, count: usize) -> Result<Vec<Vec<u8>>> {
         let mut frames = Vec::new(alloc);
         for _ in 0..count {
@@ -91,7 +91,7 @@ impl Load {
         Ok(frames)
     }
 
-    /// A frame of the flow of this number.
+    /// Makes a frame of flow number `flow`.
     fn frame(&self, alloc: Global, flow: u32) -> Result<WireFrame> {
         let pairs = (self.flows / 2).max(1);
         let (port, queue, size) = (flow / pairs, flow % pairs, self.size as usize);

@@ -1,9 +1,9 @@
-//! The program `forward_bench`: what a frame costs that is forwarded; and a soak, in which what went out is compared with what
-//! came in.
+//! The program `forward_bench`: the cost of forwarding a frame; and a soak, which compares the frames that went out
+//! with those that came in.
 //!
-//! A script of frames of one size, shared out to the flows in turn, is forwarded, and the wires are kept. Or, without a
-//! script, a few frames come to each flow again and again, and the wires are thrown away. The time is that of the whole
-//! call: pool and rings are made in it, and the workers started and joined.
+//! It forwards a script of frames of one size, shared out to the flows in turn, and keeps the wires. Or, without a
+//! script, a few frames come to each flow again and again, and the wires are dropped. The time is that of the whole
+//! call, which also makes the pool and the rings, and starts and joins the workers.
 #![tactic(auto)]
 
 mod hot;
@@ -71,7 +71,7 @@ fn all_went(report: &Report, load: &Load) -> bool {
     rest == 0
 }
 
-/// Forwards the load as a script, and answers how long that took.
+/// Forwards the load as a script, and returns the time.
 fn run_script<R: Threads + Wait + Clock + Sync>(
     rt: &R,
     alloc: Global,
@@ -86,7 +86,7 @@ fn run_script<R: Threads + Wait + Clock + Sync>(
     Ok(spent)
 }
 
-/// Forwards the load, and prints what a frame cost.
+/// Forwards the load, and prints the cost of a frame.
 fn tell_cost<R: Threads + Wait + Clock + Sync + Print>(
     rt: &R,
     alloc: Global,

@@ -1,4 +1,4 @@
-//! Both sides of hot flows: the driver's is the forwarder's, the controller's is of this program.
+//! Both sides of hot flows: the forwarder's driver side, and this program's controller side.
 ghost use Rattle.std.specs.Prelude.{◌≡◌, ℕ, ◌<◌, [], length, vec_len, slice_index_or};
 ghost use Rattle.pool.specs.Owned.{IsOf};
 ghost use Rattle.forwarder.specs.Configs.{IsLawful};
@@ -16,10 +16,10 @@ use std::sync::Wait;
 /// The share of the pool that each flow's pass has.
 const SHARE: u32 = 1;
 
-/// How many buffers a flow may hold beyond a full receive ring.
+/// The most buffers of a flow beyond a full receive ring.
 const STASHED: u32 = 255;
 
-/// The frames that come to a flow: these again and again, so many in all.
+/// The frames that come to a flow: these again and again, `count` in all.
 #[derive(Clone, Copy)]
 struct Feed<'a> {
     frames: &'a [Vec<u8>],
@@ -40,7 +40,7 @@ pub(crate) struct Sides<'a> {
     pub controllers: Vec<HotFlow<'a>>,
 }
 
-/// Makes both sides of a flow. As many of its share of the buffers as fit are posted to its receive ring.
+/// Makes both sides of a flow. Posts as many of its share of the buffers as fit to its receive ring.
 fn make_side<'a, R: Wait>(
     rt: &R,
     alloc: Global,
@@ -88,7 +88,7 @@ fn make_side<'a, R: Wait>(
     Side { driver, controller }
 }
 
-/// Makes both sides of each flow. A pass is split off for each driver.
+/// Makes both sides of each flow. Splits off a pass for each driver.
 pub(crate) fn make_sides<'a, R: Wait>(
     rt: &R,
     alloc: Global,

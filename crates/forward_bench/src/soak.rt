@@ -1,9 +1,10 @@
-//! The soak: many frames are forwarded, part by part, and what went out is compared with what came in.
+//! The soak: many frames are forwarded, part by part, and the frames that went out are compared with those that came
+//! in.
 //!
-//! Each part forwards the same script over 4 flows, with 2 workers for either side. From part to part the rings' length
-//! changes, whether frames are dropped or held and packets dropped or kept, and how a controller reports what it sent. Of
-//! each flow the counts have to add up, the wire has to be frames of the script, touched, in order, and where nothing was
-//! dropped it has to have as many frames as came in, and their sum.
+//! Each part forwards the same script over 4 flows, with 2 workers for either side. The parts differ in the rings'
+//! length, in whether frames are dropped or held and packets dropped or kept, and in how a controller reports. The
+//! counts of each flow must add up. Its wire must have frames of the script, touched, in order. If nothing was dropped,
+//! the wire must have as many frames as came in, and their sum.
 
 mod frames;
 mod parts;
@@ -19,7 +20,7 @@ use std::alloc::Global;
 use std::sync::Wait;
 use std::thread::Threads;
 
-/// So many parts of so many frames.
+/// The number of parts, and the frames of each.
 #[derive(Clone, Copy)]
 pub struct Soak {
     parts: u32,
@@ -27,7 +28,7 @@ pub struct Soak {
 }
 
 impl Soak {
-    /// Reads the words after the program's name.
+    /// Parses the words after the program's name.
     pub fn of(words: &[String]) -> Option<Soak> {
         let all = number_of(words, "--soak")?;
         let frames = number_of(words, "--part")?;
@@ -44,7 +45,7 @@ impl Soak {
     }
 }
 
-/// Runs all parts, and prints what each came to: whether all were right.
+/// Runs all parts, and prints the result of each. Returns whether all were right.
 pub fn run_soak<R: Threads + Wait + Sync + Print>(
     rt: &R,
     alloc: Global,

@@ -1,4 +1,4 @@
--- What the device's side of both layers stored and put onto its wire.
+-- The frames that the device's side of both layers stored and put onto its wire.
 use Rattle.std.specs.Prelude.{◌≡◌, ℕ, All, List, [], replicate}
 use Rattle.atomic_table.specs.Seated.{TableId}
 use Rattle.controller.specs.Receiving.{Receiving}
@@ -12,12 +12,12 @@ use Rattle.layer_bench.specs.declared.serving.Device.{Device}
 use Rattle.bench_kit.specs.declared.forwarding.Forwarder.{Forwarder}
 use Rattle.bench_kit.specs.Forwarding.{CanForward, HasMet}
 
--- it stored no frame but this one at the ring
+-- the controller stored no frame but this one at the ring
 pub record StoresCopies (ring : TableId) (frame : Bytes) (controller : Receiving) : Type 0 where
   pub own : controller.end.table ≡ ring
   pub copies : All (λ f. f ≡ frame) (frames piece_of (stored controller.end))
 
--- the wire is what it sent at the ring
+-- the wire has the frames that the controller sent at the ring
 pub record PutsOn (ring : TableId) (controller : ControllerSide) (wire : List Bytes) : Type 0 where
   pub own : controller.table ≡ ring
   pub wire_is : wire ≡ frames carried (sent controller)
@@ -31,7 +31,7 @@ pub record AreAtWork (from to : TableId) (frame : Bytes) (d : Device) (f : Forwa
   pub serves : Serves from to frame d
   pub forwards : CanForward from to f
 
--- the controllers belong to these rings, and did nothing with a frame yet
+-- the controllers belong to these rings, and have handled no frame yet
 pub record HasNothing (from to : TableId) (d : Device) : Type 0 where
   pub stores : d.rx.end.table ≡ from
   pub sends : d.tx.table ≡ to
@@ -39,7 +39,7 @@ pub record HasNothing (from to : TableId) (d : Device) : Type 0 where
   pub none_sent : sent d.tx ≡ []
   pub empty : d.wire ≡ []
 
--- So many copies of the frame went through both rings: they are what is on the wire, and that is what the controller sent
+-- `count` copies of the frame went through both rings: they are on the wire, and the controller sent exactly these
 pub record HasGone (count : ℕ) (frame : Bytes) (e : Ends) (wire : List Bytes) : Type 0 where
   pub met : HasMet e
   pub wire_is : wire ≡ frames carried (sent e.tx_controller)

@@ -1,4 +1,5 @@
-//! Frames through both layers: offered to a controller, received and sent on by the drivers, and put onto a wire.
+//! Frames through both layers: they are offered to a controller, received and sent on by the drivers, and put onto a
+//! wire.
 ghost use Rattle.std.specs.Prelude.{◌≡◌, true, length, replicate, IfOk, Ok, OnOk};
 ghost use Rattle.ring_model.specs.shared.Handshakes.{is_serving};
 ghost use Rattle.tx_ring.specs.Ends.{controller_state};
@@ -21,7 +22,7 @@ use std::thread;
 use std::thread::{Promise, Threads};
 use std::time::{Duration, Instant};
 
-/// The ends of both rings, and what is on the wire.
+/// The ends of both rings, and the wire.
 #[derive(Drop)]
 pub struct Gone {
     pub ends: Ends,
@@ -36,14 +37,14 @@ impl<'a> Promise<Result<Device>> for ServesOn<'a> {
     ghost kept_by = { λ p done. IfOk done (λ d. Serves p.0.now.from p.0.now.to p.0.now.frame.items d) };
 }
 
-/// Controllers and drivers.
+/// The controllers and the drivers.
 #[derive(Drop)]
 struct Sides {
     device: Device,
     forwarder: Forwarder,
 }
 
-/// Passes the plan's frames through both layers, and answers how long that took.
+/// Passes the plan's frames through both layers, and returns the time.
 pub fn pass_layers<R: Threads + Wait + Clock + Sync>(
     rt: &R,
     alloc: Global,
@@ -62,7 +63,7 @@ pub fn pass_layers<R: Threads + Wait + Clock + Sync>(
     passed
 }
 
-/// Passes the plan's frames, and answers how long that took once the queues were enabled and the receive ring full.
+/// Passes the plan's frames. Returns the time, which starts when the queues are enabled and the receive ring is full.
 fn pass_run<R: Threads + Wait + Clock + Sync>(
     rt: &R,
     alloc: Global,
@@ -82,7 +83,7 @@ fn pass_run<R: Threads + Wait + Clock + Sync>(
     finish(way, plan, sides, spent)
 }
 
-/// Has both queues enabled and the receive ring filled, and answers when that was.
+/// Enables both queues and fills the receive ring. Returns the time at the end.
 fn begin<R: Clock>(
     rt: &R,
     alloc: Global,
@@ -103,7 +104,7 @@ fn begin<R: Clock>(
     now(rt)
 }
 
-/// Sees that all frames are on the wire, and lets the ends meet.
+/// Checks that all frames are on the wire, and lets the ends meet.
 fn finish(way: &Way, plan: BatchPlan, sides: Sides, spent: Duration) -> Result<Timed<Gone>>
     requires { AreAtWork way.now.from way.now.to way.now.frame.items sides.device sides.forwarder }
     ensures { IfOk result (λ p. HasGone plan.load.frames way.now.frame.items p.done.ends p.done.wire) }
@@ -114,7 +115,7 @@ fn finish(way: &Way, plan: BatchPlan, sides: Sides, spent: Duration) -> Result<T
     Ok(Timed { done, spent })
 }
 
-/// Sees that so many frames are on the wire, and that the queue is enabled.
+/// Checks that `frames` frames are on the wire, and that the queue is enabled.
 fn see_all_sent(frames: u32, device: &Device) -> Result<()>
     ensures sent { OnOk result (length device.now.wire ≡ frames) }
     ensures serving { OnOk result (is_serving (controller_state device.now.tx) ≡ true) }
@@ -141,7 +142,7 @@ fn close(way: &Way, plan: BatchPlan, sides: Sides) -> Gone
     Gone { ends, wire }
 }
 
-/// Has both sides work until all frames are on the wire.
+/// Lets both sides work until all frames are on the wire.
 fn pass_all<R: Threads + Wait + Sync>(
     rt: &R,
     way: &Way,
@@ -162,7 +163,7 @@ fn pass_all<R: Threads + Wait + Sync>(
     }
 }
 
-/// Has both sides work in turn, until all frames are on the wire.
+/// Lets both sides work in turn, until all frames are on the wire.
 fn alone<R: Wait>(rt: &R, way: &Way, plan: BatchPlan, sides: &mut Sides) -> Result<()>
     requires { AreAtWork way.now.from way.now.to way.now.frame.items sides.old.device sides.old.forwarder }
     ensures { OnOk result (AreAtWork way.now.from way.now.to way.now.frame.items sides.new.device sides.new.forwarder) }
@@ -180,7 +181,7 @@ fn alone<R: Wait>(rt: &R, way: &Way, plan: BatchPlan, sides: &mut Sides) -> Resu
     unreachable!()
 }
 
-/// Runs both sides, the controllers in a thread of their own, and joins it.
+/// Runs both sides, the controllers in their own thread, and joins it.
 fn in_threads<R: Threads + Wait + Sync>(
     rt: &R,
     way: &Way,
@@ -214,7 +215,7 @@ fn in_threads<R: Threads + Wait + Sync>(
     )
 }
 
-/// Both sides, where neither has failed.
+/// Returns both sides, or the first error.
 fn joined(device: Result<Device>, forwarder: Result<Forwarder>) -> Result<Sides>
     ensures { IfOk result (λ s. (device ≡ Ok s.device) × (forwarder ≡ Ok s.forwarder)) }
 {
@@ -222,7 +223,7 @@ fn joined(device: Result<Device>, forwarder: Result<Forwarder>) -> Result<Sides>
     Ok(Sides { device, forwarder })
 }
 
-/// The controllers' side: serves, and tells the other side to stop where that fails.
+/// Serves as the controllers' side, and stops the other side if that fails.
 fn serve_all<R: Wait>(
     rt: &R,
     way: &Way,
@@ -238,7 +239,7 @@ fn serve_all<R: Wait>(
     Ok(device)
 }
 
-/// The drivers' side: forwards, and tells the other side to stop where that fails.
+/// Forwards as the drivers' side, and stops the other side if that fails.
 fn forward_all<R: Wait>(
     rt: &R,
     way: &Way,
@@ -254,7 +255,7 @@ fn forward_all<R: Wait>(
     Ok(forwarder)
 }
 
-/// Tells the other side to stop, where this one has failed.
+/// Stops the other side if this one has failed.
 fn failing<T>(stop: &AtomicBool, done: Result<T>) -> Result<T>
     ensures { result ≡ done }
 {
@@ -264,8 +265,8 @@ fn failing<T>(stop: &AtomicBool, done: Result<T>) -> Result<T>
     done
 }
 
-/// Offers the frames and serves the wire, until all frames are on it. Where there was nothing to do for long it looks
-/// whether the other side has failed.
+/// Offers the frames and serves the wire, until all frames are on it. After a long idle time it looks whether the other
+/// side has failed.
 fn serve_until<R: Wait>(
     rt: &R,
     way: &Way,
@@ -296,8 +297,7 @@ fn serve_until<R: Wait>(
     unreachable!()
 }
 
-/// Forwards until all frames are sent on. Where there was nothing to do for long it looks whether the other side has
-/// failed.
+/// Forwards until all frames are sent on. After a long idle time it looks whether the other side has failed.
 fn forward_until<R: Wait>(
     rt: &R,
     way: &Way,

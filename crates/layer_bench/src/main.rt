@@ -1,9 +1,10 @@
-//! The program `layer_bench`: what a frame costs through both layers above the rings, controllers and drivers.
+//! The program `layer_bench`: the cost of a frame through both layers above the rings, controllers and drivers.
 //!
-//! `words` reads the command line. In `serving` the device's side are the controllers of both rings, and in `layers` they
-//! have a thread of their own or none.
+//! `words` parses the command line. In `serving` the device's side are the controllers of both rings. In `layers` they
+//! have their own thread, or share one with the drivers.
 //!
-//! What is printed was passed: at the end the ends of both rings meet, and what is on the wire are copies of the one frame.
+//! The frames that it counts did pass: at the end the ends of both rings meet, and the frames on the wire are copies of
+//! the one frame.
 #![tactic(auto)]
 
 mod layers;

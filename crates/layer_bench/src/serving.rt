@@ -1,4 +1,4 @@
-//! The device's side of both layers: frames that come in are offered, and those that go out are put onto a wire.
+//! The device's side of both layers: it offers the frames that come in, and puts the frames that go out onto a wire.
 ghost use Rattle.std.specs.Prelude.{◌≤◌, OnOk, IfOk};
 ghost use Rattle.rx_ring.specs.Calls as receive;
 ghost use Rattle.tx_ring.specs.Calls as transmit;
@@ -10,7 +10,7 @@ use rx_ring::{ControllerEnd, RxControllerEnd, RxRing};
 use std::alloc::Global;
 use tx_ring::{TxControllerEnd, TxRing};
 
-/// To how many bytes buffers are filled.
+/// The bytes to which buffers are filled.
 const FILL: usize = 2_048;
 
 /// How many frames were stored, and how many put onto the wire.
@@ -29,7 +29,7 @@ pub struct Device {
 }
 
 impl Device {
-    /// Controllers of two ends that have done nothing yet. Where descriptors are scarce a frame is held.
+    /// Makes controllers of two fresh ends. A frame is held while descriptors are scarce.
     pub fn new(alloc: Global, rx: RxControllerEnd, tx: TxControllerEnd) -> Device
         requires stores { receive.IsFreshController rx }
         requires sends { transmit.IsFreshController tx }
@@ -43,7 +43,7 @@ impl Device {
         }
     }
 
-    /// Answers what is asked of both queues.
+    /// Answers the requests of both queues.
     pub fn answer(&mut self, from: &RxRing, to: &TxRing)
         requires { HasNothing from.now to.now self.old }
         ensures { HasNothing from.now to.now self.new }
@@ -52,7 +52,7 @@ impl Device {
         self.tx.turn_control(to);
     }
 
-    /// Offers the frame in a batch, of those that are left, until it is not stored, and then puts a batch onto the wire.
+    /// Offers a batch of the frames that are left, until one is not stored, and then puts a batch onto the wire.
     #[inline]
     pub fn serve(&mut self, way: &Way, plan: BatchPlan, left: u32) -> Result<Served, CtlError>
         requires serves { Serves way.now.from way.now.to way.now.frame.items self.old }
@@ -66,7 +66,7 @@ impl Device {
     }
 }
 
-/// Offers the frame up to so many times, until it is not stored, and answers how often it was.
+/// Offers the frame up to `most` times, until it is not stored. Returns how often it was stored.
 #[inline]
 fn offer(
     ring: &RxRing,
@@ -86,7 +86,7 @@ fn offer(
     Ok(most)
 }
 
-/// Puts up to so many frames onto the wire, until none is ready, and answers how many.
+/// Puts up to `most` frames onto the wire, until none is ready. Returns how many.
 #[inline]
 fn turn(
     ring: &TxRing,

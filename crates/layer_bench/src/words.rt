@@ -3,16 +3,16 @@
 use bench_kit::{BatchPlan, batch_plan, number_of};
 use driver::MOST_BATCH;
 
-/// Who works in which thread.
+/// Which side runs in which thread.
 #[derive(Clone, Copy)]
 pub enum Threading {
-    /// Controllers and drivers in one.
+    /// Controllers and drivers in one thread.
     Shared,
-    /// Controllers in one, and drivers in another.
+    /// Controllers in one thread, and drivers in another.
     Apart,
 }
 
-/// What is told in place of a run.
+/// The usage, printed when the command line is wrong.
 pub const USAGE: &str = "Usage: layer_bench --ring N --frames N --size N --batch N --threads 1|2
 
 Passes frames through controllers and drivers of a receive ring and of a transmit ring onto a wire, and prints what one
@@ -27,7 +27,7 @@ frame costs.
 Example:
   layer_bench --ring 512 --frames 1000000 --size 60 --batch 32 --threads 2";
 
-/// Reads the words after the program's name: each option once with its value.
+/// Parses the words after the program's name: each option once with its value.
 pub fn plan_of(options: &[String]) -> Option<(BatchPlan, Threading)> {
     let plan = batch_plan(options, 10, MOST_BATCH as u32)?;
     Some((plan, threading_of(options)?))

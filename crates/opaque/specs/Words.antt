@@ -1,7 +1,7 @@
--- Words of C that say yes or no.
+-- Words of C as flags.
 use Rattle.std.specs.Prelude.{ℕ, zero, suc, Bool, true, false}
 
--- any but 0 says yes
+-- any word but 0 means yes
 abbrev pub is_set : ℕ → Bool
 is_set zero = false
 is_set (suc n) = true

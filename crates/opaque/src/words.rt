@@ -1,8 +1,8 @@
-//! Words that say yes or no, and bytes put into a room.
+//! Words as flags, and bytes copied into a room.
 ghost use Rattle.std.specs.Prelude.{◌≡◌, ◌≤◌, ◌++◌, length, drop};
 ghost use Rattle.opaque.specs.Words.{is_set};
 
-/// Whether a word of C says yes: any but 0.
+/// Whether a word of C means yes: any word but 0.
 #[inline]
 pub fn is_set(word: u32) -> bool
     ensures { result ≡ is_set word }
@@ -13,7 +13,7 @@ pub fn is_set(word: u32) -> bool
     }
 }
 
-/// The word that says it: 1 or 0.
+/// The word for a flag: 1 or 0.
 #[inline]
 pub fn flag_word(yes: bool) -> u32
     ensures { is_set result ≡ yes }
@@ -21,7 +21,7 @@ pub fn flag_word(yes: bool) -> u32
     if yes { 1 } else { 0 }
 }
 
-/// Puts `bytes` over the first bytes of a room, and leaves the others as they were.
+/// Copies `bytes` to the beginning of `room`, and leaves the rest as it was.
 #[inline]
 pub fn overwrite(room: &mut [u8], bytes: &[u8])
     requires { length bytes.now ≤ length room.old }

@@ -1,4 +1,4 @@
-//! What it costs to write the numbers of a cell, and to read them.
+//! The cost of writing and reading the numbers of a cell.
 
 mod measured;
 
@@ -10,7 +10,7 @@ use std::rt::Clock;
 use std::sync::Wait;
 use std::thread::Threads;
 
-/// Prints what a write costs, and beside readers what a read costs each of them.
+/// Prints the cost of a write and, if there are readers, of a read of each of them.
 pub fn run_writes<R>(rt: &R, alloc: Global, writes: u32, readers: u32) -> Result<()>
 where
     R: Threads + Wait + Clock + Print + Sync,
@@ -25,7 +25,7 @@ where
     Ok(())
 }
 
-/// Prints what a read costs.
+/// Prints the cost of a read.
 pub fn run_reads<R: Wait + Clock + Print>(rt: &R, alloc: Global, reads: u32) -> Result<()> {
     let spent = reads_alone(rt, alloc, reads)?;
     println!(rt; "read ns {:.1}", each(spent, f64::from(reads)))?;

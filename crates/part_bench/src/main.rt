@@ -1,16 +1,16 @@
-//! The program `part_bench`: what parts cost that stand beside the rings. It is run by hand; scripts in `bench/` run it
-//! beside plain Rust.
+//! The program `part_bench`: the cost of parts beside the rings. It is run by hand, and by scripts in `bench/` beside
+//! plain Rust.
 //!
-//! With `--writes` one thread writes the numbers of a cell so many times, while so many others read until they see what was
-//! written last; the time is that of all threads. With `--reads` one thread reads, beside nobody.
+//! With `--writes` one thread writes the numbers of a cell, while `--readers` others read until they see the last
+//! write. The time is that of all threads. With `--reads` one thread reads alone.
 //!
-//! With `--threads` each of so many threads takes buffers of one pool and gives them back, once one by one and once in
-//! batches of 32 through a stash. The time is that of all threads, over the buffers of one. With `--packets` it prints what
-//! it costs to take a packet from the front of a list of 32.
+//! With `--threads` each thread takes `--buffers` buffers of one pool and gives them back, once one by one and once in
+//! batches of 32 through a stash. The time is that of all threads, divided by the buffers of one. With `--packets` it
+//! prints the cost of taking a packet from the front of a list of 32.
 //!
-//! `script` makes a script of so many frames of so many bytes, and reads and writes it so many times; `capture` does so with
-//! a capture. It prints by how many bytes a frame a reading makes the process grow, and the slowest and the fastest round in
-//! MB of the text a second of processor time.
+//! `script` makes a script of FRAMES frames of BYTES bytes each, and reads and writes it ROUNDS times. `capture` does
+//! so with a capture. It prints how many bytes a frame the process grows by a reading, and the slowest and the fastest
+//! round in MB of text a second of processor time.
 #![tactic(auto)]
 
 mod counting;

@@ -1,9 +1,9 @@
-//! What the words ask for.
+//! The command line.
 
 use limits::MOST_SCRIPT_FRAMES;
 use std::time::Duration;
 
-/// What of texts is read and written.
+/// The kind of text that is read and written.
 #[derive(Clone, Copy)]
 pub enum Subject {
     Script,
@@ -11,7 +11,7 @@ pub enum Subject {
 }
 
 impl Subject {
-    /// The word for it.
+    /// Its word on the command line.
     pub fn name(self) -> &'static str {
         match self {
             Subject::Script => "script",
@@ -19,7 +19,7 @@ impl Subject {
         }
     }
 
-    /// By what memory is counted.
+    /// The words for the unit in which its memory is printed.
     pub fn per_frame(self) -> &'static str {
         match self {
             Subject::Script => "a frame beside its own",
@@ -28,7 +28,7 @@ impl Subject {
     }
 }
 
-/// How often and on what a reading and writing runs.
+/// Which text is read and written, and in how many rounds.
 #[derive(Clone, Copy)]
 pub struct TextPlan {
     pub subject: Subject,
@@ -38,7 +38,7 @@ pub struct TextPlan {
 }
 
 impl TextPlan {
-    /// How many bytes of what is read are a frame's own: a capture's lie where its bytes do.
+    /// The bytes of each frame that the reading copies: none of a capture, which borrows them.
     pub fn own(self) -> u64 {
         match self.subject {
             Subject::Script => self.length as u64,
@@ -47,7 +47,7 @@ impl TextPlan {
     }
 }
 
-/// What is run.
+/// The measurement to run.
 #[derive(Clone, Copy)]
 pub enum Plan {
     Writes { writes: u32, readers: u32 },
@@ -57,7 +57,7 @@ pub enum Plan {
     Texts(TextPlan),
 }
 
-/// The number that this word is.
+/// Parses a word as a number.
 fn number_in(word: Option<&String>) -> Option<u32> {
     word?.as_str().parse().ok()
 }
@@ -68,7 +68,7 @@ fn number_of(words: &[String], name: &str) -> Option<u32> {
     number_in(words.get(at + 1))
 }
 
-/// The same, from 1.
+/// The number after an option, if it is at least 1.
 fn from_1(words: &[String], name: &str) -> Option<u32> {
     let number = number_of(words, name)?;
     (1 <= number).then_some(number)
@@ -104,7 +104,7 @@ fn texts_of(words: &[String]) -> Option<Plan> {
     }))
 }
 
-/// Reads the words after the program's name.
+/// Parses the words after the program's name.
 pub fn plan_of(words: &[String]) -> Option<Plan> {
     if words.len() == 2 {
         if let Some(reads) = from_1(words, "--reads") {
@@ -121,7 +121,7 @@ pub fn plan_of(words: &[String]) -> Option<Plan> {
         .or_else(|| texts_of(words))
 }
 
-/// The nanoseconds of one of so many.
+/// The nanoseconds of one of `count`.
 pub fn each(spent: Duration, count: f64) -> f64 {
     spent.as_secs_f64() * 1e9 / count
 }

@@ -1,4 +1,4 @@
-//! What it costs to take a buffer from a pool and to give it back, and to take a packet from the front of a list.
+//! The cost of taking a buffer from a pool and giving it back, and of taking a packet from the front of a list.
 
 mod lists;
 mod timing;
@@ -13,7 +13,7 @@ use std::sync::Wait;
 use std::thread::Threads;
 use timing::timed;
 
-/// Prints what a buffer costs.
+/// Prints the cost of a buffer.
 pub fn run_pool<R>(rt: &R, alloc: Global, threads: u32, buffers: u32) -> Result<()>
 where
     R: Threads + Wait + Clock + Print + Sync,
@@ -38,7 +38,7 @@ where
     Ok(())
 }
 
-/// Prints what a packet costs.
+/// Prints the cost of a packet.
 pub fn run_lists<R: Clock + Print>(rt: &R, packets: u32) -> Result<()> {
     let (lean, rows) = compared(rt, packets)?;
     println!(rt; "packet ns/packet {:.1}", each(lean, f64::from(packets)))?;

@@ -1,4 +1,4 @@
-//! How fast scripts and captures are read and written, and in how much memory.
+//! The speed and memory of reading and writing scripts and captures.
 
 mod made;
 mod measured;
@@ -14,7 +14,7 @@ use std::rt::Files;
 use std::time::CpuClock;
 use wire_script::Script;
 
-/// What is measured, as bytes.
+/// Makes the text to measure.
 fn bytes_of(alloc: Global, plan: TextPlan) -> Result<Vec<u8>> {
     if plan.length < LEAST_FRAME || plan.length > MOST_FRAME {
         bail!("frames have {LEAST_FRAME} to {MOST_FRAME} bytes");
@@ -44,7 +44,7 @@ fn tell_speed<R: Print>(rt: &R, name: &str, speed: Speed) -> Result<()> {
     Ok(())
 }
 
-/// What the text that these bytes say costs.
+/// Measures the cost of reading and writing a text.
 fn costs<R: Files + CpuClock + AllocGlobal>(rt: &R, plan: TextPlan, bytes: &[u8]) -> Result<Costs> {
     match plan.subject {
         Subject::Script => costs_of::<R, Script>(rt, bytes, plan.rounds),
@@ -52,7 +52,7 @@ fn costs<R: Files + CpuClock + AllocGlobal>(rt: &R, plan: TextPlan, bytes: &[u8]
     }
 }
 
-/// Measures on these bytes, and prints what it cost.
+/// Measures a text, and prints its cost.
 fn measure<R: Files + CpuClock + Print + AllocGlobal>(
     rt: &R,
     plan: TextPlan,
@@ -65,7 +65,7 @@ fn measure<R: Files + CpuClock + Print + AllocGlobal>(
     tell_speed(rt, "written", costs.written)
 }
 
-/// Makes what the plan says, and measures on it.
+/// Makes the plan's text, and measures it.
 pub fn run_texts<R: Files + CpuClock + Print + AllocGlobal>(rt: &R, plan: TextPlan) -> Result<()> {
     let bytes = bytes_of(rt.alloc(), plan)?;
     measure(rt, plan, bytes.as_slice())

@@ -1,4 +1,4 @@
--- Which numbers a descriptor can say, and how bytes that are none are refused.
+-- The fields that a descriptor can have, and the refusals of bytes that are no descriptor.
 use Rattle.std.specs.Prelude.{◌≡◌, ℕ, ◌<◌, ◌≤◌, ◌^◌, true, List}
 use Rattle.limits.specs.declared.profile.TheConstants.{BUFFER_BYTES, LEAST_FRAME, MOST_FRAME}
 use Rattle.refusals.specs.declared.errors.DescError.{DescError}
@@ -23,7 +23,7 @@ pub record IsTxRead (d : Poll82599Descriptor) : Type 0 where
   pub long_enough : LEAST_FRAME ≤ d.paylen
   pub short_enough : d.paylen ≤ MOST_FRAME
 
--- the bytes are none of the form, and the answer is the lowest number of the refusals that apply
+-- the bytes are not of the form, and the result is the lowest number of the refusals that apply
 pub record IsRefusal (form : Form) (bytes : List ℕ) (answer : ℕ) : Type 0 where
   pub why : DescError
   pub number : answer ≡ refusal_number why

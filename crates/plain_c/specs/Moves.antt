@@ -1,4 +1,4 @@
--- What a list of moves comes to.
+-- The output of a list of moves.
 use Rattle.std.specs.Prelude.{◌≡◌, ℕ, ◌<◌, List, ◌++◌, length, drop, Option, Some, None, Bool, true, false}
 use Rattle.ring_model.specs.declared.states.Completion.{Completion}
 use Rattle.ring_model.specs.declared.states.Completion.TheVariants.{Status, Head}
@@ -17,18 +17,18 @@ completion_of false = Status
 abbrev pub plan_of : Poll82599Plan → QueuePlan
 plan_of p = record { pairs = p.pairs; ring = p.descriptors; enabled = is_set p.enabled; completion = completion_of (is_set p.by_head); shown = record NOTES { json = is_set p.json } }
 
--- what the moves print has so many bytes
+-- the output of the moves has `needed` bytes
 pub record Prints (plan : QueuePlan) (text : List ℕ) (needed : ℕ) : Type 0 where
   pub page : List ℕ
   pub has : HasPage plan text page
   pub needed_is : needed ≡ length page
 
--- it stands at the beginning of the room
+-- the output is at the beginning of the room
 pub record Printed (plan : QueuePlan) (text : List ℕ) (needed : ℕ) (before after : List ℕ) : Type 0 where
   pub prints : Prints plan text needed
   pub copied : after ≡ prints.page ++ drop needed before
 
--- the room is too small for it
+-- the room is too small for the output
 pub record TooSmall (plan : QueuePlan) (text : List ℕ) (needed : ℕ) (room : List ℕ) : Type 0 where
   pub prints : Prints plan text needed
   pub small : length room < needed
@@ -38,7 +38,7 @@ abbrev pub line_of : Option ℕ → ℕ
 line_of (Some line) = line
 line_of None = 0
 
--- the text is refused, by this number, and at this line
+-- the text is refused with this number, at this line
 pub record IsRefused (plan : QueuePlan) (text : List ℕ) (answer line : ℕ) : Type 0 where
   pub why : Refusal
   pub refuses : RefusesReplay plan (Some text) why

@@ -1,4 +1,4 @@
-//! Descriptors between 16 bytes and numbers.
+//! Descriptors as 16 bytes and as numbers.
 ghost use Rattle.std.specs.Prelude.{◌≡◌, ◌≢◌, IfErr, IfNone, IfOk, IfSome, length};
 ghost use Rattle.descriptor.specs.Layout.{AreBytes};
 ghost use Rattle.descriptor.specs.Receive.{rx_back_form, rx_back_numbers, rx_read_form, rx_read_numbers};
@@ -10,8 +10,8 @@ use descriptor::{Descriptor, RxBack, RxRead, TxBack, TxRead};
 use limits::{BUFFER_BYTES, LEAST_FRAME, MOST_FRAME};
 use opaque::{flag_word, is_set};
 
-/// What a descriptor says: its buffer's number, how many bytes lie there, and EOP, RS and PAYLEN, in bytes. A word that is not
-/// 0 says yes. What a form has no field for is 0 where it is read, and not looked at where it is written.
+/// The fields of a descriptor: its buffer's number, the bytes in that buffer, EOP, RS, and PAYLEN in bytes. EOP and RS
+/// are yes if not 0. A field that the form lacks is 0 after decoding, and ignored when encoding.
 #[repr(C)]
 #[derive(Clone, Copy)]
 pub struct Poll82599Descriptor {
@@ -22,19 +22,20 @@ pub struct Poll82599Descriptor {
     pub paylen: u32,
 }
 
-/// What answers a form that there is not.
+/// The result for an unknown form.
 const NO_FORM: u32 = 0xFFFF_FFFF;
 
-/// There are not 16 bytes.
+/// The length is not 16 bytes.
 const NOT_SIXTEEN: u32 = 1;
 
-/// No descriptor of the form says these numbers.
+/// No descriptor of the form has these fields.
 const UNSAID: u32 = 2;
 
-/// Reads 16 bytes in a form: 0 a receive descriptor as the driver posts it, 1 as the controller writes it back, 2 a transmit
-/// descriptor as the driver posts it, 3 as the controller writes it back. It answers 0, or of the refusals that apply the
-/// lowest: 1 there are not 16 bytes, 2 a bit that the profile fixes has another value, 3 it is no advanced data descriptor, 4
-/// a length is out of range. Only 0 changes `said`.
+/// Decodes 16 bytes. Any thread may call it. The form is 0 for a receive descriptor as the driver posts it, 1 as the
+/// controller writes it back, 2 for a transmit descriptor as the driver posts it, 3 as the controller writes it back.
+/// Returns 0: done; otherwise the lowest number that applies: 1: the length is not 16; 2: a bit that the profile fixes
+/// has another value; 3: no advanced data descriptor; 4: a length is out of range; or `0xFFFF_FFFF`: unknown form. Only
+/// 0 changes `said`.
 #[unsafe(no_mangle)]
 pub extern "C" fn poll82599_decode(form: u32, bytes: &[u8], said: &mut Poll82599Descriptor) -> u32
     ensures kept { (result ≢ 0) → said.new ≡ said.old }
@@ -64,8 +65,9 @@ pub extern "C" fn poll82599_decode(form: u32, bytes: &[u8], said: &mut Poll82599
     }
 }
 
-/// Writes what `said` says in a form, numbered as `poll82599_decode` has them: 0; 1 where there are not 16 bytes, and 2 where no
-/// descriptor of the form says these numbers. Only 0 changes the bytes.
+/// Encodes fields into 16 bytes, in a form as for `poll82599_decode`. Any thread may call it. Returns 0: done; 1: the
+/// length is not 16; 2: no descriptor of the form has these fields; or `0xFFFF_FFFF`: unknown form. Only 0 changes the
+/// bytes.
 #[unsafe(no_mangle)]
 pub extern "C" fn poll82599_encode(form: u32, said: &Poll82599Descriptor, bytes: &mut [u8]) -> u32
     ensures kept { (result ≢ 0) → bytes.new ≡ bytes.old }
@@ -99,7 +101,7 @@ pub extern "C" fn poll82599_encode(form: u32, said: &Poll82599Descriptor, bytes:
     }
 }
 
-/// A descriptor that says nothing.
+/// A descriptor whose fields are all 0.
 fn nothing() -> Poll82599Descriptor {
     Poll82599Descriptor {
         number: 0,

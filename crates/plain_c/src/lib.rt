@@ -1,8 +1,8 @@
-//! Plain data for programs in C and plain Rust: descriptors between 16 bytes and numbers, and lists of moves answered by the
-//! machines of queues.
+//! Plain data for programs in C and plain Rust: descriptors as 16 bytes and as numbers, lists of moves on the machines
+//! of queues, and one frame passed through a ring. Depends on `descriptor`, `commands` and the crates of the rings. It
+//! is part of the static library of `poll82599_c`, whose header declares its exports.
 //!
-//! It is part of the static library of `poll82599_c`, whose header declares its exports. No export keeps anything: each reads what
-//! it is given and writes what it answers, and one that refuses leaves the bytes as they were.
+//! No export keeps anything between calls. An export that refuses leaves the bytes that it writes as they were.
 #![tactic(auto)]
 
 mod descriptors;

@@ -1,4 +1,4 @@
-//! Lists of moves, answered by the machines of queues.
+//! Lists of moves, made on the machines of queues.
 ghost use Rattle.std.specs.Prelude.{◌≡◌, ◌≢◌};
 ghost use Rattle.commands.specs.Refusals.{refused_line};
 ghost use Rattle.plain_c.specs.Moves.{IsRefused, Printed, TooSmall, line_of, plan_of};
@@ -8,9 +8,9 @@ use opaque::{is_set, overwrite};
 use ring_machine::Completion;
 use std::alloc::Global;
 
-/// Which queues the moves are made on: how many pairs, 1 to 8, of how many descriptors each, a power of two from 8 to 4,096; and
-/// where the word is not 0, that they begin enabled, that the transmit queues report by a head word, and that what the moves
-/// tell is printed as JSON objects.
+/// The queues for a list of moves: `pairs` queue pairs, 1 to 8, of `descriptors` descriptors each, a power of two from
+/// 8 to 4,096. If not 0: `enabled`, the queues begin enabled; `by_head`, the transmit queues report by a head word;
+/// `json`, the output is JSON objects.
 #[repr(C)]
 #[derive(Clone, Copy)]
 pub struct Poll82599Plan {
@@ -29,10 +29,10 @@ pub struct Poll82599Moved {
     pub line: u64,
 }
 
-/// Makes the moves of a text, one a line, on new queues, and writes what they tell, a line or an object each, to the beginning of
-/// `page`. It answers 0; 1 where `page` has fewer bytes than `needed` then says; or the number of the refusal: 14 where a line
-/// is no move, which `line` then names, 12 where there can be no such queues, and others where memory was refused. Only 0
-/// changes the page.
+/// Makes the moves of a text, one a line, on new queues, and writes their output, a line or an object each, to the
+/// beginning of `page`. Any thread may call it. Returns 0: done; 1: `page` has fewer bytes than `needed`, which is set
+/// with 0 and 1; or the number of a refusal: 14: the line `line` is no move; 12: there can be no such queues; others:
+/// memory was refused. Only 0 changes the page.
 #[unsafe(no_mangle)]
 pub extern "C" fn poll82599_moves(
     alloc: Global,

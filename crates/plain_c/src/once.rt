@@ -1,4 +1,4 @@
-//! One frame through a receive ring, whose two ends take turns.
+//! One frame passed through a receive ring, whose two ends take turns.
 ghost use Rattle.std.specs.Prelude.{◌≡◌, ◌≢◌, ◌<◌, ◌⊎◌, ◌↔◌, true, false, length, IfSome};
 ghost use Rattle.commands.specs.Frame.{IsFrameLength};
 ghost use Rattle.commands.specs.Passing.{CanPass, Fits, HasStored, Offers, StoredOnly, TookPacket};
@@ -12,21 +12,21 @@ use limits::{BUFFER_BYTES, LEAST_FRAME};
 use rx_ring::{RxControllerEnd, RxDriverEnd, RxRing, meet_rx};
 use std::alloc::Global;
 
-/// How many descriptors the ring has.
+/// The number of descriptors of the ring.
 const DESCRIPTORS: u32 = 8;
 
-/// The most bytes of a frame: as many buffers as the ring can have free at once.
+/// The most bytes of a frame: those of 7 buffers, as many as the ring can have free at once.
 const MOST_BYTES: usize = 14_336;
 
-/// How many buffers the driver has.
+/// The number of the driver's buffers.
 const BUFFERS: u32 = 16;
 
-/// How many packets the driver takes at once.
+/// The most packets that the driver takes at once.
 const BATCH: usize = 1;
 
-/// Passes a frame through a receive ring of 8 descriptors, whose controller and driver take turns, and copies the packet that the
-/// driver took to the beginning of `room`. It answers 0; 1 where no frame has so many bytes, which are 14 to 14,336; 4 where
-/// `room` has fewer bytes than the frame; or 2 where memory was refused. Only 0 changes the room.
+/// Passes a frame through a receive ring of 8 descriptors, whose controller and driver take turns on the caller's
+/// thread, and copies the packet that the driver took to the beginning of `room`. Returns 0: done; 1: the length is not
+/// 14 to 14,336; 4: `room` has fewer bytes than the frame; 2: memory was refused. Only 0 changes the room.
 #[unsafe(no_mangle)]
 pub extern "C" fn poll82599_once(alloc: Global, frame: &[u8], room: &mut [u8]) -> u32
     ensures written { (result ≡ 0) → IsWritten frame.now room.old room.new }
@@ -50,7 +50,7 @@ pub extern "C" fn poll82599_once(alloc: Global, frame: &[u8], room: &mut [u8]) -
     }
 }
 
-/// The packet that a frame came in, unless memory was refused.
+/// Passes a frame through a new ring. Returns the packet, unless memory was refused.
 fn passed(alloc: Global, frame: &[u8]) -> Option<Packet>
     requires { IsFrameLength (length frame.now) }
     ensures { IfSome result (λ packet. HasCome frame.now packet) }
@@ -62,7 +62,7 @@ fn passed(alloc: Global, frame: &[u8]) -> Option<Packet>
     packet
 }
 
-/// A stash of the driver's buffers, unless memory was refused.
+/// Makes a stash of the driver's buffers, unless memory is refused.
 fn full_stash(alloc: Global) -> Option<Stash> {
     let mut stock = Stock::new(alloc, 0, BUFFERS).ok()?;
     let mut stash = Stash::new();
@@ -74,8 +74,8 @@ fn full_stash(alloc: Global) -> Option<Stash> {
     Some(stash)
 }
 
-/// Both ends take turns: they, and the packet that the driver took, if it took one. The driver asks for the queue to be enabled, and the
-/// controller answers; the driver posts its buffers, the controller stores the frame, and the driver takes it.
+/// Lets both ends take turns: the driver asks for an enabling, the controller answers, the driver posts its buffers,
+/// the controller stores the frame, and the driver takes it. Returns both ends, and the packet if the driver took one.
 fn in_turns(
     ring: &RxRing,
     driver: RxDriverEnd,
@@ -101,7 +101,7 @@ fn in_turns(
     (driver, end, packets.pop())
 }
 
-/// A turn of the driver: it asks for the queue to be enabled, if it did not before, and takes a batch once the queue is.
+/// A turn of the driver: asks for an enabling, if it did not before, and takes a batch if the queue is on.
 fn take(
     ring: &RxRing,
     driver: &mut RxDriver,
@@ -119,7 +119,7 @@ fn take(
     };
 }
 
-/// Offers the frame at the end of a controller's turns: its end.
+/// Offers the frame after the controller's turns, and returns its end.
 fn store(ring: &RxRing, mut controller: RxController, frame: &[u8]) -> RxControllerEnd
     requires offers { Offers ring.now controller }
     requires fits { Fits ring.now frame.now }
@@ -131,7 +131,7 @@ fn store(ring: &RxRing, mut controller: RxController, frame: &[u8]) -> RxControl
     controller.into_end()
 }
 
-/// Offers the frame: whether it was stored. It is not where the queue is not enabled, or too few descriptors are free.
+/// Offers the frame. Returns whether it was stored: not if the queue is off or too few descriptors are free.
 fn is_stored(ring: &RxRing, controller: &mut RxController, frame: &[u8]) -> bool
     requires offers { Offers ring.now controller.old }
     requires fits { Fits ring.now frame.now }

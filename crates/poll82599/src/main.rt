@@ -1,7 +1,8 @@
 //! The program `poll82599`: both sides of the 82599's descriptor rings, in one process.
 //!
-//! `main` gives the words and the three standard streams to `command_line`'s `run`, standard error a second time to show
-//! there how far a run is, and ends with the status that it answers. All else stands in libraries: `commands` does what is asked for, `command_line` reads the words.
+//! `main` passes the words and the three standard streams to `command_line::run`, standard error a second time for the
+//! progress of a run, and exits with the status that it returns. `command_line` parses the words, and `commands` runs
+//! the commands.
 #![tactic(auto)]
 
 use command_line::run;
@@ -10,7 +11,7 @@ use std::process::ExitCode;
 use std::rt::Env;
 use std::{env, io};
 
-/// The words after the program's name.
+/// Returns the words after the program's name.
 fn words_of<R: Env + AllocGlobal>(rt: &R) -> io::Result<Vec<String>> {
     Ok(env::args(rt)?.skip(1).collect(rt.alloc())?)
 }

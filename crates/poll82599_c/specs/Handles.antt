@@ -1,4 +1,4 @@
--- What exports say of what handles hold: which of the objects it is.
+-- The object of each kind that a handle may hold.
 use Rattle.std.specs.Prelude.{Option, Some, None}
 use Rattle.rx_ring.specs.Ends as rx
 use Rattle.tx_ring.specs.Ends as tx

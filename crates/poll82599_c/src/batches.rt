@@ -1,5 +1,5 @@
-//! Queues in batches: a worker's empty buffers and up to 32 packets, which a receive queue's driver fills a batch at a time; and the
-//! driver and the device of a queue of each kind.
+//! Queues in batches: a worker's empty buffers and up to 32 packets, which a receive queue's driver fills a batch at a
+//! time, and the driver and the device of a receive or transmit queue.
 
 mod found;
 mod packets;

@@ -1,7 +1,8 @@
-//! What C and the exports tell each other.
+//! The records that programs and exports exchange, and the results for a wrong handle or operation.
 
-/// What an end's call is to do, and what it answers. `len` and `eop` are of a segment that was handed out, in bytes and 1 or
-/// 0; `eop`, `rs` and `paylen` of one that is to be stored or posted, where a word that is not 0 says yes.
+/// A step of an end, and its result. A segment that is handed out has its length in bytes in `len` and 1 or 0 in `eop`.
+/// A segment to store or post has `eop`, `rs` (yes if not 0) and `paylen`, the frame's length in bytes. `len` may also
+/// be a number of segments.
 #[repr(C)]
 #[derive(Clone, Copy)]
 pub struct Poll82599Call {
@@ -13,7 +14,8 @@ pub struct Poll82599Call {
     pub paylen: u32,
 }
 
-/// What a queue's call is to do, what it answers, and how many packets were taken, buffers came back, or segments are left.
+/// A step of a queue, its result, and a count of packets taken or posted, buffers returned, segments left, or bytes
+/// sent.
 #[repr(C)]
 #[derive(Clone, Copy)]
 pub struct Poll82599Queue {
@@ -22,8 +24,8 @@ pub struct Poll82599Queue {
     pub count: usize,
 }
 
-/// What a call is to do with one of a worker's packets, and what it answers: the packet's place, from 0, and its length in bytes;
-/// and a byte's place in it, from 0, and the byte.
+/// A step on a worker's packets and its result: the packet's index and length in bytes, and a byte's index and value.
+/// Both indices count from 0.
 #[repr(C)]
 #[derive(Clone, Copy)]
 pub struct Poll82599Packet {
@@ -35,7 +37,7 @@ pub struct Poll82599Packet {
     pub byte: u8,
 }
 
-/// What a device's call is to do, what it answers, and how many frames were offered, and what became of them.
+/// A step of a receive queue's device, its result, and the device's frame counters.
 #[repr(C)]
 #[derive(Clone, Copy)]
 pub struct Poll82599Device {
@@ -47,8 +49,8 @@ pub struct Poll82599Device {
     pub oversize: u64,
 }
 
-/// What answers an operation that there is not, and a handle that holds nothing, or something of another kind.
+/// The result for an unknown operation, and for a handle that is empty or of another kind.
 pub(crate) const NO_OPERATION: u32 = 0xFFFF_FFFF;
 
-/// What a closing answers where a handle holds nothing, or something of another kind.
+/// The result of closing a handle that is empty or of another kind.
 pub(crate) const UNHELD: i64 = -2;

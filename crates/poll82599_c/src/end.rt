@@ -1,4 +1,4 @@
-//! What is behind a handle.
+//! The object behind a handle.
 
 use crate::batches::{Packets, RxDevice, RxQueue, TxDevice, TxQueue};
 use crate::rings::{RxDriving, RxServing, TxDriving, TxServing};
@@ -8,19 +8,19 @@ use crate::rings::{RxDriving, RxServing, TxDriving, TxServing};
 pub enum End {
     /// A receive ring's driver.
     RxDriver(RxDriving),
-    /// Its controller.
+    /// A receive ring's controller.
     RxController(RxServing),
     /// A transmit ring's driver.
     TxDriver(TxDriving),
-    /// Its controller.
+    /// A transmit ring's controller.
     TxController(TxServing),
     /// A receive queue's driver.
     RxQueue(RxQueue),
-    /// Its device.
+    /// A receive queue's device.
     RxDevice(RxDevice),
     /// A transmit queue's driver.
     TxQueue(TxQueue),
-    /// Its device.
+    /// A transmit queue's device.
     TxDevice(TxDevice),
     /// A worker's packets.
     Packets(Packets),

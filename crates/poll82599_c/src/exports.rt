@@ -1,5 +1,5 @@
-//! What C calls: the exports that make a ring, a queue or a worker's packets, that make a step of what a handle holds, and that close
-//! it again. They are by what they do, so that what both directions have alike stands side by side.
+//! The exported functions: they make a ring, a queue or a worker's packets, step the object that a handle holds, and
+//! close it. They are grouped by task, so that both directions are side by side.
 
 mod calling;
 mod closing;

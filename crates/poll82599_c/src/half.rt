@@ -1,4 +1,4 @@
-//! What is of a ring, with the ring.
+//! An end of a ring, together with an owner of the ring.
 ghost use Rattle.std.specs.Prelude.{◌≡◌};
 ghost use Rattle.std.specs.Arc.{arc_value};
 
@@ -11,7 +11,7 @@ use std::marker::Model;
 use std::sync::Arc;
 use tx_ring::{TxControllerEnd, TxDriverEnd};
 
-/// What is of one ring: an end, or what drives or serves by one.
+/// Anything that belongs to one ring: an end, or a driver or controller that uses one.
 pub trait OfRing {
     ghost use Rattle.atomic_table.specs.Seated.{TableId};
 
@@ -51,7 +51,7 @@ impl OfRing for TxController {
     ghost table = { λ c. c.table };
 }
 
-/// A half of a ring: what is of it, with an owner of it.
+/// A half of a ring: something that belongs to it, and an owner of it.
 #[derive(Drop)]
 pub struct Half<R: SharedRing, E: OfRing> {
     pub(crate) ring: Arc<R, Global>,
@@ -70,7 +70,7 @@ impl<R: SharedRing, E: OfRing> Model for Half<R, E> {
 }
 
 impl<R: SharedRing, E: OfRing> Half<R, E> {
-    /// What is of this ring, with its owner.
+    /// Joins something to the owner of its ring.
     pub(crate) fn of(ring: Arc<R, Global>, end: E) -> Half<R, E>
         requires { E.table end ≡ R.table (arc_value ring) }
         ensures { result ≡ end }
@@ -78,7 +78,7 @@ impl<R: SharedRing, E: OfRing> Half<R, E> {
         Half { ring, end }
     }
 
-    /// The owner of the ring, and what is of it.
+    /// Returns the owner of the ring, and what belongs to it.
     pub(crate) fn parts(self) -> (Arc<R, Global>, E)
         ensures ring { R.table (arc_value result.0) ≡ E.table self }
         ensures end { result.1 ≡ self }

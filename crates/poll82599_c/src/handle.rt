@@ -1,4 +1,4 @@
-//! What C has of an end or of a worker's packets: a pointer.
+//! The handle by which a program owns an end or a worker's packets: one pointer.
 ghost use Rattle.std.specs.Prelude.{◌≡◌, ◌⊎◌, Option, Some, None, IfNone, IfSome, MatchOption};
 ghost use Rattle.poll82599_c.specs.declared.end.End.{End as Held};
 
@@ -9,7 +9,7 @@ use std::marker::Model;
 use std::mem::replace;
 use std::ptr::null_mut;
 
-/// A pointer that owns one of these, or null and none. C begins one as null, passes its address, and copies none.
+/// A pointer that owns an object, or null. A program starts it as null, passes its address, and never copies it.
 #[repr(C)]
 #[derive(Drop)]
 pub struct Handle {
@@ -46,7 +46,7 @@ impl Handle {
         }
     }
 
-    /// What it owns, if it owns anything.
+    /// Returns the object's parts, or nothing if the handle is empty.
     fn into_parts(self) -> Option<Parts<End, Global>>
         ensures { MatchOption result (self.held ≡ None) (λ p. self.held ≡ Some p.value) }
     {
@@ -61,7 +61,7 @@ impl Handle {
         }
     }
 
-    /// Takes the object, if it holds one, and leaves none.
+    /// Takes the object, if there is one, and leaves the handle empty.
     pub(crate) fn take(&mut self, alloc: Global) -> Option<Box<End>>
         ensures value { MatchOption result (self.old.held ≡ None) (λ b. self.old.held ≡ Some b.value) }
         ensures left { self.new.held ≡ None }
@@ -72,7 +72,7 @@ impl Handle {
         }
     }
 
-    /// Puts an object in.
+    /// Puts an object into the handle.
     pub(crate) fn put(&mut self, made: Box<End>)
         ensures { self.new.held ≡ Some made.value }
     {
@@ -80,7 +80,7 @@ impl Handle {
     }
 }
 
-/// Takes the objects of two handles; or where one holds none, leaves both as they were.
+/// Takes the objects of two handles. If either is empty, returns nothing and leaves both as they were.
 pub(crate) fn take_both(
     alloc: Global,
     one: &mut Handle,
@@ -102,5 +102,5 @@ pub(crate) fn take_both(
     }
 }
 
-// What it owns is in one thread at a time, as the object behind it.
+// One thread at a time uses the object behind the handle.
 unsafe impl Send for Handle {}

@@ -1,10 +1,12 @@
-//! Running receive and transmit rings for programs in C and plain Rust: a static library whose two ends are in two threads of
-//! theirs, step by step (`rings`) or in batches, in ixy's manner (`batches`).
+//! Running receive and transmit rings for programs in C and plain Rust, as a static library: step by step (`rings`) or
+//! in batches (`batches`, in the manner of the ixy driver). Depends on the crates of the rings, of the drivers and
+//! controllers, and `buffer_pool`. Guarantees which step each export makes, which bytes it hands out, and, at closing,
+//! that the driver took a beginning of what the controller stored, and that a beginning of what was posted was sent,
+//! byte for byte.
 //!
-//! Each end is behind a handle of one pointer, and so is what a worker has. An export takes an operation's number, and the header
-//! `poll82599.h` has a function for each operation. What an export promises is said over what the handles hold: what its step was, by
-//! how much the records grew, what each packet's bytes are, and, at closing, that what the driver took is a beginning of what the
-//! controller stored, and what was sent of what was posted, byte for byte. What C owes stands as `requires`, and in the header.
+//! Each end and each worker is behind a handle of one pointer. The two ends of a ring may run on two threads. An export
+//! takes an operation's number, and the header `poll82599.h` has a function for each operation. Duties of the caller
+//! are `requires` clauses, or are listed in the header.
 #![tactic(auto)]
 
 mod batches;

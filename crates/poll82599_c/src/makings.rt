@@ -1,5 +1,5 @@
-//! How what the handles hold is made: a ring's two halves, the objects of its ends or of a queue's driver and device, a stash of new
-//! buffers, an object behind a pointer and its way into a handle, and why nothing was made.
+//! Making the objects behind handles: a ring's two halves, its ends or a queue's driver and device, a stash of new
+//! buffers, boxed objects and their handles, and the reasons for a refusal.
 
 mod ends;
 mod halves;

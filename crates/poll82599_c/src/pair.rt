@@ -1,10 +1,10 @@
-//! Which two objects are closed together.
+//! The pairs of objects that are closed together.
 ghost use Rattle.std.specs.Prelude.{◌≡◌, true, false, Some};
 ghost use Rattle.poll82599_c.specs.Pairs.{IsPair, LacksOne};
 
 use crate::end::End;
 
-/// Two objects that are closed together: a driver's and a controller's, or a queue's driver and its device.
+/// A kind of pair: a ring's driver and controller, or a queue's driver and device.
 #[derive(Clone, Copy)]
 pub(crate) enum Pair {
     RxRing,
@@ -14,7 +14,7 @@ pub(crate) enum Pair {
 }
 
 impl Pair {
-    /// Whether two objects are such two.
+    /// Whether two objects are such a pair.
     pub(crate) fn is(self, one: &End, other: &End) -> bool
         ensures are { result ≡ true → IsPair self one.now other.now }
         ensures lacks { result ≡ false → LacksOne self (Some one.now) (Some other.now) }

@@ -1,4 +1,4 @@
-//! Rings step by step, a segment at a time: the objects of the two ends of each.
+//! Rings step by step, a segment at a time: the objects of the two ends.
 
 mod begun;
 mod driving;

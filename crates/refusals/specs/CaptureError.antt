@@ -1,4 +1,4 @@
--- The numbers and the records of refusals.
+-- The numbers of refusals, and their records.
 use Rattle.std.specs.Prelude.{ℕ, Option, Some, None}
 use Rattle.refusals.specs.declared.errors.CaptureError.{CaptureError}
 use Rattle.refusals.specs.declared.errors.CaptureError.TheVariants.{NotCapture, LinkType, CutShort, CapturedShort, FrameLength, TooMany, Memory}
@@ -13,7 +13,7 @@ refusal_number (FrameLength number) = 95
 refusal_number (TooMany number) = 96
 refusal_number Memory = 97
 
--- the record that is refused
+-- the refused record
 abbrev pub record_of : CaptureError → Option ℕ
 record_of NotCapture = None
 record_of LinkType = None

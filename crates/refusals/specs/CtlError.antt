@@ -2,7 +2,7 @@ use Rattle.std.specs.Prelude.{ℕ}
 use Rattle.refusals.specs.declared.errors.CtlError.{CtlError}
 use Rattle.refusals.specs.declared.errors.CtlError.TheVariants.{FrameLength, Memory}
 
--- the number of a refusal
+-- the refusal's number
 abbrev pub refusal_number : CtlError → ℕ
 refusal_number FrameLength = 41
 refusal_number Memory = 42

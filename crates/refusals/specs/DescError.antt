@@ -2,7 +2,7 @@ use Rattle.std.specs.Prelude.{ℕ}
 use Rattle.refusals.specs.declared.errors.DescError.{DescError}
 use Rattle.refusals.specs.declared.errors.DescError.TheVariants.{Length, Reserved, Kind, Size}
 
--- the number of a refusal
+-- the refusal's number
 abbrev pub refusal_number : DescError → ℕ
 refusal_number Length = 1
 refusal_number Reserved = 2

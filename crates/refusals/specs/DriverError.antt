@@ -2,7 +2,7 @@ use Rattle.std.specs.Prelude.{ℕ}
 use Rattle.refusals.specs.declared.errors.DriverError.{DriverError}
 use Rattle.refusals.specs.declared.errors.DriverError.TheVariants.{QueueOff, StashFull, TooLong, NotReclaimed}
 
--- the number of a refusal
+-- the refusal's number
 abbrev pub refusal_number : DriverError → ℕ
 refusal_number QueueOff = 51
 refusal_number StashFull = 52

@@ -2,7 +2,7 @@ use Rattle.std.specs.Prelude.{ℕ}
 use Rattle.refusals.specs.declared.errors.ForwardError.{ForwardError}
 use Rattle.refusals.specs.declared.errors.ForwardError.TheVariants.{Memory, Gate, Thread, Config}
 
--- the number of a refusal
+-- the refusal's number
 abbrev pub refusal_number : ForwardError → ℕ
 refusal_number Memory = 61
 refusal_number Gate = 62

@@ -2,7 +2,7 @@ use Rattle.std.specs.Prelude.{ℕ}
 use Rattle.refusals.specs.declared.errors.PoolError.{PoolError}
 use Rattle.refusals.specs.declared.errors.PoolError.TheVariants.{Memory, Empty, StashFull, Count}
 
--- the number of a refusal
+-- the refusal's number
 abbrev pub refusal_number : PoolError → ℕ
 refusal_number Memory = 31
 refusal_number Empty = 32

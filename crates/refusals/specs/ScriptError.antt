@@ -1,4 +1,4 @@
--- The numbers and the lines of refusals.
+-- The numbers of refusals, and their lines.
 use Rattle.std.specs.Prelude.{ℕ, Option, Some, None}
 use Rattle.refusals.specs.declared.errors.ScriptError.{ScriptError}
 use Rattle.refusals.specs.declared.errors.ScriptError.TheVariants.{Fields, Port, Queue, Bytes, FrameLength, TooMany, Memory}
@@ -13,7 +13,7 @@ refusal_number (FrameLength line) = 75
 refusal_number (TooMany line) = 76
 refusal_number Memory = 77
 
--- the line that is refused
+-- the refused line
 abbrev pub line_of : ScriptError → Option ℕ
 line_of (Fields line) = Some line
 line_of (Port line) = Some line

@@ -5,16 +5,16 @@ use std::alloc::AllocError;
 use std::fmt;
 use thiserror::Error;
 
-/// Why bytes are not the form of a descriptor.
+/// Why bytes are not a descriptor of a form.
 #[derive(Clone, Copy, Debug, PartialEq, Eq, Error)]
 pub enum DescError {
-    /// There are not 16 bytes.
+    /// The length is not 16 bytes.
     #[error("length")]
     Length = 1,
-    /// A bit that the profile fixes has another value, but for those of `Kind`.
+    /// A bit that the profile fixes has another value, except for the bits of `Kind`.
     #[error("reserved")]
     Reserved = 2,
-    /// DTYP is not 3, or DEXT is not 1: it is no advanced data descriptor.
+    /// DTYP is not 3 or DEXT is not 1: no advanced data descriptor.
     #[error("type")]
     Kind = 3,
     /// A data length or PAYLEN is out of range.
@@ -25,8 +25,8 @@ pub enum DescError {
 impl DescError {
     ghost use Rattle.refusals.specs.DescError.{refusal_number};
 
-    /// The number of the refusal, 1 to 4, which programs print before its text. Of the refusals
-    /// that apply, the one with the lowest number is answered.
+    /// The refusal's number, from 1 to 4, which programs print before its text. If several refusals apply, the one with
+    /// the lowest number is returned.
     pub fn number(&self) -> u8
         ensures { result ≡ refusal_number self.now }
     {
@@ -37,13 +37,13 @@ impl DescError {
 /// Why a machine is not made, a move is not read, or a step is not made.
 #[derive(Clone, Copy, Debug, PartialEq, Eq, Error)]
 pub enum MachineError {
-    /// The step can't happen now, or there is no such queue. The machine is as it was.
+    /// The step cannot happen now, or there is no such queue. The machine is as it was.
     NotEnabled = 11,
     /// The length is no power of two from 8 to 4,096, or the number of pairs is not 1 to 8.
     RingLength = 12,
     /// Memory was refused.
     Memory = 13,
-    /// The text is not that of a move.
+    /// The text is no move.
     Text = 14,
 }
 
@@ -77,7 +77,7 @@ impl fmt::Display for MachineError {
 /// Why a call on a ring was refused.
 #[derive(Clone, Copy, Debug, PartialEq, Eq, Error)]
 pub enum RingError {
-    /// No ring may have so many descriptors.
+    /// The ring's length is no power of two from 8 to 4,096.
     #[error("ring length")]
     RingLength = 21,
     /// Memory was refused.
@@ -88,7 +88,7 @@ pub enum RingError {
 impl RingError {
     ghost use Rattle.refusals.specs.RingError.{refusal_number};
 
-    /// The number by which a refusal is reported: 21 or 22.
+    /// The refusal's number: 21 or 22.
     pub fn number(&self) -> u8
         ensures { result ≡ refusal_number self.now }
     {
@@ -96,13 +96,13 @@ impl RingError {
     }
 }
 
-/// Why a pool call was refused.
+/// Why a call on a pool or a stash was refused.
 #[derive(Clone, Copy, Debug, PartialEq, Eq, Error)]
 pub enum PoolError {
     /// Memory was refused.
     #[error("memory")]
     Memory = 31,
-    /// No buffer was in the pool at some moment of the call.
+    /// The pool was empty at some moment of the call.
     #[error("empty")]
     Empty = 32,
     /// The stash has no room for another buffer.
@@ -116,7 +116,7 @@ pub enum PoolError {
 impl PoolError {
     ghost use Rattle.refusals.specs.PoolError.{refusal_number};
 
-    /// The number of the refusal, which programs print before its text.
+    /// The refusal's number, from 31 to 34, which programs print before its text.
     pub fn number(&self) -> u8
         ensures { result ≡ refusal_number self.now }
     {
@@ -137,10 +137,10 @@ impl From<AllocError> for PoolError {
 /// Why a call on a controller was refused.
 #[derive(Clone, Copy, Debug, PartialEq, Eq, Error)]
 pub enum CtlError {
-    /// No frame has so many bytes.
+    /// The frame's length is outside [`LEAST_FRAME`](limits::LEAST_FRAME) to [`MOST_FRAME`](limits::MOST_FRAME).
     #[error("frame length")]
     FrameLength = 41,
-    /// The wire couldn't grow. Nothing was fetched, and the call can be made again.
+    /// The wire could not grow. Nothing was fetched, and the call can be made again.
     #[error("memory")]
     Memory = 42,
 }
@@ -148,7 +148,7 @@ pub enum CtlError {
 impl CtlError {
     ghost use Rattle.refusals.specs.CtlError.{refusal_number};
 
-    /// The number of the refusal, which programs print before its text.
+    /// The refusal's number, 41 or 42, which programs print before its text.
     pub fn number(&self) -> u8
         ensures { result ≡ refusal_number self.now }
     {
@@ -169,7 +169,7 @@ impl From<AllocError> for CtlError {
 /// Why a call on a driver was refused.
 #[derive(Clone, Copy, Debug, PartialEq, Eq, Error)]
 pub enum DriverError {
-    /// The queue was not seen enabled, or was seen disabled; or a disabling that is asked for was asked already.
+    /// The queue was not seen enabled, or was seen disabled; or the disabling was asked for before.
     #[error("queue off")]
     QueueOff = 51,
     /// The stash has no room for another buffer.
@@ -186,7 +186,7 @@ pub enum DriverError {
 impl DriverError {
     ghost use Rattle.refusals.specs.DriverError.{refusal_number};
 
-    /// The number of the refusal, which programs print before its text.
+    /// The refusal's number, from 51 to 54, which programs print before its text.
     pub fn number(&self) -> u8
         ensures { result ≡ refusal_number self.now }
     {
@@ -205,7 +205,7 @@ pub enum CounterError {
 impl CounterError {
     ghost use Rattle.refusals.specs.CounterError.{refusal_number};
 
-    /// The number of the refusal, which programs print before its text.
+    /// The refusal's number, 61, which programs print before its text.
     pub fn number(&self) -> u8
         ensures { result ≡ refusal_number self.now }
     {
@@ -231,13 +231,13 @@ pub enum ForwardError {
     /// Memory was refused.
     #[error("memory")]
     Memory = 61,
-    /// A gate answered false.
+    /// A gate returned `false`.
     #[error("gate")]
     Gate = 62,
-    /// A thread couldn't be started.
+    /// A thread could not be started.
     #[error("thread")]
     Thread = 63,
-    /// A limit of the configuration is broken, or the script names a queue that isn't there.
+    /// A limit of the configuration is broken, or the script names a queue that does not exist.
     #[error("config")]
     Config = 64,
 }
@@ -245,7 +245,7 @@ pub enum ForwardError {
 impl ForwardError {
     ghost use Rattle.refusals.specs.ForwardError.{refusal_number};
 
-    /// The number of the refusal, which programs print before its text.
+    /// The refusal's number, from 61 to 64, which programs print before its text.
     pub fn number(&self) -> u8
         ensures { result ≡ refusal_number self.now }
     {
@@ -263,7 +263,7 @@ impl From<AllocError> for ForwardError {
     }
 }
 
-/// The first fault of a script, at its line, which is counted from 1; or the lack of memory.
+/// The first fault of a script, with its line, counted from 1; or the lack of memory.
 #[derive(Clone, Copy, Debug, PartialEq, Eq, Error)]
 pub enum ScriptError {
     /// Neither three fields nor five with `fill` as the third, or an empty field.
@@ -275,15 +275,14 @@ pub enum ScriptError {
     /// The queue is not one digit from `0` to `7`.
     #[error("queue")]
     Queue { line: u64 },
-    /// The frame's bytes are no pairs of hex digits; or the length after `fill` is no decimal number
-    /// of 1 to 5 digits without leading zero, or its byte is not two hex digits.
+    /// The frame's bytes are no pairs of hex digits; or the length after `fill` is no decimal number of 1 to 5 digits
+    /// without leading zero, or its byte is not two hex digits.
     #[error("bytes")]
     Bytes { line: u64 },
-    /// The frame's length is outside [`LEAST_FRAME`](limits::LEAST_FRAME) to
-    /// [`MOST_FRAME`](limits::MOST_FRAME).
+    /// The frame's length is outside [`LEAST_FRAME`](limits::LEAST_FRAME) to [`MOST_FRAME`](limits::MOST_FRAME).
     #[error("frame length")]
     FrameLength { line: u64 },
-    /// The line says a frame after [`MOST_SCRIPT_FRAMES`](limits::MOST_SCRIPT_FRAMES) others.
+    /// The line has a frame after [`MOST_SCRIPT_FRAMES`](limits::MOST_SCRIPT_FRAMES) others.
     #[error("too many")]
     TooMany { line: u64 },
     /// Memory was refused.
@@ -309,7 +308,7 @@ impl ScriptError {
         }
     }
 
-    /// The line that is refused, counted from 1. Want of memory has none.
+    /// The refused line, counted from 1. A lack of memory has none.
     pub fn line(&self) -> Option<u64>
         ensures { result ≡ line_of self.now }
     {
@@ -325,14 +324,13 @@ impl ScriptError {
     }
 }
 
-/// The first fault of a capture, with the number of its record, which is counted from 1; or the lack
-/// of memory.
+/// The first fault of a capture, with the number of its record, counted from 1; or the lack of memory.
 #[derive(Clone, Copy, Debug, PartialEq, Eq, Error)]
 pub enum CaptureError {
     /// The first 24 bytes are no header of classic pcap, version 2.4. A pcapng file has none.
     #[error("not a capture in classic pcap (pcapng is not read)")]
     NotCapture,
-    /// What was captured is not Ethernet (link type 1, with no word on checksums).
+    /// The link type is not 1 (Ethernet, with no statement about checksums).
     #[error("link type")]
     LinkType,
     /// The capture ends within this record.
@@ -341,8 +339,7 @@ pub enum CaptureError {
     /// Fewer bytes of the frame were captured than it had on the wire.
     #[error("captured short")]
     CapturedShort { number: u64 },
-    /// The frame's length is outside [`LEAST_FRAME`](limits::LEAST_FRAME) to
-    /// [`MOST_FRAME`](limits::MOST_FRAME).
+    /// The frame's length is outside [`LEAST_FRAME`](limits::LEAST_FRAME) to [`MOST_FRAME`](limits::MOST_FRAME).
     #[error("frame length")]
     FrameLength { number: u64 },
     /// A record after [`MOST_SCRIPT_FRAMES`](limits::MOST_SCRIPT_FRAMES) others.
@@ -371,7 +368,7 @@ impl CaptureError {
         }
     }
 
-    /// The record that is refused, counted from 1. The header's faults and want of memory have none.
+    /// The refused record, counted from 1. A fault of the header and a lack of memory have none.
     pub fn record(&self) -> Option<u64>
         ensures { result ≡ record_of self.now }
     {

@@ -1,7 +1,8 @@
-//! Why the libraries refuse: each refusal of each library, with its number, its words, and the place of its fault where it has one.
+//! The refusals of all libraries, each with its number, its words, and the place of its fault if it has one. Depends on
+//! `thiserror` only. Guarantees each number.
 //!
-//! The libraries hand on their own: `buffer_pool::PoolError` is the one of here. `docs/REFUSALS.md` says who answers which, and what
-//! each leaves.
+//! Each library exports its own: `buffer_pool::PoolError` is the type of this crate. `docs/REFUSALS.md` lists which
+//! call returns which refusal, and the state that it leaves.
 #![tactic(auto)]
 
 mod errors;

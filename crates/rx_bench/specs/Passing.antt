@@ -1,4 +1,4 @@
--- What the driver's thread of a receive ring keeps while frames are passed, and what was passed at the end.
+-- The invariant of the driver's thread of a receive ring, and the frames that have passed at the end.
 use Rattle.std.specs.Prelude.{◌≡◌, ℕ, [], length, replicate}
 use Rattle.atomic_table.specs.Seated.{TableId}
 use Rattle.ring_model.specs.declared.states.DriverState.TheVariants.{On}
@@ -29,12 +29,13 @@ pub record CanTake (ring : TableId) (driver : DriverSide) : Type 0 where
   pub own : driver.table ≡ ring
   pub on : driver_state driver ≡ On
 
--- the driver took so many segments at the ring
+-- the driver took `count` segments at the ring
 pub record TookAll (ring : TableId) (count : ℕ) (driver : DriverSide) : Type 0 where
   pub own : driver.table ≡ ring
   pub count_is : length (taken driver) ≡ count
 
--- So many copies of the frame went through one ring: they are the frames that the driver took, and the ledger of the two ends is lawful
+-- `count` copies of the frame went through one ring: the driver took exactly these, and the ledger of the two ends is
+-- lawful
 pub record HasPassed (count : ℕ) (frame : Bytes) (driver : DriverSide) (controller : ControllerSide) : Type 0 where
   pub one_ring : controller.table ≡ driver.table
   pub lawful : IsLawfulRxLedger Bytes (driver_size driver) (ledger_of driver controller)

@@ -1,10 +1,10 @@
-//! The program `rx_bench`: what a frame costs through a receive ring that two threads share.
+//! The program `rx_bench`: the cost of a frame through a receive ring that two threads share.
 //!
-//! `storing` and `taking` are the threads of controller and driver, and `passing` makes the ring, runs both and takes the
-//! time.
+//! `storing` and `taking` are the threads of the controller and the driver. `passing` makes the ring, runs both and
+//! takes the time.
 //!
-//! What is printed was passed: at the end the two ends meet, and the driver's record has so many frames, each byte for
-//! byte the one that the controller was given.
+//! The frames that it counts did pass: at the end the two ends meet, and the driver's record has that many frames, each
+//! byte for byte the frame that the controller was given.
 #![tactic(auto)]
 
 mod passing;
@@ -17,7 +17,7 @@ use limits::MOST_RING;
 use passing::pass;
 use std::process::ExitCode;
 
-/// What is told in place of a run.
+/// The usage, printed when the command line is wrong.
 const USAGE: &str = "Usage: rx_bench --ring N --frames N --size N --batch N
 
 Passes frames through a receive ring with a thread at each end, and prints what one frame costs. The driver publishes the

@@ -1,4 +1,4 @@
-//! A receive ring is made, its two ends run in threads of their own, and the time is taken.
+//! Makes a receive ring, runs its two ends in threads of their own, and takes the time.
 ghost use Rattle.std.specs.Prelude.{◌≡◌, ◌≤◌, length, replicate, IfOk};
 ghost use Rattle.limits.specs.RingLength.{IsRingLength};
 ghost use Rattle.rx_ring.specs.Calls.{IsFreshDriver};
@@ -27,14 +27,14 @@ pub struct Ends {
     pub controller: RxControllerEnd,
 }
 
-/// A ring with a buffer at each place, and its ends.
+/// A ring with a buffer posted at each place, and its ends.
 #[derive(Drop)]
 struct Track {
     ring: RxRing,
     ends: Ends,
 }
 
-/// What a run passes: through which ring, the frame, and how often.
+/// A run: the ring, the frame, and the plan.
 #[derive(Clone, Copy)]
 struct Run<'a> {
     ring: &'a RxRing,
@@ -42,7 +42,7 @@ struct Run<'a> {
     plan: BatchPlan,
 }
 
-/// What both threads give back.
+/// The results of both threads.
 #[derive(Drop)]
 struct Passage {
     reception: Reception,
@@ -57,8 +57,8 @@ impl<'a> Promise<RxControllerEnd> for StoresOnly<'a> {
     ghost kept_by = { λ p controller. StoredOnly p.0.now p.1.now controller };
 }
 
-/// Passes the plan's frames through a ring, and answers how long that took, from the start of the controller's thread
-/// on. The driver runs in the thread of the caller.
+/// Passes the plan's frames through a ring. Returns the time from the start of the controller's thread. The driver runs
+/// in the caller's thread.
 pub fn pass<R: Threads + Wait + Clock + Sync>(
     rt: &R,
     alloc: Global,
@@ -78,7 +78,7 @@ pub fn pass<R: Threads + Wait + Clock + Sync>(
     passed
 }
 
-/// Makes a ring of so many descriptors, with a buffer posted at each place that there is room for.
+/// Makes a ring of `size` descriptors, with a buffer posted at each free place.
 fn supplied(alloc: Global, size: u32) -> Result<Track>
     ensures size { IfOk result (λ t. IsRingLength t.ring.slots) }
     ensures driver { IfOk result (λ t. CanAsk t.ring t.ends.driver) }
@@ -91,7 +91,7 @@ fn supplied(alloc: Global, size: u32) -> Result<Track>
     Ok(Track { ring, ends })
 }
 
-/// Passes the run's frames, and answers how long that took.
+/// Passes the run's frames, and returns the time.
 fn pass_run<R: Threads + Wait + Clock + Sync>(
     rt: &R,
     run: Run<'_>,
@@ -106,7 +106,7 @@ fn pass_run<R: Threads + Wait + Clock + Sync>(
     finish(run, passage, spent)
 }
 
-/// Lets the ends meet, and sees that what was taken is what was stored.
+/// Lets the ends meet, and checks that the frames taken are the frames stored.
 fn finish(run: Run<'_>, passage: Passage, spent: Duration) -> Result<Timed<Ends>>
     requires driver { TookAll run.ring.now run.plan.load.frames passage.reception.driver }
     requires controller { StoredOnly run.ring.now run.frame.now passage.controller }
@@ -118,7 +118,7 @@ fn finish(run: Run<'_>, passage: Passage, spent: Duration) -> Result<Timed<Ends>
     Ok(Timed { done, spent })
 }
 
-/// Sees that what the driver read in the frames is what was in them.
+/// Checks that the driver read the bytes of the frames.
 fn see_all_taken(run: Run<'_>, tally: Tally) -> Result<()> {
     ensure!(
         tally == Tally::of(run.frame, run.plan.load.frames),
@@ -142,7 +142,7 @@ fn meet(run: Run<'_>, passage: Passage) -> Ends
     Ends { driver, controller }
 }
 
-/// Runs both ends, the controller's in a thread of its own, and joins it.
+/// Runs both ends, the controller's in its own thread, and joins it.
 fn in_threads<R: Threads + Wait + Sync>(rt: &R, run: Run<'_>, ends: Ends) -> Result<Passage>
     requires { CanPass run.ring.now run.frame.now ends.driver ends.controller }
     ensures driver { IfOk result (λ p. TookAll run.entry.ring.now run.entry.plan.load.frames p.reception.driver) }
@@ -176,7 +176,7 @@ fn in_threads<R: Threads + Wait + Sync>(rt: &R, run: Run<'_>, ends: Ends) -> Res
     )
 }
 
-/// Posts a buffer of the stock at each place that there is room for, and publishes them.
+/// Posts a buffer of the stock at each free place, and publishes them.
 fn post_all(ring: &RxRing, driver: &mut RxDriverEnd, stock: &mut Stock)
     requires own { driver.old.table ≡ ring.now }
     requires fresh { IsFreshDriver driver.old }

@@ -9,8 +9,8 @@ use bench_kit::{Patience, answer_enabling, store};
 use rx_ring::{ControllerEnd, RxControllerEnd, RxRing};
 use std::sync::Wait;
 
-/// Answers the enabling, and stores the frame so many times, each as soon as a descriptor is free. It looks at the tail
-/// only where it knows of no free descriptor.
+/// Answers the enabling, and stores the frame `frames` times, each as soon as a descriptor is free. Loads the tail only
+/// when it knows of no free descriptor.
 pub fn store_all<R: Wait>(
     rt: &R,
     ring: &RxRing,

@@ -7,15 +7,15 @@ use bench_kit::{Patience, Tally, await_enabling};
 use rx_ring::{DriverEnd, Poll, RxDriverEnd, RxRing};
 use std::sync::Wait;
 
-/// What the driver's thread gives back.
+/// The result of the driver's thread.
 #[derive(Drop)]
 pub struct Reception {
     pub driver: RxDriverEnd,
     pub tally: Tally,
 }
 
-/// Has the queue enabled, takes so many frames and posts each buffer again. What is posted is published once a batch,
-/// and where nothing more is done.
+/// Enables the queue, takes `frames` frames and posts each buffer again. Publishes the postings once a batch, and when
+/// no more frames are done.
 pub fn take_all<R: Wait>(
     rt: &R,
     ring: &RxRing,
@@ -46,7 +46,7 @@ pub fn take_all<R: Wait>(
     unreachable!()
 }
 
-/// Takes up to `most` frames that are done, posts their buffers again, and answers how many there were.
+/// Takes up to `most` frames that are done, and posts their buffers again. Returns how many.
 #[inline]
 fn take_batch(ring: &RxRing, driver: &mut RxDriverEnd, most: u32, tally: &mut Tally) -> u32
     requires can { CanTake ring.now driver.old }

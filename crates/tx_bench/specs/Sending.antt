@@ -1,4 +1,4 @@
--- What the driver's thread of a transmit ring keeps while frames are sent, and what was sent at the end.
+-- The invariant of the driver's thread of a transmit ring, and the frames that were sent at the end.
 use Rattle.std.specs.Prelude.{◌≡◌, ℕ, ◌+◌, ◌%◌, ◌<◌, ◌≤◌, ◌||◌, ◌==◌, Bool, false, List, [], length, map, drop, replicate, Some, slice_get}
 use Rattle.atomic_table.specs.Seated.{TableId}
 use Rattle.buffer_pool.specs.Stocked.{Stocked, Shares}
@@ -14,11 +14,11 @@ use Rattle.bench_kit.specs.Copies.{AllWhole, IsFrameLength}
 use Rattle.bench_kit.specs.Enabling.{CanServe}
 use Rattle.tx_bench.specs.declared.words.TxPlan.{TxPlan}
 
--- whether a report is asked for with the frame that so many go before: with each one of the number planned, and with the last
+-- whether the frame after `before` others asks for a report: each `report`th does, and the last
 abbrev pub asks_after : TxPlan → ℕ → Bool
 asks_after plan before = ((before + 1) % plan.report == 0) || (before + 1 == plan.load.frames)
 
--- a report is asked for where the plan has it, and nowhere else
+-- the frames that ask for a report are those of the plan
 abbrev pub AskAs : TxPlan → List Posting → Type 0
 AskAs plan ps = (k : ℕ) (p : Posting) → slice_get ps k ≡ Some p → p.rs ≡ asks_after plan k
 
@@ -27,7 +27,7 @@ pub record Progress : Type 0 where
   pub plan : TxPlan
   pub posted : ℕ
 
--- so many frames are posted, and the next report is asked for after `until` more
+-- `posted` frames are posted, and the last of `until` more asks for the next report
 pub record IsCourse (plan : TxPlan) (posted until : ℕ) : Type 0 where
   pub some : 0 < plan.report
   pub few : posted ≤ plan.load.frames
@@ -48,7 +48,7 @@ pub record CanSend (ring : TableId) (plan : TxPlan) (frame : Bytes) (driver : Dr
   pub fits : IsFrameLength (length frame)
   pub some : 0 < plan.report
 
--- all that was posted are copies of the frame, with reports as planned, and none was reclaimed
+-- all postings are copies of the frame, with reports as planned, and none was reclaimed
 pub record HasPosted (plan : TxPlan) (frame : Bytes) (did : TxDriven) : Type 0 where
   pub on : did.state ≡ On
   pub copies : AllWhole carried frame did.posted
@@ -61,13 +61,13 @@ pub record CanPost (ring : TableId) (plan : TxPlan) (frame : Bytes) (driver : Dr
   pub reports : driver.completion ≡ plan.completion
   pub did : HasPosted plan frame (driver_record driver)
 
--- the stock has all its buffers but those that are posted and not cleaned, and at least as many as the ring of n places
+-- the stock has all its buffers but those that are posted and not cleaned, at least one for each of the ring's n places
 pub record Supplies (stock : Stocked) (n : ℕ) (did : TxDriven) : Type 0 where
   pub few : length did.given ≤ length did.posted
   pub shares : Shares stock (map number_of_posting (drop (length did.given) did.posted))
   pub enough : n + length did.given ≤ length stock.numbers + length did.posted
 
--- the driver posts the frame at the ring, in buffers of the stock, and has come as far as the course
+-- the driver posts the frame at the ring, in buffers of the stock, as far as the course
 pub record IsUnderWay (ring : TableId) (frame : Bytes) (driver : DriverSide) (stock : Stocked) (course : Progress) : Type 0 where
   pub can : CanPost ring course.plan frame driver
   pub supplies : Supplies stock (driver_size driver) (driver_record driver)
@@ -85,7 +85,8 @@ pub record PostedAll (ring : TableId) (plan : TxPlan) (frame : Bytes) (driver : 
   pub count_is : length (posted driver) ≡ plan.load.frames
   pub all_cleaned : length (posted driver) ≡ length (cleaned driver)
 
--- So many copies of the frame went through one ring that reports as planned. What the controller sent is what the driver posted, with each report asked for where it was to be, and none owed; and all of it is cleaned, in order
+-- All copies of the frame went through one ring that reports as planned. The controller sent what the driver posted,
+-- with each report asked for as planned, and owes none; all of it is cleaned, in order
 pub record HasSent (plan : TxPlan) (frame : Bytes) (driver : DriverSide) (controller : ControllerSide) : Type 0 where
   pub one_ring : controller.table ≡ driver.table
   pub one_way : (driver.completion ≡ plan.completion) × (controller.completion ≡ plan.completion)

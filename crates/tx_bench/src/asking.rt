@@ -1,16 +1,16 @@
-//! Which frames are still to be posted, and with which a report is asked for.
+//! The frames that are still to be posted, and the frames that ask for a report.
 ghost use Rattle.std.specs.Prelude.{◌≡◌, ◌+◌, ◌<◌};
 ghost use Rattle.tx_bench.specs.Sending.{asks_after};
 
 use crate::words::TxPlan;
 use std::marker::Model;
 
-/// Goes over the frames of a plan.
+/// An iteration over the frames of a plan.
 #[derive(Drop)]
 pub struct Course {
     plan: TxPlan,
     posted: u32,
-    // a report is asked for with the last of so many more
+    // the last of this many more frames asks for a report
     until: u32,
 }
 
@@ -44,7 +44,7 @@ impl Course {
         self.plan.load.frames - self.posted
     }
 
-    /// Goes on to the next frame, and answers whether a report is asked for with it.
+    /// Advances to the next frame. Returns whether it asks for a report.
     #[inline]
     pub fn next(&mut self) -> bool
         requires { self.old.posted < self.old.plan.load.frames }

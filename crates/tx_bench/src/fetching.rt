@@ -6,15 +6,15 @@ use bench_kit::{Patience, Tally, answer_enabling, send};
 use std::sync::Wait;
 use tx_ring::{ControllerEnd, TxControllerEnd, TxRing};
 
-/// What the controller's thread gives back, with what it read in the frames that it sent.
+/// The result of the controller's thread, with a tally of the frames that it sent.
 #[derive(Drop)]
 pub struct Transmission {
     pub controller: TxControllerEnd,
     pub tally: Tally,
 }
 
-/// Answers the enabling, and sends so many frames, each as soon as it is ready. It looks at the tail only where it knows
-/// of none that is ready.
+/// Answers the enabling, and sends `frames` frames, each as soon as it is ready. Loads the tail only when it knows of
+/// none that is ready.
 pub fn send_all<R: Wait>(
     rt: &R,
     ring: &TxRing,

@@ -1,10 +1,10 @@
-//! The program `tx_bench`: what a frame costs through a transmit ring that two threads share.
+//! The program `tx_bench`: the cost of a frame through a transmit ring that two threads share.
 //!
-//! `words` reads the command line. `posting` is the driver's thread, with `asking` for the reports, `fetching` the
-//! controller's, and `sending` makes the ring, runs both and takes the time.
+//! `words` parses the command line. `posting` is the driver's thread, with `asking` for the reports. `fetching` is the
+//! controller's thread. `sending` makes the ring, runs both and takes the time.
 //!
-//! What is printed was passed: at the end the two ends meet, and the controller's record has so many frames, each byte
-//! for byte the one that the driver was given; and all that was posted is cleaned.
+//! The frames that it counts did pass: at the end the two ends meet, and the controller's record has that many frames,
+//! each byte for byte the frame that the driver was given. All that was posted is cleaned.
 #![tactic(auto)]
 
 mod asking;

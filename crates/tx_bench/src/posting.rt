@@ -12,15 +12,15 @@ use buffer_pool::Stock;
 use std::sync::Wait;
 use tx_ring::{DriverEnd, TxDriverEnd, TxRing};
 
-/// What the driver's thread gives back: all buffers are in the stock again.
+/// The result of the driver's thread. All buffers are in the stock again.
 #[derive(Drop)]
 pub struct Posted {
     pub driver: TxDriverEnd,
     pub stock: Stock,
 }
 
-/// Has the queue enabled, posts the frames of the plan as there is room for them, and cleans up after what is reported,
-/// until all is cleaned.
+/// Enables the queue, posts the frames of the plan while there is room, and cleans the reported ones, until all are
+/// cleaned.
 pub fn post_all<R: Wait>(
     rt: &R,
     ring: &TxRing,
@@ -54,7 +54,7 @@ pub fn post_all<R: Wait>(
     unreachable!()
 }
 
-/// Posts the frame as often as there is room for it, each time in a buffer of the stock, and publishes these postings.
+/// Posts the frame as often as there is room, each time in a buffer of the stock, and publishes these postings.
 #[inline]
 fn post_more(
     ring: &TxRing,
@@ -84,7 +84,8 @@ fn post_more(
     driver.publish(ring);
 }
 
-/// Looks for the oldest report that is outstanding, and answers whether it is made: then takes back all that it covers.
+/// Looks for the oldest outstanding report. If it is made, takes back all buffers that it covers. Returns whether it is
+/// made.
 #[inline]
 fn clean(ring: &TxRing, driver: &mut TxDriverEnd, stock: &mut Stock) -> bool
     requires own { driver.old.table ≡ ring.now }

@@ -1,4 +1,4 @@
-//! A transmit ring is made, its two ends run in threads of their own, and the time is taken.
+//! Makes a transmit ring, runs its two ends in threads of their own, and takes the time.
 ghost use Rattle.std.specs.Prelude.{◌≡◌, ◌≤◌, [], length, replicate, IfOk};
 ghost use Rattle.buffer_pool.specs.Stocked.{Shares};
 ghost use Rattle.bench_kit.specs.Enabling.{CanServe};
@@ -34,14 +34,14 @@ struct Sides {
     stock: Stock,
 }
 
-/// A ring, and what its threads begin with.
+/// A ring, and the ends and buffers with which its threads begin.
 #[derive(Drop)]
 struct Track {
     ring: TxRing,
     sides: Sides,
 }
 
-/// What a run sends: through which ring, the frame, and by which plan.
+/// A run: the ring, the frame, and the plan.
 #[derive(Clone, Copy)]
 struct Run<'a> {
     ring: &'a TxRing,
@@ -49,14 +49,14 @@ struct Run<'a> {
     plan: TxPlan,
 }
 
-/// What both threads give back.
+/// The results of both threads.
 #[derive(Drop)]
 struct Dispatch {
     posted: Posted,
     sent: Transmission,
 }
 
-/// The controller serves this ring, in this way, and made all reports that it owed.
+/// The controller serves this ring and reports in this way, and owes no report.
 #[derive(Clone, Copy)]
 struct Serves<'a>(&'a TxRing, Completion);
 
@@ -64,8 +64,8 @@ impl<'a> Promise<Transmission> for Serves<'a> {
     ghost kept_by = { λ p done. HasServed p.0.now p.1 done.controller };
 }
 
-/// Sends the plan's frames through a ring, and answers how long that took, from the start of the controller's thread on.
-/// The driver runs in the thread of the caller.
+/// Sends the plan's frames through a ring. Returns the time from the start of the controller's thread. The driver runs
+/// in the caller's thread.
 pub fn send_frames<R: Threads + Wait + Clock + Sync>(
     rt: &R,
     alloc: Global,
@@ -101,7 +101,7 @@ fn supplied(alloc: Global, plan: TxPlan) -> Result<Track>
     Ok(Track { ring, sides })
 }
 
-/// Sends the run's frames, and answers how long that took.
+/// Sends the run's frames, and returns the time.
 fn send_run<R: Threads + Wait + Clock + Sync>(
     rt: &R,
     run: Run<'_>,
@@ -116,7 +116,7 @@ fn send_run<R: Threads + Wait + Clock + Sync>(
     finish(run, dispatch, spent)
 }
 
-/// Lets the ends meet, and sees that what was sent is what was posted.
+/// Lets the ends meet, and checks that the frames sent are the frames posted.
 fn finish(run: Run<'_>, dispatch: Dispatch, spent: Duration) -> Result<Timed<Ends>>
     requires driver { PostedAll run.ring.now run.plan run.frame.now dispatch.posted.driver }
     requires controller { HasServed run.ring.now run.plan.completion dispatch.sent.controller }
@@ -128,7 +128,7 @@ fn finish(run: Run<'_>, dispatch: Dispatch, spent: Duration) -> Result<Timed<End
     Ok(Timed { done, spent })
 }
 
-/// Sees that what the controller read in the frames is what was in them.
+/// Checks that the controller read the bytes of the frames.
 fn see_all_sent(run: Run<'_>, tally: Tally) -> Result<()> {
     ensure!(
         tally == Tally::of(run.frame, run.plan.load.frames),
@@ -149,7 +149,7 @@ fn meet(run: Run<'_>, dispatch: Dispatch) -> Ends
     Ends { driver, controller }
 }
 
-/// Runs both ends, the controller's in a thread of its own, and joins it.
+/// Runs both ends, the controller's in its own thread, and joins it.
 fn in_threads<R: Threads + Wait + Sync>(rt: &R, run: Run<'_>, sides: Sides) -> Result<Dispatch>
     requires { CanSend run.ring.now run.plan run.frame.now sides.ends.driver sides.ends.controller sides.stock }
     ensures driver { IfOk result (λ d. PostedAll run.entry.ring.now run.entry.plan run.entry.frame.now d.posted.driver) }

@@ -7,12 +7,12 @@ use ring_model::Completion;
 #[derive(Clone, Copy)]
 pub struct TxPlan {
     pub load: Load,
-    /// A report is asked for by each frame of this number, and by the last.
+    /// Each frame of this number asks for a report, and so does the last frame.
     pub report: u32,
     pub completion: Completion,
 }
 
-/// What is told in place of a run.
+/// The usage, printed when the command line is wrong.
 pub const USAGE: &str =
     "Usage: tx_bench --ring N --frames N --size N --report N --completion status|head
 
@@ -27,7 +27,7 @@ Passes frames through a transmit ring with a thread at each end, and prints what
 Example:
   tx_bench --ring 512 --frames 1000000 --size 60 --report 32 --completion status";
 
-/// Reads the words after the program's name: each option once with its value.
+/// Parses the words after the program's name: each option once with its value.
 pub fn plan_of(options: &[String]) -> Option<TxPlan> {
     let load = load_of(options, 10)?;
     Some(TxPlan {

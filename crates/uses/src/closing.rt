@@ -1,4 +1,4 @@
-//! A ring that is closed with buffers in it, each of which goes back to its stock.
+//! Closing a ring with buffers in it, all of which return to their stock.
 ghost use Rattle.std.specs.Prelude.{◌≡◌, [], None, IfOk};
 ghost use Rattle.buffer_pool.specs.Stocked.{Shares};
 ghost use Rattle.limits.specs.RingLength.{IsRingLength};
@@ -11,7 +11,7 @@ use buffer_pool::Stock;
 use rx_ring::{RxControllerEnd, RxDriverEnd, RxRing, close};
 use std::alloc::Global;
 
-/// Posts a buffer of a stock of 16 into a ring of 8, closes the ring, and answers the stock, which has all of its
+/// Posts a buffer of a stock of 16 into a ring of 8 and closes the ring. Returns the stock, which has all of its
 /// buffers again.
 pub fn closed(alloc: Global) -> Result<Stock>
     ensures { IfOk result (λ stock. Shares stock []) }
@@ -37,7 +37,7 @@ fn post_one(ring: &RxRing, driver: &mut RxDriverEnd, stock: &mut Stock)
     }
 }
 
-/// Closes a ring whose controller holds no buffer, and gives each buffer that is out back to the stock.
+/// Closes a ring whose controller holds no buffer, and returns each buffer in it to the stock.
 fn give_back(ring: RxRing, driver: RxDriverEnd, controller: RxControllerEnd, stock: &mut Stock)
     requires driver { driver.table ≡ ring }
     requires controller { controller.table ≡ ring }

@@ -1,4 +1,4 @@
-//! A device on one thread: the controllers of a receive queue and of a transmit queue, served by turns.
+//! A device on one thread: the controllers of a receive queue and of a transmit queue take turns.
 ghost use Rattle.std.specs.Prelude.{◌≡◌};
 ghost use Rattle.ring_model.specs.shared.Frames.{frames};
 ghost use Rattle.ring_model.specs.shared.Segments.{piece_of};
@@ -18,7 +18,7 @@ use tx_ring::TxRing;
 /// A frame that comes in.
 pub type Frame = [u8; 60];
 
-/// A receive queue's controller, and the frames that it stored in this epoch: those that were answered `Stored`.
+/// A receive queue's controller, and the frames of this epoch whose offer returned `Stored`.
 #[derive(Drop)]
 pub struct Incoming {
     controller: RxController,
@@ -27,7 +27,8 @@ pub struct Incoming {
 }
 
 impl Incoming {
-    /// Answers what the driver asks. With an answered enabling an epoch begins, in which nothing is stored yet.
+    /// Answers the driver's requests. When the controller answers an enabling, a new epoch begins and the list is
+    /// cleared.
     fn answer(&mut self, ring: &RxRing)
         requires own { self.old.controller.end.table ≡ ring.now }
         ensures own { self.new.controller.end.table ≡ ring.now }
@@ -39,7 +40,7 @@ impl Incoming {
         }
     }
 
-    /// Offers a frame that came in, and answers whether it is to be offered again.
+    /// Offers a frame that came in. Returns whether to offer it again.
     fn offer(&mut self, ring: &RxRing, frame: &Frame) -> Result<bool, CtlError>
         requires own { self.old.controller.end.table ≡ ring.now }
         ensures own { self.new.controller.end.table ≡ ring.now }
@@ -63,7 +64,7 @@ pub struct Outgoing {
 }
 
 impl Outgoing {
-    /// Answers what the driver asks. With an answered enabling an epoch begins, in which nothing is sent yet.
+    /// Answers the driver's requests. When the controller answers an enabling, a new epoch begins with an empty wire.
     fn answer(&mut self, ring: &TxRing)
         requires own { self.old.controller.table ≡ ring.now }
         ensures own { self.new.controller.table ≡ ring.now }
@@ -85,9 +86,9 @@ impl Outgoing {
     }
 }
 
-/// Serves both queues by turns, and answers how many of these frames were offered and are not to be offered again. What
-/// the receive queue has of this epoch are the frames that were answered `Stored`, and the wire what the transmit queue
-/// sent in it.
+/// Serves both queues in turn. Returns how many of these frames were offered and need not be offered again. The receive
+/// queue's frames of this epoch are those whose offer returned `Stored`. The wire has the frames that the transmit
+/// queue sent in its epoch.
 pub fn serve(
     from: &RxRing,
     incoming: &mut Incoming,
@@ -123,7 +124,7 @@ struct Receiving {
     ghost own: { device.controller.end.table ≡ ring },
 }
 
-/// A new one, with a buffer of the stock.
+/// Makes a receive queue, with a buffer of the stock.
 fn begin_receiving(alloc: Global, stock: &mut Stock) -> Result<Receiving> {
     let (ring, mut driver, controller) = RxRing::new(alloc, 8)?;
     if let Some(buf) = stock.take() {
@@ -146,7 +147,7 @@ struct Sending {
     ghost own: { device.controller.table ≡ ring },
 }
 
-/// A new one, with a buffer of the stock.
+/// Makes a transmit queue, with a buffer of the stock.
 fn begin_sending(alloc: Global, stock: &mut Stock, frame: &Frame) -> Result<Sending> {
     let (ring, mut driver, controller) = TxRing::new(alloc, 8)?;
     if let Some(mut buf) = stock.take() {
@@ -163,7 +164,8 @@ fn begin_sending(alloc: Global, stock: &mut Stock, frame: &Frame) -> Result<Send
     Ok(Sending { ring, device })
 }
 
-/// Has two frames come in where one buffer is posted, and one frame go out: how many were stored, and how many went out.
+/// Offers two frames to a queue with one buffer posted, and sends one frame. Returns how many were stored, and how many
+/// sent.
 pub fn served(alloc: Global, frame: &Frame) -> Result<(usize, usize)> {
     let mut stock = Stock::new(alloc, 0, 16)?;
     let receiving = begin_receiving(alloc, &mut stock);
@@ -175,7 +177,8 @@ pub fn served(alloc: Global, frame: &Frame) -> Result<(usize, usize)> {
     Ok(counts?)
 }
 
-/// Serves both queues twice while this frame comes in, and again: how many were stored, and how many went out.
+/// Serves both queues in two turns, while this frame comes in twice. Returns how many frames were stored, and how many
+/// sent.
 fn serve_twice(
     receiving: &mut Receiving,
     sending: &mut Sending,

@@ -1,4 +1,4 @@
-//! A forwarder of one's own, on one thread: a driver's turn is `drive`, and a gate counts the turns.
+//! A custom forwarder on one thread. A driver's turn is `drive`, and a gate counts the batches of the turns.
 ghost use Rattle.std.specs.Prelude.{All};
 ghost use Rattle.driver.specs.receive.Chains.{IsTaken};
 
@@ -52,7 +52,7 @@ pub struct Flow {
 }
 
 impl Flow {
-    /// Nothing waits yet.
+    /// Makes two ports, without a waiting packet.
     pub fn new(alloc: Global) -> Result<Flow> {
         Ok(Flow {
             ports: Ports::new(alloc)?,
@@ -60,7 +60,8 @@ impl Flow {
         })
     }
 
-    /// The drivers' turn: what came in is touched and sent on. Nothing is done before both queues are enabled.
+    /// Makes the drivers' turn: touches the packets that came in and sends them on. Does nothing until both queues are
+    /// enabled.
     pub fn turn<G: Gate>(&mut self, gate: &G) -> Result<Turned, ForwardError> {
         if !self.ports.rx.is_live() || !self.ports.tx.is_live() {
             return Ok(Turned {
@@ -81,7 +82,7 @@ impl Flow {
     }
 }
 
-/// Has a frame come in ten times, and answers how many frames went out.
+/// Lets a frame come in ten times. Returns how many frames went out.
 pub fn forwarded<G: Gate>(alloc: Global, frame: &[u8], gate: &G) -> Result<usize> {
     let mut flow = Flow::new(alloc)?;
     let went = forward_ten(&mut flow, frame, gate);
@@ -91,7 +92,7 @@ pub fn forwarded<G: Gate>(alloc: Global, frame: &[u8], gate: &G) -> Result<usize
     Ok(count)
 }
 
-/// Has a frame come in ten times.
+/// Lets a frame come in ten times.
 fn forward_ten<G: Gate>(flow: &mut Flow, frame: &[u8], gate: &G) -> Result<()> {
     for _ in 0..2 {
         flow.ports.enable()?; // asked, and then seen

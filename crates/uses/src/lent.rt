@@ -1,4 +1,4 @@
-//! A worker that forwards with buffers of a pool: they go round in both of its rings, and all of them come back.
+//! A worker that forwards in buffers of a pool: they circulate in both of its rings, and all of them return.
 ghost use Rattle.std.specs.Prelude.{◌≡◌, true, [], All};
 ghost use Rattle.buffer_pool.specs.Packed.{IsPacket};
 ghost use Rattle.ring_model.specs.shared.Handshakes.{is_stopped};
@@ -23,11 +23,11 @@ use std::alloc::Global;
 use std::sync::Wait;
 use tx_ring::TxRing;
 
-/// How many buffers a turn takes from the pool at most.
+/// The most buffers that a turn takes from the pool.
 const REFILL: usize = 32;
 
-/// A driver of either direction, and the buffers of a pool that go round between them: what the pass holds is just what the
-/// stash, both rings, the frame that has not ended and the packets that wait have.
+/// A driver of either direction, and the buffers of a pool that circulate between them. The pass holds exactly the
+/// buffers of the stash, of both rings, of the unfinished frame and of the waiting packets.
 #[derive(Drop)]
 pub struct Worker<'a> {
     pool: &'a Pool,
@@ -46,7 +46,7 @@ pub struct Worker<'a> {
 }
 
 impl<'a> Worker<'a> {
-    /// One turn: the stash is refilled, what came in is received, and what waits is sent on.
+    /// Makes one turn: refills the stash, receives what came in, and sends what waits.
     pub fn turn<R: Wait>(&mut self, rt: &R) -> Result<usize, DriverError> {
         self.pool
             .refill(rt, &mut self.pass, &mut self.stash, REFILL);
@@ -60,18 +60,18 @@ impl<'a> Worker<'a> {
         )
     }
 
-    /// Asks for the receive queue to be enabled; called again, sees that it is.
+    /// Asks for the receive queue to be enabled. A later call sees the answer.
     pub fn enable_receive(&mut self) -> Result<bool, DriverError> {
         self.rx.enable(self.from)
     }
 
-    /// The same for the transmit queue.
+    /// Asks for the transmit queue to be enabled. A later call sees the answer.
     pub fn enable_send(&mut self) -> Result<bool, DriverError> {
         self.tx.enable(self.to)
     }
 
-    /// Asks for both queues to be disabled, where they are enabled; called again, sees that they are. It answers whether
-    /// both were seen disabled.
+    /// Asks for both queues to be disabled, if they are enabled. A later call sees the answers. Returns whether both
+    /// were seen disabled.
     pub fn disable(&mut self) -> bool
         ensures received { result ≡ true → is_stopped (receive.driver_state self.new.rx.end) ≡ true }
         ensures sent { result ≡ true → is_stopped (transmit.driver_state self.new.tx.end) ≡ true }
@@ -87,7 +87,7 @@ impl<'a> Worker<'a> {
         self.rx.is_stopped() && self.tx.is_stopped()
     }
 
-    /// Both queues were seen disabled: all buffers go back to the pool, and the pass holds none.
+    /// Returns all buffers to the pool once both queues were seen disabled. The pass then holds none.
     pub fn give_back<R: Wait>(self, rt: &R) -> PoolPass
         requires received { is_stopped (receive.driver_state self.rx.end) ≡ true }
         requires sent { is_stopped (transmit.driver_state self.tx.end) ≡ true }
@@ -125,13 +125,13 @@ struct Device<'a> {
 }
 
 impl<'a> Device<'a> {
-    /// Answers what the drivers ask.
+    /// Answers the drivers' requests.
     fn answer(&mut self) {
         self.port_in.turn_control(self.from);
         self.port_out.turn_control(self.to);
     }
 
-    /// A frame comes in, and one may go out.
+    /// Lets a frame come in, and sends one if one is ready.
     fn turn(&mut self, frame: &[u8]) -> Result<(), CtlError> {
         self.port_in.offer(self.from, frame)?;
         self.port_out.turn(self.to, &mut self.wire)?;
@@ -139,7 +139,7 @@ impl<'a> Device<'a> {
     }
 }
 
-/// Has a frame come in ten times.
+/// Lets a frame come in ten times.
 fn forward_ten<R: Wait>(
     rt: &R,
     worker: &mut Worker<'_>,
@@ -156,7 +156,7 @@ fn forward_ten<R: Wait>(
     Ok(())
 }
 
-/// The worker asks for both queues to be enabled, and the device answers.
+/// Asks for both queues to be enabled, and lets the device answer.
 fn begin(worker: &mut Worker<'_>, device: &mut Device<'_>) -> Result<(), DriverError> {
     worker.enable_receive()?;
     worker.enable_send()?;
@@ -164,7 +164,7 @@ fn begin(worker: &mut Worker<'_>, device: &mut Device<'_>) -> Result<(), DriverE
     Ok(())
 }
 
-/// Whether both queues were seen disabled.
+/// Disables both queues. Returns whether both were seen disabled.
 fn stop(worker: &mut Worker<'_>, device: &mut Device<'_>) -> bool
     ensures received { result ≡ true → is_stopped (receive.driver_state worker.new.rx.end) ≡ true }
     ensures sent { result ≡ true → is_stopped (transmit.driver_state worker.new.tx.end) ≡ true }
@@ -174,7 +174,7 @@ fn stop(worker: &mut Worker<'_>, device: &mut Device<'_>) -> bool
     worker.disable() // and then seen
 }
 
-/// Has a frame come in ten times to a worker with buffers of the pool, and answers how many frames went out. The worker's
+/// Lets a frame come in ten times to a worker with buffers of the pool. Returns how many frames went out. The worker's
 /// pass has no buffer before and after.
 pub fn lent_and_returned<R: Wait>(
     rt: &R,
@@ -211,7 +211,7 @@ pub fn lent_and_returned<R: Wait>(
     count
 }
 
-/// The same of a worker and a device that are made.
+/// Does the same with a given worker and device.
 fn forwarded<R: Wait>(
     rt: &R,
     mut worker: Worker<'_>,
@@ -223,7 +223,7 @@ fn forwarded<R: Wait>(
     Ok(returned(rt, worker, device))
 }
 
-/// Has both queues disabled, and the worker's buffers go back, and answers how many frames went out.
+/// Disables both queues and returns the worker's buffers to the pool. Returns how many frames went out.
 fn returned<R: Wait>(rt: &R, mut worker: Worker<'_>, mut device: Device<'_>) -> usize {
     let stopped = stop(&mut worker, &mut device);
     let count = device.wire.len();

@@ -1,4 +1,4 @@
-//! The program `uses`: the README's examples of library use. The gate proves it and runs it.
+//! The program `uses`: the library examples that the README and docs/GUIDE.md quote. The gate proves it and runs it.
 #![tactic(auto)]
 
 mod closing;
@@ -35,31 +35,31 @@ use worker::work;
 
 const MOVES: [&str; 3] = ["r0 A1 5", "r0 A2", "r0 A6"];
 
-/// Has a worker of a pool of 64 buffers take four batches and give them back.
+/// Lets a worker of a pool of 64 buffers take four batches and give them back.
 fn given<R: Wait>(rt: &R, alloc: Global, frame: &Frame) -> Result<usize> {
     let (pool, mut pass) = Pool::new(rt, alloc, 64)?;
     Ok(work(rt, &pool, &mut pass, frame, 4))
 }
 
-/// Has a worker forward in buffers of a pool of 64.
+/// Lets a worker forward in buffers of a pool of 64.
 fn lent_out<R: Wait>(rt: &R, alloc: Global, frame: &Frame) -> Result<usize> {
     let (pool, pass) = Pool::new(rt, alloc, 64)?;
     lent_and_returned(rt, alloc, &pool, pass, frame)
 }
 
-/// How many buffers a stock has again.
+/// How many buffers a stock has after its ring is closed.
 fn back(alloc: Global) -> Result<usize> {
     Ok(closed(alloc)?.len())
 }
 
-/// Tells what goes through one ring between two threads.
+/// Prints how many frames go through one ring between two threads.
 fn tell_threads<R: Threads + Wait + Sync + Print>(rt: &R, alloc: Global) -> Result<()> {
     let taken = pass(rt, alloc, &FRAME, FRAMES)?;
     println!(rt; "{taken} frames of {} bytes were taken", FRAME.len())?;
     Ok(())
 }
 
-/// Tells how often a forwarder of one's own passed its gate.
+/// Prints how many frames a custom forwarder sent, and in how many turns.
 fn tell_gated<R: Print>(rt: &R, alloc: Global, frame: &Frame) -> Result<()> {
     let gate = Batches::new();
     let count = gated::forwarded(alloc, frame, &gate)?;
@@ -67,7 +67,7 @@ fn tell_gated<R: Print>(rt: &R, alloc: Global, frame: &Frame) -> Result<()> {
     Ok(())
 }
 
-/// Tells what a watcher saw of a forwarder meanwhile.
+/// Prints the numbers that a watcher saw while a forwarder ran.
 fn tell_watched<R: Threads + Wait + Sync + Print>(rt: &R, alloc: Global) -> Result<()> {
     let seen = watched(rt, alloc, b"0 0 fill 60 01\n0 0 fill 60 02\n", 2)?;
     println!(rt;

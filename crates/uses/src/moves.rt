@@ -1,10 +1,10 @@
-//! Moves on the pure machine, told one by one.
+//! Moves on the pure machine, one by one.
 
 use anyhow::Result;
 use ring_machine::{Move, Queues};
 use std::alloc::Global;
 
-/// What each of these lines tells on one pair of rings of 8 that begin enabled.
+/// Returns the output of each of these lines, on one pair of rings of 8 that begin enabled.
 pub fn told(alloc: Global, lines: &[&str]) -> Result<String> {
     let mut queues = Queues::new(alloc, 1, 8, true)?;
     let mut page = String::new(alloc);
@@ -17,7 +17,7 @@ pub fn told(alloc: Global, lines: &[&str]) -> Result<String> {
     Ok(page)
 }
 
-/// Makes a move, and writes what it tells.
+/// Makes a move, and writes its note or its refusal.
 fn tell(page: &mut String, queues: &mut Queues, action: &Move) -> Result<()> {
     let told = queues.step(*action);
     let name = action.name();

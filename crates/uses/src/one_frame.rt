@@ -8,7 +8,7 @@ use buffer_pool::{Buf, Stock};
 use rx_ring::{ControllerEnd, DriverEnd, Poll, RxControllerEnd, RxDriverEnd, RxRing, meet_rx};
 use std::alloc::Global;
 
-/// Passes a frame of 60 bytes through a ring of 8, and answers the buffer that the driver took.
+/// Passes a frame of 60 bytes through a ring of 8. Returns the buffer that the driver took.
 pub fn passed(alloc: Global, frame: &[u8; 60]) -> Result<Option<Buf>> {
     let mut stock = Stock::new(alloc, 0, 16)?;
     let (ring, mut driver, mut controller) = RxRing::new(alloc, 8)?;
@@ -20,7 +20,7 @@ pub fn passed(alloc: Global, frame: &[u8; 60]) -> Result<Option<Buf>> {
     Ok(taken)
 }
 
-/// The driver posts a buffer, and asks for its queue to be enabled.
+/// Posts a buffer, and asks for the queue to be enabled.
 fn post(ring: &RxRing, driver: &mut RxDriverEnd, stock: &mut Stock)
     requires own { driver.old.table ≡ ring.now }
     requires fresh { IsFreshDriver driver.old }
@@ -34,7 +34,7 @@ fn post(ring: &RxRing, driver: &mut RxDriverEnd, stock: &mut Stock)
     driver.ask_enable(ring); // RXDCTL.ENABLE
 }
 
-/// The controller answers, and stores the frame where a descriptor is free.
+/// Answers the enabling, and stores the frame if a descriptor is free.
 fn store(ring: &RxRing, controller: &mut RxControllerEnd, frame: &[u8; 60])
     requires own { controller.old.table ≡ ring.now }
     requires fresh { IsFreshController controller.old }
@@ -53,7 +53,7 @@ fn store(ring: &RxRing, controller: &mut RxControllerEnd, frame: &[u8; 60])
     }
 }
 
-/// The driver sees its queue enabled, and takes what is done.
+/// Sees the queue enabled, and takes the frame if it is done.
 fn take(ring: &RxRing, driver: &mut RxDriverEnd) -> Option<Buf>
     requires own { driver.old.table ≡ ring.now }
     ensures own { driver.new.table ≡ ring.now }

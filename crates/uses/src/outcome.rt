@@ -1,8 +1,8 @@
-//! Two outcomes as one. Where a function holds a ring's ends, what it lets go by `?` costs its proof a step for each part;
-//! here, where it is of any type, it is one.
+//! Two results as one. A `?` in a function that holds a ring's ends drops them, which costs its proof a step for each
+//! part. In this generic function it costs one step.
 ghost use Rattle.std.specs.Prelude.{◌≡◌, IfOk, Ok};
 
-/// Both values, where neither has failed; else the first error.
+/// Returns both values, or the first error.
 pub fn both<A: Drop, B: Drop, E: Drop>(
     first: Result<A, E>,
     second: Result<B, E>,

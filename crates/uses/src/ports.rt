@@ -1,5 +1,5 @@
-//! Two ports on one thread: a receive queue at the one and a transmit queue at the other, with the drivers of both, and the
-//! device's side played by controllers.
+//! Two ports on one thread: a receive queue at one and a transmit queue at the other, with the drivers of both.
+//! Controllers play the device's side.
 ghost use Rattle.std.specs.Prelude.{◌≡◌};
 
 use crate::outcome::both;
@@ -14,7 +14,7 @@ use rx_ring::RxRing;
 use std::alloc::Global;
 use tx_ring::TxRing;
 
-/// What comes in at one port, what goes out at another, and the buffers at hand.
+/// The receive queue of one port, the transmit queue of another, and the spare buffers.
 #[derive(Drop)]
 pub struct Ports {
     pub from: RxRing,
@@ -33,7 +33,7 @@ pub struct Ports {
 }
 
 impl Ports {
-    /// Two rings of 8 descriptors, whose queues are not enabled yet, and 32 buffers.
+    /// Makes two rings of 8 descriptors, whose queues are not enabled yet, and 32 buffers.
     pub fn new(alloc: Global) -> Result<Ports> {
         let (rings, stash) = both(both(new_rx(alloc), new_tx(alloc)), filled(alloc, 32))?;
         let ((from, receiving, storing), (to, sending, transmitting)) = rings;
@@ -49,7 +49,8 @@ impl Ports {
         })
     }
 
-    /// The drivers ask for both queues to be enabled; called again, they see that they are.
+    /// Asks for both queues to be enabled, and lets the device answer. A second call sees the answers. Returns whether
+    /// both queues were seen enabled.
     pub fn enable(&mut self) -> Result<bool, DriverError>
         ensures { self.new.from ≡ self.old.from }
     {
@@ -60,7 +61,7 @@ impl Ports {
         Ok(receives && sends)
     }
 
-    /// The device's turn: a frame comes in, and one may go out.
+    /// Makes the device's turn: lets a frame come in, and sends one if one is ready.
     pub fn serve(&mut self, frame: &[u8]) -> Result<(), CtlError>
         ensures { self.new.from ≡ self.old.from }
     {

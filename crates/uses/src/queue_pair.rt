@@ -1,4 +1,4 @@
-//! Both queues of a pair, of which what came in on the one is sent on the other.
+//! A pair of queues: packets that come in on one are sent on the other.
 ghost use Rattle.std.specs.Prelude.{All};
 ghost use Rattle.buffer_pool.specs.Packed.{IsPacket};
 
@@ -19,7 +19,7 @@ pub struct QueuePair {
 }
 
 impl QueuePair {
-    /// No packet waits yet.
+    /// Makes two ports, without a waiting packet.
     pub fn new(alloc: Global) -> Result<QueuePair> {
         Ok(QueuePair {
             ports: Ports::new(alloc)?,
@@ -27,7 +27,7 @@ impl QueuePair {
         })
     }
 
-    /// What came in is received, and sent on.
+    /// Receives what came in, and sends it on.
     pub fn forward(&mut self) -> Result<usize, DriverError> {
         let ports = &mut self.ports;
         forward(
@@ -41,7 +41,7 @@ impl QueuePair {
     }
 }
 
-/// Has a frame come in ten times, and answers how many frames went out.
+/// Lets a frame come in ten times. Returns how many frames went out.
 pub fn forwarded(alloc: Global, frame: &[u8]) -> Result<usize> {
     let mut pair = QueuePair::new(alloc)?;
     let went = forward_ten(&mut pair, frame);
@@ -51,7 +51,7 @@ pub fn forwarded(alloc: Global, frame: &[u8]) -> Result<usize> {
     Ok(count)
 }
 
-/// Has a frame come in ten times.
+/// Lets a frame come in ten times.
 fn forward_ten(pair: &mut QueuePair, frame: &[u8]) -> Result<()> {
     for _ in 0..2 {
         pair.ports.enable()?; // asked, and then seen

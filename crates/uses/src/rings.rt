@@ -9,14 +9,14 @@ use rx_ring::{RxControllerEnd, RxDriverEnd, RxRing};
 use std::alloc::Global;
 use tx_ring::{TxControllerEnd, TxDriverEnd, TxRing};
 
-/// A receive ring, and its ends.
+/// Makes a receive ring and its ends.
 pub fn new_rx(alloc: Global) -> Result<(RxRing, RxDriverEnd, RxControllerEnd)>
     ensures { IfOk result (λ r. receive.MadeSeats 8 r.0 r.1 r.2) }
 {
     Ok(RxRing::new(alloc, 8)?)
 }
 
-/// A transmit ring, and its ends.
+/// Makes a transmit ring and its ends.
 pub fn new_tx(alloc: Global) -> Result<(TxRing, TxDriverEnd, TxControllerEnd)>
     ensures { IfOk result (λ r. transmit.MadeSeats 8 Status r.0 r.1 r.2) }
 {

@@ -1,4 +1,4 @@
-//! A forwarder in a few lines: what a receive queue gets is sent on a transmit queue.
+//! A forwarder in a few lines: it sends the packets of a receive queue on a transmit queue.
 ghost use Rattle.std.specs.Prelude.{◌≡◌, All};
 ghost use Rattle.buffer_pool.specs.Packed.{IsPacket};
 ghost use Rattle.lending.specs.Lent.{lent, SameNumbers};
@@ -9,8 +9,8 @@ use driver::{DriverError, MOST_BATCH, RxDriver, TxDriver};
 use rx_ring::RxRing;
 use tx_ring::TxRing;
 
-/// Forwards for a round, and answers how many packets were posted. Those for which there was no room stay in the list. No
-/// buffer comes in or goes out by it.
+/// Forwards one round. Returns how many packets were posted. Packets without room stay in the list. The drivers, the
+/// stash and the list keep the same buffers.
 pub fn forward(
     from: &RxRing,
     rx: &mut RxDriver,

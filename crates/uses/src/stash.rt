@@ -5,7 +5,7 @@ use buffer_pool::{Stash, Stock};
 use limits::BUFFER_BYTES;
 use std::alloc::Global;
 
-/// A stash with so many empty buffers.
+/// Makes a stash of `count` empty buffers.
 pub fn filled(alloc: Global, count: u32) -> Result<Stash> {
     let mut stock = Stock::new(alloc, 0, count)?;
     let mut stash = Stash::new();

@@ -1,6 +1,6 @@
-//! Both ends of a receive ring, each in a thread of its own: the device stores frames, and the driver takes them.
+//! Both ends of a receive ring, each in its own thread: the device stores frames, and the driver takes them.
 //!
-//! `device_thread` is the controller's, and `driver_thread` the driver's.
+//! `device_thread` is the controller's thread, and `driver_thread` the driver's.
 ghost use Rattle.std.specs.Prelude.{◌≤◌, length};
 
 mod device_thread;
@@ -19,13 +19,13 @@ use std::thread::Threads;
 /// A frame of 14 bytes: the destination's address, the source's, and a type.
 pub const FRAME: [u8; 14] = [2, 0, 0, 0, 0, 1, 2, 0, 0, 0, 0, 2, 0x88, 0xb5];
 
-/// How many frames go through.
+/// The number of frames to pass.
 pub const FRAMES: u32 = 1000;
 
-/// How many buffers the driver has.
+/// The number of the driver's buffers.
 const BUFFERS: u32 = 16;
 
-/// Passes so many frames through a ring of 8, and answers how many the driver took.
+/// Passes the frame `frames` times through a ring of 8. Returns how many frames the driver took.
 pub fn pass<R: Threads + Wait + Sync>(
     rt: &R,
     alloc: Global,
@@ -41,7 +41,7 @@ pub fn pass<R: Threads + Wait + Sync>(
         || serve(rt, &ring, controller, frame, frames),
         || drive(rt, &ring, driver, stash, frames),
     );
-    // what was taken is a beginning of what was stored, byte for byte
+    // the driver took a beginning of what was stored, byte for byte
     meet_rx(&ring, &mut driver, &mut controller);
     Ok(taken)
 }

@@ -1,4 +1,4 @@
-//! A watcher: a thread of its own reads what a flow was offered so far, while the forwarder runs.
+//! A watcher: its thread reads the counters of a flow while the forwarder runs.
 ghost use Rattle.std.specs.Prelude.{◌≡◌, ◌*◌, [], ◌∷◌, IfOk, length};
 ghost use Rattle.counters.specs.Paired.{ArePaired, IsFresh};
 
@@ -13,17 +13,17 @@ use std::thread;
 use std::thread::Threads;
 use wire_script::{Script, parse};
 
-/// How often the watcher reads at most.
+/// The most reads of the watcher.
 const READS: u32 = 10_000_000;
 
-/// What was last seen of a flow, and how many of its frames went out.
+/// The counters of a flow that were read last, and how many of its frames went out.
 #[derive(Clone, Copy, Debug)]
 pub struct Seen {
     pub offered: Offered,
     pub sent: usize,
 }
 
-/// The cells of one flow, their pens, and a pass by which the first cell is read.
+/// Makes the cells of one flow, their pens, and a pass for reading the first cell.
 fn cells_of_one(alloc: Global) -> Result<(FlowCells, FlowPens, StatPass), CounterError>
     ensures pens { IfOk result (λ made. IsFresh made.0 made.1) }
     ensures pass { IfOk result (λ made. made.2.cell ≡ made.0.stat) }
@@ -37,7 +37,7 @@ fn cells_of_one(alloc: Global) -> Result<(FlowCells, FlowPens, StatPass), Counte
     Ok((FlowCells { stat, drive }, pens, pass))
 }
 
-/// Reads until so many frames were offered. No number that it reads is below one that it read before.
+/// Reads until `count` frames were offered. No number is below one that was read before.
 fn watch<R: Wait>(rt: &R, cell: &StatCell, mut pass: StatPass, count: u64) -> Offered
     requires own { pass.cell ≡ cell.now }
 {
@@ -80,7 +80,8 @@ fn run<R: Threads + Wait + Sync>(
     Ok(Seen { offered, sent })
 }
 
-/// Forwards a script with so many frames of flow 0, and answers what was last seen of them, and how many went out.
+/// Forwards a script that has `count` frames of flow 0. Returns the counters that were read last, and how many frames
+/// went out.
 pub fn watched<R: Threads + Wait + Sync>(
     rt: &R,
     alloc: Global,
@@ -93,7 +94,7 @@ pub fn watched<R: Threads + Wait + Sync>(
     seen
 }
 
-/// The same of a script that is read, with the cells of two flows.
+/// Does the same with a parsed script, and with the cells of two flows.
 fn watched_script<R: Threads + Wait + Sync>(
     rt: &R,
     alloc: Global,
@@ -112,7 +113,7 @@ fn watched_script<R: Threads + Wait + Sync>(
     Ok(seen?)
 }
 
-/// A list of two.
+/// Makes a list of two.
 fn two<T: Drop>(alloc: Global, first: T, second: T) -> Result<Vec<T>, AllocError>
     ensures { IfOk result (λ list. list.items ≡ first ∷ second ∷ []) }
 {

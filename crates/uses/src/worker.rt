@@ -1,4 +1,4 @@
-//! A worker of a pool: it touches the pool only to refill its stash and to give the buffers back.
+//! A worker of a pool. It uses the pool only to refill its stash and to give the buffers back.
 ghost use Rattle.std.specs.Prelude.{◌≡◌};
 ghost use Rattle.pool.specs.Owned.{IsOf};
 
@@ -6,10 +6,10 @@ use buffer_pool::Stash;
 use pool::{Pool, PoolPass};
 use std::sync::Wait;
 
-/// How many buffers are moved between pool and stash at once.
+/// The number of buffers that move between pool and stash at once.
 const BATCH: usize = 32;
 
-/// Takes so many batches of buffers, and gives them back. It answers how many buffers it gave back.
+/// Takes `batches` batches of buffers and gives them back. Returns how many buffers it gave back.
 pub fn work<R: Wait>(
     rt: &R,
     pool: &Pool,
@@ -27,7 +27,7 @@ pub fn work<R: Wait>(
     given
 }
 
-/// Refills a stash, fills one of its buffers with the frame, and gives as many back as were taken.
+/// Refills a stash, fills one of its buffers with the frame, and gives the buffers back. Returns how many.
 fn batch<R: Wait>(rt: &R, pool: &Pool, pass: &mut PoolPass, frame: &[u8; 60]) -> usize
     requires { IsOf pool.now pass.old }
     ensures { IsOf pool.now pass.new }
@@ -38,7 +38,7 @@ fn batch<R: Wait>(rt: &R, pool: &Pool, pass: &mut PoolPass, frame: &[u8; 60]) ->
     pool.give_all(rt, pass, &mut stash, taken)
 }
 
-/// Fills the buffer that the stash hands out first, and puts it back, where it is cleared.
+/// Fills the buffer that the stash hands out first, and puts it back, which clears it.
 fn fill_first(stash: &mut Stash, frame: &[u8; 60])
     ensures { stash.new ≡ stash.old }
 {

@@ -6,8 +6,8 @@ use limits::MOST_SCRIPT_FRAMES;
 use std::alloc::Global;
 use wire_script::{Script, WireFrame};
 
-/// A script of so many frames over the 4 flows of 2 pairs in turn. Each has its number at offset 2; one in 64 has 3,000
-/// bytes, and the others 60 to 123.
+/// Makes a script of `count` frames over the 4 flows of 2 pairs in turn. Each has its number at offset 2. Of each flow,
+/// one in 64 has 3,000 bytes, and the others 61 to 123.
 pub fn script_of(alloc: Global, count: u32) -> Result<Script> {
     let mut frames = Vec::new(alloc);
     for k in 0..count {
@@ -24,7 +24,7 @@ pub fn script_of(alloc: Global, count: u32) -> Result<Script> {
     Ok(Script::new(frames))
 }
 
-/// How many frames there are, and a sum of their bytes in which the order counts.
+/// The number of frames, and a sum of their bytes that depends on their order.
 #[derive(Clone, Copy, PartialEq, Eq)]
 pub struct Sum {
     pub frames: u64,
@@ -34,13 +34,13 @@ pub struct Sum {
 impl Sum {
     pub const NONE: Sum = Sum { frames: 0, sum: 0 };
 
-    /// One more frame comes, of which these are the bytes.
+    /// Adds a frame with these bytes.
     fn add(&mut self, bytes: &[u8]) {
         self.frames = self.frames.saturating_add(1);
         self.add_bytes(bytes);
     }
 
-    /// One more frame comes, touched.
+    /// Adds a frame with these bytes, touched.
     fn add_touched(&mut self, bytes: &[u8]) {
         self.frames = self.frames.saturating_add(1);
         self.add_bytes(&touched_front(bytes));
@@ -53,7 +53,7 @@ impl Sum {
         }
     }
 
-    /// All frames on a wire.
+    /// Sums up all frames on a wire.
     pub fn of(wire: &Wire) -> Sum {
         let mut sum = Sum::NONE;
         for frame in wire.iter() {
@@ -63,19 +63,20 @@ impl Sum {
     }
 }
 
-/// The first two bytes of a frame that was touched.
+/// The first two bytes of a frame after touching.
 fn touched_front(bytes: &[u8]) -> [u8; 2] {
     let first = bytes.first().copied().unwrap_or(0);
     let second = bytes.get(1).copied().unwrap_or(0);
     [first, second.wrapping_add(1)]
 }
 
-/// Whether one frame is the other, touched.
+/// Whether `after` is `before`, touched.
 fn is_touched(before: &[u8], after: &[u8]) -> bool {
     after.get(..2) == Some(&touched_front(before)[..]) && before.get(2..) == after.get(2..)
 }
 
-/// All frames of a flow in the script, touched, and whether those on the wire are some of them, in order.
+/// Sums up all frames of a flow in the script, touched. Also returns whether the frames on the wire are some of them,
+/// in order.
 pub fn followed(wire: &Wire, script: &Script, port: u8, queue: u8) -> (Sum, bool) {
     let mut came = Sum::NONE;
     let mut sent = wire.iter();

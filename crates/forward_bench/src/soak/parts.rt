@@ -10,7 +10,7 @@ use std::thread::Threads;
 use tx_ring::Completion;
 use wire_script::Script;
 
-/// How the parts are run, in turn: 24 ways.
+/// The configuration of a part: 24 in turn.
 fn config_of(part: u32) -> Config {
     let ring = match part / 8 % 3 {
         0 => 64,
@@ -34,7 +34,7 @@ fn config_of(part: u32) -> Config {
     }
 }
 
-/// Forwards the script once, and prints what came of it.
+/// Forwards the script once, and prints the result.
 pub fn run_part<R: Threads + Wait + Sync + Print>(
     rt: &R,
     alloc: Global,

@@ -1,4 +1,4 @@
-//! What was seen of flows: their counts, and whether they are right.
+//! The counts of flows, and whether they are right.
 
 use crate::soak::frames::{Sum, followed};
 use flows::{Ended, FlowReport};
@@ -6,7 +6,7 @@ use forwarder::Config;
 use std::fmt;
 use wire_script::Script;
 
-/// What was seen of some flows together.
+/// The counts of some flows together.
 #[derive(Clone, Copy)]
 pub struct Seen {
     pub offered: u64,
@@ -19,7 +19,7 @@ pub struct Seen {
 }
 
 impl Seen {
-    /// Of no flow.
+    /// The counts of no flow.
     pub const NONE: Seen = Seen {
         offered: 0,
         dropped: 0,
@@ -29,7 +29,7 @@ impl Seen {
         is_right: true,
     };
 
-    /// Of these and others.
+    /// Adds the counts of other flows.
     pub fn and(self, other: Seen) -> Seen {
         Seen {
             offered: self.offered.saturating_add(other.offered),
@@ -41,7 +41,7 @@ impl Seen {
         }
     }
 
-    /// Of one flow.
+    /// The counts of one flow.
     pub fn of(flow: &FlowReport, script: &Script, config: &Config, port: u8, queue: u8) -> Seen {
         let (came, in_order) = followed(&flow.wire, script, port, queue);
         let went = Sum::of(&flow.wire);

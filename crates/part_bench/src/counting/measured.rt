@@ -1,4 +1,4 @@
-//! A cell is made, and the time of its threads is taken.
+//! Makes a cell, and times its threads.
 ghost use Rattle.std.specs.Prelude.{◌≡◌};
 ghost use Rattle.counters.specs.Kinds.{none_offered};
 
@@ -10,7 +10,7 @@ use std::sync::Wait;
 use std::thread::{Threads, join};
 use std::time::{Duration, Instant};
 
-/// The numbers after so many frames, all of which were stored.
+/// The numbers after `frames` frames, all of which were stored.
 fn all_stored(frames: u64) -> Offered
     ensures { result ≡ record { offered = frames; stored = frames; dropped = 0; oversize = 0 } }
 {
@@ -22,7 +22,7 @@ fn all_stored(frames: u64) -> Offered
     }
 }
 
-/// How long so many reads beside nobody take.
+/// Times `reads` reads without a writer.
 pub fn reads_alone<R: Wait + Clock>(rt: &R, alloc: Global, reads: u32) -> Result<Duration> {
     let (cell, mut pen, _) = StatCell::new(alloc)?;
     cell.write(rt, &mut pen, all_stored(1));
@@ -32,7 +32,7 @@ pub fn reads_alone<R: Wait + Clock>(rt: &R, alloc: Global, reads: u32) -> Result
     Ok(start.elapsed(rt)?)
 }
 
-/// How long so many writes take beside up to three readers, and how often these read meanwhile.
+/// Times `writes` writes beside up to three readers. Also returns how often these read.
 pub fn writes_beside<R: Threads + Wait + Clock + Sync>(
     rt: &R,
     alloc: Global,
@@ -45,7 +45,7 @@ pub fn writes_beside<R: Threads + Wait + Clock + Sync>(
     Ok((start.elapsed(rt)?, reads))
 }
 
-/// Writes so many times beside up to three readers, and tells how often these read meanwhile.
+/// Writes `writes` times beside up to three readers. Returns how often these read.
 fn write_beside<R: Threads + Wait + Sync>(
     rt: &R,
     cell: &StatCell,
@@ -72,7 +72,7 @@ fn write_beside<R: Threads + Wait + Sync>(
     reads
 }
 
-/// One, two or three threads read until the last write is seen, and how often all did.
+/// Reads in one, two or three threads until each sees the last write. Returns the total number of reads.
 fn read_in<R: Threads + Wait + Sync>(
     rt: &R,
     cell: &StatCell,
@@ -100,7 +100,7 @@ fn read_in<R: Threads + Wait + Sync>(
     one.saturating_add(others)
 }
 
-/// Writes so many times, each time one frame more.
+/// Writes `writes` times, each time with one frame more.
 fn write_all<R: Wait>(rt: &R, cell: &StatCell, mut pen: StatPen, writes: u32)
     requires own { pen.cell ≡ cell.now }
     requires opening { pen.last ≡ none_offered }
@@ -110,7 +110,7 @@ fn write_all<R: Wait>(rt: &R, cell: &StatCell, mut pen: StatPen, writes: u32)
     }
 }
 
-/// Reads so many times.
+/// Reads `reads` times.
 fn read_all<R: Wait>(rt: &R, cell: &StatCell, mut pass: StatPass, reads: u32)
     requires own { pass.cell ≡ cell.now }
 {
@@ -119,7 +119,7 @@ fn read_all<R: Wait>(rt: &R, cell: &StatCell, mut pass: StatPass, reads: u32)
     }
 }
 
-/// Reads until the last write is seen, and tells how often that was.
+/// Reads until the last write is seen. Returns the number of reads.
 fn read_until<R: Wait>(rt: &R, cell: &StatCell, mut pass: StatPass, writes: u32) -> u32
     requires own { pass.cell ≡ cell.now }
 {
@@ -134,7 +134,7 @@ fn read_until<R: Wait>(rt: &R, cell: &StatCell, mut pass: StatPass, writes: u32)
     unreachable!()
 }
 
-/// Two threads read, and how often both did.
+/// Reads in two threads. Returns the total number of reads.
 fn read_in_two<R: Threads + Wait + Sync>(
     rt: &R,
     cell: &StatCell,

@@ -1,4 +1,4 @@
-//! What it costs to take packets one by one from the front of a list of 32.
+//! The cost of taking packets one by one from the front of a list of 32.
 use anyhow::Result;
 use arrayvec::ArrayVec;
 use buffer_pool::{Buf, Packet};
@@ -8,11 +8,10 @@ use std::time::{Duration, Instant};
 /// The most packets of a list.
 const LIST: usize = 32;
 
-/// What stands for a packet here: the buffers in the list itself, to compare with.
+/// A packet with its buffers in the list itself, for comparison.
 type Row = ArrayVec<Buf, 15>;
 
-/// How long it takes to take so many packets from the front, each of which is put behind again; and
-/// so many rows of buffers.
+/// Times taking `turns` packets from the front and putting each behind again, and then the same with rows of buffers.
 pub fn compared<R: Clock>(rt: &R, turns: u32) -> Result<(Duration, Duration)> {
     let mut packets: ArrayVec<Packet, LIST> = full();
     let mut rows: ArrayVec<Row, LIST> = full();
@@ -24,7 +23,7 @@ pub fn compared<R: Clock>(rt: &R, turns: u32) -> Result<(Duration, Duration)> {
     Ok((packets_took, start.elapsed(rt)?))
 }
 
-/// A list of as many blanks as it has room for.
+/// Makes a full list of default values.
 fn full<T: Default + Drop>() -> ArrayVec<T, LIST> {
     let mut list = ArrayVec::new();
     for _ in 0..LIST {
@@ -35,7 +34,7 @@ fn full<T: Default + Drop>() -> ArrayVec<T, LIST> {
     list
 }
 
-/// Takes the first of a list and puts it behind, so many times.
+/// Moves the first of a list to its end, `turns` times.
 fn turn<T: Default + Drop>(list: &mut ArrayVec<T, LIST>, turns: u32) {
     for _ in 0..turns {
         if let Some(first) = list.pop_at(0) {

@@ -1,4 +1,4 @@
-//! A pool is made, and the time of its threads is taken.
+//! Makes a pool, and times its threads.
 use anyhow::Result;
 use pool::{Pool, WHOLE_SHARE};
 use pool_uses::{Job, in_two, share_out, work};
@@ -11,7 +11,7 @@ use std::time::{Duration, Instant};
 /// The buffers of the pool: more than all threads take at once.
 const BUFFERS: u32 = 1_024;
 
-/// How long 1, 2 or 4 threads take for this job each.
+/// Times 1, 2 or 4 threads, each with this job.
 pub fn timed<R: Threads + Wait + Clock + Sync>(
     rt: &R,
     alloc: Global,

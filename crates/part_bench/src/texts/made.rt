@@ -1,5 +1,5 @@
-//! What is measured: a script or a capture, whose room is reserved at once, so that making it leaves no gaps in memory that
-//! reading could fill.
+//! The texts to measure: a script or a capture. Its room is reserved at once, so that making it leaves no gaps in
+//! memory that reading could fill.
 
 ghost use Rattle.std.specs.Prelude.{◌≤◌};
 ghost use Rattle.limits.specs.declared.profile.TheConstants.{LEAST_FRAME, MOST_FRAME};
@@ -10,14 +10,14 @@ use limits::{MOST_FRAME, MOST_PAIRS, PORTS};
 use std::alloc::Global;
 use wire_script::print_line;
 
-// The next of a sequence of numbers that looks random (Knuth's MMIX constants).
+// The next of a sequence of pseudorandom numbers (Knuth's MMIX constants).
 fn next(state: u64) -> u64 {
     state
         .wrapping_mul(6_364_136_223_846_793_005)
         .wrapping_add(1_442_695_040_888_963_407)
 }
 
-// Fills a frame with bytes that look random.
+// Fills a frame with pseudorandom bytes.
 fn fill(frame: &mut [u8], number: u32) {
     let mut state = u64::from(number);
     for byte in frame.iter_mut() {
@@ -26,7 +26,7 @@ fn fill(frame: &mut [u8], number: u32) {
     }
 }
 
-/// A script of so many frames of so many bytes, at each port and queue in turn.
+/// Makes a script of `frames` frames of `length` bytes, at each port and queue in turn.
 pub fn script(alloc: Global, frames: u32, length: usize) -> Result<Vec<u8>> {
     let room = length
         .saturating_mul(2)
@@ -43,7 +43,7 @@ pub fn script(alloc: Global, frames: u32, length: usize) -> Result<Vec<u8>> {
     Ok(text.into_bytes())
 }
 
-/// A capture of so many frames of so many bytes.
+/// Makes a capture of `frames` frames of `length` bytes.
 pub fn capture(alloc: Global, frames: u32, length: usize) -> Result<Vec<u8>>
     requires least { LEAST_FRAME ≤ length }
     requires greatest { length ≤ MOST_FRAME }

@@ -1,4 +1,4 @@
-//! What reading and writing cost.
+//! The cost of reading and writing.
 
 use crate::texts::subject::Text;
 use anyhow::{Context, Result};
@@ -6,7 +6,7 @@ use std::fs;
 use std::rt::Files;
 use std::time::CpuClock;
 
-/// The slowest and the fastest of some rounds, in MB of the text a second.
+/// The slowest and the fastest of some rounds, in MB of text a second.
 #[derive(Clone, Copy)]
 pub struct Speed {
     pub slowest: u64,
@@ -29,7 +29,7 @@ impl Speed {
     }
 }
 
-/// By how many bytes a frame the process grows, and how fast it reads and writes.
+/// How many bytes a frame the process grows, and how fast it reads and writes.
 #[derive(Clone, Copy)]
 pub struct Costs {
     pub grown: u64,
@@ -37,7 +37,7 @@ pub struct Costs {
     pub written: Speed,
 }
 
-// The second number of this text, which is in pages.
+// The second number of this text, a number of pages.
 fn pages_in(status: &str) -> Option<u64> {
     let pages = status.split(' ').nth(1)?;
     pages.parse::<u64>().ok()
@@ -55,8 +55,8 @@ fn micros(rt: &impl CpuClock) -> Result<u64> {
     Ok(u64::try_from(rt.thread_cpu_time()?.as_micros())?)
 }
 
-// By how many bytes a frame the process grows when it reads a text, beside the text's own. It has the allocator's own in
-// it, and what rounding to pages adds.
+// How many bytes a frame the process grows when it reads a text, without the text itself. Includes the allocator's own
+// memory and rounding to pages.
 fn growth<'a, R: Files + AllocGlobal, T: Text<'a>>(rt: &R, bytes: &'a [u8]) -> Result<u64> {
     let before = resident(rt)?;
     let text = T::read(rt.alloc(), bytes)?;
@@ -65,7 +65,7 @@ fn growth<'a, R: Files + AllocGlobal, T: Text<'a>>(rt: &R, bytes: &'a [u8]) -> R
     Ok(after.saturating_sub(before) / count.max(1))
 }
 
-// How fast a text is read. What was read is let go once the time was taken.
+// Measures how fast a text is read. The time ends before the result is dropped.
 fn reading<'a, R: CpuClock + AllocGlobal, T: Text<'a>>(
     rt: &R,
     bytes: &'a [u8],
@@ -80,7 +80,7 @@ fn reading<'a, R: CpuClock + AllocGlobal, T: Text<'a>>(
     Ok(speed)
 }
 
-// How fast what a text says is written.
+// Measures how fast a text is written.
 fn writing<'a, R: CpuClock + AllocGlobal, T: Text<'a>>(
     rt: &R,
     bytes: &'a [u8],
@@ -96,7 +96,7 @@ fn writing<'a, R: CpuClock + AllocGlobal, T: Text<'a>>(
     Ok(speed)
 }
 
-/// What a text costs that these bytes say, read and written so many times.
+/// Measures the cost of reading and writing a text in `rounds` rounds.
 pub fn costs_of<'a, R: Files + CpuClock + AllocGlobal, T: Text<'a>>(
     rt: &R,
     bytes: &'a [u8],

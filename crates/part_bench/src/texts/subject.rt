@@ -1,19 +1,19 @@
-//! What is read, and written again.
+//! The kinds of text that are read, and written again.
 
 use anyhow::Result;
 use capture::{Capture, read, write};
 use std::alloc::Global;
 use wire_script::{Script, parse, print};
 
-/// What bytes say.
+/// A parsed text.
 pub trait Text<'a>: Drop + Sized {
-    /// What these bytes say.
+    /// Parses a text.
     fn read(alloc: Global, bytes: &'a [u8]) -> Result<Self>;
 
     /// How many frames it has.
     fn count(&self) -> usize;
 
-    /// Bytes that say it.
+    /// Writes it as bytes.
     fn written(&self, alloc: Global) -> Result<Vec<u8>>;
 }
 

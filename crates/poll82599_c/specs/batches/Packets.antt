@@ -1,4 +1,4 @@
--- What the exports say of a worker's packets, and of what is done with them.
+-- A worker's packets, and the steps of the exports on them.
 use Rattle.std.specs.Prelude.{◌≡◌, ℕ, zero, suc, ◌+◌, ◌*◌, ◌<◌, ◌≤◌, ◌⊎◌, Option, Some, List, [], ◌∷◌, ◌++◌, length, map, reverse, remove, drop, slice_get, slice_index, slice_set}
 use Rattle.buffer_pool.specs.Buffer.{Buffer, buffer}
 use Rattle.buffer_pool.specs.Packed.{IsPacket, bytes_of, shape_of}
@@ -10,12 +10,12 @@ use Rattle.poll82599_c.specs.Stashes.{AreBuffers}
 use Rattle.poll82599_c.specs.declared.call.Poll82599Packet.{Poll82599Packet}
 use Rattle.poll82599_c.specs.Held.{Of, There}
 
--- A worker's empty buffers, by their numbers, the next one to be taken first; and the packets that it has, the oldest first
+-- A worker's empty buffers, by their numbers, in the order in which they are taken; and its packets, the oldest first
 pub record Worked : Type 0 where
   pub stash : List ℕ
   pub packets : List (List Buffer)
 
--- so many buffers, and no packet
+-- `count` buffers, and no packet
 pub record IsFresh (count : ℕ) (w : Worked) : Type 0 where
   pub buffers : AreBuffers count w.stash
   pub none : w.packets ≡ []
@@ -23,26 +23,26 @@ pub record IsFresh (count : ℕ) (w : Worked) : Type 0 where
 abbrev pub IsMade : ℕ → Option Worked → Type 0
 IsMade count = There (IsFresh count)
 
--- how many packets there were
+-- the number of packets
 abbrev pub HadPackets : ℕ → Option Worked → Type 0
 HadPackets count = Of (λ w. count ≡ length w.packets)
 
 abbrev pub numbers_of : List Buffer → List ℕ
 numbers_of bufs = map (λ b. b.number) bufs
 
--- a packet of these bytes is made, in buffers of the stash
+-- a packet of these bytes, in buffers of the stash
 pub record Packed (frame : Bytes) (had : List ℕ) (packet : List Buffer) (has : List ℕ) : Type 0 where
   pub packet_is : IsPacket packet
   pub bytes : bytes_of packet ≡ frame
   pub stash : had ≡ numbers_of packet ++ has
 
--- one more buffer of the stash is the packet's, with these bytes
+-- one more buffer of the stash is appended to the packet, with these bytes
 pub record Pushed (bytes : Bytes) (old : List Buffer) (had : List ℕ) (new : List Buffer) (has : List ℕ) : Type 0 where
   pub number : ℕ
   pub behind : new ≡ old ++ buffer number bytes ∷ []
   pub stash : had ≡ number ∷ has
 
--- it is the worker's, behind the others
+-- the frame is the worker's last packet
 pub record PutFrame (frame : Bytes) (old new : Worked) : Type 0 where
   pub packet : List Buffer
   pub made : Packed frame old.stash packet new.stash
@@ -56,18 +56,18 @@ HasNoPlace frame w = (length w.packets ≡ MOST_BATCH) ⊎ (BUFFER_BYTES * lengt
 abbrev pub IsAt : Worked → ℕ → List Buffer → Type 0
 IsAt w i packet = slice_get w.packets i ≡ Some packet
 
--- there is none
+-- there is no packet at this place
 abbrev pub IsAbsent : ℕ → Worked → Type 0
 IsAbsent i w = length w.packets ≤ i
 
--- it has so many bytes, more than the room
+-- the packet has `len` bytes, more than the room
 pub record IsTooShort (i len : ℕ) (room : Bytes) (w : Worked) : Type 0 where
   pub packet : List Buffer
   pub there : IsAt w i packet
   pub len_is : len ≡ length (bytes_of packet)
   pub short : length room < len
 
--- its bytes are at the beginning of the room
+-- the packet's bytes are at the beginning of the room
 pub record CopiedOut (i len : ℕ) (before after : Bytes) (old new : Worked) : Type 0 where
   pub packet : List Buffer
   pub there : IsAt old i packet
@@ -75,7 +75,7 @@ pub record CopiedOut (i len : ℕ) (before after : Bytes) (old new : Worked) : T
   pub copied : after ≡ bytes_of packet ++ drop (length (bytes_of packet)) before
   pub same : new ≡ old
 
--- one of its bytes is this
+-- the packet's byte at this place is `byte`
 pub record ReadByte (i at byte : ℕ) (old new : Worked) : Type 0 where
   pub packet : List Buffer
   pub there : IsAt old i packet
@@ -83,11 +83,11 @@ pub record ReadByte (i at byte : ℕ) (old new : Worked) : Type 0 where
   pub byte_is : byte ≡ slice_index (bytes_of packet) at
   pub same : new ≡ old
 
--- in a list of packets there is none at this place, or it has no such byte
+-- the list has no packet at this place, or the packet has no such byte
 abbrev pub HasNoByte : ℕ → ℕ → List (List Buffer) → Type 0
 HasNoByte i at list = (packet : List Buffer) → slice_get list i ≡ Some packet → length (bytes_of packet) ≤ at
 
--- in a list of packets a byte of this one was replaced in place: each buffer keeps its number and how many bytes are in it
+-- the byte of this packet in the list was replaced in place: each buffer keeps its number and its length
 pub record SetIn (i at byte : ℕ) (old new : List (List Buffer)) : Type 0 where
   pub before : List Buffer
   pub after : List Buffer
@@ -101,7 +101,7 @@ pub record WroteByte (i at byte : ℕ) (old new : Worked) : Type 0 where
   pub set : SetIn i at byte old.packets new.packets
   pub stash : new.stash ≡ old.stash
 
--- it is gone, and its buffers are in the stash again
+-- the packet is removed, and its buffers are in the stash again
 pub record Released (i : ℕ) (old new : Worked) : Type 0 where
   pub packet : List Buffer
   pub there : IsAt old i packet
@@ -114,41 +114,41 @@ pub record IsCrowded (i : ℕ) (w : Worked) : Type 0 where
   pub there : IsAt w i packet
   pub many : STASH_BUFFERS < length w.stash + length packet
 
--- ---- what calls answer, and what they did then
+-- ---- the results of calls, and their steps
 
--- 1: it was made; 0: there is no place for it; 2: no frame has so many bytes
+-- 1: the packet was made; 0: there is no place for it; 2: no frame has this length
 abbrev pub TriedPut : ℕ → Bytes → Worked → Worked → Type 0
 TriedPut zero frame old new = HasNoPlace frame old × (new ≡ old)
 TriedPut (suc zero) frame old new = PutFrame frame old new
 TriedPut (suc (suc zero)) frame old new = (¬ HasFrameLength frame) × (new ≡ old)
 TriedPut _ frame old new = ⊥
 
--- 1: it was copied; 0: there is none; 4: the room is too small
+-- 1: the packet was copied; 0: there is none; 4: the room is too small
 abbrev pub TriedCopy : ℕ → ℕ → ℕ → Bytes → Bytes → Worked → Worked → Type 0
 TriedCopy zero i len before after old new = IsAbsent i old × (new ≡ old) × (after ≡ before)
 TriedCopy (suc zero) i len before after old new = CopiedOut i len before after old new
 TriedCopy (suc (suc (suc (suc zero)))) i len before after old new = IsTooShort i len before old × (new ≡ old) × (after ≡ before)
 TriedCopy _ i len before after old new = ⊥
 
--- 1: it was read; 0: there is none
+-- 1: the byte was read; 0: there is none
 abbrev pub TriedRead : ℕ → ℕ → ℕ → ℕ → Worked → Worked → Type 0
 TriedRead zero i at byte old new = HasNoByte i at old.packets × (new ≡ old)
 TriedRead (suc zero) i at byte old new = ReadByte i at byte old new
 TriedRead _ i at byte old new = ⊥
 
--- so many packets and empty buffers there are
+-- the numbers of packets and of empty buffers
 pub record Counted (packets buffers : ℕ) (old new : Worked) : Type 0 where
   pub packets_are : packets ≡ length old.packets
   pub buffers_are : buffers ≡ length old.stash
   pub same : new ≡ old
 
--- 1: it was replaced; 0: there is none
+-- 1: the byte was replaced; 0: there is none
 abbrev pub TriedTouch : ℕ → ℕ → ℕ → ℕ → Worked → Worked → Type 0
 TriedTouch zero i at byte old new = HasNoByte i at old.packets × (new ≡ old)
 TriedTouch (suc zero) i at byte old new = WroteByte i at byte old new
 TriedTouch _ i at byte old new = ⊥
 
--- 1: it is gone; 0: there is none; 2: the stash has no room for its buffers
+-- 1: the packet is removed; 0: there is none; 2: the stash has no room for its buffers
 abbrev pub TriedRelease : ℕ → ℕ → Worked → Worked → Type 0
 TriedRelease zero i old new = IsAbsent i old × (new ≡ old)
 TriedRelease (suc zero) i old new = Released i old new
@@ -160,7 +160,8 @@ abbrev pub TriedCount : ℕ → ℕ → ℕ → Worked → Worked → Type 0
 TriedCount (suc zero) packets buffers old new = Counted packets buffers old new
 TriedCount _ packets buffers old new = ⊥
 
--- the step of an operation, by its number, with what was asked and what is told; the room changes only where a packet is copied
+-- the step of an operation, by its number, with the call before and after it; the room changes only if a packet is
+-- copied
 abbrev pub Handled : ℕ → Poll82599Packet → Poll82599Packet → Bytes → Bytes → Worked → Worked → Type 0
 Handled zero asked told before after old new = TriedCopy told.answer asked.packet told.len before after old new
 Handled (suc zero) asked told before after old new = TriedRead told.answer asked.packet asked.at told.byte old new × (after ≡ before)

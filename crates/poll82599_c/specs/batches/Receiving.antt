@@ -1,4 +1,4 @@
--- What the exports say of a receive queue's driver and of its device, and of their steps.
+-- A receive queue's driver and its device, and their steps.
 use Rattle.std.specs.Prelude.{◌≡◌, ◌≢◌, ℕ, zero, suc, ◌+◌, ◌++◌, Bool, true, false, Option, [], ◌∷◌, length}
 use Rattle.ring_model.specs.receive.Lawful.{IsLawfulRxLedger}
 use Rattle.ring_model.specs.shared.Frames.{Bytes, frames}
@@ -23,7 +23,8 @@ use Rattle.poll82599_c.specs.Held.{Between, Both, Of, OfBoth}
 use Rattle.poll82599_c.specs.batches.Packets.{Worked}
 use Rattle.poll82599_c.specs.batches.Queues.{DidAlike, Kind, TriedLive, TriedReclaim}
 
--- A driver and a device of one fresh ring of n descriptors: a batch has so many packets, buffers are filled to so many bytes, and a frame for which too few descriptors are free is dropped or held
+-- The driver and the device of a fresh ring of n descriptors: at most `batch` packets in a batch, buffers filled to
+-- `fill` bytes, and frames without enough free descriptors dropped or held
 pub record ArePair (n batch fill : ℕ) (drop_en : Bool) (q : Receiver) (d : Receiving) : Type 0 where
   pub ends : MadeSeats n q.end.table q.end d.end
   pub no_chain : q.chain ≡ []
@@ -35,29 +36,29 @@ pub record ArePair (n batch fill : ℕ) (drop_en : Bool) (q : Receiver) (d : Rec
 abbrev pub AreMade : ℕ → ℕ → ℕ → Bool → Option Receiver → Option Receiving → Type 0
 AreMade n batch fill drop_en = Both (ArePair n batch fill drop_en)
 
--- both are of one ring, if both are there
+-- if both are there, they belong to one ring
 abbrev pub AreOfOne : Option Receiver → Option Receiving → Type 0
 AreOfOne = OfBoth (λ q d. q.end.table ≡ d.end.table)
 
--- it is there before and after, and of the same ring
+-- the device is there before and after, and belongs to the same ring
 abbrev pub SameDevice : Option Receiving → Option Receiving → Type 0
 SameDevice = Between (λ old new. new.end.table ≡ old.end.table)
 
--- the records of both, if both are there, are those of one lawful ring: what is taken is a beginning of what is stored
+-- if both are there, their records are those of one lawful ring: the driver took a beginning of what was stored
 abbrev pub AreLawful : Option Receiver → Option Receiving → Type 0
 AreLawful = OfBoth (λ q d. IsLawfulRxLedger Bytes (driver_size q.end) (ledger_of q.end d.end))
 
--- where the head was loaded, what was said to be left is what of the stored is not taken
+-- if the head was loaded, the number left is that of the stored segments that were not taken
 abbrev pub AreTold : Option Receiver → Option Receiving → Type 0
 AreTold = OfBoth (λ q d. IsTold (told_left q.end) (length (taken q.end)) (length (stored_now q.end d.end)))
 
--- these are a device's counts, and each frame that was offered was stored, dropped or oversize
+-- these are a device's counts, and each offered frame was stored, dropped or oversize
 abbrev pub AreCounts : ℕ → ℕ → ℕ → ℕ → Option Receiving → Type 0
 AreCounts offered stored dropped oversize = Of (λ d. (d.tally ≡ record { offered = offered; stored = stored; dropped = dropped; oversize = oversize }) × (offered ≡ stored + dropped + oversize))
 
 -- ---- a driver's calls
 
--- a batch of so many packets was taken, which are the worker's now, behind the others
+-- a batch of `count` packets was taken, and appended to the worker's
 pub record TookBatch (count : ℕ) (old : Receiver) (had : Worked) (new : Receiver) (has : Worked) : Type 0 where
   pub batch : Batched old.batch MOST_BATCH count (hands old had.stash had.packets) (hands new has.stash has.packets)
   pub filled : is_open (driver_state old.end) ≡ true → IsFilled new.end has.stash
@@ -74,7 +75,7 @@ pub record Renewed (old new : Receiver) : Type 0 where
   pub begun : GoneOver old.end new.end
   pub rest : new ≡ record old { end = new.end }
 
--- so it is a driver of queues
+-- the receive direction of a driver of queues
 abbrev pub receiver : Kind rx Receiver
 receiver = record { end_of = λ q. q.end; with_end = λ q e. record q { end = e }; told_left = told_left; IsEmptied = IsEmptied; CameInto = CameInto; Renewed = Renewed }
 
@@ -82,19 +83,19 @@ receiver = record { end_of = λ q. q.end; with_end = λ q e. record q { end = e 
 abbrev pub FoundQuiet : ℕ → Receiver → Receiver → Type 0
 FoundQuiet value old new = new ≡ record old { end = driver_grown old.end (driver.Own (LoadedQuiet value)) }
 
--- ---- what a driver's calls answer, and what they did then
+-- ---- the results of a driver's calls, and their steps
 
--- 1: a batch of so many was taken; 0: it was not seen on, or was seen disabled
+-- 1: a batch of `count` packets was taken; 0: the queue was not seen on, or was seen disabled
 abbrev pub TriedBatch : ℕ → ℕ → Receiver → Worked → Receiver → Worked → Type 0
 TriedBatch = TriedLive receiver TookBatch
 
--- the step of an operation, by its number, with this answer
+-- the step of an operation, by its number, with this result
 abbrev pub Moved : ℕ → ℕ → ℕ → Receiver → Worked → Receiver → Worked → Type 0
 Moved zero answer count old had new has = TriedBatch answer count old had new has
 Moved (suc zero) answer count old had new has = TriedReclaim receiver answer count old had new has
 Moved _ answer count old had new has = answer ≡ 4294967295
 
--- the step of an operation, by its number, with this answer
+-- the step of an operation, by its number, with this result
 abbrev pub Did : ℕ → ℕ → ℕ → Receiver → Receiver → Type 0
 Did (suc (suc (suc (suc zero)))) answer count old new = FoundQuiet answer old new
 Did operation answer count old new = DidAlike receiver operation answer count old new
@@ -106,7 +107,8 @@ pub record StoredWhole (frame : Bytes) (old new : Receiving) : Type 0 where
   pub was : WasStored old frame new
   pub frames_are : frames piece_of (stored new.end) ≡ frames piece_of (stored old.end) ++ frame ∷ []
 
--- what a frame's offering answers, and what it did then: 1 stored; 0 held, and to be offered again; 2 refused for its length; 3 off; 4 oversize; 5 dropped
+-- the result of offering a frame, and its step: 1 stored; 0 held, offer it again; 2 refused for its length; 3 off; 4
+-- oversize; 5 dropped
 abbrev pub TriedOffer : ℕ → Bytes → Receiving → Receiving → Type 0
 TriedOffer zero frame old new = WasHeld old frame new
 TriedOffer (suc zero) frame old new = StoredWhole frame old new
@@ -116,19 +118,20 @@ TriedOffer (suc (suc (suc (suc zero)))) frame old new = WasOversize old frame ne
 TriedOffer (suc (suc (suc (suc (suc zero))))) frame old new = WasDropped old frame new
 TriedOffer _ frame old new = ⊥
 
--- what is asked was loaded, and answered where it may be: the value is the one that was stored, else the one that was loaded
+-- the control word was loaded, and a request answered if possible: `value` is the word that was stored, otherwise the
+-- one loaded
 pub record Turned (value : ℕ) (old new : Receiving) : Type 0 where
   pub told : Control
   pub value_is : value ≡ control_word told
   pub turned : TurnedControl old.end told new.end
   pub same : new ≡ record old { end = new.end }
 
--- C7: it was said that no more is stored; or it serves no more, or had said so
+-- C7: the device said that it stores no more; or it does not serve, or had said so
 pub record TriedQuiet (did : Bool) (old new : Receiving) : Type 0 where
   pub finished : Finished old.end did new.end
   pub same : new ≡ record old { end = new.end }
 
--- the step of an operation, by its number, with this answer
+-- the step of an operation, by its number, with this result
 abbrev pub Played : ℕ → ℕ → Bytes → Receiving → Receiving → Type 0
 Played zero answer frame old new = TriedOffer answer frame old new
 Played (suc zero) answer frame old new = Turned answer old new

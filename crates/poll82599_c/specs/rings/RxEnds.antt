@@ -1,4 +1,4 @@
--- What the exports of a receive ring say of the two ends that handles hold, and of their steps.
+-- The two ends of a receive ring that handles hold, and their steps.
 use Rattle.std.specs.Prelude.{◌≡◌, ◌≢◌, ℕ, zero, suc, ◌⊎◌, Option, Bool, false, if◌then◌else◌, ◌++◌, length, drop, [], ◌∷◌}
 use Rattle.std.specs.Int.{from_bool}
 use Rattle.atomic_table.specs.Seated.{TableId}
@@ -23,17 +23,17 @@ use Rattle.poll82599_c.specs.declared.rings.begun.Begun.{Begun}
 abbrev pub AreMade : ℕ → Option DriverSide → Option ControllerSide → Type 0
 AreMade n = Both (λ d c. MadeSeats n d.table d c)
 
--- the records of both, if both are there, are those of one lawful ring: what is taken is a beginning of what is stored
+-- if both are there, their records are those of one lawful ring: the driver took a beginning of what was stored
 abbrev pub AreLawful : Option DriverSide → Option ControllerSide → Type 0
 AreLawful = OfBoth (λ d c. IsLawfulRxLedger Bytes (driver_size d) (ledger_of d c))
 
--- where the head was loaded, what was said to be left is what of the stored is not taken
+-- if the head was loaded, the number left is that of the stored segments that were not taken
 abbrev pub AreTold : Option DriverSide → Option ControllerSide → Type 0
 AreTold = OfBoth (λ d c. IsTold (told_left d) (length (taken d)) (length (stored_now d c)))
 
 -- ---- a driver's steps
 
--- A1: an empty buffer is posted at the place where the driver posts next
+-- A1: an empty buffer is posted in the next descriptor
 pub record PostedOne (old new : DriverSide) : Type 0 where
   pub buf : Buffer
   pub step : new ≡ driver_grown old (driver.Posted (fill_place old) 0 buf)
@@ -47,7 +47,8 @@ pub record TookOne (len eop : ℕ) (before after : Bytes) (old new : DriverSide)
   pub eop_is : eop ≡ from_bool ends
   pub copied : after ≡ buf.bytes ++ drop (length buf.bytes) before
 
--- nothing was taken, and nothing handed out: the next descriptor was loaded and had no DD, or where another number is answered no step was made
+-- nothing was taken or handed out; with result 0 the next descriptor was loaded and had no DD, otherwise no step was
+-- made
 pub record TookNone (answer : ℕ) (before after : Bytes) (old new : DriverSide) : Type 0 where
   pub loaded : answer ≡ 0 → SawNotDone old new
   pub still : answer ≢ 0 → new ≡ old
@@ -57,11 +58,11 @@ pub record TookNone (answer : ℕ) (before after : Bytes) (old new : DriverSide)
 abbrev pub FoundQuiet : ℕ → DriverSide → DriverSide → Type 0
 FoundQuiet value old new = new ≡ driver_grown old (driver.Own (LoadedQuiet value))
 
--- a poll with this answer
+-- a poll with this result
 abbrev pub TriedPoll : ℕ → ℕ → ℕ → Bytes → Bytes → DriverSide → DriverSide → Type 0
 TriedPoll answer len eop before after old new = (answer ≡ 1 → TookOne len eop before after old new) × (answer ≢ 1 → TookNone answer before after old new)
 
--- the step of an operation, by its number, with this answer
+-- the step of an operation, by its number, with this result
 abbrev pub Drove : ℕ → ℕ → ℕ → ℕ → Bytes → Bytes → DriverSide → DriverSide → Type 0
 Drove zero answer len eop before after old new = Tried PostedOne answer old new
 Drove (suc zero) answer len eop before after old new = Tried PublishedAll answer old new
@@ -77,7 +78,7 @@ Drove _ answer len eop before after old new = answer ≡ 4294967295
 
 -- ---- a controller's steps
 
--- A4 and A5, and where it ends its frame A7: one more segment is stored, of these bytes
+-- A4 and A5, and A7 if it ends its frame: one more segment of these bytes is stored
 pub record WroteOne (bytes : Bytes) (eop : Bool) (old new : ControllerSide) : Type 0 where
   pub number : ℕ
   pub word : ℕ
@@ -86,14 +87,14 @@ pub record WroteOne (bytes : Bytes) (eop : Bool) (old new : ControllerSide) : Ty
   pub head : new ≡ (if eop then controller_grown written (controller.StoredHead (serve_place written)) else written)
   pub grew : stored new ≡ stored old ++ record { number = number; payload = bytes; eop = eop } ∷ []
 
--- the same, where a descriptor was known to be free, or a load of the tail (A3) showed one
+-- the same; a descriptor was known to be free, or a load of the tail (A3) showed one
 pub record StoredOne (bytes : Bytes) (eop : Bool) (old new : ControllerSide) : Type 0 where
   pub ready : ControllerSide
   pub knew : (ready ≡ old) ⊎ ((free : ℕ) × FoundFree old free ready)
   pub wrote : WroteOne bytes eop ready new
   pub grew : stored new ≡ stored old ++ record { number = wrote.number; payload = bytes; eop = eop } ∷ []
 
--- none was known to be free, and a load of the tail (A3) showed none
+-- no descriptor was known to be free, and a load of the tail (A3) showed none
 pub record FoundNoneFree (old new : ControllerSide) : Type 0 where
   pub few_known : known_free old ≡ 0
   pub looked : FoundFree old 0 new
@@ -102,25 +103,25 @@ pub record FoundNoneFree (old new : ControllerSide) : Type 0 where
 abbrev pub SaidNoMore : ControllerSide → ControllerSide → Type 0
 SaidNoMore old new = new ≡ controller_grown old (controller.Own SaidQuiet)
 
--- a storing with this answer
+-- a storing with this result
 abbrev pub TriedStore : ℕ → Bytes → Bool → ControllerSide → ControllerSide → Type 0
 TriedStore answer bytes eop old new = (answer ≡ 1 → StoredOne bytes eop old new) × (answer ≡ 0 → FoundNoneFree old new) × (answer ≢ 0 → answer ≢ 1 → new ≡ old)
 
--- the step of an operation, by its number, with this answer
+-- the step of an operation, by its number, with this result
 abbrev pub Served : ℕ → ℕ → Bytes → Bool → ControllerSide → ControllerSide → Type 0
 Served zero answer bytes eop old new = TriedAnswer answer old new
 Served (suc zero) answer bytes eop old new = TriedStore answer bytes eop old new
 Served (suc (suc zero)) answer bytes eop old new = Tried SaidNoMore answer old new
 Served _ answer bytes eop old new = answer ≡ 4294967295
 
--- ---- what the objects behind the handles keep
+-- ---- the invariants of the objects behind the handles
 
--- the end is of the object's ring, and of a frame that is begun so many segments and bytes are stored
+-- the end belongs to the object's ring, and of the unfinished frame this many segments and bytes are stored
 pub record IsServing (ring : TableId) (c : ControllerSide) (begun : Begun) : Type 0 where
   pub own : c.table ≡ ring
   pub begun_is : is_between c ≡ false → IsBegun piece_of (stored c) begun
 
--- the end is of the object's ring, and unless it was said that buffers were reclaimed in this epoch, none was
+-- the end belongs to the object's ring, and no buffer was reclaimed in this epoch unless `reclaiming`
 pub record IsDriving (ring : TableId) (d : DriverSide) (reclaiming : Bool) : Type 0 where
   pub own : d.table ≡ ring
   pub none_back : reclaiming ≡ false → reclaimed d ≡ 0

@@ -1,4 +1,4 @@
--- What the exports of both kinds of rings say alike of the two ends that handles hold, and of their steps.
+-- The common steps of the ends of both directions that handles hold.
 use Rattle.std.specs.Prelude.{◌≡◌, ◌≢◌, ℕ, Option}
 use Rattle.buffer_pool.specs.Buffer.{Buffer}
 use Rattle.shared_ring.specs.declared.ends.HandshakeStep.{HandshakeStep}
@@ -11,11 +11,11 @@ use Rattle.shared_ring.specs.Forms.{Form}
 use Rattle.poll82599_c.specs.Held.{Between, OfBoth, Tried}
 
 module _ {Ring Posted Served Given D C : Type 0} {form : Form Ring Posted Served Given D C} where
-  -- both are ends of one ring, if both are there
+  -- if both are there, they are ends of one ring
   abbrev pub AreOfOne : Option (DriverSide form) → Option (ControllerSide form) → Type 0
   AreOfOne = OfBoth (λ d c. d.table ≡ c.table)
 
-  -- the end is there before and after, and of the same ring
+  -- the end is there before and after, and belongs to the same ring
   abbrev pub SameDriven : Option (DriverSide form) → Option (DriverSide form) → Type 0
   SameDriven = Between (λ old new. new.table ≡ old.table)
 
@@ -39,29 +39,29 @@ module _ {Ring Posted Served Given D C : Type 0} {form : Form Ring Posted Served
   abbrev pub LoadedControl : ℕ → DriverSide form → DriverSide form → Type 0
   LoadedControl value old new = new ≡ driver_grown old (driver.LoadedControl value)
 
-  -- a step of the handshake with this answer
+  -- a step of the handshake with this result
   abbrev pub TriedShake : HandshakeStep → ℕ → DriverSide form → DriverSide form → Type 0
   TriedShake AskEnable answer old new = Tried AskedEnable answer old new
   TriedShake LoadControl answer old new = LoadedControl answer old new
   TriedShake AskDisable answer old new = Tried AskedDisable answer old new
 
-  -- C6: the oldest buffer that was out is back
+  -- C6: the oldest buffer in the ring is back
   pub record ReclaimedOne (old new : DriverSide form) : Type 0 where
     pub buf : Buffer
     pub step : new ≡ driver_grown old (driver.Reclaimed (next_place old) buf)
 
   -- ---- a controller's steps
 
-  -- C2: what is asked was loaded, and not answered
+  -- C2: the request was loaded, and not answered
   pub record LookedAsked (old new : ControllerSide form) : Type 0 where
     pub value : ℕ
     pub step : new ≡ controller_grown old (controller.LoadedRequest value)
 
-  -- C2 and C3: it was loaded, and answered
+  -- C2 and C3: the request was loaded, and answered
   pub record AnsweredAsked (old new : ControllerSide form) : Type 0 where
     pub value : ℕ
     pub step : Answered (controller_grown old (controller.LoadedRequest value)) new
 
-  -- 1 answers that it was answered, and another number that it was not
+  -- 1: the request was answered; any other result: it was not
   abbrev pub TriedAnswer : ℕ → ControllerSide form → ControllerSide form → Type 0
   TriedAnswer answer old new = (answer ≡ 1 → AnsweredAsked old new) × (answer ≢ 1 → LookedAsked old new)

@@ -1,4 +1,4 @@
--- What the exports of a transmit ring say of the two ends that handles hold, and of their steps.
+-- The two ends of a transmit ring that handles hold, and their steps.
 use Rattle.std.specs.Prelude.{◌≡◌, ◌≢◌, ℕ, zero, suc, Option, Bool, true, false, ◌++◌, length, drop, [], ◌∷◌}
 use Rattle.std.specs.Int.{from_bool}
 use Rattle.atomic_table.specs.Seated.{TableId}
@@ -19,27 +19,27 @@ use Rattle.poll82599_c.specs.rings.Following.{IsPosting}
 use Rattle.poll82599_c.specs.rings.Steps.{AskedDisable, AskedEnable, LoadedControl, PublishedAll, ReclaimedOne, TriedAnswer}
 use Rattle.poll82599_c.specs.declared.rings.begun.Begun.{Begun}
 
--- both are fresh ends of one ring of n descriptors that reports so
+-- both are fresh ends of one ring of n descriptors that reports in this way
 abbrev pub AreMade : ℕ → Completion → Option DriverSide → Option ControllerSide → Type 0
 AreMade n by = Both (λ d c. MadeSeats n by d.table d c)
 
--- the records of both, if both are there, are those of one lawful ring: what is sent is a beginning of what is posted
+-- if both are there, their records are those of one lawful ring: a beginning of what was posted was sent
 abbrev pub AreLawful : Option DriverSide → Option ControllerSide → Type 0
 AreLawful = OfBoth (λ d c. IsLawfulTxLedger Bytes (driver_size d) (ledger_of d c))
 
--- where the head was loaded, what was said to be left is what of the posted is not sent
+-- if the head was loaded, the number left is that of the posted segments that were not sent
 abbrev pub AreTold : Option DriverSide → Option ControllerSide → Type 0
 AreTold = OfBoth (λ d c. IsTold (told_left d) (length (sent_now d c)) (length (posted d)))
 
 -- ---- a driver's steps
 
--- B1: one more segment is posted, of these bytes, with EOP, RS and PAYLEN
+-- B1: one more segment of these bytes is posted, with EOP, RS and PAYLEN
 pub record PostedSegment (bytes : Bytes) (eop rs : Bool) (paylen : ℕ) (old new : DriverSide) : Type 0 where
   pub number : ℕ
   pub step : new ≡ driver_grown old (driver.Posted (fill_place old) (tx_word (length bytes) eop rs paylen) (buffer number bytes))
   pub grew : posted new ≡ posted old ++ new_posting number bytes eop rs paylen ∷ []
 
--- B7: a load showed no report, or without a step none was outstanding
+-- B7: a load showed no report; or no report was outstanding, and no step was made
 abbrev pub SawNoReport : DriverSide → DriverSide → Type 0
 SawNoReport old new = Polled old false new
 
@@ -48,11 +48,11 @@ pub record CleanedBuffer (old new : DriverSide) : Type 0 where
   pub buf : Buffer
   pub clean : CleanedOne old buf new
 
--- the load of a report with this answer
+-- the load of a report with this result
 abbrev pub TriedReport : ℕ → DriverSide → DriverSide → Type 0
 TriedReport answer old new = (answer ≡ 1 → SawReported old new) × (answer ≢ 1 → SawNoReport old new)
 
--- the step of an operation, by its number, with this answer
+-- the step of an operation, by its number, with this result
 abbrev pub Drove : ℕ → ℕ → ℕ → Bytes → Bool → Bool → ℕ → DriverSide → DriverSide → Type 0
 Drove zero answer len bytes eop rs paylen old new = Tried (PostedSegment bytes eop rs paylen) answer old new
 Drove (suc zero) answer len bytes eop rs paylen old new = Tried PublishedAll answer old new
@@ -68,7 +68,8 @@ Drove _ answer len bytes eop rs paylen old new = answer ≡ 4294967295
 
 -- ---- a controller's steps
 
--- B4 and B5: one more segment is sent, its bytes are at the beginning of the room, and where it asks for a report the last step (B6) makes it
+-- B4 and B5: one more segment is sent, its bytes are at the beginning of the room, and if it asks for a report the last
+-- step (B6) reports it
 pub record SentOne (len eop : ℕ) (before after : Bytes) (old new : ControllerSide) : Type 0 where
   pub item : Posting
   pub step : sent new ≡ sent old ++ item ∷ []
@@ -80,28 +81,29 @@ pub record SentOne (len eop : ℕ) (before after : Bytes) (old new : ControllerS
   pub reported : item.rs ≡ true → new ≡ controller_grown given (controller.Own (report_of (controller_size given) given.completion (length (sent given))))
   pub unreported : item.rs ≡ false → new ≡ given
 
--- none was known to be ready, and a load of the tail (B3) showed none
+-- no descriptor was known to be ready, and a load of the tail (B3) showed none
 pub record FoundNoneReady (old new : ControllerSide) : Type 0 where
   pub few_known : known_ready old ≡ 0
   pub looked : FoundReady old 0 new
 
--- nothing was sent, and nothing handed out: none was ready, or where another number is answered no step was made
+-- nothing was sent or handed out; with result 0 none was ready, otherwise no step was made
 pub record SentNone (answer : ℕ) (before after : Bytes) (old new : ControllerSide) : Type 0 where
   pub looked : answer ≡ 0 → FoundNoneReady old new
   pub still : answer ≢ 0 → new ≡ old
   pub kept : after ≡ before
 
--- a sending with this answer
+-- a sending with this result
 abbrev pub TriedSend : ℕ → ℕ → ℕ → Bytes → Bytes → ControllerSide → ControllerSide → Type 0
 TriedSend answer len eop before after old new = (answer ≡ 1 → SentOne len eop before after old new) × (answer ≢ 1 → SentNone answer before after old new)
 
--- the step of an operation, by its number, with this answer
+-- the step of an operation, by its number, with this result
 abbrev pub Served : ℕ → ℕ → ℕ → ℕ → Bytes → Bytes → ControllerSide → ControllerSide → Type 0
 Served zero answer len eop before after old new = TriedAnswer answer old new
 Served (suc zero) answer len eop before after old new = TriedSend answer len eop before after old new
 Served _ answer len eop before after old new = answer ≡ 4294967295
 
--- ---- what the object behind a driver's handle keeps: the end is of its ring, and of a frame that is begun so many segments and bytes are posted, each with this PAYLEN
+-- ---- the invariant of a driver's object: its end belongs to its ring, and of the unfinished frame this many segments
+-- and bytes are posted, each with this PAYLEN
 pub record IsDriving (ring : TableId) (d : DriverSide) (begun : Begun) (paylen : ℕ) : Type 0 where
   pub own : d.table ≡ ring
   pub begun_is : are_whole (posted d) ≡ false → IsPosting (posted d) begun paylen

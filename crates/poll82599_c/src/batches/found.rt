@@ -1,7 +1,7 @@
-//! What a call found.
+//! The result of a call that counts something.
 ghost use Rattle.std.specs.Prelude.{◌≡◌};
 
-/// What a call answers, and how many there were.
+/// The result number of a call, and how many packets, buffers, segments or bytes it counted.
 #[derive(Clone, Copy)]
 pub(crate) struct Found {
     pub(crate) answer: u32,
@@ -9,7 +9,7 @@ pub(crate) struct Found {
 }
 
 impl Found {
-    /// An answer, and none.
+    /// A result without a count: `count` is 0.
     pub(crate) fn nothing(answer: u32) -> Found
         ensures { result.answer ≡ answer }
     {

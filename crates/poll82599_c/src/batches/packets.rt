@@ -1,4 +1,4 @@
-//! A worker's buffers: those that are empty, and the packets that it has.
+//! A worker's buffers: its empty ones, and its packets.
 ghost use Rattle.std.specs.Prelude.{◌≡◌, ◌+◌, ◌*◌, ◌<◌, ◌≤◌, ◌++◌, ◌⊎◌, true, false, [], length, reverse, Some, IfErr, IfOk};
 ghost use Rattle.poll82599_c.specs.Handles.{as_packets};
 ghost use Rattle.buffer_pool.specs.declared.stash.TheConstants.{STASH_BUFFERS};
@@ -36,7 +36,7 @@ impl Model for Packets {
 }
 
 impl Packets {
-    /// These buffers, and no packet.
+    /// Makes a worker's packets of these empty buffers, without a packet.
     pub(crate) fn of(stash: Stash) -> Packets
         ensures stash { result.stash ≡ stash }
         ensures none { result.packets ≡ [] }
@@ -47,8 +47,8 @@ impl Packets {
         }
     }
 
-    /// Makes a packet of these bytes, behind the others: 1; 0 where there are 32, or too few empty buffers; 2 where no frame
-    /// has so many bytes.
+    /// Makes a packet of a frame and appends it. Returns 1: done; 0: there are 32 packets, or too few empty buffers; 2:
+    /// the frame's length is not 14 to 15,000 bytes.
     pub(crate) fn put(&mut self, frame: &[u8]) -> u32
         ensures step { TriedPut result frame.now self.old self.new }
     {
@@ -62,8 +62,8 @@ impl Packets {
         1
     }
 
-    /// Copies packet `i`, counted from 0, into a room: 1; 0 where there is no such packet; 4 where the room is too small. With 1
-    /// and 4 it says the packet's length.
+    /// Copies packet `i`, counted from 0, to the beginning of `room`. Returns 1: done; 0: there is no such packet; 4:
+    /// `room` is too small. With 1 and 4 the count is the packet's length.
     pub(crate) fn copy(&self, i: usize, room: &mut [u8]) -> Found
         ensures step { TriedCopy result.answer i result.count room.old room.new self.now self.now }
     {
@@ -83,7 +83,7 @@ impl Packets {
         }
     }
 
-    /// Reads a byte of packet `i`: 1, and the byte; 0 where there is no such packet or byte.
+    /// Reads a byte of packet `i`. Returns 1 and the byte, or 0 if there is no such packet or byte.
     pub(crate) fn byte(&self, i: usize, at: usize) -> (u32, u8)
         ensures step { TriedRead result.0 i at result.1 self.now self.now }
     {
@@ -93,7 +93,7 @@ impl Packets {
         }
     }
 
-    /// Puts a byte into packet `i`, in place of the one that stood there: 1; 0 where there is no such packet or byte.
+    /// Replaces a byte of packet `i` in place. Returns 1, or 0 if there is no such packet or byte.
     pub(crate) fn touch(&mut self, i: usize, at: usize, byte: u8) -> u32
         ensures step { TriedTouch result i at byte self.old self.new }
     {
@@ -103,8 +103,8 @@ impl Packets {
         0
     }
 
-    /// Lets packet `i` go, and has its buffers in the stash again: 1; 0 where there is no such packet; 2 where the stash has no
-    /// room for them.
+    /// Removes packet `i` and puts its buffers into the stash. Returns 1: done; 0: there is no such packet; 2: the
+    /// stash has no room for them.
     pub(crate) fn release(&mut self, i: usize) -> u32
         ensures step { TriedRelease result i self.old self.new }
     {
@@ -120,7 +120,8 @@ impl Packets {
     }
 }
 
-/// A worker's packets: none, and so many empty buffers.
+/// Makes a worker's packets: none, and `buffers` empty buffers. Refuses if `buffers` is not 16 to 256, or memory is
+/// refused.
 pub(crate) fn fresh_packets(alloc: Global, buffers: u32) -> Result<Box<End>, Unmade>
     ensures made { IfOk result (λ p. IsMade buffers (as_packets (Some p.value))) }
     ensures refusals { IfErr result (λ e. (e ≡ Unmade.Buffers) ⊎ (e ≡ Unmade.Memory)) }
@@ -129,7 +130,7 @@ pub(crate) fn fresh_packets(alloc: Global, buffers: u32) -> Result<Box<End>, Unm
     boxed(alloc, End::Packets(Packets::of(stash_of(alloc, buffers)?)))
 }
 
-/// A packet of these bytes, in buffers of the stash.
+/// Makes a packet of a frame, in buffers of the stash.
 fn packed(stash: &mut Stash, frame: &[u8]) -> Packet
     requires frame { HasFrameLength frame.now }
     requires enough { length frame.now ≤ BUFFER_BYTES * length stash.old }
@@ -146,7 +147,7 @@ fn packed(stash: &mut Stash, frame: &[u8]) -> Packet
     packet
 }
 
-/// Puts some bytes behind those of a packet, in a buffer of the stash.
+/// Appends a segment with these bytes to a packet, in a buffer of the stash.
 fn push_piece(packet: &mut Packet, stash: &mut Stash, bytes: &[u8])
     requires some_bytes { 0 < length bytes.now }
     requires few_bytes { length bytes.now ≤ BUFFER_BYTES }
@@ -161,7 +162,7 @@ fn push_piece(packet: &mut Packet, stash: &mut Stash, bytes: &[u8])
     packet.push_back(buf);
 }
 
-/// Puts a byte into one of these packets, if there are such a packet and byte, and answers whether.
+/// Replaces a byte of packet `i`. Returns whether there is such a packet and byte.
 fn set_in(packets: &mut [Packet], i: usize, at: usize, byte: u8) -> bool
     ensures step { result ≡ true → SetIn i at byte packets.old packets.new }
     ensures absent { result ≡ false → HasNoByte i at packets.old }

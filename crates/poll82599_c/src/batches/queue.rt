@@ -1,4 +1,4 @@
-//! What the drivers of queues of both directions do alike, and what each of them does.
+//! The drivers of receive and transmit queues: their common calls, and those of each direction.
 ghost use Rattle.std.specs.Prelude.{◌≡◌, true, false, IfOk, OnErr, OnOk};
 ghost use Rattle.ring_model.specs.shared.Handshakes.{is_on, is_stopped};
 ghost use Rattle.shared_ring.specs.Ends.{driver_state};
@@ -15,56 +15,58 @@ use driver::{DriverError, QueueDriver, RxDriver, TxDriver};
 use rx_ring::RxRing;
 use tx_ring::TxRing;
 
-/// What a thread has that drives a receive queue in batches.
+/// The driver of a receive queue in batches, which one thread owns.
 pub(crate) type RxQueue = Half<RxRing, RxDriver>;
 
-/// What a thread has that drives a transmit queue in batches.
+/// The driver of a transmit queue in batches, which one thread owns.
 pub(crate) type TxQueue = Half<TxRing, TxDriver>;
 
-/// A queue's driver of either direction, with the ring that it shares. Each direction has the calls of its own driver, and by them
-/// all have the calls with numbers.
+/// The driver of a queue of either direction, with the ring that it shares. Each direction supplies the `try_` calls of
+/// its own driver. The calls with result numbers follow from them.
 pub trait Queue: Sized {
     ghost use Rattle.poll82599_c.specs.batches.Queues.{Directed};
 
-    /// What it is of its direction.
+    /// The definitions of its direction.
     ghost way: { Directed Self };
 
-    /// Whether the disabling was seen answered.
+    /// Whether a disabling was seen answered.
     fn is_stopped(&self) -> bool
         ensures { result ≡ is_stopped (driver_state (way.kind.end_of self.now)) };
 
-    /// Has the buffers of a disabled queue in the stash again, and says how many these were.
+    /// Takes the buffers of a disabled queue back into the stash, and returns how many. Refuses if the stash has no
+    /// room for all; then as many as fit have come back.
     fn try_reclaim(&mut self, packets: &mut Packets) -> Result<usize, DriverError>
         requires stopped { is_stopped (driver_state (way.kind.end_of self.old)) ≡ true }
         ensures own { (way.kind.end_of self.new).table ≡ (way.kind.end_of self.old).table }
         ensures all { IfOk result (λ count. AllCame way.kind count self.old packets.old self.new packets.new) }
         ensures full { OnErr result (FilledUp way.kind self.old packets.old self.new packets.new) };
 
-    /// Asks for an enabling, if nothing was asked yet, and loads the control word: whether the queue is on.
+    /// Asks for an enabling if nothing was asked yet, and loads the control word. Returns whether the queue is on, and
+    /// refuses if it was seen disabled.
     fn try_enable(&mut self) -> Result<bool, DriverError>
         ensures own { (way.kind.end_of self.new).table ≡ (way.kind.end_of self.old).table }
         ensures asked { IfOk result (λ on. TriedEnabling way.kind on self.old self.new) }
         ensures stopped { OnErr result ((is_stopped (driver_state (way.kind.end_of self.old)) ≡ true) × (self.new ≡ self.old)) };
 
-    /// Asks for a disabling.
+    /// Asks for a disabling. Refuses if the queue is not on.
     fn try_disable(&mut self) -> Result<(), DriverError>
         ensures own { (way.kind.end_of self.new).table ≡ (way.kind.end_of self.old).table }
         ensures asked { OnOk result (AskedDisable way.kind self.old self.new) }
         ensures off { OnErr result ((is_on (driver_state (way.kind.end_of self.old)) ≡ false) × (self.new ≡ self.old)) };
 
-    /// Loads the control word, and once the disabling is answered the head: how many segments are left.
+    /// Loads the control word and, once the disabling is answered, the head. Returns how many segments are left.
     fn try_finish(&mut self) -> Option<u32>
         ensures own { (way.kind.end_of self.new).table ≡ (way.kind.end_of self.old).table }
         ensures step { TriedFinish way.kind result self.old self.new };
 
-    /// Clears the registers of a disabled queue from which all buffers came back.
+    /// Clears the registers of a disabled queue. Refuses if not all buffers came back.
     fn try_renew(&mut self) -> Result<(), DriverError>
         ensures own { (way.kind.end_of self.new).table ≡ (way.kind.end_of self.old).table }
         ensures renewed { OnOk result (way.kind.Renewed self.old self.new) }
         ensures left { OnErr result ((¬ way.kind.IsEmptied self.old) × (self.new ≡ self.old)) };
 
-    /// Has the buffers of a disabled queue in the stash again: 1, and how many these were; 0 where the stash has no room for all,
-    /// and as many came as fit; 2 where no disabling was seen answered.
+    /// Takes the buffers of a disabled queue back into the stash. Returns 1: done, and how many; 0: the stash is full,
+    /// and some are left; 2: no disabling was seen answered.
     final fn reclaim(&mut self, packets: &mut Packets) -> Found
         ensures own { (way.kind.end_of self.new).table ≡ (way.kind.end_of self.old).table }
         ensures step { TriedReclaim way.kind result.answer result.count self.old packets.old self.new packets.new }
@@ -78,8 +80,8 @@ pub trait Queue: Sized {
         }
     }
 
-    /// Asks for the queue to be enabled, if nothing was asked yet, and loads the control word: 1 where it is on; 0 where it is
-    /// not; 2 where it was seen disabled, and has to be renewed first.
+    /// Asks for an enabling if nothing was asked yet, and loads the control word. Returns 1: the queue is on; 0: it is
+    /// not; 2: it was seen disabled, and must be renewed first.
     final fn enable(&mut self) -> u32
         ensures own { (way.kind.end_of self.new).table ≡ (way.kind.end_of self.old).table }
         ensures step { TriedEnable way.kind result self.old self.new }
@@ -91,7 +93,7 @@ pub trait Queue: Sized {
         }
     }
 
-    /// Asks for the queue to be disabled: 1, or 0 where it is not on.
+    /// Asks for a disabling. Returns 1, or 0 if the queue is not on.
     final fn ask_disable(&mut self) -> u32
         ensures own { (way.kind.end_of self.new).table ≡ (way.kind.end_of self.old).table }
         ensures step { TriedDisable way.kind result self.old self.new }
@@ -102,7 +104,8 @@ pub trait Queue: Sized {
         }
     }
 
-    /// Loads the control word, and once the disabling is answered the head: 1, and how many segments are left, once; else 0.
+    /// Loads the control word and, once the disabling is answered, the head. Returns 1 and how many segments are left,
+    /// once; otherwise 0.
     final fn finish_disable(&mut self) -> Found
         ensures own { (way.kind.end_of self.new).table ≡ (way.kind.end_of self.old).table }
         ensures step { TriedLeft way.kind result.answer result.count self.old self.new }
@@ -116,8 +119,8 @@ pub trait Queue: Sized {
         }
     }
 
-    /// Clears the registers of a disabled queue from which all buffers came back: 1; or 0 where it was not seen disabled, or
-    /// buffers are left.
+    /// Clears the registers of a disabled queue. Returns 1, or 0 if it was not seen disabled or not all buffers came
+    /// back.
     final fn renew(&mut self) -> u32
         ensures own { (way.kind.end_of self.new).table ≡ (way.kind.end_of self.old).table }
         ensures step { TriedRenewal way.kind result self.old self.new }
@@ -186,8 +189,8 @@ impl Queue for Half<TxRing, TxDriver> {
 }
 
 impl Half<RxRing, RxDriver> {
-    /// Takes the packets that are done, up to a batch of them and as many as the worker has room for, and posts empty buffers
-    /// of its stash: 1, and how many packets these were; 0 where the queue was not seen enabled, or was seen disabled.
+    /// Takes the packets that are complete, up to a batch and as many as the worker has room for, and posts empty
+    /// buffers of its stash. Returns 1: done, and how many packets; 0: the queue was not seen on, or was seen disabled.
     pub(crate) fn batch(&mut self, packets: &mut Packets) -> Found
         ensures own { self.new.end.table ≡ self.old.end.table }
         ensures step { rx.TriedBatch result.answer result.count self.old packets.old self.new packets.new }
@@ -201,7 +204,7 @@ impl Half<RxRing, RxDriver> {
         }
     }
 
-    /// Loads whether the device says that it stores no more: 1 or 0.
+    /// Loads the quiet word. Returns 1 if the device stores no more, otherwise 0.
     pub(crate) fn is_quiet(&mut self) -> u32
         ensures own { self.new.end.table ≡ self.old.end.table }
         ensures step { FoundQuiet result self.old self.new }
@@ -211,9 +214,9 @@ impl Half<RxRing, RxDriver> {
 }
 
 impl Half<TxRing, TxDriver> {
-    /// Has reported buffers in the stash again, and posts and publishes the worker's packets from the oldest on, as long as they
-    /// fit: 1, and how many these were; 0 where the queue was not seen enabled, or was seen disabled; 3 where the oldest packet is
-    /// too long for the ring, and reported buffers came back alone.
+    /// Takes reported buffers back into the stash, then posts and publishes the worker's packets from the oldest on
+    /// while they fit. Returns 1: done, and how many packets; 0: the queue was not seen on, or was seen disabled; 3:
+    /// the oldest packet is too long for the ring, and only reported buffers came back.
     pub(crate) fn batch(&mut self, packets: &mut Packets) -> Found
         ensures own { self.new.end.table ≡ self.old.end.table }
         ensures step { tx.TriedBatch result.answer result.count self.old packets.old self.new packets.new }
@@ -228,8 +231,8 @@ impl Half<TxRing, TxDriver> {
         }
     }
 
-    /// Has reported buffers in the stash again: 1, and how many these were; 0 where the queue was not seen enabled, or was seen
-    /// disabled.
+    /// Takes reported buffers back into the stash. Returns 1: done, and how many; 0: the queue was not seen on, or was
+    /// seen disabled.
     pub(crate) fn clean(&mut self, packets: &mut Packets) -> Found
         ensures own { self.new.end.table ≡ self.old.end.table }
         ensures step { TriedCleaning result.answer result.count self.old packets.old self.new packets.new }

@@ -1,4 +1,4 @@
-//! The controller of a receive queue, and the ring that it shares.
+//! The device of a receive queue: its controller, and the ring that it shares.
 ghost use Rattle.std.specs.Prelude.{◌≡◌, ◌≢◌, true, false};
 ghost use Rattle.controller.specs.Tallying.{AddsUp};
 ghost use Rattle.poll82599_c.specs.batches.Receiving.{TriedOffer, TriedQuiet, Turned};
@@ -7,13 +7,13 @@ use crate::half::Half;
 use controller::{Offer, RxController, Tally};
 use rx_ring::RxRing;
 
-/// What a thread has that plays the device of a receive queue.
+/// The device of a receive queue, which one thread owns.
 pub(crate) type RxDevice = Half<RxRing, RxController>;
 
 impl Half<RxRing, RxController> {
-    /// Offers a frame that came in: 1 where it is stored, cut into segments; 0 where too few descriptors are free, and it is to be
-    /// offered again; 2 where no frame has so many bytes; 3 where the queue is not served, or quiet; 4 where the ring is too short
-    /// for it; 5 where too few descriptors are free, and it is dropped.
+    /// Offers a frame that came in. Returns 1: stored, cut into segments; 0: too few descriptors are free, offer it
+    /// again; 2: its length is not 14 to 15,000 bytes; 3: the queue is off or quiet; 4: it needs at least as many
+    /// descriptors as the ring has; 5: too few descriptors are free, and it is dropped.
     pub(crate) fn offer(&mut self, frame: &[u8]) -> u32
         ensures own { self.new.end.table ≡ self.old.end.table }
         ensures step { TriedOffer result frame.now self.old self.new }
@@ -28,8 +28,8 @@ impl Half<RxRing, RxController> {
         }
     }
 
-    /// Loads what is asked, and answers it where it may. It gives the control value that it stored, else the one that it loaded: 0
-    /// off, 1 an enabling is asked for, 2 on, 3 a disabling is asked for.
+    /// Loads the control word, and answers a request if it can. Returns the word that it stored, otherwise the one that
+    /// it loaded: 0 off, 1 enabling asked for, 2 on, 3 disabling asked for.
     pub(crate) fn turn_control(&mut self) -> u32
         ensures own { self.new.end.table ≡ self.old.end.table }
         ensures step { Turned result self.old self.new }
@@ -37,7 +37,7 @@ impl Half<RxRing, RxController> {
         u32::from(self.end.turn_control(&self.ring).word())
     }
 
-    /// Says that no more is stored in this epoch: 1, or 0 where the queue is not served, or that was said.
+    /// Says that no more is stored in this epoch. Returns 1, or 0 if the queue is off or this was said before.
     pub(crate) fn finish(&mut self) -> u32
         ensures own { self.new.end.table ≡ self.old.end.table }
         ensures step { (result ≡ 1) → TriedQuiet true self.old self.new }
@@ -46,7 +46,7 @@ impl Half<RxRing, RxController> {
         u32::from(self.end.finish(&self.ring))
     }
 
-    /// How many frames were offered, and what became of them.
+    /// Counts the frames that were offered: stored, dropped and oversize.
     pub(crate) fn tally(&self) -> Tally
         ensures value { result ≡ self.now.tally }
         ensures adds { AddsUp result }

@@ -1,4 +1,4 @@
-//! The controller of a transmit queue, and the ring that it shares.
+//! The device of a transmit queue: its controller, and the ring that it shares.
 ghost use Rattle.std.specs.Prelude.{◌≡◌, ◌<◌, IfErr, IfOk, length};
 ghost use Rattle.poll82599_c.specs.batches.Transmitting.{CopiedFirst, IsBeyond, TriedTurn, Turned};
 
@@ -10,13 +10,13 @@ use opaque::overwrite;
 use std::alloc::Global;
 use tx_ring::TxRing;
 
-/// What a thread has that plays the device of a transmit queue.
+/// The device of a transmit queue, which one thread owns.
 pub(crate) type TxDevice = Half<TxRing, TxController>;
 
 impl Half<TxRing, TxController> {
-    /// Sends the next frame into a room of 15,000 bytes, and reports it where that is asked for: 1, and its length; 0 where none is
-    /// ready; 3 where the queue is not served; 4 where the room is too small, which sends nothing; 5 where memory was refused, which
-    /// sends nothing; 6, and its length, where it is longer than the room, into which nothing is put then.
+    /// Sends the next frame into `room`, at least 15,000 bytes, and reports it if it asks for a report. Returns 1 and
+    /// its length: sent; 0: none is ready; 3: the queue is off; 4: `room` is too small; 5: memory was refused; 6 and
+    /// its length: sent, but longer than `room`, which stays as it was. Only 1 and 6 send anything.
     pub(crate) fn turn(&mut self, alloc: Global, room: &mut [u8]) -> Found
         ensures own { self.new.table ≡ self.old.table }
         ensures step { TriedTurn result.answer result.count room.old room.new self.old self.new }
@@ -36,8 +36,8 @@ impl Half<TxRing, TxController> {
         }
     }
 
-    /// Loads what is asked, and answers it where it may. It gives the control value that it stored, else the one that it loaded: 0
-    /// off, 1 an enabling is asked for, 2 on, 3 a disabling is asked for.
+    /// Loads the control word, and answers a request if it can. Returns the word that it stored, otherwise the one that
+    /// it loaded: 0 off, 1 enabling asked for, 2 on, 3 disabling asked for.
     pub(crate) fn turn_control(&mut self) -> u32
         ensures own { self.new.table ≡ self.old.table }
         ensures step { Turned result self.old self.new }
@@ -46,7 +46,8 @@ impl Half<TxRing, TxController> {
     }
 }
 
-/// Copies the first frame of a wire into a room: its length; or its length as an error, where it is longer than the room.
+/// Copies the first frame of a wire to the beginning of `room`. Returns its length, as an error if the frame is longer
+/// than `room`.
 fn copied(wire: &Wire, room: &mut [u8]) -> Result<usize, usize>
     requires { 0 < length wire.now }
     ensures copied { IfOk result (λ n. CopiedFirst n wire.now room.old room.new) }

@@ -1,4 +1,8 @@
-//! The exports that make a step of an end, a queue, a device or a worker's packets, by an operation's number.
+//! The exports that step an end, a queue, a device or a worker's packets.
+//!
+//! Each but `poll82599_packets_put` takes an operation's number in the call record and puts its result there. 1 means
+//! done; the other results are listed. `0xFFFF_FFFF` means an unknown operation, or a handle that is empty or of
+//! another kind; nothing changes. A handle is in one call at a time.
 ghost use Rattle.std.specs.Prelude.{◌≡◌, ◌≢◌, ◌<◌, ◌⊎◌, None};
 ghost use Rattle.opaque.specs.Words.{is_set};
 ghost use Rattle.poll82599_c.specs.Handles.{as_packets, as_rx_controller, as_rx_device, as_rx_driver, as_rx_queue, as_tx_controller, as_tx_device, as_tx_driver, as_tx_queue};
@@ -22,9 +26,17 @@ use opaque::is_set;
 use shared_ring::HandshakeStep;
 use std::alloc::Global;
 
-/// Makes a driver's step: 0 posts a buffer, 1 stores the tail, 2 polls into `bytes`, 3 asks for the queue to be enabled, 4
-/// loads the control word, 5 asks for it to be disabled, 6 loads the quiet word, 7 takes a buffer back out of a disabled
-/// queue, 8 renews one of which none is out, and 9 loads how many segments were left in a disabled queue.
+/// Steps a receive ring's driver. The driver's thread calls it. The operations:
+/// - 0 posts an empty buffer. 0: no free descriptor or buffer, or a disabling was asked for.
+/// - 1 stores the tail. 0: a disabling was asked for.
+/// - 2 polls a segment into `bytes`. 0: not done; 2: nothing is posted; 3: the queue is off; 4: `bytes` is below 2,048.
+/// - 3 asks for an enabling. 0: one was asked for before.
+/// - 4 loads the control word and returns it, 0 to 3.
+/// - 5 asks for a disabling. 0: the queue is not on.
+/// - 6 loads the quiet word and returns it, 0 or 1.
+/// - 7 takes a buffer out of a disabled ring. 0: there is none; 2: it was not seen disabled.
+/// - 8 renews a disabled ring. 0: it was not seen disabled, or a buffer is left in it.
+/// - 9 counts in `len` the segments left in a disabled ring. 0: a buffer was taken out; 2: it was not seen disabled.
 #[unsafe(no_mangle)]
 pub extern "C" fn poll82599_rx_drive(
     alloc: Global,
@@ -70,9 +82,14 @@ pub extern "C" fn poll82599_rx_drive(
     driver.put(held);
 }
 
-/// Makes a driver's step: 0 posts a segment with EOP, RS and PAYLEN, 1 stores the tail, 2 loads a report, 3 asks for the queue to be enabled, 4 loads the
-/// control word, 5 asks for it to be disabled, 6 cleans a descriptor that is seen reported, 7 takes a buffer back out of a
-/// disabled queue, 8 renews one of which none is out, and 9 loads how many segments were not sent in a disabled queue.
+/// Steps a transmit ring's driver. The driver's thread calls it. The operations:
+/// - 0 posts a segment with EOP, RS and PAYLEN. 0: no free descriptor or buffer, or a disabling was asked for; 2: the
+///   segment cannot follow its frame so far.
+/// - 1 stores the tail. 0: a disabling was asked for, or a frame is unfinished.
+/// - 2 loads the oldest outstanding report. 0: it is not made.
+/// - 3 to 5 and 7 to 8 are those of [`poll82599_rx_drive`].
+/// - 6 cleans a descriptor that is seen reported, and takes its buffer back. 0: there is none.
+/// - 9 counts in `len` the segments not sent in a disabled ring. 2: it was not seen disabled.
 #[unsafe(no_mangle)]
 pub extern "C" fn poll82599_tx_drive(
     alloc: Global,
@@ -119,8 +136,11 @@ pub extern "C" fn poll82599_tx_drive(
     driver.put(held);
 }
 
-/// Makes a controller's step: 0 loads what the driver asks and answers it where it may, 1 stores a segment, which ends its
-/// frame unless `eop` is 0, and 2 says that no more is stored.
+/// Steps a receive ring's controller. The controller's thread calls it. The operations:
+/// - 0 loads the control word and answers a request. 0: there is none, or it has to wait for the end of a frame.
+/// - 1 stores a segment, which ends its frame unless `eop` is 0. 0: no descriptor is free; 2: the segment cannot follow
+///   its frame so far; 3: the queue is off or quiet.
+/// - 2 says that no more is stored. 0: the queue is off, or a frame is unfinished.
 #[unsafe(no_mangle)]
 pub extern "C" fn poll82599_rx_serve(
     alloc: Global,
@@ -149,8 +169,10 @@ pub extern "C" fn poll82599_rx_serve(
     controller.put(held);
 }
 
-/// Makes a controller's step: 0 loads what the driver asks and answers it where it may, and 1 sends the next segment into
-/// `bytes`, and reports it where a report is asked for.
+/// Steps a transmit ring's controller. The controller's thread calls it. The operations:
+/// - 0 loads the control word and answers a request. 0: there is none, or it has to wait.
+/// - 1 sends the next segment into `bytes`, and reports it if it asks for a report. 0: none is ready; 3: the queue is
+///   off; 4: `bytes` is below 2,048.
 #[unsafe(no_mangle)]
 pub extern "C" fn poll82599_tx_serve(
     alloc: Global,
@@ -184,8 +206,10 @@ pub extern "C" fn poll82599_tx_serve(
     controller.put(held);
 }
 
-/// Moves buffers between a receive queue and a worker: 0 takes a batch of packets and posts empty buffers, and 1 has the buffers of
-/// a disabled queue in the stash again.
+/// Moves buffers between a receive queue and a worker, and counts them in `count`. The driver's thread calls it. The
+/// operations:
+/// - 0 takes a batch of packets and posts empty buffers. 0: the queue was not seen on, or was seen off.
+/// - 1 takes the buffers of a disabled queue back into the stash. 0: the stash is full; 2: it was not seen disabled.
 #[unsafe(no_mangle)]
 pub extern "C" fn poll82599_rx_queue_move(
     alloc: Global,
@@ -216,8 +240,12 @@ pub extern "C" fn poll82599_rx_queue_move(
     packets.put(worker);
 }
 
-/// Moves buffers between a worker and a transmit queue: 0 has reported buffers back and posts packets, 1 has the reported buffers
-/// back alone, and 2 has the buffers of a disabled queue in the stash again.
+/// Moves buffers between a worker and a transmit queue, and counts them in `count`. The driver's thread calls it. The
+/// operations:
+/// - 0 takes reported buffers back and posts packets. 0: the queue was not seen on, or was seen off; 3: the oldest
+///   packet is too long.
+/// - 1 takes reported buffers back. 0: the queue was not seen on, or was seen off.
+/// - 2 takes the buffers of a disabled queue back into the stash. 0: the stash is full; 2: it was not seen disabled.
 #[unsafe(no_mangle)]
 pub extern "C" fn poll82599_tx_queue_move(
     alloc: Global,
@@ -249,8 +277,14 @@ pub extern "C" fn poll82599_tx_queue_move(
     packets.put(worker);
 }
 
-/// Makes a driver's step: 0 asks for the queue to be enabled and loads the control word, 1 asks for it to be disabled, 2 looks whether
-/// that is answered and how many segments are left, 3 renews a disabled queue, and 4 loads the quiet word.
+/// Steps a receive queue's driver. The driver's thread calls it. The operations:
+/// - 0 asks for an enabling, if nothing was asked yet, and loads the control word. 0: not on yet; 2: seen disabled,
+///   renew it first.
+/// - 1 asks for a disabling. 0: the queue is not on.
+/// - 2 looks whether the disabling is answered, and counts in `count` the segments left. 0: not yet, or 1 was returned
+///   before.
+/// - 3 renews a disabled queue. 0: it was not seen disabled, or a buffer is left in it.
+/// - 4 loads the quiet word and returns it, 0 or 1.
 #[unsafe(no_mangle)]
 pub extern "C" fn poll82599_rx_queue_do(
     alloc: Global,
@@ -284,8 +318,8 @@ pub extern "C" fn poll82599_rx_queue_do(
     queue.put(end);
 }
 
-/// Makes a driver's step: 0 asks for the queue to be enabled and loads the control word, 1 asks for it to be disabled, 2 looks whether
-/// that is answered and how many segments are left, and 3 renews a disabled queue.
+/// Steps a transmit queue's driver. The driver's thread calls it. The operations are 0 to 3 of
+/// [`poll82599_rx_queue_do`].
 #[unsafe(no_mangle)]
 pub extern "C" fn poll82599_tx_queue_do(
     alloc: Global,
@@ -318,8 +352,12 @@ pub extern "C" fn poll82599_tx_queue_do(
     queue.put(end);
 }
 
-/// Makes a device's step: 0 offers a frame, 1 loads what the driver asks and answers it where it may, 2 says that no more is stored,
-/// and 3 hands out how many frames were offered and what became of them.
+/// Steps a receive queue's device. The device's thread calls it. The operations:
+/// - 0 offers a frame. 0: it is held, offer it again; 2: no frame has this length; 3: the queue is off or quiet; 4: it
+///   is oversize; 5: it is dropped.
+/// - 1 loads the control word and answers a request if it can. Returns the word, 0 to 3.
+/// - 2 says that no more is stored. 0: the queue is off, or this was said before.
+/// - 3 reads the frame counters.
 #[unsafe(no_mangle)]
 pub extern "C" fn poll82599_rx_device_do(
     alloc: Global,
@@ -357,7 +395,10 @@ pub extern "C" fn poll82599_rx_device_do(
     device.put(end);
 }
 
-/// Makes a device's step: 0 sends the next frame into `room`, and 1 loads what the driver asks and answers it where it may.
+/// Steps a transmit queue's device. The device's thread calls it. The operations:
+/// - 0 sends the next frame into `room`, with its length in `count`. 0: none is ready; 3: the queue is off; 4: `room`
+///   is below 15,000; 5: memory was refused; 6: it was sent, but is longer than `room`.
+/// - 1 loads the control word and answers a request if it can. Returns the word, 0 to 3.
 #[unsafe(no_mangle)]
 pub extern "C" fn poll82599_tx_device_do(
     alloc: Global,
@@ -390,8 +431,8 @@ pub extern "C" fn poll82599_tx_device_do(
     device.put(end);
 }
 
-/// Makes a packet of a frame's bytes, behind the others: 1; 0 where there are 32, or too few empty buffers; 2 where no frame has so
-/// many bytes.
+/// Makes a packet of a frame and appends it. The worker's thread calls it. Returns 1: done; 0: there are 32 packets, or
+/// too few empty buffers; 2: the length is not 14 to 15,000.
 #[unsafe(no_mangle)]
 pub extern "C" fn poll82599_packets_put(alloc: Global, packets: &mut Handle, frame: &[u8]) -> u32
     ensures other { as_packets packets.old.held ≡ None → (result ≡ 4294967295) × (packets.new.held ≡ packets.old.held) }
@@ -408,8 +449,13 @@ pub extern "C" fn poll82599_packets_put(alloc: Global, packets: &mut Handle, fra
     answer
 }
 
-/// Does something with one of a worker's packets: 0 copies it into `room`, 1 reads a byte, 2 replaces one in place, 3 lets the
-/// packet go, so that its buffers are in the stash again, and 4 hands out how many packets there are, and as `len` how many empty buffers.
+/// Handles one of a worker's packets. The worker's thread calls it. With 0 to 3 the result is 0 if there is no such
+/// packet or byte. The operations:
+/// - 0 copies a packet into `room`, with its length in `len`. 4: `room` is too small.
+/// - 1 reads a byte.
+/// - 2 replaces a byte in place.
+/// - 3 frees a packet into the stash. 2: the stash has no room for its buffers.
+/// - 4 counts the packets in `packet`, and the empty buffers in `len`.
 #[unsafe(no_mangle)]
 pub extern "C" fn poll82599_packets_do(
     alloc: Global,

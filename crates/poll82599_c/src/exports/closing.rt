@@ -1,4 +1,6 @@
-//! The exports that close a ring, a queue or a worker's packets, and what closes a ring by what two handles held.
+//! The exports that close a ring, a queue or a worker's packets.
+//!
+//! No other thread may use a handle that is closed. Both handles of a pair must hold the ends of one ring.
 ghost use Rattle.std.specs.Prelude.{◌≡◌, ◌≢◌, ◌⊎◌, Some, None, IfErr, IfOk, OnErr, negsuc};
 ghost use Rattle.poll82599_c.specs.Handles.{as_packets, as_rx_controller, as_rx_device, as_rx_driver, as_rx_queue, as_tx_controller, as_tx_device, as_tx_driver, as_tx_queue};
 ghost use Rattle.poll82599_c.specs.Pairs.{IsPair, LacksOne};
@@ -22,8 +24,8 @@ use rx_ring::{RxControllerEnd, RxDriverEnd, RxRing, meet_rx};
 use std::alloc::Global;
 use tx_ring::{TxControllerEnd, TxDriverEnd, TxRing, meet_tx};
 
-/// Closes a receive ring by its two ends: how many buffers lay in it, or -1 where another owner of the ring is left, or -2 where a
-/// handle holds nothing, or something of another kind, which leaves both handles.
+/// Closes a receive ring by its two ends. Returns how many buffers lay in it, or -1 if the ring has another owner; both
+/// handles are then empty. Returns -2 if a handle is empty or of another kind, and leaves both.
 #[unsafe(no_mangle)]
 pub extern "C" fn poll82599_rx_close(
     alloc: Global,
@@ -49,8 +51,8 @@ pub extern "C" fn poll82599_rx_close(
     rx_closed(driving, serving)
 }
 
-/// Closes a transmit ring by its two ends: how many buffers lay in it, or -1 where another owner of the ring is left, or -2 where a
-/// handle holds nothing, or something of another kind, which leaves both handles.
+/// Closes a transmit ring by its two ends. Returns how many buffers lay in it, or -1 if the ring has another owner;
+/// both handles are then empty. Returns -2 if a handle is empty or of another kind, and leaves both.
 #[unsafe(no_mangle)]
 pub extern "C" fn poll82599_tx_close(
     alloc: Global,
@@ -76,8 +78,8 @@ pub extern "C" fn poll82599_tx_close(
     tx_closed(driving, serving)
 }
 
-/// Closes a receive queue by its driver and its device: how many buffers lay in its ring, or -1 where another owner of the ring is
-/// left, or -2 where a handle holds nothing, or something of another kind, which leaves both handles.
+/// Closes a receive queue by its driver and its device. Returns how many buffers lay in its ring, or -1 if the ring has
+/// another owner; both handles are then empty. Returns -2 if a handle is empty or of another kind, and leaves both.
 #[unsafe(no_mangle)]
 pub extern "C" fn poll82599_rx_queue_close(
     alloc: Global,
@@ -103,8 +105,8 @@ pub extern "C" fn poll82599_rx_queue_close(
     rx_queue_closed(driving, serving)
 }
 
-/// Closes a transmit queue by its driver and its device: how many buffers lay in its ring, or -1 where another owner of the ring is
-/// left, or -2 where a handle holds nothing, or something of another kind, which leaves both handles.
+/// Closes a transmit queue by its driver and its device. Returns how many buffers lay in its ring, or -1 if the ring
+/// has another owner; both handles are then empty. Returns -2 if a handle is empty or of another kind, and leaves both.
 #[unsafe(no_mangle)]
 pub extern "C" fn poll82599_tx_queue_close(
     alloc: Global,
@@ -130,8 +132,8 @@ pub extern "C" fn poll82599_tx_queue_close(
     tx_queue_closed(driving, serving)
 }
 
-/// Gives a worker's packets and empty buffers back: how many packets these were, or `usize::MAX` where the handle holds nothing, or
-/// something of another kind, which leaves it.
+/// Frees a worker's packets and empty buffers. Returns how many packets there were, or `usize::MAX` if the handle is
+/// empty or of another kind, and leaves it then.
 #[unsafe(no_mangle)]
 pub extern "C" fn poll82599_packets_close(alloc: Global, packets: &mut Handle) -> usize
     ensures count { HadPackets result (as_packets packets.old.held) }
@@ -152,7 +154,7 @@ pub extern "C" fn poll82599_packets_close(alloc: Global, packets: &mut Handle) -
     count
 }
 
-/// Takes the objects of two handles that are closed together; or says -2 where they hold no such two, and leaves both.
+/// Takes the two objects of a pair out of their handles. Refuses with -2 if they hold no such pair, and leaves both.
 fn take_pair(
     alloc: Global,
     one: &mut Handle,
@@ -178,7 +180,7 @@ fn take_pair(
     Err(UNHELD)
 }
 
-/// Closes a ring by its driver's object and its controller's.
+/// Closes a receive ring by its driver and its controller.
 fn rx_closed(driving: RxDriving, serving: RxServing) -> i64
     requires { driving.table ≡ serving.table }
     ensures lawful { rx.AreLawful (Some driving) (Some serving) }
@@ -196,7 +198,7 @@ fn rx_closed(driving: RxDriving, serving: RxServing) -> i64
     rx_close(Half::of(ring, end), serving)
 }
 
-/// Closes a ring by its driver's object and its controller's.
+/// Closes a transmit ring by its driver and its controller.
 fn tx_closed(driving: TxDriving, serving: TxServing) -> i64
     requires { driving.table ≡ serving.table }
     ensures lawful { tx.AreLawful (Some driving) (Some serving) }
@@ -213,7 +215,7 @@ fn tx_closed(driving: TxDriving, serving: TxServing) -> i64
     tx_close(Half::of(ring, end), serving)
 }
 
-/// Closes a queue by its driver and its device.
+/// Closes a receive queue by its driver and its device.
 fn rx_queue_closed(queue: RxQueue, device: RxDevice) -> i64
     requires { queue.end.table ≡ device.end.table }
     ensures lawful { rx_queue.AreLawful (Some queue) (Some device) }
@@ -226,7 +228,7 @@ fn rx_queue_closed(queue: RxQueue, device: RxDevice) -> i64
     rx_close(Half::of(queue.ring, end), serving)
 }
 
-/// Closes a queue by its driver and its device.
+/// Closes a transmit queue by its driver and its device.
 fn tx_queue_closed(queue: TxQueue, device: TxDevice) -> i64
     requires { queue.end.table ≡ device.table }
     ensures lawful { tx_queue.AreLawful (Some queue) (Some device) }
@@ -238,7 +240,7 @@ fn tx_queue_closed(queue: TxQueue, device: TxDevice) -> i64
     tx_close(driving, serving)
 }
 
-/// Closes a receive ring by its two halves: how many buffers lay in it, or -1 where another owner of the ring is left.
+/// Closes a receive ring by its two halves. Returns how many buffers lay in it, or -1 if the ring has another owner.
 fn rx_close(driving: Half<RxRing, RxDriverEnd>, serving: Half<RxRing, RxControllerEnd>) -> i64
     requires { driving.table ≡ serving.table }
     ensures lawful { rx.AreLawful (Some driving) (Some serving) }
@@ -254,7 +256,7 @@ fn rx_close(driving: Half<RxRing, RxDriverEnd>, serving: Half<RxRing, RxControll
     }
 }
 
-/// Closes a transmit ring by its two halves: how many buffers lay in it, or -1 where another owner of the ring is left.
+/// Closes a transmit ring by its two halves. Returns how many buffers lay in it, or -1 if the ring has another owner.
 fn tx_close(driving: Half<TxRing, TxDriverEnd>, serving: Half<TxRing, TxControllerEnd>) -> i64
     requires { driving.table ≡ serving.table }
     ensures lawful { tx.AreLawful (Some driving) (Some serving) }

@@ -1,4 +1,4 @@
-//! The exports that make a ring, a queue or a worker's packets.
+//! The exports that make a ring, a queue or a worker's packets. Any thread may call them.
 ghost use Rattle.std.specs.Prelude.{◌≡◌, ◌≢◌, ◌<◌, ◌⊎◌, pos};
 ghost use Rattle.limits.specs.RingLength.{IsRingLength};
 ghost use Rattle.controller.specs.FillSize.{IsFillSize};
@@ -17,9 +17,9 @@ use crate::makings::{completion_of, put_both, rx_ends, rx_queue, tx_ends, tx_que
 use opaque::is_set;
 use std::alloc::Global;
 
-/// Makes a receive ring of so many descriptors, and its driver with so many buffers and its controller: 0; 1 where the length
-/// is no power of two from 8 to 4,096; 2 where memory was refused; 3 where there are not 16 to 256 buffers. Only 0 changes
-/// the handles, which must hold nothing.
+/// Makes a receive ring of `descriptors` descriptors: its driver with `buffers` empty buffers, and its controller.
+/// Returns 0: done; 1: the length is no power of two from 8 to 4,096; 2: memory was refused; 3: `buffers` is not 16 to
+/// 256. Only 0 changes the handles, which must be empty.
 #[unsafe(no_mangle)]
 pub extern "C" fn poll82599_rx_new(
     alloc: Global,
@@ -38,9 +38,10 @@ pub extern "C" fn poll82599_rx_new(
     put_both(rx_ends(alloc, descriptors, buffers), driver, controller)
 }
 
-/// Makes a transmit ring of so many descriptors, which reports by DD in its descriptors, or where `by_head` is not 0 by a head
-/// word, and its driver with so many buffers and its controller: 0; 1 where the length is no power of two from 8 to 4,096; 2
-/// where memory was refused; 3 where there are not 16 to 256 buffers. Only 0 changes the handles, which must hold nothing.
+/// Makes a transmit ring of `descriptors` descriptors: its driver with `buffers` empty buffers, and its controller. The
+/// ring reports by DD in its descriptors, or by a head word if `by_head` is not 0. Returns 0: done; 1: the length is no
+/// power of two from 8 to 4,096; 2: memory was refused; 3: `buffers` is not 16 to 256. Only 0 changes the handles,
+/// which must be empty.
 #[unsafe(no_mangle)]
 pub extern "C" fn poll82599_tx_new(
     alloc: Global,
@@ -62,10 +63,10 @@ pub extern "C" fn poll82599_tx_new(
     put_both(made, driver, controller)
 }
 
-/// Makes a receive queue of so many descriptors, whose driver takes up to `batch` packets at once, and whose device fills buffers to
-/// `fill` bytes and drops a frame for which too few descriptors are free, or where `drop_en` is 0 holds it: 0; 1 where the length is
-/// no power of two from 8 to 4,096; 2 where memory was refused; 4 where a batch has not 1 to 32 packets, or buffers are not filled to
-/// 1,024 or 2,048 bytes. Only 0 changes the handles, which must hold nothing.
+/// Makes a receive queue of `descriptors` descriptors. Its driver takes up to `batch` packets at once. Its device fills
+/// buffers to `fill` bytes. If too few descriptors are free, it drops a frame, or holds it if `drop_en` is 0. Returns
+/// 0: done; 1: the length is no power of two from 8 to 4,096; 2: memory was refused; 4: `batch` is not 1 to 32, or
+/// `fill` is not 1,024 or 2,048. Only 0 changes the handles, which must be empty.
 #[unsafe(no_mangle)]
 pub extern "C" fn poll82599_rx_queue_new(
     alloc: Global,
@@ -90,9 +91,10 @@ pub extern "C" fn poll82599_rx_queue_new(
     )
 }
 
-/// Makes a transmit queue of so many descriptors, which reports by DD in its descriptors, or where `by_head` is not 0 by a head word,
-/// and whose driver asks for a report with each `every`th frame, and its device: 0; 1 where the length is no power of two from 8 to
-/// 4,096; 2 where memory was refused; 4 where `every` is not 1 to 4,096. Only 0 changes the handles, which must hold nothing.
+/// Makes a transmit queue of `descriptors` descriptors, and its device. The queue reports by DD in its descriptors, or
+/// by a head word if `by_head` is not 0. Its driver asks for a report with each `every`th frame. Returns 0: done; 1:
+/// the length is no power of two from 8 to 4,096; 2: memory was refused; 4: `every` is not 1 to 4,096. Only 0 changes
+/// the handles, which must be empty.
 #[unsafe(no_mangle)]
 pub extern "C" fn poll82599_tx_queue_new(
     alloc: Global,
@@ -114,8 +116,8 @@ pub extern "C" fn poll82599_tx_queue_new(
     put_both(made, queue, device)
 }
 
-/// Makes a worker's packets: none, and so many empty buffers: 0; 2 where memory was refused; 3 where there are not 16 to 256
-/// buffers. Only 0 changes the handle, which must hold nothing.
+/// Makes a worker's packets: none, and `buffers` empty buffers. Returns 0: done; 2: memory was refused; 3: `buffers` is
+/// not 16 to 256. Only 0 changes the handle, which must be empty.
 #[unsafe(no_mangle)]
 pub extern "C" fn poll82599_packets_new(alloc: Global, buffers: u32, packets: &mut Handle) -> i32
     ensures made { (result ≡ pos 0) → IsMade buffers (as_packets packets.new.held) }

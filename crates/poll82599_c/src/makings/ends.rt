@@ -12,7 +12,7 @@ use buffer_pool::Stash;
 use std::alloc::Global;
 use tx_ring::Completion;
 
-/// A ring of so many descriptors, and its two objects. The driver has so many buffers.
+/// Makes a receive ring of `ring` descriptors: its driver, with `buffers` empty buffers, and its controller.
 pub(crate) fn rx_ends(
     alloc: Global,
     ring: u32,
@@ -28,7 +28,7 @@ pub(crate) fn rx_ends(
     both_boxed(alloc, End::RxDriver(driving), End::RxController(serving))
 }
 
-/// The two objects of a new ring. The driver's has these buffers.
+/// Makes the two ends of a new receive ring. The driver gets these buffers.
 fn rx_of(alloc: Global, ring: u32, stash: Stash) -> Result<(RxDriving, RxServing), Unmade>
     ensures made { IfOk result (λ r. rx.AreMade ring (Some r.0) (Some r.1)) }
     ensures length { IfErr result (λ e. e ≡ Unmade.Length → ¬ IsRingLength ring) }
@@ -55,7 +55,8 @@ fn rx_of(alloc: Global, ring: u32, stash: Stash) -> Result<(RxDriving, RxServing
     }
 }
 
-/// A ring of so many descriptors that reports so, and its two objects. The driver has so many buffers.
+/// Makes a transmit ring of `ring` descriptors, which reports by `completion`: its driver, with `buffers` empty
+/// buffers, and its controller.
 pub(crate) fn tx_ends(
     alloc: Global,
     ring: u32,
@@ -72,7 +73,7 @@ pub(crate) fn tx_ends(
     both_boxed(alloc, End::TxDriver(driving), End::TxController(serving))
 }
 
-/// The two objects of a new ring. The driver's has these buffers.
+/// Makes the two ends of a new transmit ring. The driver gets these buffers.
 fn tx_of(
     alloc: Global,
     ring: u32,

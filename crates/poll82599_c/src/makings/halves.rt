@@ -13,7 +13,7 @@ use shared_ring::SharedRing;
 use std::alloc::Global;
 use tx_ring::{Completion, TxControllerEnd, TxDriverEnd, TxRing};
 
-/// How a transmit ring reports: by DD in its descriptors, or where the word is not 0 by a head word.
+/// How a transmit ring reports: by DD in its descriptors, or by a head word if `by_head` is not 0.
 pub(crate) fn completion_of(by_head: u32) -> Completion
     ensures status { by_head ≡ 0 → result ≡ by.Status }
     ensures head { by_head ≢ 0 → result ≡ by.Head }
@@ -25,7 +25,7 @@ pub(crate) fn completion_of(by_head: u32) -> Completion
     }
 }
 
-/// A receive ring of so many descriptors, by its two halves: an owner of it with each end.
+/// Makes a receive ring of `ring` descriptors, and returns its two halves: each an end with an owner of the ring.
 pub(crate) fn rx_halves(
     alloc: Global,
     ring: u32,
@@ -40,7 +40,7 @@ pub(crate) fn rx_halves(
     }
 }
 
-/// A transmit ring of so many descriptors that reports so, by its two halves: an owner of it with each end.
+/// Makes a transmit ring of `ring` descriptors, which reports by `completion`, and returns its two halves.
 pub(crate) fn tx_halves(
     alloc: Global,
     ring: u32,
@@ -56,7 +56,7 @@ pub(crate) fn tx_halves(
     }
 }
 
-/// The two halves of a ring: an owner of it with each end.
+/// Pairs each end of a ring with an owner of it.
 fn halves<R: SharedRing + Drop, D: OfRing + Drop, C: OfRing + Drop>(
     alloc: Global,
     ring: R,

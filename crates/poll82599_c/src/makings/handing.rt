@@ -1,11 +1,11 @@
-//! Handing out what is made.
+//! Putting new objects into handles.
 ghost use Rattle.std.specs.Prelude.{◌≡◌, ◌≢◌, Some, IfErr, IfOk, OnErr, OnOk, pos};
 
 use crate::end::End;
 use crate::handle::Handle;
 use crate::makings::Unmade;
 
-/// Puts two objects that were made into handles: 0; or the number of why none was made, which leaves the handles.
+/// Puts two new objects into handles and returns 0, or returns the number of the refusal and leaves the handles.
 pub(crate) fn put_both(
     made: Result<(Box<End>, Box<End>), Unmade>,
     one: &mut Handle,

@@ -1,4 +1,4 @@
-//! Who owns what is made.
+//! The owners of a ring, and boxed objects.
 ghost use Rattle.std.specs.Prelude.{◌≡◌, ◌≢◌, IfErr, IfOk, IfSome, negsuc};
 ghost use Rattle.std.specs.Arc.{arc_value};
 
@@ -7,7 +7,7 @@ use buffer_pool::Buf;
 use std::alloc::Global;
 use std::sync::Arc;
 
-/// Two owners of a ring, one for each end.
+/// Makes two owners of a ring, one for each end.
 pub(crate) fn shared<T: Drop>(
     alloc: Global,
     ring: T,
@@ -25,7 +25,7 @@ pub(crate) fn shared<T: Drop>(
     }
 }
 
-/// The ring of two owners, if there is no other.
+/// Returns the ring of two owners, if there is no other owner.
 pub(crate) fn sole<T: Drop>(one: Arc<T, Global>, other: Arc<T, Global>) -> Option<T>
     ensures { IfSome result (λ ring. ring ≡ arc_value one) }
 {
@@ -33,7 +33,7 @@ pub(crate) fn sole<T: Drop>(one: Arc<T, Global>, other: Arc<T, Global>) -> Optio
     Arc::into_inner(one)
 }
 
-/// Lets two go that close no ring: -1.
+/// Drops two ends whose ring is not closed, and returns -1.
 pub(crate) fn unclosed<T: Drop, U: Drop>(one: T, other: U) -> i64
     ensures { result ≢ negsuc 1 }
 {
@@ -42,7 +42,7 @@ pub(crate) fn unclosed<T: Drop, U: Drop>(one: T, other: U) -> i64
     -1
 }
 
-/// How many buffers lie in the places of a closed ring.
+/// Counts the buffers that lie in the places of a closed ring.
 pub(crate) fn lying(places: Vec<Option<Buf>>) -> i64
     ensures { result ≢ negsuc 1 }
 {
@@ -55,7 +55,7 @@ pub(crate) fn lying(places: Vec<Option<Buf>>) -> i64
     i64::from(left)
 }
 
-/// An object behind a pointer.
+/// Puts an object into a box. Refuses if memory is refused.
 pub(crate) fn boxed<T: Drop>(alloc: Global, value: T) -> Result<Box<T>, Unmade>
     ensures made { IfOk result (λ b. b.value ≡ value) }
     ensures refusal { IfErr result (λ e. e ≡ Unmade.Memory) }
@@ -66,7 +66,7 @@ pub(crate) fn boxed<T: Drop>(alloc: Global, value: T) -> Result<Box<T>, Unmade>
     }
 }
 
-/// Two objects, each behind a pointer.
+/// Puts two objects into a box each. Refuses if memory is refused.
 pub(crate) fn both_boxed<T: Drop>(
     alloc: Global,
     one: T,

@@ -14,8 +14,8 @@ use driver::{MOST_BATCH, MOST_RS_EVERY, RxDriver, TxDriver};
 use std::alloc::Global;
 use tx_ring::Completion;
 
-/// A ring of so many descriptors, a driver that takes up to `batch` packets at once, and a device that fills buffers to `fill`
-/// bytes, and drops or holds a frame for which too few descriptors are free.
+/// Makes a receive queue of `ring` descriptors. Its driver takes up to `batch` packets at once. Its device fills
+/// buffers to `fill` bytes. If too few descriptors are free, it drops a frame if `drop_en`, otherwise it holds it.
 pub(crate) fn rx_queue(
     alloc: Global,
     ring: u32,
@@ -38,7 +38,8 @@ pub(crate) fn rx_queue(
     both_boxed(alloc, End::RxQueue(queue), End::RxDevice(device))
 }
 
-/// A ring of so many descriptors that reports so, a driver that asks for a report with each `every`th frame, and a device.
+/// Makes a transmit queue of `ring` descriptors, which reports by `completion`. Its driver asks for a report with each
+/// `every`th frame.
 pub(crate) fn tx_queue(
     alloc: Global,
     ring: u32,

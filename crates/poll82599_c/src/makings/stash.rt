@@ -6,13 +6,13 @@ use crate::makings::Unmade;
 use buffer_pool::{Stash, Stock};
 use std::alloc::Global;
 
-/// The least buffers that a driver or a worker may have.
+/// The fewest buffers of a driver or a worker.
 const LEAST_BUFFERS: u32 = 16;
 
-/// The most, so that its stash has room for all.
+/// The most buffers of a driver or a worker: its stash has room for all.
 const MOST_BUFFERS: u32 = 256;
 
-/// A stash with so many buffers, 16 to 256, with the numbers from 0.
+/// Makes a stash of `buffers` buffers, 16 to 256, numbered from 0.
 pub(crate) fn stash_of(alloc: Global, buffers: u32) -> Result<Stash, Unmade>
     ensures made { IfOk result (λ s. AreBuffers buffers s) }
     ensures refusals { IfErr result (λ e. (e ≡ Unmade.Buffers) ⊎ (e ≡ Unmade.Memory)) }

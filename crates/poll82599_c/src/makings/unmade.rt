@@ -4,21 +4,22 @@ ghost use Rattle.refusals.specs.declared.errors.RingError.TheVariants.{RingLengt
 
 use shared_ring::RingError;
 
-/// Why an export that makes an end, a queue or a worker's packets made none.
+/// The reason why an export made no end, queue or worker's packets.
 #[derive(Drop)]
 pub(crate) enum Unmade {
     /// The ring's length is no power of two from 8 to 4,096.
     Length,
     /// Memory was refused.
     Memory,
-    /// There are not 16 to 256 buffers.
+    /// The number of buffers is not 16 to 256.
     Buffers,
-    /// A batch has not 1 to 32 packets, or buffers are not filled to 1,024 or 2,048 bytes.
+    /// A batch is not 1 to 32 packets, buffers are not filled to 1,024 or 2,048 bytes, or reports are not asked for
+    /// with each 1st to 4,096th frame.
     Settings,
 }
 
 impl Unmade {
-    /// Why a ring was not made.
+    /// Converts the reason why a ring was not made.
     pub(crate) fn of(why: RingError) -> Unmade
         ensures length { result ≡ Unmade.Length → why ≡ RingLength }
         ensures refusals { (result ≡ Unmade.Length) ⊎ (result ≡ Unmade.Memory) }
@@ -29,7 +30,7 @@ impl Unmade {
         }
     }
 
-    /// What an export answers for it: 1 to 4, in the order of the variants.
+    /// The result number of the export: 1 to 4, in the order of the variants.
     pub(crate) fn number(self) -> i32
         ensures some { result ≢ pos 0 }
         ensures length { result ≡ pos 1 → self ≡ Unmade.Length }

@@ -1,18 +1,18 @@
-//! How far the frame is that an end has begun and not ended, and what may follow in it.
+//! How much of an unfinished frame an end has begun, and what may follow.
 ghost use Rattle.std.specs.Prelude.{◌≡◌, ◌+◌, ◌≤◌, true, false};
 ghost use Rattle.limits.specs.declared.profile.TheConstants.{BUFFER_BYTES, MOST_FRAME, MOST_SEGMENTS};
 ghost use Rattle.poll82599_c.specs.rings.Following.{CanFollow, CanPost};
 
 use limits::{BUFFER_BYTES, LEAST_FRAME, MOST_FRAME, MOST_SEGMENTS};
 
-/// How many segments of a frame there are so far, and how many bytes in them together.
+/// How many segments the unfinished frame has so far, and how many bytes they have together.
 #[derive(Clone, Copy)]
 pub(crate) struct Begun {
     pub(crate) segments: usize,
     pub(crate) bytes: usize,
 }
 
-/// What a transmit descriptor says beside its segment's length: EOP, RS, and PAYLEN, the whole frame's length in bytes.
+/// The fields of a transmit descriptor besides its length: EOP, RS, and PAYLEN, the whole frame's length in bytes.
 #[derive(Clone, Copy)]
 pub(crate) struct Asking {
     pub(crate) eop: bool,
@@ -32,7 +32,7 @@ impl Begun {
         }
     }
 
-    /// Whether so many more bytes may follow in a ring of so many descriptors, and end the frame where `eop` says so.
+    /// Whether a segment of `len` bytes may follow in a ring of `ring` descriptors, and end the frame if `eop`.
     pub(crate) fn can_follow(self, len: usize, eop: bool, ring: u32) -> bool
         ensures can { result ≡ true → CanFollow ring self len eop }
         ensures cannot { result ≡ false → ¬ CanFollow ring self len eop }
@@ -49,8 +49,8 @@ impl Begun {
         !eop || LEAST_FRAME <= self.bytes + len
     }
 
-    /// Whether so many more bytes may be posted so in a ring of so many descriptors. Whether PAYLEN is that of the segments
-    /// before is another question.
+    /// Whether a segment of `len` bytes may be posted with these fields in a ring of `ring` descriptors. Does not
+    /// compare PAYLEN with that of the segments before.
     pub(crate) fn can_post(self, len: usize, ask: &Asking, ring: u32) -> bool
         ensures can { result ≡ true → CanPost ring self len ask.now.eop ask.now.rs ask.now.paylen }
         ensures cannot { result ≡ false → ¬ CanPost ring self len ask.now.eop ask.now.rs ask.now.paylen }
@@ -70,7 +70,7 @@ impl Begun {
         }
     }
 
-    /// With a segment of so many bytes more.
+    /// Adds a segment of `len` bytes.
     pub(crate) fn with(self, len: usize) -> Begun
         requires segments { self.segments + 1 ≤ MOST_SEGMENTS }
         requires bytes { self.bytes + len ≤ MOST_FRAME }

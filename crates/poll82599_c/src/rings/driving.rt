@@ -1,4 +1,4 @@
-//! The drivers' objects of rings of both directions: an end, the ring that it shares, and its empty buffers.
+//! The drivers of receive and transmit rings, step by step: an end, the ring that it shares, and its empty buffers.
 ghost use Rattle.std.specs.Prelude.{◌≡◌, ◌≢◌, IfSome};
 ghost use Rattle.rx_ring.specs.Calls as rx;
 ghost use Rattle.tx_ring.specs.Calls as tx;
@@ -21,7 +21,7 @@ use std::marker::Model;
 use std::sync::Arc;
 use tx_ring::{TxDriverEnd, TxRing};
 
-/// What a C thread has that drives a receive ring.
+/// The driver of a receive ring, which one thread owns.
 #[derive(Drop)]
 pub struct RxDriving {
     pub(crate) ring: Arc<RxRing, Global>,
@@ -44,7 +44,8 @@ impl Model for RxDriving {
 }
 
 impl RxDriving {
-    /// Posts an empty buffer: 1; or 0 where a disabling was asked for, or there is no room, or no buffer.
+    /// Posts an empty buffer. Returns 1, or 0 if a disabling was asked for, or there is no free descriptor or no
+    /// buffer.
     pub(crate) fn post(&mut self) -> u32
         ensures own { self.new.table ≡ self.old.table }
         ensures step { (result ≡ 1) → PostedOne self.old self.new }
@@ -62,7 +63,7 @@ impl RxDriving {
         }
     }
 
-    /// Stores the tail behind all that is posted: 1, or 0 where a disabling was asked for.
+    /// Stores the tail behind all that is posted. Returns 1, or 0 if a disabling was asked for.
     pub(crate) fn publish(&mut self) -> u32
         ensures own { self.new.table ≡ self.old.table }
         ensures step { (result ≡ 1) → PublishedAll self.old self.new }
@@ -75,8 +76,8 @@ impl RxDriving {
         1
     }
 
-    /// Takes the next segment's bytes into a room of a buffer's size: 1 where there was one, 0 where it is not done, 2 where
-    /// nothing is posted, 3 where the queue is off, and 4 where the room is too small, which takes nothing.
+    /// Takes the next segment into `bytes`, at least 2,048. Returns 1: done; 0: the next descriptor is not done; 2:
+    /// nothing is posted; 3: the queue is off; 4: `bytes` is too small. Only 1 takes a segment.
     pub(crate) fn poll(&mut self, bytes: &mut [u8]) -> Handed
         ensures own { self.new.table ≡ self.old.table }
         ensures taken { (result.answer ≡ 1) → TookOne result.len result.eop bytes.old bytes.new self.old self.new }
@@ -97,7 +98,7 @@ impl RxDriving {
         }
     }
 
-    /// Makes a step of the handshake: what it answers stands in `handshake`.
+    /// Makes a step of the handshake, and returns the result of `handshake::shake`.
     pub(crate) fn shake(&mut self, step: HandshakeStep) -> u32
         ensures own { self.new.table ≡ self.old.table }
         ensures step { TriedShake step result self.old self.new }
@@ -105,7 +106,7 @@ impl RxDriving {
         shake(&mut self.end, &self.ring, step)
     }
 
-    /// Loads whether the controller says that it stores no more: 1 or 0.
+    /// Loads the quiet word. Returns 1 if the controller stores no more, otherwise 0.
     pub(crate) fn is_quiet(&mut self) -> u32
         ensures own { self.new.table ≡ self.old.table }
         ensures step { FoundQuiet result self.old self.new }
@@ -113,8 +114,8 @@ impl RxDriving {
         u32::from(self.end.is_quiet(&self.ring))
     }
 
-    /// Loads the head, and hands out as `len` how many segments were stored and not taken when the disabling was answered: 1; 0
-    /// where a buffer was reclaimed before; 2 where no disabling was seen answered.
+    /// Loads the head, and puts into `len` how many segments were stored and not taken when the disabling was answered.
+    /// Returns 1: done; 0: a buffer was reclaimed before; 2: no disabling was seen answered.
     pub(crate) fn left(&mut self) -> Handed
         ensures own { self.new.table ≡ self.old.table }
         ensures step { (result.answer ≡ 1) → rx.FoundLeft self.old result.len self.new }
@@ -129,7 +130,7 @@ impl RxDriving {
         Handed::told(1, self.end.left(&self.ring))
     }
 
-    /// Takes the oldest buffer that is out back: 1; 0 where none is; 2 where no disabling was seen answered.
+    /// Takes back the oldest buffer in the ring. Returns 1: done; 0: there is none; 2: no disabling was seen answered.
     pub(crate) fn reclaim(&mut self) -> u32
         ensures own { self.new.table ≡ self.old.table }
         ensures step { (result ≡ 1) → ReclaimedOne self.old self.new }
@@ -148,8 +149,8 @@ impl RxDriving {
         }
     }
 
-    /// Clears the registers of a disabled queue, which can be enabled again: 1; or 0 where no disabling was seen answered, or
-    /// a buffer is out.
+    /// Clears the registers of a disabled queue, which can then be enabled again. Returns 1, or 0 if no disabling was
+    /// seen answered or a buffer is still in the ring.
     pub(crate) fn renew(&mut self) -> u32
         ensures own { self.new.table ≡ self.old.table }
         ensures step { (result ≡ 1) → rx.GoneOver self.old self.new }
@@ -164,13 +165,13 @@ impl RxDriving {
     }
 }
 
-/// What a C thread has that drives a transmit ring.
+/// The driver of a transmit ring, which one thread owns.
 #[derive(Drop)]
 pub struct TxDriving {
     pub(crate) ring: Arc<TxRing, Global>,
     pub(crate) end: TxDriverEnd,
     pub(crate) stash: Stash,
-    // how far the frame is that is begun, where one is, and its PAYLEN
+    // how much of the unfinished frame is posted, and its PAYLEN
     pub(crate) begun: Begun,
     pub(crate) paylen: u32,
 }
@@ -188,7 +189,7 @@ impl Model for TxDriving {
 }
 
 impl TxDriving {
-    /// How far the frame is that is begun.
+    /// How much of the unfinished frame is posted. Returns nothing if its PAYLEN is not `paylen`.
     fn begun(&self, paylen: u32) -> Option<Begun>
         ensures { IfSome result (λ b. IsPosting (posted self.now) b paylen) }
     {
@@ -201,8 +202,8 @@ impl TxDriving {
         None
     }
 
-    /// Posts a segment: 1; 0 where there is no room, no buffer, or a disabling was asked for; 2 where it may not follow the
-    /// frame's segments so far.
+    /// Posts a segment. Returns 1: done; 0: there is no free descriptor or no buffer, or a disabling was asked for; 2:
+    /// it may not follow the frame's segments so far.
     pub(crate) fn post(&mut self, bytes: &[u8], ask: &Asking) -> u32
         ensures own { self.new.table ≡ self.old.table }
         ensures step { (result ≡ 1) → PostedSegment bytes.now ask.now.eop ask.now.rs ask.now.paylen self.old self.new }
@@ -231,7 +232,8 @@ impl TxDriving {
         }
     }
 
-    /// Stores the tail behind all that is posted: 1, or 0 where a disabling was asked for, or a frame is begun.
+    /// Stores the tail behind all that is posted. Returns 1, or 0 if a disabling was asked for or a frame is
+    /// unfinished.
     pub(crate) fn publish(&mut self) -> u32
         ensures own { self.new.table ≡ self.old.table }
         ensures step { (result ≡ 1) → PublishedAll self.old self.new }
@@ -244,7 +246,7 @@ impl TxDriving {
         1
     }
 
-    /// Loads the oldest report that is outstanding: 1 where it is made, else 0.
+    /// Looks for the oldest report that was asked for and not seen. Returns 1 if it is made, otherwise 0.
     pub(crate) fn poll_report(&mut self) -> u32
         ensures own { self.new.table ≡ self.old.table }
         ensures step { (result ≡ 1) → SawReported self.old self.new }
@@ -256,7 +258,7 @@ impl TxDriving {
         0
     }
 
-    /// Cleans the oldest descriptor that is seen reported, and has its buffer back: 1, or 0 where none is.
+    /// Cleans the oldest descriptor that is seen reported, and takes its buffer back. Returns 1, or 0 if there is none.
     pub(crate) fn clean(&mut self) -> u32
         ensures own { self.new.table ≡ self.old.table }
         ensures step { (result ≡ 1) → CleanedBuffer self.old self.new }
@@ -270,7 +272,7 @@ impl TxDriving {
         1
     }
 
-    /// Makes a step of the handshake: what it answers stands in `handshake`.
+    /// Makes a step of the handshake, and returns the result of `handshake::shake`.
     pub(crate) fn shake(&mut self, step: HandshakeStep) -> u32
         ensures own { self.new.table ≡ self.old.table }
         ensures step { TriedShake step result self.old self.new }
@@ -278,8 +280,8 @@ impl TxDriving {
         shake(&mut self.end, &self.ring, step)
     }
 
-    /// Loads the head, and hands out as `len` how many of the postings were not sent when the disabling was answered: 1; 2 where
-    /// no disabling was seen answered.
+    /// Loads the head, and puts into `len` how many segments were posted and not sent when the disabling was answered.
+    /// Returns 1: done; 2: no disabling was seen answered.
     pub(crate) fn left(&mut self) -> Handed
         ensures own { self.new.table ≡ self.old.table }
         ensures step { (result.answer ≡ 1) → tx.FoundLeft self.old result.len self.new }
@@ -291,7 +293,7 @@ impl TxDriving {
         Handed::told(1, self.end.left(&self.ring))
     }
 
-    /// Takes the oldest buffer that is out back: 1; 0 where none is; 2 where no disabling was seen answered.
+    /// Takes back the oldest buffer in the ring. Returns 1: done; 0: there is none; 2: no disabling was seen answered.
     pub(crate) fn reclaim(&mut self) -> u32
         ensures own { self.new.table ≡ self.old.table }
         ensures step { (result ≡ 1) → ReclaimedOne self.old self.new }
@@ -309,8 +311,8 @@ impl TxDriving {
         }
     }
 
-    /// Clears the registers of a disabled queue, which can be enabled again: 1; or 0 where no disabling was seen answered, or
-    /// a buffer is out.
+    /// Clears the registers of a disabled queue, which can then be enabled again. Returns 1, or 0 if no disabling was
+    /// seen answered or a buffer is still in the ring.
     pub(crate) fn renew(&mut self) -> u32
         ensures own { self.new.table ≡ self.old.table }
         ensures step { (result ≡ 1) → tx.GoneOver self.old self.new }

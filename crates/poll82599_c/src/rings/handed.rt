@@ -1,4 +1,4 @@
-//! What a call hands out beside the bytes.
+//! The result of a call that may hand out a segment.
 ghost use Rattle.std.specs.Prelude.{◌≡◌, ◌≤◌, ◌++◌, length, drop};
 ghost use Rattle.std.specs.Int.{from_bool};
 ghost use Rattle.limits.specs.declared.profile.TheConstants.{BUFFER_BYTES};
@@ -6,7 +6,7 @@ ghost use Rattle.limits.specs.declared.profile.TheConstants.{BUFFER_BYTES};
 use buffer_pool::Buf;
 use opaque::overwrite;
 
-/// What a call answers, and of a segment that it hands out the length and EOP.
+/// The result number, and the length and EOP of the segment that is handed out.
 #[derive(Clone, Copy)]
 pub(crate) struct Handed {
     pub(crate) answer: u32,
@@ -15,7 +15,7 @@ pub(crate) struct Handed {
 }
 
 impl Handed {
-    /// An answer and a length, and no segment.
+    /// A result with a number in `len`, and no segment.
     pub(crate) fn told(answer: u32, len: u32) -> Handed
         ensures answer { result.answer ≡ answer }
         ensures len { result.len ≡ len }
@@ -27,14 +27,14 @@ impl Handed {
         }
     }
 
-    /// An answer, and nothing beside it.
+    /// A result without a number and a segment.
     pub(crate) fn nothing(answer: u32) -> Handed
         ensures { result.answer ≡ answer }
     {
         Handed::told(answer, 0)
     }
 
-    /// A segment whose bytes are put at the beginning of a room of a buffer's size.
+    /// Copies a segment to the beginning of `bytes`, which has a buffer's size. The result is 1.
     pub(crate) fn segment(bytes: &mut [u8], buf: &Buf, eop: bool) -> Handed
         requires { BUFFER_BYTES ≤ length bytes.old }
         ensures answer { result.answer ≡ 1 }

@@ -1,4 +1,4 @@
-//! The driver's half of the handshake, and when a queue may be renewed, in which both kinds of rings are alike.
+//! The driver's half of the handshake, and the condition for renewal, for rings of both directions.
 ghost use Rattle.std.specs.Prelude.{◌≡◌, true, length};
 ghost use Rattle.ring_model.specs.shared.Handshakes.{is_stopped};
 ghost use Rattle.shared_ring.specs.Ends.{driver_of, driver_record, driver_state, posted, returned};
@@ -6,9 +6,9 @@ ghost use Rattle.poll82599_c.specs.rings.Steps.{TriedShake};
 
 use shared_ring::{Direction, DriverEnd, HandshakeStep};
 
-/// Makes a step of the handshake: of a load of the control word what it was, 0 off, 1 an enabling is asked for, 2 on, 3 a
-/// disabling is asked for; of an asking 1, or 0 where nothing is stored: an enabling was asked before, or the queue to be
-/// disabled is not on.
+/// Makes a step of the handshake. A load returns the control word: 0 off, 1 enabling asked for, 2 on, 3 disabling asked
+/// for. A request returns 1, or 0 if it stores nothing: an enabling was asked before, or the queue to disable is not
+/// on.
 pub(crate) fn shake<D, C, R: Direction<D, C>, E: DriverEnd<D, C, R>>(
     end: &mut E,
     ring: &E::Ring,
@@ -32,7 +32,7 @@ pub(crate) fn shake<D, C, R: Direction<D, C>, E: DriverEnd<D, C, R>>(
     }
 }
 
-/// Whether the disabling was seen answered, and no buffer is out.
+/// Whether a disabling was seen answered, and no buffer is in the ring.
 pub(crate) fn is_emptied<D, C, R: Direction<D, C>, E: DriverEnd<D, C, R>>(end: &E) -> bool
     ensures stopped { result ≡ true → is_stopped (driver_state (driver_of R.form (E.side end.now))) ≡ true }
     ensures back { result ≡ true → returned (driver_of R.form (E.side end.now)) ≡ length (posted (driver_of R.form (E.side end.now))) }

@@ -1,4 +1,4 @@
-//! The controllers' objects of rings of both directions: an end, and the ring that it shares.
+//! The controllers of receive and transmit rings, step by step: an end, and the ring that it shares.
 ghost use Rattle.std.specs.Prelude.{◌≡◌, ◌≢◌, ◌<◌, ◌≤◌, true, false, length, None};
 ghost use Rattle.limits.specs.declared.profile.TheConstants.{BUFFER_BYTES};
 ghost use Rattle.ring_model.specs.shared.Handshakes.{is_serving};
@@ -23,12 +23,12 @@ use std::marker::Model;
 use std::sync::Arc;
 use tx_ring::{TxControllerEnd, TxRing};
 
-/// What a C thread has that serves a receive ring.
+/// The controller of a receive ring, which one thread owns.
 #[derive(Drop)]
 pub struct RxServing {
     pub(crate) ring: Arc<RxRing, Global>,
     pub(crate) end: RxControllerEnd,
-    // how far the frame is that is begun, where one is
+    // how much of the unfinished frame is stored
     pub(crate) begun: Begun,
 }
 
@@ -45,7 +45,7 @@ impl Model for RxServing {
 }
 
 impl RxServing {
-    /// How far the frame is that is begun.
+    /// How much of the unfinished frame is stored.
     fn begun(&self) -> Begun
         ensures { IsBegun piece_of (stored self.now) result }
     {
@@ -55,7 +55,7 @@ impl RxServing {
         self.begun
     }
 
-    /// Loads what is asked, and answers it where it may: 1 where it answered, else 0.
+    /// Loads the control word, and answers a request if it can. Returns 1 if it answered, otherwise 0.
     pub(crate) fn answer(&mut self) -> u32
         ensures own { self.new.table ≡ self.old.table }
         ensures step { (result ≡ 1) → AnsweredAsked self.old self.new }
@@ -69,8 +69,8 @@ impl RxServing {
         1
     }
 
-    /// Stores a segment, and the head where it ends its frame: 1; 0 where no descriptor is free; 2 where so many bytes may
-    /// not follow the frame's segments so far; or 3 where the queue is not served, or is quiet.
+    /// Stores a segment, and the head if it ends its frame. Returns 1: done; 0: no descriptor is free; 2: the segment
+    /// may not follow the frame's segments so far; 3: the queue is off or quiet.
     pub(crate) fn store(&mut self, bytes: &[u8], eop: bool) -> u32
         ensures own { self.new.table ≡ self.old.table }
         ensures stored { (result ≡ 1) → StoredOne bytes.now eop self.old self.new }
@@ -91,7 +91,7 @@ impl RxServing {
         1
     }
 
-    // Writes a segment into the next descriptor, and stores the head where it ends its frame.
+    // Writes a segment into the next descriptor, and stores the head if it ends its frame.
     fn write(&mut self, bytes: &[u8], eop: bool, begun: Begun)
         requires serving { is_serving (rx.controller_state self.old) ≡ true }
         requires held { rx.held self.old ≡ None }
@@ -111,7 +111,7 @@ impl RxServing {
         }
     }
 
-    /// Says that no more is stored in this epoch: 1, or 0 where the queue is not served, or a frame is begun.
+    /// Says that no more is stored in this epoch. Returns 1, or 0 if the queue is off or a frame is unfinished.
     pub(crate) fn set_quiet(&mut self) -> u32
         ensures own { self.new.table ≡ self.old.table }
         ensures step { (result ≡ 1) → SaidNoMore self.old self.new }
@@ -125,11 +125,11 @@ impl RxServing {
     }
 }
 
-/// What a C thread has that serves a transmit ring.
+/// The controller of a transmit ring, which one thread owns.
 pub(crate) type TxServing = Half<TxRing, TxControllerEnd>;
 
 impl Half<TxRing, TxControllerEnd> {
-    /// Loads what is asked, and answers it where it may: 1 where it answered, else 0.
+    /// Loads the control word, and answers a request if it can. Returns 1 if it answered, otherwise 0.
     pub(crate) fn answer(&mut self) -> u32
         ensures own { self.new.table ≡ self.old.table }
         ensures step { (result ≡ 1) → AnsweredAsked self.old self.new }
@@ -143,8 +143,8 @@ impl Half<TxRing, TxControllerEnd> {
         1
     }
 
-    /// Sends the next segment into a room of a buffer's size, and reports it where a report is asked for: 1 where there was
-    /// one, 0 where none is ready, 3 where the queue is not served, and 4 where the room is too small.
+    /// Sends the next segment into `bytes`, at least 2,048, and reports it if it asks for a report. Returns 1: done; 0:
+    /// none is ready; 3: the queue is off; 4: `bytes` is too small.
     pub(crate) fn send(&mut self, bytes: &mut [u8]) -> Handed
         ensures own { self.new.table ≡ self.old.table }
         ensures sent { (result.answer ≡ 1) → SentOne result.len result.eop bytes.old bytes.new self.old self.new }
@@ -162,7 +162,7 @@ impl Half<TxRing, TxControllerEnd> {
         self.hand_out(bytes)
     }
 
-    // Sends the segment that is ready into the room, and reports it where a report is asked for.
+    // Sends the segment that is ready into `bytes`, and reports it if it asks for a report.
     fn hand_out(&mut self, bytes: &mut [u8]) -> Handed
         requires room { BUFFER_BYTES ≤ length bytes.old }
         requires serving { is_serving (tx.controller_state self.old) ≡ true }

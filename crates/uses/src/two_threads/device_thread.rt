@@ -5,7 +5,7 @@ use rx_ring::{ControllerEnd, RxControllerEnd, RxRing};
 use std::sync::Wait;
 use std::thread;
 
-/// Answers what the driver asks, where it may be answered.
+/// Answers the driver's request, if it can.
 fn answer(ring: &RxRing, controller: &mut RxControllerEnd)
     requires own { controller.old.table ≡ ring.now }
     ensures own { controller.new.table ≡ ring.now }
@@ -16,7 +16,7 @@ fn answer(ring: &RxRing, controller: &mut RxControllerEnd)
     }
 }
 
-/// Stores a frame in one segment, if a descriptor is free: whether it was.
+/// Stores a frame in one segment. Returns whether a descriptor was free.
 fn store(ring: &RxRing, controller: &mut RxControllerEnd, frame: &[u8]) -> bool
     requires own { controller.old.table ≡ ring.now }
     requires frame { (14 ≤ length frame.now) × (length frame.now ≤ 2048) }
@@ -39,7 +39,7 @@ fn store(ring: &RxRing, controller: &mut RxControllerEnd, frame: &[u8]) -> bool
     true
 }
 
-/// Stores the frame so many times.
+/// Stores the frame `frames` times.
 pub(crate) fn serve<R: Wait>(
     rt: &R,
     ring: &RxRing,

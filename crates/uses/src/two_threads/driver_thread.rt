@@ -6,7 +6,7 @@ use rx_ring::{DriverEnd, Poll, RxDriverEnd, RxRing};
 use std::sync::Wait;
 use std::thread;
 
-/// Posts an empty buffer, where there is one and the ring has room, and stores the tail behind it.
+/// Posts an empty buffer and stores the tail behind it, if there is a buffer and the ring has room.
 fn post_one(ring: &RxRing, driver: &mut RxDriverEnd, stash: &mut Stash)
     requires own { driver.old.table ≡ ring.now }
     ensures own { driver.new.table ≡ ring.now }
@@ -20,7 +20,7 @@ fn post_one(ring: &RxRing, driver: &mut RxDriverEnd, stash: &mut Stash)
     }
 }
 
-/// Takes the next segment, if the controller stored one: whether it did.
+/// Takes the next segment. Returns whether there was one.
 fn take_one(ring: &RxRing, driver: &mut RxDriverEnd, stash: &mut Stash) -> bool
     requires own { driver.old.table ≡ ring.now }
     ensures own { driver.new.table ≡ ring.now }
@@ -32,7 +32,7 @@ fn take_one(ring: &RxRing, driver: &mut RxDriverEnd, stash: &mut Stash) -> bool
     true
 }
 
-/// Has the queue enabled, and takes so many frames of one segment.
+/// Enables the queue, and takes `frames` frames of one segment. Returns its end, and how many it took.
 pub(crate) fn drive<R: Wait>(
     rt: &R,
     ring: &RxRing,
