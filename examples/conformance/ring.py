@@ -1,12 +1,12 @@
 #!/usr/bin/env python3
-"""An independent model of the receive and transmit queues of an 82599: registers, descriptors of 16 bytes in memory, and the
-driver's own state. It is an example of a model that lists of moves test, and shares no code with the crates.
+"""An independent model of a receive and a transmit queue: registers, 16-byte descriptors in memory, and the driver's state.
+It shares no code with the crates and exists to be tested by move lists.
 
     ring.py [--ring N] [--pairs N] [--off] [--head] < LISTS
 
-LISTS are lists of moves. Each ends with a line '# end', and its expected output follows: a line for each move, and one with the
-number of moves made. The model makes the moves of each list on new queues, and compares its output line by line. It prints how
-many lists agreed (exit status 0), or the first difference (exit status 1).
+LISTS are move lists as `schedules --expect` prints them: each ends with a line '# end' and is followed by the expected
+output. The model makes the moves of each list on new queues and compares its output line by line. It prints how many
+lists agreed, or the first difference. Exit status: 0 or 1.
 """
 import argparse, struct, sys
 

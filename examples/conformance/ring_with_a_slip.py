@@ -1,7 +1,7 @@
 #!/usr/bin/env python3
-"""The model of ring.py with one bug: a fetch uses the tail register instead of the tail that the device loaded last.
+"""The model of ring.py with one bug: a fetch compares with the tail register instead of the tail that the device loaded last.
 
-It runs as ring.py does, and must fail."""
+It runs like ring.py and must fail."""
 import sys
 from ring import Receive, SERVING, main, need
 

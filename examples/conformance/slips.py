@@ -1,12 +1,12 @@
 #!/usr/bin/env python3
-"""Counts how many bugs in the model of ring.py some files of lists find.
+"""Counts how many bugs planted into ring.py some move lists find.
 
     slips.py TEXT[:OPTION..] ..
 
-A slip is one bug: a condition that is left out, or a field that is not set or is set to another value. For each file the model with
-the slip runs as ring.py does, with the options after the file's name, as in lists.txt:--off:--head. A file finds a slip if the
-model's output then differs, or if the model raises an error. It prints each slip with the files that find it, and how many each
-file finds.
+A slip is one change to the model: a condition left out, or a field not set or set to another value. For each text, the
+changed model runs as ring.py does, with the options after the text's name, as in lists.txt:--off:--head. A text finds a
+slip if the model's output differs or the model fails. The program prints each slip with the texts that find it, and the
+number of slips that each text finds.
 """
 import contextlib, io, pathlib, re, sys
 
