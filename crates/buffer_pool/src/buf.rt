@@ -1,4 +1,4 @@
-//! One buffer.
+//! A single buffer.
 ghost use Rattle.std.specs.Prelude.{◌≡◌, ◌≤◌, ◌↔◌, ◌⊎◌, [], ◌++◌, length, drop, replicate, IsTrue, IfOk};
 ghost use Rattle.buffer_pool.specs.Buffer.{buffer, blank};
 
@@ -7,11 +7,10 @@ use limits::BUFFER_BYTES;
 use std::alloc::{AllocError, Global};
 use std::marker::Model;
 
-/// A buffer: its number, and the bytes of one segment in it.
+/// A buffer: its number, and the bytes of one segment.
 ///
-/// Both lie on the heap, so a buffer itself takes 16 bytes, and moving it moves no more. The default
-/// buffer is a blank, for a place where no buffer is: it has number 0 and no room, and nothing on
-/// the heap.
+/// Both are on the heap, so a `Buf` takes 16 bytes and is cheap to move. The default buffer is a blank, for a place
+/// without a buffer: it has number 0, no room, and nothing on the heap.
 #[derive(Drop)]
 pub struct Buf {
     pub(crate) chain: Chain,
@@ -31,7 +30,7 @@ impl Model for Buf {
 }
 
 impl Buf {
-    /// An empty buffer with room.
+    /// An empty buffer with room for `BUFFER_BYTES` bytes.
     pub(crate) fn new(alloc: Global, number: u16) -> Result<Self, AllocError>
         ensures { IfOk result (λ b. b ≡ buffer number []) }
     {
@@ -49,7 +48,7 @@ impl Buf {
         })
     }
 
-    /// So many blanks, for places that have no buffer yet.
+    /// A vector of `count` blanks, for places that have no buffer yet.
     pub fn blanks(alloc: Global, count: usize) -> Result<Vec<Buf>, AllocError>
         ensures { IfOk result (λ blanks. blanks.items ≡ replicate count blank) }
     {
@@ -60,7 +59,7 @@ impl Buf {
         Ok(blanks)
     }
 
-    /// The buffer's number, which no call changes. A blank has 0.
+    /// The buffer's number, which no call changes. A blank has number 0.
     #[inline]
     pub fn number(&self) -> u16
         ensures { result ≡ self.now.number }
@@ -84,7 +83,7 @@ impl Buf {
         }
     }
 
-    /// How many bytes are in the buffer.
+    /// The number of bytes in the buffer.
     #[inline]
     pub fn len(&self) -> usize
         ensures value { result ≡ length self.now.bytes }
@@ -94,7 +93,7 @@ impl Buf {
         self.bytes().len()
     }
 
-    /// Whether no byte is in the buffer.
+    /// Whether the buffer has no bytes.
     #[inline]
     pub fn is_empty(&self) -> bool
         ensures { IsTrue result ↔ (self.now.bytes ≡ []) }
@@ -102,7 +101,7 @@ impl Buf {
         self.len() == 0
     }
 
-    /// How many bytes fit: `BUFFER_BYTES`, or none into a blank.
+    /// How many bytes fit: `BUFFER_BYTES`, or 0 for a blank.
     #[inline]
     pub fn capacity(&self) -> usize
         ensures value { result ≡ self.now.capacity }
@@ -114,7 +113,7 @@ impl Buf {
         }
     }
 
-    /// Puts `bytes` into the buffer, in place of those that were there. It writes no other byte.
+    /// Replaces the buffer's bytes with `bytes`. Writes no other byte of the room.
     #[inline]
     pub fn fill(&mut self, bytes: &[u8])
         requires { length bytes.now ≤ self.old.capacity }
@@ -126,7 +125,7 @@ impl Buf {
         }
     }
 
-    /// Empties the buffer. It writes no byte.
+    /// Empties the buffer. Writes no byte of the room.
     #[inline]
     pub fn clear(&mut self)
         ensures { self.new ≡ record self.old { bytes = [] } }
@@ -145,7 +144,7 @@ impl Default for Buf {
     }
 }
 
-/// Puts `bytes` over the first bytes of a buffer's room, and leaves the others as they were.
+/// Writes `bytes` over the first bytes of a buffer's room, and leaves the others unchanged.
 #[inline]
 fn overwrite(room: &mut [u8], bytes: &[u8])
     requires { length bytes.now ≤ length room.old }

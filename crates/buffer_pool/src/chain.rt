@@ -1,4 +1,4 @@
-//! Buffers that hang one behind another.
+//! Buffers linked one behind another.
 ghost use Rattle.std.specs.Prelude.{◌≡◌, ◌<◌, ◌≤◌, ◌∷◌, ◌++◌, ◌↔◌, [], length, map, drop, slice_index, slice_set, IsNone, IfNone, IfSome};
 ghost use Rattle.std.specs.Iterator.{YieldsFirstRef, item_count};
 ghost use Rattle.buffer_pool.specs.Buffer.{buffer};
@@ -10,7 +10,7 @@ use limits::BUFFER_BYTES;
 use std::marker::Model;
 use std::mem;
 
-/// A list of buffers, each on the heap. A buffer that is alone is a chain of one.
+/// A linked list of buffers, each on the heap. A single buffer is a chain of one.
 #[derive(Drop)]
 #[cycle(chain)]
 pub(crate) enum Chain {
@@ -26,7 +26,7 @@ pub(crate) struct Link {
     pub(crate) next: Chain,
 }
 
-/// One buffer: its number, and its bytes, of which the first `len` are in use.
+/// The content of a buffer: its number, and its bytes, of which the first `len` are in use.
 #[derive(Drop)]
 pub(crate) struct Room {
     pub(crate) number: u16,
@@ -37,7 +37,7 @@ pub(crate) struct Room {
 const _: () = prove!(size_of::<Chain>() == 16);
 
 impl Chain {
-    /// Hangs these buffers behind `buf`.
+    /// Links these buffers behind `buf`.
     pub(crate) fn behind(self, buf: Buf) -> Chain
         requires chain { IsChain self }
         requires some_bytes { 0 < length buf.bytes }
@@ -53,7 +53,7 @@ impl Chain {
         }
     }
 
-    /// Takes the foremost buffer off, unless there is none.
+    /// Removes the first buffer. Returns `None` if there is none.
     #[inline]
     pub(crate) fn pop(&mut self) -> Option<Buf>
         requires { IsChain self.old }
@@ -74,7 +74,7 @@ impl Chain {
         }
     }
 
-    /// Hangs `buf` behind the last buffer.
+    /// Appends `buf` behind the last buffer.
     pub(crate) fn push(&mut self, buf: Buf)
         requires chain { IsChain self.old }
         requires some_bytes { 0 < length buf.bytes }
@@ -87,7 +87,7 @@ impl Chain {
         }
     }
 
-    /// Byte `i` of those of all buffers.
+    /// Byte `i` of the bytes of all buffers.
     pub(crate) fn byte(&self, i: usize) -> u8
         requires chain { IsChain self.now }
         requires within { i < length (bytes_of (chained self.now)) }
@@ -106,7 +106,7 @@ impl Chain {
         }
     }
 
-    /// Lets byte `i` of those of all buffers be `v`.
+    /// Sets byte `i` of the bytes of all buffers to `v`.
     pub(crate) fn set_byte(&mut self, i: usize, v: u8)
         requires chain { IsChain self.old }
         requires within { i < length (bytes_of (chained self.old)) }
@@ -141,7 +141,7 @@ impl Chain {
     }
 }
 
-/// The bytes of each buffer of a packet, in order.
+/// An iterator over the bytes of each buffer of a packet, in order.
 #[derive(Drop)]
 pub struct Segments<'a> {
     pub(crate) rest: &'a Chain,

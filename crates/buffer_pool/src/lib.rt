@@ -1,16 +1,13 @@
 //! Frame buffers, packets of them, and plain stocks of them.
+//! Depends on `limits`, `refusals` and `arrayvec`.
+//! A buffer is never copied, and the numbers in a stock together with those that are out are its range, each once.
 //!
-//! A [`Buf`] is one buffer of a port: its number, which names it on the descriptor rings, and the
-//! bytes of one segment. It is one value that is never copied, so it is at one place at a time.
+//! A [`Buf`] is one buffer of a port: its number, which names it on the descriptor rings, and the bytes of one segment.
+//! A [`Packet`] is the list of the buffers of one frame, linked on the heap. It takes 24 bytes, and its bytes are read
+//! and written by their place in the frame. A [`Stash`] has up to 256 empty buffers, for one worker. A [`Stock`]
+//! creates the buffers of a range of numbers, hands them out empty and takes them back.
 //!
-//! A [`Packet`] is the buffers of one frame in order, which hang one behind another on the heap: it
-//! takes 24 bytes, and its bytes are read and written by their place in the frame.
-//!
-//! A [`Stash`] has up to 256 empty buffers, for one worker.
-//!
-//! A [`Stock`] makes the buffers of a range of numbers, hands them out empty and takes them back.
-//! The numbers in it and those of the buffers that are out are together its range, each once.
-//! Making a stock takes memory, and no other call does.
+//! Making a stock and [`Buf::blanks`] allocate; no other call does.
 #![tactic(auto)]
 
 mod buf;

@@ -1,4 +1,4 @@
-//! A packet, in the buffers that its segments fill.
+//! A packet, in the buffers of its segments.
 ghost use Rattle.std.specs.Prelude.{◌≡◌, ◌<◌, ◌≤◌, ◌↔◌, [], ◌∷◌, ◌++◌, length, map, drop, slice_index, slice_set, IsTrue, IsNone, IfNone, IfSome};
 ghost use Rattle.buffer_pool.specs.Buffer.{buffer};
 ghost use Rattle.buffer_pool.specs.Packed.{AreReal, IsPacket, bytes_of, shape_of};
@@ -12,10 +12,9 @@ use std::mem;
 
 /// The buffers of one packet, in order.
 ///
-/// A whole packet has 1 to `MOST_SEGMENTS` buffers, none of them empty, and `LEAST_FRAME` to
-/// `MOST_FRAME` bytes. Its buffers hang one behind another on the heap, so a packet takes 24 bytes,
-/// and moving it moves no more. No call of a packet allocates. The default packet has no buffers, and
-/// stands where no packet is. A contract sees a packet as the list of its buffers.
+/// A whole packet has 1 to `MOST_SEGMENTS` buffers, none of them empty, and `LEAST_FRAME` to `MOST_FRAME` bytes. Its
+/// buffers are linked on the heap, so a `Packet` takes 24 bytes and is cheap to move. No call of a packet allocates.
+/// The default packet has no buffers. A contract sees a packet as the list of its buffers.
 #[derive(Drop)]
 pub struct Packet {
     chain: Chain,
@@ -51,7 +50,7 @@ impl Packet {
         packet
     }
 
-    /// The packet's buffers, in order.
+    /// Returns the packet's buffers, in order.
     pub fn into_bufs(self) -> ArrayVec<Buf, MOST_SEGMENTS>
         ensures value { result.items ≡ self }
         ensures real { AreReal result.items }
@@ -64,7 +63,7 @@ impl Packet {
         bufs
     }
 
-    /// Puts a buffer before the others.
+    /// Inserts a buffer before the others.
     #[inline]
     fn push_front(&mut self, buf: Buf)
         requires some_bytes { 0 < length buf.bytes }
@@ -77,7 +76,7 @@ impl Packet {
         self.chain = chain.behind(buf);
     }
 
-    /// Takes the first buffer off, unless none is left.
+    /// Removes the first buffer. Returns `None` if none is left.
     #[inline]
     pub fn pop_front(&mut self) -> Option<Buf>
         ensures none { IsNone result ↔ (self.old ≡ []) }
@@ -91,7 +90,7 @@ impl Packet {
         Some(buf)
     }
 
-    /// Adds a buffer that is not empty behind the others.
+    /// Appends a buffer that is not empty.
     pub fn push_back(&mut self, buf: Buf)
         requires some_bytes { 0 < length buf.bytes }
         requires few { length self.old < MOST_SEGMENTS }
@@ -102,7 +101,7 @@ impl Packet {
         self.chain.push(buf);
     }
 
-    /// How many bytes the packet has.
+    /// The number of bytes of the packet.
     #[inline]
     pub fn len(&self) -> usize
         ensures { result ≡ length (bytes_of self.now) }
@@ -110,7 +109,7 @@ impl Packet {
         self.len as usize
     }
 
-    /// Whether no byte is in the packet.
+    /// Whether the packet has no bytes.
     #[inline]
     pub fn is_empty(&self) -> bool
         ensures { IsTrue result ↔ (bytes_of self.now ≡ []) }
@@ -118,7 +117,7 @@ impl Packet {
         self.len == 0
     }
 
-    /// How many buffers the packet has.
+    /// The number of buffers of the packet.
     #[inline]
     pub fn segments(&self) -> usize
         ensures value { result ≡ length self.now }
@@ -144,7 +143,7 @@ impl Packet {
         self.chain.byte(i)
     }
 
-    /// Lets byte `i` of the packet be `v`. Each buffer keeps its number and how many bytes are in it.
+    /// Sets byte `i` of the packet to `v`. Each buffer keeps its number and its length.
     pub fn set_byte(&mut self, i: usize, v: u8)
         requires { i < length (bytes_of self.old) }
         ensures bytes { bytes_of self.new ≡ slice_set (bytes_of self.old) i v }
@@ -154,7 +153,7 @@ impl Packet {
         self.chain.set_byte(i, v);
     }
 
-    /// The bytes of each buffer, in order, none of them empty.
+    /// Iterates over the bytes of each buffer, in order, none of them empty.
     #[inline]
     pub fn iter(&self) -> Segments<'_>
         ensures { result ≡ map (λ b. b.bytes) self.now }
@@ -162,7 +161,7 @@ impl Packet {
         Segments { rest: &self.chain }
     }
 
-    /// Copies the packet's bytes to the front of `to`, and leaves the rest of `to` as it was.
+    /// Copies the packet's bytes to the front of `to`, and leaves the rest of `to` unchanged.
     pub fn copy_to(&self, to: &mut [u8])
         requires { length (bytes_of self.now) ≤ length to.old }
         ensures { to.new ≡ bytes_of self.now ++ drop (length (bytes_of self.now)) to.old }

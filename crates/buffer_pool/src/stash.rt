@@ -8,17 +8,16 @@ use arrayvec::ArrayVec;
 use limits::BUFFER_BYTES;
 use std::marker::Model;
 
-/// The most buffers of a stash.
+/// The maximum number of buffers of a stash.
 pub const STASH_BUFFERS: usize = 256;
 
 const _: () = prove!(STASH_BUFFERS == 256);
 
 /// Up to `STASH_BUFFERS` empty buffers, for one worker.
 ///
-/// A worker takes its buffers here and puts them back here, and goes to what all workers share only
-/// where the stash is dry or full. The buffer that was put last is taken first, since its bytes may
-/// still be in a cache. A contract sees a stash as the list of its numbers, the next one to be taken
-/// first.
+/// A worker takes buffers from its stash and puts them back, and uses the shared pool only if the stash is empty or
+/// full. The buffer that was put in last is taken first, since its bytes may still be in a cache. A contract sees a
+/// stash as the list of its numbers, the next one to be taken first. No call allocates.
 #[derive(Drop)]
 pub struct Stash {
     bufs: ArrayVec<Buf, STASH_BUFFERS>,
@@ -36,7 +35,7 @@ impl Model for Stash {
 }
 
 impl Stash {
-    /// A stash with no buffer in it. It allocates nothing.
+    /// An empty stash.
     pub fn new() -> Self
         ensures { result ≡ [] }
     {
@@ -45,7 +44,7 @@ impl Stash {
         }
     }
 
-    /// How many buffers are in the stash.
+    /// The number of buffers in the stash.
     #[inline]
     pub fn len(&self) -> usize
         ensures value { result ≡ length self.now }
@@ -54,7 +53,7 @@ impl Stash {
         self.bufs.len()
     }
 
-    /// Whether no buffer is in the stash.
+    /// Whether the stash has no buffer.
     #[inline]
     pub fn is_empty(&self) -> bool
         ensures { IsTrue result ↔ (self.now ≡ []) }
@@ -71,7 +70,7 @@ impl Stash {
         self.bufs.is_full()
     }
 
-    /// Takes a buffer, unless there is none. It allocates nothing.
+    /// Takes a buffer. Returns `None` if the stash is empty.
     #[inline]
     pub fn take(&mut self) -> Option<Buf>
         ensures none { IsNone result ↔ (self.old ≡ []) }
@@ -82,8 +81,7 @@ impl Stash {
         self.bufs.pop()
     }
 
-    /// Puts a buffer in, and empties it. Into a full stash nothing is put, and the buffer comes back
-    /// as it was with `PoolError::StashFull`. It allocates nothing.
+    /// Empties a buffer and puts it in. If the stash is full, returns `PoolError::StashFull` with the unchanged buffer.
     #[inline]
     pub fn put(&mut self, buf: Buf) -> Result<(), (PoolError, Buf)>
         requires real { buf.capacity ≡ BUFFER_BYTES }
@@ -99,8 +97,7 @@ impl Stash {
         Ok(())
     }
 
-    /// Puts a buffer into a stash that is not full, and empties it. Where that isn't known, `put` refuses a buffer too
-    /// many. It allocates nothing.
+    /// Empties a buffer and puts it into a stash that is not full. If that is not known, use `put`.
     #[inline]
     pub fn push(&mut self, mut buf: Buf)
         requires room { length self.old < STASH_BUFFERS }

@@ -10,9 +10,9 @@ use limits::{BUFFER_BYTES, FEWEST_BUFFERS, MOST_BUFFERS};
 use std::alloc::{AllocError, Global};
 use std::marker::Model;
 
-/// The buffers with the numbers of one range, as far as they are not out.
+/// The buffers with the numbers of one range, except those that are out.
 ///
-/// The buffer that was given last comes out first, since its bytes may still be in a cache.
+/// The buffer that was returned last is handed out first, since its bytes may still be in a cache.
 #[derive(Drop)]
 pub struct Stock {
     first: u32,
@@ -33,10 +33,10 @@ impl Model for Stock {
 }
 
 impl Stock {
-    /// A full stock of the buffers `first` to `first + count - 1`, which come out in this order.
+    /// A full stock of the buffers `first` to `first + count - 1`, which are handed out in this order.
     ///
-    /// `count` has to be at least `FEWEST_BUFFERS`, and no number above 65,535: else `Count`. Without memory for
-    /// all of the buffers none is kept: `Memory`.
+    /// Returns `Count` if `count` is below `FEWEST_BUFFERS` or a number is above 65,535. Returns `Memory` if there is
+    /// no memory for all buffers; none is kept then.
     pub fn new(alloc: Global, first: u32, count: u32) -> Result<Self, PoolError>
         ensures refused { IsErrOf result PoolError.Count ↔ ((count < FEWEST_BUFFERS) ⊎ (MOST_BUFFERS < first + count)) }
         ensures refusals { IfErr result (λ e. (e ≡ PoolError.Count) ⊎ (e ≡ PoolError.Memory)) }
@@ -50,7 +50,7 @@ impl Stock {
         Ok(Stock { first, count, pile })
     }
 
-    /// How many buffers are in the stock.
+    /// The number of buffers in the stock.
     pub fn len(&self) -> usize
         ensures value { result ≡ length self.now.numbers }
         ensures each_once { IsStock self.now }
@@ -65,7 +65,7 @@ impl Stock {
         self.pile.is_empty()
     }
 
-    /// Hands a buffer out, unless all are out. It allocates nothing.
+    /// Hands out an empty buffer. Returns `None` if all are out. Allocates nothing.
     pub fn take(&mut self) -> Option<Buf>
         ensures none { IsNone result ↔ (self.old.numbers ≡ []) }
         ensures unchanged { IfNone result (self.new ≡ self.old) }
@@ -78,7 +78,7 @@ impl Stock {
         self.pile.pop()
     }
 
-    /// Takes a buffer of this stock back, and empties it. It allocates nothing.
+    /// Takes back a buffer of this stock, and empties it. Allocates nothing.
     pub fn give(&mut self, mut buf: Buf)
         requires real { buf.capacity ≡ BUFFER_BYTES }
         requires out { IsOut self.old buf.number }

@@ -59,8 +59,7 @@ impl<T> Model for MomentPass<T> {
 }
 
 impl<T: Moment<N>, const N: usize> MomentCell<T, N> {
-    /// A cell whose numbers are all 0, its pen, and a pass. `CounterError::Memory` is answered only where
-    /// memory was refused.
+    /// A cell whose numbers are all 0, its pen, and a pass. Returns `CounterError::Memory` only if memory was refused.
     pub fn new(alloc: Global) -> Result<(Self, MomentPen<T, N>, MomentPass<T>), CounterError>
         ensures refused { IfErr result (λ e. e ≡ Memory) }
         ensures zero { IfOk result (λ made. All (λ n. n ≡ 0) (T.words made.1.last)) }
@@ -72,8 +71,8 @@ impl<T: Moment<N>, const N: usize> MomentCell<T, N> {
         Ok((cell, pen, pass))
     }
 
-    /// The same with no pass, which the pen may give at any time. `CounterError::Memory` is answered only where
-    /// memory was refused.
+    /// A cell and its pen, as `new`, without a pass; the pen makes passes at any time. Returns `CounterError::Memory`
+    /// only if memory was refused.
     pub fn with_pen(alloc: Global) -> Result<(Self, MomentPen<T, N>), CounterError>
         ensures refused { IfErr result (λ e. e ≡ Memory) }
         ensures zero { IfOk result (λ made. All (λ n. n ≡ 0) (T.words made.1.last)) }
@@ -87,7 +86,7 @@ impl<T: Moment<N>, const N: usize> MomentCell<T, N> {
         Ok((MomentCell { numbers }, pen))
     }
 
-    /// Writes the numbers, all at one moment. They are lawful, and none is below what the pen wrote last.
+    /// Writes the numbers, all at one moment. They are lawful, and none is below the last one that the pen wrote.
     pub fn write<R: Wait>(&self, rt: &R, pen: &mut MomentPen<T, N>, numbers: T)
         requires own { pen.old.cell ≡ self.now }
         requires lawful { T.lawful numbers }
@@ -98,7 +97,7 @@ impl<T: Moment<N>, const N: usize> MomentCell<T, N> {
         cell.write(rt, &mut pen.view, numbers);
     }
 
-    /// The numbers of one moment, of those that the pen wrote or of the opening.
+    /// Reads the numbers of one moment: a write of the pen, or the opening.
     pub fn read<R: Wait>(&self, rt: &R, pass: &mut MomentPass<T>) -> T
         requires own { pass.old.cell ≡ self.now }
         ensures own { pass.new.cell ≡ pass.old.cell }
@@ -110,7 +109,7 @@ impl<T: Moment<N>, const N: usize> MomentCell<T, N> {
         self.numbers.read(rt, &mut pass.view)
     }
 
-    /// Another pass, which knows what this one has read. Either may go to another thread.
+    /// Another pass, which knows what this one has read. Either may move to another thread.
     pub fn split(&self, pass: &mut MomentPass<T>) -> MomentPass<T>
         requires own { pass.old.cell ≡ self.now }
         ensures same { pass.new ≡ pass.old }

@@ -1,17 +1,18 @@
 //! A few numbers that one thread writes and others read.
+//! Depends on `moments` and `refusals`.
+//! A read returns the lawful numbers of one moment, and no number falls from one read of a pass to the next.
 //!
-//! A [`MomentCell`] holds them. One [`MomentPen`] writes them, all at one moment, and any number of
-//! [`MomentPass`]es read them, each from a thread of its own. A read shows the numbers of one moment
-//! that was written, or of the opening, in which all are 0: what the numbers of a moment owe one another
-//! ([`Moment`]) holds between them, and none is below what this pass has read, nor below what the pen had
-//! written when it gave that pass. That is the rule of the cell, which each step of any thread keeps; the
-//! crate `moments` has it, and the words under it.
+//! A [`MomentCell`] holds the numbers. One [`MomentPen`] writes them, all at one moment, and any number of
+//! [`MomentPass`]es read them, each from its own thread. A read shows the numbers of one moment that was written, or of
+//! the opening, in which all are 0. The relation of their kind ([`Moment`]) holds between them, and none is below those
+//! that this pass has read, nor below those that the pen had written when it made the pass. The crate `moments` has
+//! this rule, which each step of any thread keeps, and the words under it.
 //!
-//! Making a cell takes memory, and no other call does. A call that reads or writes may wait, and nothing
-//! is said of how long: a write waits for other writes and for readers that found one in their way, and
-//! a read that finds a write in its way waits likewise.
+//! Making a cell allocates; no other call does. A call that reads or writes may wait, and no bound is stated: a write
+//! waits for other writes and for readers that found one in their way, and a read that finds a write in its way waits
+//! likewise.
 //!
-//! A kind of cell is its numbers, what they owe one another, and its names: `counters` has three.
+//! `counters` defines three kinds of cells, each by its numbers, their relation, and names.
 #![tactic(auto)]
 
 mod cell;

@@ -1,4 +1,4 @@
-//! Where a wire has its frames: all their bytes in one block, and for each frame where it ends.
+//! The storage of a wire: one block with the bytes of all frames, and the end of each frame.
 ghost use Rattle.std.specs.Prelude.{◌≡◌, ◌+◌, ◌-◌, ◌<◌, ◌≤◌, [], ◌∷◌, ◌++◌, length, sum_by, take, drop, Some, slice_get, OnOk};
 ghost use Rattle.limits.specs.declared.profile.TheConstants.{MOST_FRAME};
 ghost use Rattle.controller.specs.Laid.{frames_from, AreEnds};
@@ -7,14 +7,14 @@ use limits::MOST_FRAME;
 use std::alloc::{AllocError, Global};
 use std::marker::Model;
 
-/// The least number of bytes by which the block grows. A quarter of what it has is more where that is large, so that
-/// the frames are moved seldom, and the block is never much larger than its frames.
+/// The least number of bytes by which the block grows. A large block grows by a quarter instead, so that frames are
+/// seldom moved and the block is never much larger than its frames.
 const LEAST_GROWTH: usize = MOST_FRAME + MOST_FRAME / 2;
 
-/// The least number of entries by which their list grows.
+/// The least number of entries by which the list of ends grows.
 const LEAST_ENTRIES: usize = 16;
 
-/// Frames one behind another, and the bytes of one that is begun.
+/// Frames one behind another, and the bytes of a frame that is begun.
 #[derive(Drop)]
 pub(crate) struct Arena {
     bytes: Vec<u8>,
@@ -33,7 +33,7 @@ impl Model for Arena {
 }
 
 impl Arena {
-    /// No frame. It takes no memory.
+    /// An arena without frames. Allocates nothing.
     pub(crate) fn new(alloc: Global) -> Arena
         ensures frames { result.frames ≡ [] }
         ensures begun { result.begun ≡ [] }
@@ -63,7 +63,7 @@ impl Arena {
         Ok(())
     }
 
-    /// Puts these bytes behind those of the frame that is begun.
+    /// Appends these bytes to the frame that is begun.
     #[inline]
     pub(crate) fn append(&mut self, bytes: &[u8])
         requires { length bytes.now ≤ self.old.room }
@@ -87,7 +87,7 @@ impl Arena {
         self.ends.push_reserved(self.bytes.len());
     }
 
-    /// How many frames there are.
+    /// The number of frames.
     #[inline]
     pub(crate) fn len(&self) -> usize
         ensures { result ≡ length self.now.frames }
@@ -95,7 +95,7 @@ impl Arena {
         self.ends.as_slice().len()
     }
 
-    /// For how many frames there is an entry, and for how many bytes there is room, those that are there among them.
+    /// How many entries and how many bytes fit into the memory that is allocated, used ones included.
     pub(crate) fn capacity(&self) -> (usize, usize)
         ensures entries { result.0 ≡ length self.now.frames + self.now.entries }
         ensures room { result.1 ≡ sum_by length self.now.frames + length self.now.begun + self.now.room }
@@ -114,7 +114,7 @@ impl Arena {
     }
 }
 
-/// Where frame `i` begins and ends among these bytes.
+/// The offsets at which frame `i` begins and ends.
 #[inline]
 fn bounds(bytes: &[u8], ends: &[usize], i: usize) -> (usize, usize)
     requires ends { AreEnds 0 (length bytes.now) ends.now }

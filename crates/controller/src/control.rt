@@ -1,4 +1,4 @@
-//! How a controller of either direction answers what is asked.
+//! Answering a driver's request, in either direction.
 ghost use Rattle.std.specs.Prelude.{◌≡◌, true, false};
 ghost use Rattle.ring_model.specs.shared.Handshakes.{is_serving};
 ghost use Rattle.shared_ring.specs.Calls.{Answered, MayAnswer};
@@ -7,7 +7,7 @@ ghost use Rattle.shared_ring.specs.declared.control.Control.TheVariants as contr
 
 use shared_ring::{Control, ControllerEnd, Direction};
 
-/// Answers what was asked, and gives the control value that it stored.
+/// Answers the request, and returns the control value that it stored.
 pub(crate) fn answer<D, C, R: Direction<D, C>, E: ControllerEnd<D, C, R>>(
     end: &mut E,
     ring: &E::Ring,

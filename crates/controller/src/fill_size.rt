@@ -1,8 +1,8 @@
-//! To how many bytes buffers are filled.
+//! The number of bytes to which buffers are filled.
 ghost use Rattle.std.specs.Prelude.{◌↔◌, IsTrue};
 ghost use Rattle.controller.specs.FillSize.{IsFillSize};
 
-/// Whether a controller may fill buffers to so many bytes: 1,024 or 2,048 (82599 datasheet, SRRCTL.BSIZEPACKET).
+/// Whether a controller may fill buffers to `bsize` bytes: 1,024 or 2,048 (82599 datasheet, SRRCTL.BSIZEPACKET).
 pub fn is_fill_size(bsize: usize) -> bool
     ensures { IsTrue result ↔ IsFillSize bsize }
 {

@@ -1,11 +1,10 @@
-//! The device's side of a queue pair: what a controller does with its end of a receive ring and of a transmit ring.
+//! The device's side of a queue pair: a controller of a receive ring, and one of a transmit ring.
+//! Depends on `shared_ring`, `rx_ring`, `tx_ring`, `limits` and `refusals`.
+//! The stored frames grow by exactly the frames reported as `Stored`, and the wire by exactly the frames sent.
 //!
-//! An [`RxController`] is offered frames that come in, and stores each whole or not at all: cut into segments, fetched and
-//! written back one after another, and then the head once. A [`TxController`] sends whole frames onto a [`Wire`], which
-//! keeps them in order.
-//!
-//! What a frame is stored as, and what stands on the wire, is told by the records of the ends: the frames stored grow by
-//! exactly the frames that were answered `Stored`, and the wire by the frames that are sent. Only `turn` takes memory.
+//! An [`RxController`] is offered incoming frames and stores each whole or not at all: it cuts the frame into segments,
+//! fetches a descriptor and writes it back for each, and then stores the head once. A [`TxController`] sends whole
+//! frames onto a [`Wire`], which keeps them in order. Only `turn` allocates.
 #![tactic(auto)]
 
 mod arena;

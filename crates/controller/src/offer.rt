@@ -1,9 +1,9 @@
-//! What becomes of a frame that is offered.
+//! The outcome of an offered frame.
 
-/// What became of a frame that was offered.
+/// The outcome of an offered frame.
 #[derive(Clone, Copy, Debug, PartialEq, Eq)]
 pub enum Offer {
-    /// The end doesn't serve the queue, or said that it stores no more. No step was made.
+    /// The end does not serve the queue, or announced that it stores no more. No step was made.
     Off,
     /// The frame needs more descriptors than the ring can have free. No step was made.
     Oversize,
@@ -11,6 +11,6 @@ pub enum Offer {
     Stored,
     /// The tail was loaded, and too few descriptors were free: the frame is lost (82599 datasheet, SRRCTL.Drop_En).
     Dropped,
-    /// The tail was loaded, and too few descriptors were free: the frame is to be offered again.
+    /// The tail was loaded, and too few descriptors were free: the caller offers the frame again.
     Held,
 }

@@ -18,8 +18,8 @@ use refusals::CtlError;
 use rx_ring::{Control, ControllerEnd, RxControllerEnd, RxRing};
 use std::marker::Model;
 
-/// The device's side of a receive queue: it stores the frames that it is offered, whole or not at all, and answers
-/// enabling and disabling between two frames.
+/// The device's side of a receive queue. It stores each offered frame whole or not at all, and answers enabling and
+/// disabling between two frames.
 #[derive(Drop)]
 pub struct RxController {
     end: RxControllerEnd,
@@ -39,9 +39,9 @@ impl Model for RxController {
 }
 
 impl RxController {
-    /// A controller that fills buffers to `bsize` bytes, 1,024 or 2,048, and where too few descriptors are free drops a
-    /// frame with `drop_en`, and else holds it (82599 datasheet, SRRCTL.Drop_En). The end has to stand between two
-    /// frames, with nothing held and its head stored.
+    /// A controller that fills buffers to `bsize` bytes, 1,024 or 2,048. If too few descriptors are free, it drops the
+    /// frame with `drop_en` set, and holds it otherwise (82599 datasheet, SRRCTL.Drop_En). The end must be between two
+    /// frames, hold no buffer, and have stored its head.
     pub fn new(end: RxControllerEnd, bsize: usize, drop_en: bool) -> RxController
         requires bsize { IsFillSize bsize }
         requires idle { IsIdle end }
@@ -63,7 +63,7 @@ impl RxController {
         self.end.is_serving()
     }
 
-    /// Whether the controller said that it stores no more in this epoch.
+    /// Whether the controller announced that it stores no more in this epoch.
     #[inline]
     pub fn has_finished(&self) -> bool
         ensures { result ≡ is_quiet self.now.end }
@@ -71,7 +71,8 @@ impl RxController {
         self.end.has_finished()
     }
 
-    /// Offers a frame that came in.
+    /// Offers an incoming frame. Returns `FrameLength` if its length is not `LEAST_FRAME` to `MOST_FRAME` bytes;
+    /// nothing is done then.
     pub fn offer(&mut self, ring: &RxRing, frame: &[u8]) -> Result<Offer, CtlError>
         requires own { self.old.end.table ≡ ring.now }
         ensures refused { (result ≡ Err CtlError.FrameLength) ↔ ¬ HasFrameLength frame.now }
@@ -96,8 +97,8 @@ impl RxController {
         Ok(offer)
     }
 
-    /// Loads the control word, and answers what is asked, if anything is. It gives the control value that it stored, else
-    /// the one that it loaded.
+    /// Loads the control word, and answers the request if there is one. Returns the control value that it stored, or
+    /// else the one that it loaded.
     pub fn turn_control(&mut self, ring: &RxRing) -> Control
         requires own { self.old.end.table ≡ ring.now }
         ensures turned { TurnedControl self.old.end result self.new.end }
@@ -113,8 +114,8 @@ impl RxController {
         answer(&mut self.end, ring)
     }
 
-    /// Says that no more is stored in this epoch: the quiet word becomes 1. It is false, without a step, where the end
-    /// doesn't serve the queue or has said so.
+    /// Announces that no more is stored in this epoch: the quiet word becomes 1. Returns false, without a step, if the
+    /// end does not serve the queue or announced it before.
     pub fn finish(&mut self, ring: &RxRing) -> bool
         requires own { self.old.end.table ≡ ring.now }
         ensures finished { Finished self.old.end result self.new.end }
@@ -129,7 +130,7 @@ impl RxController {
         true
     }
 
-    /// How many frames were offered, and what became of them.
+    /// How many frames were offered, and their outcomes.
     pub fn tally(&self) -> Tally
         ensures value { result ≡ self.now.tally }
         ensures adds { AddsUp result }
@@ -137,7 +138,7 @@ impl RxController {
         self.tally
     }
 
-    /// The end, between two frames.
+    /// Returns the end, which is between two frames.
     pub fn into_end(self) -> RxControllerEnd
         ensures end { result ≡ self.end }
         ensures idle { IsIdle result }

@@ -1,4 +1,4 @@
-//! How a frame is sent.
+//! Sending a frame.
 ghost use Rattle.std.specs.Prelude.{◌≡◌, ◌<◌, ◌≤◌, true, []};
 ghost use Rattle.limits.specs.declared.profile.TheConstants.{MOST_FRAME};
 ghost use Rattle.ring_model.specs.shared.Handshakes.{is_serving};
@@ -9,7 +9,7 @@ ghost use Rattle.controller.specs.Transmitting.{IsIdle};
 use crate::arena::Arena;
 use tx_ring::{TxControllerEnd, TxRing};
 
-/// Sends the next frame, which is ready, onto the wire, and reports it if a report is asked for.
+/// Sends the next frame, which is ready, onto the wire, and reports it if it asks for a report.
 #[inline]
 pub(crate) fn send_frame(ring: &TxRing, end: &mut TxControllerEnd, arena: &mut Arena)
     requires own { end.old.table ≡ ring.now }
@@ -31,7 +31,7 @@ pub(crate) fn send_frame(ring: &TxRing, end: &mut TxControllerEnd, arena: &mut A
     }
 }
 
-/// Sends the next segment, and answers whether it ends its frame.
+/// Sends the next segment, and returns whether it ends its frame.
 #[inline]
 fn send_segment(ring: &TxRing, end: &mut TxControllerEnd, arena: &mut Arena) -> bool
     requires own { end.old.table ≡ ring.now }

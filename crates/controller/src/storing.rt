@@ -1,4 +1,4 @@
-//! How a frame is stored.
+//! Storing a frame.
 ghost use Rattle.std.specs.Prelude.{◌≡◌, ◌<◌, ◌≤◌, true, false, length, None};
 ghost use Rattle.limits.specs.declared.profile.TheConstants.{BUFFER_BYTES};
 ghost use Rattle.ring_model.specs.shared.Frames.{Follows, HasFrameLength, piece_count, unfinished};
@@ -11,8 +11,7 @@ ghost use Rattle.controller.specs.Storing.{Decided, StoredBytes};
 use crate::offer::Offer;
 use rx_ring::{ControllerEnd, RxControllerEnd, RxRing};
 
-/// Decides on a frame of lawful length, and stores it where descriptors are free: where too few are, `scarce` is
-/// answered.
+/// Decides on a frame of lawful length, and stores it if enough descriptors are free. Returns `scarce` if too few are.
 pub(crate) fn decide(
     ring: &RxRing,
     end: &mut RxControllerEnd,
@@ -46,7 +45,7 @@ pub(crate) fn decide(
     Offer::Stored
 }
 
-/// Stores a frame in the next descriptors, which are free, and the head after it.
+/// Stores a frame in the next descriptors, which are free, and then the head.
 fn store_frame(ring: &RxRing, end: &mut RxControllerEnd, bsize: usize, frame: &[u8])
     requires own { end.old.table ≡ ring.now }
     requires idle { IsIdle end.old }
@@ -74,7 +73,7 @@ fn store_frame(ring: &RxRing, end: &mut RxControllerEnd, bsize: usize, frame: &[
     end.set_head(ring);
 }
 
-/// Stores some bytes of a frame in the next descriptor.
+/// Stores a piece of a frame in the next descriptor.
 #[inline]
 fn store_piece(ring: &RxRing, end: &mut RxControllerEnd, bytes: &[u8], eop: bool)
     requires own { end.old.table ≡ ring.now }

@@ -1,23 +1,26 @@
-//! How many frames were offered, and what became of them.
+//! Counts of offered frames by outcome.
 ghost use Rattle.std.specs.Prelude.{◌≡◌, ◌+◌};
 ghost use Rattle.controller.specs.Tallying.{counted, AddsUp};
 
 use crate::offer::Offer;
 
-/// How many frames were stored, dropped or oversize, and how many that is together. A frame that is held, or offered to a
-/// queue that is off, or refused counts nowhere.
+/// The outcomes of offered frames. A frame that is held, refused, or offered to a queue that is off is not counted.
 ///
-/// The counts are exact until one of them would pass the greatest `u64`; from then on the whole tally stays as it is.
+/// The counts are exact until one of them would exceed `u64::MAX`; from then on the whole tally stays unchanged.
 #[derive(Clone, Copy, Debug, PartialEq, Eq, Default)]
 pub struct Tally {
+    /// The sum of the other three.
     pub offered: u64,
+    /// The frames that were stored.
     pub stored: u64,
+    /// The frames that were dropped because too few descriptors were free.
     pub dropped: u64,
+    /// The frames that need more descriptors than the ring can have free.
     pub oversize: u64,
 }
 
 impl Tally {
-    /// The tally with one more answer counted.
+    /// The tally with one more outcome.
     #[inline]
     pub(crate) fn counted(self, offer: Offer) -> Tally
         requires { AddsUp self }

@@ -14,10 +14,10 @@ use refusals::CtlError;
 use std::marker::Model;
 use tx_ring::{Control, ControllerEnd, TxControllerEnd, TxRing};
 
-/// What a turn did.
+/// The outcome of a turn.
 #[derive(Clone, Copy, Debug, PartialEq, Eq)]
 pub enum Turn {
-    /// The end doesn't serve the queue. No step was made.
+    /// The end does not serve the queue. No step was made.
     Off,
     /// The tail was loaded, and nothing was ready.
     Idle,
@@ -25,7 +25,7 @@ pub enum Turn {
     Sent,
 }
 
-/// The device's side of a transmit queue: it sends whole frames onto a wire, and answers enabling and disabling between
+/// The device's side of a transmit queue. It sends whole frames onto a wire, and answers enabling and disabling between
 /// two frames.
 #[derive(Drop)]
 pub struct TxController {
@@ -44,8 +44,8 @@ impl Model for TxController {
 }
 
 impl TxController {
-    /// A controller of a transmit queue. The end has to stand between two frames, with nothing held, the head stored and
-    /// no report owed.
+    /// A controller of a transmit queue. The end must be between two frames, hold no buffer, have stored its head, and
+    /// owe no report.
     pub fn new(end: TxControllerEnd) -> TxController
         requires { IsIdle end }
         ensures { result ≡ end }
@@ -61,8 +61,8 @@ impl TxController {
         self.end.is_serving()
     }
 
-    /// Loads the control word, and answers what is asked, if anything is. It gives the control value that it stored, else
-    /// the one that it loaded.
+    /// Loads the control word, and answers the request if there is one. Returns the control value that it stored, or
+    /// else the one that it loaded.
     pub fn turn_control(&mut self, ring: &TxRing) -> Control
         requires own { self.old.table ≡ ring.now }
         ensures turned { TurnedControl self.old result self.new }
@@ -76,8 +76,8 @@ impl TxController {
         answer(&mut self.end, ring)
     }
 
-    /// Sends the next frame, if one is ready. Before it fetches anything it makes room for the longest frame on the wire,
-    /// and where that is refused answers `Memory`: then the call can be made again, and the same frame is sent.
+    /// Sends the next frame, if one is ready. Before it fetches anything, it makes room on the wire for the longest
+    /// frame. Returns `Memory` if that fails; the call can be repeated, and sends the same frame.
     pub fn turn(&mut self, ring: &TxRing, wire: &mut Wire) -> Result<Turn, CtlError>
         requires own { self.old.table ≡ ring.now }
         ensures turned { Turned self.old wire.old result self.new wire.new }
@@ -97,7 +97,7 @@ impl TxController {
         Ok(Turn::Sent)
     }
 
-    /// The end, between two frames.
+    /// Returns the end, which is between two frames.
     pub fn into_end(self) -> TxControllerEnd
         ensures end { result ≡ self }
         ensures idle { IsIdle result }

@@ -1,4 +1,4 @@
-//! What went out.
+//! The frames that a transmit queue sent.
 ghost use Rattle.std.specs.Prelude.{◌≡◌, ◌<◌, ◌≤◌, ◌↔◌, [], length, sum_by, drop, Some, slice_get, IsTrue};
 ghost use Rattle.std.specs.Iterator.{YieldsFirstRef, item_count};
 
@@ -6,7 +6,7 @@ use crate::arena::Arena;
 use std::alloc::Global;
 use std::marker::Model;
 
-/// The frames that went out of one transmit queue, in order.
+/// The frames that one transmit queue sent, in order.
 #[derive(Drop)]
 pub struct Wire {
     pub(crate) arena: Arena,
@@ -24,7 +24,7 @@ impl Model for Wire {
 }
 
 impl Wire {
-    /// A wire on which nothing went out. It takes no memory.
+    /// An empty wire. Allocates nothing.
     pub fn new(alloc: Global) -> Wire
         ensures { result ≡ [] }
     {
@@ -33,7 +33,7 @@ impl Wire {
         }
     }
 
-    /// How many frames went out.
+    /// The number of frames sent.
     #[inline]
     pub fn len(&self) -> usize
         ensures { result ≡ length self.now }
@@ -41,8 +41,8 @@ impl Wire {
         self.arena.len()
     }
 
-    /// How many frames and how many bytes the wire has memory for, those that went out among them: it takes more once
-    /// either is used up.
+    /// How many frames and how many bytes fit into the memory that the wire has allocated, those sent included. It
+    /// allocates more once either is used up.
     pub fn capacity(&self) -> (usize, usize)
         ensures frames { length self.now ≤ result.0 }
         ensures bytes { sum_by length self.now ≤ result.1 }
@@ -50,7 +50,7 @@ impl Wire {
         self.arena.capacity()
     }
 
-    /// Whether no frame went out.
+    /// Whether no frame was sent.
     #[inline]
     pub fn is_empty(&self) -> bool
         ensures { IsTrue result ↔ (self.now ≡ []) }
@@ -67,7 +67,7 @@ impl Wire {
         self.arena.frame(i)
     }
 
-    /// The bytes of each frame, in order.
+    /// Iterates over the bytes of each frame, in order.
     #[inline]
     pub fn iter(&self) -> Frames<'_>
         ensures { result ≡ self.now }
@@ -79,7 +79,7 @@ impl Wire {
     }
 }
 
-/// The bytes of each frame of a wire, in order.
+/// An iterator over the bytes of each frame of a wire, in order.
 #[derive(Drop)]
 pub struct Frames<'a> {
     arena: &'a Arena,

@@ -7,23 +7,27 @@ use crate::{DriveCell, DrivePen, StatCell, StatPen};
 use cells::CounterError;
 use std::alloc::Global;
 
-/// The cells of a flow: its controller's and its driver's. Threads share them.
+/// The cells of a flow. Threads share them.
 #[derive(Drop)]
 pub struct FlowCells {
+    /// The controller's cell.
     pub stat: StatCell,
+    /// The driver's cell.
     pub drive: DriveCell,
 }
 
-/// The pens of a flow's cells. Who reads them takes passes from the pens before these go to the workers.
+/// The pens of a flow's cells. Readers take passes from the pens before these go to the workers.
 #[derive(Drop)]
 pub struct FlowPens {
+    /// The pen of the controller's cell.
     pub stat: StatPen,
+    /// The pen of the driver's cell.
     pub drive: DrivePen,
 }
 
 impl FlowCells {
-    /// The cells of so many flows, and their pens, in the order of the flows. `CounterError::Memory` is
-    /// answered only where memory was refused.
+    /// The cells of `count` flows, and their pens, in the order of the flows. Returns `CounterError::Memory` only if
+    /// memory was refused.
     pub fn of(alloc: Global, count: usize) -> Result<(Vec<FlowCells>, Vec<FlowPens>), CounterError>
         ensures refused { IfErr result (λ e. e ≡ Memory) }
         ensures count { IfOk result (λ made. vec_len made.0 ≡ count) }

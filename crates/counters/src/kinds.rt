@@ -1,34 +1,40 @@
-//! The kinds of cells: their numbers, what these owe one another, and the names of their cells.
+//! The kinds of cells: their numbers, the relation between these, and the names of their cells.
 
 use cells::{MomentCell, MomentPass, MomentPen};
 use crossbeam_utils::atomic::seq_cell::Words;
 use limits::{LEAST_FRAME, MOST_FRAME};
 use moments::Moment;
 
-/// How many frames were offered to a receive queue, and what became of them: `offered` is `stored`,
-/// `dropped` and `oversize` together.
+/// The outcomes of the frames offered to a receive queue: `offered` is the sum of the other three.
 #[derive(Clone, Copy, Debug, PartialEq, Eq)]
 pub struct Offered {
+    /// The frames that were offered and counted.
     pub offered: u64,
+    /// The frames that were stored.
     pub stored: u64,
+    /// The frames that were dropped because too few descriptors were free.
     pub dropped: u64,
+    /// The frames that need more descriptors than the ring can have free.
     pub oversize: u64,
 }
 
-/// How many frames a driver took, how many of them it posted, and how many it dropped since the
-/// transmit ring had no room: `posted` and `tx_dropped` together are at most `taken`.
+/// The frames of a driver: `posted + tx_dropped` is at most `taken`.
 #[derive(Clone, Copy, Debug, PartialEq, Eq)]
 pub struct Driven {
+    /// The frames that were taken.
     pub taken: u64,
+    /// The taken frames that were posted.
     pub posted: u64,
+    /// The taken frames that were dropped because the transmit ring was full.
     pub tx_dropped: u64,
 }
 
-/// How many frames went through a queue, and how many bytes they had: `LEAST_FRAME` to `MOST_FRAME`
-/// each.
+/// The frames of a queue and their bytes, `LEAST_FRAME` to `MOST_FRAME` each.
 #[derive(Clone, Copy, Debug, PartialEq, Eq)]
 pub struct Bytes {
+    /// The number of frames.
     pub frames: u64,
+    /// The number of bytes of all frames.
     pub bytes: u64,
 }
 
@@ -150,23 +156,29 @@ impl Moment<2> for Bytes {
     }
 }
 
-/// What a controller was offered.
+/// The cell of a controller: the frames that it was offered.
 pub type StatCell = MomentCell<Offered, 4>;
 
+/// The pen of a [`StatCell`].
 pub type StatPen = MomentPen<Offered, 4>;
 
+/// A pass of a [`StatCell`].
 pub type StatPass = MomentPass<Offered>;
 
-/// What a driver did with the frames that it took.
+/// The cell of a driver: its counts of the frames that it took.
 pub type DriveCell = MomentCell<Driven, 3>;
 
+/// The pen of a [`DriveCell`].
 pub type DrivePen = MomentPen<Driven, 3>;
 
+/// A pass of a [`DriveCell`].
 pub type DrivePass = MomentPass<Driven>;
 
 /// The frames and bytes of a queue.
 pub type ByteCell = MomentCell<Bytes, 2>;
 
+/// The pen of a [`ByteCell`].
 pub type BytePen = MomentPen<Bytes, 2>;
 
+/// A pass of a [`ByteCell`].
 pub type BytePass = MomentPass<Bytes>;

@@ -1,10 +1,11 @@
-//! Counters that others read while workers run.
+//! Counters that other threads read while workers run.
+//! Depends on `cells`, `moments`, `limits` and `crossbeam_utils`.
+//! A read returns the numbers of one moment, with the relation of their kind; the crate `cells` states it.
 //!
-//! [`StatCell`] has what was offered to a queue, [`DriveCell`] what a driver did with what it took, and
-//! [`ByteCell`] frames and bytes. Each is a [`MomentCell`]: one pen writes its numbers, all at one moment,
-//! and passes read them from other threads. What a read shows stands in the crate `cells`. Another kind of
-//! cell is its numbers, what they owe one another ([`Moment`]), and its names. [`FlowCells`] has one cell
-//! of either side of a flow, and [`FlowPens`] their pens.
+//! [`StatCell`] has the frames offered to a queue, [`DriveCell`] a driver's counts of the frames that it took, and
+//! [`ByteCell`] frames and bytes. Each is a [`MomentCell`]: one pen writes its numbers, all at one moment, and passes
+//! read them from other threads. A further kind of cell needs its numbers, their relation ([`Moment`]) and its names.
+//! [`FlowCells`] has one cell for each side of a flow, and [`FlowPens`] their pens.
 #![tactic(auto)]
 
 mod flows;

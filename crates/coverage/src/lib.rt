@@ -1,15 +1,16 @@
-//! Lists of moves that meet whatever a queue of 8 can be met in, found by going over its states.
+//! Move lists that meet every reachable pair of a queue of 8, found by a search over its states.
+//! Depends on `ring_machine` and `ring_model`.
+//! Each list meets its pair when the machine makes its moves.
 //!
-//! A [`Pair`] is a kind of move, how far driver and controller are where it is tried, and what it then tells
-//! of itself ([`Told`]). A [`Search`] goes breadth first over the states that any schedule of moves can bring
-//! a queue to, from its making on, with at most two frames in flight: stored and not taken, or posted and not
-//! cleaned. So it meets each pair first by as few moves as any schedule needs. [`Search::lists`] gives lists
-//! of moves that together meet all pairs that were met. A [`Scope`] says which queue is gone over, and whether by all moves
-//! or by those alone that a controller of silicon and its driver make too.
+//! A [`Pair`] is a kind of move, the states of driver and controller in which it is tried, and its outcome ([`Told`]).
+//! A [`Search`] goes breadth first over the states that any schedule of moves can reach from a new queue, with at most
+//! two frames in flight: stored and not taken, or posted and not cleaned. So it meets each pair first by the fewest
+//! moves that any schedule needs. [`Search::lists`] returns lists of moves that together meet all pairs found. A
+//! [`Scope`] selects the queue, and either all moves or only those that silicon and its driver make too.
 //!
-//! A state is what decides what a queue does next ([`Standing`]), with its places counted from where the
-//! driver takes next. Whether a move happens, and what it tells, says the queue itself, to which the moves
-//! are made again from its making on.
+//! A state is all that determines the next steps of a queue ([`Standing`]), with its places counted from where the
+//! driver takes next. Whether a move happens, and its outcome, comes from the machine itself, which repeats the moves
+//! from a new queue.
 #![tactic(auto)]
 
 mod lists;

@@ -1,4 +1,4 @@
-//! Lists of moves that together meet all pairs that a search has met.
+//! Lists of moves that together meet all pairs found by a search.
 ghost use Rattle.std.specs.Prelude.{All, IfOk, IfSome};
 ghost use Rattle.coverage.specs.Lists.{Meets};
 
@@ -9,15 +9,17 @@ use crate::tried::Scope;
 use ring_machine::Move;
 use std::alloc::{AllocError, Global};
 
-/// A list of moves, of which the last meets the pair.
+/// A list of moves that meets a pair.
 #[derive(Drop)]
 pub struct CoverList {
+    /// The pair.
     pub pair: Pair,
+    /// The moves; the last one meets the pair.
     pub moves: Vec<Move>,
 }
 
-// The list of these moves and the pair's, if they all happen and the last then tells what the pair says. A list with a
-// move outside of the scope is none.
+// The list of these moves and the pair's, if all of them happen and the last has the pair's outcome. A list with a move
+// outside of the scope is `None`.
 fn met_by(
     alloc: Global,
     scope: Scope,
@@ -42,8 +44,8 @@ fn met_by(
 }
 
 impl Search {
-    /// Lists of moves that together meet all pairs that were met so far, those with the fewest moves first. A list leads
-    /// by as few moves as any schedule needs to a state in which its pair can be met.
+    /// Lists of moves that together meet all pairs found so far, those with the fewest moves first. A list leads by the
+    /// fewest moves that any schedule needs to a state in which its pair can be met.
     pub fn lists(&self, alloc: Global) -> Result<Vec<CoverList>, AllocError>
         ensures { IfOk result (λ lists. All (Meets self.now) lists.items) }
     {

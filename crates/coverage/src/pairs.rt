@@ -1,4 +1,4 @@
-//! What a queue can be met in: a kind of move, how far both sides are, and what it tells.
+//! The pairs: a kind of move, the states of both sides, and its outcome.
 ghost use Rattle.std.specs.Prelude.{◌≡◌, ◌<◌, Some};
 ghost use Rattle.coverage.specs.Pairs.{controller_number, controller_words, driver_number, driver_words, pair_text, states_text};
 
@@ -6,20 +6,20 @@ use crate::told::Told;
 use ring_machine::{ControlStep, ControllerState, DriverState, Move, RxStep, TxStep};
 use std::fmt;
 
-/// A kind of move, how far driver and controller are where it is tried, and what it then tells.
+/// A kind of move, the states of driver and controller in which it is tried, and its outcome.
 #[derive(Clone, Copy)]
 pub struct Pair {
     /// A move of that kind.
     pub action: Move,
-    /// How far the driver is.
+    /// The state of the driver.
     pub driver: DriverState,
-    /// How far the controller is.
+    /// The state of the controller.
     pub controller: ControllerState,
-    /// What it tells.
+    /// The outcome of the move.
     pub told: Told,
 }
 
-/// A pair is printed as `r0 A6 driver On controller serving: none`.
+/// Prints as `r0 A6 driver On controller serving: none`.
 impl fmt::Display for Pair {
     ghost output = { λ p. Some (pair_text p) };
 
@@ -34,7 +34,7 @@ impl fmt::Display for Pair {
     }
 }
 
-// How far both sides are.
+// The states of both sides.
 #[derive(Clone, Copy)]
 struct States {
     driver: DriverState,
@@ -74,7 +74,7 @@ fn controller_words(state: ControllerState) -> &'static str
     CONTROLLER_WORDS[state as usize]
 }
 
-/// How many pairs could be told apart for one side: kinds of moves, states of both sides, kinds of notes.
+/// The number of distinct pairs of one side: kinds of moves, states of both sides, kinds of outcomes.
 pub(crate) const PAIRS: usize = 18 * 7 * 3 * 15;
 
 /// The number of a driver's state, from 0.
@@ -126,7 +126,7 @@ fn kind_number(action: Move) -> usize
 
 impl Pair {
     /// The pair's number among those of its side, below 5,670. Two pairs of one side with the same number have the same
-    /// kind of move, the same states, and the same kind of note.
+    /// kind of move, the same states, and the same kind of outcome.
     pub fn number(&self) -> usize
         ensures { result < 5670 }
     {

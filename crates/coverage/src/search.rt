@@ -12,7 +12,7 @@ use std::alloc::{AllocError, Global};
 use std::collections::HashSet;
 use std::marker::Model;
 
-/// A state that was reached: how the queue stands, from which state and by which move, and after how many moves.
+/// A reached state: the queue's state, the state before it, the move from there, and the number of moves so far.
 #[derive(Clone, Copy)]
 struct Node {
     standing: Standing,
@@ -22,14 +22,14 @@ struct Node {
     depth: usize,
 }
 
-/// A pair that was met for the first time, and in which state.
+/// A pair that was met for the first time, and the state in which it was.
 #[derive(Clone, Copy)]
 pub(crate) struct Found {
     pub pair: Pair,
     pub at: usize,
 }
 
-/// A search over the states of one queue of 8, from its making on.
+/// A search over the states of one queue of 8, from a new queue on.
 #[derive(Drop)]
 pub struct Search {
     pub(crate) scope: Scope,
@@ -41,7 +41,7 @@ pub struct Search {
     found: Vec<Found>,
 }
 
-// What a search goes over is all that is promised of it.
+// The scope of a search is all that its contracts see.
 impl Model for Search {
     ghost use Rattle.coverage.specs.declared.tried.Scope.{Scope};
 
@@ -50,7 +50,7 @@ impl Model for Search {
     ghost view = { λ s. s.scope };
 }
 
-/// A pair of a receive and a transmit queue of 8 as the search begins with them.
+/// A pair of a receive and a transmit queue of 8 in the first state of the search.
 pub(crate) fn queues_of(alloc: Global, scope: Scope) -> Result<Queues, AllocError>
     ensures { IfOk result (λ q. QueuesAgree q (beginning scope)) }
 {
@@ -60,7 +60,7 @@ pub(crate) fn queues_of(alloc: Global, scope: Scope) -> Result<Queues, AllocErro
     }
 }
 
-// The same, after these moves.
+// Such queues, after these moves.
 fn queues_after(alloc: Global, scope: Scope, moves: &[Move]) -> Result<Queues, AllocError> {
     let mut queues = queues_of(alloc, scope)?;
     queues.run(moves);
@@ -78,7 +78,7 @@ fn set(flags: &mut Vec<bool>, k: usize) {
 }
 
 impl Search {
-    /// A search that has reached the queue as it is made, and gone over nothing yet. It is refused only where memory was.
+    /// A search that has reached the new queue, and expanded no state yet. Fails only if memory was refused.
     pub fn new(alloc: Global, scope: Scope) -> Result<Search, AllocError>
         ensures { IfOk result (λ search. search ≡ scope) }
     {
@@ -104,7 +104,7 @@ impl Search {
         })
     }
 
-    /// Goes over so many more states at most: tries each move in each of them.
+    /// Expands up to `most` more states: tries each move in each of them. Fails only if memory was refused.
     pub fn go_on(&mut self, alloc: Global, most: usize) -> Result<(), AllocError>
         ensures { self.new ≡ self.old }
     {
@@ -146,7 +146,7 @@ impl Search {
         Ok(())
     }
 
-    // A move was answered so in the state that is gone over. It answers whether the move was made.
+    // Records the outcome of a move in the expanded state. Returns whether the move was made.
     fn meet(
         &mut self,
         node: &Node,
@@ -171,7 +171,7 @@ impl Search {
         }
     }
 
-    // A pair is met in the state that is gone over.
+    // Records that a pair is met in the expanded state.
     fn find(&mut self, pair: &Pair) -> Result<(), AllocError>
         ensures { self.new ≡ self.old }
     {
@@ -185,7 +185,7 @@ impl Search {
         Ok(())
     }
 
-    // The move of a pair was made in the state that is gone over, and told this.
+    // Records the state after a pair's move from the expanded state.
     fn reach(&mut self, node: &Node, pair: &Pair, note: Note) -> Result<(), AllocError>
         ensures { self.new ≡ self.old }
     {
@@ -202,7 +202,7 @@ impl Search {
         Ok(())
     }
 
-    // How many moves lead to a state.
+    // The number of moves that lead to a state.
     fn depth(&self, at: usize) -> usize {
         match self.nodes.get(at) {
             Some(node) => node.depth,
@@ -226,8 +226,7 @@ impl Search {
         Ok(path)
     }
 
-    /// Those of the pairs that were met which are left where each pair is left out that a list of a later one meets on its
-    /// way; the last that was met first.
+    /// The pairs found, without those that the list of a later pair meets on its way; the last found first.
     pub(crate) fn chosen(&self, alloc: Global) -> Result<Vec<Found>, AllocError> {
         let mut covered = vec![in alloc; false; PAIRS]?;
         let mut chosen = Vec::new(alloc);
@@ -253,32 +252,32 @@ impl Search {
         }
     }
 
-    /// Whether each state that was reached was gone over.
+    /// Whether every reached state was expanded.
     pub fn is_whole(&self) -> bool {
         self.gone_over >= self.nodes.len()
     }
 
-    /// How many states were reached.
+    /// The number of reached states.
     pub fn states(&self) -> usize {
         self.nodes.len()
     }
 
-    /// How many of them were gone over.
+    /// The number of expanded states.
     pub fn gone_over(&self) -> usize {
         self.gone_over
     }
 
-    /// How many moves were tried.
+    /// The number of moves tried.
     pub fn steps(&self) -> u64 {
         self.steps
     }
 
-    /// Whether a pair of this number was met.
+    /// Whether a pair with this pair's number was met.
     pub fn has_met(&self, pair: &Pair) -> bool {
         is_set(&self.met, pair.number())
     }
 
-    /// How many pairs were met.
+    /// The number of pairs met.
     pub fn pairs(&self) -> usize {
         self.found.len()
     }

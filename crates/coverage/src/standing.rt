@@ -1,4 +1,4 @@
-//! What decides what a queue of 8 does next.
+//! The state that determines the next steps of a queue of 8.
 
 use crate::pairs::{controller_number, driver_number};
 use crate::tried::{Scope, Side};
@@ -7,24 +7,24 @@ use ring_machine::{
 };
 use ring_model::{ControllerState, DriverState, Handshake};
 
-/// How far driver and controller are with a queue of 8, in counts from where the driver takes next, modulo 8.
+/// The state of driver and controller with a queue of 8, in counts from where the driver takes next, modulo 8.
 ///
-/// It goes by what the queue's moves tell, so a fault here can only leave a state out; what moves do is the
-/// queue's alone.
+/// It follows the outcomes of the queue's moves, so a fault here can only leave a state out; the queue alone decides
+/// the effect of a move.
 #[derive(Clone, Copy)]
 pub(crate) struct Standing {
     handshake: Handshake,
-    /// How many descriptors are out.
+    /// The number of descriptors that are out.
     out: u8,
-    /// How many of them stand before the tail.
+    /// How many of them are before the tail.
     tail: u8,
-    /// How many stand before the tail that the controller loaded last.
+    /// How many are before the tail that the controller loaded last.
     known: u8,
     /// How many the controller has given back.
     used: u8,
     /// How many it has given back since the head of a receive queue was stored.
     unstored: u8,
-    /// How many are reported, of a transmit queue.
+    /// How many are reported, on a transmit queue.
     reported: u8,
     /// How many the driver has seen reported.
     seen: u8,
@@ -34,11 +34,11 @@ pub(crate) struct Standing {
     asks: u8,
     /// Whether the controller has fetched a descriptor and not given it back.
     held: bool,
-    /// Whether the last that it gave back ended its frame.
+    /// Whether the last one that it gave back ended its frame.
     whole: bool,
     /// Whether it owes a report.
     owed: bool,
-    /// Whether it said that it stores no more.
+    /// Whether it announced that it stores no more.
     quiet: bool,
     /// Whether a transmit queue reports by a head word, which is cleared last.
     by_head: bool,
@@ -54,7 +54,7 @@ fn behind(count: u8) -> u8 {
     count.wrapping_add(1) & 7
 }
 
-// The bits with this one put in its place, which is below 8.
+// The bits with bit `place`, below 8, set to `set`.
 fn with_bit(bits: u8, place: u8, set: bool) -> u8 {
     let bit = 1u8 << (place & 7);
     if set { bits | bit } else { bits & !bit }
@@ -65,7 +65,7 @@ fn has_bit(bits: u8, place: u8) -> bool {
 }
 
 impl Standing {
-    // A queue of which nothing is out, whose sides are so far, and which reports by status words.
+    // A queue in this handshake state with nothing out, which reports by status words.
     fn empty(handshake: Handshake) -> Standing {
         Standing {
             handshake,
@@ -86,7 +86,7 @@ impl Standing {
         }
     }
 
-    /// A queue as a search begins with it.
+    /// The first state of a search.
     pub(crate) fn first(scope: Scope) -> Standing {
         Standing {
             by_head: matches!(scope.side, Side::Transmit(Completion::Head)),
@@ -102,7 +102,7 @@ impl Standing {
         self.handshake.controller
     }
 
-    /// The same number for the same standing, and for no other of this search.
+    /// A number that identifies the state within a search.
     pub(crate) fn key(&self) -> u64 {
         let flags = [self.held, self.whole, self.owed, self.quiet];
         let counts = [
@@ -128,8 +128,7 @@ impl Standing {
         key << 16 | u64::from(self.ends) << 8 | u64::from(self.asks)
     }
 
-    // How many frames are in flight: of those that were stored or posted, those whose end is out, and one whose end is
-    // not there yet.
+    // The number of frames in flight: those stored or posted whose end is out, and one whose end is not there yet.
     fn frames(&self, all: u8, is_whole: bool) -> u32 {
         let ends = if all < 8 {
             self.ends & ((1u8 << (all & 7)).wrapping_sub(1))
@@ -152,7 +151,7 @@ impl Standing {
         }
     }
 
-    /// The standing after a move that told this.
+    /// The state after a move with this note.
     pub(crate) fn after(self, action: Move, note: Note) -> Standing {
         match action {
             Move::Receive(_, step) => self.received(step, note),
@@ -235,7 +234,7 @@ impl Standing {
         }
     }
 
-    // The tail is behind the last that is out.
+    // The tail is behind the last descriptor that is out.
     fn published(self) -> Standing {
         Standing {
             tail: self.out,
@@ -243,7 +242,7 @@ impl Standing {
         }
     }
 
-    // The controller knows the tail as it is.
+    // The controller knows the current tail.
     fn looked(self) -> Standing {
         Standing {
             known: self.tail,
@@ -251,12 +250,12 @@ impl Standing {
         }
     }
 
-    // The controller holds what it read.
+    // The controller holds the descriptor that it read.
     fn fetched(self) -> Standing {
         Standing { held: true, ..self }
     }
 
-    // One descriptor more is out.
+    // One more descriptor is out.
     fn posted(self, eop: bool, rs: bool) -> Standing {
         Standing {
             ends: with_bit(self.ends, self.out, eop),
@@ -266,7 +265,7 @@ impl Standing {
         }
     }
 
-    // The driver has taken the first that is out.
+    // The driver has taken the first descriptor that is out.
     fn moved_on(self) -> Standing {
         Standing {
             out: before(self.out),
@@ -281,7 +280,7 @@ impl Standing {
         }
     }
 
-    // The oldest report that was asked for and not seen is seen.
+    // The driver sees the oldest report that was asked for and not seen.
     fn seen_report(self) -> Standing {
         let later = self.asks >> (self.seen & 7) << (self.seen & 7);
         Standing {
@@ -305,7 +304,7 @@ impl Standing {
         }
     }
 
-    // One buffer fewer is out of a disabled queue, of which nothing but their number counts any more.
+    // One buffer fewer is out of a disabled queue, of which only their number matters now.
     fn reclaimed(self) -> Standing {
         Standing {
             out: before(self.out),
@@ -313,7 +312,7 @@ impl Standing {
         }
     }
 
-    // A disabled queue, whose driver is so far with the next epoch.
+    // A disabled queue, with the driver's progress to the next epoch.
     fn cleared(self, driver: DriverState) -> Standing {
         let handshake = Handshake {
             driver,

@@ -1,11 +1,11 @@
-//! What a move tells of itself, as far as pairs go.
+//! The outcomes of moves, as pairs distinguish them.
 ghost use Rattle.std.specs.Prelude.{◌≡◌, ◌<◌, Some};
 ghost use Rattle.coverage.specs.Told.{told_by, told_number, told_words};
 
 use ring_machine::{MachineError, Note};
 use std::fmt;
 
-/// That a move was not made, or the kind of its note.
+/// The outcome of a move: it was not made, or the kind of its note.
 #[derive(Clone, Copy, PartialEq, Eq)]
 pub enum Told {
     /// The queue had no such step.
@@ -26,13 +26,13 @@ pub enum Told {
     NothingTaken,
     /// A segment was taken.
     Taken,
-    /// No report was there.
+    /// There was no report.
     NothingReported,
     /// A report was seen.
     Reported,
     /// The head was stored.
     Head,
-    /// A buffer came out.
+    /// A buffer came back.
     Buffer,
     /// A control value was stored or loaded.
     Control,
@@ -40,7 +40,7 @@ pub enum Told {
     Quiet,
 }
 
-/// How many kinds there are.
+/// The number of kinds.
 pub(crate) const TOLD_KINDS: usize = 15;
 
 /// The words of the kinds, in their order: a note's without its numbers.
@@ -63,7 +63,7 @@ const TOLD_WORDS: [&str; TOLD_KINDS] = [
 ];
 
 impl Told {
-    /// What a move told that was answered so.
+    /// The outcome of a move with this result.
     pub fn of(answer: Result<Note, MachineError>) -> Told
         ensures { result ≡ told_by answer }
     {

@@ -6,17 +6,17 @@ use ring_machine::{
     Completion, ControlStep, Move, QueueNumber, RxStep, SegmentDescriptor, SegmentLength, TxStep,
 };
 
-/// Which queue is gone over.
+/// The queue that is searched.
 #[derive(Clone, Copy, PartialEq, Eq)]
 pub enum Side {
     /// A receive queue.
     Receive,
-    /// A transmit queue that reports so.
+    /// A transmit queue with this way to report.
     Transmit(Completion),
 }
 
 impl Side {
-    /// How the transmit queue reports that stands beside the one that is gone over, or is it.
+    /// How the transmit queue reports that is searched, or is beside the searched one.
     pub fn completion(self) -> Completion
         ensures { result ≡ completion_of self }
     {
@@ -27,13 +27,14 @@ impl Side {
     }
 }
 
-/// What a search goes over.
+/// The scope of a search.
 #[derive(Clone, Copy, PartialEq, Eq)]
 pub struct Scope {
-    /// Which queue.
+    /// The queue that is searched.
     pub side: Side,
-    /// Whether it begins enabled, and only moves are made that a controller of silicon and its driver make too: none of a
-    /// handshake's, of the quiet word, of reclaiming and of renewal. Else it begins never enabled, and all moves are made.
+    /// If set, the queue begins enabled, and only moves are made that silicon and its driver make too: none of the
+    /// handshake, the quiet word, reclaiming, or renewal. Otherwise the queue begins never enabled, and all moves are
+    /// made.
     pub device_only: bool,
 }
 
@@ -82,7 +83,7 @@ fn tx_is_data(step: TxStep<SegmentDescriptor>) -> bool
     )
 }
 
-/// Whether a move is one of data: a controller of silicon and its driver make it too.
+/// Whether a move is one of data, which silicon and its driver make too.
 pub fn is_data(action: Move) -> bool
     ensures { result ≡ is_data action }
 {
@@ -92,10 +93,10 @@ pub fn is_data(action: Move) -> bool
     }
 }
 
-/// How many moves are tried in each state.
+/// The number of moves tried in each state.
 pub const MOVES_TRIED: usize = 19;
 
-// Every kind of move of a receive queue, with one buffer's number and one length, and with both values of EOP.
+// Every kind of move of a receive queue, with one buffer number and one length, and with both values of EOP.
 fn receive_moves(queue: QueueNumber, len: SegmentLength) -> [Move; MOVES_TRIED]
     ensures { result ≡ receive_moves queue len }
 {

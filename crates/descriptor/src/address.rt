@@ -1,4 +1,4 @@
-//! The address of a buffer, which is a read descriptor's first word.
+//! The address of a buffer, which is the first word of a read descriptor.
 ghost use Rattle.std.specs.Prelude.{◌≡◌, IfSome, IfNone};
 ghost use Rattle.descriptor.specs.Address.{address_fields, buffer_address};
 ghost use Rattle.descriptor.specs.Layout.{EachField, KeepsField};
@@ -7,7 +7,7 @@ use crate::DescError;
 use crate::words::bits;
 use limits::BUFFER_BYTES;
 
-/// The address of the buffer with this number.
+/// The address of buffer `number`.
 #[inline]
 pub(crate) fn address_of(number: u16) -> u64
     ensures { result ≡ buffer_address number }
@@ -15,7 +15,7 @@ pub(crate) fn address_of(number: u16) -> u64
     BUFFER_BYTES as u64 * u64::from(number)
 }
 
-/// The number of the buffer that has this address, if one has it.
+/// The number of the buffer at this address, if there is one.
 pub(crate) fn number_at(address: u64) -> Option<u16>
     ensures found { IfSome result (λ number. address ≡ buffer_address number) }
     ensures none { IfNone result (¬ EachField (KeepsField DescError.Reserved address) address_fields) }

@@ -1,11 +1,11 @@
-//! What the four forms of a descriptor have in common.
+//! The calls that the four forms of a descriptor share.
 ghost use Rattle.std.specs.Prelude.{◌≡◌, ◌<◌, ◌^◌, ◌↔◌, IfOk, Ok, Err, ℕ};
 
 use crate::DescError;
 use crate::words::{bytes_from_words, words_from_bytes};
 
-/// A form of a descriptor: two words of 64 bits, and of them 16 bytes. A value has exactly one form in words and in
-/// bytes, and what isn't the form of a value is refused.
+/// A form of a descriptor: two words of 64 bits, which are 16 bytes. A value has exactly one encoding in words and in
+/// bytes, and everything else is refused.
 pub trait Descriptor: Sized {
     ghost use Rattle.refusals.specs.declared.errors.DescError.{DescError};
     ghost use Rattle.descriptor.specs.Refusal.{IsLowest};
@@ -21,8 +21,8 @@ pub trait Descriptor: Sized {
     fn words(&self) -> (u64, u64)
         ensures layout { AreWords form (numbers self.now) result.0 result.1 };
 
-    /// The descriptor whose two words these are. Of the refusals that apply, the one with the lowest number is
-    /// answered: `Reserved`, `Kind`, and `Size` for a data length or PAYLEN out of range.
+    /// The descriptor with these two words. Of the refusals that apply, returns the one with the lowest number:
+    /// `Reserved`, `Kind`, or `Size` for a data length or PAYLEN out of range.
     fn from_words(first: u64, second: u64) -> Result<Self, DescError>
         ensures accepted { IfOk result (λ d. AreWords form (numbers d) first second) }
         ensures reads_back { (d : Self) → AreWords form (numbers d) first second → result ≡ Ok d }
@@ -36,8 +36,8 @@ pub trait Descriptor: Sized {
         bytes_from_words(first, second)
     }
 
-    /// The descriptor whose 16 bytes these are, so `from_bytes` undoes `to_bytes`. Refused are `Length`,
-    /// where there are not 16, and what `from_words` refuses.
+    /// The descriptor with these 16 bytes; `from_bytes` inverts `to_bytes`. Returns `Length` if there are not 16 bytes,
+    /// and the refusals of `from_words`.
     final fn from_bytes(bytes: &[u8]) -> Result<Self, DescError>
         ensures accepted { IfOk result (λ d. AreBytes form (numbers d) bytes.now) }
         ensures reads_back { (d : Self) → AreBytes form (numbers d) bytes.now → result ≡ Ok d }

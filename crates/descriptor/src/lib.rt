@@ -1,15 +1,14 @@
-//! The descriptors of the Intel 82599 that a queue's ring has, each 16 bytes: two little-endian
-//! words of 64 bits.
+//! The descriptors of the Intel 82599, each 16 bytes: two little-endian words of 64 bits.
+//! Depends on `limits`, `refusals` and `byteorder`.
+//! Encoding and decoding are exact inverses, and every value satisfies the project's profile of the controller.
 //!
-//! There are four forms: what the driver posts to receive ([`RxRead`]) and to transmit
-//! ([`TxRead`]), and what the controller writes back in its place ([`RxBack`], [`TxBack`]). Bytes
-//! do not tell the form, so a caller names it. A value of these types is always one that the
-//! project's profile of the controller allows, and each has exactly one form in bytes.
+//! There are four forms: the descriptors that the driver posts to receive ([`RxRead`]) and to transmit ([`TxRead`]),
+//! and those that the controller writes back in their place ([`RxBack`], [`TxBack`]). The bytes do not determine the
+//! form, so the caller names it.
 //!
-//! What all four have in common is the trait [`Descriptor`]. `to_bytes` gives that form. `from_bytes`
-//! accepts exactly the forms, and says of any other bytes which refusal with the lowest number
-//! applies. A ring keeps words and no bytes: `words`, `second_word` and `from_words` are for it, and
-//! so are the calls that read a status word.
+//! The trait [`Descriptor`] has the calls that all four share. `to_bytes` encodes a value. `from_bytes` accepts exactly
+//! these encodings, and returns the applicable refusal with the lowest number for any other bytes. A ring keeps words,
+//! not bytes, and uses `words`, `second_word`, `from_words` and the calls that read a status word.
 #![tactic(auto)]
 
 mod address;

@@ -1,4 +1,4 @@
-//! The receive write-back (82599 datasheet, 7.1.6.2).
+//! The receive write-back descriptor (82599 datasheet, 7.1.6.2).
 ghost use Rattle.std.specs.Prelude.{◌≡◌, ◌+◌, ◌*◌, ◌/◌, ◌%◌, ◌^◌, ◌<◌, ◌≤◌, ◌↔◌, IsTrue, IfOk};
 ghost use Rattle.limits.specs.declared.profile.TheConstants.{BUFFER_BYTES};
 ghost use Rattle.descriptor.specs.Layout.{bit};
@@ -11,11 +11,11 @@ use std::fmt;
 /// The first word: no hash, no packet type and no header length.
 const FIRST_WORD: u64 = 0;
 
-/// What the controller writes back where a receive descriptor was (82599 datasheet, 7.1.6.2): that
-/// it is done, and how many bytes of the frame lie in its buffer.
+/// The descriptor that the controller writes back on a receive ring (82599 datasheet, 7.1.6.2): DD is set, with the
+/// number of bytes in its buffer.
 #[derive(Clone, Copy, Debug, PartialEq, Eq)]
 pub struct RxBack {
-    /// How many bytes lie in the buffer, 1 to `BUFFER_BYTES`.
+    /// The number of bytes in the buffer, 1 to `BUFFER_BYTES`.
     pub len: u16,
     /// EOP: whether they end their frame.
     pub eop: bool,
@@ -47,7 +47,7 @@ impl RxBack {
         is_set(word, 0)
     }
 
-    /// Whether a second word has EOP (bit 1). It tells something where the word has DD.
+    /// Whether a second word has EOP (bit 1). Meaningful only if the word has DD.
     #[inline]
     pub fn ends_frame(word: u64) -> bool
         ensures { IsTrue result ↔ (word / 2 % 2 ≡ 1) }
@@ -55,7 +55,7 @@ impl RxBack {
         is_set(word, 1)
     }
 
-    /// The length in a second word (bits 47:32). It tells something where the word has DD.
+    /// The length in a second word (bits 47:32). Meaningful only if the word has DD.
     #[inline]
     pub fn data_len(word: u64) -> u16
         ensures { result ≡ word / 2 ^ 32 % 2 ^ 16 }
@@ -72,8 +72,8 @@ impl RxBack {
         second_word_of(self.len, self.eop)
     }
 
-    /// The descriptor whose second word this is, its first word being 0. A ring's table keeps that
-    /// word alone. The refusals are those of `from_words`.
+    /// The descriptor with this second word and the first word 0, as a ring's table keeps it. Returns the refusals of
+    /// `from_words`.
     #[inline]
     pub fn from_second_word(word: u64) -> Result<Self, DescError>
         ensures accepted { IfOk result (λ d. word ≡ 1 + 2 * bit d.eop + d.len * 2 ^ 32) }
@@ -93,7 +93,7 @@ impl Descriptor for RxBack {
 
     ghost numbers = { λ d. rx_back_numbers d.len d.eop };
 
-    /// 0, and the second word.
+    /// Returns 0 and the second word.
     #[inline]
     fn words(&self) -> (u64, u64)
         ensures layout { AreWords rx_back_form (rx_back_numbers self.now.len self.now.eop) result.0 result.1 }
@@ -102,7 +102,7 @@ impl Descriptor for RxBack {
         (FIRST_WORD, self.second_word())
     }
 
-    /// Refused are `Reserved`, and `Size` for a length that is 0 or above `BUFFER_BYTES`.
+    /// Returns `Reserved` for a wrong fixed bit, and `Size` for a length that is 0 or above `BUFFER_BYTES`.
     fn from_words(first: u64, second: u64) -> Result<Self, DescError> {
         if first != FIRST_WORD {
             return Err(DescError::Reserved);
@@ -129,7 +129,7 @@ fn second_word_of(len: u16, eop: bool) -> u64
     1 + 2 * u64::from(eop) + u64::from(len) * (1 << 32)
 }
 
-/// What a program prints of it, as `dd 1 eop 1 length 60`.
+/// Prints as `dd 1 eop 1 length 60`.
 impl fmt::Display for RxBack {
     ghost use Rattle.std.specs.Prelude.{Some};
     ghost use Rattle.descriptor.specs.Texts.{rx_back_text};

@@ -12,9 +12,9 @@ const SECOND_WORD: u64 = 0;
 /// An empty buffer, posted to receive into (82599 datasheet, 7.1.6.1). There is no header buffer.
 #[derive(Clone, Copy, Debug, PartialEq, Eq)]
 pub struct RxRead {
-    /// The buffer's number. Its address is 2,048 times that.
+    /// The buffer's number. Its address is 2,048 times the number.
     pub number: u16,
-    // in a clause that speaks of each `RxRead`, its number is any number but for this
+    // without this, the number is unbounded in a clause about every `RxRead`
     pub ghost in_range: { number < 2 ^ 16 },
 }
 
@@ -40,7 +40,7 @@ impl Descriptor for RxRead {
 
     ghost numbers = { λ d. rx_read_numbers d.number };
 
-    /// The buffer's address, and 0.
+    /// Returns the buffer's address and 0.
     #[inline]
     fn words(&self) -> (u64, u64)
         ensures layout { AreWords rx_read_form (rx_read_numbers self.now.number) result.0 result.1 }
@@ -49,7 +49,7 @@ impl Descriptor for RxRead {
         (address_of(self.number), self.second_word())
     }
 
-    /// The refusal is `Reserved`.
+    /// Returns `Reserved` if any bit is wrong.
     fn from_words(first: u64, second: u64) -> Result<Self, DescError> {
         let Some(number) = number_at(first) else {
             return Err(DescError::Reserved);
@@ -63,7 +63,7 @@ impl Descriptor for RxRead {
     ghost fits = { λ d. let h = d.in_range in (Prim.omega arith, Prim.omega arith) };
 }
 
-/// What a program prints of it, as `buffer 5`.
+/// Prints as `buffer 5`.
 impl fmt::Display for RxRead {
     ghost use Rattle.std.specs.Prelude.{Some};
     ghost use Rattle.descriptor.specs.Texts.{rx_read_text};

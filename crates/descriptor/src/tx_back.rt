@@ -1,4 +1,4 @@
-//! The transmit write-back (82599 datasheet, 7.2.3.2.4).
+//! The transmit write-back descriptor (82599 datasheet, 7.2.3.2.4).
 ghost use Rattle.std.specs.Prelude.{◌≡◌, ◌/◌, ◌%◌, ◌^◌, ◌↔◌, IsTrue};
 
 use crate::words::is_set;
@@ -11,16 +11,16 @@ const FIRST_WORD: u64 = 0;
 /// The second word: DD alone.
 const DONE_WORD: u64 = 1 << 32;
 
-/// What the controller writes back where a transmit descriptor with RS was (82599 datasheet,
-/// 7.2.3.2.4): that it is done, and so is each one before it.
+/// The descriptor that the controller writes back over a transmit descriptor with RS (82599 datasheet, 7.2.3.2.4): it
+/// is done, and so is each one before it.
 #[derive(Clone, Copy, Debug, PartialEq, Eq)]
 pub struct TxBack;
 
 impl TxBack {
     ghost use Rattle.descriptor.specs.Transmit.{tx_back_second};
 
-    /// Whether a second word has DD (bit 32): the controller has written the descriptor back. The
-    /// second word of a `TxRead` does not have it.
+    /// Whether a second word has DD (bit 32): the controller has written the descriptor back. The second word of a
+    /// `TxRead` does not have it.
     #[inline]
     pub fn is_done(word: u64) -> bool
         ensures { IsTrue result ↔ (word / 2 ^ 32 % 2 ≡ 1) }
@@ -47,7 +47,7 @@ impl Descriptor for TxBack {
 
     ghost numbers = { λ _. no_numbers };
 
-    /// 0, and DD alone.
+    /// Returns 0 and DD alone.
     #[inline]
     fn words(&self) -> (u64, u64)
         ensures layout { AreWords tx_back_form no_numbers result.0 result.1 }
@@ -56,7 +56,7 @@ impl Descriptor for TxBack {
         (FIRST_WORD, self.second_word())
     }
 
-    /// The refusal is `Reserved`.
+    /// Returns `Reserved` if any bit is wrong.
     fn from_words(first: u64, second: u64) -> Result<Self, DescError> {
         if first != FIRST_WORD || second != DONE_WORD {
             return Err(DescError::Reserved);
@@ -67,7 +67,7 @@ impl Descriptor for TxBack {
     ghost fits = { λ _. (Prim.omega arith, Prim.omega arith) };
 }
 
-/// What a program prints of it: `dd 1`.
+/// Prints as `dd 1`.
 impl fmt::Display for TxBack {
     ghost use Rattle.std.specs.Prelude.{Some};
     ghost use Rattle.descriptor.specs.Texts.{tx_back_text};

@@ -10,21 +10,21 @@ use crate::{DescError, Descriptor};
 use limits::{BUFFER_BYTES, LEAST_FRAME, MOST_FRAME};
 use std::fmt;
 
-/// A buffer with one segment of a frame, posted to transmit: an advanced data descriptor (82599
-/// datasheet, 7.2.3.2.4), DTYP 3 and DEXT 1. IFCS is set in each, and offloads are not used.
+/// A buffer with one segment of a frame, posted to transmit: an advanced data descriptor (82599 datasheet, 7.2.3.2.4)
+/// with DTYP 3 and DEXT 1. IFCS is always set, and offloads are not used.
 #[derive(Clone, Copy, Debug, PartialEq, Eq)]
 pub struct TxRead {
-    /// The buffer's number. Its address is 2,048 times that.
+    /// The buffer's number. Its address is 2,048 times the number.
     pub number: u16,
-    /// DTALEN: how many bytes of the frame lie in the buffer, 1 to `BUFFER_BYTES`.
+    /// DTALEN: the number of bytes of the frame in the buffer, 1 to `BUFFER_BYTES`.
     pub len: u16,
     /// EOP: whether they end their frame.
     pub eop: bool,
-    /// RS: whether the controller is to report it done. Only the end of a frame may ask for that.
+    /// RS: whether the descriptor asks for a report. Only the last one of a frame may.
     pub rs: bool,
-    /// PAYLEN: how many bytes the whole frame has, `LEAST_FRAME` to `MOST_FRAME`.
+    /// PAYLEN: the number of bytes of the whole frame, `LEAST_FRAME` to `MOST_FRAME`.
     pub paylen: u16,
-    // in a clause that speaks of each `TxRead`, its number is any number but for this
+    // without this, the number is unbounded in a clause about every `TxRead`
     pub ghost in_range: { number < 2 ^ 16 },
     pub ghost some_data: { 1 ≤ len },
     pub ghost fits: { len ≤ BUFFER_BYTES },
@@ -60,7 +60,7 @@ impl TxRead {
         }
     }
 
-    /// The length in a second word (DTALEN, bits 15:0). It tells something where the word has no DD.
+    /// The length in a second word (DTALEN, bits 15:0). Meaningful only if the word has no DD.
     #[inline]
     pub fn data_len(word: u64) -> u16
         ensures { result ≡ len_of word }
@@ -68,7 +68,7 @@ impl TxRead {
         bits(word, 0, 16) as u16
     }
 
-    /// Whether a second word has EOP (bit 24). It tells something where the word has no DD.
+    /// Whether a second word has EOP (bit 24). Meaningful only if the word has no DD.
     #[inline]
     pub fn ends_frame(word: u64) -> bool
         ensures { result ≡ eop_of word }
@@ -76,7 +76,7 @@ impl TxRead {
         bits(word, 24, 1) == 1
     }
 
-    /// Whether a second word has RS (bit 27). It tells something where the word has no DD.
+    /// Whether a second word has RS (bit 27). Meaningful only if the word has no DD.
     #[inline]
     pub fn asks_report(word: u64) -> bool
         ensures { result ≡ rs_of word }
@@ -84,8 +84,7 @@ impl TxRead {
         bits(word, 27, 1) == 1
     }
 
-    /// The length of the whole frame in a second word (PAYLEN, bits 63:46). It tells something where
-    /// the word has no DD.
+    /// The length of the whole frame in a second word (PAYLEN, bits 63:46). Meaningful only if the word has no DD.
     #[inline]
     pub fn frame_len(word: u64) -> u32
         ensures { result ≡ paylen_of word }
@@ -93,7 +92,7 @@ impl TxRead {
         (word >> 46) as u32
     }
 
-    /// The second word, which a ring's table keeps. It does not have the bit that DD of a `TxBack` is.
+    /// The second word, which a ring's table keeps. The bit that is DD in a `TxBack` is 0.
     #[inline]
     pub fn second_word(&self) -> u64
         ensures layout { result ≡ tx_read_second self.now }
@@ -110,8 +109,8 @@ impl TxRead {
             + u64::from(self.paylen) * (1 << 46)
     }
 
-    /// Whether each bit of a second word that the profile fixes is right, but for DTYP and DEXT: the
-    /// word is then what its other fields come to, and RS is not set without EOP.
+    /// Whether each bit of a second word that the profile fixes is right, except DTYP and DEXT: the word equals the sum
+    /// of its other fields, and RS is not set without EOP.
     fn has_fixed_bits(second: u64) -> bool
         ensures { IsTrue result ↔ EachField (KeepsField DescError.Reserved second) tx_read_form.second }
     {
@@ -160,7 +159,7 @@ impl Descriptor for TxRead {
 
     ghost numbers = { λ d. tx_read_numbers d.number d.len d.eop d.rs d.paylen };
 
-    /// The buffer's address, and the second word.
+    /// Returns the buffer's address and the second word.
     #[inline]
     fn words(&self) -> (u64, u64)
         ensures layout { AreWords tx_read_form (tx_read_numbers self.now.number self.now.len self.now.eop self.now.rs self.now.paylen) result.0 result.1 }
@@ -169,7 +168,8 @@ impl Descriptor for TxRead {
         (address_of(self.number), self.second_word())
     }
 
-    /// Refused are `Reserved`, `Kind`, and `Size` for a data length or PAYLEN out of range.
+    /// Returns `Reserved` for a wrong fixed bit, `Kind` for another DTYP or DEXT, and `Size` for a data length or
+    /// PAYLEN out of range.
     fn from_words(first: u64, second: u64) -> Result<Self, DescError> {
         let Some(number) = number_at(first) else {
             return Err(DescError::Reserved);
@@ -195,7 +195,7 @@ impl Descriptor for TxRead {
     ghost fits = { λ d. let e = bit_lt d.eop in let r = bit_lt d.rs in (Prim.omega arith, Prim.omega arith) };
 }
 
-/// What a program prints of it, as `buffer 5 length 60 eop 1 rs 1 paylen 60`.
+/// Prints as `buffer 5 length 60 eop 1 rs 1 paylen 60`.
 impl fmt::Display for TxRead {
     ghost use Rattle.std.specs.Prelude.{Some};
     ghost use Rattle.descriptor.specs.Texts.{tx_read_text};

@@ -1,11 +1,11 @@
-//! A descriptor's two words, in bytes.
+//! The two words of a descriptor, in bytes.
 ghost use Rattle.std.specs.Prelude.{◌≡◌, ◌/◌, ◌%◌, ◌^◌, ◌<◌, IfOk, IfErr, length};
 ghost use Rattle.descriptor.specs.Layout.{HasWords, bit, bytes_of};
 
 use crate::DescError;
 use byteorder::{ByteOrder, LittleEndian};
 
-/// How many bytes a descriptor has.
+/// The number of bytes of a descriptor.
 const DESCRIPTOR_BYTES: usize = 16;
 
 /// The two words as bytes, the first word first.
@@ -18,7 +18,7 @@ pub(crate) fn bytes_from_words(first: u64, second: u64) -> [u8; DESCRIPTOR_BYTES
     bytes
 }
 
-/// The two words in the bytes of a descriptor.
+/// The two words in the bytes of a descriptor. Returns `Length` if there are not 16 bytes.
 pub(crate) fn words_from_bytes(bytes: &[u8]) -> Result<(u64, u64), DescError>
     ensures words { IfOk result (λ w. HasWords bytes.now w.0 w.1) }
     ensures refused { IfErr result (λ e. (e ≡ DescError.Length) × ¬ (length bytes.now ≡ DESCRIPTOR_BYTES)) }

@@ -1,4 +1,4 @@
-//! What drivers of both directions do with their ends alike.
+//! The calls that drivers of both directions make on their ends in the same way.
 ghost use Rattle.std.specs.Prelude.{◌≡◌, ◌↔◌, true, false, length, IsErr, IsTrue, IfErr, OnErr, IfOk, OnOk};
 ghost use Rattle.ring_model.specs.declared.states.DriverState.TheVariants as state;
 ghost use Rattle.ring_model.specs.shared.Handshakes.{is_on, is_open, is_stopped};
@@ -10,7 +10,7 @@ ghost use Rattle.driver.specs.Handshake.{AskedEnabling};
 use refusals::DriverError;
 use shared_ring::{Direction, DriverEnd};
 
-/// Asks for the queue to be enabled, if nothing was asked yet, loads the control word, and answers whether the queue is
+/// Asks for the queue to be enabled, if nothing was asked yet, and loads the control word. Returns whether the queue is
 /// enabled.
 pub(crate) fn enable<D, C, R: Direction<D, C>, E: DriverEnd<D, C, R>>(
     end: &mut E,
@@ -57,7 +57,7 @@ pub(crate) fn ask_disable<D, C, R: Direction<D, C>, E: DriverEnd<D, C, R>>(
     Ok(())
 }
 
-/// Whether no buffer is out.
+/// Whether every posted buffer has come back.
 pub(crate) fn is_back<D, C, R: Direction<D, C>, E: DriverEnd<D, C, R>>(end: &E) -> bool
     ensures { IsTrue result ↔ (returned (driver_of R.form (E.side end.now)) ≡ length (posted (driver_of R.form (E.side end.now)))) }
 {

@@ -1,12 +1,13 @@
-//! The driver's side of the rings, in batches, in the manner of ixy's ixgbe driver.
+//! A poll-mode driver over the rings' driver ends, in batches, in the manner of ixy's ixgbe driver.
+//! Depends on `shared_ring`, `rx_ring`, `tx_ring`, `ring_model`, `buffer_pool`, `limits`, `refusals` and `arrayvec`.
+//! Each contract states which steps a call makes and how it extends the lists of its end.
 //!
-//! An `RxDriver` has the driver's end of a receive ring: it takes the packets that are done, posts empty buffers of a
-//! stash in their place, and keeps the chain of a frame that has not ended yet. A `TxDriver` has that of a transmit
-//! ring: it posts packets, and takes the buffers of those back that are reported as sent, into a stash. Each has its
-//! queue enabled and disabled, brings the buffers of a disabled queue back, and renews it.
+//! An [`RxDriver`] owns the driver's end of a receive ring. It takes completed packets, posts empty buffers of a stash
+//! in their place, and keeps the chain of an unfinished frame. A [`TxDriver`] owns the driver's end of a transmit ring.
+//! It posts packets and moves the buffers that are reported as sent into a stash. Both are [`QueueDriver`]s: they
+//! enable, disable, reclaim and renew their queue.
 //!
-//! Each call says by how much the lists of its end's ledger grew, and which steps it made. No call takes memory, waits,
-//! or starts a thread.
+//! No call allocates, waits, or starts a thread.
 #![tactic(auto)]
 
 mod handshake;

@@ -1,4 +1,4 @@
-//! What drivers of both directions have: their queue's handshake, and the buffers of a disabled queue.
+//! The calls that drivers of both directions share: the handshake, and reclaiming the buffers of a disabled queue.
 ghost use Rattle.std.specs.Prelude.{◌≡◌, ◌+◌, ◌↔◌, true, false, length, Ok, IsErr, IsOk, IsSome, IfNone, IfErr, OnErr, IfOk, OnOk};
 ghost use Rattle.limits.specs.RingLength.{IsRingLength};
 ghost use Rattle.ring_model.specs.declared.states.DriverState.TheVariants as state;
@@ -13,7 +13,7 @@ use buffer_pool::{STASH_BUFFERS, Stash};
 use refusals::DriverError;
 use shared_ring::{Direction, DriverPlaces, SharedRing};
 
-/// A driver of a queue of either direction. Each call takes the ring that the driver's end was made with.
+/// A driver of a queue of either direction. Each call takes the ring for which the driver's end was made.
 pub trait QueueDriver<D, C, R: Direction<D, C>>: Sized {
     ghost use Rattle.std.specs.Prelude.{ℕ, List, Option};
     ghost use Rattle.shared_ring.specs.declared.events.DriverEvent.{DriverEvent};
@@ -22,38 +22,38 @@ pub trait QueueDriver<D, C, R: Direction<D, C>>: Sized {
     /// The ring.
     type Ring: SharedRing;
 
-    /// The record of its end's own steps.
+    /// The record of the end's own steps.
     ghost side: { Self → Side (DriverEvent D) };
 
-    /// The same driver with an end that has gone on.
+    /// The same driver with an end that has made further steps.
     ghost with_side: { Self → Side (DriverEvent D) → Self };
 
-    /// A driver of a new epoch, with an end that was renewed.
+    /// The driver of a new epoch, with a renewed end.
     ghost anew: { Self → Side (DriverEvent D) → Self };
 
-    /// How many segments are left at every meeting of the epoch, as the end was told.
+    /// How many segments every meeting of the epoch finds left, as far as the end knows.
     ghost told: { Side (DriverEvent D) → Option ℕ };
 
-    /// By a load of the head nothing else was learnt.
+    /// A load of the head taught the end nothing else.
     ghost learnt_head: { Side (DriverEvent D) → Side (DriverEvent D) → Type 0 };
 
-    /// The buffers of a disabled queue went into the stash, the oldest first.
+    /// The buffers of a disabled queue moved into the stash, the oldest first.
     ghost gave_back: { Self → List ℕ → Self → List ℕ → Type 0 };
 
-    /// Nothing is left of a disabled queue.
+    /// A disabled queue has neither buffers nor a chain left.
     ghost is_emptied: { Self → Type 0 };
 
-    /// An epoch began in which nothing is done.
+    /// A new epoch began, in which no step is made yet.
     ghost gone_over: { Side (DriverEvent D) → Side (DriverEvent D) → Type 0 };
 
-    /// Where its end stands.
+    /// The places and the handshake state of the end.
     fn at(&self) -> DriverPlaces
         ensures { IsPoster (driver_size (driver_of R.form (side self.now))) (driver_record (driver_of R.form (side self.now))) result };
 
-    /// Asks for the queue to be enabled, if nothing was asked yet, loads the control word, and answers whether the queue
-    /// is enabled. Where a disabling is asked it answers false, without a step.
+    /// Asks for the queue to be enabled, if nothing was asked yet, loads the control word, and returns whether the
+    /// queue is enabled. After a disabling was asked it returns false and makes no step.
     ///
-    /// `NotReclaimed` where the queue was seen disabled and is not renewed: then nothing is done.
+    /// Returns `NotReclaimed` if the queue was seen disabled and is not renewed; nothing is done then.
     fn enable(&mut self, ring: &Self::Ring) -> Result<bool, DriverError>
         requires own { (side self.old).table ≡ Self.Ring.table ring.now }
         ensures ring { (side self.new).table ≡ (side self.old).table }
@@ -67,7 +67,7 @@ pub trait QueueDriver<D, C, R: Direction<D, C>>: Sized {
 
     /// Asks for the queue to be disabled.
     ///
-    /// `QueueOff` where the queue was not seen enabled, or a disabling was asked already: then nothing is done.
+    /// Returns `QueueOff` if the queue was not seen enabled, or a disabling was already asked; nothing is done then.
     fn ask_disable(&mut self, ring: &Self::Ring) -> Result<(), DriverError>
         requires own { (side self.old).table ≡ Self.Ring.table ring.now }
         ensures ring { (side self.new).table ≡ (side self.old).table }
@@ -78,9 +78,9 @@ pub trait QueueDriver<D, C, R: Direction<D, C>>: Sized {
         ensures record { OnOk result (driver_record (driver_of R.form (side self.new)) ≡ record (driver_record (driver_of R.form (side self.old))) { state = state.Stopping }) }
         ensures known { known_of (driver_of R.form (side self.new)) ≡ known_of (driver_of R.form (side self.old)) };
 
-    /// Loads the control word. Once the disabling is answered, it loads the head too, and answers how many segments are
-    /// left: of a receive queue those that were stored and not taken, of a transmit queue those that were posted and not
-    /// sent. It stays so, and every later meeting finds as many. None before, and after that without a step.
+    /// Loads the control word. Once the disabling is answered, also loads the head and returns how many segments are
+    /// left: stored but not taken on a receive queue, posted but not sent on a transmit queue. The number is final:
+    /// every later meeting finds the same. Returns `None` before that, and afterwards `None` without a step.
     fn finish_disable(&mut self, ring: &Self::Ring) -> Option<u32>
         requires own { (side self.old).table ≡ Self.Ring.table ring.now }
         ensures ring { (side self.new).table ≡ (side self.old).table }
@@ -91,11 +91,11 @@ pub trait QueueDriver<D, C, R: Direction<D, C>>: Sized {
         ensures unlearnt { IfNone result (known_of (driver_of R.form (side self.new)) ≡ known_of (driver_of R.form (side self.old))) }
         ensures rest { self.new ≡ with_side self.old (side self.new) };
 
-    /// Moves all buffers of a disabled queue into the stash, first those of an unfinished chain, then those in the ring,
-    /// the oldest first, and answers how many these were: 0 until `finish_disable` has answered.
+    /// Moves all buffers of a disabled queue into the stash: first those of an unfinished chain, then those in the
+    /// ring, the oldest first. Returns their number, which is 0 until `finish_disable` has returned `Some`.
     ///
-    /// `StashFull` where buffers are left for which the stash has no room: as many are moved as fit, and the call can be
-    /// made again.
+    /// Returns `StashFull` if buffers remain for which the stash has no room: those that fit are moved, and the call
+    /// can be repeated.
     fn reclaim_into(&mut self, ring: &Self::Ring, stash: &mut Stash) -> Result<usize, DriverError>
         requires own { (side self.old).table ≡ Self.Ring.table ring.now }
         ensures ring { (side self.new).table ≡ (side self.old).table }
@@ -109,10 +109,10 @@ pub trait QueueDriver<D, C, R: Direction<D, C>>: Sized {
         ensures full { OnErr result (length stash.new ≡ STASH_BUFFERS) }
         ensures left { OnErr result (¬ is_emptied self.new) };
 
-    /// Renews a queue that was seen disabled and from which all buffers came back: it can be enabled again. A receive
-    /// queue gets its buffers by its next batch, and the frames of a transmit queue are counted from 1.
+    /// Renews a queue that was seen disabled and from which all buffers came back, so that it can be enabled again. The
+    /// next batch of a receive queue posts its buffers; a transmit queue counts its frames from 1 again.
     ///
-    /// `NotReclaimed` where it was not seen disabled, or buffers or a chain are left: then nothing is done.
+    /// Returns `NotReclaimed` if the queue was not seen disabled, or buffers or a chain are left; nothing is done then.
     fn renew(&mut self, ring: &Self::Ring) -> Result<(), DriverError>
         requires own { (side self.old).table ≡ Self.Ring.table ring.now }
         ensures ring { (side self.new).table ≡ (side self.old).table }
@@ -122,7 +122,7 @@ pub trait QueueDriver<D, C, R: Direction<D, C>>: Sized {
         ensures begun { OnOk result (gone_over (side self.old) (side self.new)) }
         ensures rest { OnOk result (self.new ≡ anew self.old (side self.new)) };
 
-    /// The ring's length.
+    /// The number of descriptors of the ring.
     #[inline]
     final fn size(&self) -> u32
         ensures lawful { IsRingLength result }
@@ -131,8 +131,8 @@ pub trait QueueDriver<D, C, R: Direction<D, C>>: Sized {
         self.at().size as u32
     }
 
-    /// Whether the queue was seen enabled, and its disabling not yet seen answered: then a batch takes packets, or
-    /// cleans.
+    /// Whether the queue was seen enabled and its disabling not yet seen answered: in this state a batch takes packets
+    /// or cleans.
     #[inline]
     final fn is_live(&self) -> bool
         ensures { result ≡ is_live (driver_state (driver_of R.form (side self.now))) }
@@ -140,7 +140,7 @@ pub trait QueueDriver<D, C, R: Direction<D, C>>: Sized {
         self.at().state.is_live()
     }
 
-    /// Whether the queue was seen enabled, and no disabling asked.
+    /// Whether the queue was seen enabled, and no disabling was asked.
     #[inline]
     final fn is_on(&self) -> bool
         ensures { result ≡ is_on (driver_state (driver_of R.form (side self.now))) }
@@ -148,7 +148,7 @@ pub trait QueueDriver<D, C, R: Direction<D, C>>: Sized {
         self.at().state.is_on()
     }
 
-    /// Whether the disabling was seen answered: then `reclaim_into` brings the buffers back.
+    /// Whether the disabling was seen answered, so that `reclaim_into` moves the buffers.
     #[inline]
     final fn is_stopped(&self) -> bool
         ensures { result ≡ is_stopped (driver_state (driver_of R.form (side self.now))) }

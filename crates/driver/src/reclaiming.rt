@@ -1,4 +1,4 @@
-//! The buffers of a disabled queue, of either direction, come back.
+//! Reclaiming the buffers of a disabled queue, in either direction.
 ghost use Rattle.std.specs.Prelude.{◌≡◌, ℕ, ◌↔◌, ◌⊎◌, true, length, IsTrue};
 ghost use Rattle.buffer_pool.specs.Buffer.{Buffer};
 ghost use Rattle.ring_model.specs.shared.Handshakes.{is_stopped};
@@ -11,9 +11,9 @@ use rx_ring::{RxControllerOwn, RxDriverEnd, RxDriverOwn, RxRing, RxRule};
 use shared_ring::{Direction, DriverEnd};
 use tx_ring::{TxControllerOwn, TxDriverEnd, TxDriverOwn, TxRing, TxRule};
 
-/// An end that takes the buffers of a disabled queue back.
+/// An end that takes back the buffers of a disabled queue.
 pub(crate) trait Reclaims<D, C, R: Direction<D, C>>: DriverEnd<D, C, R> {
-    /// Takes the oldest buffer that is out back; none where all came back.
+    /// Takes back the oldest buffer that is out. Returns `None` if all came back.
     fn take_back(&mut self, ring: &Self::Ring) -> Option<Buf>
         requires own { (Self.side self.old).table ≡ Self.Ring.table ring.now }
         requires stopped { is_stopped (driver_state (driver_of R.form (Self.side self.old))) ≡ true }
@@ -34,8 +34,8 @@ impl Reclaims<TxDriverOwn, TxControllerOwn, TxRule> for TxDriverEnd {
     }
 }
 
-/// Moves the buffers that are out into the stash, the oldest first, and answers whether all found room. `number` is the
-/// number of a posting's buffer.
+/// Moves the buffers that are out into the stash, the oldest first, and returns whether all found room. `number` maps a
+/// posting to its buffer's number.
 pub(crate) fn empty_ring<D, C, R: Direction<D, C>, E: Reclaims<D, C, R>>(
     end: &mut E,
     ring: &E::Ring,

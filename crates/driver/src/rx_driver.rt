@@ -20,14 +20,15 @@ use refusals::DriverError;
 use rx_ring::{DriverEnd, RxDriverEnd, RxRing};
 use std::marker::Model;
 
-/// The most packets of a batch, and of a list of packets.
+/// The maximum number of packets of a batch, and of a list of packets.
 pub const MOST_BATCH: usize = 32;
 
 const _: () = prove!(MOST_BATCH == 32);
 
-/// A driver of a receive queue: its end of the ring, and the chain of a frame of which not all segments were taken yet.
+/// A driver of a receive queue: its end of the ring, the chain of a frame whose last segment is not taken yet, and the
+/// batch size.
 ///
-/// Contracts see both. Each call takes the ring that the end was made with.
+/// Contracts see all three. Each call takes the ring for which the end was made.
 #[derive(Drop)]
 pub struct RxDriver {
     end: RxDriverEnd,
@@ -47,7 +48,7 @@ impl Model for RxDriver {
 }
 
 impl RxDriver {
-    /// A driver that takes up to `batch` packets at once.
+    /// A driver that takes up to `batch` packets at once, 1 to `MOST_BATCH`.
     pub fn new(end: RxDriverEnd, batch: usize) -> RxDriver
         requires ready { IsReady end }
         requires some { 0 < batch }
@@ -61,7 +62,7 @@ impl RxDriver {
         }
     }
 
-    /// The end and its unfinished chain.
+    /// Returns the end and its unfinished chain.
     pub fn into_end(self) -> (RxDriverEnd, Packet)
         ensures end { result.0 ≡ self.end }
         ensures chain { result.1 ≡ self.chain }
@@ -77,7 +78,7 @@ impl RxDriver {
         self.end.room()
     }
 
-    /// The most packets that it takes at once.
+    /// The maximum number of packets that a batch takes.
     #[inline]
     pub fn batch(&self) -> usize
         ensures value { result ≡ self.now.batch }
@@ -87,7 +88,7 @@ impl RxDriver {
         self.batch
     }
 
-    /// Whether segments were taken of a frame that has not ended.
+    /// Whether segments of an unfinished frame were taken.
     #[inline]
     pub fn has_chain(&self) -> bool
         ensures { IsTrue result ↔ (0 < length self.now.chain) }
@@ -95,8 +96,8 @@ impl RxDriver {
         self.chain.segments() > 0
     }
 
-    /// Loads the quiet word: whether the controller said that it stores no more. Once it did, a batch that ends for want
-    /// of anything to take teaches that all that was stored is taken.
+    /// Loads the quiet word: whether the controller announced that it stores no more. After that, a batch that ends
+    /// because nothing more is done shows that everything stored is taken.
     #[inline]
     pub fn is_quiet(&mut self, ring: &RxRing) -> bool
         requires own { self.old.end.table ≡ ring.now }
@@ -109,12 +110,11 @@ impl RxDriver {
         self.end.is_quiet(ring)
     }
 
-    /// Takes the packets that are done and appends them to the list: up to a batch of them, until the list is full or
-    /// nothing more is done; and answers how many these were. After each segment an empty buffer of the stash is posted,
-    /// and at the end as many as there is room for; what was posted is published once. Where a disabling was asked
-    /// nothing is posted.
+    /// Takes up to a batch of completed packets and appends them to the list, until the list is full or nothing more is
+    /// done. Returns how many packets it appended. It posts an empty buffer of the stash after each segment, at the end
+    /// as many as the ring has room for, and publishes them once. After a disabling was asked it posts nothing.
     ///
-    /// `QueueOff` where the queue was not seen enabled, or was seen disabled: then nothing is done.
+    /// Returns `QueueOff` if the queue was not seen enabled, or was seen disabled; nothing is done then.
     pub fn rx_batch(
         &mut self,
         ring: &RxRing,

@@ -24,9 +24,9 @@ use refusals::DriverError;
 use std::marker::Model;
 use tx_ring::{DriverEnd, TxDriverEnd, TxRing};
 
-/// A driver of a transmit queue: its end of the ring, how often it asks for a report, and its count of frames.
+/// A driver of a transmit queue: its end of the ring, its report interval, and its count of frames.
 ///
-/// Contracts see these. Each call takes the ring that the end was made with.
+/// Contracts see all three. Each call takes the ring for which the end was made.
 #[derive(Drop)]
 pub struct TxDriver {
     end: TxDriverEnd,
@@ -46,7 +46,8 @@ impl Model for TxDriver {
 }
 
 impl TxDriver {
-    /// A driver that asks for a report with each `rs_every`th frame that it posts in an epoch.
+    /// A driver that asks for a report with each `rs_every`th frame of an epoch, 1 to `MOST_RS_EVERY`, besides the last
+    /// of each batch.
     pub fn new(end: TxDriverEnd, rs_every: u16) -> TxDriver
         requires ready { IsReady end }
         requires some { 0 < rs_every }
@@ -61,7 +62,7 @@ impl TxDriver {
         }
     }
 
-    /// Gives the end back. It stands between two frames.
+    /// Returns the end, which is between two frames.
     pub fn into_end(self) -> TxDriverEnd
         ensures value { result ≡ self.end }
         ensures whole { are_whole (posted result) ≡ true }
@@ -69,7 +70,7 @@ impl TxDriver {
         self.end
     }
 
-    /// Of how many frames one asks for a report.
+    /// The report interval: at least each `rs_every`th frame asks for a report.
     #[inline]
     pub fn rs_every(&self) -> u16
         ensures some { 0 < result }
@@ -79,8 +80,8 @@ impl TxDriver {
         self.every
     }
 
-    /// How many more descriptors can be posted. Until the disabling was seen answered it is the ring's length less 1
-    /// exactly where all that was posted is cleaned.
+    /// How many more descriptors can be posted. Until the disabling is seen answered, this is the ring's length less 1
+    /// exactly if all that was posted is cleaned.
     #[inline]
     pub fn room(&self) -> u32
         ensures sum { result + length (posted self.now.end) + 1 ≡ driver_size self.now.end + returned self.now.end }
@@ -90,8 +91,8 @@ impl TxDriver {
         self.end.room()
     }
 
-    /// Takes the buffers back that are reported as sent, and puts them into the stash, until that is full or there is no
-    /// report more; and answers how many these were. On a queue that isn't live nothing is done.
+    /// Moves buffers that are reported as sent into the stash, until it is full or there is no further report. Returns
+    /// how many it moved. Does nothing on a queue that is not live.
     pub fn clean(&mut self, ring: &TxRing, stash: &mut Stash) -> usize
         requires own { self.old.end.table ≡ ring.now }
         ensures ring { self.new.end.table ≡ self.old.end.table }
@@ -110,12 +111,13 @@ impl TxDriver {
         stash.len() - had
     }
 
-    /// Cleans as `clean` does. Then it takes whole packets off the front of the list as long as they fit, posts and
-    /// publishes them, and answers how many these were. The last of them asks for a report. Where a disabling was asked
-    /// nothing is posted.
+    /// Cleans as `clean` does, then removes whole packets from the front of the list as long as they fit, posts and
+    /// publishes them, and returns their number. The last of them asks for a report. After a disabling was asked it
+    /// posts nothing.
     ///
-    /// `QueueOff` where the queue was not seen enabled, or was seen disabled: then nothing is done. `TooLong` where the
-    /// first packet has more segments than the ring ever has room for: then cleaning was done, and all packets stay.
+    /// Returns `QueueOff` if the queue was not seen enabled, or was seen disabled; nothing is done then. Returns
+    /// `TooLong` if the first packet has more segments than the ring can ever hold; cleaning is done then, and all
+    /// packets stay.
     pub fn tx_batch(
         &mut self,
         ring: &TxRing,

@@ -1,4 +1,4 @@
-//! Both sides of a flow meet, once both its queues are disabled.
+//! The meeting of both sides of a flow, once both its queues are disabled.
 ghost use Rattle.std.specs.Prelude.{◌≡◌};
 ghost use Rattle.flows.specs.Counting.{driven, driven_in, offered, offered_in};
 ghost use Rattle.flows.specs.Driven.{HasDriven};
@@ -12,29 +12,37 @@ use controller::{Tally, Wire};
 use rx_ring::{RxControllerEnd, RxDriverEnd, RxRing, meet_rx};
 use tx_ring::{TxControllerEnd, TxDriverEnd, TxRing, meet_tx};
 
-/// What the driver's side gives back once it is over.
+/// The driver's side of a flow that is over.
 #[derive(Drop)]
 pub struct DriverDone {
+    /// The driver's end of the receive ring.
     pub rx: RxDriverEnd,
+    /// The driver's end of the transmit ring.
     pub tx: TxDriverEnd,
+    /// The frames that the driver counted.
     pub counts: Counts,
     /// The segments that were stored and not taken when the disabling was answered.
     pub untaken: u32,
     /// The segments that were posted and not sent when the disabling was answered.
     pub unsent: u32,
+    /// How the flow ended.
     pub ended: Ended,
 }
 
-/// What the controller's side gives back.
+/// The controller's side of a flow.
 #[derive(Drop)]
 pub struct ControllerDone {
+    /// The controller's end of the receive ring.
     pub rx: RxControllerEnd,
+    /// The controller's end of the transmit ring.
     pub tx: TxControllerEnd,
+    /// The outcomes of the offered frames.
     pub tally: Tally,
+    /// The frames that were sent.
     pub wire: Wire,
 }
 
-/// What became of a flow, of which both sides are given with what they know of it.
+/// Makes the report of a flow from both of its sides.
 pub fn conclude(
     from: &RxRing,
     to: &TxRing,

@@ -23,11 +23,11 @@ use std::sync::Wait;
 use tx_ring::{TxControllerEnd, TxRing};
 use wire_script::WireFrame;
 
-/// The controller's side of a flow: it offers the flow's frames to the receive queue, one a turn, and sends what is posted to
-/// the transmit queue onto a wire, one frame a turn. It serves one epoch of each queue, and is over once the disabling of
-/// both is answered.
+/// The controller's side of a flow. In each turn it offers one of the flow's frames to the receive queue, and sends one
+/// posted frame of the transmit queue onto a wire. It serves one epoch of each queue, and is over once both disablings
+/// are answered.
 ///
-/// Contracts see what it is of, and how far each queue is.
+/// Contracts see its key, its tally, and how far each queue is.
 #[derive(Drop)]
 pub struct ControllerFlow<'a> {
     number: usize,
@@ -44,9 +44,9 @@ impl<'a> Model for ControllerFlow<'a> {
 }
 
 impl<'a> ControllerFlow<'a> {
-    /// The side of flow `number`, whose frames are those at these places of the script, in order. The ends have done nothing
-    /// yet. Buffers are filled to `bsize` bytes; where too few descriptors are free a frame is dropped with `drop_en`, and
-    /// else held.
+    /// The controller's side of flow `number`, whose frames are those at these places of the script, in order. The ends
+    /// have made no step yet. Buffers are filled to `bsize` bytes. If too few descriptors are free, a frame is dropped
+    /// with `drop_en`, and held otherwise.
     pub fn new(
         alloc: Global,
         number: usize,
@@ -72,7 +72,7 @@ impl<'a> ControllerFlow<'a> {
         }
     }
 
-    /// How many frames were offered, and what became of them.
+    /// How many frames were offered, and their outcomes.
     pub fn tally(&self) -> Tally
         ensures value { result ≡ self.now.tally }
         ensures adds { AddsUp result }
@@ -88,7 +88,7 @@ impl<'a> ControllerFlow<'a> {
         self.input.service() == Service::Ended && self.output.service() == Service::Ended
     }
 
-    /// Both ends, which hold no buffer, the tally and the wire, wherever the flow stands.
+    /// Returns both ends, which hold no buffer, the tally and the wire, at any time.
     pub fn into_done(self) -> ControllerDone
         ensures served { HasServed self.entry.key result }
         ensures tally { result.tally ≡ self.entry.tally }

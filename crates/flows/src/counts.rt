@@ -1,4 +1,4 @@
-//! How a driver's side counts frames.
+//! The frame counts of a driver's side.
 ghost use Rattle.std.specs.Prelude.{◌≡◌, ◌+◌, ◌≤◌};
 ghost use Rattle.driver.specs.declared.rx_driver.TheConstants.{MOST_BATCH};
 ghost use Rattle.forwarding.specs.Numbers.{NoneFalls};
@@ -6,21 +6,24 @@ ghost use Rattle.flows.specs.Counting.{counted, driven};
 
 use driver::MOST_BATCH;
 
-/// How many frames were taken, and of those posted, or dropped since the transmit ring was full.
+/// How many frames were taken, posted and dropped.
 ///
-/// The counts are exact until one of them might pass the greatest `u64`; from then on all of them stay as they are.
+/// The counts are exact until one of them might exceed `u64::MAX`; from then on all of them stay unchanged.
 #[derive(Clone, Copy, Debug, PartialEq, Eq, Default)]
 pub struct Counts {
+    /// The frames that were taken.
     pub taken: u64,
+    /// The taken frames that were posted.
     pub posted: u64,
+    /// The taken frames that were dropped because the transmit ring was full.
     pub tx_dropped: u64,
 }
 
-/// The most frames that are counted as taken before the counts stay as they are.
+/// The greatest number of taken frames at which the counts still change.
 const MOST_EXACT: u64 = u64::MAX - MOST_BATCH as u64;
 
 impl Counts {
-    /// These counts with those of one more turn.
+    /// These counts plus those of one more turn.
     #[inline]
     pub(crate) fn counted(self, taken: usize, posted: usize, dropped: usize) -> Counts
         requires rule { self.posted + self.tx_dropped ≤ self.taken }

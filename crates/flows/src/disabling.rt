@@ -1,4 +1,4 @@
-//! The end of a queue: its disabling, as its driver waits for the answer.
+//! Waiting for the answer to a disabling.
 ghost use Rattle.std.specs.Prelude.{◌≡◌};
 ghost use Rattle.flows.specs.Driven.{RxStands, TxStands, RxAsBefore, TxAsBefore, KnowsAsBefore};
 
@@ -6,7 +6,8 @@ use driver::{QueueDriver, RxDriver, TxDriver};
 use rx_ring::RxRing;
 use tx_ring::TxRing;
 
-/// How many segments are left in a receive queue whose disabling was asked, once that is answered.
+/// Returns `left` if it is known. Otherwise loads the control word, and returns how many segments are left in the
+/// receive queue once its disabling is answered.
 pub(crate) fn finish_rx(driver: &mut RxDriver, ring: &RxRing, left: Option<u32>) -> Option<u32>
     requires own { driver.old.end.table ≡ ring.now }
     requires stands { RxStands left driver.old.end }
@@ -20,7 +21,7 @@ pub(crate) fn finish_rx(driver: &mut RxDriver, ring: &RxRing, left: Option<u32>)
     driver.finish_disable(ring)
 }
 
-/// The same of a transmit queue.
+/// The same for a transmit queue.
 pub(crate) fn finish_tx(driver: &mut TxDriver, ring: &TxRing, left: Option<u32>) -> Option<u32>
     requires own { driver.old.end.table ≡ ring.now }
     requires stands { TxStands left driver.old.end }

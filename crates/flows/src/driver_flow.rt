@@ -26,21 +26,25 @@ use std::marker::Model;
 use std::sync::Wait;
 use tx_ring::TxDriverEnd;
 
-/// What a driver's side has in hand, and the pass by which it holds the buffers of all of it and of both rings.
+/// The parts of a driver's side. Its pass holds their buffers and those in both rings.
 #[derive(Drop)]
 pub struct DriverParts {
+    /// The driver's end of the receive ring.
     pub rx: RxDriverEnd,
-    /// The chain of a frame of which not all segments were taken.
+    /// The chain of a frame whose last segment is not taken yet.
     pub chain: Packet,
+    /// The driver's end of the transmit ring.
     pub tx: TxDriverEnd,
+    /// The empty buffers at hand.
     pub stash: Stash,
     /// The packets that were taken and not posted.
     pub packets: ArrayVec<Packet, MOST_BATCH>,
+    /// The pass that holds all buffers of the flow.
     pub pass: PoolPass,
 }
 
-/// The driver's side of a flow: it has both queues enabled, the transmit queue first; takes, touches and posts packets turn
-/// by turn, until the flow is drained or cut; has both queues disabled, and gives all buffers back to the pool.
+/// The driver's side of a flow. It enables both queues, the transmit queue first; takes, touches and posts packets turn
+/// by turn until the flow is drained or cut; then disables both queues and returns all buffers to the pool.
 #[derive(Drop)]
 pub struct DriverFlow<'a> {
     task: Task<'a>,
@@ -60,9 +64,10 @@ impl<'a> Model for DriverFlow<'a> {
 }
 
 impl<'a> DriverFlow<'a> {
-    /// Begins a flow: it takes up to `most` buffers from the pool, posts what fits the receive ring, and publishes it. The
-    /// ends have done nothing yet, their rings are of one length, and the pass has the task's share and holds nothing. A
-    /// batch has up to `batch` packets, and each `rs_every`th frame asks for a report.
+    /// Starts a flow: takes up to `most` buffers from the pool, posts as many as fit into the receive ring, and
+    /// publishes them. The ends have made no step yet, their rings have the same length, and the pass has the task's
+    /// share and holds nothing. A batch has up to `batch` packets; each `rs_every`th frame and the last of each batch
+    /// ask for a report.
     pub fn start<R: Wait>(
         rt: &R,
         task: Task<'a>,
@@ -106,7 +111,7 @@ impl<'a> DriverFlow<'a> {
         }
     }
 
-    /// How many frames were taken, and of those posted or dropped.
+    /// How many frames were taken, posted and dropped.
     pub fn counts(&self) -> Counts
         ensures value { result ≡ self.now.counts }
         ensures rule { result.posted + result.tx_dropped ≤ result.taken }
@@ -114,7 +119,7 @@ impl<'a> DriverFlow<'a> {
         self.counts
     }
 
-    /// Both ends and all buffers, wherever the flow stands.
+    /// Returns both ends and all buffers, at any time.
     pub fn into_parts(self) -> DriverParts
         ensures from { result.rx.table ≡ self.entry.key.from }
         ensures to { result.tx.table ≡ self.entry.key.to }
@@ -141,7 +146,7 @@ impl<'a> DriverFlow<'a> {
         }
     }
 
-    /// Gives both ends back, once the flow is over, and the pass, which then holds nothing.
+    /// Returns both ends and the pass, which holds nothing, if the flow is over; otherwise `None`.
     pub fn into_done(self) -> Option<(DriverDone, PoolPass)>
         ensures some { IsSome result ↔ (is_over self.entry.phase ≡ true) }
         ensures driven { IfSome result (λ d. HasDriven self.entry.key d.0) }

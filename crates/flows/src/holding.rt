@@ -1,4 +1,4 @@
-//! The buffers of a flow, between its stash and the pool.
+//! Moving a flow's buffers between its stash and the pool.
 ghost use Rattle.std.specs.Prelude.{◌≡◌, ◌≤◌, [], ◌++◌, length};
 ghost use Rattle.driver.specs.declared.rx_driver.TheConstants.{MOST_BATCH};
 ghost use Rattle.driver.specs.receive.Returns.{numbers_of};
@@ -12,8 +12,8 @@ use driver::MOST_BATCH;
 use pool::{Pool, PoolPass};
 use std::sync::Wait;
 
-/// Drops the packets that wait, and answers how many these were. Their buffers go to the stash, and to the pool where that is
-/// full; `short` grows by as many as went to the pool.
+/// Drops the packets that wait, and returns their number. Their buffers go to the stash, and to the pool once it is
+/// full; `short` grows by the number that went to the pool.
 pub(crate) fn drop_packets<R: Wait>(
     rt: &R,
     pool: &Pool,
@@ -63,7 +63,7 @@ fn drop_packet<R: Wait>(
     }
 }
 
-/// Gives the whole stash to the pool.
+/// Returns the whole stash to the pool.
 pub(crate) fn give_stash<R: Wait>(rt: &R, pool: &Pool, pass: &mut PoolPass, stash: &mut Stash)
     requires pool { IsOf pool.now pass.old }
     requires held { Holds pass.old.hand.held stash.old }

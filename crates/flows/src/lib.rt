@@ -1,10 +1,13 @@
-//! A flow: what comes in at one queue and goes out at another, by a driver's side and a controller's side.
+//! A flow: the frames that one queue receives and another sends, as served by a driver's and a controller's side.
+//! Depends on `forwarding`, `teams`, `controller`, `driver`, `pool`, `buffer_pool`, `wire_script`, the ring crates and
+//! `arrayvec`.
+//! The frames on a flow's wire are touched frames of its script, in order, and its counts match its rings' records.
 //!
-//! [`DriverFlow`] and [`ControllerFlow`] are the two sides, each a value that a worker gives its turns. Once both are over,
-//! their rings' ends meet in [`conclude`], which answers the flow's [`FlowReport`]: the frames on its wire are touched ones
-//! of its frames in the script, in order, and its counts are those of its two rings' lawful ledgers.
+//! [`DriverFlow`] and [`ControllerFlow`] are the two sides; a worker gives each its turns. Once both are over,
+//! [`conclude`] lets their rings' ends meet and returns the flow's [`FlowReport`].
 //!
-//! No thread is started here. A side takes memory only where its wire grows, and waits only where it goes to the pool.
+//! A side allocates only if its wire grows, and waits only for the pool. [`serve_flows`] starts a thread for each
+//! worker.
 #![tactic(auto)]
 
 mod concluding;

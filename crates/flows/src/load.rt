@@ -25,16 +25,22 @@ use std::marker::Model;
 use std::sync::Wait;
 use tx_ring::TxRing;
 
-/// What a driver's side is of: the flow's number, its two rings and the pool, the share of this that its pass has, whether
-/// packets that stayed are kept (else they are dropped), and after how many turns the flow is cut (0: never).
+/// The task of a driver's side.
 #[derive(Drop)]
 pub struct Task<'a> {
+    /// The number of the flow.
     pub number: usize,
+    /// The receive ring.
     pub from: &'a RxRing,
+    /// The transmit ring.
     pub to: &'a TxRing,
+    /// The pool of the buffers.
     pub pool: &'a Pool,
+    /// The share of the pool that the flow's pass has.
     pub share: u64,
+    /// Whether packets that find no room wait; otherwise they are dropped.
     pub retry: bool,
+    /// The number of turns after which the flow is cut; 0 for never.
     pub turns: u32,
 }
 
@@ -46,7 +52,7 @@ impl<'a> Model for Task<'a> {
     ghost view = { λ t. record { number = t.number; from = t.from.now; to = t.to.now; pool = t.pool.now; share = t.share; retries = t.retry; turns = t.turns } };
 }
 
-/// Both drivers, the stash, the packets that wait, and the pass by which all buffers of these are held.
+/// Both drivers, the stash, the packets that wait, and the pass that holds all their buffers.
 #[derive(Drop)]
 pub(crate) struct Load {
     pub rx: RxDriver,
@@ -54,12 +60,13 @@ pub(crate) struct Load {
     pub stash: Stash,
     pub packets: ArrayVec<Packet, MOST_BATCH>,
     pub pass: PoolPass,
-    /// How many buffers more it may take from the pool.
+    /// How many more buffers it may take from the pool.
     pub short: usize,
 }
 
 impl Load {
-    /// Takes a batch, touches it, posts what waits, and drops what then stays unless that is kept; and counts all of these.
+    /// Takes a batch, touches it, and posts the packets that wait. Drops those that remain unless they are kept, and
+    /// counts all of these.
     pub(crate) fn relay<R: Wait, G: Gate>(
         &mut self,
         rt: &R,
@@ -107,8 +114,8 @@ impl Load {
         Ok(turned)
     }
 
-    /// Drops the packets that wait, and answers how many these were. Their buffers go to the stash, and to the pool where that
-    /// is full.
+    /// Drops the packets that wait, and returns their number. Their buffers go to the stash, and to the pool once it is
+    /// full.
     pub(crate) fn drop_waiting<R: Wait>(&mut self, rt: &R, task: &Task<'_>) -> usize
         requires { IsLoaded task.now self.old.pass (driving_of self.old) }
         ensures loaded { IsLoaded task.now self.new.pass (driving_of self.new) }
@@ -127,7 +134,7 @@ impl Load {
         )
     }
 
-    /// Takes buffers from the pool in place of those that went back to it, as far as the stash has room.
+    /// Takes buffers from the pool to replace those that went back to it, as far as the stash has room.
     pub(crate) fn refill<R: Wait>(&mut self, rt: &R, task: &Task<'_>)
         requires { IsLoaded task.now self.old.pass (driving_of self.old) }
         ensures loaded { IsLoaded task.now self.new.pass (driving_of self.new) }

@@ -42,7 +42,7 @@ impl<'a> Model for Offering<'a> {
 }
 
 impl<'a> Offering<'a> {
-    /// The frames of a script at these places, in order. Nothing was done yet.
+    /// The frames of a script at these places, in order. Nothing was offered yet.
     pub(crate) fn new(
         ring: &'a RxRing,
         end: RxControllerEnd,
@@ -69,7 +69,8 @@ impl<'a> Offering<'a> {
         }
     }
 
-    /// Answers what is asked, if anything is, and tells whether that was so. Once a disabling is answered nothing is done.
+    /// Answers the driver's request, if there is one, and returns whether the service moved on. Does nothing once a
+    /// disabling is answered.
     pub(crate) fn shake(&mut self) -> bool
         ensures input { self.new.input ≡ self.old.input }
         ensures tally { self.new.controller.tally ≡ self.old.controller.tally }
@@ -82,8 +83,8 @@ impl<'a> Offering<'a> {
         self.service.go_on(serves)
     }
 
-    /// Offers the next frame where the queue is enabled, and tells whether that decided on it. Once all are decided it
-    /// says that no more comes.
+    /// Offers the next frame if the queue is enabled, and returns whether that decided its outcome. Once all are
+    /// decided, announces that no more is stored.
     pub(crate) fn offer<G: Gate>(&mut self, number: usize, gate: &G) -> Result<bool, ForwardError>
         ensures input { self.new.input ≡ self.old.input }
         ensures none_falls { NoneFalls (offered self.old.controller.tally) (offered self.new.controller.tally) }
@@ -114,7 +115,7 @@ impl<'a> Offering<'a> {
         self.service
     }
 
-    /// What became of the frames.
+    /// How many frames were offered, and their outcomes.
     pub(crate) fn tally(&self) -> Tally
         ensures value { result ≡ self.now.controller.tally }
         ensures adds { AddsUp result }
@@ -122,7 +123,7 @@ impl<'a> Offering<'a> {
         self.controller.tally()
     }
 
-    /// The end, which holds no buffer, and what became of the frames.
+    /// Returns the end, which holds no buffer, and the tally.
     pub(crate) fn into_end(self) -> (RxControllerEnd, Tally)
         ensures offered { HasOffered self.entry.input result.0 result.1 }
         ensures tally { result.1 ≡ self.entry.controller.tally }

@@ -1,29 +1,30 @@
-//! How far a driver's side is.
+//! The phases of a driver's side.
 ghost use Rattle.std.specs.Prelude.{◌≡◌, ◌↔◌, IsTrue};
 ghost use Rattle.flows.specs.Driven.{is_over, without_turns};
 
 use crate::report::Ended;
 
-/// How a flow ended, and how many segments were left in its queues as their disablings were answered.
+/// How a flow ended, and how many segments were left in its queues when their disablings were answered.
 #[derive(Clone, Copy, Debug, PartialEq, Eq)]
 pub struct Left {
+    /// How the flow ended.
     pub ended: Ended,
-    /// Stored and not taken.
+    /// Segments stored and not taken.
     pub untaken: u32,
-    /// Posted and not sent.
+    /// Segments posted and not sent.
     pub unsent: u32,
 }
 
-/// How far a driver's side is with its two queues.
+/// The phase of a driver's side with its two queues.
 #[derive(Clone, Copy, Debug, PartialEq, Eq)]
 pub enum Phase {
-    /// The transmit queue is to be enabled, and the receive queue not yet asked for.
+    /// The transmit queue is being enabled; the receive queue is not asked for yet.
     EnablingTx,
-    /// The transmit queue was seen enabled, and the receive queue is to be.
+    /// The transmit queue was seen enabled; the receive queue is being enabled.
     EnablingRx,
-    /// Both were seen enabled, and so many turns were made since.
+    /// Both were seen enabled, with the number of turns since then.
     Forwarding(u32),
-    /// Both disablings are asked. Once one is answered it is known how many segments are left in that queue.
+    /// Both disablings are asked. For each queue that has answered: how many segments are left in it.
     Disabling(Ended, Option<u32>, Option<u32>),
     /// Both were seen disabled, and the buffers come back.
     Reclaiming(Left),
@@ -40,7 +41,7 @@ impl Phase {
         matches!(self, Phase::Over(_))
     }
 
-    /// Whether both are the same phase, whatever turns were made.
+    /// Whether both are the same phase, regardless of the number of turns.
     #[inline]
     pub(crate) fn is_as(self, other: Phase) -> bool
         ensures { IsTrue result ↔ (without_turns self ≡ without_turns other) }
@@ -48,7 +49,7 @@ impl Phase {
         self.without_turns() == other.without_turns()
     }
 
-    /// The phase as it is before the first turn of its own.
+    /// The phase with a turn count of 0.
     #[inline]
     fn without_turns(self) -> Phase
         ensures { result ≡ without_turns self }

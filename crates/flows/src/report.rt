@@ -1,31 +1,36 @@
-//! What became of a flow.
+//! The report of a flow.
 use controller::Wire;
 
 /// How a flow ended.
 #[derive(Clone, Copy, Debug, PartialEq, Eq)]
 pub enum Ended {
-    /// All that was stored was taken, all that was taken posted or dropped, and all that was posted sent.
+    /// All stored frames were taken, all taken ones posted or dropped, and all posted ones sent.
     Drained,
-    /// The driver made all its turns before that.
+    /// The driver made its number of turns before that.
     Cut,
 }
 
-/// What became of a flow: its counts of frames, and its wire.
+/// The report of a flow: its frame counts and its wire.
 #[derive(Drop)]
 pub struct FlowReport {
     /// The frames that were offered: stored, dropped and oversize together.
     pub offered: u64,
+    /// The frames that were stored.
     pub stored: u64,
+    /// The frames that were dropped because too few descriptors were free.
     pub dropped: u64,
+    /// The frames that need more descriptors than the ring can have free.
     pub oversize: u64,
-    /// The frames that the driver took, and of those the ones that it posted, and the ones that it dropped since the
-    /// transmit ring was full.
+    /// The frames that the driver took.
     pub taken: u64,
+    /// The taken frames that were posted.
     pub posted: u64,
+    /// The taken frames that were dropped because the transmit ring was full.
     pub tx_dropped: u64,
-    /// The frames that went out, in order.
+    /// The frames that were sent, in order.
     pub wire: Wire,
-    /// The segments that were stored and not taken, and those that were posted and not sent, together.
+    /// The segments that were stored and not taken plus those that were posted and not sent.
     pub left: u64,
+    /// How the flow ended.
     pub ended: Ended,
 }

@@ -16,7 +16,7 @@ pub enum Service {
 }
 
 impl Service {
-    /// How far it is, where it serves the queue now, or does not.
+    /// The state that follows, given whether the controller serves the queue now.
     #[inline]
     pub fn after(self, serves: bool) -> Service
         ensures { result ≡ after self serves }
@@ -28,7 +28,7 @@ impl Service {
         }
     }
 
-    /// Becomes that, and tells whether it is another.
+    /// Moves to the state that follows, and returns whether it changed.
     #[inline]
     pub(crate) fn go_on(&mut self, serves: bool) -> bool
         ensures { self.new ≡ after self.old serves }
@@ -40,7 +40,7 @@ impl Service {
     }
 }
 
-/// Whether the offer decides on its frame, so that it isn't offered again.
+/// Whether this outcome is final, so that the frame is not offered again.
 #[inline]
 pub(crate) fn is_decided(offer: Offer) -> bool
     ensures { result ≡ decides offer }

@@ -1,4 +1,4 @@
-//! Both sides of all flows, served by workers in threads of their own.
+//! Serving both sides of all flows by workers in threads of their own.
 ghost use Rattle.std.specs.Prelude.{◌≡◌, ◌<◌, ◌≤◌, true, [], None, All, IfOk, IfSome, map, vec_len, vec_capacity};
 ghost use Rattle.teams.specs.Dealing.{IsDealt};
 ghost use Rattle.teams.specs.Hands.{hand_keys};
@@ -10,12 +10,14 @@ use std::sync::Wait;
 use std::thread::Threads;
 use teams::{deal, empty_hands, gather, run_teams};
 
-/// Both sides of all flows, each in the order in which they were given, and why they ended before all were over, if they
-/// did.
+/// Both sides of all flows, each in the given order.
 #[derive(Drop)]
 pub struct Served<D: Drop, C: Drop> {
+    /// The drivers' sides.
     pub drivers: Vec<D>,
+    /// The controllers' sides.
     pub controllers: Vec<C>,
+    /// The refusal that ended the flows early, if there was one.
     pub refusal: Option<ForwardError>,
 }
 
@@ -27,7 +29,7 @@ struct Rooms<F: Drop> {
 }
 
 impl<F: Drop> Rooms<F> {
-    /// Room for so many flows and workers.
+    /// Room for `flows` flows and `workers` workers.
     fn of(alloc: Global, flows: usize, workers: usize) -> Result<Rooms<F>, AllocError>
         ensures count { IfOk result (λ r. vec_len r.hands ≡ workers) }
         ensures empty { IfOk result (λ r. All (λ h. h.items ≡ []) r.hands.items) }
@@ -51,9 +53,9 @@ fn deal_flows<F: Flow>(flows: Vec<F>, hands: Vec<Vec<F>>) -> Vec<Vec<F>>
     deal(flows, hands)
 }
 
-/// Has both sides of all flows served by so many workers a side, flow `f` by worker `f mod workers`, until all are over or
-/// a refusal is met. Every worker that was started was joined before this answers, and the first refusal to stop the
-/// others is the one that is told. All flows come back, whatever was refused.
+/// Serves both sides of all flows by `workers` workers a side, flow `f` by worker `f mod workers`, until all are over
+/// or a refusal is met. Joins every worker that was started before it returns, and reports the first refusal that
+/// stopped the others. Returns all flows, even after a refusal.
 #[tactic(auto, using(crate::proofs::Dealing::memory_halted))]
 pub fn serve_flows<D: Flow, C: Flow, R: Threads + Wait + Sync, G: Gate + Sync>(
     rt: &R,

@@ -1,4 +1,4 @@
-//! How a driver's side begins: its buffers, and those of them that are posted.
+//! Starting a driver's side: it takes its buffers and posts those that fit.
 ghost use Rattle.std.specs.Prelude.{◌≡◌, true, [], ◌++◌, length};
 ghost use Rattle.ring_model.specs.shared.Handshakes.{is_open};
 ghost use Rattle.rx_ring.specs.Ends.{driver_state, posted, published};
@@ -11,8 +11,8 @@ use pool::{Pool, PoolPass};
 use rx_ring::{DriverEnd, RxDriverEnd, RxRing};
 use std::sync::Wait;
 
-/// Takes up to `most` buffers from the pool, posts what fits the ring, and publishes it; the others are in the stash. It answers
-/// how many more may be taken.
+/// Takes up to `most` buffers from the pool, posts as many as fit into the ring, and publishes them; the others are in
+/// the stash. Returns how many more may be taken.
 pub(crate) fn stock_up<R: Wait>(
     rt: &R,
     pool: &Pool,
@@ -44,7 +44,7 @@ pub(crate) fn stock_up<R: Wait>(
     most - taken
 }
 
-/// Posts what the stash has and the ring has room for.
+/// Posts buffers of the stash until it is empty or the ring is full.
 fn post_fitting(ring: &RxRing, end: &mut RxDriverEnd, stash: &mut Stash)
     requires own { end.old.table ≡ ring.now }
     requires open { is_open (driver_state end.old) ≡ true }

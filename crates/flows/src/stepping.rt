@@ -17,7 +17,7 @@ use forwarding::{ForwardError, Gate};
 use std::sync::Wait;
 
 impl Load {
-    /// One turn in this phase, and the phase that comes then. Where the gate refuses it stays the same.
+    /// Makes one turn in this phase and returns the next phase. The phase stays the same if the gate refuses.
     pub(crate) fn step<R: Wait, G: Gate>(
         &mut self,
         rt: &R,
@@ -47,7 +47,7 @@ impl Load {
         }
     }
 
-    /// Has the transmit queue enabled.
+    /// Enables the transmit queue.
     fn enable_tx(&mut self, task: &Task<'_>, counts: Counts) -> Phase
         requires { IsRelaying (relaying task.now self.old counts phase.EnablingTx) }
         ensures { IsRelaying (relaying task.now self.new counts result) }
@@ -58,7 +58,7 @@ impl Load {
         }
     }
 
-    /// Has the receive queue enabled.
+    /// Enables the receive queue.
     fn enable_rx(&mut self, task: &Task<'_>, counts: Counts) -> Phase
         requires { IsRelaying (relaying task.now self.old counts phase.EnablingRx) }
         ensures { IsRelaying (relaying task.now self.new counts result) }
@@ -69,8 +69,8 @@ impl Load {
         }
     }
 
-    /// A turn for an enabled flow. The quiet word is loaded first: where it was set, and then nothing was taken though there
-    /// was room, nothing is left to take.
+    /// Makes a turn for an enabled flow. It loads the quiet word first: if that was set, and then nothing was taken
+    /// though there was room, nothing is left to take.
     fn forward<R: Wait, G: Gate>(
         &mut self,
         rt: &R,
@@ -127,8 +127,8 @@ impl Load {
         }
     }
 
-    /// Gives the packets that wait and the stash to the pool, and fills the stash with buffers of both queues; where all are
-    /// back, gives these too.
+    /// Returns the packets that wait and the stash to the pool, and moves buffers of both queues into the stash. If
+    /// that reclaims all of them, returns these too.
     fn reclaim<R: Wait>(&mut self, rt: &R, task: &Task<'_>, counts: Counts, left: Left) -> Phase
         requires { IsRelaying (relaying task.now self.old counts (phase.Reclaiming left)) }
         ensures { IsRelaying (relaying task.now self.new counts result) }
@@ -144,7 +144,7 @@ impl Load {
         Phase::Over(left)
     }
 
-    /// Gives what is at hand to the pool: the packets that wait and the stash.
+    /// Returns the packets that wait and the stash to the pool.
     fn give_at_hand<R: Wait>(&mut self, rt: &R, task: &Task<'_>)
         requires { IsLoaded task.now self.old.pass (driving_of self.old) }
         ensures loaded { IsLoaded task.now self.new.pass (driving_of self.new) }

@@ -13,7 +13,7 @@ use std::alloc::Global;
 use std::marker::Model;
 use tx_ring::{TxControllerEnd, TxRing};
 
-/// What goes out of a flow, onto its wire.
+/// The transmit queue of a flow and its wire.
 #[derive(Drop)]
 pub(crate) struct Wiring<'a> {
     ring: &'a TxRing,
@@ -33,7 +33,7 @@ impl<'a> Model for Wiring<'a> {
 }
 
 impl<'a> Wiring<'a> {
-    /// A wire on which nothing went out yet.
+    /// An empty wire.
     pub(crate) fn new(alloc: Global, ring: &'a TxRing, end: TxControllerEnd) -> Wiring<'a>
         requires own { end.table ≡ ring.now }
         requires fresh { IsFreshController end }
@@ -47,7 +47,8 @@ impl<'a> Wiring<'a> {
         }
     }
 
-    /// Answers what is asked, if anything is, and tells whether that was so. Once a disabling is answered nothing is done.
+    /// Answers the driver's request, if there is one, and returns whether the service moved on. Does nothing once a
+    /// disabling is answered.
     pub(crate) fn shake(&mut self) -> bool
         ensures { self.new.to ≡ self.old.to }
     {
@@ -59,8 +60,8 @@ impl<'a> Wiring<'a> {
         self.service.go_on(serves)
     }
 
-    /// Sends the next frame where the queue is enabled, and tells whether there was one. `Memory` where the wire couldn't
-    /// grow: then the frame is sent by the next call.
+    /// Sends the next frame if the queue is enabled, and returns whether there was one. Returns `Memory` if the wire
+    /// could not grow; the next call then sends the frame.
     pub(crate) fn send<G: Gate>(&mut self, number: usize, gate: &G) -> Result<bool, ForwardError>
         ensures to { self.new.to ≡ self.old.to }
         ensures refused { IfErr result (λ e. Met G.answers gate.now e) }
@@ -82,7 +83,7 @@ impl<'a> Wiring<'a> {
         self.service
     }
 
-    /// The end, which holds no buffer, and the wire, which has what was sent.
+    /// Returns the end, which holds no buffer, and the wire with all sent frames.
     pub(crate) fn into_end(self) -> (TxControllerEnd, Wire)
         ensures own { result.0.table ≡ self.entry.to }
         ensures wire { result.1 ≡ frames carried (sent result.0) }

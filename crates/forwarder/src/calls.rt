@@ -1,4 +1,4 @@
-//! The whole of a forwarding.
+//! The calls that forward a whole script.
 ghost use Rattle.std.specs.Option.{ForSome};
 ghost use Rattle.std.specs.Prelude.{◌≡◌, ◌↔◌, ◌⊎◌, ℕ, ◌*◌, ◌<◌, IfSome, IfOk, IfErr, IsErrOf, length, vec_len, slice_index_or};
 ghost use Rattle.counters.specs.Paired.{ArePaired};
@@ -26,12 +26,11 @@ use std::sync::Wait;
 use std::thread::Threads;
 use wire_script::Script;
 
-/// Forwards the frames of a script: what comes in at a port's queue goes out at the other port's queue of
-/// that number, touched. Two rings for each flow are made, and a team of workers for either side.
+/// Forwards the frames of a script: each frame received at a port's queue is touched and sent at the other port's queue
+/// of the same number. Makes two rings for each flow, and a team of workers for each side.
 ///
-/// Refusals: `Config` exactly where `check` of the configuration refuses it, before anything is made;
-/// `Gate` only by a gate that can answer false; `Memory` and `Thread`. Every worker that was started was
-/// joined before any of them is answered.
+/// Returns `Config` exactly if the configuration's `check` refuses, before anything is made; `Gate` only if a gate
+/// returns false; `Memory` or `Thread` if one of these was refused. All started workers are joined before it returns.
 pub fn forward<R: Threads + Wait + Sync, G: Gate + Sync>(
     rt: &R,
     alloc: Global,
@@ -49,7 +48,7 @@ pub fn forward<R: Threads + Wait + Sync, G: Gate + Sync>(
     forward_in(rt, alloc, script, config, gate, &pool, &mut pass)
 }
 
-/// Tests the configuration, and makes a pool of so many buffers as it says, with its pass.
+/// Checks the configuration, and makes a pool of `config.buffers` buffers, with its pass.
 fn make_pool<R: Wait>(
     rt: &R,
     alloc: Global,
@@ -69,10 +68,9 @@ fn make_pool<R: Wait>(
     }
 }
 
-/// The same over a pool of the caller's, for a configuration that `check` takes: `config.buffers` bounds
-/// what the flows take from it together. Where a refusal stops the workers, or not all of them can be
-/// started, all rings are closed once those that were started are joined, and the buffers that the flows had
-/// taken go back to the pool.
+/// Forwards as [`forward`] does, over the caller's pool and with a configuration that `check` accepts. `config.buffers`
+/// bounds what all flows together take from the pool. If a refusal stops the workers, or not all of them can be
+/// started, the started ones are joined, all rings are closed, and the flows' buffers go back to the pool.
 pub fn forward_in<R: Threads + Wait + Sync, G: Gate + Sync>(
     rt: &R,
     alloc: Global,
@@ -101,12 +99,12 @@ pub fn forward_in<R: Threads + Wait + Sync, G: Gate + Sync>(
     Ok(report)
 }
 
-/// The same as [`forward`], while the cells show what each flow has counted so far: what was offered is written after
-/// each offer that changed it, and what a driver did after each of its turns that changed a number. Others read the cells
-/// from threads of their own, by passes that they took from the pens before.
+/// Forwards as [`forward`] does, while the cells show the counts of each flow so far. The offer counts are written
+/// after each offer that changed them, a driver's counts after each of its turns that changed one. Other threads read
+/// the cells by passes that they took from the pens before.
 ///
 /// There is one entry a flow, in the order of the flows, and no pen has written anything. The pens come back with the
-/// report, and what they wrote last are its numbers.
+/// report, and the last values that they wrote are its numbers.
 pub fn forward_watched<R: Threads + Wait + Sync, G: Gate + Sync>(
     rt: &R,
     alloc: Global,
@@ -135,7 +133,7 @@ pub fn forward_watched<R: Threads + Wait + Sync, G: Gate + Sync>(
     forward_over(rt, alloc, job, &pool, &mut pass, watch)
 }
 
-/// Forwards over a pool, and shows what each flow counts, where that is watched.
+/// Forwards over a pool, and shows the counts of each flow if it is watched.
 fn forward_over<R: Threads + Wait + Sync, G: Gate + Sync>(
     rt: &R,
     alloc: Global,

@@ -1,4 +1,4 @@
-//! What became of all flows, once both sides of each are over.
+//! The reports of all flows, once both sides of each are over.
 ghost use Rattle.std.specs.Prelude.{◌≡◌, ◌+◌, ◌≤◌, true, All, [], length, map, vec_len, vec_capacity};
 ghost use Rattle.flows.specs.Counting.{driven, driven_in, offered, offered_in};
 ghost use Rattle.flows.specs.Driven.{is_over};
@@ -11,7 +11,7 @@ use crate::lines::Line;
 use flows::{ControllerFlow, DriverFlow, FlowReport, conclude};
 use pool::{Pool, PoolPass};
 
-/// Both sides of a flow meet. The driver's pass is joined.
+/// Makes the report of a flow and joins its driver's pass.
 fn conclude_flow(
     line: &Line,
     driver: DriverFlow<'_>,
@@ -38,7 +38,7 @@ fn conclude_flow(
     conclude(&line.from, &line.to, done, controller.into_done())
 }
 
-/// Both sides of each flow meet. The room for the reports was there before.
+/// Makes the reports of all flows, in room allocated before.
 pub(crate) fn conclude_all(
     lines: &[Line],
     drivers: Vec<DriverFlow<'_>>,

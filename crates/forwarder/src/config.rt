@@ -1,4 +1,4 @@
-//! How a forwarder is to run.
+//! The configuration of a forwarder.
 ghost use Rattle.std.specs.Prelude.{◌≡◌, ◌<◌, ◌↔◌, All, IsTrue, IsOk, IfErr};
 ghost use Rattle.refusals.specs.declared.errors.ForwardError.TheVariants.{Config as ConfigRefused};
 ghost use Rattle.forwarder.specs.Configs.{IsLawful, HasLawfulQueues, HasLawfulBuffers, HasLawfulWork, FitsIn};
@@ -11,36 +11,35 @@ use std::fmt;
 use tx_ring::Completion;
 use wire_script::{Script, WireFrame};
 
-/// The fewest buffers that a flow may hold.
+/// The least number of buffers that a flow may hold.
 pub const LEAST_SHARE: u32 = 16;
 
 const _: () = prove!(LEAST_SHARE == 16);
 
-/// How a forwarder is to run. [`Config::default`] is lawful.
+/// The configuration of a forwarder. [`Config::default`] is lawful.
 #[derive(Clone, Copy, PartialEq, Eq)]
 pub struct Config {
     /// Queue pairs of each port, 1 to 8. A flow is one of them at one port.
     pub pairs: u32,
     /// Descriptors of each ring, a power of two from 8 to 4,096.
     pub ring: u32,
-    /// The most packets that a driver takes at once, 1 to 32.
+    /// The maximum number of packets that a driver takes at once, 1 to 32.
     pub batch: u32,
     /// Buffers of the pool, 16 to 65,536, and at least 16 a flow.
     pub buffers: u32,
-    /// To how many bytes a receive buffer is filled, 1,024 or 2,048 (82599 datasheet,
-    /// SRRCTL.BSIZEPACKET).
+    /// The number of bytes to which a receive buffer is filled, 1,024 or 2,048 (82599 datasheet, SRRCTL.BSIZEPACKET).
     pub bsize: u32,
-    /// After how many frames a driver asks for a report, 1 to 4,096.
+    /// The report interval of a driver, 1 to 4,096 frames.
     pub rs_every: u32,
-    /// Whether a frame for which too few descriptors are free is dropped (SRRCTL.Drop_En), and not held.
+    /// Whether a frame for which too few descriptors are free is dropped (SRRCTL.Drop_En); otherwise it is held.
     pub drop_en: bool,
-    /// Whether packets for which a transmit ring has no room wait, and aren't dropped.
+    /// Whether packets for which a transmit ring has no room wait; otherwise they are dropped.
     pub retry: bool,
     /// Threads of each side, 1 to `2 * pairs`.
     pub workers: u32,
-    /// After how many turns of its driver a flow is cut; 0 for never.
+    /// The number of turns of its driver after which a flow is cut; 0 for never.
     pub turns: u32,
-    /// How a controller reports what it sent.
+    /// How a controller reports sent frames.
     pub completion: Completion,
 }
 
@@ -76,7 +75,7 @@ impl fmt::Debug for Config {
 }
 
 impl Config {
-    /// What [`Config::default`] answers.
+    /// The value of [`Config::default`].
     pub const DEFAULT: Config = Config {
         pairs: 1,
         ring: 512,
@@ -126,7 +125,7 @@ impl Config {
             && self.workers <= 2 * self.pairs
     }
 
-    /// Whether each of these frames is of a queue that is there.
+    /// Whether the configuration has the queue of each of these frames.
     fn has_queues(&self, frames: &[WireFrame]) -> bool
         ensures { IsTrue result ↔ All (λ f. f.queue < self.now.pairs) frames.now }
     {
@@ -135,7 +134,7 @@ impl Config {
             .all(|frame| u32::from(frame.queue()) < self.pairs)
     }
 
-    /// Whether this is lawful and the script names no queue beyond its pairs: `Config` if not.
+    /// Returns `Config` if this is not lawful, or the script names a queue beyond its pairs.
     pub fn check(&self, script: &Script) -> Result<(), ForwardError>
         ensures accepted { IsOk result ↔ FitsIn script.now self.now }
         ensures refused { IfErr result (λ e. e ≡ ConfigRefused) }

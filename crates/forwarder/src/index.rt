@@ -8,11 +8,11 @@ use std::alloc::{AllocError, Global};
 use std::marker::Model;
 use wire_script::{Script, WireFrame};
 
-/// The most flows: a queue pair of either port.
+/// The maximum number of flows: a queue pair of either port.
 const MOST_FLOWS: usize = PORTS * MOST_PAIRS;
 
-/// For each flow the places of its frames in the script, in their order: 4 bytes a frame. Flow `f` comes
-/// in at port `f / pairs`, queue `f % pairs`.
+/// For each flow the places of its frames in the script, in their order, with 4 bytes a frame. Flow `f` receives at
+/// port `f / pairs`, queue `f % pairs`.
 #[derive(Drop)]
 pub struct Index {
     flows: Vec<Vec<u32>>,
@@ -36,7 +36,7 @@ fn flow_of(frame: &WireFrame, pairs: u32) -> usize
     usize::from(frame.port()) * pairs as usize + usize::from(frame.queue())
 }
 
-/// How many frames each flow has, so that room for them is taken once.
+/// The number of frames of each flow, so that room for them is allocated once.
 fn counts(frames: &[WireFrame], pairs: u32) -> [usize; MOST_FLOWS]
     requires pairs { pairs ≤ MOST_PAIRS }
     requires queues { All (λ f. f.queue < pairs) frames.now }
@@ -49,7 +49,7 @@ fn counts(frames: &[WireFrame], pairs: u32) -> [usize; MOST_FLOWS]
     counts
 }
 
-/// An empty list for each flow, with room for so many places.
+/// An empty list for each flow, with room for `counts` places.
 fn rooms(
     alloc: Global,
     counts: &[usize; MOST_FLOWS],
@@ -83,7 +83,7 @@ impl Index {
         Ok(Index { flows })
     }
 
-    /// How many flows there are.
+    /// The number of flows.
     pub fn len(&self) -> usize
         ensures { result ≡ length self.now }
     {

@@ -1,8 +1,10 @@
 //! The two-port forwarder.
+//! Depends on `flows`, `watching`, `halting`, and the crates below them.
+//! The report of each flow satisfies the flow's plan, and after every call all buffers are back in the pool.
 //!
-//! A [`Config`] says how it is to run, and is tested before anything else is done. An [`Index`] has the
-//! frames of a script flow by flow. The rings and both sides of each flow are made here, and both sides meet
-//! here once they are over. [`forward_watched`] shows what they count while they run.
+//! A [`Config`] says how it runs, and is checked before anything else. An [`Index`] lists the frames of a script flow
+//! by flow. [`forward`] makes the rings and both sides of each flow, serves them, and lets both sides meet once they
+//! are over. [`forward_watched`] also shows their counts while they run.
 #![tactic(auto)]
 
 mod calls;

@@ -13,19 +13,25 @@ use rx_ring::{RxControllerEnd, RxDriverEnd, RxRing};
 use std::alloc::Global;
 use tx_ring::{Completion, TxControllerEnd, TxDriverEnd, TxRing};
 
-/// The two rings of a flow: its frames come in by one and go out by the other.
+/// The two rings of a flow.
 #[derive(Drop)]
 pub struct Line {
+    /// The receive ring, by which frames arrive.
     pub from: RxRing,
+    /// The transmit ring, by which frames leave.
     pub to: TxRing,
 }
 
-/// The ends of a flow's two rings: a driver takes and posts, a controller stores and sends.
+/// The ends of a flow's two rings.
 #[derive(Drop)]
 pub struct LineEnds {
+    /// The driver's end of the receive ring.
     pub takes: RxDriverEnd,
+    /// The controller's end of the receive ring.
     pub stores: RxControllerEnd,
+    /// The driver's end of the transmit ring.
     pub posts: TxDriverEnd,
+    /// The controller's end of the transmit ring.
     pub sends: TxControllerEnd,
 }
 
@@ -54,11 +60,11 @@ fn make_line(
     Ok((Line { from, to }, ends))
 }
 
-/// The rings of all flows, and their ends, in the order of the flows: of each its receive ring and the other port's transmit
-/// ring of the same queue, both of `config.ring` descriptors, enabled by nobody yet. It is refused for memory alone.
+/// The rings of all flows, and their ends, in the order of the flows: for each flow its receive ring and the other
+/// port's transmit ring of the same queue, both of `config.ring` descriptors and not enabled. Returns only `Memory`.
 ///
-/// [`forward`](crate::forward) makes its rings so; whoever serves flows of other kinds on the same rings, as a benchmark
-/// does that makes its frames up, gives both ends of each to them.
+/// [`forward`](crate::forward) makes its rings by this call. A program with other kinds of flows, such as a benchmark
+/// that generates its frames, uses it and gives both ends of each ring to them.
 pub fn make_lines(
     alloc: Global,
     config: &Config,

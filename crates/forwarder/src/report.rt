@@ -1,9 +1,10 @@
-//! What became of all flows.
+//! The report of all flows.
 
 use flows::FlowReport;
 
-/// What became of each flow: those of port 0 first, and the queues of a port ascending.
+/// The report of a forwarding.
 #[derive(Drop)]
 pub struct Report {
+    /// The report of each flow: those of port 0 first, with ascending queues in a port.
     pub flows: Vec<FlowReport>,
 }

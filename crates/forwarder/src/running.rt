@@ -1,4 +1,4 @@
-//! All flows, served by workers until they are over.
+//! Serving all flows by workers until they are over.
 ghost use Rattle.std.specs.Option.{ForSome};
 ghost use Rattle.std.specs.Prelude.{◌≡◌, ℕ, ◌+◌, ◌*◌, ◌<◌, ◌≤◌, true, [], None, All, IfSome, IsSome, IfOk, IfErr, length, map, vec_len, vec_capacity, slice_index_or};
 ghost use Rattle.std.specs.List.{AllZip};
@@ -34,7 +34,7 @@ use std::thread::Threads;
 use watching::{Shown, serve_watched};
 use wire_script::Script;
 
-/// What is forwarded, how, and by which gate.
+/// What to forward, by which configuration and gate.
 #[derive(Drop)]
 pub(crate) struct Job<'a, G> {
     pub script: &'a Script,
@@ -42,14 +42,14 @@ pub(crate) struct Job<'a, G> {
     pub gate: &'a G,
 }
 
-/// The cells that show what the flows count, one entry a flow in the order of the flows, and their pens.
+/// The cells that show the counts of the flows, one entry a flow in the order of the flows, and their pens.
 #[derive(Drop)]
 pub(crate) struct Watch<'w> {
     pub cells: &'w [FlowCells],
     pub pens: Vec<FlowPens>,
 }
 
-/// What became of all flows, and the pens of their cells, if these were watched; or how a refusal stopped them.
+/// The reports of all flows, and the pens of their cells if these are watched; or the flows that a refusal stopped.
 #[derive(Drop)]
 pub(crate) struct Ran {
     pub flows: Vec<FlowReport>,
@@ -58,7 +58,7 @@ pub(crate) struct Ran {
     pub refusal: Option<ForwardError>,
 }
 
-/// Room for what comes of so many flows.
+/// Room for the results of `flows` flows.
 fn make_rooms(alloc: Global, flows: usize) -> Result<(Vec<FlowReport>, Vec<Stopped>), ForwardError>
     ensures refused { IfErr result (λ e. e ≡ Memory) }
     ensures reports { IfOk result (λ r. (r.0.items ≡ []) × (flows ≤ vec_capacity r.0)) }

@@ -35,7 +35,7 @@ pub(crate) struct Sides<'a> {
     pub controllers: Vec<ControllerFlow<'a>>,
 }
 
-/// Makes both sides of a flow. A pass is split off for the driver's.
+/// Makes both sides of a flow. Splits off a pass for the driver's side.
 fn make_side<'a, R: Wait>(
     rt: &R,
     alloc: Global,

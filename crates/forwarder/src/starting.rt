@@ -1,4 +1,4 @@
-//! The driver's side of a flow, as it begins.
+//! Starting the driver's side of a flow.
 ghost use Rattle.std.specs.Prelude.{◌≡◌, ◌+◌, ◌<◌};
 ghost use Rattle.flows.specs.Counting.{none};
 ghost use Rattle.pool.specs.Owned.{IsOf};
@@ -19,10 +19,11 @@ const SHARE: u32 = 1;
 /// How many buffers a flow may hold beyond a full receive ring.
 const STASHED: u32 = 255;
 
-/// Starts the driver's side of a flow under this configuration, by the drivers' ends of its rings, which have done nothing
-/// yet. A pass with a share of 1 is split off for it. As many of the flow's buffers as fit are posted to its receive ring.
+/// Starts the driver's side of a flow with this configuration, by the drivers' ends of its rings, which have made no
+/// step yet. Splits off a pass with a share of 1 for it, and posts as many of the flow's buffers as fit into its
+/// receive ring.
 ///
-/// [`forward`](crate::forward) starts its flows so; whoever serves flows with controllers of other kinds starts theirs by it.
+/// [`forward`](crate::forward) starts its flows by this call. A program with other kinds of controllers can use it too.
 pub fn start_flow<'a, R: Wait>(
     rt: &R,
     config: &Config,

@@ -1,4 +1,4 @@
-//! Flows that were stopped before they were over: their rings are closed, and their buffers go back to the pool.
+//! Closing the rings of flows that were stopped, and returning their buffers to the pool.
 ghost use Rattle.std.specs.Prelude.{◌≡◌, ◌+◌, ◌≤◌, [], length, map, vec_len, vec_capacity};
 ghost use Rattle.std.specs.List.{AllZip};
 ghost use Rattle.pool.specs.Owned.{IsOf};
@@ -18,7 +18,7 @@ pub(crate) struct Stopped {
     pub controller: ControllerDone,
 }
 
-/// Both sides of a flow leave its rings.
+/// Separates both sides of a flow from its rings.
 fn stop_flow(
     pool: &Pool,
     line: &Line,
@@ -35,7 +35,7 @@ fn stop_flow(
     }
 }
 
-/// Both sides of all flows leave their rings. The room for what they have was there before.
+/// Separates both sides of all flows from their rings, in room allocated before.
 pub(crate) fn stop_all(
     pool: &Pool,
     lines: &[Line],
@@ -63,8 +63,7 @@ pub(crate) fn stop_all(
     stopped
 }
 
-/// Closes both rings of a flow, and takes the buffers that lay in them and those that its driver's side had at hand back
-/// into the pool.
+/// Closes both rings of a flow, and returns the buffers in them and those at hand of its driver's side to the pool.
 fn close_line<R: Wait>(rt: &R, pool: &Pool, pass: &mut PoolPass, line: Line, flow: Stopped)
     requires pool { IsOf pool.now pass.old }
     requires stopped { IsStopped pool.now line flow }
@@ -76,7 +75,7 @@ fn close_line<R: Wait>(rt: &R, pool: &Pool, pass: &mut PoolPass, line: Line, flo
     pass.join(pool, own);
 }
 
-/// Closes the rings of all flows, and takes all their buffers back into the pool.
+/// Closes the rings of all flows, and returns all their buffers to the pool.
 pub(crate) fn close_all<R: Wait>(
     rt: &R,
     pool: &Pool,

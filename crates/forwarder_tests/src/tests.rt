@@ -1,4 +1,4 @@
-//! The tests, and what they run forwarders with: `configs`, `gates`, `readers`, `bursts`, `counted` and `trials`.
+//! The tests, and their helpers: `configs`, `gates`, `readers`, `bursts`, `counted` and `trials`.
 
 mod bounds;
 mod bursts;

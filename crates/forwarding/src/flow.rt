@@ -3,10 +3,10 @@ use crate::gate::Gate;
 use refusals::ForwardError;
 use std::sync::Wait;
 
-/// What a turn came to.
+/// The outcome of a turn.
 #[derive(Clone, Copy, Debug, PartialEq, Eq)]
 pub enum Progress {
-    /// Something was done.
+    /// The turn did something.
     Worked,
     /// There was nothing to do.
     Idle,
@@ -21,26 +21,26 @@ pub trait Flow: Drop + Send {
     ghost use Rattle.forwarding.specs.Gates.{Met};
     ghost use Rattle.forwarding.specs.Numbers.{NoneFalls};
 
-    /// What a flow is of.
+    /// The type of `key`.
     ghost Key: { Type 0 };
 
-    /// It stays so, whatever the flow does.
+    /// The flow's identity, which no turn changes.
     ghost key: { Self → Key };
 
     /// Whether nothing is left to do.
     ghost over: { Self → Bool };
 
-    /// The numbers that it counts, in an order of its own.
+    /// The numbers that the flow counts, in an order of its own. None ever falls.
     ghost numbers: { Self → List ℕ };
 
-    /// One turn. Where it is refused, the flow is as the calls before left it, and can be asked again.
+    /// Makes one turn. After a refusal the flow is as the completed calls left it, and the turn can be repeated.
     fn turn<R: Wait, G: Gate>(&mut self, rt: &R, gate: &G) -> Result<Progress, ForwardError>
         ensures key { key self.new ≡ key self.old }
         ensures none_falls { NoneFalls (numbers self.old) (numbers self.new) }
         ensures ended { IfOk result (λ p. p ≡ progress.Over → over self.new ≡ true) }
         ensures refused { IfErr result (λ e. Met G.answers gate.now e) };
 
-    /// Whether nothing is left to do. A flow that is over need not be asked again.
+    /// Whether nothing is left to do. A flow that is over needs no further turn.
     fn is_over(&self) -> bool
         ensures { result ≡ over self.now };
 }

@@ -1,45 +1,47 @@
-//! What is passed before each call that makes steps.
+//! The gate that workers pass before each call that makes steps.
 ghost use Rattle.std.specs.Prelude.{◌≡◌, true, false, IfErr, OnOk};
 
 use refusals::ForwardError;
 
-/// Which worker comes, and for which flow.
+/// The worker that passes a gate: the side, and the number of the flow.
 #[derive(Clone, Copy, Debug, PartialEq, Eq)]
 pub enum Who {
+    /// The driver's side of this flow.
     Driver(usize),
+    /// The controller's side of this flow.
     Controller(usize),
 }
 
-/// What it is about to do.
+/// The call that the worker is about to make.
 #[derive(Clone, Copy, Debug, PartialEq, Eq)]
 pub enum Event {
-    /// A frame is offered to a receive queue.
+    /// Offers a frame to a receive queue.
     Offer,
-    /// A transmit queue takes a turn.
+    /// Gives a transmit queue a turn.
     TxTurn,
-    /// A batch is taken.
+    /// Takes a batch.
     RxBatch,
-    /// A batch is posted.
+    /// Posts a batch.
     TxBatch,
 }
 
-/// A gate is passed just before each of these calls. Where it answers false, forwarding ends. It may hold its caller back,
-/// and so let a program look at what runs, or bring about one order of steps. Workers in several threads pass one gate, so
-/// whoever starts them asks for a gate that is `Sync` too.
+/// A gate is passed just before each of these calls, and forwarding ends if it returns false. It may hold its caller
+/// back, so that a program can inspect what runs or enforce an order of steps. Workers in several threads pass one
+/// gate, so the calls that start them require `Sync` too.
 pub trait Gate {
     ghost use Rattle.std.specs.Prelude.{Bool};
     ghost use Rattle.forwarding.specs.declared.gate.Who.{Who};
     ghost use Rattle.forwarding.specs.declared.gate.Event.{Event};
 
-    /// What `pass` may answer.
+    /// The results that `pass` may return.
     ghost answers: { Self → Who → Event → Bool → Type 0 };
 
-    /// Whether forwarding goes on.
+    /// Returns whether forwarding continues.
     fn pass(&self, who: Who, event: Event) -> bool
         ensures { answers self.now who event result };
 }
 
-/// The gate that lets all pass.
+/// The gate that always returns true.
 #[derive(Clone, Copy, Debug)]
 pub struct Open;
 
@@ -54,7 +56,7 @@ impl Gate for Open {
     }
 }
 
-/// Passes a gate. `Gate` where it answered false.
+/// Passes a gate. Returns `Gate` if the gate returned false.
 #[inline]
 pub fn admit<G: Gate>(gate: &G, who: Who, event: Event) -> Result<(), ForwardError>
     ensures refusal { IfErr result (λ e. (e ≡ ForwardError.Gate) × G.answers gate.now who event false) }

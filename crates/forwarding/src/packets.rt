@@ -1,11 +1,11 @@
-//! What a forwarder changes of a frame.
+//! The change that a forwarder makes to a frame.
 ghost use Rattle.std.specs.Prelude.{◌≤◌, All, length};
 ghost use Rattle.buffer_pool.specs.Packed.{IsPacket};
 ghost use Rattle.forwarding.specs.Touching.{Touched, TouchedFrom};
 
 use buffer_pool::Packet;
 
-/// Lets byte 1 of the packet, counted from 0, grow by 1 modulo 256.
+/// Increments byte 1 of the packet, counted from 0, modulo 256.
 #[inline]
 pub fn touch(packet: &mut Packet)
     requires { IsPacket packet.old }

@@ -1,4 +1,4 @@
-//! A driver's turn for one flow: what was taken is touched and sent on.
+//! A driver's turn for one flow: it touches the packets that it takes and sends them on.
 ghost use Rattle.std.specs.Prelude.{◌≡◌, ◌≤◌, true, All, length, IfErr, OnErr, IfOk};
 ghost use Rattle.ring_model.specs.shared.Handshakes.{is_live};
 ghost use Rattle.rx_ring.specs.Ends as receive;
@@ -17,18 +17,20 @@ use refusals::ForwardError;
 use rx_ring::RxRing;
 use tx_ring::TxRing;
 
-/// How many frames a turn took, and how many it posted.
+/// The frames of a turn.
 #[derive(Clone, Copy, Debug, PartialEq, Eq)]
 pub struct Turned {
+    /// The frames that were taken.
     pub taken: usize,
+    /// The frames that were posted.
     pub posted: usize,
 }
 
-/// Takes a batch of packets from one queue, touches each that it appended to the list, and posts those that wait on
-/// another queue, from the front of the list. Both queues have to be live and of one length, and no packet that waits may
-/// need more than a ring of that length can have posted.
+/// Takes a batch of packets from one queue, touches each that it appended to the list, and posts the packets that wait,
+/// from the front of the list, on another queue. Both queues must be live and of the same length, and no waiting packet
+/// may need more descriptors than a ring of that length can have out.
 ///
-/// `Gate` where the gate answered false before either batch: what was taken then waits, touched.
+/// Returns `Gate` if the gate returned false before either batch; the packets taken so far then wait, touched.
 #[inline]
 pub fn drive<G: Gate>(
     rx: &mut RxDriver,
@@ -58,7 +60,7 @@ pub fn drive<G: Gate>(
     Ok(Turned { taken, posted })
 }
 
-/// Takes a batch, touches each packet that it appended, and answers how many these are.
+/// Takes a batch, touches each packet that it appended, and returns their number.
 #[inline]
 fn receive(
     rx: &mut RxDriver,

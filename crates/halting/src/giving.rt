@@ -1,4 +1,4 @@
-//! The buffers that lay in a closed ring.
+//! Returning the buffers of a closed ring.
 ghost use Rattle.std.specs.Prelude.{◌≡◌, IfSome};
 ghost use Rattle.lending.specs.Lent.{GivenBack};
 ghost use Rattle.pool.specs.Hands.{HoldsAll};
@@ -9,7 +9,7 @@ use buffer_pool::Buf;
 use pool::{Pool, PoolPass};
 use std::sync::Wait;
 
-/// Gives the buffers of these places to the pool.
+/// Returns the buffers of these places to the pool.
 pub(crate) fn give_places<R: Wait>(
     rt: &R,
     pool: &Pool,
@@ -28,7 +28,7 @@ pub(crate) fn give_places<R: Wait>(
     }
 }
 
-/// Gives the buffer of a place to the pool, if one lay there.
+/// Returns the buffer of a place to the pool, if it has one.
 fn give_place<R: Wait>(rt: &R, pool: &Pool, pass: &mut PoolPass, place: Option<Buf>)
     requires pool { IsOf pool.now pass.old }
     requires held { HoldsAll pass.old.hand.held (number_at place) }

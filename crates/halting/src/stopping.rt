@@ -1,4 +1,4 @@
-//! A stopped flow, all of whose buffers go back to the pool.
+//! Returning all buffers of a stopped flow to the pool.
 ghost use Rattle.std.specs.Prelude.{◌≡◌, [], ◌++◌, None};
 ghost use Rattle.driver.specs.receive.Returns.{numbers_of};
 ghost use Rattle.driver.specs.transmit.Frames.{numbers_in};
@@ -21,8 +21,8 @@ use rx_ring::RxRing;
 use std::sync::Wait;
 use tx_ring::TxRing;
 
-/// Gives what a driver's side has at hand to the pool: its stash, the packets that wait, and the chain of a frame that has
-/// not ended.
+/// Returns the buffers at hand of a driver's side to the pool: its stash, the packets that wait, and the chain of an
+/// unfinished frame.
 fn give_at_hand<R: Wait>(
     rt: &R,
     pool: &Pool,
@@ -45,8 +45,8 @@ fn give_at_hand<R: Wait>(
     give_packets(rt, pool, pass, &mut last);
 }
 
-/// Closes both rings of a flow, wherever its two sides stand, and gives all buffers that the driver's side holds to the pool.
-/// The pass that comes back holds nothing.
+/// Closes both rings of a flow, in any state of its two sides, and returns all buffers that the driver's side holds to
+/// the pool. The returned pass holds nothing.
 pub fn close_flow<R: Wait>(
     rt: &R,
     pool: &Pool,

@@ -1,5 +1,5 @@
-//! Tests of the layers above the rings: drivers, controllers, both in threads of their own, and teams. They stand above them,
-//! so that each of those is proved without tests.
+//! Tests of the layers above the rings: drivers, controllers, both in threads of their own, and teams. They are a crate
+//! of their own so that each layer is proved without tests.
 #![tactic(auto)]
 
 #[cfg(test)]

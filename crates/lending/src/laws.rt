@@ -1,17 +1,17 @@
-//! What the calls of drivers and of a pool make of the buffers that a worker has. These functions do nothing when they run.
+//! How the calls of drivers and of a pool move a worker's buffers, as contracts of functions that do nothing.
 ghost use Rattle.lending.specs.Laws.{BatchesMove, ReclaimingMoves, RefillsAreHeld};
 
-/// A batch of either driver moves buffers between what a worker has, and leaves them the same ones.
+/// A batch of either driver only moves buffers between the places of a worker.
 pub fn batches_move_buffers()
     ensures { BatchesMove }
 {}
 
-/// So does reclaiming.
+/// Reclaiming does so too.
 pub fn reclaiming_moves_buffers()
     ensures { ReclaimingMoves }
 {}
 
-/// What a refill brings into the stash is held.
+/// The pass holds all buffers that a refill moves into the stash.
 pub fn refills_are_held()
     ensures { RefillsAreHeld }
 {}

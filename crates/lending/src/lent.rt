@@ -1,4 +1,4 @@
-//! Drivers that have buffers of a pool.
+//! Drivers that use buffers of a pool.
 ghost use Rattle.std.specs.Prelude.{◌≡◌, ◌<◌, true, false, [], ◌++◌, length, IsPermutation};
 ghost use Rattle.ring_model.specs.shared.Handshakes.{is_stopped};
 ghost use Rattle.shared_ring.specs.Ends.{driver_of, driver_state};
@@ -9,14 +9,14 @@ use rx_ring::{RxControllerOwn, RxDriverOwn, RxRing, RxRule};
 use shared_ring::Direction;
 use tx_ring::{TxControllerOwn, TxDriverOwn, TxRing, TxRule};
 
-/// A driver of either direction, with the buffers that it has of a pool.
+/// A driver of either direction, with the buffers of a pool that it uses.
 pub trait LentDriver<D, C, R: Direction<D, C>>: QueueDriver<D, C, R> {
     ghost use Rattle.std.specs.Prelude.{ℕ, List};
 
-    /// The numbers of its buffers: those in its ring, and those of a frame that has not ended.
+    /// The numbers of its buffers: those in its ring, and those of an unfinished frame.
     ghost with: { Self → List ℕ };
 
-    /// Moves buffers of a disabled queue into the stash, as `reclaim_into` does, and tells whether none is left.
+    /// Moves buffers of a disabled queue into the stash, as `reclaim_into` does, and returns whether none is left.
     fn give_into(&mut self, ring: &Self::Ring, stash: &mut Stash) -> bool
         requires own { (Self.side self.old).table ≡ Self.Ring.table ring.now }
         requires stopped { is_stopped (driver_state (driver_of R.form (Self.side self.old))) ≡ true }

@@ -1,9 +1,10 @@
 //! Buffers of a pool that a worker lends to two drivers.
+//! Depends on `pool`, `driver`, `buffer_pool`, the ring crates and `arrayvec`.
+//! The buffers that a worker's pass holds are always those in its places, and all of them return to the pool.
 //!
-//! A worker of a pool has its buffers at hand (a stash), in its receive ring, in the chain of a frame that has not ended,
-//! in the packets that wait, and in its transmit ring. The laws here say that each call of a driver only moves them
-//! between these, so that what its pass holds is what all of them have, whatever was forwarded; and once both queues are
-//! disabled, [`give_disabled`] and [`give_packets`] bring all of them back to the pool.
+//! The places of a worker are its stash, its receive ring, the chain of an unfinished frame, the packets that wait, and
+//! its transmit ring. The laws state that each call of a driver only moves buffers between them. Once both queues are
+//! disabled, [`give_disabled`] and [`give_packets`] return all buffers to the pool.
 #![tactic(auto)]
 
 mod laws;

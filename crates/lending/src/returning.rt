@@ -1,4 +1,4 @@
-//! Disabled queues, all of whose buffers go back to the pool.
+//! Returning all buffers of disabled queues to the pool.
 ghost use Rattle.std.specs.Prelude.{◌≡◌, true, [], ◌++◌};
 ghost use Rattle.ring_model.specs.shared.Handshakes.{is_stopped};
 ghost use Rattle.shared_ring.specs.Ends.{driver_of, driver_state};
@@ -16,7 +16,7 @@ use pool::{Pool, PoolPass};
 use shared_ring::Direction;
 use std::sync::Wait;
 
-/// Gives all buffers of a stash to the pool.
+/// Returns all buffers of a stash to the pool.
 fn give_stash<R: Wait>(rt: &R, pool: &Pool, pass: &mut PoolPass, stash: &mut Stash)
     requires pool { IsOf pool.now pass.old }
     requires held { HoldsAll pass.old.hand.held stash.old }
@@ -29,7 +29,7 @@ fn give_stash<R: Wait>(rt: &R, pool: &Pool, pass: &mut PoolPass, stash: &mut Sta
     pool.give_all(rt, pass, stash, count);
 }
 
-/// Gives the buffers of packets to the pool: nothing is left in the list.
+/// Returns the buffers of all packets to the pool, and empties the list.
 pub fn give_packets<R: Wait>(
     rt: &R,
     pool: &Pool,
@@ -60,7 +60,7 @@ fn give_packet<R: Wait>(rt: &R, pool: &Pool, pass: &mut PoolPass, mut packet: Pa
     }
 }
 
-/// Gives the buffers of a stash to the pool, and all that a driver has of a disabled queue.
+/// Returns the buffers of a stash and of a disabled queue to the pool.
 pub fn give_disabled<W: Wait, D, C, R: Direction<D, C>, Q: LentDriver<D, C, R>>(
     rt: &W,
     pool: &Pool,

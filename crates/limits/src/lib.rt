@@ -1,9 +1,8 @@
 //! The limits of this project's profile of the 82599, each named once.
+//! Depends on no crate; every other crate takes its limits from here.
+//! The value of each limit is proved beside it, so a change takes two lines: the constant and its `prove!`.
 //!
-//! Every crate cites them from here. Beside each limit its value is proved, so a limit is changed
-//! by two lines: its own, and the one that says what it is.
-//!
-//! [`is_ring_length`] says which numbers of descriptors a ring may have.
+//! [`is_ring_length`] tests the number of descriptors of a ring.
 #![tactic(auto)]
 
 mod profile;

@@ -1,62 +1,62 @@
-//! The limits, and what each of them is.
+//! The limits and their values.
 
-/// The fewest descriptors of a ring. Lengths are powers of two.
+/// The least number of descriptors of a ring. Ring lengths are powers of two.
 pub const LEAST_RING: usize = 8;
 
 const _: () = prove!(LEAST_RING == 8);
 
-/// The most descriptors of a ring.
+/// The greatest number of descriptors of a ring.
 pub const MOST_RING: usize = 4_096;
 
 const _: () = prove!(MOST_RING == 4_096);
 
-/// The most queue pairs of a port. They are numbered from 0.
+/// The greatest number of queue pairs of a port. They are numbered from 0.
 pub const MOST_PAIRS: usize = 8;
 
 const _: () = prove!(MOST_PAIRS == 8);
 
-/// How many ports there are. They are numbered from 0.
+/// The number of ports. They are numbered from 0.
 pub const PORTS: usize = 2;
 
 const _: () = prove!(PORTS == 2);
 
-/// How many bytes a buffer has room for, and so the most bytes of a segment: the reset value of
+/// The number of bytes that fit into a buffer, and so the greatest length of a segment: the reset value of
 /// SRRCTL.BSIZEPACKET, 2 KB.
 pub const BUFFER_BYTES: usize = 2_048;
 
 const _: () = prove!(BUFFER_BYTES == 2_048);
 
-/// The fewest buffers of a stock.
+/// The least number of buffers of a stock.
 pub const FEWEST_BUFFERS: u32 = 16;
 
 const _: () = prove!(FEWEST_BUFFERS == 16);
 
-/// The most buffers of a stock. Their numbers are 0 to 65,535.
+/// The greatest number of buffers of a stock. They are numbered 0 to 65,535.
 pub const MOST_BUFFERS: u32 = 65_536;
 
 const _: () = prove!(MOST_BUFFERS == 65_536);
 
-/// The fewest bytes of a frame: an Ethernet header.
+/// The least number of bytes of a frame: an Ethernet header.
 pub const LEAST_FRAME: usize = 14;
 
 const _: () = prove!(LEAST_FRAME == 14);
 
-/// The most bytes of a frame, without CRC.
+/// The greatest number of bytes of a frame, without CRC.
 pub const MOST_FRAME: usize = 15_000;
 
 const _: () = prove!(MOST_FRAME == 15_000);
 
-/// The most segments of a frame: `MOST_FRAME` bytes in buffers filled to 1,024.
+/// The greatest number of segments of a frame: `MOST_FRAME` bytes in buffers filled to 1,024.
 pub const MOST_SEGMENTS: usize = 15;
 
 const _: () = prove!(MOST_SEGMENTS == 15);
 
-/// The most frames that a driver posts for each report that it asks for.
+/// The greatest report interval of a driver, in frames.
 pub const MOST_RS_EVERY: u16 = 4_096;
 
 const _: () = prove!(MOST_RS_EVERY == 4_096);
 
-/// The most frames of a wire script.
+/// The greatest number of frames of a wire script.
 pub const MOST_SCRIPT_FRAMES: usize = 1_000_000;
 
 const _: () = prove!(MOST_SCRIPT_FRAMES == 1_000_000);

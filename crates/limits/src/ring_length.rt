@@ -1,10 +1,10 @@
-//! How long a ring may be.
+//! The lawful lengths of a ring.
 ghost use Rattle.std.specs.Prelude.{◌↔◌, IsTrue};
 ghost use Rattle.limits.specs.RingLength.{IsRingLength};
 
 use crate::{LEAST_RING, MOST_RING};
 
-/// Whether a ring may have this many descriptors: a power of two from `LEAST_RING` to `MOST_RING`.
+/// Whether a ring may have `n` descriptors: a power of two from `LEAST_RING` to `MOST_RING`.
 pub fn is_ring_length(n: usize) -> bool
     ensures { IsTrue result ↔ IsRingLength n }
 {

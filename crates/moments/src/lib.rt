@@ -1,14 +1,14 @@
-//! A few numbers that stand in words together, which one view writes and others read.
+//! A few numbers in several words, which one view writes and others read.
+//! Depends on `crossbeam_utils` and `atomic_table`.
+//! Every read shows the lawful numbers of one moment, and no number falls from one moment to the next.
 //!
-//! [`Numbers`] holds the numbers of one moment ([`Moment`]: what they owe one another, and those of the
-//! opening, which are all 0). One [`View`] writes them, all at one moment; the others, which any view
-//! tells, read them, each from a thread of its own. The rule ([`Watched`]), which each step of any thread
-//! keeps, says what a read shows: the newest moment of those that were written, each lawful, with no
-//! number that falls from one to the next. A view knows all moments up to the one that it read or wrote
-//! last.
+//! [`Numbers`] holds the numbers of one moment ([`Moment`]: the relation between them, and the opening, in which all
+//! are 0). One [`View`] writes them, all at one moment. The others, which any view can split off, read them, each from
+//! its own thread. The rule ([`Watched`]), which each step of any thread keeps, says that a read shows the newest
+//! moment. A view knows all moments up to the one that it last read or wrote.
 //!
-//! `counters` makes cells of it, with their pens and passes. It stands apart from them since a proof over
-//! the words of a cell takes long, and one over these four calls doesn't.
+//! `cells` builds cells with pens and passes on it. This crate is separate because a proof over the words of a cell
+//! takes long, and one over these four calls does not.
 #![tactic(auto)]
 
 mod moment;

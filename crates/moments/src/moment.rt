@@ -3,8 +3,8 @@ ghost use Rattle.std.specs.Prelude.{◌≡◌, ◌↔◌, All, IsTrue};
 
 use crossbeam_utils::atomic::seq_cell::Words;
 
-/// The numbers that stand in a cell together, as `N` words: what they owe one another at every moment,
-/// and those of the opening, which are all 0.
+/// The numbers that a cell holds together, as `N` words: the relation between them at every moment, and those of the
+/// opening, which are all 0.
 pub trait Moment<const N: usize>: Words<N> {
     ghost lawful: { Self → Type 0 };
 
@@ -16,7 +16,7 @@ pub trait Moment<const N: usize>: Words<N> {
         ensures zero { All (λ n. n ≡ 0) (Self.words result) }
         ensures lawful { lawful result };
 
-    /// Whether the numbers may stand together.
+    /// Whether the relation between the numbers holds.
     fn is_lawful(&self) -> bool
         ensures { IsTrue result ↔ lawful self.now };
 }

@@ -20,7 +20,7 @@ pub struct Numbers<T: Moment<N>, const N: usize> {
     words: Ruled<T, N>,
 }
 
-/// What one holder knows of the numbers. It has no bytes.
+/// The knowledge of one holder about the numbers. It has no bytes.
 #[derive(Drop)]
 pub struct View<T> {
     pass: Pass<T, Known<T>>,
@@ -44,8 +44,8 @@ impl<T> Model for View<T> {
 }
 
 impl<T: Moment<N>, const N: usize> Numbers<T, N> {
-    /// The numbers of the opening, which are all 0, for two owners in threads of their own, and the one view
-    /// that writes. It is refused only where memory was.
+    /// The numbers of the opening, which are all 0, for two owners in separate threads, and the one view that writes.
+    /// Fails only if memory was refused.
     pub fn shared(
         alloc: Global,
     ) -> Result<(Arc<Self, Global>, Arc<Self, Global>, View<T>), AllocError>
@@ -59,7 +59,7 @@ impl<T: Moment<N>, const N: usize> Numbers<T, N> {
         Ok((ours, theirs, view))
     }
 
-    /// The same for one owner.
+    /// The numbers of the opening and the view that writes, for one owner.
     pub fn new(alloc: Global) -> Result<(Self, View<T>), AllocError>
         ensures zero { IfOk result (λ made. All (λ n. n ≡ 0) (T.words made.1.last)) }
         ensures first { IfOk result (λ made. made.1 ≡ first_view made.0 T.opening) }
@@ -70,7 +70,7 @@ impl<T: Moment<N>, const N: usize> Numbers<T, N> {
         Ok((Numbers { words }, View { pass }))
     }
 
-    /// Writes the numbers, all at one moment. They are lawful, and none is below what was written last.
+    /// Writes the numbers, all at one moment. They are lawful, and none is below the last one written.
     pub fn write<R: Wait>(&self, rt: &R, view: &mut View<T>, numbers: T)
         requires own { view.old.cell ≡ self.now }
         requires writes { view.old.writes ≡ true }
@@ -83,7 +83,7 @@ impl<T: Moment<N>, const N: usize> Numbers<T, N> {
             .swap_as::<Writes<N>, R>(rt, &mut view.pass, numbers);
     }
 
-    /// The numbers of one moment, of those that were written or of the opening.
+    /// Reads the numbers of one moment: a write, or the opening.
     pub fn read<R: Wait>(&self, rt: &R, view: &mut View<T>) -> T
         requires own { view.old.cell ≡ self.now }
         ensures own { IsOfSame view.old view.new }
@@ -96,7 +96,7 @@ impl<T: Moment<N>, const N: usize> Numbers<T, N> {
         self.words.load_as::<Reads<N>, R>(rt, &mut view.pass)
     }
 
-    /// Another view, which knows as much and doesn't write. Either may go to another thread.
+    /// Another view, which knows as much and does not write. Either may move to another thread.
     pub fn tell(&self, view: &mut View<T>) -> View<T>
         requires own { view.old.cell ≡ self.now }
         ensures same { view.new ≡ view.old }

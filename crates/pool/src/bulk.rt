@@ -1,4 +1,4 @@
-//! Many buffers at once, between a pool and a worker's stash.
+//! Moving many buffers at once between a pool and a worker's stash.
 ghost use Rattle.std.specs.Prelude.{◌≡◌, ◌≤◌, ◌⊎◌, ℕ, List, ◌++◌, length, take, drop, min, IsPermutation};
 ghost use Rattle.buffer_pool.specs.declared.stash.TheConstants.{STASH_BUFFERS};
 ghost use Rattle.pool.specs.Bulk.{Refilled};
@@ -10,8 +10,8 @@ use buffer_pool::Stash;
 use std::sync::Wait;
 
 impl Pool {
-    /// Moves up to `k` buffers from the pool into a stash, in the pool's order, and answers how many.
-    /// It stops at `k`, at a full stash, or where the pool was empty at a moment of the call.
+    /// Moves up to `k` buffers from the pool into a stash, in the pool's order, and returns their number. It stops at
+    /// `k`, at a full stash, or if the pool was empty at a moment of the call.
     pub fn refill<R: Wait>(&self, rt: &R, pass: &mut PoolPass, stash: &mut Stash, k: usize) -> usize
         requires { IsOf self.now pass.old }
         ensures at_most { result ≤ k }
@@ -32,8 +32,8 @@ impl Pool {
         moved
     }
 
-    /// Gives up to `k` buffers of a stash back, those that the stash would hand out first, and answers
-    /// how many: `k`, or all where the stash has fewer.
+    /// Returns up to `k` buffers of a stash to the pool, those first that the stash would hand out first. Returns their
+    /// number: `k`, or all if the stash has fewer.
     pub fn give_all<R: Wait>(
         &self,
         rt: &R,

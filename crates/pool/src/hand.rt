@@ -1,4 +1,4 @@
-//! The rule of a pool's queue, and what a pass knows.
+//! The rule of a pool's queue, and what a pass knows of it.
 ghost use Rattle.std.specs.Prelude.{ℕ};
 
 use buffer_pool::Buf;
@@ -11,13 +11,16 @@ pub const WHOLE_SHARE: u32 = 65_536;
 
 const _: () = prove!(WHOLE_SHARE == 65_536);
 
-/// What a pass has, for contracts alone: its share of the pool, how many buffers belong to the pool,
-/// the numbers of those that it holds, the last one taken first, and with the whole share the numbers
-/// in the pool, in the order in which they come out, as far as it knows them. No value of it is made.
+/// The state of a pass, for contracts alone; no value of it exists at run time.
 pub struct Hand {
+    /// The pass's share of the pool.
     pub share: u64,
+    /// How many buffers belong to the pool.
     pub count: u64,
+    /// The numbers of the buffers that the pass holds, the last one taken first.
     pub held: LinkedList<u32>,
+    /// With the whole share: the numbers in the pool, in the order in which they are taken, as far as the pass knows
+    /// them.
     pub queued: Option<LinkedList<u32>>,
 }
 
@@ -63,7 +66,7 @@ impl Lesson<Buf, Hand> for Gives {
     ghost fact = { Looked };
 }
 
-/// A buffer comes to the pool as it is made.
+/// A new buffer enters the pool while the pool is made.
 pub(crate) struct Adds;
 
 impl Outcome<Buf, Hand> for Adds {
@@ -78,7 +81,7 @@ impl Lesson<Buf, Hand> for Adds {
     ghost fact = { Looked };
 }
 
-/// How much of a share is cut off.
+/// The part of a share that is split off.
 pub(crate) trait Amount {
     ghost amount: { ℕ };
 }
@@ -100,7 +103,7 @@ impl<K: Amount> Split<Hand> for Parts<K> {
     ghost right = { new_hand K.amount };
 }
 
-/// Two passes become one.
+/// Two passes are joined.
 pub(crate) struct Meets;
 
 impl Join<Hand> for Meets {

@@ -1,14 +1,16 @@
 //! One pool of buffers for all threads.
+//! Depends on `buffer_pool`, `limits` and `crossbeam_queue`.
+//! At every moment and under every schedule, the pool and all passes together hold the numbers `0` to `count - 1`, each
+//! once.
 //!
-//! A [`Pool`] has the buffers that no worker holds, and each worker has a [`PoolPass`] to take and
-//! give by. What is in the pool and what all passes hold are together the numbers `0` to `count - 1`,
-//! each once, at every moment and for every schedule of the threads: that is the rule of the pool's
-//! queue ([`Sharing`]), which each step keeps. So a pool is never too full to give a buffer back.
+//! A [`Pool`] has the buffers that no worker holds, and each worker takes and returns buffers by its [`PoolPass`]. The
+//! guarantee is the rule of the pool's queue ([`Sharing`]), which each step keeps, so a pool always has room for a
+//! returned buffer.
 //!
-//! A pass has a share of the pool. It can be split, so that each worker has a pass of its own, and
-//! joined again. A pass with the whole share is the pool's only one, and knows what the pool holds.
+//! A pass has a share of the pool. It can be split, so that each worker has its own pass, and joined again. A pass with
+//! the whole share is the pool's only one, and knows the pool's content.
 //!
-//! Making a pool takes memory, and no other call does.
+//! Making a pool allocates; no other call does.
 #![tactic(auto)]
 
 mod bulk;

@@ -1,4 +1,4 @@
-//! A pool, and taking and giving single buffers.
+//! A pool, and taking and returning single buffers.
 ghost use Rattle.std.specs.Prelude.{◌≡◌, ◌<◌, ◌⊎◌, ◌↔◌, ℕ, List, [], ◌∷◌, IsPermutation, IfOk, IfErr, OnOk, OnErr, IsErrOf, Contains};
 ghost use Rattle.crossbeam_queue.specs.Passes.{view, IsPassOf, IsSamePass, ruled_capacity};
 ghost use Rattle.buffer_pool.specs.Buffer.{buffer};
@@ -33,8 +33,8 @@ impl Model for Pool {
     ghost view = { λ p. record { id = p.queue.table.shared.table_id; count = ruled_capacity p.queue } };
 }
 
-/// A worker's part of a pool: it takes and gives by its pass alone. A buffer is given by the pass
-/// that took it, or by one that this pass was joined to.
+/// A worker's right to take and return buffers of a pool. A buffer is returned by the pass that took it, or by the one
+/// into which that pass was joined.
 #[derive(Drop)]
 pub struct PoolPass {
     pub(crate) pass: Pass<Buf, Hand>,
@@ -52,8 +52,8 @@ impl Model for PoolPass {
 }
 
 impl PoolPass {
-    /// What holds of a pass at every moment: it holds numbers of the pool, each once, and where it
-    /// knows what the pool holds, both are together all of the pool. It does nothing when it runs.
+    /// States the invariant of a pass: it holds numbers of the pool, each once, and if it knows the pool's content,
+    /// both together are the whole pool. It does nothing at run time.
     #[inline]
     pub fn accounts(&self)
         ensures { Accounts self.now.hand }
@@ -63,10 +63,10 @@ impl PoolPass {
 }
 
 impl Pool {
-    /// A pool of the buffers `0` to `count - 1`, which come out in this order, and its only pass.
+    /// A pool of the buffers `0` to `count - 1`, which are taken in this order, and its only pass.
     ///
-    /// `PoolError::Count` is answered where `count` is not `FEWEST_BUFFERS` to `MOST_BUFFERS`, and
-    /// `PoolError::Memory` only where memory was refused.
+    /// Returns `PoolError::Count` if `count` is not `FEWEST_BUFFERS` to `MOST_BUFFERS`, and `PoolError::Memory` only if
+    /// memory was refused.
     pub fn new<R: Wait>(rt: &R, alloc: Global, count: u32) -> Result<(Pool, PoolPass), PoolError>
         ensures refused { IsErrOf result PoolError.Count ↔ ((count < FEWEST_BUFFERS) ⊎ (MOST_BUFFERS < count)) }
         ensures refusals { IfErr result (λ e. (e ≡ PoolError.Count) ⊎ (e ≡ PoolError.Memory)) }
@@ -87,8 +87,8 @@ impl Pool {
         self.queue.capacity()
     }
 
-    /// Takes the buffer that is longest in the pool. `PoolError::Empty` is answered only where the
-    /// pool was empty at a moment of the call.
+    /// Takes the buffer that has been in the pool longest. Returns `PoolError::Empty` only if the pool was empty at a
+    /// moment of the call.
     pub fn take<R: Wait>(&self, rt: &R, pass: &mut PoolPass) -> Result<Buf, PoolError>
         requires { IsOf self.now pass.old }
         ensures empty { IfErr result (λ e. (e ≡ Empty) × (pass.new ≡ pass.old)) }
@@ -105,7 +105,7 @@ impl Pool {
         }
     }
 
-    /// Gives back a buffer that the pass holds, and empties it. The pool is never full.
+    /// Empties a buffer that the pass holds and returns it to the pool, which always has room.
     pub fn give<R: Wait>(&self, rt: &R, pass: &mut PoolPass, mut buf: Buf)
         requires pool { IsOf self.now pass.old }
         requires held { Contains pass.old.hand.held buf.number }
@@ -124,8 +124,8 @@ impl Pool {
     }
 }
 
-/// Puts the buffers of a full stock into an empty queue. Nobody else has the queue yet, so each push
-/// is its next step, and finds room.
+/// Puts the buffers of a full stock into an empty queue. No one else has the queue yet, so each push is its next step,
+/// and finds room.
 fn fill<R: Wait>(rt: &R, queue: &Queue, pass: &mut Pass<Buf, Hand>, mut stock: Stock)
     requires queue { IsPassOf queue.now pass.old }
     requires room { ruled_capacity queue.now ≡ stock.count }

@@ -1,4 +1,4 @@
-//! How passes are split and joined.
+//! Splitting and joining passes.
 ghost use Rattle.std.specs.Prelude.{◌≡◌, ◌<◌};
 ghost use Rattle.pool.specs.Hands.{kept_hand, new_hand, joined_hand, Accounts, HoldsWhole};
 ghost use Rattle.pool.specs.Owned.{IsOf};
@@ -8,8 +8,8 @@ use crate::{Pool, PoolPass};
 use std::marker::Brand;
 
 impl PoolPass {
-    /// Splits a pass off. It has the share `k` and holds nothing, and this one keeps the rest of its
-    /// share and all that it holds. Either may go to another thread.
+    /// Splits off a pass that has the share `k` and holds nothing. This one keeps the rest of its share and all that it
+    /// holds. Either may move to another thread.
     pub fn split(&mut self, pool: &Pool, k: u32) -> PoolPass
         requires pool { IsOf pool.now self.old }
         requires some { 0 < k }
@@ -20,7 +20,7 @@ impl PoolPass {
         part::<Brand>(self, pool, k)
     }
 
-    /// Takes another pass of the same pool in, with its share and all that it holds.
+    /// Joins another pass of the same pool into this one, with its share and all that it holds.
     pub fn join(&mut self, pool: &Pool, other: PoolPass)
         requires pool { IsOf pool.now self.old }
         requires other { IsOf pool.now other }
@@ -33,7 +33,7 @@ impl PoolPass {
     }
 }
 
-/// `split`, with an amount that the play of its step can name.
+/// `split`, with the amount as a type parameter that the step's type can name.
 fn part<K: Amount>(pass: &mut PoolPass, pool: &Pool, k: u32) -> PoolPass
     requires pool { IsOf pool.now pass.old }
     requires amount { k ≡ K.amount }

@@ -1,8 +1,9 @@
-//! Uses of a pool, as workers make them, and the pool's tests. They stand above it, so that it is
-//! proved without them.
+//! Example workers of a pool, and the pool's tests.
+//! Depends on `pool` and `buffer_pool`, and is a crate of its own so that `pool` is proved without its tests.
+//! Every worker returns all buffers that it takes.
 //!
-//! [`work`] is one worker: it refills a stash, uses the buffers and gives them back. [`share_out`] lets
-//! four threads do so side by side on one pool.
+//! [`work`] is one worker: it refills a stash, uses the buffers and returns them. [`share_out`] runs four of them side
+//! by side on one pool.
 #![tactic(auto)]
 
 mod sharing;

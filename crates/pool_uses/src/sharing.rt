@@ -9,12 +9,12 @@ use std::sync::Wait;
 use std::thread;
 use std::thread::Threads;
 
-/// A half of the whole share, and a quarter.
+/// Half of the whole share, and a quarter.
 const HALF: u32 = WHOLE_SHARE / 2;
 
 const QUARTER: u32 = WHOLE_SHARE / 4;
 
-/// Lets four threads work on one pool, and joins them. The pass has the whole share and holds nothing, before and after.
+/// Runs four workers on one pool, and joins them. The pass has the whole share and holds nothing, before and after.
 pub fn share_out<R: Threads + Wait + Sync>(
     rt: &R,
     pool: &Pool,
@@ -36,7 +36,7 @@ pub fn share_out<R: Threads + Wait + Sync>(
     )
 }
 
-/// Lets two threads work on one pool, and joins them. The pass has half of the whole share and holds nothing, before and
+/// Runs two workers on one pool, and joins them. The pass has half of the whole share and holds nothing, before and
 /// after.
 pub fn in_two<R: Threads + Wait + Sync>(rt: &R, pool: &Pool, pass: PoolPass, job: Job) -> PoolPass
     requires { HoldsNone pool.now HALF pass }
@@ -54,7 +54,7 @@ pub fn in_two<R: Threads + Wait + Sync>(rt: &R, pool: &Pool, pass: PoolPass, job
     )
 }
 
-/// Splits off half of a share, lets two threads work with a half each, and joins them.
+/// Splits a share in two, runs two threads with half of it each, and joins them.
 fn halved<R: Threads + Sync, W: Fn(PoolPass) -> PoolPass + Sync>(
     rt: &R,
     pool: &Pool,

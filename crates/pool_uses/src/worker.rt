@@ -9,26 +9,28 @@ use std::sync::Wait;
 /// How many buffers a worker takes at once.
 pub const BATCH: usize = 32;
 
-/// How a worker takes its buffers in a turn, before it gives them back.
+/// How many buffers a worker takes in a turn, before it returns them.
 #[derive(Clone, Copy)]
 pub enum Manner {
     /// One.
     Single,
     /// `BATCH` at once, through a stash.
     Bulk,
-    /// One and `BATCH` in turn.
+    /// One and `BATCH`, alternately.
     Mixed,
 }
 
-/// What a worker does: in this manner so many turns.
+/// A worker's job.
 #[derive(Clone, Copy)]
 pub struct Job {
+    /// How many buffers it takes in a turn.
     pub manner: Manner,
+    /// The number of turns.
     pub turns: u32,
 }
 
-/// Takes buffers in each turn of the job, and gives them back. The worker holds none before and none after. Where the pool
-/// is empty, a turn is left out.
+/// Takes buffers in each turn of the job, and returns them. The worker holds none before and none after. If the pool is
+/// empty, it skips the turn.
 pub fn work<R: Wait>(rt: &R, pool: &Pool, mut pass: PoolPass, job: Job) -> PoolPass
     requires pool { IsOf pool.now pass }
     requires idle { pass.hand.held ≡ [] }
@@ -52,7 +54,7 @@ pub fn work<R: Wait>(rt: &R, pool: &Pool, mut pass: PoolPass, job: Job) -> PoolP
     pass
 }
 
-/// Takes one buffer and gives it back.
+/// Takes one buffer and returns it.
 fn single<R: Wait>(rt: &R, pool: &Pool, pass: &mut PoolPass)
     requires pool { IsOf pool.now pass.old }
     requires idle { pass.old.hand.held ≡ [] }
@@ -65,7 +67,7 @@ fn single<R: Wait>(rt: &R, pool: &Pool, pass: &mut PoolPass)
     }
 }
 
-/// Refills a stash by up to `BATCH` buffers, and gives them all back.
+/// Refills a stash by up to `BATCH` buffers, and returns them all.
 fn batch<R: Wait>(rt: &R, pool: &Pool, pass: &mut PoolPass, stash: &mut Stash)
     requires pool { IsOf pool.now pass.old }
     requires idle { pass.old.hand.held ≡ [] }

@@ -1,4 +1,4 @@
-//! The rule of the word, what each step tells, and that each step keeps the rule.
+//! The rule of the word, the knowledge that each step gives, and that each step keeps the rule.
 ghost use Rattle.std.specs.Prelude.{◌≡◌, ◌<◌, true, false, [], ◌∷◌};
 ghost use Rattle.crossbeam_utils.specs.Register.{Forks, Merges, Turns};
 ghost use Rattle.crossbeam_utils.specs.Seq.{cell_view};
@@ -8,9 +8,10 @@ use atomic_table::{Join, Split};
 use crossbeam_utils::atomic::seq_cell::{Pass, Words};
 use crossbeam_utils::rule::{Outcome, Protocol};
 
-/// Whether the word is set.
+/// The content of the word.
 #[derive(Clone, Copy)]
 pub struct Flag {
+    /// Whether the word is set.
     pub set: bool,
 }
 
@@ -29,16 +30,18 @@ impl Words<1> for Flag {
     }
 }
 
-/// What a pass has, for contracts alone: its share, how often it was the first to set the word, and
-/// whether it saw the word set. No value of it is made.
+/// The knowledge of a pass, for contracts alone; no value of it exists at run time.
 pub struct Known {
+    /// The pass's share of the word.
     pub share: u64,
+    /// How often the pass was the first to set the word.
     pub firsts: u64,
+    /// Whether the pass saw the word set.
     pub seen: bool,
 }
 
-/// The rule of the word: all passes together have the whole share, and were the first to set the word once
-/// if it is set and never if it isn't; a pass with no share never was, and one that saw the word set was right.
+/// The rule of the word. All passes together have the whole share, and were the first to set the word once if it is
+/// set, and never otherwise. A pass without a share was never the first, and a pass that saw the word set was right.
 pub(crate) struct Once;
 
 impl Protocol<Flag, Known> for Once {
@@ -67,7 +70,7 @@ impl Outcome<Flag, Known> for Sets {
     ghost then = { HasSet };
 }
 
-/// A pass gives a share of 1 away.
+/// A pass gives away a share of 1.
 pub(crate) struct Parts;
 
 impl Split<Known> for Parts {
@@ -78,7 +81,7 @@ impl Split<Known> for Parts {
     ghost right = { given };
 }
 
-/// A pass gives all that it has to another one, which is new.
+/// A pass moves all that it has to a new one.
 pub(crate) struct Leaves;
 
 impl Split<Known> for Leaves {
@@ -89,7 +92,7 @@ impl Split<Known> for Leaves {
     ghost right = { same };
 }
 
-/// Two passes become one.
+/// Two passes are joined.
 pub(crate) struct Meets;
 
 impl Join<Known> for Meets {
@@ -100,7 +103,7 @@ impl Join<Known> for Meets {
     ghost spent = { spent };
 }
 
-// Each of these does nothing: its clauses say that a step keeps the rule.
+// These functions do nothing: their clauses state that a step keeps the rule.
 
 /// The rule holds of a new word.
 pub(crate) fn may_open(now: Flag)
@@ -120,18 +123,18 @@ pub(crate) fn may_set(pass: &Pass<Flag, Known>, now: Flag)
     ensures { Turns IsSettled pass.now.id (cell_view pass.now) (λ _. now) HasSet }
 {}
 
-/// A pass with a share of more than 1 may give 1 away.
+/// A pass with a share of more than 1 may give away 1.
 pub(crate) fn may_part(pass: &Pass<Flag, Known>)
     requires { 1 < (cell_view pass.now).share }
     ensures { Forks IsSettled pass.now.id (cell_view pass.now) (cut (cell_view pass.now)) (given (cell_view pass.now)) }
 {}
 
-/// A pass may leave all that it has to a new one.
+/// A pass may move all that it has to a new one.
 pub(crate) fn may_leave(pass: &Pass<Flag, Known>)
     ensures { Forks IsSettled pass.now.id (cell_view pass.now) spent (same (cell_view pass.now)) }
 {}
 
-/// Two passes may become one.
+/// Two passes may be joined.
 pub(crate) fn may_meet(pass: &Pass<Flag, Known>, other: &Pass<Flag, Known>)
     ensures { Merges IsSettled pass.now.id (cell_view pass.now) other.now.id (cell_view other.now) (both (cell_view pass.now) (cell_view other.now)) spent }
 {}

@@ -1,4 +1,4 @@
-//! The word, and the passes by which it is set and looked at.
+//! The word, and its passes.
 ghost use Rattle.std.specs.Prelude.{◌≡◌, ◌<◌, ◌+◌, ◌-◌, true, false, IfOk};
 ghost use Rattle.stop_word.specs.Passes.{first_pass, joined, part_of};
 ghost use Rattle.stop_word.specs.Rule.{whole_share, worth};
@@ -20,12 +20,12 @@ type Ruled = RuledSeqCell<Flag, Known, Once, 1>;
 #[derive(Drop)]
 pub struct StopWord {
     word: Ruled,
-    /// Set right after the word. As long as it isn't, `is_set` need not go to the word, which lies in
-    /// memory of its own, perhaps in a cache line that others write.
+    /// Set right after the word. While it is not set, `is_set` need not load the word, which is in separate memory,
+    /// perhaps in a cache line that others write.
     hint: AtomicBool,
 }
 
-/// A part in a stop word: with it the word is looked at and set. It has no bytes.
+/// The right to look at a stop word and to set it. It has no bytes.
 #[derive(Drop)]
 pub struct StopPass {
     pass: Pass<Flag, Known>,
@@ -49,8 +49,7 @@ impl Model for StopPass {
 }
 
 impl StopWord {
-    /// A word that is not set, and the pass that has the whole share of it. It is refused only where memory
-    /// was.
+    /// A word that is not set, and the pass with the whole share of it. Fails only if memory was refused.
     pub fn new(alloc: Global) -> Result<(StopWord, StopPass), AllocError>
         ensures first { IfOk result (λ made. made.1 ≡ first_pass made.0) }
     {
@@ -61,8 +60,8 @@ impl StopWord {
         Ok((StopWord { word, hint }, StopPass { pass }))
     }
 
-    /// Whether the word was found set. It is one load where it isn't, and may miss a setting that is being
-    /// made by another thread.
+    /// Whether the word was found set. Takes one load if it is not, and may miss a setting that another thread is
+    /// making.
     pub fn is_set<R: Wait>(&self, rt: &R, pass: &mut StopPass) -> bool
         requires own { pass.old.word ≡ self.now }
         ensures set { result ≡ true → pass.new ≡ record pass.old { seen = true } }
@@ -71,8 +70,8 @@ impl StopWord {
         self.hint.load(Ordering::SeqCst) && self.look(rt, pass)
     }
 
-    /// Whether the word is set. Once a pass has seen it set it stays so; and with the whole share, the word is
-    /// set just where one of the passes that this one was joined from was the first to set it.
+    /// Whether the word is set. Once a pass has seen it set, it stays set. With the whole share, the word is set
+    /// exactly if one of the passes joined into this one was the first to set it.
     pub fn look<R: Wait>(&self, rt: &R, pass: &mut StopPass) -> bool
         requires own { pass.old.word ≡ self.now }
         ensures set { result ≡ true → pass.new ≡ record pass.old { seen = true } }
@@ -84,7 +83,7 @@ impl StopWord {
         self.word.load_as::<Looks, R>(rt, &mut pass.pass).set
     }
 
-    /// Sets the word, and answers whether this was the first time.
+    /// Sets the word, and returns whether this was the first time.
     pub fn set<R: Wait>(&self, rt: &R, pass: &mut StopPass) -> bool
         requires own { pass.old.word ≡ self.now }
         requires share { 0 < pass.old.share }
@@ -98,7 +97,7 @@ impl StopWord {
         !was.set
     }
 
-    /// Another pass, with a share of 1 of this one's. It has seen what this one has, and was never the first.
+    /// Splits off a pass with a share of 1 of this one's. It has seen what this one has, and was never the first.
     pub fn split(&self, pass: &mut StopPass) -> StopPass
         requires own { pass.old.word ≡ self.now }
         requires share { 1 < pass.old.share }
@@ -111,13 +110,13 @@ impl StopWord {
         }
     }
 
-    /// Takes another pass in, with its share and all that it knows.
+    /// Joins another pass into this one, with its share and all that it knows.
     pub fn join(&self, pass: &mut StopPass, mut other: StopPass)
         requires own { pass.old.word ≡ self.now }
         requires other { other.word ≡ self.now }
         ensures joined { pass.new ≡ joined pass.old other }
     {
-        // a pass that has made a step can't be joined, and one that was just split off can
+        // a pass that has made a step cannot be joined, but one that was just split off can
         may_leave(&other.pass);
         let rest = self.word.split_pass::<Leaves>(&mut other.pass);
         may_meet(&pass.pass, &rest);

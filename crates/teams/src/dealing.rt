@@ -1,4 +1,4 @@
-//! Flows are dealt to workers in turn, and put back into their order.
+//! Dealing flows to workers in turn, and restoring their order.
 ghost use Rattle.std.specs.Prelude.{◌≡◌, ◌+◌, ◌<◌, ◌≤◌, true, List, [], ◌∷◌, ◌++◌, All, IfOk, length, map, vec_len, vec_capacity};
 ghost use Rattle.teams.specs.Dealing.{IsDealt, Passes};
 ghost use Rattle.teams.specs.Hands.{hand_keys, AllOver};
@@ -6,8 +6,8 @@ ghost use Rattle.teams.specs.Hands.{hand_keys, AllOver};
 use forwarding::Flow;
 use std::alloc::{AllocError, Global};
 
-/// Deals items to hands in turn: of `count` hands, item `f` goes to hand `f mod count`. Each hand keeps the
-/// order. The hands are empty, and each has room for all items.
+/// Deals items to hands in turn: of `count` hands, item `f` goes to hand `f mod count`. Each hand keeps the order. The
+/// hands are empty, and each has room for all items.
 pub fn deal<T: Drop>(items: Vec<T>, mut hands: Vec<Vec<T>>) -> Vec<Vec<T>>
     requires some { 0 < vec_len hands }
     requires none { All (λ h. h.items ≡ []) hands.items }
@@ -23,7 +23,7 @@ pub fn deal<T: Drop>(items: Vec<T>, mut hands: Vec<Vec<T>>) -> Vec<Vec<T>>
     hands
 }
 
-/// The hand whose turn is next.
+/// The hand that is next in turn.
 fn next_turn(turn: usize, count: usize) -> usize
     requires { turn < count }
     ensures in_row { result < count }
@@ -32,7 +32,7 @@ fn next_turn(turn: usize, count: usize) -> usize
     if turn + 1 == count { 0 } else { turn + 1 }
 }
 
-/// So many empty hands, each with room for so many items.
+/// A vector of `count` empty hands, each with room for `room` items.
 pub fn empty_hands<T: Drop>(
     alloc: Global,
     count: usize,
@@ -49,7 +49,7 @@ pub fn empty_hands<T: Drop>(
     Ok(hands)
 }
 
-/// Puts flows that were dealt back into their order, in room that was there before.
+/// Restores the order of flows that were dealt, in room allocated before.
 pub fn gather<F: Flow>(mut hands: Vec<Vec<F>>, total: usize, mut room: Vec<F>) -> Vec<F>
     requires some { 0 < vec_len hands }
     requires none { room.items ≡ [] }
@@ -65,8 +65,7 @@ pub fn gather<F: Flow>(mut hands: Vec<Vec<F>>, total: usize, mut room: Vec<F>) -
     room
 }
 
-/// Moves the first flow of a hand, if it has one, behind those that are there. A hand has few flows, so
-/// few move up.
+/// Moves the first flow of a hand, if it has one, to the end of `room`. A hand has few flows, so few move up.
 fn move_first<F: Flow>(hand: &mut Vec<F>, room: &mut Vec<F>)
     requires { vec_len room.old < vec_capacity room.old }
     ensures moved { (first : F.Key) (later : List F.Key) → map F.key hand.old.items ≡ first ∷ later → (map F.key hand.new.items ≡ later) × (map F.key room.new.items ≡ map F.key room.old.items ++ first ∷ []) }

@@ -1,4 +1,4 @@
-//! How work ends, a worker's or a whole team's.
+//! How the work of a worker or of a whole team ends.
 ghost use Rattle.std.specs.Prelude.{◌≡◌};
 ghost use Rattle.teams.specs.Endings.{worse};
 
@@ -16,7 +16,7 @@ pub(crate) enum Ending {
 }
 
 impl Ending {
-    /// How this and other work ended together: with the refusal, where either has one.
+    /// How this and other work ended together: with the refusal, if either has one.
     pub(crate) fn and(self, other: Ending) -> Ending
         ensures { result ≡ worse self other }
     {

@@ -1,11 +1,10 @@
 //! Workers in threads of their own, which serve flows by turns.
+//! Depends on `forwarding` and `stop_word`.
+//! Every started worker is joined, and all flows come back.
 //!
-//! A worker has several flows of one side. It gives each of them a turn, round after round, until all
-//! are over, or until the stop word is set, which is loaded before each turn. A worker that meets a
-//! refusal sets the word, and the first to do so has the refusal that is answered.
-//!
-//! [`run_teams`] starts a team for each side, and joins every worker that was started: their flows
-//! come back, whether or not they are over.
+//! A worker has several flows of one side. It gives each of them a turn, round after round, until all are over or the
+//! stop word is set, which it loads before each turn. A worker that meets a refusal sets the word, and the refusal of
+//! the first one to do so is returned. [`run_teams`] runs a team for each side.
 #![tactic(auto)]
 
 mod dealing;

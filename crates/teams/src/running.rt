@@ -1,4 +1,4 @@
-//! Both sides' workers at once.
+//! Running both sides' workers at once.
 ghost use Rattle.std.specs.Prelude.{◌≡◌, ◌≤◌, [], None, IfOk, IfSome, vec_capacity};
 ghost use Rattle.stop_word.specs.Passes.{first_pass};
 ghost use Rattle.teams.specs.Hands.{hand_keys, AllOver};
@@ -13,18 +13,21 @@ use std::thread;
 use std::thread::{Scope, Threads};
 use stop_word::{StopPass, StopWord};
 
-/// The flows of both sides, hand by hand, and why they ended before all were over, if they did.
+/// The flows of both sides, hand by hand.
 #[derive(Drop)]
 pub struct Ran<D: Drop, C: Drop> {
+    /// The flows of the drivers' side.
     pub drivers: Vec<Vec<D>>,
+    /// The flows of the controllers' side.
     pub controllers: Vec<Vec<C>>,
+    /// The refusal that ended the flows early, if there was one.
     pub refusal: Option<ForwardError>,
 }
 
-/// Serves each hand by a worker in a thread of its own, until all flows are over or a refusal was met,
-/// and joins every worker that was started. The first refusal to set the stop word is the one that is
-/// answered: `Memory` where a growth was refused, `Thread` where a thread couldn't be started, or what a
-/// flow's turn was refused with. All flows come back, also those of a worker that couldn't be started.
+/// Serves each hand by a worker in a thread of its own, until all flows are over or a refusal is met, and joins every
+/// worker that was started. Reports the first refusal that set the stop word: `Memory` if an allocation was refused,
+/// `Thread` if a thread could not be started, or the refusal of a flow's turn. All flows come back, including those of
+/// a worker that could not be started.
 pub fn run_teams<D: Flow, C: Flow, R: Threads + Wait + Sync, G: Gate + Sync>(
     rt: &R,
     alloc: Global,
@@ -99,7 +102,7 @@ fn run_in<'s, 'e: 's, D: Flow + 's, C: Flow + 's, R: Threads + Wait + Sync, G: G
     }
 }
 
-/// Room for the workers of one side, and for the hands that they give back.
+/// Room for the workers of one side, and for the hands that they return.
 #[derive(Drop)]
 struct Rooms<'e, F: Flow, G: Gate> {
     team: Vec<Begun<'e, F, G>>,
@@ -107,7 +110,7 @@ struct Rooms<'e, F: Flow, G: Gate> {
 }
 
 impl<'e, F: Flow, G: Gate> Rooms<'e, F, G> {
-    /// Empty lists with room for so many hands.
+    /// Empty lists with room for `count` hands.
     fn of(alloc: Global, count: usize) -> Result<Rooms<'e, F, G>, AllocError>
         ensures empty { IfOk result (λ r. (r.team.items ≡ []) × (r.hands.items ≡ [])) }
         ensures room { IfOk result (λ r. (count ≤ vec_capacity r.team) × (count ≤ vec_capacity r.hands)) }

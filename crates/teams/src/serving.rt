@@ -1,4 +1,4 @@
-//! What a worker does with its flows.
+//! A worker's rounds over its flows.
 ghost use Rattle.std.specs.Prelude.{◌≡◌, ◌<◌, ◌⊎◌, true, All, map};
 ghost use Rattle.teams.specs.declared.ending.Ending.TheVariants.{Done};
 ghost use Rattle.teams.specs.declared.serving.Round.TheVariants.{Busy, Idle, Ended};
@@ -10,18 +10,18 @@ use std::sync::Wait;
 use std::{hint, thread};
 use stop_word::StopWord;
 
-/// Through how many rounds in which it found nothing to do a worker spins before it yields. On a
-/// processor of its own the other side has mostly gone on by then.
+/// The number of rounds without work for which a worker spins before it yields. On a processor of its own, the other
+/// side has mostly progressed by then.
 const SPINS: u32 = 64;
 
-/// What a worker gives back.
+/// The flows of a worker, and how its work ended.
 #[derive(Drop)]
 pub(crate) struct Served<F: Drop> {
     pub flows: Vec<F>,
     pub standing: Standing,
 }
 
-/// What came of one round.
+/// The outcome of one round.
 #[derive(Clone, Copy)]
 enum Round {
     /// A flow found something to do.
@@ -32,7 +32,7 @@ enum Round {
     Ended,
 }
 
-/// A turn of each flow that isn't over. The stop word is loaded before each of them.
+/// A turn of each flow that is not over. The stop word is loaded before each of them.
 #[tactic(auto, using(crate::proofs::Together::met_halted))]
 fn serve_round<F: Flow, R: Wait, G: Gate>(
     rt: &R,
@@ -78,8 +78,8 @@ fn serve_round<F: Flow, R: Wait, G: Gate>(
     }
 }
 
-/// Serves the flows until all are over, or the stop word is set. Where none finds anything to do the
-/// worker spins a little, and then lets other threads run.
+/// Serves the flows until all are over, or the stop word is set. While none finds anything to do, the worker spins for
+/// a while, and then yields to other threads.
 pub(crate) fn serve<F: Flow, R: Wait, G: Gate>(
     rt: &R,
     stop: &StopWord,
@@ -106,7 +106,7 @@ pub(crate) fn serve<F: Flow, R: Wait, G: Gate>(
     unreachable!()
 }
 
-/// Lets time go by after so many rounds in which there was nothing to do, and counts this one.
+/// Pauses after `idle` rounds without work, and counts this one.
 fn rest(idle: u32) -> u32 {
     if idle < SPINS {
         hint::spin_loop();

@@ -1,4 +1,4 @@
-//! How work stands, and the pass of the stop word that tells so.
+//! The state of some work, with a pass of the stop word.
 ghost use Rattle.std.specs.Prelude.{◌≡◌, ◌⊎◌, ◌<◌, ◌+◌, ◌-◌, true, false, None, Some};
 ghost use Rattle.stop_word.specs.Rule.{whole_share};
 ghost use Rattle.teams.specs.declared.ending.Ending.TheVariants.{Done, Refused, Stopped};
@@ -10,8 +10,8 @@ use std::marker::Model;
 use std::sync::Wait;
 use stop_word::{StopPass, StopWord};
 
-/// How a piece of work stands: `Done` as long as no refusal ended it. Its pass was the first to set the stop
-/// word just where it was refused, and has seen the word set where it was stopped.
+/// The state of some work: `Done` as long as no refusal ended it. Its pass was the first to set the stop word exactly
+/// if the work was refused, and has seen the word set if the work was stopped.
 #[derive(Drop)]
 pub(crate) struct Standing {
     pass: StopPass,
@@ -40,7 +40,7 @@ impl Standing {
         }
     }
 
-    /// A piece of work for another thread, with a share of 1 of this one's.
+    /// Work for another thread, with a share of 1 of this one's.
     pub(crate) fn split(&mut self, stop: &StopWord) -> Standing
         requires own { self.old.word ≡ stop.now }
         requires share { 1 < self.old.share }
@@ -53,7 +53,7 @@ impl Standing {
         }
     }
 
-    /// Takes in how other work stands.
+    /// Joins the state of other work into this one.
     pub(crate) fn join(&mut self, stop: &StopWord, other: Standing)
         requires own { self.old.word ≡ stop.now }
         requires other { other.word ≡ stop.now }
@@ -64,7 +64,7 @@ impl Standing {
         self.ending = self.ending.and(ending);
     }
 
-    /// Whether the stop word is set. Where it is, this work is stopped.
+    /// Whether the stop word is set. If it is, this work is stopped.
     pub(crate) fn is_stopped<R: Wait>(&mut self, rt: &R, stop: &StopWord) -> bool
         requires own { self.old.word ≡ stop.now }
         ensures stopped { result ≡ true → self.new ≡ stood self.old.word self.old.share (worse self.old.ending Stopped) }
@@ -77,7 +77,7 @@ impl Standing {
         set
     }
 
-    /// Sets the stop word. This work ends with the refusal if it is the first to do so, and is stopped if not.
+    /// Sets the stop word. This work ends with the refusal if it is the first to do so; otherwise it is stopped.
     pub(crate) fn refuse<R: Wait>(&mut self, rt: &R, stop: &StopWord, refusal: ForwardError)
         requires own { self.old.word ≡ stop.now }
         requires share { 0 < self.old.share }
@@ -91,8 +91,8 @@ impl Standing {
         self.ending = self.ending.and(ending);
     }
 
-    /// The refusal that all work together ended with, if it did: that of the work which was the first to set
-    /// the stop word. Where all of the word's passes are back, no work was stopped by one that isn't known.
+    /// The refusal with which all work together ended, if any: that of the work which first set the stop word. Once all
+    /// of the word's passes are back, the work that stopped the others is known.
     pub(crate) fn refusal<R: Wait>(mut self, rt: &R, stop: &StopWord) -> Option<ForwardError>
         requires own { self.word ≡ stop.now }
         requires whole { self.share ≡ whole_share }

@@ -12,7 +12,7 @@ use std::sync::Wait;
 use std::thread::{Promise, PromisedHandle, Scope, Threads};
 use stop_word::StopWord;
 
-/// What a worker promises: its flows come back, and what it says of how it ended is so.
+/// A worker's promise: its flows come back, and its ending is true of them.
 #[derive(Drop)]
 pub(crate) struct Serves<'g, F: Drop, G> {
     given: Snapshot<Vec<F>>,
@@ -30,11 +30,10 @@ impl<'g, F: Flow, G: Gate> Promise<Served<F>> for Serves<'g, F, G> {
 /// A worker that was started.
 type Worker<'g, F, G> = PromisedHandle<Served<F>, Serves<'g, F, G>>;
 
-/// What became of a hand: its worker, or the hand as it is where no worker was started for it.
+/// The worker of a hand, or the hand itself if no worker was started for it.
 pub(crate) type Begun<'g, F, G> = Result<Worker<'g, F, G>, Served<F>>;
 
-/// Starts a worker for a hand. Where none can be started the hand comes back, and so it does where work was
-/// stopped before.
+/// Starts a worker for a hand. Returns the hand if none can be started, or work was stopped before.
 fn begin<'s, 'e: 's, F: Flow + 's, R: Threads + Wait + Sync, G: Gate + Sync>(
     scope: &'s Scope<'s, &'e ()>,
     rt: &'e R,
@@ -73,13 +72,13 @@ fn begin<'s, 'e: 's, F: Flow + 's, R: Threads + Wait + Sync, G: Gate + Sync>(
         Ok(worker) => Ok(worker),
         Err(refused) => {
             starting.refuse(rt, stop, ForwardError::Thread);
-            // the stop word is set, so that no flow has a turn
+            // the stop word is set, so no flow has a turn
             Err((refused.value)())
         }
     }
 }
 
-/// Starts a worker for each hand, in room that was there before.
+/// Starts a worker for each hand, in room allocated before.
 pub(crate) fn start<'s, 'e: 's, F: Flow + 's, R: Threads + Wait + Sync, G: Gate + Sync>(
     scope: &'s Scope<'s, &'e ()>,
     rt: &'e R,
@@ -107,14 +106,14 @@ pub(crate) fn start<'s, 'e: 's, F: Flow + 's, R: Threads + Wait + Sync, G: Gate 
     team
 }
 
-/// What a team gave back, hand by hand, and how its work stands.
+/// The hands that a team returned, and how its work ended.
 #[derive(Drop)]
 pub(crate) struct Joined<F: Drop> {
     pub hands: Vec<Vec<F>>,
     pub standing: Standing,
 }
 
-/// What a hand's worker gave back, once it is at its end.
+/// Waits for a hand's worker to end, and returns its flows.
 fn join_one<R: Threads, F: Flow, G: Gate>(
     rt: &R,
     stop: &StopWord,
@@ -132,8 +131,8 @@ fn join_one<R: Threads, F: Flow, G: Gate>(
     }
 }
 
-/// Joins each worker. The room for what comes back was there before a thread was started, so nothing
-/// can be refused now.
+/// Joins each worker. The room for the results was allocated before a thread was started, so nothing can be refused
+/// now.
 pub(crate) fn join_each<R: Threads, F: Flow, G: Gate>(
     rt: &R,
     stop: &StopWord,

@@ -15,7 +15,7 @@ pub fn cut(bytes: &[u8], separator: u8) -> (&[u8], Option<&[u8]>)
     }
 }
 
-/// Whether a line says something: it is not empty, and does not begin with `#`.
+/// Whether a line has content: it is not empty, and does not begin with `#`.
 pub fn says_something(line: &[u8]) -> bool
     ensures { result ≡ says_something line.now }
 {
@@ -25,7 +25,7 @@ pub fn says_something(line: &[u8]) -> bool
     }
 }
 
-/// Where the first byte of this value stands.
+/// The place of the first byte `wanted`.
 fn place_of(bytes: &[u8], wanted: u8) -> Option<usize>
     ensures { result ≡ position (λ b. b == wanted) bytes.now }
 {

@@ -1,8 +1,10 @@
-//! What texts of lines have in common: how a text is cut into lines and a line into fields, which
-//! lines say something, and how a number is written in a field.
+//! The parts of line formats: cutting a text into lines and a line into fields, and reading a number.
+//! Depends on `memchr`.
+//! Nothing is allocated or copied.
 //!
-//! [`cut`] gives the bytes before a separator and those after it. Cut by LF, a text is lines of
-//! which the last may lack its LF; CR is a byte like any other. Nothing is allocated or copied.
+//! [`cut`] returns the bytes before a separator and those after it. Cut by LF, a text is a sequence of lines; the last
+//! may lack its LF, and CR is a byte like any other. [`says_something`] finds the lines with content, and [`number_in`]
+//! reads a decimal field.
 #![tactic(auto)]
 
 mod cutting;

@@ -4,8 +4,8 @@ ghost use Rattle.std.specs.Char.{is_ascii_digit};
 ghost use Rattle.std.specs.List.{list_all};
 ghost use Rattle.text_lines.specs.Numbers.{is_number, number_in};
 
-/// The number that a field says in decimal, 0 to 99,999: it has 1 to 5 digits, and the first of
-/// more than one is not `0`. `None` where it is written otherwise.
+/// The decimal number of a field, 0 to 99,999: it has 1 to 5 digits, and no leading zero. Returns `None` for any other
+/// text.
 pub fn number_in(field: &[u8]) -> Option<u32>
     ensures value { result ≡ number_in field.now }
     ensures text { (n : ℕ) → (result ≡ Some n) ↔ ((n < 10 ^ 5) × (field.now ≡ decimal n)) }
@@ -20,7 +20,7 @@ pub fn number_in(field: &[u8]) -> Option<u32>
     Some(value)
 }
 
-/// Whether a number is written as it may be.
+/// Whether a field is a number of this form.
 fn is_number(field: &[u8]) -> bool
     ensures { result ≡ is_number field.now }
 {

@@ -1,4 +1,4 @@
-//! What a cell shows of a flow.
+//! The numbers of a flow that a cell shows.
 use counters::{Driven, Moment, Offered};
 use flows::{ControllerFlow, DriverFlow};
 use forwarding::Flow;
@@ -7,12 +7,12 @@ use forwarding::Flow;
 pub trait Numbered<T: Moment<N>, const N: usize>: Flow {
     ghost use Rattle.std.specs.Prelude.{◌≡◌, ◌↔◌, IsTrue};
 
-    /// The numbers as they are now.
+    /// The current numbers.
     fn moment(&self) -> T
         ensures value { T.words result ≡ Self.numbers self.now }
         ensures lawful { T.lawful result };
 
-    /// Whether they are still those of this moment.
+    /// Whether the current numbers equal those of `moment`.
     fn shows(&self, moment: T) -> bool
         ensures { IsTrue result ↔ (T.words moment ≡ Self.numbers self.now) };
 }

@@ -1,4 +1,4 @@
-//! Both sides of all flows, served while others watch them.
+//! Serving both sides of all flows while others watch them.
 ghost use Rattle.std.specs.Prelude.{◌≡◌, ◌<◌, true, None, All, IfSome, length, map, vec_len};
 ghost use Rattle.controller.specs.Tallying.{nothing};
 ghost use Rattle.counters.specs.Paired.{ArePaired};
@@ -15,15 +15,17 @@ use std::alloc::Global;
 use std::sync::Wait;
 use std::thread::Threads;
 
-/// Both sides of all flows as they came back, and the pens that showed their numbers, in the order of the flows.
+/// Both sides of all flows, with their pens.
 #[derive(Drop)]
 pub struct Shown<'a> {
+    /// Both sides as they came back.
     pub served: Served<DriverFlow<'a>, ControllerFlow<'a>>,
+    /// The pens that showed their numbers, in the order of the flows.
     pub pens: Vec<FlowPens>,
 }
 
-/// Has both sides of all flows served as [`serve_flows`] does, while their cells show what they count. There is one entry
-/// a flow, in the order of the flows; no flow has counted anything yet, and no pen has written anything.
+/// Serves both sides of all flows as [`serve_flows`] does, while their cells show their counts. Each argument has one
+/// entry a flow, in the order of the flows; no flow has counted anything yet, and no pen has written anything.
 #[tactic(auto, using(flows::proofs::Dealing::memory_halted))]
 pub fn serve_watched<'a, R: Threads + Wait + Sync, G: Gate + Sync>(
     rt: &R,

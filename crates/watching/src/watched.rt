@@ -7,7 +7,7 @@ use forwarding::{Flow, ForwardError, Gate, Progress};
 use std::marker::Model;
 use std::sync::Wait;
 
-/// A flow, the cell that shows its numbers, and the pen of that cell. What it is of is what the flow is of, and the cell.
+/// A flow, the cell that shows its numbers, and the pen of that cell. Its key is the flow's key and the cell.
 #[derive(Drop)]
 pub struct Watched<'a, F: Numbered<T, N>, T: Moment<N> + Send, const N: usize> {
     flow: F,
@@ -27,7 +27,7 @@ impl<'a, F: Numbered<T, N>, T: Moment<N> + Send, const N: usize> Model for Watch
 }
 
 impl<'a, F: Numbered<T, N>, T: Moment<N> + Send, const N: usize> Watched<'a, F, T, N> {
-    /// A flow whose numbers are those that the pen wrote last, or those of the cell's opening.
+    /// A watched flow. Its numbers are those that the pen wrote last, or those of the cell's opening.
     pub fn new(flow: F, cell: &'a MomentCell<T, N>, pen: MomentPen<T, N>) -> Watched<'a, F, T, N>
         requires own { pen.cell ≡ cell.now }
         requires shown { T.words pen.last ≡ F.numbers flow }
@@ -37,7 +37,7 @@ impl<'a, F: Numbered<T, N>, T: Moment<N> + Send, const N: usize> Watched<'a, F, 
         Watched { flow, cell, pen }
     }
 
-    /// The flow, wherever it stands, and the pen, which wrote its numbers last.
+    /// Returns the flow, in any state, and the pen, which wrote its numbers last.
     pub fn into_parts(self) -> (F, MomentPen<T, N>)
         ensures flow { result.0 ≡ self.entry.flow }
         ensures pen { result.1 ≡ self.entry.pen }

@@ -1,4 +1,4 @@
-//! Flows are given their cells, and taken from them again.
+//! Joining flows with their cells, and separating them again.
 ghost use Rattle.std.specs.Prelude.{◌≡◌, ◌≤◌, All, [], IfOk, length, map, vec_len, vec_capacity};
 ghost use Rattle.controller.specs.Tallying.{nothing};
 ghost use Rattle.counters.specs.Paired.{ArePaired};
@@ -26,7 +26,7 @@ pub(crate) struct Unwrapped<'a> {
 }
 
 impl<'a> Wrapped<'a> {
-    /// Room for so many flows.
+    /// Room for `flows` flows.
     pub(crate) fn rooms(alloc: Global, flows: usize) -> Result<Wrapped<'a>, AllocError>
         ensures drivers { IfOk result (λ r. (r.drivers.items ≡ []) × (flows ≤ vec_capacity r.drivers)) }
         ensures controllers { IfOk result (λ r. (r.controllers.items ≡ []) × (flows ≤ vec_capacity r.controllers)) }
@@ -41,7 +41,7 @@ impl<'a> Wrapped<'a> {
 }
 
 impl<'a> Unwrapped<'a> {
-    /// Room for so many flows.
+    /// Room for `flows` flows.
     pub(crate) fn rooms(alloc: Global, flows: usize) -> Result<Unwrapped<'a>, AllocError>
         ensures drivers { IfOk result (λ r. (r.drivers.items ≡ []) × (flows ≤ vec_capacity r.drivers)) }
         ensures controllers { IfOk result (λ r. (r.controllers.items ≡ []) × (flows ≤ vec_capacity r.controllers)) }
@@ -58,8 +58,8 @@ impl<'a> Unwrapped<'a> {
     }
 }
 
-/// Gives both sides of each flow their cells, in room that was there before. No flow has counted anything yet, and no pen
-/// has written anything.
+/// Joins both sides of each flow with their cells, in room allocated before. No flow has counted anything yet, and no
+/// pen has written anything.
 pub(crate) fn wrap_all<'a>(
     drivers: Vec<DriverFlow<'a>>,
     controllers: Vec<ControllerFlow<'a>>,
@@ -101,7 +101,7 @@ pub(crate) fn wrap_all<'a>(
     rooms
 }
 
-/// Takes both sides of each flow from their cells. The room for what comes back was there before.
+/// Separates both sides of each flow from their cells, in room allocated before.
 pub(crate) fn unwrap_all<'a>(
     drivers: Vec<Watched<'a, DriverFlow<'a>, Driven, 3>>,
     controllers: Vec<Watched<'a, ControllerFlow<'a>, Offered, 4>>,

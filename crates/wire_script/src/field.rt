@@ -1,4 +1,4 @@
-//! The fields of a line, each read alone. A refusal names the line that it is given.
+//! Reading the fields of a line. A refusal names the given line.
 
 ghost use Rattle.std.specs.Prelude.{◌≡◌, ◌*◌, ◌<◌, ◌≤◌, IfOk, IfSome, length, vec_len};
 ghost use Rattle.std.specs.List.{list_all};
@@ -13,7 +13,7 @@ use refusals::ScriptError;
 use std::alloc::Global;
 use text_lines::number_in;
 
-// The value of a field that is one digit, below this number.
+// The value of a field of one digit, below `count`.
 fn digit_below(field: &[u8], count: usize) -> Option<u8>
     ensures value { result ≡ digit_below count field.now }
     ensures below { IfSome result (λ digit. digit < count) }
@@ -27,7 +27,7 @@ fn digit_below(field: &[u8], count: usize) -> Option<u8>
     Some(*byte - b'0')
 }
 
-/// The port.
+/// The port, 0 or 1. Returns `Port` otherwise.
 pub fn port_of(field: &[u8], line: u64) -> Result<u8, ScriptError>
     ensures value { result ≡ port_in line field.now }
     ensures in_range { IfOk result (λ port. port < PORTS) }
@@ -35,7 +35,7 @@ pub fn port_of(field: &[u8], line: u64) -> Result<u8, ScriptError>
     digit_below(field, PORTS).ok_or(ScriptError::Port { line })
 }
 
-/// The queue.
+/// The queue, 0 to 7. Returns `Queue` otherwise.
 pub fn queue_of(field: &[u8], line: u64) -> Result<u8, ScriptError>
     ensures value { result ≡ queue_in line field.now }
     ensures in_range { IfOk result (λ queue. queue < MOST_PAIRS) }
@@ -55,7 +55,7 @@ fn are_hex_digits(field: &[u8]) -> bool
     field.iter().all(|byte| is_hex_digit(*byte))
 }
 
-// What is wrong with more digits than a frame has, found without room for their bytes.
+// The fault of a field with more digits than a frame has, found without room for its bytes.
 #[tactic(auto, using(crate::proofs::HexLength::long_digits, crate::proofs::HexLength::no_digits))]
 fn long_fault(field: &[u8], line: u64) -> ScriptError
     requires { 2 * MOST_FRAME < length field.now }
@@ -71,7 +71,8 @@ fn long_fault(field: &[u8], line: u64) -> ScriptError
     }
 }
 
-/// The bytes that pairs of hex digits give.
+/// The bytes that pairs of hex digits encode. Returns `Bytes` for other text, `FrameLength` for a length out of range,
+/// or `Memory`.
 #[tactic(auto, unfolding(crate::specs::Line::hex_in, crate::specs::Line::sized))]
 pub fn hex_of(alloc: Global, field: &[u8], line: u64) -> Result<Vec<u8>, ScriptError>
     ensures value { AnswersAs (λ bytes. bytes.items) result (hex_in line field.now) }
@@ -92,7 +93,7 @@ pub fn hex_of(alloc: Global, field: &[u8], line: u64) -> Result<Vec<u8>, ScriptE
     Ok(bytes)
 }
 
-/// The length that stands after `fill`, from 0 to 99,999.
+/// The length after `fill`, 0 to 99,999. Returns `Bytes` otherwise.
 #[tactic(auto, unfolding(crate::specs::Line::len_in))]
 pub fn len_of(field: &[u8], line: u64) -> Result<usize, ScriptError>
     ensures { result ≡ len_in line field.now }
@@ -103,7 +104,7 @@ pub fn len_of(field: &[u8], line: u64) -> Result<usize, ScriptError>
     }
 }
 
-/// The byte that stands after the length.
+/// The byte after the length, two hex digits. Returns `Bytes` otherwise.
 #[tactic(auto, unfolding(crate::specs::Line::byte_in))]
 pub fn byte_of(field: &[u8], line: u64) -> Result<u8, ScriptError>
     ensures { result ≡ byte_in line field.now }
@@ -114,7 +115,8 @@ pub fn byte_of(field: &[u8], line: u64) -> Result<u8, ScriptError>
     }
 }
 
-/// The bytes that a length and a byte give.
+/// A vector of `len` times `byte`, both given as fields. Returns the refusals of both, `FrameLength` for a length out
+/// of range, or `Memory`.
 #[tactic(auto, unfolding(crate::specs::Line::fill_in, crate::specs::Line::sized))]
 pub fn fill_of(alloc: Global, len: &[u8], byte: &[u8], line: u64) -> Result<Vec<u8>, ScriptError>
     ensures value { AnswersAs (λ bytes. bytes.items) result (fill_in line len.now byte.now) }

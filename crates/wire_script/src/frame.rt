@@ -1,4 +1,4 @@
-//! A frame with the port and the queue at which it comes in or goes out.
+//! A frame with its port and queue.
 
 ghost use Rattle.std.specs.Prelude.{◌≡◌, ◌<◌, ◌≤◌, vec_len};
 ghost use Rattle.limits.specs.declared.profile.TheConstants.{LEAST_FRAME, MOST_FRAME, MOST_PAIRS, PORTS};
@@ -23,7 +23,7 @@ impl Model for WireFrame {
 }
 
 impl WireFrame {
-    /// The frame of these bytes, which are kept and not copied.
+    /// A frame with these bytes, which are moved and not copied.
     pub fn new(port: u8, queue: u8, bytes: Vec<u8>) -> Self
         requires port { port < PORTS }
         requires queue { queue < MOST_PAIRS }

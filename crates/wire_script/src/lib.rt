@@ -1,17 +1,17 @@
-//! Wire scripts: the text in which frames come in and in which the wire goes out.
+//! Wire scripts: the text format of frames that arrive and of frames that are sent.
+//! Depends on `text_lines`, `limits`, `refusals` and `hex`.
+//! Every text has exactly one meaning, and [`parse`] reads printed frames back as the same frames.
 //!
-//! A script is lines that end with LF; the last may lack it, and CR is a byte like any other. An
-//! empty line and one that begins with `#` say nothing. Each other line says one frame, in fields
-//! between single spaces:
+//! A script consists of lines that end with LF; the last may lack it, and CR is a byte like any other. An empty line
+//! and one that begins with `#` are ignored. Each other line is one frame, in fields separated by single spaces:
 //!
 //! ```text
 //! <port> <queue> <hex>
 //! <port> <queue> fill <len> <byte>
 //! ```
 //!
-//! [`parse`] answers the frames that the text says, or its first fault with the number of its line.
-//! [`print`] writes frames as lines of the first form, in lower case, and `parse` reads from them
-//! the same frames.
+//! [`parse`] returns the frames of the text, or its first fault with the number of its line. [`print`] writes frames as
+//! lines of the first form, in lower case.
 #![tactic(auto)]
 
 mod field;

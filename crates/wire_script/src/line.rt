@@ -1,4 +1,4 @@
-//! One line of a script.
+//! Reading one line of a script.
 
 ghost use Rattle.wire_script.specs.Line.{frame_with, line_says};
 ghost use Rattle.wire_script.specs.ScriptError.{Answers};
@@ -11,7 +11,7 @@ use refusals::ScriptError;
 use std::alloc::Global;
 use text_lines::says_something;
 
-// The frame that the fields of a line say.
+// The frame with these fields.
 #[tactic(auto, unfolding(crate::specs::Line::frame_with))]
 fn frame_of(alloc: Global, fields: Split<'_>, line: u64) -> Result<WireFrame, ScriptError>
     ensures { Answers result (frame_with line fields.entry.port.now fields.entry.queue.now (bytes_in line fields.entry.payload)) }
@@ -25,7 +25,7 @@ fn frame_of(alloc: Global, fields: Split<'_>, line: u64) -> Result<WireFrame, Sc
     Ok(WireFrame::new(port, queue, bytes))
 }
 
-/// The frame that the line of this number says, if it says one.
+/// The frame of this line, or `None` for an empty line and a comment.
 #[tactic(auto, unfolding(crate::specs::Line::line_says))]
 pub fn line_of(alloc: Global, bytes: &[u8], line: u64) -> Result<Option<WireFrame>, ScriptError>
     ensures { Answers result (line_says line bytes.now) }

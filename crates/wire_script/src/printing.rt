@@ -11,10 +11,10 @@ use crate::frame::WireFrame;
 use refusals::ScriptError;
 use std::alloc::{AllocError, Global};
 
-/// One line `<port> <queue> <hex>` a frame, in lower case, each ended by LF.
+/// Writes one line `<port> <queue> <hex>` a frame, in lower case, each ended by LF.
 ///
-/// Any number of frames is written; [`parse`](crate::parse) reads back up to
-/// [`MOST_SCRIPT_FRAMES`](limits::MOST_SCRIPT_FRAMES) of them.
+/// Writes any number of frames; [`parse`](crate::parse) reads back up to
+/// [`MOST_SCRIPT_FRAMES`](limits::MOST_SCRIPT_FRAMES) of them. Returns only `Memory`.
 pub fn print(alloc: Global, frames: &[WireFrame]) -> Result<String, ScriptError>
     ensures text { IfOk result (λ text. string_bytes text ≡ text_for frames.now) }
     ensures read_back { IfOk result (λ text. length frames.now ≤ MOST_SCRIPT_FRAMES → script_of (string_bytes text) ≡ Ok frames.now) }
@@ -27,10 +27,10 @@ pub fn print(alloc: Global, frames: &[WireFrame]) -> Result<String, ScriptError>
     Ok(text)
 }
 
-/// Writes one frame's line at the end of a text, as [`print`] writes it: for frames that lie elsewhere, and need not be
-/// made `WireFrame`s. `port` is 0 or 1, `queue` is 0 to 7.
+/// Appends one frame's line to a text, as [`print`] writes it, without a `WireFrame`. `port` is 0 or 1, `queue` is 0 to
+/// 7.
 ///
-/// Where memory is refused the text may have a beginning of the line at its end.
+/// Returns only `Memory`; the text may then end with the beginning of the line.
 pub fn print_line(
     alloc: Global,
     text: &mut String,

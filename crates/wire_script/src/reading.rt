@@ -15,22 +15,22 @@ use refusals::ScriptError;
 use std::alloc::Global;
 use text_lines::cut;
 
-/// The frames that a text says, or its first fault: the first faulty line, and in it the fault of
-/// the lowest number (71 to 76, see [`ScriptError`]). Where memory is refused before either is
-/// found, the answer is 77, without a line. Nothing of a text that is refused is kept.
+/// Reads the frames of a text. Returns the fault of its first faulty line, and of several faults there the one with the
+/// lowest number (71 to 76, see [`ScriptError`]). Returns 77, without a line, if memory is refused before a fault is
+/// found. After a refusal nothing of the text is kept.
 ///
-/// It goes over the text once and makes no copy of it. What is kept takes the frames' bytes and, from
-/// the second frame on, at most 64 bytes a frame: 32 for each, in a list that grows by doubling.
+/// Reads the text once and makes no copy of it. The result takes the frames' bytes and, from the second frame on, at
+/// most 64 bytes a frame: 32 for each, in a list that grows by doubling.
 pub fn parse(alloc: Global, text: &[u8]) -> Result<Script, ScriptError>
-    // The one answer.
+    // The result, which is unique.
     ensures exact { Answers result (script_of text.now) }
 
-    // What that is: no line has a fault, and the frames are theirs; or the lines before the one that
-    // is refused have no fault.
+    // Its meaning: no line has a fault, and the frames are those of the lines; or the lines before the refused one have
+    // no fault.
     ensures frames { IfOk result (Says text.now) }
     ensures refused { IfErr result (λ e. (e ≡ Memory) ⊎ Refuses text.now e) }
 
-    // A line with `fill` says its length in decimal and its byte in hex.
+    // A line with `fill` has its length in decimal and its byte in hex.
     ensures fill { (frame : Frame) (byte : ℕ) → InRange frame → byte < 256
         → frame.bytes ≡ replicate (length frame.bytes) byte → text.now ≡ fill_line frame byte
         → Answers result (Ok (frame ∷ [])) }
@@ -53,7 +53,7 @@ fn read(alloc: Global, text: &[u8]) -> Result<Script, ScriptError>
     Ok(Script::new(frames))
 }
 
-// Adds the frame that this line says, if it says one and there may be one more.
+// Adds the frame of this line, if it has one and there may be one more.
 fn add(frames: &mut Vec<WireFrame>, said: Option<WireFrame>, line: u64) -> Result<(), ScriptError>
     ensures added { OnOk result (frames.new.items ≡ frames.old.items ++ option_to_list said) }
     ensures room { OnOk result (IsSome said → length frames.old.items ≢ MOST_SCRIPT_FRAMES) }

@@ -22,7 +22,7 @@ impl Model for Script {
 }
 
 impl Script {
-    /// The script of these frames, which are kept and not copied.
+    /// The script of these frames, which are moved and not copied.
     pub fn new(frames: Vec<WireFrame>) -> Self
         requires { vec_len frames ≤ MOST_SCRIPT_FRAMES }
         ensures { result ≡ frames.items }

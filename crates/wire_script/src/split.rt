@@ -11,22 +11,27 @@ use text_lines::cut;
 
 const SPACE: u8 = b' ';
 
-/// What a line's fields give the frame's bytes by.
+/// The fields that give the frame's bytes.
 #[derive(Clone, Copy, Debug)]
 pub enum Payload<'a> {
+    /// Pairs of hex digits.
     Hex(&'a [u8]),
+    /// A length, and the byte that is repeated.
     Fill { len: &'a [u8], byte: &'a [u8] },
 }
 
-/// The fields of a line, none of them empty and as many as there may be.
+/// The fields of a line, none of them empty and in a lawful number.
 #[derive(Clone, Copy, Debug)]
 pub struct Split<'a> {
+    /// The first field.
     pub port: &'a [u8],
+    /// The second field.
     pub queue: &'a [u8],
+    /// The fields after these two.
     pub payload: Payload<'a>,
 }
 
-// A field that is not empty and that another follows, and what begins with that other.
+// A nonempty field that another one follows, and the bytes from that one on.
 fn inner_field(bytes: &[u8]) -> Option<(&[u8], &[u8])>
     ensures found { IfSome result (λ x. parts SPACE bytes.now ≡ x.0.now ∷ parts SPACE x.1.now) }
     ensures filled { IfSome result (λ x. 0 < length x.0.now) }
@@ -40,7 +45,7 @@ fn inner_field(bytes: &[u8]) -> Option<(&[u8], &[u8])>
     Some((field, rest))
 }
 
-// The one field that is left, if it is one and not empty.
+// The remaining bytes, if they are exactly one nonempty field.
 fn last_field(bytes: &[u8]) -> Option<&[u8]>
     ensures found { IfSome result (λ x. parts SPACE bytes.now ≡ x.now ∷ []) }
     ensures filled { IfSome result (λ x. 0 < length x.now) }
@@ -80,7 +85,7 @@ fn payload_of(bytes: &[u8]) -> Option<Payload<'_>>
     Some(Payload::Fill { len, byte })
 }
 
-/// The fields of a line, or `None` where they are not as they may be.
+/// The fields of a line. Returns `None` if their number is wrong or one is empty.
 pub fn split_of(line: &[u8]) -> Option<Split<'_>>
     ensures { (k : ℕ) → fields_say k (parts SPACE line.now) ≡ frame_of_split k result }
 {

@@ -1,4 +1,4 @@
-//! The receive driver's handshake, and what comes back of a disabled queue.
+//! The receive driver's handshake, and reclaiming its buffers after a disabling.
 
 use super::RxDriver;
 use super::reclaiming::empty_chain;

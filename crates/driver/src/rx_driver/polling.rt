@@ -1,4 +1,4 @@
-//! The loops of a batch.
+//! The loops of a receive batch.
 ghost use Rattle.std.specs.Prelude.{◌≡◌, ◌+◌, ◌<◌, ◌≤◌, ◌++◌, true, length};
 ghost use Rattle.ring_model.specs.shared.Handshakes.{is_live, is_open};
 ghost use Rattle.rx_ring.specs.Ends.{driver_size, driver_state, posted, returned};
@@ -12,7 +12,7 @@ use buffer_pool::{Packet, Stash};
 use rx_ring::{DriverEnd, Poll, RxDriverEnd, RxRing};
 use std::mem;
 
-/// Polls until so many packets are appended, the list is full, or nothing more is done, and posts a buffer after each
+/// Polls until `batch` packets are appended, the list is full, or nothing more is done. Posts a buffer after each
 /// segment.
 #[inline]
 pub(super) fn take(
@@ -46,7 +46,7 @@ pub(super) fn take(
     count
 }
 
-/// Posts a buffer of the stash, if there is one and no disabling was asked.
+/// Posts a buffer of the stash, if it has one and no disabling was asked.
 #[inline]
 fn post_one(driver: &mut RxDriverEnd, ring: &RxRing, stash: &mut Stash)
     requires own { driver.old.table ≡ ring.now }
@@ -63,7 +63,7 @@ fn post_one(driver: &mut RxDriverEnd, ring: &RxRing, stash: &mut Stash)
     }
 }
 
-/// Posts what the stash has and the ring has room for.
+/// Posts buffers of the stash until it is empty or the ring is full.
 #[inline]
 pub(super) fn fill(driver: &mut RxDriverEnd, ring: &RxRing, stash: &mut Stash)
     requires own { driver.old.table ≡ ring.now }

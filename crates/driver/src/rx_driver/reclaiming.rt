@@ -1,11 +1,11 @@
-//! The buffers of an unfinished chain come back.
+//! Reclaiming the buffers of an unfinished chain.
 ghost use Rattle.std.specs.Prelude.{◌≡◌, ◌↔◌, ◌⊎◌, true, [], length, All, IsTrue};
 ghost use Rattle.driver.specs.receive.Chains.{HasSegment};
 ghost use Rattle.driver.specs.receive.Returns.{Unchained};
 
 use buffer_pool::{Packet, STASH_BUFFERS, Stash};
 
-/// Moves the buffers of a chain into the stash, and answers whether all found room.
+/// Moves the buffers of a chain into the stash, and returns whether all found room.
 pub(super) fn empty_chain(chain: &mut Packet, stash: &mut Stash) -> bool
     requires { All HasSegment chain.old }
     ensures each { All HasSegment chain.new }

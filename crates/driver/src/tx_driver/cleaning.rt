@@ -1,4 +1,4 @@
-//! Buffers of what is reported as sent come back.
+//! Cleaning: the buffers of reported frames come back.
 ghost use Rattle.std.specs.Prelude.{◌≡◌, ◌⊎◌, true, length};
 ghost use Rattle.ring_model.specs.shared.Handshakes.{is_live};
 ghost use Rattle.tx_ring.specs.Ends.{cleaned, reclaimed, seen_reported, driver_state, known_of};
@@ -9,7 +9,7 @@ ghost use Rattle.driver.specs.transmit.Batches.{CleanedAll};
 use buffer_pool::{STASH_BUFFERS, Stash};
 use tx_ring::{TxDriverEnd, TxRing};
 
-/// Takes the buffers back that are seen reported, as many as the stash has room for.
+/// Moves the buffers that are seen reported into the stash, as many as fit.
 fn clean_reported(driver: &mut TxDriverEnd, ring: &TxRing, stash: &mut Stash)
     requires own { driver.old.table ≡ ring.now }
     requires live { is_live (driver_state driver.old) ≡ true }
@@ -25,7 +25,7 @@ fn clean_reported(driver: &mut TxDriverEnd, ring: &TxRing, stash: &mut Stash)
     }
 }
 
-/// Takes back what is reported, until the stash is full, or no report is outstanding or made.
+/// Cleans until the stash is full, or no report is outstanding or made.
 pub(super) fn clean_all(driver: &mut TxDriverEnd, ring: &TxRing, stash: &mut Stash)
     requires own { driver.old.table ≡ ring.now }
     requires live { is_live (driver_state driver.old) ≡ true }

@@ -1,4 +1,4 @@
-//! The transmit driver's handshake, and what comes back of a disabled queue.
+//! The transmit driver's handshake, and reclaiming its buffers after a disabling.
 
 use super::TxDriver;
 use crate::queue_driver::QueueDriver;

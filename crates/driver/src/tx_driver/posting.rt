@@ -1,4 +1,4 @@
-//! Packets are posted, as many as fit.
+//! Posting as many packets as fit.
 ghost use Rattle.std.specs.Prelude.{◌≡◌, ◌+◌, ◌-◌, ◌%◌, ◌<◌, ◌≤◌, ◌↔◌, true, [], ◌∷◌, length, take, drop, All, IsTrue};
 ghost use Rattle.buffer_pool.specs.Buffer.{buffer};
 ghost use Rattle.buffer_pool.specs.Packed.{IsPacket};
@@ -18,7 +18,7 @@ use limits::BUFFER_BYTES;
 use ring_model::place_after;
 use tx_ring::{DriverEnd, TxDriverEnd, TxRing};
 
-/// Whether the first packet needs more descriptors than a ring of this length ever has out.
+/// Whether the first packet needs more descriptors than a ring of length `size` can ever have out.
 pub(super) fn is_too_long(packets: &[Packet], size: u32) -> bool
     ensures { IsTrue result ↔ IsTooLong size packets.now }
 {
@@ -28,7 +28,7 @@ pub(super) fn is_too_long(packets: &[Packet], size: u32) -> bool
     }
 }
 
-/// How many packets from the front fit into so many descriptors together.
+/// How many packets from the front fit into `room` descriptors together.
 fn fitting(packets: &[Packet], room: u32) -> usize
     ensures within { result ≤ length packets.now }
     ensures fits { segment_count (take result packets.now) ≤ room }
@@ -45,7 +45,7 @@ fn fitting(packets: &[Packet], room: u32) -> usize
     packets.len()
 }
 
-/// Takes the first buffer off a packet.
+/// Removes the first buffer of a packet.
 #[inline]
 fn first_of(packet: &mut Packet) -> Buf
     requires { 0 < length packet.old }
@@ -60,7 +60,7 @@ fn first_of(packet: &mut Packet) -> Buf
     buf
 }
 
-/// Posts the buffers of a packet in order; the last ends the frame, and asks for its report.
+/// Posts the buffers of a packet in order. The last one ends the frame, and asks for a report if `rs` is set.
 fn post_frame(driver: &mut TxDriverEnd, ring: &TxRing, mut packet: Packet, rs: bool)
     requires own { driver.old.table ≡ ring.now }
     requires open { is_open (driver_state driver.old) ≡ true }
@@ -80,7 +80,7 @@ fn post_frame(driver: &mut TxDriverEnd, ring: &TxRing, mut packet: Packet, rs: b
     driver.post(ring, buf, true, rs, paylen);
 }
 
-/// Takes so many packets off the front, and posts them. It answers how many frames are posted then, modulo `every`.
+/// Removes `count` packets from the front and posts them. Returns how many frames are posted then, modulo `every`.
 fn post_front(
     driver: &mut TxDriverEnd,
     ring: &TxRing,
@@ -112,8 +112,8 @@ fn post_front(
     frames
 }
 
-/// Takes the packets off the front that fit, posts and publishes them, unless a disabling was asked. It answers how many
-/// these were, and how many frames are posted then, modulo `every`.
+/// Removes the packets from the front that fit, posts and publishes them, unless a disabling was asked. Returns their
+/// number, and how many frames are posted then, modulo `every`.
 pub(super) fn post_fitting(
     driver: &mut TxDriverEnd,
     ring: &TxRing,

@@ -1,4 +1,4 @@
-//! Configurations that are refused, and those at the edge of what is not.
+//! Configurations that are refused, and those at the edge of the lawful ones.
 
 use crate::tests::bursts::{Burst, script_of};
 use crate::tests::counted::{Counts, NONE, comes_to};
@@ -33,7 +33,7 @@ const GREATEST: Config = Config {
     ..Config::DEFAULT
 };
 
-/// Those of which one number is beyond its limits.
+/// Configurations with one number beyond its limits.
 const BROKEN: &[Config] = &[
     Config { pairs: 0, ..LEAST },
     Config {
@@ -137,7 +137,7 @@ fn a_broken_limit_is_refused_before_anything_is_done(rt: HostRuntime) {
     same(&rt, refused(&rt, rt.alloc(), &script, BROKEN), BROKEN.len());
 }
 
-/// How many of these fit the script, up to the first that doesn't.
+/// How many of these fit the script, up to the first that does not.
 fn fitting(script: &Script, configs: &[Config]) -> usize {
     let mut count = 0usize;
     for config in configs {
@@ -169,7 +169,7 @@ const TEN: &[Burst] = &[Burst {
 
 const ALL_TEN: Counts = [10, 10, 0, 0, 10, 10, 0, 10, 0];
 
-/// What they come to with 8 pairs.
+/// Their counts with 8 pairs.
 const OF_SIXTEEN: &[Counts] = &[
     NONE, NONE, NONE, NONE, NONE, NONE, NONE, NONE, ALL_TEN, NONE, NONE, NONE, NONE, NONE, NONE,
     NONE,
@@ -189,7 +189,7 @@ fn the_edges_are_run(rt: HostRuntime) {
     );
 }
 
-/// Whether a frame of this port and queue is refused with so many pairs, and taken with one more.
+/// Whether a frame of this port and queue is refused with `pairs` pairs, and accepted with one more.
 fn has_just<R: Threads + Wait + Sync + Abort>(
     rt: &R,
     alloc: Global,
@@ -231,7 +231,7 @@ const REFUSALS: &[(ForwardError, &str)] = &[
     (ForwardError::Config, "64 config"),
 ];
 
-/// A refusal has this number and text.
+/// Checks the number and the text of a refusal.
 fn reads<R: Abort>(rt: &R, alloc: Global, refusal: ForwardError, want: &str) {
     let text = format!(in alloc; "{} {refusal}", refusal.number()).expect(rt, "a text");
     same(rt, text.as_str(), want);

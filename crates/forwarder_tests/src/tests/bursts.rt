@@ -1,11 +1,11 @@
-//! Scripts of frames that are told apart by their bytes.
+//! Scripts of frames with distinct bytes.
 
 use crate::tests::counted::{Counts, NONE};
 use std::alloc::Global;
 use std::process::Abort;
 use wire_script::{Script, WireFrame};
 
-/// Frames that come in at one queue, one after another: frame `k` has `len` bytes, each of them `first + k`, modulo 256.
+/// Frames for one queue: frame `k` has `len` bytes, each of them `first + k`, modulo 256.
 #[derive(Clone, Copy)]
 pub(crate) struct Burst {
     pub port: u8,
@@ -24,7 +24,7 @@ pub(crate) const FRAME: Burst = Burst {
     count: 1,
 };
 
-/// 40 frames of 60 bytes for port 0, queue 1. The last are `ff`, of which a touch makes `00`.
+/// 40 frames of 60 bytes for port 0, queue 1. The bytes of the last are `ff`, which a touch turns into `00`.
 pub(crate) const FORTY: &[Burst] = &[
     Burst {
         port: 0,
@@ -42,10 +42,10 @@ pub(crate) const FORTY: &[Burst] = &[
     },
 ];
 
-/// What these come to with two pairs.
+/// Their counts with two pairs.
 pub(crate) const FORTY_COUNTS: &[Counts] = &[NONE, [40, 40, 0, 0, 40, 40, 0, 40, 0], NONE, NONE];
 
-/// Frame `k` of a burst, if there can be such a frame.
+/// Frame `k` of a burst, if it is lawful.
 fn frame_of<R: Abort>(rt: &R, alloc: Global, burst: &Burst, k: u8) -> Option<WireFrame> {
     let (port, queue, len) = (burst.port, burst.queue, burst.len);
     if port > 1 || queue > 7 || len < 14 || len > 15_000 {

@@ -1,4 +1,4 @@
-//! What a report has to say, flow by flow.
+//! The expected reports, flow by flow.
 
 use controller::Wire;
 use flows::{Ended, FlowReport};
@@ -14,7 +14,7 @@ use wire_script::Script;
 /// ring, on the wire, left.
 pub(crate) type Counts = [u64; 9];
 
-/// Nothing came in.
+/// No frame was offered.
 pub(crate) const NONE: Counts = [0; 9];
 
 pub(crate) fn counts_of(flow: &FlowReport) -> Counts {
@@ -31,7 +31,7 @@ pub(crate) fn counts_of(flow: &FlowReport) -> Counts {
     ]
 }
 
-/// Whether one is the other with the byte at offset 1 grown by 1.
+/// Whether one equals the other with the byte at offset 1 incremented.
 pub(crate) fn is_touched(before: &[u8], after: &[u8]) -> bool {
     let grows = match (before.get(1), after.get(1)) {
         (Some(old), Some(new)) => *new == old.wrapping_add(1),
@@ -40,7 +40,7 @@ pub(crate) fn is_touched(before: &[u8], after: &[u8]) -> bool {
     grows && before.first() == after.first() && before.get(2..) == after.get(2..)
 }
 
-/// Whether the wire has the first frames that the script has for this port and queue, touched, as many as it has frames.
+/// Whether the wire has the first frames of the script for this port and queue, touched.
 pub(crate) fn carries(wire: &Wire, script: &Script, port: usize, queue: usize) -> bool {
     let mut sent = wire.iter();
     let mut next = sent.next();
@@ -59,7 +59,7 @@ pub(crate) fn carries(wire: &Wire, script: &Script, port: usize, queue: usize) -
     next.is_none()
 }
 
-/// Whether each flow of so many pairs is drained with these counts, and has its frames on its wire.
+/// Whether each flow of `pairs` pairs is drained with these counts, and has its frames on its wire.
 pub(crate) fn is_drained(report: &Report, script: &Script, pairs: u32, wanted: &[Counts]) -> bool {
     if report.flows.len() != wanted.len() {
         return false;
@@ -80,8 +80,7 @@ pub(crate) fn is_drained(report: &Report, script: &Script, pairs: u32, wanted: &
     true
 }
 
-/// Whether a script that is forwarded so comes to flows that are drained with these counts, and have their frames on their
-/// wires.
+/// Checks that a script is forwarded by flows that are drained with these counts, and have their frames on their wires.
 pub(crate) fn comes_to<R: Threads + Wait + Sync + Abort, G: Gate + Sync>(
     rt: &R,
     alloc: Global,

@@ -13,7 +13,7 @@ use std::sync::Wait;
 use std::thread::Threads;
 use wire_script::{Script, WireFrame};
 
-/// So many frames of 14 to 43 bytes, over all 16 flows in turn.
+/// `count` frames of 14 to 43 bytes, over all 16 flows in turn.
 fn crowd<R: Abort>(rt: &R, alloc: Global, count: u32) -> Script {
     let mut frames = Vec::new(alloc);
     for k in 0..count {
@@ -27,7 +27,7 @@ fn crowd<R: Abort>(rt: &R, alloc: Global, count: u32) -> Script {
     script_with(frames).expect(rt, "a script")
 }
 
-/// How many frames there are, and a sum of their bytes in which the order counts.
+/// The number of frames, and a sum of their bytes that depends on the order.
 #[derive(Clone, Copy, PartialEq, Eq, Debug)]
 struct Sum {
     frames: u64,
@@ -37,14 +37,14 @@ struct Sum {
 impl Sum {
     const NONE: Sum = Sum { frames: 0, sum: 0 };
 
-    /// With these bytes of a frame.
+    /// Adds these bytes of a frame.
     fn add(&mut self, bytes: &[u8]) {
         for byte in bytes {
             self.sum = self.sum.wrapping_mul(31).wrapping_add(u64::from(*byte));
         }
     }
 
-    /// With one more frame, touched.
+    /// Adds one more frame, touched.
     fn add_touched(&mut self, bytes: &[u8]) {
         let first = bytes.first().copied().unwrap_or(0);
         let second = bytes.get(1).copied().unwrap_or(0);
@@ -63,7 +63,7 @@ impl Sum {
     }
 }
 
-/// What has to go out of each flow.
+/// The expected sum of each flow.
 fn wanted(script: &Script) -> [Sum; 16] {
     let mut sums = [Sum::NONE; 16];
     for frame in script.frames() {
@@ -73,7 +73,7 @@ fn wanted(script: &Script) -> [Sum; 16] {
     sums
 }
 
-/// Whether all that came to a flow went out as it should.
+/// Whether all frames of a flow were sent as expected.
 fn has_gone(flow: &FlowReport, wanted: &Sum) -> bool {
     let all = wanted.frames;
     counts_of(flow) == [all, all, 0, 0, all, all, 0, all, 0]
@@ -81,7 +81,7 @@ fn has_gone(flow: &FlowReport, wanted: &Sum) -> bool {
         && Sum::of(&flow.wire) == *wanted
 }
 
-/// Whether it is so of each flow.
+/// Whether that holds of each flow.
 fn all_have_gone(flows: &[FlowReport], wanted: &[Sum; 16]) -> bool {
     if flows.len() != 16 {
         return false;
@@ -94,7 +94,7 @@ fn all_have_gone(flows: &[FlowReport], wanted: &[Sum; 16]) -> bool {
     true
 }
 
-/// Whether so many frames of each flow go out by so many workers.
+/// Checks that all frames of each flow are sent by `workers` workers.
 fn all_go<R: Threads + Wait + Sync + Abort>(
     rt: &R,
     alloc: Global,

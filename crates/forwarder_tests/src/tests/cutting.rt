@@ -13,15 +13,15 @@ use std::sync::Wait;
 use std::thread::Threads;
 use wire_script::Script;
 
-/// Whether the counts of a flow of single segments add up, where nothing is dropped at the receive ring: all that was
-/// stored was taken or is left, and so it is with what was posted and what went out.
+/// Whether the counts of a flow of single segments add up, if nothing is dropped at the receive ring: all stored frames
+/// were taken or are left, and all posted ones were sent or are left.
 fn adds_up(flow: &FlowReport) -> bool {
     let came = flow.stored.saturating_add(flow.posted);
     let went = flow.taken.saturating_add(flow.wire.len() as u64);
     flow.offered == flow.stored && came == went.saturating_add(flow.left)
 }
 
-/// Whether there are four flows, of which each adds up.
+/// Whether there are four flows, and each adds up.
 fn all_add_up(flows: &[FlowReport]) -> bool {
     let mut good = flows.len() == 4;
     for flow in flows {
@@ -30,7 +30,7 @@ fn all_add_up(flows: &[FlowReport]) -> bool {
     good
 }
 
-/// Whether what was taken was posted or dropped, or waits where packets are kept, and the wire has what it should.
+/// Whether all taken packets were posted or dropped, or wait if packets are kept, and the wire has the expected frames.
 fn is_relayed(flow: &FlowReport, script: &Script, retry: bool) -> bool {
     let gone = flow.posted.saturating_add(flow.tx_dropped);
     if retry {
@@ -62,7 +62,7 @@ fn is_cut<R: Threads + Wait + Sync + Abort>(
     cut && is_relayed(flow, script, retry) && all_add_up(&report.flows)
 }
 
-/// Whether it is so where packets are kept, and where they are dropped.
+/// Whether that holds if packets are kept, and if they are dropped.
 fn is_cut_either_way<R: Threads + Wait + Sync + Abort>(
     rt: &R,
     alloc: Global,
@@ -72,7 +72,7 @@ fn is_cut_either_way<R: Threads + Wait + Sync + Abort>(
     is_cut(rt, alloc, script, turns, true) && is_cut(rt, alloc, script, turns, false)
 }
 
-// A turn takes what a ring of 8 has at most, 7 frames, so 5 turns are too few for 40.
+// A turn takes at most the 7 frames of a ring of 8, so 5 turns are too few for 40.
 #[test]
 fn a_flow_is_cut_after_its_turns(rt: HostRuntime) {
     let script = script_of(&rt, rt.alloc(), FORTY);
@@ -82,7 +82,7 @@ fn a_flow_is_cut_after_its_turns(rt: HostRuntime) {
     }
 }
 
-/// Whether all 40 frames go out in so many turns.
+/// Whether all 40 frames are sent within `turns` turns.
 fn none_is_cut<R: Threads + Wait + Sync + Abort>(
     rt: &R,
     alloc: Global,

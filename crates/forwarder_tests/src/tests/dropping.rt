@@ -1,4 +1,4 @@
-//! What is dropped is counted, and all else goes out in order.
+//! Dropped frames are counted, and all others are sent in order.
 
 use crate::tests::bursts::{Burst, FRAME, script_of};
 use crate::tests::configs::SHORT;
@@ -36,7 +36,7 @@ fn follows(wire: &Wire, script: &Script) -> bool {
     next.is_none()
 }
 
-/// Whether a flow is drained, and lost what it counts as dropped, and nothing else.
+/// Whether a flow is drained, and lost exactly the frames that it counts as dropped.
 fn adds_up(flow: &FlowReport) -> bool {
     flow.ended == Ended::Drained
         && flow.offered == 250
@@ -48,7 +48,7 @@ fn adds_up(flow: &FlowReport) -> bool {
         && flow.left == 0
 }
 
-/// Whether it is so over rings of 8, where frames are held or dropped, and packets wait or are dropped.
+/// Whether that holds over rings of 8, with frames held or dropped, and packets kept or dropped.
 fn is_counted<R: Threads + Wait + Sync + Abort>(
     rt: &R,
     alloc: Global,
@@ -71,7 +71,7 @@ fn is_counted<R: Threads + Wait + Sync + Abort>(
     allowed && adds_up(flow) && follows(&flow.wire, script)
 }
 
-/// Whether it is so in both ways to report.
+/// Whether that holds with both ways to report.
 fn is_counted_both_ways<R: Threads + Wait + Sync + Abort>(
     rt: &R,
     alloc: Global,

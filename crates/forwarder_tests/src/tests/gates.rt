@@ -8,7 +8,7 @@ use std::thread;
 /// How often a gate looks in vain before it lets its worker pass.
 const LIMIT: u32 = 1_000_000;
 
-/// Waits until the flag is set, within the limit. Whether it is.
+/// Waits until the flag is set, within the limit. Returns whether it is.
 pub(crate) fn wait_for(flag: &AtomicBool) -> bool {
     for _ in 0..LIMIT {
         if flag.load(Ordering::SeqCst) {
@@ -19,7 +19,7 @@ pub(crate) fn wait_for(flag: &AtomicBool) -> bool {
     false
 }
 
-/// Waits until the number is reached, within the limit. Whether it is.
+/// Waits until the number is reached, within the limit. Returns whether it is.
 fn wait_until(number: &AtomicU64, least: u64) -> bool {
     for _ in 0..LIMIT {
         if number.load(Ordering::SeqCst) >= least {
@@ -45,7 +45,7 @@ impl Meeting {
         }
     }
 
-    /// Whether both were there.
+    /// Whether both arrived.
     pub(crate) fn took_place(&self) -> bool {
         self.batch.load(Ordering::SeqCst) && self.offer.load(Ordering::SeqCst)
     }
@@ -71,7 +71,7 @@ impl Gate for Meeting {
     }
 }
 
-/// Flow 0's first receive batch waits for flow 0's first transmit turn after so many offers.
+/// Flow 0's first receive batch waits for flow 0's first transmit turn after `most` offers.
 #[derive(Drop)]
 pub(crate) struct After {
     most: u64,
@@ -90,7 +90,7 @@ impl After {
         }
     }
 
-    /// Whether that turn came within the limit.
+    /// Whether that turn happened within the limit.
     pub(crate) fn was_in_time(&self) -> bool {
         self.over.load(Ordering::SeqCst) && !self.late.load(Ordering::SeqCst)
     }
@@ -122,7 +122,7 @@ impl Gate for After {
     }
 }
 
-/// A gate that lets so many pass, and then refuses.
+/// A gate that returns true a number of times, and then refuses.
 #[derive(Drop)]
 pub(crate) struct Shuts {
     left: AtomicU64,
@@ -135,7 +135,7 @@ impl Shuts {
         }
     }
 
-    /// How many more it would let pass.
+    /// How many more times it would return true.
     pub(crate) fn left(&self) -> u64 {
         self.left.load(Ordering::SeqCst)
     }
@@ -153,11 +153,11 @@ impl Gate for Shuts {
     }
 }
 
-/// How long a driver stays at its gate once the refusal came.
+/// How long a driver stays at its gate after the refusal.
 const STAY: u32 = 10_000;
 
-/// A gate that refuses flow 0's first offer once so many drivers are at their first receive batches. They stay there for
-/// some time after that.
+/// A gate that refuses flow 0's first offer once `drivers` drivers are at their first receive batches. They stay there
+/// for some time after that.
 #[derive(Drop)]
 pub(crate) struct Leaving {
     drivers: u64,
@@ -211,7 +211,7 @@ impl Gate for Leaving {
     }
 }
 
-/// A gate that lets flow 1's frames be offered only once somebody has seen all those before. It refuses where that takes
+/// A gate that lets flow 1's frames be offered only once a reader has seen all previous ones. It refuses if that takes
 /// too long.
 #[derive(Drop)]
 pub(crate) struct Paced {
@@ -227,7 +227,7 @@ impl Paced {
         }
     }
 
-    /// So many offers were seen.
+    /// Notes that `offers` offers were seen.
     pub(crate) fn see(&self, offers: u64) {
         self.seen.store(offers, Ordering::SeqCst);
     }
@@ -246,7 +246,7 @@ impl Gate for Paced {
     }
 }
 
-/// A gate that refuses flow 0's driver after so many passes. It holds the driver back until three frames were offered.
+/// A gate that refuses flow 0's driver after `most` passes. It holds the driver back until three frames were offered.
 #[derive(Drop)]
 pub(crate) struct Stops {
     most: u64,
@@ -284,8 +284,8 @@ impl Gate for Stops {
     }
 }
 
-/// A gate that refuses flow 0's driver once three of its turns in a row lay within one offer: of a long frame it has
-/// taken a part then, most likely.
+/// A gate that refuses flow 0's driver once three of its turns in a row were within one offer: most likely it has taken
+/// a part of a long frame then.
 #[derive(Drop)]
 pub(crate) struct Midway {
     /// Odd while a frame is offered.
@@ -303,7 +303,7 @@ impl Midway {
         }
     }
 
-    /// Whether a turn ends now within the offer in which it began, and two before it did.
+    /// Whether a turn ends now within the offer in which it began, after two such turns.
     fn is_midway(&self) -> bool {
         let now = self.offers.load(Ordering::SeqCst);
         if now % 2 == 0 || now != self.began.load(Ordering::SeqCst) {

@@ -1,4 +1,4 @@
-//! After forwarding the pool has all its buffers again.
+//! After forwarding, the pool has all its buffers again.
 ghost use Rattle.std.specs.Prelude.{◌≡◌};
 ghost use Rattle.forwarder.specs.Configs.{FitsIn};
 ghost use Rattle.pool.specs.Owned.{IsOf};
@@ -18,7 +18,7 @@ use std::sync::Wait;
 use std::thread::Threads;
 use wire_script::Script;
 
-/// The buffers of a pool here.
+/// The number of buffers of a pool here.
 pub(crate) const BUFFERS: u32 = 64;
 
 /// How often each number came out of a pool.
@@ -42,7 +42,7 @@ impl Numbers {
     }
 }
 
-/// What comes out of a pool until it is empty. It stays out.
+/// Takes all buffers out of a pool, and returns their numbers. They stay out.
 fn taken_out<R: Wait>(rt: &R, pool: &Pool, pass: &mut PoolPass) -> Numbers
     requires { IsOf pool.now pass.old }
 {
@@ -60,14 +60,14 @@ fn taken_out<R: Wait>(rt: &R, pool: &Pool, pass: &mut PoolPass) -> Numbers
     numbers
 }
 
-/// What is forwarded, and how.
+/// The script to forward, and the configuration.
 #[derive(Clone, Copy)]
 pub(crate) struct Forwarding<'a> {
     pub script: &'a Script,
     pub config: &'a Config,
 }
 
-/// How forwarding over a pool of its own ends, and what is in the pool then.
+/// Forwards over a new pool. Returns the refusal, and the pool's buffers afterwards.
 fn ended<R: Threads + Wait + Sync + Abort, G: Gate + Sync>(
     rt: &R,
     alloc: Global,
@@ -80,7 +80,7 @@ fn ended<R: Threads + Wait + Sync + Abort, G: Gate + Sync>(
     ended_over(rt, alloc, forwarding, gate, &pool, pass)
 }
 
-/// How forwarding over this pool ends, and what is in it then.
+/// Forwards over this pool. Returns the refusal, and the pool's buffers afterwards.
 pub(crate) fn ended_over<R: Threads + Wait + Sync + Abort, G: Gate + Sync>(
     rt: &R,
     alloc: Global,
@@ -118,7 +118,7 @@ const ALL: Config = Config {
     ..Config::DEFAULT
 };
 
-/// Whether all buffers are back after a refusal, once so many passed the gate.
+/// Whether all buffers are back after a refusal at this number of passes.
 pub(crate) fn are_back<R: Threads + Wait + Sync + Abort>(rt: &R, trial: Trial<'_>) -> bool {
     let config = Config {
         workers: trial.workers,
@@ -141,7 +141,7 @@ fn all_back_after_a_refusal(rt: HostRuntime) {
     }
 }
 
-/// Whether all buffers are back after so many turns.
+/// Whether all buffers are back after this number of turns.
 pub(crate) fn are_back_at_the_end<R: Threads + Wait + Sync + Abort>(
     rt: &R,
     trial: Trial<'_>,
@@ -177,7 +177,7 @@ const LONGEST: &[Burst] = &[Burst {
     ..FRAME
 }];
 
-/// Whether all buffers are back once this gate refused, or nobody was refused.
+/// Whether all buffers are back after this gate refused, or no one was refused.
 fn are_back_after<R: Threads + Wait + Sync + Abort, G: Gate + Sync>(
     rt: &R,
     alloc: Global,

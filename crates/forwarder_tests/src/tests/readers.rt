@@ -1,4 +1,4 @@
-//! Passes by which the cells of flows are read.
+//! Passes that read the cells of flows.
 ghost use Rattle.std.specs.Prelude.{◌≡◌};
 ghost use Rattle.counters.specs.Paired.{ArePaired, IsFresh};
 
@@ -19,7 +19,7 @@ pub(crate) struct Reader<'c> {
 }
 
 impl<'c> Reader<'c> {
-    /// A reader of a flow's cells. The pens have written nothing, and stay as they are.
+    /// A reader of a flow's cells. The pens have written nothing, and do not change.
     fn new(cells: &'c FlowCells, pens: &mut FlowPens) -> Reader<'c>
         requires pens { IsFresh cells.now pens.old }
         ensures same { pens.new ≡ pens.old }
@@ -56,7 +56,7 @@ pub(crate) fn readers_of<'c, R: Abort>(
     readers
 }
 
-/// What the controller's side of a flow counted.
+/// The counts of the controller's side of a flow.
 fn offered_of(report: &FlowReport) -> Offered {
     Offered {
         offered: report.offered,
@@ -66,7 +66,7 @@ fn offered_of(report: &FlowReport) -> Offered {
     }
 }
 
-/// What the driver's side of a flow counted.
+/// The counts of the driver's side of a flow.
 fn driven_of(report: &FlowReport) -> Driven {
     Driven {
         taken: report.taken,

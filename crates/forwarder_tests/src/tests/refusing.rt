@@ -10,7 +10,7 @@ use std::process::Abort;
 use std::sync::Wait;
 use std::thread::Threads;
 
-/// Whether the gate refuses once so many passed it.
+/// Whether forwarding is refused by a gate that refuses after this number of passes.
 pub(crate) fn is_refused<R: Threads + Wait + Sync + Abort>(rt: &R, trial: Trial<'_>) -> bool {
     let config = Config {
         workers: trial.workers,
@@ -21,14 +21,14 @@ pub(crate) fn is_refused<R: Threads + Wait + Sync + Abort>(rt: &R, trial: Trial<
     refusal == Some(ForwardError::Gate) && gate.left() == 0
 }
 
-// 40 offers and as many transmit turns at least are made, so each of these gates refuses.
+// There are at least 40 offers and 40 transmit turns, so each of these gates refuses.
 #[test]
 fn wherever_a_gate_refuses_that_is_answered(rt: HostRuntime) {
     let passes = [0, 1, 2, 3, 10, 40, 79];
     each_is_so(&rt, rt.alloc(), Asked::IsRefused, FORTY, &passes);
 }
 
-/// Whether each worker's driver was at its gate while an offer was refused, and left it before that was answered.
+/// Whether each worker's driver was at its gate while an offer was refused, and left it before `forward` returned.
 pub(crate) fn is_left<R: Threads + Wait + Sync + Abort>(rt: &R, trial: Trial<'_>) -> bool {
     let workers = u64::from(trial.workers);
     let config = Config {

@@ -21,7 +21,7 @@ const EMPTY: Config = Config {
     ..Config::DEFAULT
 };
 
-/// Whether the 40 frames go over rings of 8 in batches of so many, in both ways to report.
+/// Whether the 40 frames pass rings of 8 in batches of this number, with both ways to report.
 pub(crate) fn forty_go_both_ways<R: Threads + Wait + Sync + Abort>(
     rt: &R,
     trial: Trial<'_>,
@@ -59,7 +59,7 @@ fn edge(wire: &Wire, i: usize) -> Option<[u8; 4]> {
     }
 }
 
-/// What frames 0, 39 and 40 of flow 1 begin and end with.
+/// The edges of frames 0, 39 and 40 of flow 1.
 fn edges_of_flow_1(flows: &[FlowReport]) -> [Option<[u8; 4]>; 3] {
     match flows.get(1) {
         Some(flow) => [
@@ -89,7 +89,7 @@ fn an_empty_script(rt: HostRuntime) {
     );
 }
 
-/// Frames of one length for port 0, queue 0, over rings of one length, and what flow 0 comes to.
+/// Frames of one length for port 0, queue 0, over rings of one length, and the counts of flow 0.
 #[derive(Clone, Copy)]
 struct Long {
     len: usize,
@@ -134,7 +134,7 @@ const LONG: &[Long] = &[
     },
 ];
 
-/// Whether the frames of a row come to what it says.
+/// Whether the frames of a row have its counts.
 fn goes<R: Threads + Wait + Sync + Abort>(rt: &R, alloc: Global, row: &Long) -> bool {
     let burst = Burst {
         port: 0,

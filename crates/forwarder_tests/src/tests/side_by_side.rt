@@ -1,4 +1,4 @@
-//! Drivers and controllers run in threads of their own, over rings that have so much room and no more.
+//! Drivers and controllers run in threads of their own, over rings with limited room.
 
 use crate::tests::bursts::{Burst, script_of};
 use crate::tests::counted::{Counts, NONE, comes_to};
@@ -53,7 +53,7 @@ const FIFTEEN: &[Counts] = &[[40, 15, 25, 0, 15, 15, 0, 15, 0], NONE];
 
 const SIXTEEN: &[Counts] = &[[40, 16, 24, 0, 16, 16, 0, 16, 0], NONE];
 
-/// Whether 40 frames that are offered before the first is taken come to these counts.
+/// Whether 40 frames that are offered before the first is taken have these counts.
 fn is_full<R: Threads + Wait + Sync + Abort>(
     rt: &R,
     alloc: Global,

@@ -1,4 +1,4 @@
-//! What is asked of a forwarder by each number of workers.
+//! The properties of a forwarder with each number of workers.
 
 use crate::tests::bursts::{Burst, script_of};
 use crate::tests::gathered::{are_back, are_back_at_the_end};
@@ -18,14 +18,14 @@ pub(crate) struct Trial<'a> {
     pub alloc: Global,
     pub script: &'a Script,
     pub workers: u32,
-    /// What the test tries one after another: so many passes of a gate, turns, or frames of a batch.
+    /// The number that a test varies: passes of a gate, turns, or frames of a batch.
     pub number: u32,
 }
 
-/// Where a test tries nothing but numbers of workers.
+/// For a test that varies only the number of workers.
 pub(crate) const ONCE: &[u32] = &[0];
 
-/// What is asked of a trial.
+/// The property that a trial checks.
 #[derive(Clone, Copy, Drop)]
 pub(crate) enum Asked {
     FortyGo,
@@ -49,7 +49,7 @@ impl Asked {
     }
 }
 
-/// It is so by 1 to 4 workers, with each of the numbers.
+/// Checks the property with 1 to 4 workers and each of the numbers.
 pub(crate) fn each_is_so<R: Threads + Wait + Sync + Abort>(
     rt: &R,
     alloc: Global,

@@ -1,5 +1,5 @@
-//! Want of memory and of threads. With any one allocation refused, as `rt try --test --fail-alloc 1..` does, these pass too,
-//! and so they do where a thread can't be started.
+//! Lack of memory and of threads. These tests also pass with any one allocation refused (`rt try --test --fail-alloc
+//! 1..`), and if a thread cannot be started.
 
 use crate::tests::configs::SHORT;
 use crate::tests::counted::{Counts, NONE, is_drained};
@@ -21,7 +21,7 @@ const TWO_WORKERS: Config = Config {
     ..SHORT
 };
 
-/// Whether a refusal is one for want of memory or of threads, or there is none.
+/// Whether a refusal is for lack of memory or threads, or there is none.
 fn is_want(refusal: Option<ForwardError>) -> bool {
     matches!(
         refusal,

@@ -1,4 +1,4 @@
-//! Cells show what flows count while they run.
+//! Cells show the counts of flows while they run.
 ghost use Rattle.std.specs.Prelude.{◌≡◌, length};
 ghost use Rattle.counters.specs.Paired.{ArePaired};
 
@@ -30,7 +30,7 @@ fn all_see<R: Wait>(rt: &R, readers: &mut [Reader<'_>], flows: &[FlowReport]) ->
     readers.len() == flows.len()
 }
 
-/// Whether each cell has its flow's numbers once the 40 frames went over rings of 8.
+/// Whether each cell has its flow's numbers after the 40 frames passed rings of 8.
 pub(crate) fn are_shown<R: Threads + Wait + Sync + Abort>(rt: &R, trial: Trial<'_>) -> bool {
     let Trial { alloc, script, .. } = trial;
     let config = Config {
@@ -51,11 +51,11 @@ fn each_cell_shows_its_report(rt: HostRuntime) {
     each_is_so(&rt, rt.alloc(), Asked::AreShown, FORTY, ONCE);
 }
 
-/// How often a reader reads at most.
+/// The maximum number of reads of a reader.
 const READS: u32 = 10_000_000;
 
-/// Reads until 40 frames were offered, and lets the gate know how far it is. Whether each moment in between was seen, none
-/// twice in another order, and each adds up.
+/// Reads until 40 frames were offered, and reports its progress to the gate. Returns whether each moment in between was
+/// seen, none out of order, and each adds up.
 fn watch_offered<R: Wait>(rt: &R, cell: &StatCell, mut pass: StatPass, gate: &Paced) -> bool
     requires own { pass.cell ≡ cell.now }
 {
@@ -76,7 +76,7 @@ fn watch_offered<R: Wait>(rt: &R, cell: &StatCell, mut pass: StatPass, gate: &Pa
     false
 }
 
-/// Reads until 40 frames were posted. Whether no number fell, and each moment adds up.
+/// Reads until 40 frames were posted. Returns whether no number fell, and each moment adds up.
 fn watch_driven<R: Wait>(rt: &R, cell: &DriveCell, mut pass: DrivePass) -> bool
     requires own { pass.cell ≡ cell.now }
 {
@@ -96,7 +96,7 @@ fn watch_driven<R: Wait>(rt: &R, cell: &DriveCell, mut pass: DrivePass) -> bool
     false
 }
 
-/// Both cells of a flow are read by threads of their own.
+/// Reads both cells of a flow in threads of their own.
 fn watch<R: Threads + Wait + Sync + Abort>(rt: &R, reader: Reader<'_>, gate: &Paced) -> bool {
     let Reader { cells, stat, drive } = reader;
     let (offered, driven) = thread::join(
@@ -110,7 +110,7 @@ fn watch<R: Threads + Wait + Sync + Abort>(rt: &R, reader: Reader<'_>, gate: &Pa
 /// Four flows over rings of 64.
 const WATCHED: Config = Config { ring: 64, ..SHORT };
 
-/// Whether the cells of flow 1 show how the forwarder gets on, of which this gate is passed.
+/// Whether the cells of flow 1 show the progress of a forwarder with this gate.
 fn is_watched<R: Threads + Wait + Sync + Abort>(
     rt: &R,
     alloc: Global,
@@ -135,7 +135,7 @@ fn is_watched<R: Threads + Wait + Sync + Abort>(
     good && is_drained(&report, script, 2, FORTY_COUNTS)
 }
 
-// The gate lets each frame be offered only once the one before was seen in the cell.
+// The gate lets each frame be offered only once the previous one was seen in the cell.
 #[test]
 fn watch_while_workers_run(rt: HostRuntime) {
     let script = script_of(&rt, rt.alloc(), FORTY);

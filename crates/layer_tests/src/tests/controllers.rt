@@ -1,4 +1,4 @@
-//! The device's side of a queue pair: controllers beside drivers that the tests play themselves, on one thread.
+//! Controllers beside drivers that the tests play themselves, on one thread.
 
 mod growing;
 mod receive;

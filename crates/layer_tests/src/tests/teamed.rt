@@ -1,4 +1,4 @@
-//! Teams, in threads of their own, over flows that are nothing but a number of turns.
+//! Teams, in threads of their own, over flows that only count turns.
 
 mod ending;
 mod turns;

@@ -1,5 +1,5 @@
-//! The drivers and the controllers in threads of their own. What a receive driver takes in one thread a transmit driver sends
-//! on in the same thread; the other thread is the device, which the test plays with the rings' own ends, or which has
+//! The drivers and the controllers in threads of their own. One thread has a receive driver and a transmit driver,
+//! which sends the packets that the other takes. The other thread is the device, with the rings' own ends or with
 //! controllers.
 
 mod device;

@@ -10,20 +10,20 @@ use std::alloc::Global;
 use std::process::Abort;
 use test_kit::{Tells, asked, full_stash, put_back, renewed, told_so};
 
-/// A step of the controller or of the driver. A frame is so many bytes from a place on.
+/// A step of the controller or of the driver. A frame is a number of bytes from a place on.
 #[derive(Clone, Copy, Drop)]
 pub(crate) enum Step {
-    /// The driver has the queue enabled, or disabled: whether both sides saw it so.
+    /// The driver enables or disables the queue: whether both sides saw it so.
     Enable,
     Disable,
-    /// The driver takes all buffers of the disabled queue back, and renews it: how many came back.
+    /// The driver takes back all buffers of the disabled queue, and renews it: how many came back.
     Renew,
-    /// The driver posts buffers while there is room, and publishes them: how many they are.
+    /// The driver posts buffers while there is room, and publishes them: how many there are.
     Fill,
-    /// A frame of so many bytes from this place on is offered.
+    /// Offers a frame of this length from this place on.
     Offer(usize, usize),
-    /// The driver takes the next frame: whether it is the one from this place on, in so many full segments and a last one
-    /// of so many bytes.
+    /// The driver takes the next frame: whether it is the one from this place on, with this number of full segments and
+    /// a last one of this length.
     Take(usize, usize, usize),
     /// Whether the driver finds no segment.
     FindsNone,
@@ -31,10 +31,10 @@ pub(crate) enum Step {
     IsNotDone,
     /// Whether the driver finds that the queue is off.
     IsOff,
-    /// The controller says that it stores no more: whether it did.
+    /// The controller announces that it stores no more: whether it did.
     Finish,
     IsQuiet,
-    /// Whether so many frames were offered, stored, dropped and oversize.
+    /// Whether these numbers of frames were offered, stored, dropped and oversize.
     Counted(u64, u64, u64, u64),
 }
 
@@ -61,8 +61,8 @@ pub(crate) struct Receive {
 }
 
 impl Receive {
-    /// A ring of so many places that is not enabled, and buffers at hand. Buffers are filled to 1,024 bytes, or to 2,048
-    /// where they are `large`.
+    /// A ring of `n` places that is not enabled, and buffers at hand. Buffers are filled to 2,048 bytes if `large`, and
+    /// to 1,024 otherwise.
     pub(crate) fn new<R: Abort>(
         rt: &R,
         alloc: Global,
@@ -101,7 +101,7 @@ impl Receive {
         }
     }
 
-    /// What the driver finds. A segment is dropped with its buffer.
+    /// What the driver finds. Drops a segment with its buffer.
     fn found(&mut self) -> Found {
         match self.driver.poll(&self.ring) {
             Poll::Segment { .. } => Found::Segment,
@@ -111,7 +111,7 @@ impl Receive {
         }
     }
 
-    /// Whether so many frames were offered, stored, dropped and oversize.
+    /// Whether these numbers of frames were offered, stored, dropped and oversize.
     fn has_counted(&self, counts: [u64; 4]) -> bool {
         let [offered, stored, dropped, oversize] = counts;
         let wanted = Tally {
@@ -129,7 +129,7 @@ impl Receive {
         Some(count)
     }
 
-    /// How many buffers come back from a queue that is disabled.
+    /// How many buffers come back from a disabled queue.
     fn take_back(&mut self) -> Option<u32> {
         let mut count = 0_u32;
         for _ in 0..32 {

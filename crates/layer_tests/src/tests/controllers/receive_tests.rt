@@ -19,30 +19,30 @@ const OFF: Told = Told::Offered(Offer::Off);
 
 const REFUSED: Told = Told::Refused(CtlError::FrameLength);
 
-/// A ring of so many places, whether its buffers are filled to 2,048 bytes, or to 1,024, and whether a frame is dropped that
-/// finds no descriptor.
+/// The number of places of a ring, whether its buffers are filled to 2,048 bytes or to 1,024, and whether a frame that
+/// finds no descriptor is dropped.
 type Queue = (u32, bool, bool);
 
-/// A step, and what it has to tell.
+/// A step, and its expected result.
 type Row = (Step, Told);
 
-/// Makes the rows' steps on a ring of so many places that is not enabled. No other function here owns a queue, since each
-/// that does is dear to prove.
+/// Makes the rows' steps on a ring that is not enabled. No other function here owns a queue, since each one that does
+/// is costly to prove.
 fn walk<R: Abort>(rt: &R, alloc: Global, (n, large, drop_en): Queue, rows: &[Row]) -> Walked {
     let receive = Receive::new(rt, alloc, n, large, drop_en);
     receive.walk(rows)
 }
 
-/// All of the rows tell so on a ring that is not enabled.
+/// Checks all rows on a ring that is not enabled.
 fn each_tells<R: Abort>(rt: &R, alloc: Global, queue: Queue, rows: &[Row]) {
     let walked = walk(rt, alloc, queue, rows);
     same(rt, walked.told, rows.len());
 }
 
-/// The rows of a queue of 8 that is enabled and filled.
+/// The rows that enable and fill a queue of 8.
 const READY: &[Row] = &[(Step::Enable, Told::Yes), (Step::Fill, Told::Count(7))];
 
-/// The rows of so many frames of 60 bytes, each taken before the next is offered.
+/// The rows of `count` frames of 60 bytes, each taken before the next is offered.
 fn going_round<R: Abort>(rt: &R, alloc: Global, count: usize) -> Vec<Row> {
     let mut rows = Vec::new(alloc);
     add(rt, &mut rows, READY);
@@ -90,7 +90,7 @@ const HOLDING: &[Row] = &[
     (Step::Counted(8, 8, 0, 0), Told::Yes),
 ];
 
-/// The rows tell so of a ready ring of 8 with seven frames.
+/// Checks the rows on a ready ring of 8 with seven frames.
 fn each_tells_of_the_eighth<R: Abort>(rt: &R, alloc: Global, drop_en: bool, rows: &[Row]) {
     let mut all = Vec::new(alloc);
     add(rt, &mut all, READY);
@@ -105,8 +105,8 @@ fn the_eighth_is_dropped_or_held(rt: HostRuntime) {
     each_tells_of_the_eighth(&rt, rt.alloc(), false, HOLDING);
 }
 
-/// A ring of so many places, whose buffers are filled to 2,048 bytes or to 1,024, a frame of so many bytes, and in how many
-/// full segments and a last one of how many bytes it is stored.
+/// The number of places of a ring, whether its buffers are filled to 2,048 bytes or to 1,024, the length of a frame,
+/// and the number of full segments and the length of the last one in which it is stored.
 type Cut = (u32, bool, usize, usize, usize);
 
 const CUTS: &[Cut] = &[
@@ -122,7 +122,7 @@ const CUTS: &[Cut] = &[
     (8, true, 14_336, 6, 2_048),
 ];
 
-/// A frame is stored in a ready ring as the row says.
+/// Checks that a frame is stored in a ready ring as the row says.
 fn is_cut<R: Abort>(rt: &R, alloc: Global, row: Cut) {
     let (n, large, len, full, last) = row;
     let rows = [
@@ -145,7 +145,7 @@ fn frames_are_cut(rt: HostRuntime) {
 
 const TOO_LONG: &[(bool, usize)] = &[(false, 9_000), (true, 15_000), (true, 14_337)];
 
-/// Frames of so many bytes are oversize in a ready ring of 8, and counted so.
+/// Checks that frames of this length are oversize in a ready ring of 8, and counted so.
 fn is_oversize<R: Abort>(rt: &R, alloc: Global, (large, len): (bool, usize)) {
     let rows = [
         (Step::Enable, Told::Yes),
@@ -185,7 +185,7 @@ fn lengths_are_refused(rt: HostRuntime) {
     each_tells(&rt, rt.alloc(), (16, false, false), REFUSALS);
 }
 
-/// A refusal has this number and text.
+/// Checks the number and the text of a refusal.
 fn reads<R: Abort>(rt: &R, alloc: Global, refusal: CtlError, want: &str) {
     let text = format!(in alloc; "{} {refusal}", refusal.number()).expect(rt, "memory");
     same(rt, text.as_str(), want);
@@ -211,7 +211,7 @@ fn refusals_have_a_number_and_a_text(rt: HostRuntime) {
     }
 }
 
-/// Adds rows of so many frames of 60 bytes, from a place on, each after one that is oversize.
+/// Adds rows of `count` frames of 60 bytes, from place `first` on, each after one that is oversize.
 fn alternate<R: Abort>(rt: &R, rows: &mut Vec<Row>, first: usize, count: usize) {
     for k in 0..count {
         let pair = [
@@ -222,7 +222,7 @@ fn alternate<R: Abort>(rt: &R, rows: &mut Vec<Row>, first: usize, count: usize) 
     }
 }
 
-/// Adds rows by which so many frames of 60 bytes, from a place on, are taken, and as many buffers posted.
+/// Adds rows that take `count` frames of 60 bytes, from place `first` on, and post as many buffers.
 fn take<R: Abort>(rt: &R, rows: &mut Vec<Row>, first: usize, count: u32) {
     for k in 0..count as usize {
         let place = first.saturating_add(k);
@@ -254,7 +254,8 @@ fn oversize_frames_between_others(rt: HostRuntime) {
     each_tells(&rt, rt.alloc(), (8, false, false), &rows);
 }
 
-/// The rows of a queue whose controller says that it is quiet, and of one that the driver disables: nothing more is stored.
+/// The rows of a queue whose controller announces that it is quiet, and of one that the driver disables: nothing more
+/// is stored.
 const QUIET: &[Row] = &[
     (Step::Finish, Told::Yes),
     (Step::IsQuiet, Told::Yes),
@@ -284,15 +285,15 @@ const ANEW: &[Row] = &[
     (Step::Take(9, 0, 60), Told::Yes),
 ];
 
-/// Adds a row so many times.
+/// Adds a row `times` times.
 fn repeat<R: Abort>(rt: &R, rows: &mut Vec<Row>, row: Row, times: u32) {
     for _ in 0..times {
         add(rt, rows, &[row]);
     }
 }
 
-/// The rows of a queue that is quiet or disabled after so many frames, and then renewed: nothing more is stored before, and
-/// the tally goes on after it. The frames of one that is quiet are taken first.
+/// The rows of a queue that is quiet or disabled after `before` frames, and then renewed: nothing more is stored before
+/// that, and the tally continues after it. The frames of a quiet one are taken first.
 fn over_after<R: Abort>(rt: &R, alloc: Global, before: u32, quiet: bool) -> Vec<Row> {
     let (over, taken, then) = if quiet {
         (QUIET, before, TAKEN)

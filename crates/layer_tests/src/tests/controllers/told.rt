@@ -1,19 +1,19 @@
-//! What a step of a controller, or of the driver beside it, tells.
+//! The results of steps of a controller, or of the driver beside it.
 
 use controller::{CtlError, Offer, Turn};
 use std::alloc::Global;
 use std::process::Abort;
 use test_kit::Random;
 
-/// What was told.
+/// The result of a step.
 #[derive(Clone, Copy, PartialEq, Drop)]
 pub(crate) enum Told {
     Yes,
     No,
     Count(u32),
-    /// What became of a frame that was offered.
+    /// The outcome of an offered frame.
     Offered(Offer),
-    /// What a turn did.
+    /// The outcome of a turn.
     Turned(Turn),
     Refused(CtlError),
 }
@@ -31,7 +31,7 @@ impl Told {
         }
     }
 
-    /// How many there are, or no.
+    /// The count, or no.
     pub(crate) fn counted(count: Option<u32>) -> Told {
         match count {
             Some(count) => Told::Count(count),
@@ -40,14 +40,15 @@ impl Told {
     }
 }
 
-/// How many rows told so, and whether the controller's end stood between two frames of an enabled queue afterwards.
+/// How many rows had their results, and whether the controller's end was between two frames of an enabled queue
+/// afterwards.
 #[derive(Clone, Copy)]
 pub(crate) struct Walked {
     pub told: usize,
     pub ends_between_frames: bool,
 }
 
-/// Adds rows, each a step and what it has to tell.
+/// Adds rows, each a step and its expected result.
 pub(crate) fn add<R: Abort, S: Copy>(rt: &R, rows: &mut Vec<(S, Told)>, more: &[(S, Told)]) {
     rows.extend_from_slice(more).expect(rt, "memory");
 }
@@ -67,19 +68,19 @@ impl Bytes {
         Bytes(bytes)
     }
 
-    /// So many bytes from this place on.
+    /// `len` bytes from place `from` on.
     pub(crate) fn frame(&self, from: usize, len: usize) -> &[u8] {
         self.0.get(from..from.saturating_add(len)).unwrap_or(&[])
     }
 
-    /// Whether these bytes are those from this place on.
+    /// Whether these bytes are those from place `from` on.
     pub(crate) fn are_at(&self, from: usize, bytes: &[u8]) -> bool {
         self.frame(from, bytes.len()) == bytes
     }
 }
 
-/// Makes the rows' steps on a queue, a struct with a field `controller`: what they told, and where the controller's end
-/// stood afterwards, which may be busy so.
+/// Makes the rows' steps on a queue, a struct with a field `controller`: their results, and the state of the
+/// controller's end afterwards, which `is_busy` tests.
 #[macro_export]
 macro_rules! walked {
     ($queue:expr, $rows:expr, $is_busy:ident) => {{

@@ -17,35 +17,35 @@ use std::process::Abort;
 use test_kit::{Tells, asked, full_stash, put_back, renewed, told_so};
 use tx_ring::{Completion, Control, ControllerEnd, DriverEnd, TxDriverEnd, TxRing};
 
-/// A step of the driver or of the controller. A frame is so many bytes from a place on.
+/// A step of the driver or of the controller. A frame is a number of bytes from a place on.
 #[derive(Clone, Copy, Drop)]
 pub(crate) enum Step {
-    /// The driver has the queue enabled, or disabled: whether both sides saw it so.
+    /// The driver enables or disables the queue: whether both sides saw it so.
     Enable,
     Disable,
-    /// The driver takes all buffers of the disabled queue back, and renews it.
+    /// The driver takes back all buffers of the disabled queue, and renews it.
     Renew,
-    /// The driver posts a frame of so many bytes from a place on, in segments of so many bytes and a last one, which asks
-    /// for a report or not, and publishes it: whether there was room and a buffer for each.
+    /// The driver posts a frame of this length from this place on, in segments of this length and a last one, which
+    /// asks for a report or not, and publishes it: whether there was room and a buffer for each.
     Post(usize, usize, usize, bool),
     /// A turn of the controller.
     Turn,
-    /// Whether the oldest report that is outstanding is made.
+    /// Whether the oldest outstanding report is made.
     HasReport,
-    /// The driver cleans all that is seen reported: how many buffers came back.
+    /// The driver cleans all that it has seen reported: how many buffers came back.
     Clean,
-    /// Whether so many frames are on the wire.
+    /// Whether this number of frames is on the wire.
     HasSent(usize),
-    /// Whether a frame of the wire has so many bytes from a place on.
+    /// Whether a frame of the wire has this length and the bytes from this place on.
     IsOnWire(usize, usize, usize),
-    /// So many frames are posted, sent and cleaned, one after another, each as long as `len_of` says and from the place of
-    /// its number on: how many were, up to the first that was not.
+    /// Posts, sends and cleans this number of frames, one after another, each of the length `len_of` and from the place
+    /// of its number on: how many were sent, up to the first that was not.
     Send(u32),
-    /// Whether the wire has so many of them, and no other.
+    /// Whether the wire has this number of them, and no other.
     AreSent(usize),
-    /// So many frames of 60 bytes are posted, sent and cleaned, where no turn is refused memory, and the wire's list of
-    /// frames and the block of their bytes take memory so many times at most each: how many were, up to the first that was
-    /// not.
+    /// Posts, sends and cleans this number of frames of 60 bytes, while no turn is refused memory, and the wire's list
+    /// of frames and the block of their bytes allocate at most this many times each: how many were sent, up to the
+    /// first that was not.
     SendSeldomGrowing(u32, u32),
 }
 
@@ -83,7 +83,7 @@ pub(crate) struct Transmit {
 }
 
 impl Transmit {
-    /// A ring of so many places that is not enabled, with nothing on its wire.
+    /// A ring of `n` places that is not enabled, with nothing on its wire.
     pub(crate) fn new<R: Abort>(rt: &R, alloc: Global, n: u32, completion: Completion) -> Transmit {
         let spare = full_stash(alloc, 32).expect(rt, "buffers");
         let bytes = Bytes::new(rt, alloc);
@@ -116,7 +116,7 @@ impl Transmit {
         Some(())
     }
 
-    /// Whether all buffers come back from a queue that is disabled.
+    /// Whether all buffers come back from a disabled queue.
     fn take_back(&mut self) -> bool {
         for _ in 0..32 {
             if !self.driver.is_stopped() {
@@ -130,8 +130,8 @@ impl Transmit {
         true
     }
 
-    /// Posts a frame of so many bytes from a place on, in segments of `bsize` bytes and a last one, publishes it, and
-    /// answers whether there was room and a buffer for each. Only the last may ask for a report.
+    /// Posts a frame of `len` bytes from place `from` on, in segments of `bsize` bytes and a last one, and publishes
+    /// it. Returns whether there was room and a buffer for each. Only the last may ask for a report.
     pub(crate) fn post(&mut self, len: usize, from: usize, bsize: usize, rs: bool) -> bool {
         let mut at = 0usize;
         for _ in 0..MOST_SEGMENTS {
@@ -152,8 +152,8 @@ impl Transmit {
         true
     }
 
-    // Posts the next piece of a frame of `len` bytes, which is so many bytes from a place on, where it may follow, and
-    // answers whether it did.
+    // Posts the next piece of a frame of `len` bytes, given by its place and length, if it may follow. Returns whether
+    // it did.
     fn post_piece(&mut self, piece: (usize, usize), eop: bool, rs: bool, len: usize) -> bool {
         let piece = self.bytes.frame(piece.0, piece.1);
         let Begun {
@@ -223,7 +223,7 @@ impl Transmit {
         k < self.wire.len() && self.wire.frame(k) == self.bytes.frame(from, len)
     }
 
-    /// How many frames are on the wire.
+    /// The number of frames on the wire.
     pub(crate) fn sent(&self) -> usize {
         self.wire.len()
     }
@@ -233,7 +233,8 @@ impl Transmit {
         self.wire.capacity()
     }
 
-    /// Whether so many frames are on the wire, in order, each as long as `len_of` says and from the place of its number on.
+    /// Whether `count` frames are on the wire, in order, each of the length `len_of` and from the place of its number
+    /// on.
     fn are_sent(&self, count: usize) -> bool {
         let mut k = 0_usize;
         for frame in self.wire.iter() {
@@ -276,7 +277,7 @@ impl Tells for Transmit {
     }
 }
 
-// Whether a frame of which so many segments are posted is as long as is said, or none is begun.
+// Whether a frame with `segments` posted segments has this length, or none is begun.
 fn is_one_frame(segments: usize, len: usize, paylen: usize) -> bool
     ensures { result ≡ true → (segments ≡ 0) ⊎ (len ≡ paylen) }
 {

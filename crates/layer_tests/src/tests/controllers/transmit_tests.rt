@@ -16,11 +16,11 @@ const IDLE: Told = Told::Turned(Turn::Idle);
 
 const SENT: Told = Told::Turned(Turn::Sent);
 
-/// A step, and what it has to tell.
+/// A step, and its expected result.
 type Row = (Step, Told);
 
-/// Makes the rows' steps on a ring of so many places that is not enabled. No other function here owns a queue, since each
-/// that does is dear to prove.
+/// Makes the rows' steps on a ring that is not enabled. No other function here owns a queue, since each one that does
+/// is costly to prove.
 fn walk<R: Abort>(
     rt: &R,
     alloc: Global,
@@ -31,7 +31,7 @@ fn walk<R: Abort>(
     transmit.walk(rows)
 }
 
-/// All of the rows tell so on a ring of so many places that is not enabled.
+/// Checks all rows on a ring that is not enabled.
 fn each_tells<R: Abort>(rt: &R, alloc: Global, queue: (u32, Completion), rows: &[Row]) {
     let walked = walk(rt, alloc, queue, rows);
     same(rt, walked.told, rows.len());
@@ -83,8 +83,8 @@ const ANEW: &[Row] = &[
     (Step::Turn, IDLE),
 ];
 
-/// The rows of a queue that is disabled after so many of four frames were sent, and then renewed: no other is sent before,
-/// and one is after it.
+/// The rows of a queue that is disabled after `before` of four frames were sent, and then renewed: no other is sent
+/// before that, and one is sent after it.
 fn over_after<R: Abort>(rt: &R, alloc: Global, before: usize) -> Vec<Row> {
     let mut rows = Vec::new(alloc);
     add(rt, &mut rows, FOUR);
@@ -102,7 +102,7 @@ fn over_after<R: Abort>(rt: &R, alloc: Global, before: usize) -> Vec<Row> {
     rows
 }
 
-/// It tells so, and ends between two frames.
+/// Checks these rows, which end between two frames.
 fn is_over_after<R: Abort>(rt: &R, alloc: Global, before: usize) {
     let rows = over_after(rt, alloc, before);
     let walked = walk(rt, alloc, (8, Completion::Status), &rows);
@@ -140,7 +140,7 @@ fn a_long_wire_grows_seldom(rt: HostRuntime) {
     each_tells(&rt, rt.alloc(), (8, Completion::Status), LONG);
 }
 
-/// A frame of so many bytes, in segments of so many bytes and a last one, so many in all.
+/// The length of a frame, the length of its segments except the last, and their number.
 type Joined = (usize, usize, u32);
 
 const JOINED: &[Joined] = &[
@@ -152,7 +152,7 @@ const JOINED: &[Joined] = &[
     (15_000, 2_048, 8),
 ];
 
-/// A frame goes onto the wire as one.
+/// Checks that a frame goes onto the wire as one.
 fn is_joined<R: Abort>(rt: &R, alloc: Global, completion: Completion, row: Joined) {
     let (len, bsize, segments) = row;
     let rows = [

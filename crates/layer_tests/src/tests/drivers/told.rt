@@ -1,8 +1,8 @@
-//! Rows of a driver's calls, and of what each has to tell.
+//! Rows of a driver's calls and their expected results.
 
 use driver::DriverError;
 
-/// A call of a driver or of the device beside it, or a look at what there is.
+/// A call of a driver or of the device beside it, or an inspection.
 #[derive(Clone, Copy, Drop)]
 pub(crate) enum Call<O> {
     Enable,
@@ -11,7 +11,7 @@ pub(crate) enum Call<O> {
     Reclaim,
     Renew,
     Batch,
-    /// The device answers what is asked, and tells whether it serves then.
+    /// The device answers the driver's request: whether it serves then.
     Answer,
     /// How many descriptors can be posted.
     Room,
@@ -19,11 +19,11 @@ pub(crate) enum Call<O> {
     AtHand,
     /// How many packets are in the list.
     Listed,
-    /// What only one direction has.
+    /// A call that only one direction has.
     Own(O),
 }
 
-/// What a call told.
+/// The result of a call.
 #[derive(Clone, Copy, PartialEq, Drop)]
 pub(crate) enum Told {
     Yes,
@@ -53,8 +53,8 @@ impl Told {
     }
 }
 
-/// Makes a call on a struct with fields `ring`, `driver`, `stash` and `packets` and methods `answer` and `own`, and tells
-/// what it told.
+/// Makes a call on a struct with fields `ring`, `driver`, `stash` and `packets` and methods `answer` and `own`, and
+/// returns its result.
 #[macro_export]
 macro_rules! made {
     ($both:expr, $call:expr, $batch:ident) => {

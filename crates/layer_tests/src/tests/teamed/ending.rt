@@ -1,4 +1,4 @@
-//! How work of both teams ends.
+//! How the work of both teams ends.
 use crate::tests::teamed::turns::{AllBut, ENDLESS, dealt, digits_of};
 use crate::tests::wanted::{holds, same};
 use forwarding::{ForwardError, Open};
@@ -15,7 +15,7 @@ fn all_flows_come_back_over(rt: HostRuntime) {
     same(&rt, digits_of(&ran.controllers), 102030);
 }
 
-/// The flows that never end are on other workers, of both sides: their run ends only since each worker looks at the stop
+/// The endless flows are on other workers, of both sides: their run ends only because each worker looks at the stop
 /// word.
 #[test]
 fn a_refusal_ends_all_workers(rt: HostRuntime) {

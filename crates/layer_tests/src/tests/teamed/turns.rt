@@ -1,4 +1,4 @@
-//! Flows that are nothing but a number of turns, and a gate that refuses one of them.
+//! Flows that only count turns, and a gate that refuses one of them.
 ghost use Rattle.std.specs.Prelude.{◌<◌};
 
 use forwarding::{Event, Flow, ForwardError, Gate, Progress, Who, admit};
@@ -6,10 +6,10 @@ use std::alloc::{AllocError, Global};
 use std::sync::Wait;
 use teams::{deal, empty_hands};
 
-/// So many turns never end.
+/// A flow with this number of turns never ends.
 pub(crate) const ENDLESS: u32 = u32::MAX;
 
-/// A flow that is over after so many turns. It passes the gate in each.
+/// A flow that is over after a number of turns. It passes the gate in each.
 #[derive(Drop)]
 pub(crate) struct Turns {
     number: usize,
@@ -44,7 +44,7 @@ impl Flow for Turns {
     }
 }
 
-/// A gate that one flow doesn't pass.
+/// A gate that refuses one flow.
 pub(crate) struct AllBut(pub usize);
 
 impl Gate for AllBut {
@@ -57,7 +57,7 @@ impl Gate for AllBut {
     }
 }
 
-/// Flows with so many turns each, in the order of their numbers, dealt to so many workers.
+/// Flows with these numbers of turns, in the order of their numbers, dealt to `workers` workers.
 pub(crate) fn dealt(
     alloc: Global,
     turns: &[u32],
@@ -74,8 +74,8 @@ pub(crate) fn dealt(
     Ok(deal(flows, hands))
 }
 
-/// The numbers of the flows, hand by hand, as the digits of one number, each one more than the flow's; a 0 stands for a
-/// flow that isn't over, and one behind each hand.
+/// The numbers of the flows, hand by hand, as the digits of one number: one more than the flow's number, or 0 for a
+/// flow that is not over; and a 0 after each hand.
 pub(crate) fn digits_of(hands: &[Vec<Turns>]) -> u64 {
     let mut digits: u64 = 0;
     for hand in hands {

@@ -1,4 +1,4 @@
-//! The device's side with controllers: frames are offered, and what is sent goes onto a wire.
+//! The device's side with controllers: frames are offered, and sent frames go onto a wire.
 ghost use Rattle.std.specs.Prelude.{◌≡◌};
 
 use crate::tests::threads::frames::Frames;
@@ -8,7 +8,7 @@ use rx_ring::{Control, RxRing};
 use std::alloc::Global;
 use tx_ring::TxRing;
 
-/// For how many turns no frame comes after one that was dropped, so that not all are.
+/// The number of turns without an offer after a dropped frame, so that not all are dropped.
 const PAUSE: u32 = 100;
 
 /// The receive queue's controller.
@@ -22,9 +22,9 @@ pub(crate) struct Offering {
     /// The next frame, and for how many turns it is not offered.
     next: u32,
     pause: u32,
-    /// What was answered, counted.
+    /// The counted outcomes.
     pub seen: Tally,
-    /// The numbers of the frames that were stored, in order.
+    /// The numbers of the stored frames, in order.
     pub stored: Vec<u32>,
     /// Whether a call was refused.
     pub refused: bool,
@@ -48,8 +48,8 @@ impl Offering {
         }
     }
 
-    /// Answers what is asked, and offers the next frame. Once so many were offered, and the last was stored, it says that
-    /// no more comes in this epoch.
+    /// Answers the driver's request, and offers the next frame. Once `least` frames were offered, and the last one was
+    /// stored, announces that no more is stored in this epoch.
     fn turn(&mut self, ring: &RxRing, frames: &Frames) -> bool
         requires { self.old.controller.end.table ≡ ring.now }
         ensures { self.new.controller.end.table ≡ ring.now }
@@ -73,7 +73,7 @@ impl Offering {
         offer == Offer::Stored || offer == Offer::Oversize
     }
 
-    /// Counts what was answered.
+    /// Counts an outcome.
     fn count(&mut self, offer: Offer)
         ensures { self.new.controller ≡ self.old.controller }
     {
@@ -118,7 +118,7 @@ impl Wiring {
         }
     }
 
-    /// Answers what is asked, and sends the next frame.
+    /// Answers the driver's request, and sends the next frame.
     fn turn(&mut self, ring: &TxRing) -> bool
         requires { self.old.controller.table ≡ ring.now }
         ensures { self.new.controller.table ≡ ring.now }
@@ -138,7 +138,7 @@ impl Wiring {
 pub(crate) struct Device {
     pub offering: Offering,
     pub wiring: Wiring,
-    /// How many epochs there are to be.
+    /// The number of epochs to serve.
     pub most: u32,
 }
 

@@ -1,4 +1,4 @@
-//! The driver's side: what a receive driver takes a transmit driver sends on.
+//! The driver's side: a transmit driver sends the packets that a receive driver takes.
 ghost use Rattle.std.specs.Prelude.{◌≡◌, ◌<◌, ◌≤◌, All};
 ghost use Rattle.buffer_pool.specs.Packed.{IsPacket};
 ghost use Rattle.driver.specs.receive.Receiver.{IsReady as IsReadyRx};
@@ -11,7 +11,7 @@ use driver::{MOST_BATCH, QueueDriver, RxDriver, TxDriver};
 use rx_ring::{RxDriverEnd, RxRing};
 use tx_ring::{TxDriverEnd, TxRing};
 
-/// The buffers at hand, and the packets that were taken and not sent on.
+/// The buffers at hand, and the packets that were taken and not posted.
 #[derive(Drop)]
 pub(crate) struct Load {
     pub stash: Stash,
@@ -22,9 +22,9 @@ pub(crate) struct Load {
 /// When a driver asks for its queue to be disabled.
 #[derive(Clone, Copy, Drop)]
 pub(crate) enum Ends {
-    /// Once it took so many frames in the epoch, whatever the device does.
+    /// Once it took this number of frames in the epoch, whatever the device does.
     After(usize),
-    /// Once the device has said that it stores no more, and all is taken.
+    /// Once the device announced that it stores no more, and all is taken.
     WhenQuiet,
 }
 
@@ -55,7 +55,8 @@ impl Taking {
         }
     }
 
-    /// Whether it took enough in this epoch, where the device has said that it stores no more and all is taken, or where not.
+    /// Whether it took enough in this epoch. `is_drained`: the device announced that it stores no more, and all is
+    /// taken.
     fn has_enough(&self, is_drained: bool) -> bool {
         match self.ends {
             Ends::After(most) => self.count >= most,
@@ -63,7 +64,7 @@ impl Taking {
         }
     }
 
-    /// Takes one batch: how many frames it was, if none was refused.
+    /// Takes one batch. Returns the number of frames, unless it was refused.
     fn take(&mut self, ring: &RxRing, load: &mut Load) -> Option<usize>
         requires { self.old.driver.end.table ≡ ring.now }
         ensures { self.new.driver.end.table ≡ ring.now }
@@ -81,7 +82,7 @@ impl Taking {
         Some(count)
     }
 
-    /// Takes the buffers of a disabled queue back.
+    /// Takes back the buffers of a disabled queue.
     fn end(&mut self, ring: &RxRing, stash: &mut Stash)
         requires { self.old.driver.end.table ≡ ring.now }
         ensures { self.new.driver.end.table ≡ ring.now }
@@ -91,7 +92,7 @@ impl Taking {
         }
     }
 
-    /// One batch; asks for what is to be asked, and takes the buffers of a disabled queue back.
+    /// Takes one batch, asks for the disabling when it is due, and takes back the buffers of a disabled queue.
     fn turn(&mut self, ring: &RxRing, load: &mut Load) -> usize
         requires { self.old.driver.end.table ≡ ring.now }
         ensures { self.new.driver.end.table ≡ ring.now }
@@ -104,7 +105,7 @@ impl Taking {
         count
     }
 
-    /// Renews the queue: whether that could be done.
+    /// Renews the queue, and returns whether that was possible.
     fn renew(&mut self, ring: &RxRing) -> bool
         requires { self.old.driver.end.table ≡ ring.now }
         ensures { self.new.driver.end.table ≡ ring.now }
@@ -119,7 +120,7 @@ impl Taking {
 #[derive(Drop)]
 pub(crate) struct Sending {
     pub driver: TxDriver,
-    /// How many descriptors its ring has room for.
+    /// The number of descriptors that its ring has room for.
     room: u32,
     /// Whether its queue is disabled, and all buffers are back.
     over: bool,
@@ -139,8 +140,8 @@ impl Sending {
         }
     }
 
-    /// One batch. Where no more comes and all is cleaned, it asks for the disabling, and takes the buffers of a disabled
-    /// queue back.
+    /// Posts one batch. If no more comes and all is cleaned, asks for the disabling, and takes back the buffers of a
+    /// disabled queue.
     fn turn(&mut self, ring: &TxRing, load: &mut Load, last: bool) -> usize
         requires { self.old.driver.end.table ≡ ring.now }
         ensures { self.new.driver.end.table ≡ ring.now }
@@ -159,7 +160,7 @@ impl Sending {
         count
     }
 
-    /// Renews the queue: whether that could be done.
+    /// Renews the queue, and returns whether that was possible.
     fn renew(&mut self, ring: &TxRing) -> bool
         requires { self.old.driver.end.table ≡ ring.now }
         ensures { self.new.driver.end.table ≡ ring.now }
@@ -169,24 +170,24 @@ impl Sending {
     }
 }
 
-/// Both drivers in one thread, and what became of the frames.
+/// Both drivers in one thread, with their counts.
 #[derive(Drop)]
 pub(crate) struct Forwarder {
     pub taking: Taking,
     pub sending: Sending,
     pub load: Load,
-    /// How many epochs there are to be, and how many ended with the renewal of both queues.
+    /// The number of epochs to serve, and how many ended with the renewal of both queues.
     epochs: u32,
     ended: u32,
-    /// How many frames were taken, and sent on.
+    /// How many frames were taken, and how many posted.
     pub taken: usize,
     pub sent: usize,
 }
 
-/// How the drivers are to go on.
+/// The parameters of the drivers.
 #[derive(Clone, Copy, Drop)]
 pub(crate) struct Plan {
-    /// The most packets of a batch.
+    /// The maximum number of packets of a batch.
     pub batch: usize,
     pub ends: Ends,
     pub epochs: u32,

@@ -1,17 +1,16 @@
-//! Frames that are told apart by their lengths and their bytes. They are parts of one long row of random bytes, so
-//! that none has to be made.
+//! Frames with distinct lengths and bytes. They are slices of one sequence of random bytes, so none is allocated.
 
 use limits::LEAST_FRAME;
 use std::alloc::{AllocError, Global};
 use test_kit::Random;
 
-/// How many places a frame may begin at.
+/// The number of places at which a frame may begin.
 const BEGINNINGS: u32 = 2_003;
 
-/// How many bytes there are.
+/// The number of bytes.
 const BYTES: usize = 17_003;
 
-/// How long the frames are.
+/// The lengths of the frames.
 #[derive(Clone, Copy, Drop)]
 pub(crate) enum Lens {
     /// From the least length to this one.
@@ -21,7 +20,7 @@ pub(crate) enum Lens {
 }
 
 impl Lens {
-    /// From the least length to the greatest that rings of so many places carry: one of 8 has 7 descriptors.
+    /// From the least length to the greatest that rings of `n` places carry: one of 8 has 7 descriptors.
     pub(crate) fn of_ring(n: u32) -> Lens {
         Lens::UpTo(if n == 8 { 14_336 } else { 15_000 })
     }
@@ -44,7 +43,7 @@ impl Frames {
         Ok(Frames { bytes, lens })
     }
 
-    /// How many bytes frame `k` has.
+    /// The length of frame `k`.
     fn len(&self, k: u32) -> usize {
         match self.lens {
             Lens::UpTo(most) => {

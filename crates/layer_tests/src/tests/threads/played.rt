@@ -1,5 +1,5 @@
-//! The device's side, played with the rings' own ends: frames are stored as soon as there is room, whatever comes of them,
-//! and what is sent is compared with what was stored.
+//! The device's side, played with the rings' own ends. It stores frames as soon as there is room, and compares the sent
+//! frames with the stored ones.
 ghost use Rattle.std.specs.Prelude.{◌≡◌};
 
 use crate::tests::threads::frames::Frames;
@@ -10,7 +10,7 @@ use rx_ring::{ControllerEnd, RxRing};
 use test_kit::Storer;
 use tx_ring::{TxControllerEnd, TxRing};
 
-/// The next frame to be stored, and the first one of this epoch.
+/// The next frame to store, and the first one of this epoch.
 #[derive(Default, Drop)]
 pub(crate) struct Coming {
     next: u32,
@@ -18,7 +18,7 @@ pub(crate) struct Coming {
     epochs: Epochs,
 }
 
-/// The receive queue's controller, and what it stores.
+/// The receive queue's controller, and the frames that it stores.
 #[derive(Drop)]
 pub(crate) struct Storing {
     pub storer: Storer,
@@ -26,7 +26,7 @@ pub(crate) struct Storing {
 }
 
 impl Storing {
-    /// Answers what is asked, and stores the next frame whole if there are descriptors enough.
+    /// Answers the driver's request, and stores the next frame whole if there are enough descriptors.
     fn turn(&mut self, ring: &RxRing, frames: &Frames) -> bool
         requires { self.old.storer.controller.table ≡ ring.now }
         ensures { self.new.storer.controller.table ≡ ring.now }
@@ -62,8 +62,8 @@ fn store(ring: &RxRing, storer: &mut Storer, frame: &[u8])
     storer.set_head(ring);
 }
 
-/// How many frames were sent in this epoch, and how many bytes of the next one; how many in all, and how many segments that
-/// were not as they should be.
+/// How many frames were sent in this epoch, and how many bytes of the next one; how many in all, and how many wrong
+/// segments.
 #[derive(Default, Drop)]
 pub(crate) struct Heard {
     sent: u32,
@@ -73,7 +73,7 @@ pub(crate) struct Heard {
     epochs: Epochs,
 }
 
-/// The transmit queue's controller, and what it sent.
+/// The transmit queue's controller, and its counts.
 #[derive(Drop)]
 pub(crate) struct Hearing {
     pub end: TxControllerEnd,
@@ -81,7 +81,7 @@ pub(crate) struct Hearing {
 }
 
 impl Hearing {
-    /// Answers what is asked: whether the queue is on then.
+    /// Answers the driver's request, and returns whether the queue is on then.
     fn answer(&mut self, ring: &TxRing) -> bool
         requires { self.old.end.table ≡ ring.now }
         ensures { self.new.end.table ≡ ring.now }
@@ -97,7 +97,7 @@ impl Hearing {
         is_on
     }
 
-    /// Sends the next segment, which is to be of this frame, if one is ready.
+    /// Sends the next segment if one is ready, and compares it with this frame.
     fn send(&mut self, ring: &TxRing, frame: &[u8]) -> bool
         requires { self.old.end.table ≡ ring.now }
         ensures { self.new.end.table ≡ ring.now }
@@ -117,7 +117,8 @@ impl Hearing {
         true
     }
 
-    /// Answers what is asked, and sends the next segment if one is ready. The frames of an epoch are those from `first` on.
+    /// Answers the driver's request, and sends the next segment if one is ready. The frames of an epoch are those from
+    /// `first` on.
     fn turn(&mut self, ring: &TxRing, frames: &Frames, first: u32) -> bool
         requires { self.old.end.table ≡ ring.now }
         ensures { self.new.end.table ≡ ring.now }
@@ -129,7 +130,7 @@ impl Hearing {
         self.send(ring, frame)
     }
 
-    /// Compares what is sent with the frame that it is to be of.
+    /// Compares a sent segment with its frame.
     fn compare(&mut self, frame: &[u8], bytes: &[u8], read: TxRead)
         ensures { self.new.end ≡ self.old.end }
     {
@@ -153,7 +154,7 @@ impl Hearing {
 pub(crate) struct Played {
     pub storing: Storing,
     pub hearing: Hearing,
-    /// How many epochs there are to be.
+    /// The number of epochs to serve.
     pub most: u32,
 }
 

@@ -1,4 +1,4 @@
-//! Two rings with their ends, as they are made.
+//! Two new rings with their ends.
 ghost use Rattle.rx_ring.specs.Meeting.{MadeSeats as MadeRx};
 ghost use Rattle.tx_ring.specs.Meeting.{MadeSeats as MadeTx};
 
@@ -9,14 +9,14 @@ use std::alloc::Global;
 use std::process::Abort;
 use tx_ring::{Completion, TxControllerEnd, TxDriverEnd, TxRing};
 
-/// What both sides know, and the ends that each side is to have.
+/// The data that both sides share, and the ends of each side.
 #[derive(Drop)]
 pub(crate) struct Rings {
     pub shared: Shared,
-    /// The ends of the ring that frames come in by.
+    /// The ends of the receive ring.
     pub takes: RxDriverEnd,
     pub stores: RxControllerEnd,
-    /// The ends of the ring that they go out by.
+    /// The ends of the transmit ring.
     pub posts: TxDriverEnd,
     pub sends: TxControllerEnd,
     n: u32,
@@ -26,7 +26,7 @@ pub(crate) struct Rings {
 }
 
 impl Rings {
-    /// Rings of so many places, and the frames that go through them.
+    /// Rings of `n` places, and the frames that pass them.
     pub(crate) fn new<R: Abort>(
         rt: &R,
         alloc: Global,

@@ -7,7 +7,7 @@ use std::thread;
 use std::thread::Threads;
 use tx_ring::TxRing;
 
-/// What both sides know: the ring that frames come in by, the ring that they go out by, and the frames.
+/// The data that both sides share: the receive ring, the transmit ring, and the frames.
 #[derive(Drop)]
 pub(crate) struct Shared {
     pub from: RxRing,
@@ -15,18 +15,18 @@ pub(crate) struct Shared {
     pub frames: Frames,
 }
 
-/// How often a side tries in vain before it lets others run. Where the other side runs on another processor it has
-/// mostly gone on by then.
+/// The number of idle turns after which a side yields. On a processor of its own, the other side has mostly progressed
+/// by then.
 const TRIES: u32 = 10_000;
 
-/// What one thread does with its ends of both rings.
+/// The work of one thread with its ends of both rings.
 pub(crate) trait Side {
     ghost use Rattle.layer_tests.specs.declared.tests.threads.side.Shared.{Shared};
 
-    /// Its ends are of these rings.
+    /// Its ends belong to these rings.
     ghost is_of: { Shared → Self → Type 0 };
 
-    /// Goes on as far as it can without waiting, and answers whether it did anything.
+    /// Progresses as far as it can without waiting, and returns whether it did anything.
     fn turn(&mut self, shared: &Shared) -> bool
         requires { is_of shared.now self.old }
         ensures { is_of shared.now self.new };
@@ -51,7 +51,7 @@ impl Epochs {
         }
     }
 
-    /// The queue is on now, or is not: whether an epoch begins.
+    /// Notes whether the queue is on now, and returns whether an epoch begins.
     pub(crate) fn see(&mut self, on: bool) -> bool {
         let was_on = self.on;
         self.on = on;
@@ -62,7 +62,7 @@ impl Epochs {
     }
 }
 
-/// Lets a side take its turns until it is done.
+/// Gives a side turns until it is done.
 pub(crate) fn run<R: Wait, S: Side + Drop>(rt: &R, shared: &Shared, mut side: S) -> S
     requires { S.is_of shared.now side }
     ensures { S.is_of shared.now result }
@@ -84,7 +84,7 @@ pub(crate) fn run<R: Wait, S: Side + Drop>(rt: &R, shared: &Shared, mut side: S)
     side
 }
 
-/// Lets two sides take their turns, each in a thread of its own, until both are done.
+/// Gives two sides turns, each in a thread of its own, until both are done.
 pub(crate) fn run_both<R: Threads + Wait + Sync, A: Side + Drop + Send, B: Side + Drop + Send>(
     rt: &R,
     shared: &Shared,

@@ -19,7 +19,7 @@ use std::thread::Threads;
 use test_kit::full_stash;
 use tx_ring::{Completion, TxControllerEnd};
 
-/// How a run is to be.
+/// The parameters of a run.
 #[derive(Clone, Copy, Drop)]
 struct Case {
     n: u32,
@@ -48,7 +48,7 @@ fn carries(wire: &Wire, frames: &Frames, numbers: &[u32]) -> bool {
     k == numbers.len()
 }
 
-/// What was counted, if all that was stored was taken and sent on, and nothing was refused.
+/// The counts, if all stored frames were taken and sent, and nothing was refused.
 fn seen(forwarder: &Forwarder, device: &Device, frames: &Frames) -> Option<Tally> {
     let (offering, wiring) = (&device.offering, &device.wiring);
     let stored = offering.stored.len();
@@ -98,7 +98,7 @@ fn sides(alloc: Global, case: &Case, rings: Rings, stash: Stash) -> (Shared, For
     (rings.shared, forwarder, device)
 }
 
-/// Runs both sides: what was counted, if all was as it should be.
+/// Runs both sides, and returns the counts if all was correct.
 fn counted<R: Threads + Wait + Sync + Abort>(rt: &R, alloc: Global, case: Case) -> Option<Tally> {
     let stash = full_stash(alloc, 128).expect(rt, "buffers");
     let rings = Rings::new(rt, alloc, case.n, case.completion, case.lens);
@@ -111,10 +111,10 @@ fn counted<R: Threads + Wait + Sync + Abort>(rt: &R, alloc: Global, case: Case) 
     tally
 }
 
-/// How many places the rings have, and whether frames are dropped where there is no descriptor.
+/// The number of places of the rings, and whether frames without a descriptor are dropped.
 const RINGS: &[(u32, bool)] = &[(8, false), (64, false), (8, true), (64, true)];
 
-/// All that is stored goes out, in three epochs.
+/// Checks that all stored frames are sent, in three epochs.
 fn all_goes_out<R: Threads + Wait + Sync + Abort>(
     rt: &R,
     alloc: Global,
@@ -143,7 +143,7 @@ fn all_that_is_stored_goes_out(rt: HostRuntime) {
     }
 }
 
-/// Every second frame is too long for a ring of 8 with small buffers, and all others go out.
+/// Every second frame is too long for a ring of 8 with small buffers, and all others are sent.
 const OVERSIZE: Case = Case {
     n: 8,
     large: false,

@@ -15,15 +15,15 @@ use std::thread::Threads;
 use test_kit::{Closed, Storer, full_stash};
 use tx_ring::Completion;
 
-/// How many buffers there are.
+/// The number of buffers.
 const BUFFERS: u32 = 128;
 
-/// How many epochs, and how many frames are taken at least in each.
+/// The number of epochs, and the least number of frames taken in each.
 const EPOCHS: u32 = 3;
 
 const FRAMES: usize = 3_334;
 
-/// Both sides over these rings, in batches of so many.
+/// Both sides over these rings, in batches of `batch`.
 fn sides(rings: Rings, stash: Stash, batch: usize) -> (Shared, Forwarder, Played)
     requires some { 0 < batch }
     requires few { batch ≤ 32 }
@@ -51,7 +51,7 @@ fn sides(rings: Rings, stash: Stash, batch: usize) -> (Shared, Forwarder, Played
     (rings.shared, forwarder, played)
 }
 
-/// Whether as many frames as there have to be were taken, sent on and heard, none of them otherwise than it was stored.
+/// Whether enough frames were taken, posted and sent, and each was sent as it was stored.
 fn is_good(forwarder: &Forwarder, played: &Played) -> bool {
     forwarder.taken >= EPOCHS as usize * FRAMES
         && forwarder.sent == forwarder.taken
@@ -59,7 +59,7 @@ fn is_good(forwarder: &Forwarder, played: &Played) -> bool {
         && played.hearing.heard.bad == 0
 }
 
-/// Closes both rings: whether nothing lies in their slots, and each buffer is back once.
+/// Closes both rings, and returns whether their slots are empty and each buffer is back once.
 fn closes(shared: Shared, forwarder: Forwarder, played: Played) -> bool
     requires forwarder { (forwarder.taking.driver.end.table ≡ shared.from) × (forwarder.sending.driver.end.table ≡ shared.to) }
     requires played { (played.storing.storer.controller.table ≡ shared.from) × (played.hearing.end.table ≡ shared.to) }
@@ -84,8 +84,8 @@ fn closes(shared: Shared, forwarder: Forwarder, played: Played) -> bool
     is_empty && closed.has_each_once(BUFFERS as usize)
 }
 
-/// Runs both sides over rings of so many places, and closes the rings: whether the frames were as they should be, and the
-/// closed rings.
+/// Runs both sides over rings of `n` places, and closes the rings. Returns whether the frames and the closed rings were
+/// correct.
 fn passes<R: Threads + Wait + Sync + Abort>(
     rt: &R,
     alloc: Global,

@@ -20,10 +20,10 @@ pub(crate) struct Both {
     ring: RxRing,
     driver: RxDriver,
     storer: Storer,
-    /// The buffers at hand, and others that can be put in their place.
+    /// The buffers at hand, and others that can replace them.
     stash: Stash,
     others: Stash,
-    /// What was taken.
+    /// The packets that were taken.
     packets: ArrayVec<Packet, MOST_BATCH>,
     ghost drives: { driver.end.table ≡ ring },
     ghost serves: { storer.controller.table ≡ ring },
@@ -32,30 +32,30 @@ pub(crate) struct Both {
 /// A call that only receiving has.
 #[derive(Clone, Copy, Drop)]
 pub(crate) enum RxCall {
-    /// The controller stores a segment of so many bytes, each of them the same, which ends its frame or not.
+    /// The controller stores a segment of this length, all of whose bytes are the same, which ends its frame or not.
     Store(usize, bool, u8),
-    /// The controller stores so many frames of 60 bytes, all bytes of the first being this one, and those of each next one
-    /// one more: how many are stored, up to the first that is not.
+    /// The controller stores this number of frames of 60 bytes; all bytes of the first are the given one, and those of
+    /// each next frame one more: how many are stored, up to the first that is not.
     Frames(u8, u8),
-    /// The controller says that it stores no more.
+    /// The controller announces that it stores no more.
     SayQuiet,
     IsQuiet,
     HasChain,
-    /// Drops buffers until only so many are at hand.
+    /// Drops buffers until only this number is at hand.
     Cut(usize),
-    /// Puts the 256 other buffers in the place of those at hand.
+    /// Replaces the buffers at hand with the 256 others.
     Exchange,
-    /// Puts packets without bytes into the list, until there are so many.
+    /// Appends packets without bytes to the list, up to this number.
     Blanks(usize),
     /// Empties the list.
     Clear,
-    /// Whether the packet at this place has segments of these lengths, as far as they aren't 0, all bytes of the first
-    /// being this one, and those of each next one one more.
+    /// Whether the packet at this place has segments of these lengths, as far as they are not 0; all bytes of the first
+    /// are the given one, and those of each next one one more.
     Packet(usize, [usize; 3], u8),
 }
 
 impl Both {
-    /// A ring of 8 that is not enabled, with so many buffers at hand, up to 16.
+    /// A ring of 8 that is not enabled, with `buffers` buffers at hand, up to 16.
     pub(crate) fn new<R: Abort>(rt: &R, alloc: Global, batch: usize, buffers: usize) -> Both
         requires some { 0 < batch }
         requires few { batch ≤ MOST_BATCH }
@@ -134,8 +134,8 @@ impl Tells for Both {
     }
 }
 
-/// Whether there is a packet with segments of these lengths, as far as they aren't 0, all bytes of each the same, and
-/// those of the next one more.
+/// Whether there is a packet with segments of these lengths, as far as they are not 0, where all bytes of a segment are
+/// the same, and those of the next one one more.
 fn is_chain(packet: Option<&Packet>, lens: &[usize], first: u8) -> bool {
     let Some(packet) = packet else {
         return false;

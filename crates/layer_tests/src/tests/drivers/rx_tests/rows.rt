@@ -9,11 +9,11 @@ use std::alloc::Global;
 use std::process::Abort;
 use test_kit::told_so;
 
-/// A call, and what it has to tell.
+/// A call, and its expected result.
 type Row = (Call<RxCall>, Told);
 
-/// All rows of the parts tell so, one part after another, on a ring of 8 that is not enabled, in batches of so many, with so
-/// many buffers at hand. No other function here owns a driver, since each that does is dear to prove.
+/// Checks all rows, one part after another, on a ring of 8 that is not enabled, in batches of `batch`, with `buffers`
+/// buffers at hand. No other function here owns a driver, since each one that does is costly to prove.
 fn each_tells<R: Abort>(rt: &R, alloc: Global, batch: usize, buffers: usize, parts: &[&[Row]])
     requires some { 0 < batch }
     requires few { batch ≤ 32 }
@@ -136,7 +136,7 @@ const RENEWED: &[&[Row]] = &[
     &[
         (Call::Batch, Told::Count(0)),
         (Call::Renew, Told::Refused(DriverError::NotReclaimed)),
-        // a chain of two, of which the end is left
+        // a chain of two, whose end is left
         (Call::Own(RxCall::Store(60, false, 0)), Told::Yes),
         (Call::Own(RxCall::Store(60, false, 1)), Told::Yes),
         (Call::Batch, Told::Count(0)),
@@ -177,7 +177,7 @@ const RENEWED: &[&[Row]] = &[
     ],
 ];
 
-/// Quiet is seen.
+/// The quiet word is seen.
 const QUIET: &[&[Row]] = &[
     ENABLED,
     &[

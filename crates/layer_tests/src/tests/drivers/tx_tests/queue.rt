@@ -14,10 +14,10 @@ use std::process::Abort;
 use test_kit::{Tells, put_back};
 use tx_ring::{Completion, ControllerEnd, TxControllerEnd, TxRing, close};
 
-/// How many bytes a segment has at most.
+/// The greatest length of a segment.
 const MOST: usize = 1_000;
 
-/// A queue, with what stays and what came back.
+/// A queue, with the waiting packets and the buffers that came back.
 #[derive(Drop)]
 pub(crate) struct Queue {
     ring: TxRing,
@@ -37,23 +37,23 @@ pub(crate) type Places = [Option<u16>; 8];
 /// A call that only transmitting has.
 #[derive(Clone, Copy, Drop)]
 pub(crate) enum TxCall {
-    /// So many packets more, each of so many segments of so many bytes.
+    /// Adds this number of packets, each with this number of segments of this length.
     Add(usize, usize, usize),
-    /// How many descriptors the controller sees published, and not sent.
+    /// How many descriptors the controller sees published and not sent.
     Ready,
-    /// Whether there are as many descriptors to be sent, and each asks for a report or not, as is said; they are sent.
+    /// Sends descriptors: whether there are as many as given, and each asks for a report as given.
     Asks(&'static [bool]),
-    /// Whether there is a descriptor to be sent, with this second word; it is sent.
+    /// Sends a descriptor: whether there is one with this second word.
     Word(u64),
     Clean,
-    /// Leaves the stash with room for so many buffers.
+    /// Leaves room for this number of buffers in the stash.
     Fill(usize),
     /// Drops the buffers of the stash.
     Drop,
 }
 
 impl Queue {
-    /// A queue of 8 that is not enabled, whose fourth frames ask for a report.
+    /// A queue of 8 that is not enabled, with a report interval of four frames.
     pub(crate) fn new<R: Abort>(rt: &R, alloc: Global, completion: Completion) -> Queue {
         let stock = Stock::new(alloc, 0, 300).expect(rt, "buffers");
         let (ring, end, controller) = TxRing::new_with(alloc, 8, completion).expect(rt, "a ring");
@@ -94,7 +94,7 @@ impl Queue {
         self.controller.look(&self.ring)
     }
 
-    /// The descriptor that the controller sends next; it is reported where it asks for that.
+    /// The descriptor that the controller sends next, and reports if it asks for that.
     fn send(&mut self) -> Option<TxRead> {
         let controller = &mut self.controller;
         if !controller.is_serving() || controller.is_holding() || controller.owes_report() {
@@ -165,7 +165,7 @@ fn numbers(slots: &[Option<Buf>]) -> Places {
     places
 }
 
-/// Whether there is a descriptor, and it asks for a report or not, as is said.
+/// Whether there is a descriptor that asks for a report as given by `rs`.
 fn asks(read: Option<TxRead>, rs: bool) -> bool {
     match read {
         Some(read) => read.rs == rs,
@@ -173,7 +173,7 @@ fn asks(read: Option<TxRead>, rs: bool) -> bool {
     }
 }
 
-/// Whether there is a descriptor, and its second word is this one.
+/// Whether there is a descriptor with this second word.
 fn has_word(read: Option<TxRead>, word: u64) -> bool {
     match read {
         Some(read) => read.second_word() == word,
@@ -181,7 +181,7 @@ fn has_word(read: Option<TxRead>, word: u64) -> bool {
     }
 }
 
-/// A packet of so many segments, 15 at most, of so many bytes; of fewer where the stock has no buffer more.
+/// A packet of `segments` segments, 15 at most, of `len` bytes each; of fewer if the stock runs out of buffers.
 fn packet(stock: &mut Stock, segments: usize, len: usize) -> Packet {
     let mut packet = Packet::default();
     let len = len.clamp(1, MOST);

@@ -9,11 +9,11 @@ use std::process::Abort;
 use test_kit::told_so;
 use tx_ring::Completion;
 
-/// A call, and what it has to tell.
+/// A call, and its expected result.
 type Row = (Call<TxCall>, Told);
 
-/// All rows of the parts tell so, one part after another, on a ring of 8 that is not enabled: where its buffers lie then. No
-/// other function here owns a queue, since each that does is dear to prove.
+/// Checks all rows, one part after another, on a ring of 8 that is not enabled, and returns the places of its buffers
+/// afterwards. No other function here owns a queue, since each one that does is costly to prove.
 fn each_tells<R: Abort>(rt: &R, alloc: Global, completion: Completion, parts: &[&[Row]]) -> Places {
     let mut queue = Queue::new(rt, alloc, completion);
     for rows in parts {
@@ -57,7 +57,7 @@ const TEN: &[&[Row]] = &[
     ],
 ];
 
-/// Where the buffers lie after them.
+/// The places of the buffers after them.
 const LYING: Places = [
     Some(8),
     Some(9),
@@ -160,8 +160,8 @@ const RENEWED: &[&[Row]] = &[
     ],
 ];
 
-/// A disabled queue tells what was not sent, gives its buffers back where the stash has room, and counts its frames
-/// from 1 once it is renewed.
+/// A disabled queue reports how many segments were not sent, returns its buffers as far as the stash has room, and
+/// counts its frames from 1 once it is renewed.
 #[test]
 fn a_disabling_and_the_epoch_after_it(rt: HostRuntime) {
     for completion in BOTH_WAYS {
