@@ -1,4 +1,4 @@
--- What buffers have on the heap: one buffer alone, or those of a packet one behind another.
+-- Buffers on the heap: a single one, or those of a packet one behind another.
 use Rattle.std.specs.Prelude.{◌≡◌, ◌<◌, ◌≤◌, List, [], ◌∷◌, length, take}
 use Rattle.limits.specs.declared.profile.TheConstants.{BUFFER_BYTES}
 use Rattle.buffer_pool.specs.declared.chain.Chain.{Chain}
@@ -6,16 +6,16 @@ use Rattle.buffer_pool.specs.declared.chain.Chain.TheVariants.{End, To'}
 use Rattle.buffer_pool.specs.declared.chain.Room.{Room}
 use Rattle.buffer_pool.specs.Buffer.{Buffer, blank, buffer}
 
--- the buffer that callers see
+-- The buffer that callers see.
 abbrev pub seen_room : Room → Buffer
 seen_room room = buffer room.number (take room.len room.bytes)
 
--- each byte of the room is there, and len of them are the buffer's
+-- The room has all its bytes, and the first `len` of them are the buffer's.
 pub record IsRoom (room : Room) : Type 0 where
   pub bytes : length room.bytes ≡ BUFFER_BYTES
   pub len : room.len ≤ BUFFER_BYTES
 
--- a chain of one buffer or none, as callers see it: a blank has no room
+-- A chain of at most one buffer, as callers see it. A blank has no room.
 abbrev pub seen : Chain → Buffer
 seen End = blank
 seen (To' p room next) = seen_room room
@@ -24,7 +24,7 @@ abbrev pub IsBuffer : Chain → Type 0
 IsBuffer End = Unit {0}
 IsBuffer (To' p room next) = IsRoom room × (next ≡ End)
 
--- the buffers of a chain, the foremost first, none of them empty
+-- The buffers of a chain, the foremost first, none of them empty.
 abbrev pub chained : Chain → List Buffer
 chained End = []
 chained (To' p room next) = seen_room room ∷ chained next

@@ -1,11 +1,11 @@
--- What the fields of a `Packet` hold.
+-- The content of a `Packet`'s fields.
 use Rattle.std.specs.Prelude.{◌≡◌, ◌≤◌, length}
 use Rattle.limits.specs.declared.profile.TheConstants.{MOST_SEGMENTS}
 use Rattle.buffer_pool.specs.Chain.{IsChain, chained}
 use Rattle.buffer_pool.specs.Packed.{bytes_of}
 use Rattle.buffer_pool.specs.declared.packet.Packet.TheInside.{Inside}
 
--- the buffers hang one behind another, and their number and that of their bytes are kept beside them
+-- The buffers form a chain. Their number, and that of their bytes, are stored beside it.
 pub record IsHung (p : Inside) : Type 0 where
   pub chain : IsChain p.chain
   pub segments : p.segments ≡ length (chained p.chain)

@@ -1,9 +1,9 @@
--- What the pen and the passes of a cell know.
+-- The knowledge of the pen and the passes of a cell.
 use Rattle.std.specs.Prelude.{List, [], ◌∷◌}
 use Rattle.atomic_table.specs.Seated.{TableId}
 use Rattle.moments.specs.Viewed.{Viewed}
 
--- of the pen or a pass of a cell: which cell it is, the newest moment that it knows, and those before it, the newest first
+-- The knowledge of a cell's pen or pass: its cell, the newest moment that it knows, and the earlier ones, newest first.
 pub record Knowing (T : Type 0) : Type 0 where
   pub cell : TableId
   pub last : T
@@ -13,11 +13,11 @@ module _ {T : Type 0} where
   abbrev pub knowing : Viewed T → Knowing T
   knowing v = record { cell = v.cell; last = v.last; earlier = v.earlier }
 
-  -- of a new cell, whose numbers are still those of its opening
+  -- The knowledge of a new cell, which still has its opening numbers.
   abbrev pub fresh : TableId → T → Knowing T
   fresh cell opening = record { cell = cell; last = opening; earlier = [] }
 
-  -- with the moment x behind those that were known
+  -- With the moment `x` added after those that were known.
   abbrev pub with_moment : T → Knowing T → Knowing T
   with_moment x k = record { cell = k.cell; last = x; earlier = k.last ∷ k.earlier }
 

@@ -1,4 +1,4 @@
--- What the fields of an arena hold.
+-- The content of an arena's fields.
 use Rattle.std.specs.Prelude.{◌-◌, length, vec_capacity}
 use Rattle.controller.specs.declared.arena.Arena.TheInside.{Inside}
 use Rattle.controller.specs.Laid.{Laid, frames_from, behind, AreEnds}

@@ -1,4 +1,4 @@
--- What the device's side of a receive queue does.
+-- The behaviour of the device's side of a receive queue.
 use Rattle.std.specs.Prelude.{◌≡◌, ℕ, ◌<◌, ◌≤◌, ◌⊎◌, Bool, true, false, not, ◌&&◌, List, [], ◌∷◌, ◌++◌, map, length, None, Result, Ok, Err}
 use Rattle.buffer_pool.specs.Buffer.{buffer}
 use Rattle.limits.specs.declared.profile.TheConstants.{BUFFER_BYTES}
@@ -18,54 +18,55 @@ use Rattle.controller.specs.declared.tally.Tally.{Tally}
 use Rattle.controller.specs.Chained.{Chained}
 use Rattle.controller.specs.Tallying.{AddsUp, counted}
 
--- its end, to how many bytes it fills buffers, whether it drops where too few are free, and what it counted
+-- The end, the number of bytes to which it fills buffers, whether it drops frames if too few descriptors are free, and
+-- its tally.
 pub record Receiving : Type 0 where
   pub end : ControllerSide
   pub bsize : ℕ
   pub drop_en : Bool
   pub tally : Tally
 
--- nothing is held, the last stored segment ends a frame, and the head is stored after it
+-- Nothing is held, the last stored segment ends a frame, and the head is stored after it.
 pub record IsIdle (c : ControllerSide) : Type 0 where
   pub unheld : held c ≡ None
   pub between : is_between c ≡ true
   pub head : head_stored c ≡ serve_place c
 
--- it serves its queue, and has not said that it stores no more
+-- The end serves its queue and has not said that it stores no more.
 abbrev pub may_store : ControllerSide → Bool
 may_store c = is_serving (controller_state c) && not (is_quiet c)
 
--- how many descriptors a frame needs
+-- The number of descriptors that a frame needs.
 abbrev pub needed : Receiving → Bytes → ℕ
 needed r f = piece_count r.bsize (length f)
 
--- A4 and A5: the next descriptor was fetched, and its buffer written back with the segment's bytes
+-- A4 and A5: the next descriptor was fetched, and its buffer written back with the segment's bytes.
 pub record StoredSegment (old : ControllerSide) (s : Segment Bytes) (new : ControllerSide) : Type 0 where
   pub word : ℕ
   pub step : new ≡ controller_grown (controller_grown old (Fetched (serve_place old) word (buffer s.number [])))
       (Own (WroteBack (serve_place old) (rx_word (length s.payload) s.eop) (buffer s.number s.payload)))
   pub grew : controller_record new ≡ record (controller_record old) { served = stored old ++ s ∷ []; held = None }
 
--- so many descriptors are known to be free
+-- At least `count` descriptors are known to be free.
 pub record KnewRoom (old : ControllerSide) (count : ℕ) (new : ControllerSide) : Type 0 where
   pub enough : count ≤ known_free old
   pub same : new ≡ old
 
--- too few were known, and a load of the tail showed enough
+-- Too few were known, and a load of the tail showed enough.
 pub record FoundRoom (old : ControllerSide) (count : ℕ) (new : ControllerSide) : Type 0 where
   pub few_known : known_free old < count
   pub free : ℕ
   pub looked : FoundFree old free new
   pub enough : count ≤ free
 
--- too few were known, and a load of the tail showed too few
+-- Too few were known, and a load of the tail showed too few.
 pub record FoundNoRoom (old : ControllerSide) (count : ℕ) (new : ControllerSide) : Type 0 where
   pub few_known : known_free old < count
   pub free : ℕ
   pub looked : FoundFree old free new
   pub few : free < count
 
--- the pieces of a frame were stored, each in a segment, and then the head, once
+-- Each piece of a frame was stored in a segment, and then the head was stored, once.
 pub record StoredFrame (b : ℕ) (f : Bytes) (old new : ControllerSide) : Type 0 where
   pub segments : List (Segment Bytes)
   pub last : ControllerSide
@@ -75,25 +76,25 @@ pub record StoredFrame (b : ℕ) (f : Bytes) (old new : ControllerSide) : Type 0
   pub grew : controller_record new ≡ record (controller_record old) { served = stored old ++ segments; held = None; head = serve_place last }
   pub frames_are : frames piece_of (stored new) ≡ frames piece_of (stored old) ++ f ∷ []
 
--- What `offer` answers. No frame has so many bytes
+-- The results of `offer`. Refused: no frame has this length.
 pub record WasRefused (old : Receiving) (f : Bytes) (new : Receiving) : Type 0 where
   pub unlawful : ¬ HasFrameLength f
   pub same : new ≡ old
 
--- the end doesn't serve, or is quiet
+-- The end does not serve, or is quiet.
 pub record WasOff (old : Receiving) (f : Bytes) (new : Receiving) : Type 0 where
   pub lawful : HasFrameLength f
   pub off : may_store old.end ≡ false
   pub same : new ≡ old
 
--- the frame needs more than n - 1 descriptors
+-- The frame needs more than n - 1 descriptors.
 pub record WasOversize (old : Receiving) (f : Bytes) (new : Receiving) : Type 0 where
   pub lawful : HasFrameLength f
   pub on : may_store old.end ≡ true
   pub many : controller_size old.end ≤ needed old f
   pub same : new ≡ record old { tally = counted old.tally Oversize }
 
--- the cut of the frame is stored, where its descriptors were known to be free or a load of the tail showed them
+-- The frame's pieces are stored. Enough descriptors were known to be free, or a load of the tail showed them.
 pub record WasStored (old : Receiving) (f : Bytes) (new : Receiving) : Type 0 where
   pub lawful : HasFrameLength f
   pub on : may_store old.end ≡ true
@@ -103,7 +104,7 @@ pub record WasStored (old : Receiving) (f : Bytes) (new : Receiving) : Type 0 wh
   pub frame : StoredFrame old.bsize f ready new.end
   pub same : new ≡ record old { end = new.end; tally = counted old.tally Stored }
 
--- a load of the tail in this call showed too few free descriptors, and nothing is stored
+-- A load of the tail in this call showed too few free descriptors, and nothing is stored.
 pub record WasScarce (old : Receiving) (f : Bytes) (offer : Offer) (new : Receiving) : Type 0 where
   pub lawful : HasFrameLength f
   pub on : may_store old.end ≡ true
@@ -111,7 +112,7 @@ pub record WasScarce (old : Receiving) (f : Bytes) (offer : Offer) (new : Receiv
   pub tail : FoundNoRoom old.end (needed old f) new.end
   pub same : new ≡ record old { end = new.end; tally = counted old.tally offer }
 
--- with Drop_En the frame is lost, and else held
+-- With Drop_En the frame is dropped, otherwise it is held.
 pub record WasDropped (old : Receiving) (f : Bytes) (new : Receiving) : Type 0 where
   pub drops : old.drop_en ≡ true
   pub scarce : WasScarce old f Dropped new
@@ -129,7 +130,7 @@ Offered old f (Ok Stored) new = WasStored old f new
 Offered old f (Ok Dropped) new = WasDropped old f new
 Offered old f (Ok Held) new = WasHeld old f new
 
--- the frames by which those stored grow
+-- The frames that the result adds to those stored.
 abbrev pub frames_by : Result Offer CtlError → Bytes → List Bytes
 frames_by (Ok Stored) f = f ∷ []
 frames_by (Ok Off) f = []
@@ -138,13 +139,13 @@ frames_by (Ok Dropped) f = []
 frames_by (Ok Held) f = []
 frames_by (Err e) f = []
 
--- C7: quiet was said, once; from then on the end may store no more in this epoch
+-- C7: quiet was said, once. After that the end may store no more in this epoch.
 pub record SaidItAll (old new : ControllerSide) : Type 0 where
   pub may : may_store old ≡ true
   pub step : new ≡ controller_grown old (Own SaidQuiet)
   pub same : controller_record new ≡ record (controller_record old) { barred = true }
 
--- it serves no more, or had said it
+-- The end does not serve, or had already said that it is quiet.
 pub record HadFinished (old new : ControllerSide) : Type 0 where
   pub over : may_store old ≡ false
   pub same : new ≡ old
@@ -153,7 +154,7 @@ abbrev pub Finished : ControllerSide → Bool → ControllerSide → Type 0
 Finished old true new = SaidItAll old new
 Finished old false new = HadFinished old new
 
--- What the fields of a controller keep
+-- The invariants of a controller's fields.
 pub record IsReceiver (c : Receiving) : Type 0 where
   pub idle : IsIdle c.end
   pub least : 1024 ≤ c.bsize

@@ -1,4 +1,4 @@
--- How a frame is sent: what the parts of a turn do with the end and the arena.
+-- Sending a frame: the effects of the parts of a turn on the end and the arena.
 use Rattle.std.specs.Prelude.{◌≡◌, ◌+◌, ◌<◌, ◌≤◌, Bool, true, false, [], ◌∷◌, ◌++◌, length, None}
 use Rattle.limits.specs.declared.profile.TheConstants.{MOST_FRAME}
 use Rattle.ring_model.specs.shared.Frames.{Bytes, join, unfinished}
@@ -10,7 +10,7 @@ use Rattle.tx_ring.specs.Ends.{ControllerSide, controller_size, controller_recor
 use Rattle.controller.specs.Laid.{Laid}
 use Rattle.controller.specs.Transmitting.{SentSegment, SentFrame}
 
--- the next segment is ready, and there is room for it on the wire behind those of its frame
+-- The next segment is ready, and the wire has room for it after the earlier segments of its frame.
 pub record CanSend (end : ControllerSide) (arena : Laid) : Type 0 where
   pub serving : is_serving (controller_state end) ≡ true
   pub unheld : held end ≡ None
@@ -19,7 +19,7 @@ pub record CanSend (end : ControllerSide) (arena : Laid) : Type 0 where
   pub begun : arena.begun ≡ join carried (unfinished carried (sent end))
   pub room : MOST_FRAME ≤ length arena.begun + arena.room
 
--- a segment was sent, and its bytes put behind those of its frame; where it does not end its frame, more is ready
+-- A segment was sent, and its bytes added to those of its frame. If it does not end its frame, more is ready.
 pub record SentBytes (old : ControllerSide) (arena : Laid) (ends : Bool) (new : ControllerSide) (arena' : Laid) : Type 0 where
   pub posting : Posting
   pub sent_it : SentSegment old posting new
@@ -33,7 +33,7 @@ pub record SentBytes (old : ControllerSide) (arena : Laid) (ends : Bool) (new : 
   pub room : arena.room ≤ arena'.room + length posting.payload
   pub entries : arena'.entries ≡ arena.entries
 
--- the next frame was sent, and is one more on the wire
+-- The next frame was sent, and is one more on the wire.
 pub record SentOn (old : ControllerSide) (arena : Laid) (new : ControllerSide) (arena' : Laid) : Type 0 where
   pub frame : Bytes
   pub went : SentFrame old frame new

@@ -1,4 +1,4 @@
--- How a frame is stored: what the parts of an offer do with the end alone.
+-- Storing a frame: the effects of the parts of an offer on the end alone.
 use Rattle.std.specs.Prelude.{◌≡◌, ℕ, ◌<◌, ◌≤◌, ◌⊎◌, Bool, true, false, length}
 use Rattle.ring_model.specs.shared.Frames.{Bytes, piece_count}
 use Rattle.rx_ring.specs.Ends.{ControllerSide, controller_size}
@@ -6,32 +6,32 @@ use Rattle.controller.specs.declared.offer.Offer.{Offer}
 use Rattle.controller.specs.declared.offer.Offer.TheVariants.{Off, Oversize, Stored}
 use Rattle.controller.specs.Receiving.{may_store, KnewRoom, FoundRoom, FoundNoRoom, StoredFrame, StoredSegment}
 
--- a segment with these bytes was stored
+-- A segment with these bytes was stored.
 pub record StoredBytes (old : ControllerSide) (bytes : Bytes) (eop : Bool) (new : ControllerSide) : Type 0 where
   pub number : ℕ
   pub stored : StoredSegment old (record { number = number; payload = bytes; eop = eop }) new
 
--- the end is off
+-- The end is off.
 pub record FoundOff (old : ControllerSide) (offer : Offer) (new : ControllerSide) : Type 0 where
   pub answer : offer ≡ Off
   pub off : may_store old ≡ false
   pub same : new ≡ old
 
--- the frame needs too many descriptors
+-- The frame needs too many descriptors.
 pub record FoundOversize (old : ControllerSide) (b : ℕ) (f : Bytes) (offer : Offer) (new : ControllerSide) : Type 0 where
   pub answer : offer ≡ Oversize
   pub on : may_store old ≡ true
   pub many : controller_size old ≤ piece_count b (length f)
   pub same : new ≡ old
 
--- too few are free
+-- Too few descriptors are free.
 pub record FoundScarce (scarce : Offer) (old : ControllerSide) (b : ℕ) (f : Bytes) (offer : Offer) (new : ControllerSide) : Type 0 where
   pub answer : offer ≡ scarce
   pub on : may_store old ≡ true
   pub fits : piece_count b (length f) < controller_size old
   pub tail : FoundNoRoom old (piece_count b (length f)) new
 
--- it is stored
+-- The frame is stored.
 pub record DidStore (old : ControllerSide) (b : ℕ) (f : Bytes) (offer : Offer) (new : ControllerSide) : Type 0 where
   pub answer : offer ≡ Stored
   pub on : may_store old ≡ true

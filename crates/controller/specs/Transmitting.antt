@@ -1,4 +1,4 @@
--- What the device's side of a transmit queue does.
+-- The behaviour of the device's side of a transmit queue.
 use Rattle.std.specs.Prelude.{◌≡◌, ℕ, ◌+◌, ◌%◌, ◌<◌, Bool, true, false, List, [], ◌∷◌, ◌++◌, length, None, Result, Ok, Err}
 use Rattle.buffer_pool.specs.Buffer.{Buffer}
 use Rattle.ring_model.specs.shared.Frames.{Bytes, ends_frame, frames, join}
@@ -15,14 +15,15 @@ use Rattle.controller.specs.declared.transmitting.Turn.{Turn}
 use Rattle.controller.specs.declared.transmitting.Turn.TheVariants as turn
 use Rattle.controller.specs.Chained.{Chained}
 
--- nothing is held, the last that was sent ends a frame, the head is stored after it while it serves, and no report is owed
+-- Nothing is held, the last sent segment ends a frame, the head is stored after it while the end serves, and no report
+-- is owed.
 pub record IsIdle (c : ControllerSide) : Type 0 where
   pub unheld : held c ≡ None
   pub between : is_between c ≡ true
   pub head : is_serving (controller_state c) ≡ true → head_stored c ≡ serve_place c
   pub paid : is_owed c ≡ false
 
--- B4 and B5: the next descriptor was fetched, and its posting sent
+-- B4 and B5: the next descriptor was fetched, and its posting sent.
 pub record SentSegment (old : ControllerSide) (p : Posting) (new : ControllerSide) : Type 0 where
   pub word : ℕ
   pub buf : Buffer
@@ -30,16 +31,16 @@ pub record SentSegment (old : ControllerSide) (p : Posting) (new : ControllerSid
   pub step : new ≡ controller_grown (controller_grown old (Fetched (serve_place old) word buf)) (Own (Sent ((length (sent old) + 1) % controller_size old) word buf))
   pub grew : sent new ≡ sent old ++ p ∷ []
 
--- whether the last of these asks for a report
+-- Whether the last posting of the list asks for a report.
 abbrev pub asks : List Posting → Bool
 asks ps = ends_frame (λ p. p.rs) false ps
 
--- B6, where a report is asked for
+-- B6, if a report is asked for.
 abbrev pub reported : Bool → ControllerSide → ControllerSide
 reported true c = controller_grown c (Own (report_of (controller_size c) c.completion (length (sent c))))
 reported false c = c
 
--- the postings of a whole frame were sent, and reported if the last of them asks for it
+-- The postings of a whole frame were sent, and reported if the last of them asks for it.
 pub record SentFrame (old : ControllerSide) (f : Bytes) (new : ControllerSide) : Type 0 where
   pub postings : List Posting
   pub last : ControllerSide
@@ -49,19 +50,19 @@ pub record SentFrame (old : ControllerSide) (f : Bytes) (new : ControllerSide) :
   pub grew : controller_record new ≡ record (controller_record old) { served = sent old ++ postings; held = None; head = serve_place last; barred = false }
   pub frames_are : frames carried (sent new) ≡ frames carried (sent old) ++ f ∷ []
 
--- What `turn` answers. The end doesn't serve
+-- The results of `turn`. Off: the end does not serve.
 pub record WasOff (old : ControllerSide) (wire : List Bytes) (new : ControllerSide) (wire' : List Bytes) : Type 0 where
   pub off : is_serving (controller_state old) ≡ false
   pub same : new ≡ old
   pub same_wire : wire' ≡ wire
 
--- a load of the tail showed that nothing is ready
+-- A load of the tail showed that nothing is ready.
 pub record WasIdle (old : ControllerSide) (wire : List Bytes) (new : ControllerSide) (wire' : List Bytes) : Type 0 where
   pub serving : is_serving (controller_state old) ≡ true
   pub looked : FoundReady old 0 new
   pub same_wire : wire' ≡ wire
 
--- the tail was loaded, and the next frame sent: it is one more on the wire
+-- The tail was loaded and the next frame sent. It is one more on the wire.
 pub record WasSent (old : ControllerSide) (wire : List Bytes) (new : ControllerSide) (wire' : List Bytes) : Type 0 where
   pub serving : is_serving (controller_state old) ≡ true
   pub ready : ℕ
@@ -72,7 +73,7 @@ pub record WasSent (old : ControllerSide) (wire : List Bytes) (new : ControllerS
   pub went : SentFrame tail frame new
   pub on_wire : wire' ≡ wire ++ frame ∷ []
 
--- the tail was loaded and something is ready, and the wire couldn't grow: nothing was fetched
+-- The tail was loaded and something is ready, but the wire could not grow: nothing was fetched.
 pub record WasRefused (old : ControllerSide) (wire : List Bytes) (new : ControllerSide) (wire' : List Bytes) : Type 0 where
   pub serving : is_serving (controller_state old) ≡ true
   pub ready : ℕ

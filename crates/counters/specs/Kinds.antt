@@ -1,19 +1,19 @@
--- What the numbers of each kind of cell owe one another.
+-- The relation between the numbers of each kind of cell.
 use Rattle.std.specs.Prelude.{◌≡◌, ◌+◌, ◌*◌, ◌≤◌}
 use Rattle.limits.specs.declared.profile.TheConstants.{LEAST_FRAME, MOST_FRAME}
 use Rattle.counters.specs.declared.kinds.Offered.{Offered}
 use Rattle.counters.specs.declared.kinds.Driven.{Driven}
 use Rattle.counters.specs.declared.kinds.Bytes.{Bytes}
 
--- each frame that was offered was stored, dropped or oversize
+-- Each offered frame was stored, dropped or oversize.
 abbrev pub AddsUp : Offered → Type 0
 AddsUp x = x.offered ≡ x.stored + x.dropped + x.oversize
 
--- what was posted or dropped was taken
+-- Each posted or dropped frame was taken.
 abbrev pub WasTaken : Driven → Type 0
 WasTaken x = x.posted + x.tx_dropped ≤ x.taken
 
--- so many frames can have so many bytes
+-- This number of frames can have this number of bytes.
 pub record FillFrames (x : Bytes) : Type 0 where
   pub least : LEAST_FRAME * x.frames ≤ x.bytes
   pub most : x.bytes ≤ MOST_FRAME * x.frames

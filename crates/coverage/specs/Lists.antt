@@ -1,4 +1,4 @@
--- What a list of a search is.
+-- The lists of a search.
 use Rattle.std.specs.Prelude.{◌≡◌, List, [], ◌∷◌, ◌++◌, length, map}
 use Rattle.std.specs.Option.{ok_or}
 use Rattle.ring_model.specs.Worlds.{World, after_moves, moves_happened, note_in, opening_world}

@@ -1,4 +1,4 @@
--- What a move tells of itself, as far as pairs go.
+-- The outcomes of moves, as pairs distinguish them.
 use Rattle.std.specs.Prelude.{ℕ, List, Result, Ok, Err, Some, None, codes}
 use Rattle.ring_model.specs.declared.notes.Note.{Note}
 use Rattle.ring_model.specs.declared.notes.Note.TheVariants as note

@@ -1,4 +1,4 @@
--- A descriptor as the datasheet draws it: two words of 64 bits, each of fields that lie side by side and take all of it.
+-- A descriptor in the datasheet's layout: two words of 64 bits, each divided into adjacent fields.
 use Rattle.std.specs.Prelude.{◌≡◌, ℕ, ◌+◌, ◌*◌, ◌/◌, ◌%◌, ◌^◌, ◌<◌, ◌≤◌, ⊤, Bool, true, false, List, [], ◌∷◌, ◌++◌, length, drop}
 use Rattle.std.proofs.Common.{arith}
 use Rattle.byteorder.specs.Endian.{little_bytes, little_number}
@@ -7,13 +7,13 @@ use Rattle.refusals.specs.declared.errors.DescError.TheVariants.{Length, Reserve
 
 -- ---- fields
 
--- the names in the figures
+-- The field names in the datasheet's figures.
 pub data Name : Type 0 where
-  -- of an address, in this profile's three parts
+  -- Fields of an address, in this profile's three parts.
   BufferOffset : Name
   BufferNumber : Name
   AddressTop : Name
-  -- of a receive descriptor
+  -- Fields of a receive descriptor.
   HeaderAddress : Name
   DescriptorDone : Name
   RssType : Name
@@ -27,7 +27,7 @@ pub data Name : Type 0 where
   ExtendedError : Name
   PacketLength : Name
   VlanTag : Name
-  -- of a transmit descriptor
+  -- Fields of a transmit descriptor.
   DataLength : Name
   MacOptions : Name
   DescriptorType : Name
@@ -41,10 +41,10 @@ pub data Name : Type 0 where
   CheckContext : Name
   PacketOptions : Name
   PayloadLength : Name
-  -- bits that the figure leaves without a name
+  -- Bits that the figure leaves unnamed.
   Rsv : Name
 
--- what the profile lets a field have
+-- What the profile allows in a field.
 pub data Content : Type 0 where
   fixed : ℕ → Content  -- this number alone
   kind : ℕ → Content  -- this number alone, which tells the kind of descriptor
@@ -61,7 +61,7 @@ pub record Field : Type 0 where
 abbrev pub field : Name → ℕ → ℕ → Content → Field
 field name first width content = record { name = name; first = first; width = width; content = content }
 
--- a flag as a number
+-- A flag as a number.
 abbrev pub bit : Bool → ℕ
 bit true = 1
 bit false = 0
@@ -72,7 +72,7 @@ bit_lt false = omega arith
 
 -- ---- the word of a descriptor
 
--- a fixed field has its own number, and another the descriptor's
+-- A fixed or kind field has its own number, any other field the descriptor's.
 abbrev pub filled : Content → ℕ → ℕ
 filled (fixed m) _ = m
 filled (kind m) _ = m
@@ -81,7 +81,7 @@ filled _ n = n
 abbrev pub number_in : (Name → ℕ) → Field → ℕ
 number_in numbers f = filled f.content (numbers f.name)
 
--- the sum of the fields' numbers, each times 2 to the place of the field
+-- The sum of the fields' numbers, each shifted to its field's lowest bit.
 abbrev pub word_of : (Field → ℕ) → List Field → ℕ
 word_of n [] = 0
 word_of n (f ∷ fs) = n f * 2 ^ f.first + word_of n fs
@@ -90,38 +90,38 @@ pub record Form : Type 0 where
   pub first : List Field
   pub second : List Field
 
--- a form's two words with a descriptor's numbers in it
+-- The two words of a form with a descriptor's numbers.
 abbrev pub first_word : Form → (Name → ℕ) → ℕ
 first_word form numbers = word_of (number_in numbers) form.first
 
 abbrev pub second_word : Form → (Name → ℕ) → ℕ
 second_word form numbers = word_of (number_in numbers) form.second
 
--- two words in bytes, each with its lowest byte first
+-- Two words as 16 bytes, each with its lowest byte first.
 abbrev pub bytes_of : ℕ → ℕ → List ℕ
 bytes_of first second = little_bytes 8 first ++ little_bytes 8 second
 
--- they are a form's words, or its bytes, with a descriptor's numbers in it
+-- The words, or the bytes, are those of a form with a descriptor's numbers.
 abbrev pub AreWords : Form → (Name → ℕ) → ℕ → ℕ → Type 0
 AreWords form numbers first second = (first ≡ first_word form numbers) × (second ≡ second_word form numbers)
 
 abbrev pub AreBytes : Form → (Name → ℕ) → List ℕ → Type 0
 AreBytes form numbers bytes = bytes ≡ bytes_of (first_word form numbers) (second_word form numbers)
 
--- 16 bytes, and the two words in them
+-- 16 bytes, and the two words in them.
 pub record HasWords (bytes : List ℕ) (first second : ℕ) : Type 0 where
   pub sixteen : length bytes ≡ 16
   pub first_is : first ≡ little_number 8 bytes
   pub second_is : second ≡ little_number 8 (drop 8 bytes)
   pub whole : bytes ≡ bytes_of first second
 
--- ---- what a word has to keep
+-- ---- the rules for a word
 
--- the number in a field of a word
+-- The number in a field of a word.
 abbrev pub read : ℕ → Field → ℕ
 read word f = word / 2 ^ f.first % 2 ^ f.width
 
--- what the refusal says to be broken, kept by the number n in a field of the word. `Length` speaks of no field
+-- The number `n` in a field of the word keeps the rule whose violation is the refusal. `Length` concerns no field.
 abbrev pub Keeps : DescError → ℕ → Content → ℕ → Type 0
 Keeps Reserved word (fixed m) n = n ≡ m
 Keeps Reserved word (flag_under place) n = word / 2 ^ place % 2 ≡ 0 → n ≡ 0
@@ -136,12 +136,12 @@ abbrev pub EachField : (Field → Type 0) → List Field → Type 0
 EachField P [] = ⊤
 EachField P (f ∷ fs) = P f × EachField P fs
 
--- the two words keep it in each of their fields
+-- Both words keep the rule in each of their fields.
 pub record KeepsWords (form : Form) (first second : ℕ) (e : DescError) : Type 0 where
   pub in_first : EachField (KeepsField e first) form.first
   pub in_second : EachField (KeepsField e second) form.second
 
--- so do bytes, and for `Length` there are 16 of them
+-- The same for bytes. For `Length`, there are 16 of them.
 abbrev pub KeepsBytes : Form → List ℕ → DescError → Type 0
 KeepsBytes form bytes Length = length bytes ≡ 16
 KeepsBytes form bytes e = KeepsWords form (little_number 8 bytes) (little_number 8 (drop 8 bytes)) e

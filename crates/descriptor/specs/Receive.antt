@@ -1,5 +1,5 @@
 -- The two forms of a receive descriptor (82599 datasheet, 7.1.6 Advanced Receive Descriptors).
--- Beside each field stand the datasheet's name for it and its bits, the highest first.
+-- Each field is annotated with the datasheet's name and its bits, the highest first.
 use Rattle.std.specs.Prelude.{ℕ, Bool, List, [], ◌∷◌}
 use Rattle.limits.specs.declared.profile.TheConstants.{BUFFER_BYTES}
 use Rattle.descriptor.specs.declared.rx_back.RxBack.{RxBack}
@@ -22,7 +22,7 @@ abbrev pub rx_read_numbers : ℕ → Name → ℕ
 rx_read_numbers number BufferNumber = number
 rx_read_numbers number _ = 0
 
--- a descriptor's words, and its form in bytes
+-- A descriptor's two words, and its bytes.
 abbrev pub rx_read_first : RxRead → ℕ
 rx_read_first d = first_word rx_read_form (rx_read_numbers d.number)
 

@@ -1,4 +1,4 @@
--- What a program prints of a descriptor, one line without its end.
+-- The printed text of a descriptor, one line without its end.
 use Rattle.std.specs.Prelude.{ℕ, List, ◌++◌, codes}
 use Rattle.std.specs.Fmt.{decimal}
 use Rattle.descriptor.specs.declared.rx_back.RxBack.{RxBack}
@@ -7,7 +7,7 @@ use Rattle.descriptor.specs.declared.tx_back.TxBack.{TxBack}
 use Rattle.descriptor.specs.declared.tx_read.TxRead.{TxRead}
 use Rattle.descriptor.specs.Layout.{bit}
 
--- numbers are decimal, and a flag is 0 or 1
+-- Numbers are decimal, and a flag is 0 or 1.
 abbrev pub rx_read_text : RxRead → List ℕ
 rx_read_text d = codes "buffer " ++ decimal d.number
 

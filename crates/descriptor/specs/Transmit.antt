@@ -1,5 +1,5 @@
 -- The two forms of a transmit descriptor (82599 datasheet, 7.2.3.2.4 Advanced Transmit Data Descriptor).
--- Beside each field stand the datasheet's name for it and its bits, the highest first.
+-- Each field is annotated with the datasheet's name and its bits, the highest first.
 use Rattle.std.specs.Prelude.{ℕ, ◌/◌, ◌%◌, ◌^◌, Bool, List, [], ◌∷◌, ◌==◌}
 use Rattle.limits.specs.declared.profile.TheConstants.{BUFFER_BYTES, LEAST_FRAME, MOST_FRAME}
 use Rattle.descriptor.specs.declared.tx_back.TxBack.{TxBack}
@@ -41,7 +41,7 @@ tx_read_numbers number len eop rs paylen ReportStatus = bit rs
 tx_read_numbers number len eop rs paylen PayloadLength = paylen
 tx_read_numbers number len eop rs paylen _ = 0
 
--- a descriptor's words, and its form in bytes
+-- A descriptor's two words, and its bytes.
 abbrev pub tx_read_first : TxRead → ℕ
 tx_read_first d = first_word tx_read_form (tx_read_numbers d.number d.len d.eop d.rs d.paylen)
 
@@ -51,7 +51,7 @@ tx_read_second d = second_word tx_read_form (tx_read_numbers d.number d.len d.eo
 abbrev pub tx_read_bytes : TxRead → List ℕ
 tx_read_bytes d = bytes_of (tx_read_first d) (tx_read_second d)
 
--- ---- what a second word of the read format says
+-- ---- the fields of a second word in read format
 
 abbrev pub len_of : ℕ → ℕ
 len_of word = word % 2 ^ 16

@@ -1,4 +1,4 @@
--- The buffers of a disabled queue, of either direction, as they come back.
+-- Reclaiming the buffers of a disabled queue, in either direction.
 use Rattle.std.specs.Prelude.{◌≡◌, ℕ, ◌+◌, List, ◌++◌, length, map, drop, reverse, Option, Some, None, slice_get}
 use Rattle.buffer_pool.specs.Buffer.{Buffer, buffer}
 use Rattle.shared_ring.specs.declared.events.DriverEvent.TheVariants as driver
@@ -8,11 +8,11 @@ use Rattle.shared_ring.specs.Forms.{Form}
 use Rattle.driver.specs.Steps.{Runs, is_reclaim}
 
 module _ {Ring Posted Served Given D C : Type 0} {form : Form Ring Posted Served Given D C} where
-  -- the numbers of the buffers that are out, the oldest first; a posting's is `number`
+  -- The numbers of the buffers that are out, oldest first. `number` is that of a posting.
   abbrev pub out_of : (Posted → ℕ) → DriverSide form → List ℕ
   out_of number d = map number (drop (returned d) (posted d))
 
-  -- the oldest of those that were out were reclaimed one after another, and put into the stash
+  -- The oldest buffers that were out were reclaimed one after another and put into the stash.
   pub record CameBack (number : Posted → ℕ) (old : DriverSide form) (had : List ℕ) (new : DriverSide form) (has : List ℕ) : Type 0 where
     pub numbers : List ℕ
     pub runs : Runs is_reclaim old new
@@ -20,7 +20,7 @@ module _ {Ring Posted Served Given D C : Type 0} {form : Form Ring Posted Served
     pub out : out_of number old ≡ numbers ++ out_of number new
     pub stash : has ≡ reverse numbers ++ had
 
-  -- the buffer of the oldest posting that was out came back
+  -- The buffer of the oldest posting that was out came back.
   pub record CameHome (old : DriverSide form) (buf : Buffer) (new : DriverSide form) : Type 0 where
     pub item : Posted
     pub step : new ≡ driver_grown old (driver.Reclaimed (next_place old) buf)

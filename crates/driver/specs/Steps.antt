@@ -14,7 +14,7 @@ is_reclaim (driver.Reclaimed place buf) = true
 is_reclaim _ = false
 
 module _ {Ring Posted Served Given D C : Type 0} {form : Form Ring Posted Served Given D C} where
-  -- the end made steps of these kinds, and no other
+  -- The end made steps of these kinds and no others.
   pub record Runs (kinds : DriverEvent D → Bool) (old new : DriverSide form) : Type 0 where
     pub steps : List (DriverEvent D)
     pub step : new ≡ record old { events = old.events ++ steps }

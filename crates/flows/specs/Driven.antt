@@ -1,4 +1,4 @@
--- What the driver's side of a flow knows of it.
+-- The knowledge of the driver's side of a flow.
 use Rattle.std.specs.Prelude.{◌≡◌, ◌≢◌, ℕ, ◌+◌, ◌<◌, ◌≤◌, ◌⊎◌, Bool, true, false, All, List, [], ◌++◌, length, map, Option, Some, None}
 use Rattle.buffer_pool.specs.Packed.{bytes_of}
 use Rattle.ring_model.specs.declared.states.DriverState.TheVariants.{Stopping}
@@ -35,44 +35,45 @@ taken_frames rx = frames piece_of (receive.taken rx)
 abbrev pub posted_frames : transmit.DriverSide → List Bytes
 posted_frames tx = frames carried (transmit.posted tx)
 
--- the counts are the numbers of frames, of which so many wait
+-- The counts are the numbers of frames. `waiting` is the number of frames that wait.
 pub record AreExact (rx : receive.DriverSide) (tx : transmit.DriverSide) (c : Counts) (waiting : ℕ) : Type 0 where
   pub taken : c.taken ≡ length (taken_frames rx)
   pub posted : c.posted ≡ length (posted_frames tx)
   pub all : c.posted + c.tx_dropped + waiting ≡ c.taken
 
--- more frames were taken than are counted
+-- The counts are full: they stopped at their limit, and more frames than that were taken.
 pub record AreFull (rx : receive.DriverSide) (c : Counts) : Type 0 where
   pub full : most_exact < c.taken
   pub many : most_exact < length (taken_frames rx)
 
--- The frames that were posted and those that wait are touched ones of those that were taken, in order, and the counts are theirs. With `retries` none was dropped
+-- The posted frames and then the waiting ones are touched copies of taken frames, in order, and the counts match. With
+-- `retries`, none was dropped.
 pub record Relayed (retries : Bool) (rx : receive.DriverSide) (tx : transmit.DriverSide) (c : Counts) (waiting : List Bytes) : Type 0 where
   pub chosen : Chosen (posted_frames tx ++ waiting) (map touch (taken_frames rx))
   pub counted : AreExact rx tx c (length waiting) ⊎ AreFull rx c
   pub no_more : c.posted + c.tx_dropped ≤ c.taken
   pub retried : retries ≡ true → c.tx_dropped ≡ 0
 
--- the queue was seen quiet, and all that was stored was seen taken; none waits, and all that was posted is cleaned
+-- The queue was seen quiet, and everything stored was seen taken. No frame waits, and all postings are cleaned.
 pub record HasDrained (rx : receive.DriverSide) (tx : transmit.DriverSide) (waiting : List Bytes) : Type 0 where
   pub quiet : receive.saw_quiet rx ≡ true
   pub drained : receive.is_drained rx ≡ true
   pub cleaned : length (transmit.posted tx) ≤ length (transmit.cleaned tx)
   pub none_waits : waiting ≡ []
 
--- a flow is cut only where it has a greatest number of turns
+-- A flow is cut only if it has a greatest number of turns.
 abbrev pub EndedAs : ℕ → receive.DriverSide → transmit.DriverSide → List Bytes → Ended → Type 0
 EndedAs turns rx tx waiting Drained = HasDrained rx tx waiting
 EndedAs turns rx tx waiting Cut = 0 < turns
 
--- by posting and publishing alone
+-- The end changed by posting and publishing alone.
 pub record OnlyPosted (old new : receive.DriverSide) : Type 0 where
   pub own : new.table ≡ old.table
   pub taken : receive.taken new ≡ receive.taken old
   pub none_back : receive.reclaimed new ≡ receive.reclaimed old
   pub state : receive.driver_state new ≡ receive.driver_state old
 
--- a queue whose disabling is asked: it is not answered yet, or is, and so many segments are left in it
+-- A queue whose disabling is asked: it is not answered yet, or it is, with this number of segments left.
 abbrev pub RxStands : Option ℕ → receive.DriverSide → Type 0
 RxStands None d = receive.driver_state d ≡ Stopping
 RxStands (Some left) d = (is_stopped (receive.driver_state d) ≡ true) × (received.told_left d ≡ Some left)
@@ -81,7 +82,7 @@ abbrev pub TxStands : Option ℕ → transmit.DriverSide → Type 0
 TxStands None d = transmit.driver_state d ≡ Stopping
 TxStands (Some left) d = (is_stopped (transmit.driver_state d) ≡ true) × (transmitted.told_left d ≡ Some left)
 
--- the lists of a queue are as they were
+-- The lists of a queue are unchanged.
 pub record RxAsBefore (old new : Receiver) : Type 0 where
   pub own : new.end.table ≡ old.end.table
   pub taken : receive.taken new.end ≡ receive.taken old.end
@@ -93,12 +94,12 @@ pub record TxAsBefore (old new : Transmitter) : Type 0 where
   pub cleaned : transmit.cleaned new.end ≡ transmit.cleaned old.end
   pub holds : with_transmitter new ≡ with_transmitter old
 
--- and so is what was learnt of all that is stored
+-- What was learned about quiet and drained is unchanged.
 pub record KnowsAsBefore (old new : Receiver) : Type 0 where
   pub quiet : receive.saw_quiet new.end ≡ receive.saw_quiet old.end
   pub drained : receive.is_drained new.end ≡ receive.is_drained old.end
 
--- both queues were seen disabled, and how many segments were left in them is known
+-- Both queues were seen disabled, and the number of segments left in each is known.
 pub record HasDriven (k : DriverKey) (d : DriverDone) : Type 0 where
   pub receives : d.rx.table ≡ k.from
   pub sends : d.tx.table ≡ k.to
@@ -111,13 +112,14 @@ pub record HasDriven (k : DriverKey) (d : DriverDone) : Type 0 where
   pub unsent : transmitted.told_left d.tx ≡ Some d.unsent
   pub ended : EndedAs k.turns d.rx d.tx waiting d.ended
 
--- what waits is as it was as the flow ended
+-- The waiting frames are those of the moment when the flow ended.
 pub record HasEnded (k : DriverKey) (d : Driving) (c : Counts) (ended : Ended) : Type 0 where
   pub waiting : List Bytes
   pub relayed : Relayed k.retries d.rx.end d.tx.end c waiting
   pub ended_as : EndedAs k.turns d.rx.end d.tx.end waiting ended
 
--- both drivers are of their rings, and the pass has its share and holds just the buffers that are with them, in the stash and in the packets that wait
+-- Both drivers are those of the flow's rings. The pass has its share, and holds exactly the buffers that are with the
+-- drivers, in the stash and in the waiting packets.
 pub record IsLoaded (k : DriverKey) (pass : Passed) (d : Driving) : Type 0 where
   pub receives : d.rx.end.table ≡ k.from
   pub sends : d.tx.end.table ≡ k.to
@@ -130,7 +132,7 @@ pub record IsLoaded (k : DriverKey) (pass : Passed) (d : Driving) : Type 0 where
 abbrev pub driving_of : Load → Driving
 driving_of l = driving l.rx l.tx l.stash l.packets.items
 
--- What is known in each phase. The receive queue is asked for only once the transmit queue was seen enabled
+-- What is known in each phase. Enabling the receive queue is asked only after the transmit queue was seen enabled.
 pub record IsOpening (k : DriverKey) (d : Driving) (c : Counts) : Type 0 where
   pub rx_open : is_open (receive.driver_state d.rx.end) ≡ true
   pub tx_open : is_open (transmit.driver_state d.tx.end) ≡ true
@@ -154,12 +156,13 @@ IsAt k d c (Disabling ended untaken unsent) = IsClosing k d c ended untaken unse
 IsAt k d c (Reclaiming left) = IsClosing k d c left.ended (Some left.untaken) (Some left.unsent)
 IsAt k d c (Over left) = IsClosing k d c left.ended (Some left.untaken) (Some left.unsent)
 
--- the phase, whatever turns were made
+-- The phase, without its number of turns.
 abbrev pub without_turns : Phase → Phase
 without_turns (Forwarding made) = Forwarding 0
 without_turns phase = phase
 
--- what comes after a turn of an enabled flow before which so many were made: the next one, or the end. It is cut by the last of its turns
+-- The phase after a turn of an enabled flow that made `made` turns before: the next turn, or the end. The last of its
+-- turns cuts the flow.
 abbrev pub GoesTo : ℕ → ℕ → Phase → Type 0
 GoesTo turns made (Forwarding next) = ((turns ≡ 0) × (next ≡ made)) ⊎ ((made + 1 < turns) × (next ≡ made + 1))
 GoesTo turns made (Disabling Drained untaken unsent) = (untaken ≡ None) × (unsent ≡ None)
@@ -170,7 +173,7 @@ abbrev pub is_over : Phase → Bool
 is_over (Over left) = true
 is_over _ = false
 
--- the driver's side: what it is of, its load, its counts, and how far it is
+-- The driver's side: its key, its pass and load, its counts, and its phase.
 pub record Relaying : Type 0 where
   pub key : DriverKey
   pub pass : Passed

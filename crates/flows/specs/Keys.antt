@@ -1,11 +1,12 @@
--- What the two sides of a flow are of, and stay of.
+-- The identities of the two sides of a flow, which never change.
 use Rattle.std.specs.Prelude.{ℕ, Bool, List, [], map, Option, Some, None, slice_get}
 use Rattle.atomic_table.specs.Seated.{TableId}
 use Rattle.pool.specs.Owned.{Pooled}
 use Rattle.ring_model.specs.shared.Frames.{Bytes}
 use Rattle.wire_script.specs.Frame.{Frame}
 
--- the driver's side: the flow's number, its two rings and its pool, of which its pass has this share, whether packets that stayed are kept, and after how many turns it is cut (0: never)
+-- The driver's side: the flow's number, its two rings, its pool and its pass's share of it, whether packets that could
+-- not be posted are kept, and after how many turns it is cut (0: never).
 pub record DriverKey : Type 0 where
   pub number : ℕ
   pub from : TableId
@@ -15,20 +16,21 @@ pub record DriverKey : Type 0 where
   pub retries : Bool
   pub turns : ℕ
 
--- what comes in: by which ring, the flow's frames, to how many bytes buffers are filled, and whether frames are dropped
+-- The input: its ring, the flow's frames, the number of bytes to which buffers are filled, and whether frames are
+-- dropped.
 pub record Input : Type 0 where
   pub from : TableId
   pub frames : List Bytes
   pub fill : ℕ
   pub drops : Bool
 
--- the controller's side: the flow's number, what comes in, and the ring by which it goes out
+-- The controller's side: the flow's number, its input, and its output ring.
 pub record ControllerKey : Type 0 where
   pub number : ℕ
   pub input : Input
   pub to : TableId
 
--- the whole flow: its frames, its rings' length, and what its two sides were told of it
+-- The whole flow: its frames, its rings' length, and the settings of its two sides.
 pub record Plan : Type 0 where
   pub frames : List Bytes
   pub size : ℕ
@@ -40,7 +42,7 @@ pub record Plan : Type 0 where
 abbrev pub plan_of : DriverKey → ControllerKey → Plan
 plan_of d c = record { frames = c.input.frames; size = d.from.slots; fill = c.input.fill; drops = c.input.drops; retries = d.retries; turns = d.turns }
 
--- the frames at these places of a script, in order
+-- The frames at these places of a script, in order.
 abbrev pub bytes_at : Option Frame → Bytes
 bytes_at None = []
 bytes_at (Some f) = f.bytes

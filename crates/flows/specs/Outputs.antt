@@ -1,23 +1,23 @@
--- Which outputs a flow may have.
+-- The outputs that a flow may have.
 use Rattle.std.specs.Prelude.{◌≡◌, ℕ, ◌⊎◌, nat_lt, List, [], ◌∷◌, length, map}
 use Rattle.std.specs.List.{filter}
 use Rattle.ring_model.specs.shared.Frames.{Bytes, piece_count}
 use Rattle.forwarding.specs.Touching.{touch}
 
--- the first list is made from the second by leaving members out
+-- The first list is the second with some members left out.
 abbrev pub Chosen : {X : Type 0} → List X → List X → Type 0
 Chosen [] ys = Unit {0}
 Chosen (x ∷ xs) [] = ⊥
 Chosen (x ∷ xs) (y ∷ ys) = ((x ≡ y) × Chosen xs ys) ⊎ Chosen (x ∷ xs) ys
 
--- those that are not oversize: in buffers filled to b bytes they need fewer than n descriptors
+-- The frames that are not oversize: in buffers filled to `b` bytes, they need fewer than `n` descriptors.
 abbrev pub fitting : ℕ → ℕ → List Bytes → List Bytes
 fitting n b frames = filter (λ f. nat_lt (piece_count b (length f)) n) frames
 
--- the frames that come out are touched ones of those that came in, some left out, in order
+-- The output frames are touched input frames (byte 1 is increased by 1, modulo 256), in order, with some left out.
 abbrev pub IsLawfulOutput : List Bytes → List Bytes → Type 0
 IsLawfulOutput came went = Chosen went (map touch came)
 
--- and just the oversize ones are left out
+-- Exactly the oversize frames are left out.
 abbrev pub IsFullOutput : ℕ → ℕ → List Bytes → List Bytes → Type 0
 IsFullOutput n b came went = went ≡ map touch (fitting n b came)

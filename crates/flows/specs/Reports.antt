@@ -1,4 +1,4 @@
--- What a flow's report says.
+-- The meaning of a flow's report.
 use Rattle.std.specs.Prelude.{◌≡◌, ℕ, ◌+◌, ◌≤◌, true, false, length}
 use Rattle.ring_model.specs.receive.Lawful.{IsLawfulRxLedger}
 use Rattle.ring_model.specs.receive.Ring.{RxLedger}
@@ -11,7 +11,8 @@ use Rattle.flows.specs.declared.report.FlowReport.{FlowReport}
 use Rattle.flows.specs.Outputs.{IsLawfulOutput, IsFullOutput}
 use Rattle.flows.specs.Keys.{Plan}
 
--- There are lawful ledgers of the flow's two queues: their frames were counted, the wire has those that were sent, and so many segments were left in both together
+-- There are lawful ledgers of the flow's two queues. The counts are those of their frames, the wire has the sent
+-- frames, and `left` is the number of segments left in both together.
 pub record AreLedgers (n : ℕ) (r : FlowReport) : Type 0 where
   pub received : RxLedger Bytes
   pub sent : TxLedger Bytes
@@ -23,7 +24,8 @@ pub record AreLedgers (n : ℕ) (r : FlowReport) : Type 0 where
   pub wire : r.wire ≡ frames carried sent.served
   pub left : length received.given + length sent.served + r.left ≡ length received.served + length sent.posted
 
--- each frame of the flow was offered, each that was stored was taken, and posted or dropped, and each that was posted is on the wire
+-- Each frame of the flow was offered, each stored frame was taken and then posted or dropped, and each posted frame is
+-- on the wire.
 pub record IsDrained (p : Plan) (r : FlowReport) : Type 0 where
   pub all_offered : r.offered ≡ length p.frames
   pub all_taken : r.taken ≡ r.stored
@@ -31,7 +33,7 @@ pub record IsDrained (p : Plan) (r : FlowReport) : Type 0 where
   pub all_sent : length r.wire ≡ r.posted
   pub none_left : r.left ≡ 0
 
--- nothing but what is oversize was lost
+-- Only oversize frames were lost.
 pub record IsFull (p : Plan) (r : FlowReport) : Type 0 where
   pub none_dropped : r.dropped ≡ 0
   pub all_posted : r.tx_dropped ≡ 0

@@ -1,4 +1,4 @@
--- What the controller's side of a flow knows of it.
+-- The knowledge of the controller's side of a flow.
 use Rattle.std.specs.Prelude.{◌≡◌, ℕ, ◌≤◌, Bool, false, true, List, [], length, take}
 use Rattle.atomic_table.specs.Seated.{TableId}
 use Rattle.limits.specs.declared.profile.TheConstants.{MOST_SCRIPT_FRAMES}
@@ -19,7 +19,8 @@ use Rattle.flows.specs.declared.service.Service.{Service}
 use Rattle.flows.specs.declared.service.Service.TheVariants.{Waiting, Serving, Ended}
 use Rattle.flows.specs.declared.concluding.ControllerDone.{ControllerDone}
 
--- The first `next` frames were decided, and no other. Those that were stored are among them, in order, and the tally is theirs. Where none is dropped just the oversize ones are left out
+-- The first `next` frames were decided, and no others. The stored frames are among them, in order, and the tally
+-- matches. If frames are not dropped, exactly the oversize ones are left out.
 pub record OfferedSoFar (i : Input) (r : Receiving) (next : ℕ) : Type 0 where
   pub own : r.end.table ≡ i.from
   pub fill : r.bsize ≡ i.fill
@@ -32,7 +33,7 @@ pub record OfferedSoFar (i : Input) (r : Receiving) (next : ℕ) : Type 0 where
   pub full : i.drops ≡ false → frames piece_of (receive.stored r.end) ≡ fitting i.from.slots i.fill (take next i.frames)
   pub none_dropped : i.drops ≡ false → r.tally.dropped ≡ 0
 
--- the offer decides on the frame: it isn't offered again
+-- The offer decides on the frame, so it is not offered again.
 abbrev pub decides : Offer → Bool
 decides Stored = true
 decides Dropped = true
@@ -40,13 +41,13 @@ decides Oversize = true
 decides Held = false
 decides Off = false
 
--- whether the end serves its queue now, by how far that is
+-- Whether the end serves its queue now, for each state of the service.
 abbrev pub StandsAs : Service → Bool → Type 0
 StandsAs Waiting serving = serving ≡ false
 StandsAs Serving serving = serving ≡ true
 StandsAs Ended serving = serving ≡ false
 
--- how far a controller is, where it serves its queue now, or does not
+-- The next state of the service, given whether the end serves its queue now.
 abbrev pub after : Service → Bool → Service
 after Waiting true = Serving
 after Waiting false = Waiting
@@ -54,7 +55,7 @@ after Serving true = Serving
 after Serving false = Ended
 after Ended serving = Ended
 
--- the receive queue of a flow, as its controller serves it
+-- The receive queue of a flow, as its controller serves it.
 pub record Offering : Type 0 where
   pub input : Input
   pub controller : Receiving
@@ -64,20 +65,20 @@ pub record Offering : Type 0 where
 abbrev pub offering : TableId → List Bytes → Receiving → ℕ → Service → Offering
 offering from frames_in controller next service = record { input = record { from = from; frames = frames_in; fill = controller.bsize; drops = controller.drop_en }; controller = controller; next = next; service = service }
 
--- nothing was done yet
+-- Nothing was done yet.
 pub record IsUnserved (o : Offering) : Type 0 where
   pub next : o.next ≡ 0
   pub stored : receive.stored o.controller.end ≡ []
   pub loud : receive.is_quiet o.controller.end ≡ false
 
--- quiet was said only after all frames were decided
+-- Quiet was said only after all frames were decided.
 pub record IsOffering (o : Offering) : Type 0 where
   pub so_far : OfferedSoFar o.input o.controller o.next
   pub stands : StandsAs o.service (is_serving (receive.controller_state o.controller.end))
   pub unserved : o.service ≡ Waiting → IsUnserved o
   pub finished : receive.is_quiet o.controller.end ≡ true → o.next ≡ length o.input.frames
 
--- the transmit queue of a flow, as its controller serves it
+-- The transmit queue of a flow, as its controller serves it.
 pub record Wiring : Type 0 where
   pub to : TableId
   pub controller : transmit.ControllerSide
@@ -87,14 +88,14 @@ pub record Wiring : Type 0 where
 abbrev pub wiring : TableId → transmit.ControllerSide → List Bytes → Service → Wiring
 wiring to controller wire service = record { to = to; controller = controller; wire = wire; service = service }
 
--- the wire has what was sent
+-- The wire has the sent frames.
 pub record IsWiring (w : Wiring) : Type 0 where
   pub own : w.controller.table ≡ w.to
   pub stands : StandsAs w.service (is_serving (transmit.controller_state w.controller))
   pub unserved : w.service ≡ Waiting → transmit.sent w.controller ≡ []
   pub wire : w.wire ≡ frames carried (transmit.sent w.controller)
 
--- What is known of what came in, whenever the controller's end is given back
+-- What is known of the input whenever the controller's end is returned.
 pub record HasOffered (i : Input) (end : receive.ControllerSide) (tally : Tally) : Type 0 where
   pub own : end.table ≡ i.from
   pub few_frames : length i.frames ≤ MOST_SCRIPT_FRAMES
@@ -108,7 +109,7 @@ pub record HasOffered (i : Input) (end : receive.ControllerSide) (tally : Tally)
   pub none_dropped : i.drops ≡ false → tally.dropped ≡ 0
   pub finished : receive.is_quiet end ≡ true → next ≡ length i.frames
 
--- both halves together
+-- Both halves together.
 pub record HasServed (k : ControllerKey) (s : ControllerDone) : Type 0 where
   pub input : HasOffered k.input s.rx s.tally
   pub open input use *

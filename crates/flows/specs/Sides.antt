@@ -1,11 +1,11 @@
--- What contracts see of the two sides of a flow.
+-- The views of the two sides of a flow in contracts.
 use Rattle.std.specs.Prelude.{Bool, true, false, ◌&&◌}
 use Rattle.controller.specs.declared.tally.Tally.{Tally}
 use Rattle.flows.specs.Keys.{ControllerKey}
 use Rattle.flows.specs.declared.service.Service.{Service}
 use Rattle.flows.specs.declared.service.Service.TheVariants.{Waiting, Serving, Ended}
 
--- the controller's side: what it is of, what became of its frames so far, and how far it is with each queue
+-- The controller's side: its key, the tally of its frames, and the state of its service of each queue.
 pub record Controlling : Type 0 where
   pub key : ControllerKey
   pub tally : Tally
@@ -17,6 +17,6 @@ has_ended Waiting = false
 has_ended Serving = false
 has_ended Ended = true
 
--- both disablings were answered
+-- Both disablings were answered.
 abbrev pub has_served : Controlling → Bool
 has_served c = has_ended c.receiving && has_ended c.sending

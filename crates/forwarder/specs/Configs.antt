@@ -1,4 +1,4 @@
--- Which configurations are lawful.
+-- The lawful configurations.
 use Rattle.std.specs.Prelude.{◌*◌, ◌/◌, ◌<◌, ◌≤◌, true, false, List, All}
 use Rattle.limits.specs.declared.profile.TheConstants.{FEWEST_BUFFERS, MOST_BUFFERS, MOST_PAIRS, MOST_RS_EVERY}
 use Rattle.limits.specs.RingLength.{IsRingLength}
@@ -24,13 +24,13 @@ default_config = record {
   completion = Status;
 }
 
--- queue pairs and their rings
+-- Queue pairs and their rings.
 pub record HasLawfulQueues (c : Config) : Type 0 where
   pub some : 1 ≤ c.pairs
   pub pairs : c.pairs ≤ MOST_PAIRS
   pub ring : IsRingLength c.ring
 
--- each of the flows of both ports has its share of the buffers
+-- Each flow of both ports has its share of the buffers.
 pub record HasLawfulBuffers (c : Config) : Type 0 where
   pub least : FEWEST_BUFFERS ≤ c.buffers
   pub most : c.buffers ≤ MOST_BUFFERS
@@ -42,10 +42,10 @@ pub record HasLawfulWork (c : Config) : Type 0 where
   pub rs_every : (1 ≤ c.rs_every) × (c.rs_every ≤ MOST_RS_EVERY)
   pub workers : (1 ≤ c.workers) × (c.workers ≤ 2 * c.pairs)
 
--- each number is within its limits
+-- Each number is within its limits.
 abbrev pub IsLawful : Config → Type 0
 IsLawful c = HasLawfulQueues c × HasLawfulBuffers c × HasLawfulWork c
 
--- and each frame of the script is of a queue that is there
+-- The configuration is lawful, and each frame of the script has a queue that exists.
 abbrev pub FitsIn : List Frame → Config → Type 0
 FitsIn script c = IsLawful c × All (λ f. f.queue < c.pairs) script

@@ -1,4 +1,4 @@
--- The rings of flows, as they are made.
+-- The rings of flows, newly made.
 use Rattle.std.specs.Prelude.{◌≡◌, ℕ, ◌*◌, ◌<◌, List, length, slice_index_or}
 use Rattle.limits.specs.declared.profile.TheConstants.{PORTS}
 use Rattle.ring_model.specs.declared.states.Completion.{Completion}
@@ -10,12 +10,12 @@ use Rattle.forwarder.specs.declared.config.Config.{Config}
 use Rattle.forwarder.specs.declared.lines.Line.{Line}
 use Rattle.forwarder.specs.declared.lines.LineEnds.{LineEnds}
 
--- these are the ends of this flow's two rings, as they were made
+-- The ends of this flow's two rings, newly made.
 pub record AreEnds (n : ℕ) (mode : Completion) (line : Line) (ends : LineEnds) : Type 0 where
   pub receives : receive.MadeSeats n line.from ends.takes ends.stores
   pub sends : transmit.MadeSeats n mode line.to ends.posts ends.sends
 
--- each flow of the script has its rings, as they were made under this configuration, and the places of its frames
+-- Each flow of the script has its rings, newly made under this configuration, and the places of its frames.
 pub record AreReady (c : Config) (script : List Frame) (index : List (List ℕ)) (lines : List Line) (ends : List LineEnds) : Type 0 where
   pub all_lines : length lines ≡ PORTS * c.pairs
   pub all_ends : length ends ≡ PORTS * c.pairs

@@ -1,4 +1,4 @@
--- What each flow is, and what its two sides are of.
+-- The plan of each flow, and the keys of its two sides.
 use Rattle.std.specs.Prelude.{◌≡◌, ℕ, ◌<◌, List, slice_index_or}
 use Rattle.flows.specs.Keys.{ControllerKey, DriverKey, Plan, frames_at, plan_of}
 use Rattle.flows.specs.Reports.{IsReport}
@@ -9,23 +9,24 @@ use Rattle.forwarder.specs.declared.config.Config.{Config}
 use Rattle.forwarder.specs.declared.lines.Line.{Line}
 use Rattle.forwarder.specs.Flows.{places_of}
 
--- what a flow of the script is, under this configuration: its frames are the script's that come in at its port and queue, in order
+-- The plan of a flow of the script under this configuration: its frames are those of the script that come in at its
+-- port and queue, in order.
 abbrev pub plan : Config → List Frame → ℕ → Plan
 plan c script flow = record { frames = frames_at script (places_of c.pairs flow script); size = c.ring; fill = c.bsize; drops = c.drop_en; retries = c.retry; turns = c.turns }
 
--- both sides are of the flow's two rings, and the driver's is of the pool, with a share of 1
+-- Both sides have the flow's two rings, and the driver's side has a share of 1 of the pool.
 pub record AreOfLine (pool : Pooled) (line : Line) (d : DriverKey) (c : ControllerKey) : Type 0 where
   pub of_pool : d.pool ≡ pool
   pub share : d.share ≡ 1
   pub from : (d.from ≡ line.from) × (c.input.from ≡ line.from)
   pub to : (d.to ≡ line.to) × (c.to ≡ line.to)
 
--- and what both were told is this plan
+-- The settings of both sides are those of this plan.
 pub record AreSides (p : Plan) (pool : Pooled) (line : Line) (d : DriverKey) (c : ControllerKey) : Type 0 where
   pub of_line : AreOfLine pool line d c
   pub plan : plan_of d c ≡ p
 
--- these are the sides of the first n flows, place by place
+-- The sides of the first `n` flows, place by place.
 abbrev pub AreAllSides : (ℕ → Plan) → Pooled → ℕ → List Line → List DriverKey → List ControllerKey → Type 0
 AreAllSides plans pool n lines drivers controllers =
     (flow : ℕ) (l : Line) (d : DriverKey) (c : ControllerKey) → flow < n → AreSides (plans flow) pool (slice_index_or lines flow l) (slice_index_or drivers flow d) (slice_index_or controllers flow c)
@@ -34,7 +35,7 @@ abbrev pub AreOfLines : Pooled → ℕ → List Line → List DriverKey → List
 AreOfLines pool n lines drivers controllers =
     (flow : ℕ) (l : Line) (d : DriverKey) (c : ControllerKey) → flow < n → AreOfLine pool (slice_index_or lines flow l) (slice_index_or drivers flow d) (slice_index_or controllers flow c)
 
--- a report for each of n flows, of what both sides were told
+-- A report for each of `n` flows, under the settings of both sides.
 abbrev pub AreReports : ℕ → List DriverKey → List ControllerKey → List FlowReport → Type 0
 AreReports n drivers controllers reports =
     (flow : ℕ) (d : DriverKey) (c : ControllerKey) (r : FlowReport) → flow < n → IsReport (plan_of (slice_index_or drivers flow d) (slice_index_or controllers flow c)) (slice_index_or reports flow r)

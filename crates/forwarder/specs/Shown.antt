@@ -1,4 +1,4 @@
--- What the cells of flows show once these are over.
+-- The content of the flows' cells once the flows are over.
 use Rattle.std.specs.Prelude.{◌≡◌, List, map}
 use Rattle.counters.specs.declared.flows.FlowCells.{FlowCells}
 use Rattle.counters.specs.declared.flows.FlowPens.{FlowPens}
@@ -6,7 +6,7 @@ use Rattle.flows.specs.Counting.{driven_in, offered_in}
 use Rattle.flows.specs.declared.report.FlowReport.{FlowReport}
 use Rattle.watching.specs.Watching.{ArePensOf, driven_shown, offered_shown}
 
--- each pen is of the cell at its place, and what it wrote last are the numbers of the report at that place
+-- Each pen is that of the cell at its place. The numbers that it last wrote are those of the report at that place.
 pub record ShowReports (cells : List FlowCells) (pens : List FlowPens) (reports : List FlowReport) : Type 0 where
   pub of_cells : ArePensOf cells pens
   pub offered : map offered_shown pens ≡ map offered_in reports

@@ -8,7 +8,8 @@ use Rattle.tx_ring.specs.Ends as transmit
 use Rattle.forwarder.specs.declared.lines.Line.{Line}
 use Rattle.forwarder.specs.declared.stopping.Stopped.{Stopped}
 
--- both sides have the ends of the flow's two rings; the controllers hold no buffer, and the driver's pass has a share of 1 and holds just those that its side has
+-- Both sides have the ends of the flow's two rings. The controllers hold no buffer. The driver's pass has a share of 1
+-- and holds exactly the buffers of its side.
 pub record IsStopped (pool : Pooled) (line : Line) (s : Stopped) : Type 0 where
   pub from : (s.driver.rx.table ≡ line.from) × (s.controller.rx.table ≡ line.from)
   pub to : (s.driver.tx.table ≡ line.to) × (s.controller.tx.table ≡ line.to)

@@ -1,4 +1,4 @@
--- Where a gate may refuse.
+-- The points at which a gate may refuse.
 use Rattle.std.specs.Prelude.{Bool, false}
 use Rattle.refusals.specs.declared.errors.ForwardError.{ForwardError}
 use Rattle.refusals.specs.declared.errors.ForwardError.TheVariants.{Memory, Gate, Thread, Config}

@@ -1,4 +1,4 @@
--- Which buffers a worker has: at hand, in its rings, in a frame that has not ended, and in the packets that wait.
+-- The buffers of a worker: at hand, in its rings, in an unfinished frame, and in the packets that wait.
 use Rattle.std.specs.Prelude.{◌≡◌, ℕ, List, ◌++◌, IsPermutation}
 use Rattle.pool.specs.Hands.{total}
 use Rattle.buffer_pool.specs.Buffer.{Buffer}

@@ -1,4 +1,4 @@
--- How long a ring may be.
+-- The lawful lengths of a ring.
 use Rattle.std.specs.Prelude.{ℕ, ◌≤◌, IsTrue}
 use Rattle.std.specs.Int.{is_power_of_two}
 use Rattle.limits.specs.declared.profile.TheConstants.{LEAST_RING, MOST_RING}

@@ -1,5 +1,5 @@
 -- The rule of the queue: the numbers in it and those held by all passes together are 0 to count - 1, each once.
--- "Together each once" is said by weights: however the numbers are weighed, both sides weigh the same.
+-- "Together each once" is expressed by weights: for every weighing of the numbers, both sides weigh the same.
 use Rattle.std.specs.Prelude.{◌≡◌, ℕ, ◌+◌, ◌<◌, List, [], map, IfSome, All}
 use Rattle.std.specs.List.{range_with_len}
 use mathlib.Core.Option.{some}
@@ -12,7 +12,8 @@ use Rattle.pool.specs.Hands.{total}
 abbrev pub numbers : List Buffer → List ℕ
 numbers items = map (λ b. b.number) items
 
--- what holds of one pass: without a share it holds nothing, and what it knows of the queue is so and is known with the whole share alone
+-- The rule for one pass. Without a share it holds nothing. Only with the whole share can it know the queue, and then
+-- correctly.
 pub record Fits (count : ℕ) (queue : List ℕ) (v : Hand) : Type 0 where
   pub idle : v.share ≡ 0 → v.held ≡ []
   pub counted : 0 < v.share → v.count ≡ count

@@ -11,19 +11,19 @@ use Rattle.ring_machine.specs.declared.registers.Side.{Side}
 use Rattle.ring_machine.specs.declared.registers.Side.TheVariants.{Receive, Transmit}
 use Rattle.ring_machine.specs.Queues.{QueueParts, QueuesAgree, queue_move}
 
--- the head and tail words, and whether the controller serves
+-- The head and tail words, and whether the controller serves.
 abbrev pub registers_held : Side → Wrapped ℕ → Registers
 registers_held side w = record { side = side; head = w.head; tail = w.tail; enable = is_serving w.handshake.controller }
 
--- the head as it was stored, and how many items are published, modulo n
+-- The stored head, and the number of published items modulo n.
 abbrev pub registers_of : {Posted Served Given : Type 0} → Side → Queue Posted Served Given → Registers
 registers_of side q = record { side = side; head = q.head; tail = q.published % q.size; enable = is_serving q.handshake.controller }
 
--- those of the queue that a move names, if it is there
+-- The registers of the queue that a move names, if the queue exists.
 abbrev pub registers_in : World → QueueMove → Option Registers
 registers_in w (world.Receive q s) = option_map (λ r. registers_of Receive r.queue) (slice_get w.receive q)
 registers_in w (world.Transmit q s) = option_map (λ r. registers_of Transmit r.queue) (slice_get w.transmit q)
 
--- whatever world the queues agree with, what is read is what the registers of its queue hold
+-- In every world that the queues agree with, the values read are the registers of the move's queue.
 unfoldable pub QueuesRead : QueueParts → Move → Option Registers → Type 0
 QueuesRead p m read = (w : World) → QueuesAgree p w → read ≡ registers_in w (queue_move m)

@@ -17,16 +17,16 @@ pub record World : Type 0 where
   pub receive : List (RxRing ℕ)
   pub transmit : List (TxRing ℕ)
 
--- a step of the queue with this number
+-- A step of the queue with the given number.
 pub data QueueMove : Type 0 where
   Receive : ℕ → RxStep ℕ → QueueMove
   Transmit : ℕ → TxStep (Posting ℕ) → QueueMove
 
--- so many pairs of queues as they are made
+-- A new world: `pairs` queue pairs with rings of `n` places.
 abbrev pub opening_world : ℕ → ℕ → TxBeginning → World
 opening_world pairs n b = record { receive = replicate pairs (rx_opening n b.enabled); transmit = replicate pairs (tx_opening n b) }
 
--- Of queues of one direction: a queue that is not there has no step
+-- For the queues of one direction. A queue that does not exist has no step.
 module _ {Ring Step : Type 0} where
   abbrev pub can_at : (Ring → Step → Bool) → Option Ring → Step → Bool
   can_at can None s = false
@@ -44,12 +44,12 @@ abbrev pub can_move : World → QueueMove → Bool
 can_move w (Receive q s) = can_at rx_can (slice_get w.receive q) s
 can_move w (Transmit q s) = can_at tx_can (slice_get w.transmit q) s
 
--- the move's own queue makes the step, if it has it
+-- The move's own queue makes the step, if the queue exists.
 abbrev pub after_move : World → QueueMove → World
 after_move w (Receive q s) = record w { receive = put_next rx_next w.receive q s (slice_get w.receive q) }
 after_move w (Transmit q s) = record w { transmit = put_next tx_next w.transmit q s (slice_get w.transmit q) }
 
--- what the move tells; nothing where it can't happen, or its queue is not there
+-- The note of the move, or `None` if the step cannot happen or the queue does not exist.
 abbrev pub note_in : World → QueueMove → Option Note
 note_in w (Receive q s) = note_at rx_can rx_note_of (slice_get w.receive q) s
 note_in w (Transmit q s) = note_at tx_can tx_note_of (slice_get w.transmit q) s
@@ -60,11 +60,12 @@ after_moves = after_all can_move after_move
 abbrev pub moves_happened : World → List QueueMove → ℕ
 moves_happened = happened can_move after_move
 
--- some schedule of moves makes the world out of queues of n places as they were made
+-- Some schedule of moves leads from a new world with rings of `n` places to `w`.
 abbrev pub IsReachableWorld : ℕ → ℕ → World → Type 0
 IsReachableWorld pairs n w = IsReached can_move after_move (opening_world pairs n) w
 
--- What a move of queue q is, from what the world makes of it: whether it may happen, the queues after it, and what it tells. The queue that stands at q makes the step, once; where none stands there, nothing happens and nothing is told
+-- The effect of a move of queue `q`: `may` says whether it can happen, `later` are the queues after it, and `told` is
+-- its note. If queue `q` exists, it makes the step once. Otherwise nothing happens and there is no note.
 module _ {Ring Step : Type 0} (can : Ring → Step → Bool) (changed : Ring → Step → Ring) (tells : Ring → Step → Note) where
   pub record MakesStep (before : List Ring) (q : ℕ) (s : Step) (may : Bool) (later : List Ring) (told : Option Note) : Type 0 where
     pub possible : (r : Ring) → slice_get before q ≡ Some r → may ≡ can r s
@@ -78,19 +79,19 @@ abbrev pub IsStepOfQueue : World → QueueMove → Bool → World → Option Not
 IsStepOfQueue w (Receive q s) may later told = MakesStep rx_can rx_changed rx_note_of w.receive q s may later.receive told
 IsStepOfQueue w (Transmit q s) may later told = MakesStep tx_can tx_changed tx_note_of w.transmit q s may later.transmit told
 
--- all other queues are as they were
+-- All other queues are unchanged.
 abbrev pub IsLeftAlone : World → QueueMove → World → Type 0
 IsLeftAlone w (Receive q s) later = (later.transmit ≡ w.transmit) × ((k : ℕ) → k ≢ q → slice_get later.receive k ≡ slice_get w.receive k)
 IsLeftAlone w (Transmit q s) later = (later.receive ≡ w.receive) × ((k : ℕ) → k ≢ q → slice_get later.transmit k ≡ slice_get w.transmit k)
 
--- every queue of the world is a ring that a schedule of its own steps gives, and so it is lawful
+-- Every queue of the world is a ring that a schedule of its own steps reaches, and therefore lawful.
 pub record IsLawfulWorld (n : ℕ) (w : World) : Type 0 where
   pub receive_reached : (q : ℕ) (r : RxRing ℕ) → slice_get w.receive q ≡ Some r → IsRxReachable ℕ n r
   pub transmit_reached : (q : ℕ) (r : TxRing ℕ) → slice_get w.transmit q ≡ Some r → IsTxReachable ℕ n r
   pub receive : (q : ℕ) (r : RxRing ℕ) → slice_get w.receive q ≡ Some r → IsLawfulRx ℕ r
   pub transmit : (q : ℕ) (r : TxRing ℕ) → slice_get w.transmit q ≡ Some r → IsLawfulTx ℕ r
 
--- there are as many queues as before, and each goes on from what it was
+-- The number of queues is unchanged, and each queue continues from its earlier state.
 pub record WorldLater (w later : World) : Type 0 where
   pub receive_count : length later.receive ≡ length w.receive
   pub transmit_count : length later.transmit ≡ length w.transmit

@@ -23,7 +23,7 @@ use Rattle.shared_ring.specs.declared.ends.ControllerPlaces.{ControllerPlaces}
 abbrev pub segment : Buffer → Bool → Segment Bytes
 segment buf eop = record { number = buf.number; payload = buf.bytes; eop = eop }
 
--- the next descriptor was loaded, and had no DD. Where the queue was seen quiet, nothing is left to take
+-- The next descriptor was loaded and had no DD. If the queue was seen quiet before, nothing is left to take.
 pub record SawNotDone (old new : DriverSide) : Type 0 where
   pub live : is_live (driver_state old) ≡ true
   pub some_out : length (taken old) < length (posted old)
@@ -34,7 +34,9 @@ pub record SawNotDone (old new : DriverSide) : Type 0 where
   pub drained : saw_quiet old ≡ true → is_drained new ≡ true
   pub known : known_of new ≡ record (known_of old) { drained = is_drained old || saw_quiet old }
 
--- the next descriptor was loaded, and had DD: the segment lies in the buffer that was posted next in order, with the length and EOP of the word, and it follows the frame so far; so there is room for one more. Where the queue was seen quiet and this was the last that is posted, nothing is left to take
+-- The next descriptor was loaded and had DD. The segment is in the next posted buffer in order, with the word's length
+-- and EOP, and it follows the frame so far. There is room for one more posting. If the queue was seen quiet before and
+-- this was the last posted buffer, nothing is left to take.
 pub record TookSegment (old : DriverSide) (buf : Buffer) (eop : Bool) (new : DriverSide) : Type 0 where
   pub live : is_live (driver_state old) ≡ true
   pub some_out : length (taken old) < length (posted old)
@@ -47,7 +49,7 @@ pub record TookSegment (old : DriverSide) (buf : Buffer) (eop : Bool) (new : Dri
   pub room : length (posted new) + 1 < returned new + driver_size new
   pub known : known_of new ≡ record (known_of old) { drained = is_drained old || (saw_quiet old && (length (taken old) + 1 == length (posted old))) }
 
--- all that is posted is taken. Where the queue was seen quiet, nothing is left to take
+-- All posted buffers are taken. If the queue was seen quiet before, nothing is left to take.
 pub record SawEmpty (old new : DriverSide) : Type 0 where
   pub live : is_live (driver_state old) ≡ true
   pub none_out : length (taken old) ≡ length (posted old)
@@ -64,11 +66,12 @@ Polled old poll.NotDone new = SawNotDone old new
 Polled old poll.Empty new = SawEmpty old new
 Polled old poll.Off new = SawOff old new
 
--- what is known after a load of the quiet word: that it was 1 once, and, where all that is posted is taken then, that nothing is left to take; all else is the same
+-- What is known after a load of the quiet word: whether it was ever 1, and if so and all posted buffers are taken, that
+-- nothing is left to take. Nothing else changes.
 abbrev pub told_quiet : Bool → DriverSide → Knowing
 told_quiet said d = record (known_of d) { quiet = saw_quiet d || said; drained = is_drained d || ((saw_quiet d || said) && (length (taken d) == length (posted d))) }
 
--- how many segments were left to take, if the head was loaded after the disabling was seen answered
+-- The number of segments left to take, if the head was loaded after the disabling was seen answered.
 abbrev pub left_at : DriverSide → Option ℕ → Option ℕ
 left_at d None = None
 left_at d (Some head) = Some (left_by d head)
@@ -83,7 +86,7 @@ pub record FoundLeft (old : DriverSide) (left : ℕ) (new : DriverSide) : Type 0
   pub known : known_of new ≡ record (known_of old) { head = Some head }
   pub told : told_left new ≡ Some left
 
--- the oldest buffer that was out came back
+-- The oldest buffer that was out came back.
 pub record CameHome (old : DriverSide) (buf : Buffer) (new : DriverSide) : Type 0 where
   pub step : new ≡ driver_grown old (driver.Reclaimed (next_place old) buf)
   pub number : slice_get (posted old) (returned old) ≡ Some buf.number
@@ -95,13 +98,13 @@ abbrev pub Reclaimed : DriverSide → Option Buffer → DriverSide → Type 0
 Reclaimed old None new = NoneOut old new
 Reclaimed old (Some buf) new = CameHome old buf new
 
--- head, tail and quiet word are cleared, and an epoch begins in which nothing is done and nothing learnt
+-- Head, tail and quiet word are cleared. A new epoch begins with an empty record and nothing learned.
 pub record GoneOver (old new : DriverSide) : Type 0 where
   pub step : new ≡ driver_grown (driver_grown (driver_grown old driver.ClearedHead) driver.ClearedTail) (driver.Own ClearedQuiet)
   pub fresh : driver_record new ≡ undriven
   pub unlearnt : known_of new ≡ unknown
 
--- What the fields of a driver's end keep, over its record and what it has learnt
+-- The fields of a driver's end agree with its record and with what it has learned.
 pub record IsEndOf (n : ℕ) (x : RxDriven) (k : Knowing) (at : DriverPlaces) : Type 0 where
   pub poster : IsPoster n x at
   pub open poster use *
@@ -110,14 +113,14 @@ pub record IsEndOf (n : ℕ) (x : RxDriven) (k : Knowing) (at : DriverPlaces) : 
 abbrev pub IsDriverEnd : DriverSide → DriverPlaces → Type 0
 IsDriverEnd d at = IsEndOf (driver_size d) (driver_record d) (known_of d) at
 
--- A4: the next descriptor was loaded, and this empty buffer came out of its slot
+-- A4: the next descriptor was loaded, and this empty buffer came out of its slot.
 pub record Fetched (old : ControllerSide) (buf : Buffer) (new : ControllerSide) : Type 0 where
   pub word : ℕ
   pub step : new ≡ controller_grown old (controller.Fetched (serve_place old) word buf)
   pub empty : buf ≡ buffer buf.number []
   pub same : controller_record new ≡ record (controller_record old) { held = Some buf }
 
--- What the fields of a controller's end keep, over its record
+-- The fields of a controller's end agree with its record.
 pub record IsServerOf (n : ℕ) (x : RxControlled) (at : ControllerPlaces) (head : ℕ) (finished : Bool) : Type 0 where
   pub server : IsServer piece_of n x at
   pub open server use *

@@ -13,11 +13,11 @@ DriverSide = ends.DriverSide rx
 abbrev pub ControllerSide : Type 0
 ControllerSide = ends.ControllerSide rx
 
--- it loaded the quiet word as 1
+-- Whether the driver loaded the quiet word as 1.
 abbrev pub saw_quiet : DriverSide → Bool
 saw_quiet d = (knowing d.events).quiet
 
--- it saw the queue quiet, and after that nothing left to take
+-- Whether the driver saw the queue quiet, and then nothing left to take.
 abbrev pub is_drained : DriverSide → Bool
 is_drained d = (knowing d.events).drained
 
@@ -25,6 +25,6 @@ abbrev pub number_in : Option Buffer → Option ℕ
 number_in None = None
 number_in (Some b) = Some b.number
 
--- the number of the buffer that the controller fetched and has not written back
+-- The number of the buffer that the controller fetched and has not written back.
 abbrev pub held_number : ControllerSide → Option ℕ
 held_number c = number_in (ends.held c)

@@ -16,7 +16,7 @@ use Rattle.rx_ring.specs.declared.events.RxControllerOwn.{RxControllerOwn}
 use Rattle.rx_ring.specs.Records.{DriverStep, ControllerStep, driving, controlling, knowing, reading}
 use Rattle.rx_ring.specs.Rule.{Learnt, LiesAs, says, lies_there}
 
--- both records are those of one lawful ring that a schedule makes, of which the driver has learnt what it says
+-- Both records are those of one lawful ring that a schedule reaches, and what the driver has learned is true of it.
 pub record AreOf (n : ℕ) (ds : List DriverStep) (cs : List ControllerStep) : Type 0 where
   pub queue : RxRing Bytes
   pub reachable : IsRxReachable Bytes n queue
@@ -26,12 +26,12 @@ pub record AreOf (n : ℕ) (ds : List DriverStep) (cs : List ControllerStep) : T
   pub lawful : IsLawfulRx Bytes queue
   pub size_is : queue.size ≡ n
 
--- a receive ring reports by its descriptors
+-- A receive ring reports in its descriptors.
 pub record RxLies (n : ℕ) (mode : Completion) (q : RxRing Bytes) (ds : List DriverStep) (cs : List ControllerStep) (words : List ℕ) (homes : List (maybe.Option Buffer)) : Type 0 where
   pub reports : mode ≡ Status
   pub lies : LiesAs n q ds cs words homes
 
--- an empty buffer is posted, and comes back with its number
+-- An empty buffer is posted, and comes back with its number.
 abbrev pub rx : Form (RxRing Bytes) ℕ (Segment Bytes) (Segment Bytes) RxDriverOwn RxControllerOwn
 rx = record {
   reading = reading;

@@ -10,27 +10,27 @@ pub use Rattle.shared_ring.specs.Meeting.{is_unanswered, served_now as stored_no
 use Rattle.rx_ring.specs.Ends.{DriverSide, driver_size, posted, taken, ControllerSide}
 use Rattle.rx_ring.specs.Form.{AreOf}
 
--- A made ring, whose two ends have done nothing yet: it is disabled, and reports by its descriptors
+-- A new ring that reports in its descriptors. It is disabled, and neither end has made a step.
 abbrev pub MadeSeats : ℕ → TableId → DriverSide → ControllerSide → Type 0
 MadeSeats n ring d c = shared.MadeSeats n Status ring d c
 
--- the ledger that two ends have together
+-- The ledger that the two ends have together.
 abbrev pub ledger_of : DriverSide → ControllerSide → RxLedger Bytes
 ledger_of d c = record { posted = posted d; served = stored_now d c; given = taken d }
 
--- how many segments were left to take, by the head that the driver loaded
+-- The number of segments left to take, from a loaded head.
 abbrev pub left_by : DriverSide → ℕ → ℕ
 left_by d head = (head + driver_size d - length (taken d) % driver_size d) % driver_size d
 
--- the numbers of the buffers that are out, the oldest first
+-- The numbers of the buffers that are out, oldest first.
 abbrev pub out_of : DriverSide → List ℕ
 out_of d = shared.out_of (λ number. number) d
 
--- each buffer that is out is once among those of these places and the one that the controller holds
+-- Each buffer that is out appears once among these places and the controller's held buffer.
 abbrev pub AllCameBack : DriverSide → ControllerSide → List (Option Buffer) → Type 0
 AllCameBack d c buffers = shared.AllCameBack (λ number. number) d c buffers
 
--- at this place lay the buffer of an item that is out, with the number that was posted there
+-- This place had the buffer of an item that is out, with the number that was posted there.
 pub record GaveBack (d : DriverSide) (buffers : List (Option Buffer)) (place : ℕ) : Type 0 where
   pub item : ℕ
   pub buf : Buffer
@@ -39,7 +39,7 @@ pub record GaveBack (d : DriverSide) (buffers : List (Option Buffer)) (place : �
   pub there : slice_get buffers place ≡ Some (Some buf)
   pub number : slice_get (posted d) item ≡ Some buf.number
 
--- A closed ring gave a buffer back at exactly the places that were with Ring, and each is that of an item that is out
+-- A closed ring gave a buffer back at exactly the places that Ring owned, each that of an item that is out.
 pub record IsClosed (d : DriverSide) (c : ControllerSide) (buffers : List (Option Buffer)) : Type 0 where
   pub of_one_ring : AreOf (driver_size d) d.events c.events
   pub places : CameBackFrom (driver_size d) of_one_ring.queue.owners (GaveBack d buffers) buffers

@@ -10,7 +10,8 @@ use Rattle.rx_ring.specs.declared.events.RxDriverOwn.TheVariants.{NotDone, Taken
 use Rattle.rx_ring.specs.declared.events.RxControllerOwn.TheVariants.{WroteBack, SaidQuiet}
 use Rattle.rx_ring.specs.Records.{DriverStep, ControllerStep, driving, eop_of}
 
--- A6: a descriptor with DD. Its buffer is the one posted next in order, the word tells its length, and its bytes follow the frame so far
+-- A6: a descriptor with DD. Its buffer is the next posted one in order, the word holds its length, and its bytes follow
+-- the frame so far.
 abbrev pub takes : ℕ → List DriverStep → ℕ → ℕ → Buffer → DriverStep
 takes n es place r b = driver.Own (Taken place r b)
 
@@ -20,32 +21,32 @@ pub record TakesOut (n : ℕ) (es : List DriverStep) (place r : ℕ) (buf : Buff
   pub real : buf ≡ buffer buf.number buf.bytes
   pub follows : Follows piece_of n (unfinished piece_of (driving es).given) buf.bytes (eop_of r)
 
--- one with no DD
+-- A6: a descriptor without DD.
 abbrev pub finds_none : ℕ → ℕ → DriverStep
 finds_none place r = driver.Own (NotDone place r)
 
 abbrev pub is_done : ℕ → Bool
 is_done word = word % 2 == 1
 
--- C8: 0 or 1
+-- C8: the quiet word is loaded as 0 or 1.
 abbrev pub loads_quiet : ℕ → List DriverStep → ℕ → ℕ → Buffer → DriverStep
 loads_quiet n es place r b = driver.Own (LoadedQuiet r)
 
 abbrev pub IsBit : ℕ → List DriverStep → ℕ → ℕ → Buffer → Type 0
 IsBit n es place r b = r ≤ 1
 
--- C11: the quiet word is 0 again
+-- C11: the quiet word is 0 again.
 abbrev pub clears_quiet : ℕ → List DriverStep → ℕ → ℕ → Buffer → DriverStep
 clears_quiet n es place r b = driver.Own ClearedQuiet
 
--- A5: the next descriptor is written back, with DD
+-- A5: the next descriptor is written back, with DD.
 abbrev pub writes_back : ℕ → List ControllerStep → ℕ → ℕ → Buffer → ControllerStep
 writes_back n es place r b = controller.Own (WroteBack place r b)
 
--- A7: the head (RDH)
+-- A7: the head (RDH) is stored.
 abbrev pub stores_head : ℕ → List ControllerStep → ℕ → ℕ → Buffer → ControllerStep
 stores_head n es place r b = controller.StoredHead r
 
--- C7: the quiet word is 1
+-- C7: the quiet word is stored as 1.
 abbrev pub says_quiet : ℕ → List ControllerStep → ℕ → ℕ → Buffer → ControllerStep
 says_quiet n es place r b = controller.Own SaidQuiet

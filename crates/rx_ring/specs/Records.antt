@@ -28,18 +28,18 @@ RxDriven = Driven ℕ (Segment Bytes)
 abbrev pub RxControlled : Type 0
 RxControlled = Controlled (Segment Bytes)
 
--- EOP of a write-back
+-- EOP of a write-back.
 abbrev pub eop_of : ℕ → Bool
 eop_of word = (word / 2) % 2 == 1
 
 abbrev pub segment_of : ℕ → Buffer → Segment Bytes
 segment_of word b = record { number = b.number; payload = b.bytes; eop = eop_of word }
 
--- a receive driver posts numbers of buffers
+-- A receive driver posts the numbers of buffers.
 abbrev pub posting : ℕ → Buffer → ℕ
 posting word b = b.number
 
--- the clearing of the quiet word ends the epoch: a new one begins, and is empty
+-- Clearing the quiet word ends the epoch. A new, empty one begins.
 abbrev pub drive_own : RxDriven → RxDriverOwn → RxDriven
 drive_own d (NotDone place word) = d
 drive_own d (Taken place word b) = record d { given = d.given ++ segment_of word b ∷ [] }
@@ -56,7 +56,7 @@ abbrev pub control_own : RxControlled → RxControllerOwn → RxControlled
 control_own c (WroteBack place word b) = record c { served = c.served ++ segment_of word b ∷ []; held = None }
 control_own c SaidQuiet = record c { barred = true }
 
--- which word a step loads or stores in a ring of n places, and the value that it finds or stores there
+-- The word that a step loads or stores in a ring of `n` places, and the value that it finds or stores there.
 abbrev pub driver_names : ℕ → RxDriverOwn → Access
 driver_names n (NotDone place word) = access place word
 driver_names n (Taken place word b) = access place word
@@ -73,7 +73,8 @@ control n = shared.control n control_own
 abbrev pub controlling : ℕ → List ControllerStep → RxControlled
 controlling n es = shared.controlling_from n control_own uncontrolled es
 
--- What the driver has learnt of the controller in this epoch: the head that it loaded, that the quiet word was 1, and that no stored segment is left to take
+-- What the driver has learned of the controller in this epoch: the head that it loaded, that the quiet word was 1, and
+-- that no stored segment is left to take.
 pub record Knowing : Type 0 where
   pub head : Option ℕ
   pub quiet : Bool
@@ -82,7 +83,7 @@ pub record Knowing : Type 0 where
 abbrev pub unknown : Knowing
 unknown = record { head = None; quiet = false; drained = false }
 
--- how many were taken, and how many posted, tell whether anything is out
+-- The numbers of taken and posted items decide whether anything is out.
 abbrev pub know_own : RxDriven → Knowing → RxDriverOwn → Knowing
 know_own d k (NotDone place word) = record k { drained = k.drained || k.quiet }
 know_own d k (Taken place word b) = record k { drained = k.drained || (k.quiet && (length d.given + 1 == length d.posted)) }

@@ -14,21 +14,23 @@ use Rattle.ring_model.specs.shared.Queue.{served_count, given_count}
 use Rattle.shared_ring.specs.Lies.{driven, IsControlled, LiesIn}
 use Rattle.rx_ring.specs.Records.{DriverStep, ControllerStep, driving, controlling, Knowing, knowing}
 
--- the word of an item, and the buffer in its slot
+-- The word of an item, and the buffer in its slot.
 abbrev pub says : ℕ → Option ℕ → Option (Segment Bytes) → ℕ
 says = rx_says {Payload = Bytes} length (λ b. buffer b []) buffer
 
 abbrev pub lies_there : Option ℕ → Option (Segment Bytes) → Option Buffer
 lies_there = rx_lies {Payload = Bytes} length (λ b. buffer b []) buffer
 
--- What the driver has learnt is so: the head that it loaded is the place after the last stored segment; the controller said that it stores no more, and stores no more; and what is stored is taken
+-- What the driver has learned is true. The loaded head is the place after the last stored segment. After quiet was
+-- loaded, the controller has said that it stores no more, and stores no more. If drained, all stored segments are
+-- taken.
 pub record Learnt (n : ℕ) (q : RxRing Bytes) (k : Knowing) : Type 0 where
   pub head : (place : ℕ) → k.head ≡ Some place → (is_answered q.handshake.driver ≡ true) × (place ≡ served_count q.queue % n)
   pub quiet : k.quiet ≡ true → rx_over q ≡ true
   pub said : k.quiet ≡ true → q.still ≡ true
   pub drained : k.drained ≡ true → (rx_over q ≡ true) × (given_count q.queue ≡ served_count q.queue)
 
--- the records are those of the ring q, and words and slots lie as q has them
+-- The records are those of the ring `q`, and words and slots are as `q` has them.
 pub record LiesAs (n : ℕ) (q : RxRing Bytes) (ds : List DriverStep) (cs : List ControllerStep) (words : List ℕ) (homes : List (maybe.Option Buffer)) : Type 0 where
   pub reachable : IsRxReachable Bytes n q
   pub driver : driving ds ≡ driven q.queue

@@ -8,13 +8,13 @@ use Rattle.shared_ring.specs.declared.events.DriverEvent.TheVariants as driver
 use Rattle.rx_ring.specs.declared.events.RxDriverOwn.TheVariants.{NotDone, Taken}
 use Rattle.rx_ring.specs.Ends.{DriverSide, driver_size, posted, taken, driver_grown}
 
--- A6: the descriptor had no DD
+-- A6: the descriptor had no DD.
 pub record FoundNothing (old : DriverSide) (place : ℕ) (new : DriverSide) : Type 0 where
   pub word : ℕ
   pub clear : word % 2 ≡ 0
   pub step : new ≡ driver_grown old (driver.Own (NotDone place word))
 
--- A6: it had, and its buffer came out
+-- A6: the descriptor had DD, and its buffer came out.
 pub record FoundSegment (old : DriverSide) (place : ℕ) (buf : Buffer) (eop : Bool) (new : DriverSide) : Type 0 where
   pub step : new ≡ driver_grown old (driver.Own (Taken place (rx_word (length buf.bytes) eop) buf))
   pub number : slice_get (posted old) (length (taken old)) ≡ Some buf.number

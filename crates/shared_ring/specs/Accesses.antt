@@ -14,7 +14,7 @@ pub record Access : Type 0 where
 abbrev pub access : ℕ → ℕ → Access
 access i v = record { index = i; value = v }
 
--- in a ring of n places, of which a direction's own steps access what `own` says
+-- For a ring of `n` places. `own` is the access of a step that only one direction has.
 module _ {Own : Type 0} (own : ℕ → Own → Access) (n : ℕ) where
   abbrev pub driver_access : DriverEvent Own → Access
   driver_access (driver.Posted place word b) = access place word

@@ -32,17 +32,17 @@ module _ {Ring Posted Served Given D C : Type 0} {form : Form Ring Posted Served
   abbrev pub IsFreshController : ControllerSide form → Type 0
   IsFreshController c = c.events ≡ []
 
-  -- all that is posted came back
+  -- No buffer is out, and nothing changed.
   pub record NoneOut (old new : DriverSide form) : Type 0 where
     pub none_out : returned old ≡ length (posted old)
     pub same : new ≡ old
 
-  -- the oldest buffer that was out came back, or all had come back
+  -- The oldest buffer that was out came back, or no buffer was out.
   abbrev pub ReclaimedNext : DriverSide form → Option Buffer → DriverSide form → Type 0
   ReclaimedNext old None new = NoneOut old new
   ReclaimedNext old (Some buf) new = CameBack old (next_place old) buf new
 
-  -- A3, B3: the tail was loaded, and so many are ahead
+  -- A3, B3: the tail was loaded, and `count` descriptors are ahead.
   pub record FoundAhead (old : ControllerSide form) (count : ℕ) (new : ControllerSide form) : Type 0 where
     pub tail : ℕ
     pub step : new ≡ controller_grown old (controller.Looked tail)
@@ -50,18 +50,19 @@ module _ {Ring Posted Served Given D C : Type 0} {form : Form Ring Posted Served
     pub same : controller_record new ≡ record (controller_record old) { known = length (served old) + count }
     pub grows : known_ahead old ≤ count
 
-  -- an enabling is asked, and may be answered
+  -- An enabling was asked and may be answered.
   pub record MayEnable (c : ControllerSide form) : Type 0 where
     pub asked : seen c ≡ 1
     pub idle : is_serving (controller_state c) ≡ false
 
-  -- a new epoch begins: nothing is served in it, and nothing known
+  -- A new epoch begins. Nothing is served in it, and nothing is known.
   pub record AnsweredEnabling (old new : ControllerSide form) : Type 0 where
     pub was : is_serving (controller_state old) ≡ false
     pub step : new ≡ controller_grown old controller.Enabled
     pub same : controller_record new ≡ record (controller_record old) { served = []; known = 0; head = 0; state = Serving; seen = 2; barred = false }
 
-  -- the end serves, nothing is held, the last that was served ends a frame, the head is stored after it, and the direction lets go
+  -- The end serves and holds nothing, the last served item ends a frame, the head is stored after it, and the direction
+  -- allows a disabling.
   pub record IsSettled (c : ControllerSide form) : Type 0 where
     pub serving : is_serving (controller_state c) ≡ true
     pub held : held c ≡ None
@@ -69,7 +70,7 @@ module _ {Ring Posted Served Given D C : Type 0} {form : Form Ring Posted Served
     pub head : head_stored c ≡ serve_place c
     pub may : form.MayDisable (controller_record c)
 
-  -- a disabling is asked, and may be answered
+  -- A disabling was asked and may be answered.
   pub record MayDisable (c : ControllerSide form) : Type 0 where
     pub asked : seen c ≡ 3
     pub settled : IsSettled c
@@ -78,7 +79,7 @@ module _ {Ring Posted Served Given D C : Type 0} {form : Form Ring Posted Served
   abbrev pub MayAnswer : ControllerSide form → Type 0
   MayAnswer c = MayEnable c ⊎ MayDisable c
 
-  -- what may be told: an enabling that is asked, with nothing held, or a disabling
+  -- The answer that may be stored: to an asked enabling if nothing is held, or to an asked disabling.
   abbrev pub MayTell : Control → ControllerSide form → Type 0
   MayTell Enabled c = MayEnable c × (held c ≡ None)
   MayTell Disabled c = MayDisable c
@@ -92,7 +93,7 @@ module _ {Ring Posted Served Given D C : Type 0} {form : Form Ring Posted Served
   abbrev pub Answered : ControllerSide form → ControllerSide form → Type 0
   Answered old new = AnsweredEnabling old new ⊎ AnsweredDisabling old new
 
-  -- A3, B3, or C2: a word was loaded
+  -- A3, B3 or C2: a word was loaded.
   abbrev pub MayLoadWord : ControllerLoad → ControllerSide form → Type 0
   MayLoadWord Tail c = is_serving (controller_state c) ≡ true
   MayLoadWord Request c = Unit {0}
@@ -105,7 +106,8 @@ module _ {Ring Posted Served Given D C : Type 0} {form : Form Ring Posted Served
   LoadedWord Tail old word new = FoundTail old word new
   LoadedWord Request old word new = LoadedRequested old word new
 
--- A step of the driver's half of the handshake, with the control value that it stored or loaded: its event, how far the driver then is, and where it may be made
+-- A step of the driver's half of the handshake, with the control value that it stored or loaded: its event, the
+-- driver's state after it, and when it may happen.
 abbrev pub shake_event : {D : Type 0} → HandshakeStep → ℕ → DriverEvent D
 shake_event AskEnable w = driver.AskedEnable
 shake_event LoadControl w = driver.LoadedControl w
@@ -116,7 +118,7 @@ shaken AskEnable s w = Asked
 shaken LoadControl s w = learned s w
 shaken AskDisable s w = Stopping
 
--- an asking stores this value
+-- A request stores this value.
 abbrev pub StoredBy : HandshakeStep → Control → Type 0
 StoredBy AskEnable c = c ≡ EnableAsked
 StoredBy LoadControl c = Unit {0}
@@ -132,7 +134,7 @@ MayShake AskEnable s = is_new s ≡ true
 MayShake LoadControl s = Unit {0}
 MayShake AskDisable s = is_on s ≡ true
 
--- What the places of a driver's end tell of its record
+-- The fields of a driver's end agree with its record.
 pub record IsPoster {Posted Given : Type 0} (n : ℕ) (x : Driven Posted Given) (at : DriverPlaces) : Type 0 where
   pub lawful : IsRingLength n
   pub size_is : at.size ≡ n
@@ -143,7 +145,7 @@ pub record IsPoster {Posted Given : Type 0} (n : ℕ) (x : Driven Posted Given) 
   pub state_is : at.state ≡ x.state
   pub unreclaimed : is_answered x.state ≡ false → x.reclaimed ≡ 0
 
--- What the places of a controller's end tell of its record
+-- The fields of a controller's end agree with its record.
 pub record IsServer {Served : Type 0} (carries : Served → Piece) (n : ℕ) (x : Controlled Served) (at : ControllerPlaces) : Type 0 where
   pub lawful : IsRingLength n
   pub size_is : at.size ≡ n

@@ -9,7 +9,7 @@ module _ {V E : Type 0} {whose : End V E} {st : Step Buffer} {m : Me Buffer V} {
   pub counts : {e : E} {slots : List (ℕ × Buffer)} → Adds whose st m r e slots m' → Counts whose st m r m'
   counts {e} {slots} t = record { event = e; slots = slots; adds = t }
 
-  -- whether the word that was loaded is done or not
+  -- For both cases of the loaded word: done or not.
   module _ {event : Event E} {tells : Tells E} {missed : ℕ → ℕ → E} {done : ℕ → Bool} (t : Finds whose event tells missed done st m r m') where
     either_counts : (b : Bool) → done r ≡ b → Counts whose st m r m'
     either_counts true f = let o = t.taken f in counts o.adds

@@ -17,11 +17,11 @@ use Rattle.shared_ring.specs.Registers.{head_index, tail_index, control_index}
 use Rattle.shared_ring.specs.Tables.{words_of}
 
 module _ {Ring Posted Served Given D C : Type 0} (form : Form Ring Posted Served Given D C) (n : ℕ) (mode : Completion) where
-  -- words, slots and both records agree with some ring
+  -- Words, slots and both records agree with some ring.
   abbrev pub Agrees : List (DriverEvent D) → List (ControllerEvent C) → List ℕ → List (maybe.Option Buffer) → Type 0
   Agrees ds cs words homes = (q : Ring) × form.Lies n mode q ds cs words homes
 
-  -- the buffer of a posting is taken out of the slot of this place
+  -- A posting's buffer is taken out of the slot of this place.
   pub record TakesOut (d : Driven Posted Given) (place : ℕ) (homes : List (maybe.Option Buffer)) (ds : Buffer → List (DriverEvent D)) (cs : List (ControllerEvent C)) (words : List ℕ) : Type 0 where
     pub item : Posted
     pub buf : Buffer
@@ -30,7 +30,7 @@ module _ {Ring Posted Served Given D C : Type 0} (form : Form Ring Posted Served
     pub is_of : form.IsOf item buf
     pub agrees : Agrees (ds buf) cs words (slice_set homes place none)
 
-  -- the buffer of a fetched descriptor is taken out of the slot of this place
+  -- The buffer of a fetched descriptor is taken out of the slot of this place.
   pub record Fetches (c : Controlled Served) (place : ℕ) (homes : List (maybe.Option Buffer)) (ds : List (DriverEvent D)) (cs : Buffer → List (ControllerEvent C)) (words : List ℕ) : Type 0 where
     pub buf : Buffer
     pub home : get_elem? homes place ≡ some (some buf)
@@ -74,7 +74,7 @@ module _ {Ring Posted Served Given D C : Type 0} (form : Form Ring Posted Served
   pub record IsAllowed (q : Ring) (ds : List (DriverEvent D)) (cs : List (ControllerEvent C)) (words : List ℕ) (homes : List (maybe.Option Buffer)) : Type 0 where
     pub driver : DriverMay ds cs words homes
     pub controller : ControllerMay ds cs words homes
-    -- what both ends know as they meet, and as the table is closed
+    -- What both ends know when they meet, and when the table is closed.
     pub agree : form.AreOf n ds cs
     pub left : (slots : List Buffer) → ((k : ℕ) (y : Buffer) → get_elem? homes k ≡ some (some y) → get_elem? slots k ≡ some y) → form.LeftIn n ds cs slots
 

@@ -11,17 +11,17 @@ use Rattle.shared_ring.specs.declared.events.ControllerEvent.{ControllerEvent}
 use Rattle.shared_ring.specs.Records.{Driven, Controlled, ends_whole}
 use Rattle.shared_ring.specs.Forms.{Form, driving, knowing, controlling}
 
--- an end of a ring of either direction
+-- An end of a ring of either direction.
 pub record Side (Event : Type 0) : Type 0 where
   pub table : TableId
   pub completion : Completion
   pub events : List Event
 
--- its record is one event longer
+-- The end's record grows by one event.
 abbrev pub grown : {Event : Type 0} → Side Event → Event → Side Event
 grown s e = record s { events = s.events ++ e ∷ [] }
 
--- an end of a ring of one direction
+-- An end of a ring of one direction.
 module _ {Ring Posted Served Given D C : Type 0} (form : Form Ring Posted Served Given D C) where
   pub record DriverSide : Type 0 where
     pub table : TableId
@@ -46,11 +46,11 @@ module _ {Ring Posted Served Given D C : Type 0} (form : Form Ring Posted Served
   controller_side c = record { table = c.table; completion = c.completion; events = c.events }
 
 module _ {Ring Posted Served Given D C : Type 0} {form : Form Ring Posted Served Given D C} where
-  -- Words on a driver's end
+  -- The contents of a driver's end.
   abbrev pub driver_size : DriverSide form → ℕ
   driver_size d = d.table.slots
 
-  -- all that it did in this epoch
+  -- Everything that the driver did in this epoch.
   abbrev pub driver_record : DriverSide form → Driven Posted Given
   driver_record d = driving form d.events
 
@@ -66,18 +66,18 @@ module _ {Ring Posted Served Given D C : Type 0} {form : Form Ring Posted Served
   abbrev pub reclaimed : DriverSide form → ℕ
   reclaimed d = (driving form d.events).reclaimed
 
-  -- how many buffers came back: given, or reclaimed
+  -- The number of buffers that came back: given back or reclaimed.
   abbrev pub returned : DriverSide form → ℕ
   returned d = length (given d) + reclaimed d
 
   abbrev pub driver_state : DriverSide form → DriverState
   driver_state d = (driving form d.events).state
 
-  -- what it has learnt of the controller in this epoch
+  -- What the driver has learned of the controller in this epoch.
   abbrev pub known_of : (d : DriverSide form) → form.Known
   known_of d = knowing form d.events
 
-  -- the next place to post, and the oldest place that is out
+  -- The next place to post, and the oldest place that is out.
   abbrev pub fill_place : DriverSide form → ℕ
   fill_place d = length (posted d) % driver_size d
 
@@ -87,41 +87,41 @@ module _ {Ring Posted Served Given D C : Type 0} {form : Form Ring Posted Served
   abbrev pub driver_grown : DriverSide form → DriverEvent D → DriverSide form
   driver_grown d e = record d { events = d.events ++ e ∷ [] }
 
-  -- Words on a controller's end
+  -- The contents of a controller's end.
   abbrev pub controller_size : ControllerSide form → ℕ
   controller_size c = c.table.slots
 
-  -- all that it did since it was enabled
+  -- Everything that the controller did since it was enabled.
   abbrev pub controller_record : ControllerSide form → Controlled Served
   controller_record c = controlling form (controller_size c) c.events
 
   abbrev pub served : ControllerSide form → List Served
   served c = (controller_record c).served
 
-  -- how many descriptors it knows that it has not served
+  -- The number of descriptors that the controller knows of and has not served.
   abbrev pub known_ahead : ControllerSide form → ℕ
   known_ahead c = (controller_record c).known - length (served c)
 
-  -- the buffer that it fetched and still has
+  -- The buffer that the controller fetched and still has.
   abbrev pub held : ControllerSide form → Option Buffer
   held c = (controller_record c).held
 
   abbrev pub controller_state : ControllerSide form → ControllerState
   controller_state c = (controller_record c).state
 
-  -- the control value that it loaded or answered last
+  -- The control value that the controller last loaded or answered.
   abbrev pub seen : ControllerSide form → ℕ
   seen c = (controller_record c).seen
 
-  -- the head that it stored last
+  -- The head that the controller last stored.
   abbrev pub head_stored : ControllerSide form → ℕ
   head_stored c = (controller_record c).head
 
-  -- whether it may fetch no more for now
+  -- Whether the controller may fetch no more for now.
   abbrev pub is_barred : ControllerSide form → Bool
   is_barred c = (controller_record c).barred
 
-  -- whether the last that was served ends a frame, or there is none
+  -- Whether the last served item ends a frame; true if there is none.
   abbrev pub is_between : ControllerSide form → Bool
   is_between c = ends_whole form.carries (served c)
 

@@ -12,16 +12,16 @@ use Rattle.shared_ring.specs.Accesses.{Access}
 use Rattle.shared_ring.specs.Records as records
 use Rattle.shared_ring.specs.Records.{Driven, Controlled, undriven, uncontrolled}
 
--- How the records of its two ends are read
+-- How to read the records of the two ends.
 pub record Reading (Posted Served Given D C : Type 0) : Type 1 where
-  -- what a driver posts with a word and a buffer, and what steps of the direction's own make
+  -- What a driver posts with a word and a buffer, and how the direction's own steps change the records.
   pub posting : ℕ → Buffer → Posted
   pub drive_own : Driven Posted Given → D → Driven Posted Given
   pub control_own : Controlled Served → C → Controlled Served
-  -- which word of a table of n places, and which value, a step of the direction's own names
+  -- The word of a table of `n` places, and the value, of a direction's own step.
   pub driver_names : ℕ → D → Access
   pub controller_names : ℕ → C → Access
-  -- what a driver learns of its controller: by the head that it loads, and by steps of the direction's own
+  -- What a driver learns of its controller, from the head that it loads and from the direction's own steps.
   pub Known : Type 0
   pub unknown : Known
   pub saw_head : Known → ℕ → Known
@@ -30,26 +30,28 @@ pub record Reading (Posted Served Given D C : Type 0) : Type 1 where
 pub record Form (Ring Posted Served Given D C : Type 0) : Type 1 where
   pub reading : Reading Posted Served Given D C
   pub open reading use *
-  -- the piece of a frame that a served item carries
+  -- The piece of a frame that a served item carries.
   pub carries : Served → Piece
-  -- how its rings may report
+  -- The ways in which its rings may report.
   pub Reports : Completion → Type 0
-  -- in a ring of n places a buffer may be posted with this word after what is posted; so much may be published; the tail may be cleared before the epoch's last step
+  -- In a ring of `n` places: whether a buffer may be posted with this word after the posted items, whether these may be
+  -- published, and whether the tail may be cleared before the epoch's last step.
   pub MayPost : ℕ → List Posted → ℕ → Buffer → Type 0
   pub MayPublish : List Posted → Type 0
   pub MayClearTail : Completion → Type 0
-  -- a disabling may be answered with the head stored and nothing held
+  -- Whether a disabling may be answered once the head is stored and nothing is held.
   pub MayDisable : Controlled Served → Type 0
-  -- what is known of a word and its buffer that are fetched, and of a buffer that was posted so
+  -- What is known of a fetched word and its buffer, and of the buffer of a posted item.
   pub IsFetched : ℕ → Controlled Served → ℕ → Buffer → Type 0
   pub IsOf : Posted → Buffer → Type 0
-  -- words, slots and both records agree with a ring; what that tells of both records, and of the slots of a closed table
+  -- Words, slots and both records agree with a ring; the consequence for both records; and the consequence for the
+  -- slots of a closed table.
   pub Lies : ℕ → Completion → Ring → List (DriverEvent D) → List (ControllerEvent C) → List ℕ → List (maybe.Option Buffer) → Type 0
   pub AreOf : ℕ → List (DriverEvent D) → List (ControllerEvent C) → Type 0
   pub LeftIn : ℕ → List (DriverEvent D) → List (ControllerEvent C) → List Buffer → Type 0
 
 module _ {Ring Posted Served Given D C : Type 0} (form : Form Ring Posted Served Given D C) where
-  -- what the records amount to, and one event more of them
+  -- The contents of the records, and the effect of one more event.
   abbrev pub drive : Driven Posted Given → DriverEvent D → Driven Posted Given
   drive d e = records.drive form.posting form.drive_own d e
 
@@ -68,7 +70,7 @@ module _ {Ring Posted Served Given D C : Type 0} (form : Form Ring Posted Served
   abbrev pub controlling : ℕ → List (ControllerEvent C) → Controlled Served
   controlling n es = records.controlling_from n form.control_own uncontrolled es
 
-  -- which word, and which value, an event names
+  -- The word and the value of an event.
   abbrev pub driver_access : ℕ → DriverEvent D → Access
   driver_access n e = accesses.driver_access form.driver_names n e
 

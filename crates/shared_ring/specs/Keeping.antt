@@ -14,18 +14,18 @@ use Rattle.shared_ring.specs.Plays.{End, Seated, driver_end, controller_end}
 use Rattle.shared_ring.specs.Tables.{IsRuledBy, IsTableOf, words_of}
 
 module _ {Ring Posted Served Given D C : Type 0} (form : Form Ring Posted Served Given D C) where
-  -- the rule at n
+  -- The rule of the table of a ring of `n` places.
   abbrev pub IsRuled : ℕ → Completion → State Buffer (View (DriverEvent D) (ControllerEvent C)) → Type 0
   IsRuled n mode s = IsRuledBy (form.Lies n mode) n (words_of n mode) s
 
-  -- a ring's table, and room for all its buffers
+  -- A ring's table, and empty room for all its buffers.
   pub record IsRing (table : TableId) (key : ℕ × Completion) (room : List (Option Buffer)) (capacity : ℕ) : Type 0 where
     pub law : IsDirection form
     pub of_key : IsTableOf table key.0 key.1
     pub empty : room ≡ []
     pub room_is : key.0 ≤ capacity
 
-  -- the seat of an end has the slots that its record tells
+  -- The seat of an end has the slots that follow from its record.
   pub record IsSeat {E : Type 0} (whose : End (View (DriverEvent D) (ControllerEvent C)) E) (table : TableId) (me : Seated (DriverEvent D) (ControllerEvent C)) (size : ℕ) (mode : Completion) : Type 0 where
     pub law : IsDirection form
     pub size_is : table.slots ≡ size

@@ -13,11 +13,11 @@ use Rattle.shared_ring.specs.Registers.{HasRegisters, registers_of}
 use Rattle.shared_ring.specs.Slots.{home_at}
 use Rattle.shared_ring.specs.Records.{Driven, Controlled}
 
--- what the driver has of a queue
+-- The driver's record of a queue.
 abbrev pub driven : {Posted Served Given : Type 0} → Queue Posted Served Given → Driven Posted Given
 driven q = record { posted = q.ledger.posted; published = q.published; given = q.ledger.given; reclaimed = q.reclaimed; state = q.handshake.driver }
 
--- an epoch has not begun for the controller yet
+-- The driver has cleared the head or begun an epoch, and has not yet seen the epoch enabled.
 abbrev pub is_early : DriverState → Bool
 is_early New = true
 is_early Asked = true
@@ -26,7 +26,7 @@ is_early Tailed = true
 is_early _ = false
 
 module _ {Posted Served Given : Type 0} (says : ℕ → Option Posted → Option Served → ℕ) (lies : Option Posted → Option Served → Option Buffer) where
-  -- what the controller has of it. Between a renewal and the answer to it, the controller still has its record of the epoch before
+  -- The controller's record of a queue. Between a renewal and the answered enabling, it is that of the previous epoch.
   pub record IsControlled (q : Queue Posted Served Given) (bars : Bool) (c : Controlled Served) : Type 0 where
     pub served : is_between q.handshake ≡ false → c.served ≡ q.ledger.served
     pub known : is_between q.handshake ≡ false → c.known ≡ q.known
@@ -36,7 +36,7 @@ module _ {Posted Served Given : Type 0} (says : ℕ → Option Posted → Option
     pub seen : c.seen ≡ q.handshake.seen
     pub barred : c.barred ≡ bars
 
-  -- Words and slots lie as the queue has them: m words, of which those beyond n are registers
+  -- Words and slots are as the queue has them. There are `m` words, and those beyond `n` are registers.
   pub record LiesIn (n m : ℕ) (q : Queue Posted Served Given) (quiet : ℕ) (words : List ℕ) (homes : List (maybe.Option Buffer)) : Type 0 where
     pub word_count : length words ≡ m
     pub slot_count : length homes ≡ n
@@ -44,12 +44,12 @@ module _ {Posted Served Given : Type 0} (says : ℕ → Option Posted → Option
     pub items : HasItems {Given = Given} says lies n q (slice_index words) (home_at homes)
     pub cleared : is_early q.handshake.driver ≡ true → is_serving q.handshake.controller ≡ false → q.head ≡ 0
 
--- What lies in the slots as a table is closed: the buffer of each item that is out and not held
+-- The slots when a table is closed: the buffer of each item that is out and not held.
 abbrev pub AllLeft : {Posted Served Given : Type 0} → (Option Posted → Option Served → Option Buffer) → ℕ → Queue Posted Served Given → List Buffer → Type 0
 AllLeft lies n q slots = (k : ℕ) (b : Buffer) → returned_count q ≤ k → k < posted_count q → (q.held ≡ true → ¬ (k ≡ served_count q))
     → lies (slice_get q.ledger.posted k) (slice_get q.ledger.served k) ≡ Some b → get_elem? slots (k % n) ≡ some b
 
--- and both records are those of one ring
+-- The same, for the queue of one ring that both records agree with.
 pub record LeftOf {Posted Served Given : Type 0} (Of : Type 0) (queue_of : Of → Queue Posted Served Given) (lies : Option Posted → Option Served → Option Buffer) (n : ℕ) (slots : List Buffer) : Type 0 where
   pub of_one_ring : Of
   pub buffers : AllLeft lies n (queue_of of_one_ring) slots

@@ -14,7 +14,7 @@ use Rattle.ring_model.specs.shared.Places.{between_places}
 use Rattle.shared_ring.specs.Ends.{DriverSide, driver_size, driver_state, posted, returned, ControllerSide, controller_state, served, held}
 use Rattle.shared_ring.specs.Forms.{Form}
 
--- the slot at a place, where one lies in the ring: fewer than `out` places after `next`, and not held
+-- The slot at a place, if its buffer is in the ring: fewer than `out` places after `next`, and not held.
 abbrev pub slot_of : maybe.Option Buffer → Option Buffer
 slot_of none = None
 slot_of (some b) = Some b
@@ -29,7 +29,7 @@ abbrev pub kept_upto : (ℕ → Option Buffer) → ℕ → List (Option Buffer)
 kept_upto f zero = []
 kept_upto f (suc k) = kept_upto f k ++ f k ∷ []
 
--- the numbers of the buffers of a list of places, in their order
+-- The numbers of the buffers in a list of places, in order.
 abbrev pub number_at : Option Buffer → List ℕ
 number_at None = []
 number_at (Some b) = b.number ∷ []
@@ -38,26 +38,26 @@ abbrev pub numbers_at : List (Option Buffer) → List ℕ
 numbers_at [] = []
 numbers_at (o ∷ os) = number_at o ++ numbers_at os
 
--- a buffer with its number and with room, no blank
+-- A buffer with a number and room, not a blank.
 abbrev pub IsReal : Buffer → Type 0
 IsReal b = b ≡ buffer b.number b.bytes
 
 abbrev pub AllReal : List (Option Buffer) → Type 0
 AllReal buffers = All (λ o. IfSome o IsReal) buffers
 
--- Of a closed ring a buffer came back at exactly the places that were with Ring, and `Gave` goes for each of them
+-- A buffer came back from a closed ring at exactly the places that Ring owned, and `Gave` holds for each of them.
 pub record CameBackFrom (n : ℕ) (owners : List Owner) (Gave : ℕ → Type 0) (buffers : List (Option Buffer)) : Type 0 where
   pub count : length buffers ≡ n
   pub ring : (place : ℕ) → slice_get owners place ≡ Some owner.Ring → Gave place
   pub others : (place : ℕ) → place < n → ¬ (slice_get owners place ≡ Some owner.Ring) → slice_get buffers place ≡ Some None
 
--- where it was told how many are left, a list is longer than another by as many
+-- If the number left is known, one list is longer than the other by that number.
 abbrev pub IsTold : Option ℕ → ℕ → ℕ → Type 0
 IsTold None fewer more = Unit {0}
 IsTold (Some left) fewer more = more ≡ fewer + left
 
 module _ {Ring Posted Served Given D C : Type 0} {form : Form Ring Posted Served Given D C} where
-  -- A made ring, whose two ends have done nothing yet: it is disabled
+  -- A new ring. It is disabled, and neither end has made a step.
   pub record MadeSeats (n : ℕ) (mode : Completion) (ring : TableId) (d : DriverSide form) (c : ControllerSide form) : Type 0 where
     pub length_is : IsRingLength n
     pub size_is : ring.slots ≡ n
@@ -68,37 +68,37 @@ module _ {Ring Posted Served Given D C : Type 0} {form : Form Ring Posted Served
     pub driver_empty : d.events ≡ []
     pub controller_empty : c.events ≡ []
 
-  -- the driver is in an epoch that the controller has not answered yet
+  -- The driver is in an epoch that the controller has not answered yet.
   abbrev pub is_unanswered : DriverSide form → ControllerSide form → Bool
   is_unanswered d c = is_ended (controller_state c) && is_open (driver_state d)
 
-  -- the numbers of the buffers that are out, the oldest first; a posting's is `number`
+  -- The numbers of the buffers that are out, oldest first. `number` is that of a posting.
   abbrev pub out_of : (Posted → ℕ) → DriverSide form → List ℕ
   out_of number d = map number (drop (returned d) (posted d))
 
-  -- each buffer that is out is once among those of these places and the one that the controller holds
+  -- Each buffer that is out appears once among these places and the controller's held buffer.
   abbrev pub AllCameBack : (Posted → ℕ) → DriverSide form → ControllerSide form → List (Option Buffer) → Type 0
   AllCameBack number d c buffers = IsPermutation (out_of number d) (numbers_at buffers ++ number_at (held c))
 
-  -- what is served in the driver's epoch: nothing, as long as the controller has not answered its enabling
+  -- The items served in the driver's epoch: none until the controller has answered its enabling.
   abbrev pub served_now : DriverSide form → ControllerSide form → List Served
   served_now d c = if is_unanswered d c then [] else served c
 
-  -- both records are those of one ring
+  -- Both records are those of one ring.
   abbrev pub Met : DriverSide form → ControllerSide form → Type 0
   Met d c = form.AreOf (driver_size d) d.events c.events
 
-  -- the item is out, and this is its place
+  -- The item is out, and this is its place.
   pub record IsOutAt (d : DriverSide form) (item place : ℕ) : Type 0 where
     pub out : returned d ≤ item
     pub posted_item : item < length (posted d)
     pub place_is : item % driver_size d ≡ place
 
-  -- what lies in the slots as the table is closed
+  -- The contents of the slots when the table is closed.
   abbrev pub LeftIn : DriverSide form → ControllerSide form → List Buffer → Type 0
   LeftIn d c slots = form.LeftIn (driver_size d) d.events c.events slots
 
-  -- the buffers of the places that are kept, in order
+  -- The buffers of the places that are kept, in order.
   pub record TakenApart (d : DriverSide form) (c : ControllerSide form) (next out serve : ℕ) (holding : Bool) (buffers : List (Option Buffer)) : Type 0 where
     pub slots : List Buffer
     pub left : LeftIn d c slots

@@ -24,18 +24,18 @@ abbrev pub Tells : Type 0 → Type 1
 Tells E = ℕ → List E → ℕ → ℕ → Buffer → Type 0
 
 module _ {Posted Given : Type 0} where
-  -- what is posted and what came back stays
+  -- The posted items and those that came back are unchanged.
   pub record SameOut (d e : Driven Posted Given) : Type 0 where
     pub posted : e.posted ≡ d.posted
     pub given : e.given ≡ d.given
     pub reclaimed : e.reclaimed ≡ d.reclaimed
 
-  -- one more came back
+  -- One more item came back.
   pub record OneBack (d e : Driven Posted Given) : Type 0 where
     pub posted : e.posted ≡ d.posted
     pub back : length e.given + e.reclaimed ≡ length d.given + d.reclaimed + 1
 
-  -- the epoch ended
+  -- The epoch ended.
   pub record AllGone (e : Driven Posted Given) : Type 0 where
     pub posted : e.posted ≡ []
     pub given : e.given ≡ []
@@ -45,14 +45,14 @@ module _ {Ring Posted Served Given D C : Type 0} (form : Form Ring Posted Served
   abbrev d : Driven Posted Given
   d = driving form es
 
-  -- a buffer comes out of the slot of this place
+  -- A buffer comes out of the slot of this place.
   pub record Out (place r : ℕ) (homes : List (maybe.Option Buffer)) (cs : List (ControllerEvent C)) (words : List ℕ) : Type 0 where
     pub buf : Buffer
     pub home : get_elem? homes place ≡ some (some buf)
     pub told : tells n es place r buf
     pub agrees : Agrees form n mode (es ++ event n es place r buf ∷ []) cs words (slice_set homes place none)
 
-  -- a load
+  -- A load.
   pub record MayLoad (word : ℕ) : Type 0 where
     pub word_is : word < words_of n mode
     pub goes : (q : Ring) (cs : List (ControllerEvent C)) (words : List ℕ) (homes : List (maybe.Option Buffer)) → 1 < n → form.Lies n mode q es cs words homes
@@ -60,13 +60,13 @@ module _ {Ring Posted Served Given D C : Type 0} (form : Form Ring Posted Served
     pub same : (r : ℕ) → SameOut d (drive form d (event n es word r blank))
     pub names : (r : ℕ) → driver_access form n (event n es word r blank) ≡ access word r
 
-  -- a store of 0 by which a buffer comes back
+  -- A store of 0 that brings a buffer back.
   pub record MayClear (place : ℕ) : Type 0 where
     pub goes : (q : Ring) (cs : List (ControllerEvent C)) (words : List ℕ) (homes : List (maybe.Option Buffer)) → 1 < n → form.Lies n mode q es cs words homes → Out place 0 homes cs (slice_set words place 0)
     pub back : (b : Buffer) → OneBack d (drive form d (event n es place 0 b))
     pub names : (b : Buffer) → driver_access form n (event n es place 0 b) ≡ access place 0
 
-  -- a load by which a buffer comes back where the word is done, and else the event is `missed`
+  -- A load that brings a buffer back if the word is done. If not, the event is `missed`.
   pub record MayTake (missed : ℕ → ℕ → DriverEvent D) (done : ℕ → Bool) (place : ℕ) : Type 0 where
     pub undone : (q : Ring) (cs : List (ControllerEvent C)) (words : List ℕ) (homes : List (maybe.Option Buffer)) → 1 < n → form.Lies n mode q es cs words homes → done (slice_index words place) ≡ false
         → Agrees form n mode (es ++ missed place (slice_index words place) ∷ []) cs words homes
@@ -78,7 +78,7 @@ module _ {Ring Posted Served Given D C : Type 0} (form : Form Ring Posted Served
     pub names : (r : ℕ) (b : Buffer) → driver_access form n (event n es place r b) ≡ access place r
 
 module _ {Ring Posted Served Given D C : Type 0} (form : Form Ring Posted Served Given D C) (event : Event (DriverEvent D)) (n : ℕ) (mode : Completion) (es : List (DriverEvent D)) where
-  -- a store of 0 that ends the epoch
+  -- A store of 0 that ends the epoch.
   pub record MayEnd (word : ℕ) : Type 0 where
     pub word_is : word < words_of n mode
     pub goes : (q : Ring) (cs : List (ControllerEvent C)) (words : List ℕ) (homes : List (maybe.Option Buffer)) → 1 < n → form.Lies n mode q es cs words homes
@@ -90,7 +90,7 @@ module _ {Ring Posted Served Given D C : Type 0} (form : Form Ring Posted Served
   abbrev c : Controlled Served
   c = controlling form n es
 
-  -- a store
+  -- A store.
   pub record MayStore (word v : ℕ) : Type 0 where
     pub word_is : word < words_of n mode
     pub goes : (q : Ring) (ds : List (DriverEvent D)) (words : List ℕ) (homes : List (maybe.Option Buffer)) → 1 < n → form.Lies n mode q ds es words homes
@@ -99,7 +99,7 @@ module _ {Ring Posted Served Given D C : Type 0} (form : Form Ring Posted Served
     pub held : (control form n c (event n es word v blank)).held ≡ c.held
     pub names : controller_access form n (event n es word v blank) ≡ access word v
 
-  -- a store by which the slot of the fetched buffer is given back
+  -- A store that gives the slot of the fetched buffer back.
   pub record MayGive (place word v : ℕ) (b : Buffer) : Type 0 where
     pub word_is : word < words_of n mode
     pub goes : (q : Ring) (ds : List (DriverEvent D)) (words : List ℕ) (homes : List (maybe.Option Buffer)) → 1 < n → form.Lies n mode q ds es words homes
@@ -107,7 +107,7 @@ module _ {Ring Posted Served Given D C : Type 0} (form : Form Ring Posted Served
     pub held : (control form n c (event n es word v b)).held ≡ None
     pub names : controller_access form n (event n es word v b) ≡ access word v
 
--- What a load by which a buffer may come back tells
+-- The result of a load that may bring a buffer back.
 module _ {E : Type 0} (event : Event E) (tells : Tells E) (missed : ℕ → ℕ → E) (done : ℕ → Bool) (old : Side E) (place r : ℕ) where
   pub record Missed (new : Side E) : Type 0 where
     pub undone : done r ≡ false

@@ -8,7 +8,7 @@ use Rattle.shared_ring.specs.Forms.{Form, driving}
 abbrev pub reclaiming : {D : Type 0} → ℕ → List (DriverEvent D) → ℕ → ℕ → Buffer → DriverEvent D
 reclaiming n es place r b = Reclaimed place b
 
--- it is the buffer of the oldest posting that is out
+-- The buffer is that of the oldest posting that is out.
 pub record Reclaims {Ring Posted Served Given D C : Type 0} (form : Form Ring Posted Served Given D C) (n : ℕ) (es : List (DriverEvent D)) (place r : ℕ) (b : Buffer) : Type 0 where
   pub item : Posted
   pub there : slice_get (driving form es).posted (length (driving form es).given + (driving form es).reclaimed) ≡ Some item

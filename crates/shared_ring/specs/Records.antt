@@ -13,7 +13,8 @@ use Rattle.shared_ring.specs.declared.events.ControllerEvent.{ControllerEvent}
 use Rattle.shared_ring.specs.declared.events.ControllerEvent.TheVariants as controller
 use Rattle.shared_ring.specs.Slots.{empty_slots, slots_while}
 
--- What the driver did in this epoch: what it posted, how much of that it published, what was given back, how many buffers it reclaimed; and how far it is
+-- The driver's record of this epoch: what it posted, how much of that it published, what was given back, how many
+-- buffers it reclaimed, and its state.
 pub record Driven (Posted Given : Type 0) : Type 0 where
   pub posted : List Posted
   pub published : ℕ
@@ -21,7 +22,9 @@ pub record Driven (Posted Given : Type 0) : Type 0 where
   pub reclaimed : ℕ
   pub state : DriverState
 
--- What the controller did since it was enabled: what it served, how many posted items it knows of, the buffer that it holds, the head that it stored; and how far it is, the control value that it loaded or answered last, and whether it may fetch no more for now
+-- The controller's record since it was enabled: what it served, how many posted items it knows of, the buffer that it
+-- holds, the head that it stored, its state, the control value that it last loaded or answered, and whether it may
+-- fetch no more for now.
 pub record Controlled (Served : Type 0) : Type 0 where
   pub served : List Served
   pub known : ℕ
@@ -31,7 +34,7 @@ pub record Controlled (Served : Type 0) : Type 0 where
   pub seen : ℕ
   pub barred : Bool
 
--- `posting` is what a driver posts with a word and a buffer, and `own` what a step of one direction makes
+-- `posting` is what a driver posts with a word and a buffer, and `own` is the effect of a direction's own step.
 module _ {Posted Given Own : Type 0} (posting : ℕ → Buffer → Posted) (own : Driven Posted Given → Own → Driven Posted Given) where
   abbrev pub drive : Driven Posted Given → DriverEvent Own → Driven Posted Given
   drive d (driver.Posted place word b) = record d { posted = d.posted ++ posting word b ∷ [] }
@@ -49,7 +52,7 @@ module _ {Posted Given Own : Type 0} (posting : ℕ → Buffer → Posted) (own 
   driving_from d [] = d
   driving_from d (e ∷ es) = driving_from (drive d e) es
 
--- What the driver has learnt, of the head that it loaded and by the steps of one direction
+-- What the driver has learned, from loaded heads and from the direction's own steps.
 module _ {Posted Given Own Known : Type 0} (posting : ℕ → Buffer → Posted) (own : Driven Posted Given → Own → Driven Posted Given) (saw_head : Known → ℕ → Known) (know_own : Driven Posted Given → Known → Own → Known) where
   abbrev pub know : Driven Posted Given → Known → DriverEvent Own → Known
   know d k (driver.LoadedHead word) = saw_head k word
@@ -63,11 +66,11 @@ module _ {Posted Given Own Known : Type 0} (posting : ℕ → Buffer → Posted)
 abbrev pub undriven : {Posted Given : Type 0} → Driven Posted Given
 undriven = record { posted = []; published = 0; given = []; reclaimed = 0; state = New }
 
--- the count of items up to a loaded tail, in a ring of n places where so many are served
+-- The number of items up to a loaded tail, in a ring of `n` places with `served` items served.
 abbrev pub count_at : ℕ → ℕ → ℕ → ℕ
 count_at n served tail = served + (tail + n - served % n) % n
 
--- an answered enabling begins the record anew
+-- An answered enabling starts an empty record.
 module _ {Served Own : Type 0} (n : ℕ) (own : Controlled Served → Own → Controlled Served) where
   abbrev pub control : Controlled Served → ControllerEvent Own → Controlled Served
   control c (controller.Looked tail) = record c { known = count_at n (length c.served) tail }
@@ -85,19 +88,19 @@ module _ {Served Own : Type 0} (n : ℕ) (own : Controlled Served → Own → Co
 abbrev pub uncontrolled : {Served : Type 0} → Controlled Served
 uncontrolled = record { served = []; known = 0; held = None; head = 0; state = Off; seen = 0; barred = false }
 
--- whether the last of what was served ends a frame, or there is none
+-- Whether the last served item ends a frame; true if there is none.
 abbrev pub ends_whole : {Served : Type 0} → (Served → Piece) → List Served → Bool
 ends_whole carries xs = ends_frame (λ s. (carries s).eop) true xs
 
--- the slots that the driver has, in the order in which it posts into them: those of the items that are not out
+-- The driver's slots, in the order in which it posts into them: those of the items that are not out.
 abbrev pub driver_slots : {Posted Given : Type 0} → ℕ → Driven Posted Given → List (ℕ × Buffer)
 driver_slots n d = empty_slots n (length d.posted) (length d.given + d.reclaimed + n - length d.posted)
 
--- the slot that the controller has: that of the fetched buffer
+-- The controller's slot: that of the fetched buffer.
 abbrev pub controller_slots : {Served : Type 0} → ℕ → Controlled Served → List (ℕ × Buffer)
 controller_slots n c = slots_while (length c.served % n) c.held
 
--- fewer than n buffers are out
+-- Fewer than n buffers are out.
 pub record IsWindow {Posted Given : Type 0} (n : ℕ) (d : Driven Posted Given) : Type 0 where
   pub back : length d.given + d.reclaimed ≤ length d.posted
   pub room : length d.posted < length d.given + d.reclaimed + n

@@ -2,14 +2,14 @@
 use Rattle.std.specs.Prelude.{◌≡◌, ℕ, ◌+◌, ◌%◌, List, slice_index}
 use Rattle.ring_model.specs.shared.Queue.{Queue}
 
--- The indexes of these words in the table of a ring of n places: they stand behind the descriptors' words. The datasheet's names:
+-- The indexes of these words in the table of a ring of `n` places, after the descriptors' words. The datasheet's names:
 --
 --   index         word     receive ring                        transmit ring
 --   n             head     RDH                                 TDH
 --   n + 1         tail     RDT                                 TDT
 --   n + 2         control  RXDCTL.ENABLE, asked and answered   TXDCTL.ENABLE, asked and answered
 --   n + 3         quiet    (none: nothing more is stored)      (none, and unused)
---   n + 4         report   (not there)                         the head write-back, where reports are made by it
+--   n + 4         report   (none)                              the head write-back, if reports use it
 abbrev pub head_index : ℕ → ℕ
 head_index n = n
 
@@ -25,7 +25,7 @@ quiet_index n = n + 3
 abbrev pub report_index : ℕ → ℕ
 report_index n = n + 4
 
--- the values of the words that every ring has
+-- The values of the words that every ring has.
 pub record Registers : Type 0 where
   pub head : ℕ
   pub tail : ℕ

@@ -7,7 +7,7 @@ use Rattle.shared_ring.specs.declared.events.View.{View}
 use Rattle.shared_ring.specs.declared.events.View.TheVariants.{Maker, Driver, Controller, Both, Nobody}
 
 module _ {D C : Type 0} where
-  -- the driver's record in a view, and the controller's; empty where there is none
+  -- The driver's record in a view, and the controller's; empty if there is none.
   abbrev pub driver_part : View D C → List D
   driver_part Maker = []
   driver_part (Driver ds) = ds
@@ -22,7 +22,7 @@ module _ {D C : Type 0} where
   controller_part (Both ds cs) = cs
   controller_part Nobody = []
 
-  -- the seat j has the view v, where the seat i has the driver's record ds and the seat k the controller's record cs
+  -- Seat `j` has view `v`. Seat `i` has the driver's record `ds`, and seat `k` the controller's record `cs`.
   abbrev pub Fits : List D → List C → ℕ → ℕ → ℕ → View D C → Type 0
   Fits ds cs i k j Maker = ⊥
   Fits ds cs i k j (Driver es) = (j ≡ i) × (es ≡ ds)
@@ -30,13 +30,13 @@ module _ {D C : Type 0} where
   Fits ds cs i k j (Both es fs) = (j ≡ i) × (es ≡ ds) × (j ≡ k) × (fs ≡ cs)
   Fits ds cs i k j Nobody = Unit {0}
 
-  -- the records are the driver's and the controller's, and each seat fits them
+  -- Every view fits the driver's record at one seat and the controller's record at one seat.
   pub record HasSeats (ds : List D) (cs : List C) (views : List (View D C)) : Type 0 where
     pub driver_seat : ℕ
     pub controller_seat : ℕ
     pub fits : (j : ℕ) (v : View D C) → get_elem? views j ≡ some v → Fits ds cs driver_seat controller_seat j v
 
-  -- a view cut in two, and put together
+  -- The two halves of a view, and two halves put together.
   abbrev pub driver_half : View D C → View D C
   driver_half v = Driver (driver_part v)
 

@@ -5,7 +5,7 @@ use mathlib.Core.Option.{some, none}
 use lib.ListN.{get_elem?}
 use Rattle.buffer_pool.specs.Buffer.{Buffer, blank}
 
--- the buffer in a slot that is at home
+-- The buffer in a slot that is in the table.
 abbrev pub at_home : maybe.Option (maybe.Option Buffer) → Option Buffer
 at_home none = None
 at_home (some none) = None
@@ -14,17 +14,17 @@ at_home (some (some b)) = Some b
 abbrev pub home_at : List (maybe.Option Buffer) → ℕ → Option Buffer
 home_at homes place = at_home (get_elem? homes place)
 
--- the slots of so many items from item k on, all empty
+-- The slots of the given number of items from item `k` on, all empty.
 abbrev pub empty_slots : ℕ → ℕ → ℕ → List (ℕ × Buffer)
 empty_slots n k zero = []
 empty_slots n k (suc more) = (k % n, blank) ∷ empty_slots n (k + 1) more
 
--- the slot that a controller has: that of the fetched buffer
+-- The controller's slot: that of the fetched buffer.
 abbrev pub slots_while : ℕ → Option Buffer → List (ℕ × Buffer)
 slots_while place None = []
 slots_while place (Some b) = (place, blank) ∷ []
 
--- the buffer in the slot that a seat took last
+-- The buffer in the slot that a seat took last.
 abbrev pub front_buffer : List (ℕ × Buffer) → Buffer
 front_buffer [] = blank
 front_buffer (x ∷ xs) = x.1

@@ -13,7 +13,7 @@ use Rattle.shared_ring.specs.declared.events.View.TheVariants.{Maker}
 use Rattle.shared_ring.specs.Seats.{HasSeats}
 
 module _ {Ring D C : Type 0} (Lies : Ring → List D → List C → List ℕ → List (maybe.Option Buffer) → Type 0) where
-  -- both ends are made
+  -- Both ends exist.
   pub record Runs (s : State Buffer (View D C)) : Type 0 where
     pub ring : Ring
     pub ds : List D
@@ -21,7 +21,7 @@ module _ {Ring D C : Type 0} (Lies : Ring → List D → List C → List ℕ →
     pub lies : Lies ring ds cs s.words s.homes
     pub seats : HasSeats ds cs s.views
 
--- the ring is being made: one seat, words of 0, and all slots at home and empty
+-- The ring is being made: one seat, words of 0, and all slots in the table and empty.
 pub record Begins (D C : Type 0) (n m : ℕ) (s : State Buffer (View D C)) : Type 0 where
   pub words : s.words ≡ replicate m 0
   pub homes : s.homes ≡ map some (replicate n blank)
@@ -31,12 +31,12 @@ module _ {Ring D C : Type 0} (Lies : Ring → List D → List C → List ℕ →
   abbrev pub IsRuledBy : ℕ → ℕ → State Buffer (View D C) → Type 0
   IsRuledBy n m s = (1 < n) × (Begins D C n m s ⊎ Runs Lies s)
 
--- a ring that reports by a head word has one word more
+-- A ring that reports through a head word has one word more.
 abbrev pub words_of : ℕ → Completion → ℕ
 words_of n Status = n + 4
 words_of n Head = n + 5
 
--- a ring's table: n slots, its words, and the rule at n
+-- A ring's table: `n` slots, its words, and a lawful length.
 pub record IsTableOf (table : TableId) (n : ℕ) (mode : Completion) : Type 0 where
   pub slots : table.slots ≡ n
   pub words : table.words ≡ words_of n mode

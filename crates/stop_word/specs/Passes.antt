@@ -1,10 +1,10 @@
--- What contracts see of a pass.
+-- The view of a pass in contracts.
 use Rattle.std.specs.Prelude.{ℕ, ◌+◌, Bool, false}
 use Rattle.atomic_table.specs.Seated.{TableId}
 use Rattle.stop_word.specs.declared.rule.Known.{Known}
 use Rattle.stop_word.specs.Rule.{either, whole_share}
 
--- which word it is of, its share, how often it was the first to set the word, and whether it saw the word set
+-- The pass's word, its share, how often it was the first to set the word, and whether it saw the word set.
 pub record Passed : Type 0 where
   pub word : TableId
   pub share : ℕ
@@ -14,14 +14,14 @@ pub record Passed : Type 0 where
 abbrev pub passed : TableId → Known → Passed
 passed word v = record { word = word; share = v.share; firsts = v.firsts; seen = v.seen }
 
--- of the pass that a new word comes with
+-- The pass that a new word comes with.
 abbrev pub first_pass : TableId → Passed
 first_pass word = record { word = word; share = whole_share; firsts = 0; seen = false }
 
--- of a pass that is split off
+-- A pass that is split off.
 abbrev pub part_of : Passed → Passed
 part_of p = record { word = p.word; share = 1; firsts = 0; seen = p.seen }
 
--- of a pass that took another in
+-- A pass that took another in.
 abbrev pub joined : Passed → Passed → Passed
 joined p q = record { word = p.word; share = p.share + q.share; firsts = p.firsts + q.firsts; seen = either p.seen q.seen }

@@ -7,7 +7,7 @@ use Rattle.teams.specs.declared.ending.Ending.{Ending}
 use Rattle.teams.specs.declared.ending.Ending.TheVariants.{Done, Refused, Stopped}
 use Rattle.teams.specs.Refusals.{Halted}
 
--- how two pieces of work ended together: a refusal comes before all else, and Stopped before Done
+-- The ending of two pieces of work together. A refusal outranks everything, and Stopped outranks Done.
 abbrev pub worse : Ending → Ending → Ending
 worse Done other = other
 worse (Refused e) other = Refused e
@@ -15,13 +15,14 @@ worse Stopped Done = Stopped
 worse Stopped (Refused e) = Refused e
 worse Stopped Stopped = Stopped
 
--- what a stop word's pass knows of work that ended so: how often it was the first to set the word, and whether it saw it set
+-- What a stop word's pass knows of work with this ending: how often it was the first to set the word, and whether it
+-- saw the word set.
 abbrev pub Tells : ℕ → Bool → Ending → Type 0
 Tells firsts seen Done = firsts ≡ 0
 Tells firsts seen (Refused e) = 0 < firsts
 Tells firsts seen Stopped = (firsts ≡ 0) × (seen ≡ true)
 
--- how a piece of work stands: its stop word, its share of that, and how it ended
+-- The state of a piece of work: its stop word, its share of that word, and its ending.
 pub record Stood : Type 0 where
   pub word : TableId
   pub share : ℕ
@@ -31,12 +32,12 @@ abbrev pub stood : TableId → ℕ → Ending → Stood
 stood word share ending = record { word = word; share = share; ending = ending }
 
 module _ {G : Type 0} where
-  -- what an ending says is so: where all is done this holds, and a refusal is one that there may be
+  -- The ending is true: `all` holds if it is Done, and a refusal is one that can happen.
   abbrev pub IsSo : Type 0 → (G → Who → Event → Bool → Type 0) → G → Ending → Type 0
   IsSo all answers gate Done = all
   IsSo all answers gate (Refused e) = Halted answers gate e
   IsSo all answers gate Stopped = Unit {0}
 
-  -- work with a share of 1 of the stop word, whose ending says what is so
+  -- Work with a share of 1 of the stop word and a true ending.
   abbrev pub IsEnded : Type 0 → (G → Who → Event → Bool → Type 0) → G → TableId → Stood → Type 0
   IsEnded all answers gate word s = IsSo all answers gate s.ending × (s.word ≡ word) × (s.share ≡ 1)

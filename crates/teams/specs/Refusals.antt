@@ -1,4 +1,4 @@
--- What workers may be refused with.
+-- The refusals of workers.
 use Rattle.std.specs.Prelude.{Bool}
 use Rattle.forwarding.specs.declared.gate.Who.{Who}
 use Rattle.forwarding.specs.declared.gate.Event.{Event}
@@ -6,7 +6,8 @@ use Rattle.refusals.specs.declared.errors.ForwardError.{ForwardError}
 use Rattle.refusals.specs.declared.errors.ForwardError.TheVariants.{Memory, Gate, Thread, Config}
 use Rattle.forwarding.specs.Gates.{CanRefuse}
 
--- want of memory, a gate that can refuse, or a thread that couldn't be started; a configuration is tested before
+-- The refusals that can happen: lack of memory, a gate that can refuse, or a thread that could not be started. A
+-- configuration is checked before.
 abbrev pub Halted : {G : Type 0} → (G → Who → Event → Bool → Type 0) → G → ForwardError → Type 0
 Halted answers gate Memory = Unit {0}
 Halted answers gate Gate = CanRefuse answers gate

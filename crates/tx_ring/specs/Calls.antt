@@ -29,7 +29,8 @@ use Rattle.shared_ring.specs.Calls.{IsPoster, IsServer}
 use Rattle.shared_ring.specs.declared.ends.DriverPlaces.{DriverPlaces}
 use Rattle.shared_ring.specs.declared.ends.ControllerPlaces.{ControllerPlaces}
 
--- B4: the next descriptor was loaded, and its buffer came out with the bytes that were posted. The word says what the descriptor that is answered does; what the descriptor says may follow the frame so far; and where it does not end its frame, more is known to be ready
+-- B4: the next descriptor was loaded, and its buffer came out with the posted bytes. The returned descriptor is that of
+-- the loaded word. It may follow the frame so far, and if it does not end its frame, more is known to be ready.
 pub record Fetched (old : ControllerSide) (buf : Buffer) (read : TxRead) (new : ControllerSide) : Type 0 where
   pub word : ℕ
   pub step : new ≡ controller_grown old (controller.Fetched (serve_place old) word buf)
@@ -45,12 +46,12 @@ pub record Fetched (old : ControllerSide) (buf : Buffer) (read : TxRead) (new : 
   pub same : controller_record new ≡ record (controller_record old) { held = Some buf }
   pub held_is : held_word new ≡ word
 
--- B6, of the last that was sent
+-- B6, for the item that was sent last.
 abbrev pub report_of : ℕ → Completion → ℕ → TxControllerOwn
 report_of n Status count = Reported ((count - 1) % n) done_word
 report_of n Head count = Reported (report_index n) (count % n)
 
--- What the fields of a controller's end keep, over its record and the word that it fetched last
+-- The fields of a controller's end agree with its record and with the word that it last fetched.
 pub record IsServerOf (n : ℕ) (x : TxControlled) (word : ℕ) (at : ControllerPlaces) (last : ℕ) (ends asks owing : Bool) : Type 0 where
   pub server : IsServer carried n x at
   pub open server use *
@@ -64,30 +65,30 @@ pub record IsServerOf (n : ℕ) (x : TxControlled) (word : ℕ) (at : Controller
 abbrev pub IsControllerEnd : ControllerSide → ControllerPlaces → ℕ → Bool → Bool → Bool → Type 0
 IsControllerEnd c at last ends asks owing = IsServerOf (controller_size c) (controller_record c) (held_word c) at last ends asks owing
 
--- what is posted with a buffer
+-- The posting made with a buffer.
 abbrev pub item_of : Buffer → Bool → Bool → ℕ → Posting
 item_of buf eop rs paylen = new_posting buf.number buf.bytes eop rs paylen
 
--- how many places the oldest outstanding report is ahead of those that are seen reported
+-- The oldest outstanding report, if any, is this many places after the items seen reported.
 abbrev pub OldestAhead : DriverSide → Option ℕ → Type 0
 OldestAhead d None = outstanding d ≡ None
 OldestAhead d (Some ahead) = outstanding d ≡ Some (seen_reported d + ahead)
 
--- B7: the oldest report that was asked for is made, and so are all before it
+-- B7: the oldest outstanding report is made, and so are all before it.
 pub record SawReported (old new : DriverSide) : Type 0 where
   pub live : is_live (driver_state old) ≡ true
   pub looked : Looked old new true
   pub same : driver_record new ≡ driver_record old
   pub seen : seen_reported new ≡ looked.item + 1
 
--- B7: it is not made yet
+-- B7: the oldest outstanding report is not made yet.
 pub record SawUnreported (old new : DriverSide) : Type 0 where
   pub live : is_live (driver_state old) ≡ true
   pub looked : Looked old new false
   pub same : driver_record new ≡ driver_record old
   pub known : known_of new ≡ known_of old
 
--- no report is outstanding, or the queue is not live
+-- No report is outstanding, or the queue is not live.
 pub record NoneOutstanding (old new : DriverSide) : Type 0 where
   pub none : is_live (driver_state old) ≡ true → outstanding old ≡ None
   pub same : new ≡ old
@@ -96,7 +97,7 @@ abbrev pub Polled : DriverSide → Bool → DriverSide → Type 0
 Polled old true new = SawReported old new
 Polled old false new = SawUnreported old new ⊎ NoneOutstanding old new
 
--- B8: the oldest buffer that was not cleaned came back, as it was posted
+-- B8: the oldest buffer that was not cleaned came back, as it was posted.
 pub record CleanedOne (old : DriverSide) (buf : Buffer) (new : DriverSide) : Type 0 where
   pub item : Posting
   pub step : new ≡ driver_grown old (driver.Own (Cleaned (next_place old) buf))
@@ -105,14 +106,14 @@ pub record CleanedOne (old : DriverSide) (buf : Buffer) (new : DriverSide) : Typ
   pub same : driver_record new ≡ record (driver_record old) { given = cleaned old ++ buf.number ∷ [] }
   pub known : known_of new ≡ known_of old
 
--- the head was loaded, and tells how many of the postings were not sent
+-- The head was loaded, and shows how many of the postings were not sent.
 pub record FoundLeft (old : DriverSide) (left : ℕ) (new : DriverSide) : Type 0 where
   pub head : ℕ
   pub step : new ≡ driver_grown old (driver.LoadedHead head)
   pub same : driver_record new ≡ driver_record old
   pub told : told_left new ≡ Some left
 
--- the oldest buffer that was out came back, as it was posted
+-- The oldest buffer that was out came back, as it was posted.
 pub record CameHome (old : DriverSide) (buf : Buffer) (new : DriverSide) : Type 0 where
   pub item : Posting
   pub step : new ≡ driver_grown old (driver.Reclaimed (next_place old) buf)
@@ -125,27 +126,27 @@ abbrev pub Reclaimed : DriverSide → Option Buffer → DriverSide → Type 0
 Reclaimed old None new = NoneOut old new
 Reclaimed old (Some buf) new = CameHome old buf new
 
--- head and tail are cleared, and the head word of reports where there is one
+-- Head and tail are cleared, and the head word of reports if there is one.
 abbrev pub gone_over : Completion → DriverSide → DriverSide
 gone_over Status d = driver_grown (driver_grown d driver.ClearedHead) (driver.Own EndedEpoch)
 gone_over Head d = driver_grown (driver_grown (driver_grown d driver.ClearedHead) driver.ClearedTail) (driver.Own ClearedReport)
 
--- an epoch begins in which nothing is done and nothing learnt
+-- A new epoch begins with an empty record and nothing learned.
 pub record GoneOver (old new : DriverSide) : Type 0 where
   pub step : new ≡ gone_over old.completion old
   pub fresh : driver_record new ≡ undriven
   pub unlearnt : known_of new ≡ unknown
 
--- at the place of each item that is not seen reported stands whether it asked for a report
+-- The entry at the place of each item not seen reported says whether it asked for a report.
 abbrev pub AskedAt : ℕ → List Posting → ℕ → List Bool → Type 0
 AskedAt n posted seen asks = (j : ℕ) → seen ≤ j → j < length posted → slice_get asks (j % n) ≡ Some (asks_report (slice_get posted j))
 
--- so many of those that are not seen reported, the oldest first, asked for no report
+-- The oldest `passed` items that are not seen reported asked for no report.
 pub record HasPassed (posted : List Posting) (seen passed : ℕ) : Type 0 where
   pub there : seen + passed ≤ length posted
   pub none : (j : ℕ) → seen ≤ j → j < seen + passed → asks_report (slice_get posted j) ≡ false
 
--- What the fields of a driver's end keep, over its record and what it has learnt
+-- The fields of a driver's end agree with its record and with what it has learned.
 pub record IsEndOf (n : ℕ) (x : TxDriven) (k : Knowing) (at : DriverPlaces) (seen done unseen : ℕ) (whole : Bool) (asks : List Bool) (passed : ℕ) : Type 0 where
   pub poster : IsPoster n x at
   pub open poster use *

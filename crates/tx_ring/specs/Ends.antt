@@ -13,14 +13,14 @@ DriverSide = ends.DriverSide tx
 abbrev pub ControllerSide : Type 0
 ControllerSide = ends.ControllerSide tx
 
--- how many items it has seen reported
+-- The number of items that the driver has seen reported.
 abbrev pub seen_reported : DriverSide → ℕ
 seen_reported d = (knowing d.events).seen
 
--- the oldest report that was asked for and not seen, if there is one
+-- The oldest report that was asked for and not seen, if there is one.
 abbrev pub outstanding : DriverSide → Option ℕ
 outstanding d = records.outstanding (driving d.events) (knowing d.events).seen
 
--- the word of the descriptor that the controller fetched last
+-- The word of the descriptor that the controller last fetched.
 abbrev pub held_word : ControllerSide → ℕ
 held_word c = fetched_word c.events

@@ -15,7 +15,7 @@ use Rattle.descriptor.specs.Transmit.{eop_of, rs_of, paylen_of}
 use Rattle.tx_ring.specs.Records.{Posting, TxControlled, DriverStep, ControllerStep, driving, controlling, knowing, posting_of, reading}
 use Rattle.tx_ring.specs.Rule.{Learnt, LiesAs, filled, says, lies_there, word_of}
 
--- both records are those of one lawful ring that a schedule makes, of which the driver has learnt what it says
+-- Both records are those of one lawful ring that a schedule reaches, and what the driver has learned is true of it.
 pub record AreOf (n : ℕ) (ds : List DriverStep) (cs : List ControllerStep) : Type 0 where
   pub queue : TxRing Bytes
   pub reachable : IsTxReachable Bytes n queue
@@ -25,21 +25,22 @@ pub record AreOf (n : ℕ) (ds : List DriverStep) (cs : List ControllerStep) : T
   pub lawful : IsLawfulTx Bytes queue
   pub size_is : queue.size ≡ n
 
--- a posting with its word and its buffer, which may follow what is posted
+-- The word and buffer of a posting that may follow the posted items.
 pub record IsPosting (n : ℕ) (xs : List Posting) (word : ℕ) (b : Buffer) : Type 0 where
   pub item : Posting
   pub word_is : word ≡ word_of item
   pub buffer_is : b ≡ filled item
   pub follows : MayFollow n (unfinished carried xs) item
 
--- the word tells the buffer's length, what is posted may follow the frame so far, and where it does not end its frame, the controller knows of more
+-- The word has the buffer's length, the posting may follow the frame so far, and if it does not end its frame, the
+-- controller knows of more.
 pub record IsFetchedAs (n : ℕ) (c : TxControlled) (word : ℕ) (b : Buffer) : Type 0 where
   pub says : word ≡ tx_word (length b.bytes) (eop_of word) (rs_of word) (paylen_of word)
   pub real : b ≡ buffer b.number b.bytes
   pub follows : MayFollow n (unfinished carried c.served) (posting_of word b)
   pub ready : eop_of word ≡ false → length c.served + 1 < c.known
 
--- whole frames are published, and a disabling is answered after a whole frame with no report owed
+-- Whole frames are published. A disabling is answered after a whole frame, with no report owed.
 abbrev pub tx : Form (TxRing Bytes) Posting Posting ℕ TxDriverOwn TxControllerOwn
 tx = record {
   reading = reading;

@@ -10,15 +10,15 @@ use Rattle.tx_ring.specs.Form.{AreOf}
 use Rattle.tx_ring.specs.Records.{Posting}
 use Rattle.tx_ring.specs.Rule.{filled}
 
--- the ledger that two ends have together
+-- The ledger that the two ends have together.
 abbrev pub ledger_of : DriverSide → ControllerSide → TxLedger Bytes
 ledger_of d c = record { posted = posted d; served = sent_now d c; given = cleaned d }
 
--- how many of the postings were not sent, by the head that the driver loaded
+-- The number of postings that were not sent, from a loaded head.
 abbrev pub left_by : DriverSide → ℕ → ℕ
 left_by d head = (length (posted d) % driver_size d + driver_size d - head) % driver_size d
 
--- how many were not sent, if the head was loaded after the disabling was seen answered
+-- The number that were not sent, if the head was loaded after the disabling was seen answered.
 abbrev pub left_at : DriverSide → Option ℕ → Option ℕ
 left_at d None = None
 left_at d (Some head) = Some (left_by d head)
@@ -26,15 +26,15 @@ left_at d (Some head) = Some (left_by d head)
 abbrev pub told_left : DriverSide → Option ℕ
 told_left d = left_at d (known_of d).head
 
--- the numbers of the buffers that are out, the oldest first
+-- The numbers of the buffers that are out, oldest first.
 abbrev pub out_of : DriverSide → List ℕ
 out_of d = shared.out_of number_of_posting d
 
--- each buffer that is out is once among those of these places and the one that the controller holds
+-- Each buffer that is out appears once among these places and the controller's held buffer.
 abbrev pub AllCameBack : DriverSide → ControllerSide → List (Option Buffer) → Type 0
 AllCameBack d c buffers = shared.AllCameBack number_of_posting d c buffers
 
--- at this place lay the buffer of an item that is out, with what was posted there
+-- This place had the buffer of an item that is out, with what was posted there.
 pub record GaveBack (d : DriverSide) (buffers : List (Option Buffer)) (place : ℕ) : Type 0 where
   pub item : ℕ
   pub posting : Posting
@@ -43,7 +43,7 @@ pub record GaveBack (d : DriverSide) (buffers : List (Option Buffer)) (place : �
   pub there : slice_get buffers place ≡ Some (Some (filled posting))
   pub posting_is : slice_get (posted d) item ≡ Some posting
 
--- A closed ring gave a buffer back at exactly the places that were with Ring, and each is that of an item that is out
+-- A closed ring gave a buffer back at exactly the places that Ring owned, each that of an item that is out.
 pub record IsClosed (d : DriverSide) (c : ControllerSide) (buffers : List (Option Buffer)) : Type 0 where
   pub of_one_ring : AreOf (driver_size d) d.events c.events
   pub places : CameBackFrom (driver_size d) of_one_ring.queue.owners (GaveBack d buffers) buffers

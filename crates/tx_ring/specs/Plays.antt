@@ -12,16 +12,17 @@ use Rattle.tx_ring.specs.declared.events.TxControllerOwn.TheVariants.{Sent, Repo
 use Rattle.tx_ring.specs.Records.{Posting, DriverStep, ControllerStep, driving, knowing, outstanding, fetched_word}
 use Rattle.tx_ring.specs.Rule.{filled}
 
--- DD of a transmit write-back
+-- DD of a transmit write-back.
 abbrev pub is_done : ℕ → Bool
 is_done word = (word / 2 ^ 32) % 2 == 1
 
--- where item j is reported: in its descriptor, or in the head word
+-- The index of the word that reports item `j`: its descriptor, or the head word.
 abbrev pub report_word : ℕ → Completion → ℕ → ℕ
 report_word n Status j = j % n
 report_word n Head j = report_index n
 
--- Whether the word loaded at this place reports item j, where so many are seen reported: DD in its descriptor, or a head that is past its place
+-- Whether the word loaded at this index reports item `j`, with `seen` items seen reported: DD in its descriptor, or a
+-- head past its place.
 abbrev pub reports_item : ℕ → ℕ → Option ℕ → ℕ → ℕ → Bool
 reports_item n seen None place word = false
 reports_item n seen (Some j) place word =
@@ -30,14 +31,14 @@ reports_item n seen (Some j) place word =
 abbrev pub shows_report : ℕ → List DriverStep → ℕ → ℕ → Bool
 shows_report n es place word = reports_item n (knowing es).seen (outstanding (driving es) (knowing es).seen) place word
 
--- B7: it is seen by the word whether the oldest outstanding report is made. A head word has a place of the ring
+-- B7: the word shows whether the oldest outstanding report is made. A head word holds a place of the ring.
 abbrev pub reports_seen : ℕ → List DriverStep → ℕ → ℕ → Buffer → DriverStep
 reports_seen n es place r b = driver.Own (if shows_report n es place r then SawReport place r else NoReport place r)
 
 abbrev pub IsPlace : ℕ → List DriverStep → ℕ → ℕ → Buffer → Type 0
 IsPlace n es place r b = n ≤ place → r < n
 
--- B8: the buffer of the oldest item that is not cleaned, as it was posted
+-- B8: the buffer of the oldest item that is not cleaned, as it was posted.
 abbrev pub cleans : ℕ → List DriverStep → ℕ → ℕ → Buffer → DriverStep
 cleans n es place r b = driver.Own (Cleaned place b)
 
@@ -46,18 +47,18 @@ pub record IsCleaned (n : ℕ) (es : List DriverStep) (place r : ℕ) (b : Buffe
   pub there : slice_get (driving es).posted (length (driving es).given) ≡ Some item
   pub is : b ≡ filled item
 
--- C10, as the last step of an epoch
+-- C10, as the last step of an epoch.
 abbrev pub ends_epoch : ℕ → List DriverStep → ℕ → ℕ → Buffer → DriverStep
 ends_epoch n es place r b = driver.Own EndedEpoch
 
--- C12: the head word of reports is 0 again
+-- C12: the head word of reports is 0 again.
 abbrev pub clears_report : ℕ → List DriverStep → ℕ → ℕ → Buffer → DriverStep
 clears_report n es place r b = driver.Own ClearedReport
 
--- B5: the posting that was fetched is sent
+-- B5: the fetched posting is sent.
 abbrev pub sends : ℕ → List ControllerStep → ℕ → ℕ → Buffer → ControllerStep
 sends n es place r b = controller.Own (Sent r (fetched_word es) b)
 
--- B6: a report, by its descriptor or by the head word
+-- B6: a report, in the descriptor or in the head word.
 abbrev pub reports : ℕ → List ControllerStep → ℕ → ℕ → Buffer → ControllerStep
 reports n es place r b = controller.Own (Reported place r)

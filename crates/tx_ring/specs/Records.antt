@@ -35,11 +35,11 @@ TxDriven = Driven Posting ℕ
 abbrev pub TxControlled : Type 0
 TxControlled = Controlled Posting
 
--- what a driver posts with a word and a buffer
+-- What a driver posts with a word and a buffer.
 abbrev pub posting_of : ℕ → Buffer → Posting
 posting_of word b = new_posting b.number b.bytes (eop_of word) (rs_of word) (paylen_of word)
 
--- the clearing of the last word ends the epoch: a new one begins, and is empty
+-- Clearing the last word ends the epoch. A new, empty one begins.
 abbrev pub drive_own : TxDriven → TxDriverOwn → TxDriven
 drive_own d (NoReport place word) = d
 drive_own d (SawReport place word) = d
@@ -53,12 +53,12 @@ drive = shared.drive posting_of drive_own
 abbrev pub driving : List DriverStep → TxDriven
 driving es = shared.driving_from posting_of drive_own undriven es
 
--- while a report is owed, nothing more is fetched
+-- While a report is owed, nothing more is fetched.
 abbrev pub control_own : TxControlled → TxControllerOwn → TxControlled
 control_own c (Sent head word b) = record c { served = c.served ++ posting_of word b ∷ []; held = None; head = head; barred = rs_of word }
 control_own c (Reported place word) = record c { barred = false }
 
--- which word a step loads or stores in a ring of n places, and the value that it finds or stores there
+-- The word that a step loads or stores in a ring of `n` places, and the value that it finds or stores there.
 abbrev pub driver_names : ℕ → TxDriverOwn → Access
 driver_names n (NoReport place word) = access place word
 driver_names n (SawReport place word) = access place word
@@ -76,7 +76,7 @@ control n = shared.control n control_own
 abbrev pub controlling : ℕ → List ControllerStep → TxControlled
 controlling n es = shared.controlling_from n control_own uncontrolled es
 
--- the descriptor's word that the controller fetched last
+-- The descriptor's word that the controller last fetched.
 abbrev pub fetch_word : ℕ → ControllerStep → ℕ
 fetch_word w (controller.Looked tail) = w
 fetch_word w (controller.Fetched place word b) = word
@@ -93,7 +93,8 @@ fetched_from w (e ∷ es) = fetched_from (fetch_word w e) es
 abbrev pub fetched_word : List ControllerStep → ℕ
 fetched_word es = fetched_from 0 es
 
--- What the driver has learnt of the controller in this epoch: the head that it loaded, and how many items it has seen reported
+-- What the driver has learned of the controller in this epoch: the head that it loaded, and how many items it has seen
+-- reported.
 pub record Knowing : Type 0 where
   pub head : Option ℕ
   pub seen : ℕ
@@ -101,11 +102,11 @@ pub record Knowing : Type 0 where
 abbrev pub unknown : Knowing
 unknown = record { head = None; seen = 0 }
 
--- the oldest report that was asked for and not seen
+-- The oldest report that was asked for and not seen.
 abbrev pub outstanding : TxDriven → ℕ → Option ℕ
 outstanding d seen = first_report d.posted seen (length d.posted - seen)
 
--- a report covers all items up to its own
+-- A report covers all items up to its own.
 abbrev pub seen_after : Knowing → Option ℕ → Knowing
 seen_after k None = k
 seen_after k (Some j) = record k { seen = j + 1 }

@@ -16,39 +16,40 @@ use Rattle.shared_ring.specs.Registers.{report_index}
 use Rattle.shared_ring.specs.Tables.{words_of}
 use Rattle.tx_ring.specs.Records.{Posting, DriverStep, ControllerStep, driving, controlling, fetched_word, Knowing, knowing}
 
--- a buffer with what is posted
+-- A buffer with the posted contents.
 abbrev pub filled : Posting → Buffer
 filled p = buffer p.number p.payload
 
--- the second word of a posting's descriptor
+-- The second word of a posting's descriptor.
 abbrev pub word_of : Posting → ℕ
 word_of p = tx_word (length p.payload) p.eop p.rs p.paylen
 
--- the word of an item, and the buffer in its slot
+-- The word of an item, and the buffer in its slot.
 abbrev pub says : TxRing Bytes → ℕ → Option Posting → Option Posting → ℕ
 says q = tx_says {Payload = Bytes} length filled (is_told q)
 
 abbrev pub lies_there : Option Posting → Option Posting → Option Buffer
 lies_there = tx_lies {Payload = Bytes} length filled
 
--- the head word has the place up to which all is reported
+-- The head word of reports holds the place up to which all items are reported.
 abbrev pub TellsReports : ℕ → Completion → ℕ → List ℕ → Type 0
 TellsReports n mode reported words = by_head mode ≡ true → slice_index words (report_index n) ≡ reported % n
 
--- while a buffer is held, the word that was fetched is its posting's
+-- While a buffer is held, the fetched word is that of its posting.
 abbrev pub IsFetched : ℕ → Bool → List Posting → List Posting → Type 0
 IsFetched word held posted served = (p : Posting) → held ≡ true → slice_get posted (length served) ≡ Some p → word ≡ word_of p
 
--- what the controller knows to be ready ends with a whole frame
+-- The postings that the controller knows to be ready end with a whole frame.
 abbrev pub IsReady : Bool → ℕ → List Posting → Type 0
 IsReady serving known posted = serving ≡ true → are_whole (take known posted) ≡ true
 
--- What the driver has learnt is so: the head that it loaded is the place after the last that was sent, and so many are seen reported
+-- What the driver has learned is true: the loaded head is the place after the last sent item, and `seen` items are seen
+-- reported.
 pub record Learnt (n : ℕ) (q : TxRing Bytes) (k : Knowing) : Type 0 where
   pub head : (place : ℕ) → k.head ≡ Some place → (is_answered q.handshake.driver ≡ true) × (place ≡ served_count q.queue % n)
   pub seen : k.seen ≡ q.seen_reported
 
--- the records are those of the ring q, and words and slots lie as q has them
+-- The records are those of the ring `q`, and words and slots are as `q` has them.
 pub record LiesAs (n : ℕ) (mode : Completion) (q : TxRing Bytes) (ds : List DriverStep) (cs : List ControllerStep) (words : List ℕ) (homes : List (maybe.Option Buffer)) : Type 0 where
   pub reachable : IsTxReachable Bytes n q
   pub completion : q.completion ≡ mode

@@ -8,13 +8,13 @@ use Rattle.tx_ring.specs.Rule.{filled}
 use Rattle.tx_ring.specs.Plays.{report_word, shows_report}
 use Rattle.tx_ring.specs.Ends.{DriverSide, driver_size, posted, cleaned, outstanding, driver_grown}
 
--- the oldest report that was asked for and not seen is at this place
+-- The oldest report that was asked for and not seen is at this place.
 pub record OldestAt (old : DriverSide) (place : ℕ) : Type 0 where
   pub item : ℕ
   pub oldest : outstanding old ≡ Some item
   pub at : place ≡ item % driver_size old
 
--- B7: a word was loaded where the oldest report is made, and the answer is whether the word reports it
+-- B7: the word that reports the oldest outstanding item was loaded. The result is whether it reports it.
 pub record Looked (old : DriverSide) (new : DriverSide) (result : Bool) : Type 0 where
   pub item : ℕ
   pub oldest : outstanding old ≡ Some item
@@ -23,7 +23,7 @@ pub record Looked (old : DriverSide) (new : DriverSide) (result : Bool) : Type 0
   pub nothing : result ≡ false → new ≡ driver_grown old (driver.Own (NoReport (report_word (driver_size old) old.completion item) word))
   pub report : result ≡ true → new ≡ driver_grown old (driver.Own (SawReport (report_word (driver_size old) old.completion item) word))
 
--- B8: the buffer is that of the oldest item that is not cleaned, as it was posted
+-- B8: the buffer is that of the oldest item that is not cleaned, as it was posted.
 pub record CameClean (old : DriverSide) (place : ℕ) (buf : Buffer) (new : DriverSide) : Type 0 where
   pub item : Posting
   pub step : new ≡ driver_grown old (driver.Own (Cleaned place buf))

@@ -1,4 +1,4 @@
--- What contracts see of flows that others watch.
+-- The views of watched flows in contracts.
 use Rattle.std.specs.Prelude.{◌≡◌, ℕ, List, [], ◌∷◌, map}
 use Rattle.cells.specs.Watching.{Knowing}
 use Rattle.counters.specs.declared.flows.FlowCells.{FlowCells}

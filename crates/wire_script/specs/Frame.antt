@@ -1,8 +1,8 @@
--- What a frame of the wire is, apart from where it lies in memory.
+-- A frame of the wire, independent of its place in memory.
 use Rattle.std.specs.Prelude.{ℕ, ◌<◌, ◌≤◌, List, length, All}
 use Rattle.limits.specs.declared.profile.TheConstants.{LEAST_FRAME, MOST_FRAME, MOST_PAIRS, PORTS}
 
--- a frame, with the port and the queue at which it comes in or goes out
+-- A frame, with the port and queue at which it comes in or goes out.
 pub record Frame : Type 0 where
   pub port : ℕ
   pub queue : ℕ
@@ -11,7 +11,7 @@ pub record Frame : Type 0 where
 abbrev pub frame_of : ℕ → ℕ → List ℕ → Frame
 frame_of port queue bytes = record { port = port; queue = queue; bytes = bytes }
 
--- the frame is one that a wire may have
+-- A frame that a wire may have.
 pub record InRange (f : Frame) : Type 0 where
   pub port : f.port < PORTS
   pub queue : f.queue < MOST_PAIRS

@@ -1,4 +1,4 @@
--- What a text says as a script, and the text of frames.
+-- The meaning of a text as a script, and the text of frames.
 use Rattle.std.specs.Prelude.{◌≡◌, ◌⊎◌, ℕ, ◌+◌, ◌≤◌, ◌==◌, if◌then◌else◌, List, [], ◌∷◌, ◌++◌, length, codes, decimal, All, Option, Some, None, IsSome, Result, Ok, Err, IsOk}
 use Rattle.std.specs.List.{enumerate_from, filter_map, flat_map}
 use Rattle.hex.specs.Hex.{encode_lower}
@@ -10,67 +10,67 @@ use Rattle.wire_script.specs.Frame.{Frame}
 use Rattle.wire_script.specs.Line.{line_says}
 use Rattle.wire_script.specs.ScriptError.{◌>>=◌}
 
--- What line k and those after it say, where the line alone says this and so many frames stand before
--- it. `later` is what the lines after it say, by how many frames stand before them.
+-- The meaning of line `k` and the lines after it, given that of the line alone and the number of `earlier` frames.
+-- `later` is the meaning of the lines after it, given the number of frames before them.
 unfoldable pub and_then : ℕ → ℕ → Result (Option Frame) ScriptError → (ℕ → Result (List Frame) ScriptError) → Result (List Frame) ScriptError
 and_then k earlier (Err e) later = Err e
 and_then k earlier (Ok None) later = later earlier
 and_then k earlier (Ok (Some frame)) later =
     if earlier == MOST_SCRIPT_FRAMES then Err (TooMany k) else later (earlier + 1) >>= λ frames. Ok (frame ∷ frames)
 
--- the frames that the lines from number k on say, or the first fault
+-- The frames in the lines from number `k` on, or the first fault.
 unfoldable pub lines_say : ℕ → ℕ → List (List ℕ) → Result (List Frame) ScriptError
 lines_say k earlier [] = Ok []
 lines_say k earlier (line ∷ lines) = and_then k earlier (line_says k line) (λ n. lines_say (k + 1) n lines)
 
--- the frames that a text says, or its first fault
+-- The frames in a text, or its first fault.
 abbrev pub script_of : List ℕ → Result (List Frame) ScriptError
 script_of text = lines_say 1 0 (lines_of text)
 
--- a text's lines with their numbers
+-- A text's lines with their numbers.
 abbrev pub numbered_lines : List ℕ → List (ℕ × List ℕ)
 numbered_lines text = enumerate_from 1 (lines_of text)
 
--- the line of this number has no fault
+-- The line with this number has no fault.
 abbrev pub IsGood : ℕ × List ℕ → Type 0
 IsGood line = IsOk (line_says line.0 line.1)
 
--- the frame that was said, if one was
+-- The frame in a line, if there is one.
 abbrev pub said_frame : Result (Option Frame) ScriptError → Option Frame
 said_frame (Ok said) = said
 said_frame (Err e) = None
 
--- the frames of lines
+-- The frames in these lines.
 abbrev pub frames_in : List (ℕ × List ℕ) → List Frame
 frames_in lines = filter_map (λ line. said_frame (line_says line.0 line.1)) lines
 
--- no line has a fault, and these are their frames
+-- No line has a fault, and these are their frames.
 pub record Says (text : List ℕ) (frames : List Frame) : Type 0 where
   pub good : All IsGood (numbered_lines text)
   pub same : frames ≡ frames_in (numbered_lines text)
   pub room : length frames ≤ MOST_SCRIPT_FRAMES
 
--- these lines have no fault, and the line k after them has this one, or it says one frame too many
+-- These lines have no fault. The next line, `k`, has this fault or has one frame too many.
 pub record StopsAt (before : List (ℕ × List ℕ)) (k : ℕ) (line : List ℕ) (e : ScriptError) : Type 0 where
   pub good : All IsGood before
   pub fault : (line_says k line ≡ Err e)
       ⊎ ((length (frames_in before) ≡ MOST_SCRIPT_FRAMES) × IsSome (said_frame (line_says k line)) × (e ≡ TooMany k))
 
--- this is the text's first fault
+-- This is the text's first fault.
 abbrev pub Refuses : List ℕ → ScriptError → Type 0
 Refuses text e =
     (before : List (ℕ × List ℕ)) × (k : ℕ) × (line : List ℕ) × (after : List (ℕ × List ℕ))
     × (numbered_lines text ≡ before ++ (k, line) ∷ after) × StopsAt before k line e
 
--- the line of a frame
+-- The line of a frame.
 unfoldable pub line_for : Frame → List ℕ
 line_for f = (48 + f.port) ∷ 32 ∷ (48 + f.queue) ∷ 32 ∷ (encode_lower f.bytes ++ 10 ∷ [])
 
--- the lines of frames
+-- The lines of frames.
 abbrev pub text_for : List Frame → List ℕ
 text_for frames = flat_map line_for frames
 
--- a line that says a frame of one byte over and over
+-- A line for a frame that repeats one byte.
 unfoldable pub fill_line : Frame → ℕ → List ℕ
 fill_line f byte =
     (48 + f.port) ∷ 32 ∷ (48 + f.queue) ∷ 32 ∷ (codes "fill" ++ 32 ∷ (decimal (length f.bytes) ++ 32 ∷ encode_lower (byte ∷ [])))

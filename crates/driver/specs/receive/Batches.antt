@@ -1,4 +1,4 @@
--- What a batch takes and posts.
+-- The segments that a receive batch takes, and the buffers that it posts.
 use Rattle.std.specs.Prelude.{◌≡◌, ℕ, ◌+◌, ◌-◌, ◌≤◌, ◌⊎◌, Bool, true, false, All, List, [], ◌++◌, length, map, min}
 use Rattle.buffer_pool.specs.Buffer.{Buffer}
 use Rattle.buffer_pool.specs.Packed.{bytes_of}
@@ -16,7 +16,7 @@ use Rattle.driver.specs.receive.Chains.{going_on, segments_in, IsTaken, IsRest}
 use Rattle.driver.specs.receive.Exchanges.{posting, Exchanges}
 pub use Rattle.driver.specs.receive.Exchanges.{IsFilled, Published}
 
--- A driver's end, the chain of a frame that has not ended, the stash at hand, and the list of packets
+-- A driver's end, the chain of an unfinished frame, the stash, and the list of packets.
 pub record Hands : Type 0 where
   pub end : DriverSide
   pub chain : List Buffer
@@ -29,11 +29,14 @@ at end chain stash list = record { end = end; chain = chain; stash = stash; list
 abbrev pub itself : ℕ → ℕ
 itself number = number
 
--- the numbers of the buffers in which these segments lie
+-- The numbers of the buffers that hold these segments.
 abbrev pub numbers_in : List (Segment Bytes) → List ℕ
 numbers_in segments = map (λ s. s.number) segments
 
--- By how much the lists grew between two states: these segments were taken, which are, behind the chain, those of the appended packets and of the chain now; buffers with these numbers went from the stash to the ring, none where a disabling was asked. The buffers that were out, and behind them those that were posted, are the ones in which segments came back, and behind them those that are out now
+-- The growth of the lists between two states. The segments taken, after the old chain, are those of the appended
+-- packets and of the new chain. Buffers with these numbers went from the stash to the ring, none if a disabling was
+-- asked. The buffers that were out, followed by those posted, are those of the taken segments, followed by those that
+-- are out now.
 pub record GrewBy (old new : Hands) : Type 0 where
   pub own : new.end.table ≡ old.end.table
   pub segments : List (Segment Bytes)
@@ -54,28 +57,29 @@ pub record GrewBy (old new : Hands) : Type 0 where
   pub quiet : saw_quiet new.end ≡ saw_quiet old.end
   pub drained : is_drained old.end ≡ true → is_drained new.end ≡ true
 
--- a step of polling, or the posting of a buffer
+-- A step of polling, or the posting of a buffer.
 abbrev pub is_exchange : DriverStep → Bool
 is_exchange (driver.Own (NotDone place word)) = true
 is_exchange (driver.Own (Taken place word buf)) = true
 is_exchange e = is_post e
 
--- after some polls and postings the last poll found nothing: a descriptor without DD was loaded, or all that is posted is taken. Where the queue was seen quiet, nothing is left to take
+-- After some polls and postings, the last poll found nothing: a descriptor without DD was loaded, or all posted buffers
+-- are taken. If the queue was seen quiet before, nothing is left to take.
 pub record SawNothing (old new : DriverSide) : Type 0 where
   pub before : DriverSide
   pub polling : Runs is_exchange old before
   pub last : SawNotDone before new ⊎ SawEmpty before new
   pub drained : saw_quiet old ≡ true → is_drained new ≡ true
 
--- why polling stopped after so many packets: there was a batch of them, the list has the most that it may have, or nothing more was there
+-- Why polling stopped after `count` packets: the batch is full, the list is full, or nothing more was found.
 abbrev pub Stopped : ℕ → ℕ → ℕ → List (List Buffer) → DriverSide → DriverSide → Type 0
 Stopped batch most count list old new = (count ≡ batch) ⊎ ((length list ≡ most) ⊎ SawNothing old new)
 
--- how many packets a batch may append to a list that may have so many
+-- The number of packets that a batch may append to a list of at most `most`.
 abbrev pub batch_of : ℕ → ℕ → List (List Buffer) → ℕ
 batch_of batch most list = min batch (most - length list)
 
--- What polling did: the lists grew so, and the chain is what is left of a frame
+-- The effect of polling: how the lists grew. The chain is the rest of an unfinished frame.
 pub record Polled (old : Hands) (count : ℕ) (new : Hands) : Type 0 where
   pub grew : GrewBy old new
   pub count_is : length new.list ≡ length old.list + count
@@ -83,7 +87,7 @@ pub record Polled (old : Hands) (count : ℕ) (new : Hands) : Type 0 where
   pub unpublished : published new.end ≡ published old.end
   pub rest : IsRest new.end new.chain
 
--- What posting did: buffers with these numbers went from the stash to the ring, none where a disabling was asked
+-- The effect of posting: buffers with these numbers went from the stash to the ring, none if a disabling was asked.
 pub record Filled (old : DriverSide) (had : List ℕ) (new : DriverSide) (has : List ℕ) : Type 0 where
   pub numbers : List ℕ
   pub fills : new ≡ posting numbers old
@@ -94,7 +98,8 @@ pub record Filled (old : DriverSide) (had : List ℕ) (new : DriverSide) (has : 
   pub out : out_of itself old ++ numbers ≡ out_of itself new
   pub shut : is_open (driver_state old) ≡ false → numbers ≡ []
 
--- What a batch of a live queue did: polling went on until it stopped, then buffers were posted, and then the tail was stored if any was. Where the queue was seen quiet, and neither a whole batch was taken nor the list is full, nothing is left to take
+-- The effect of a batch on a live queue: polling until it stopped, then postings, then a store of the tail if anything
+-- was posted. If the queue was seen quiet before, and neither the batch nor the list is full, nothing is left to take.
 pub record Batched (batch most count : ℕ) (old new : Hands) : Type 0 where
   pub grew : GrewBy old new
   pub count_is : length new.list ≡ length old.list + count

@@ -1,4 +1,4 @@
--- The steps of a batch, one after another: polls and postings, and then the storing of the tail.
+-- The steps of a batch in their order: polls and postings, and then the store of the tail.
 use Rattle.std.specs.Prelude.{◌≡◌, ℕ, ◌+◌, ◌-◌, ◌<◌, ◌⊎◌, Bool, true, false, List, [], ◌∷◌, ◌++◌, length}
 use Rattle.buffer_pool.specs.Buffer.{buffer}
 use Rattle.ring_model.specs.shared.Segments.{Segment}
@@ -8,53 +8,56 @@ use Rattle.shared_ring.specs.declared.events.DriverEvent.TheVariants as driver
 use Rattle.rx_ring.specs.Ends.{DriverSide, driver_size, driver_state, posted, published, taken, returned, fill_place, driver_grown}
 use Rattle.rx_ring.specs.Calls.{TookSegment, SawNotDone, SawEmpty}
 
--- the end after buffers with these numbers were posted one after another, each empty and at the next place
+-- The end after buffers with these numbers were posted one after another, each empty and at the next place.
 abbrev pub posting : List ℕ → DriverSide → DriverSide
 posting [] d = d
 posting (number ∷ numbers) d = posting numbers (driver_grown d (driver.Posted (fill_place d) 0 (buffer number [])))
 
--- what is posted in place of a taken buffer: the next one of the stash, if it has one; none where a disabling was asked
+-- The buffer posted in place of a taken one: the next of the stash, if any; none if a disabling was asked.
 abbrev pub in_place : Bool → List ℕ → List ℕ
 in_place true (number ∷ stash) = number ∷ []
 in_place may stash = []
 
--- a poll took this segment, and then a buffer was posted in its place
+-- A poll took this segment, and then a buffer was posted in its place.
 pub record Exchanged (s : Segment Bytes) (old : DriverSide) (had : List ℕ) (new : DriverSide) (has : List ℕ) : Type 0 where
   pub emptied : DriverSide
   pub took : TookSegment old (buffer s.number s.payload) s.eop emptied
   pub step : new ≡ posting (in_place (is_open (driver_state old)) had) emptied
   pub stash : had ≡ in_place (is_open (driver_state old)) had ++ has
 
--- a poll found nothing to take
+-- A poll found nothing to take.
 abbrev pub FoundNothing : DriverSide → DriverSide → Type 0
 FoundNothing old new = SawNotDone old new ⊎ SawEmpty old new
 
--- of so many packets that may be added, how many are left after a segment
+-- The number of packets that may still be added after a segment.
 abbrev pub left_after : Bool → ℕ → ℕ
 left_after true most = most - 1
 left_after false most = most
 
--- Polling, where so many packets may be added. Each poll but the last took one of the segments, each exchanged for a buffer. No poll comes once all the packets are added, nor after one that found nothing
+-- Polling, where at most `most` packets may be added. Each poll but the last took a segment and exchanged it for a
+-- buffer. No poll follows once all the packets are added, or after one that found nothing.
 abbrev pub Polls : ℕ → List (Segment Bytes) → DriverSide → List ℕ → DriverSide → List ℕ → Type 0
 Polls most [] old had new has = (((most ≡ 0) × (new ≡ old)) ⊎ ((0 < most) × FoundNothing old new)) × (has ≡ had)
 Polls most (s ∷ segments) old had new has = (d : DriverSide) × (stash : List ℕ) × ((0 < most) × Exchanged s old had d stash × Polls (left_after s.eop most) segments d stash new has)
 
--- what polling took, from its first poll to its last
+-- What polling took, from its first poll to its last.
 pub record PolledAll (most : ℕ) (old : DriverSide) (had : List ℕ) (new : DriverSide) (has : List ℕ) : Type 0 where
   pub segments : List (Segment Bytes)
   pub took : taken new ≡ taken old ++ segments
   pub polls : Polls most segments old had new has
 
--- nothing is left to post, or no more can be posted
+-- Nothing is left to post, or no more can be posted.
 abbrev pub IsFilled : DriverSide → List ℕ → Type 0
 IsFilled end stash = (stash ≡ []) ⊎ (length (posted end) + 1 ≡ returned end + driver_size end)
 
--- the tail was stored if more is posted than before, so that all is published; and else nothing was done
+-- If more is posted than before, the tail was stored, so that all is published. Otherwise nothing was done.
 abbrev pub Published : DriverSide → DriverSide → DriverSide → Type 0
 Published before filled new = ((posted filled ≡ posted before) × (new ≡ filled) × (published new ≡ published before))
     ⊎ ((length (posted before) < length (posted filled)) × (new ≡ driver_grown filled (driver.Published (fill_place filled))) × (published new ≡ length (posted new)))
 
--- All steps of a batch that took these segments, where so many packets may be added: polling, an exchange for each segment; then postings while the stash has a buffer and the ring has room, none where a disabling was asked; and then one store of the tail, if anything was posted
+-- All steps of a batch that took these segments, where at most `most` packets may be added: polling, with an exchange
+-- for each segment; then postings while the stash has a buffer and the ring has room, none if a disabling was asked;
+-- then one store of the tail, if anything was posted.
 pub record Exchanges (most : ℕ) (segments : List (Segment Bytes)) (old : DriverSide) (had : List ℕ) (new : DriverSide) (has : List ℕ) : Type 0 where
   pub polled : DriverSide
   pub rest : List ℕ

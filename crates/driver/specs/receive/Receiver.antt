@@ -1,4 +1,4 @@
--- What contracts see of an `RxDriver`.
+-- The view of an `RxDriver` in contracts.
 use Rattle.std.specs.Prelude.{◌≡◌, ℕ, ◌<◌, ◌≤◌, true, false, All, List, []}
 use Rattle.buffer_pool.specs.Buffer.{Buffer}
 use Rattle.ring_model.specs.shared.Segments.{piece_of}
@@ -8,19 +8,20 @@ use Rattle.rx_ring.specs.Ends.{DriverSide, driver_state, reclaimed, taken}
 use Rattle.driver.specs.receive.Chains.{HasSegment, IsRest}
 use Rattle.driver.specs.receive.Batches.{Hands}
 
--- its end, the buffers of a frame that has not ended, and how many packets a batch has
+-- The driver's end, the buffers of an unfinished frame, and the number of packets in a batch.
 pub record Receiver : Type 0 where
   pub end : DriverSide
   pub chain : List Buffer
   pub batch : ℕ
 
--- an end that a driver can be made of: between two frames, not seen disabled, and nothing reclaimed
+-- An end that a driver can take over: between two frames, not seen disabled, and nothing reclaimed.
 pub record IsReady (d : DriverSide) : Type 0 where
   pub between : unfinished piece_of (taken d) ≡ []
   pub going : is_answered (driver_state d) ≡ false
   pub none_back : reclaimed d ≡ 0
 
--- What holds of each driver. Until it saw its disabling answered, it reclaimed nothing, and its chain is what the taken segments have not ended; from then on it is stopped, until it is renewed
+-- The invariants of every driver. Until it saw its disabling answered, it reclaimed nothing, and its chain is the
+-- unfinished frame of the taken segments. After that it is stopped until it is renewed.
 pub record IsRxDriver (most : ℕ) (r : Receiver) : Type 0 where
   pub some_batch : 0 < r.batch
   pub few_batch : r.batch ≤ most
@@ -29,6 +30,6 @@ pub record IsRxDriver (most : ℕ) (r : Receiver) : Type 0 where
   pub none_back : is_answered (driver_state r.end) ≡ false → reclaimed r.end ≡ 0
   pub stays : is_answered (driver_state r.end) ≡ true → is_stopped (driver_state r.end) ≡ true
 
--- what a batch works on
+-- The state that a batch works on.
 abbrev pub hands : Receiver → List ℕ → List (List Buffer) → Hands
 hands r stash list = record { end = r.end; chain = r.chain; stash = stash; list = list }

@@ -1,4 +1,4 @@
--- What a receive driver gives back of a disabled queue.
+-- The buffers that a receive driver returns from a disabled queue.
 use Rattle.std.specs.Prelude.{◌≡◌, ℕ, ◌<◌, true, List, [], ◌++◌, length, map, reverse}
 use Rattle.buffer_pool.specs.Buffer.{Buffer}
 use Rattle.ring_model.specs.shared.Handshakes.{is_stopped}
@@ -10,19 +10,19 @@ use Rattle.driver.specs.receive.Receiver.{Receiver}
 abbrev pub numbers_of : List Buffer → List ℕ
 numbers_of bufs = map (λ b. b.number) bufs
 
--- nothing is left of a disabled queue: no chain, and no buffer that is out
+-- A disabled queue with no chain and no buffer out.
 pub record IsEmptied (r : Receiver) : Type 0 where
   pub stopped : is_stopped (driver_state r.end) ≡ true
   pub no_chain : r.chain ≡ []
   pub none_out : returned r.end ≡ length (posted r.end)
 
--- the first buffers of a chain went into the stash one after another
+-- The first buffers of a chain went into the stash one after another.
 pub record Unchained (old : List Buffer) (had : List ℕ) (new : List Buffer) (has : List ℕ) : Type 0 where
   pub moved : List Buffer
   pub chain : old ≡ moved ++ new
   pub stash : has ≡ reverse (numbers_of moved) ++ had
 
--- the buffers of the chain went into the stash, as many of them as fit, and only then those of the ring
+-- The buffers of the chain went into the stash, as many as fit, and only then those of the ring.
 pub record GaveBack (old : Receiver) (had : List ℕ) (new : Receiver) (has : List ℕ) : Type 0 where
   pub between : List ℕ
   pub chain : Unchained old.chain had new.chain between

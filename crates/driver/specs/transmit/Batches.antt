@@ -1,4 +1,4 @@
--- What the cleaning and the batches of a transmit driver do.
+-- The effects of cleaning and of the batches of a transmit driver.
 use Rattle.std.specs.Prelude.{◌≡◌, ℕ, zero, suc, ◌+◌, ◌%◌, ◌<◌, ◌≤◌, ◌⊎◌, true, false, List, [], ◌++◌, length, take, drop}
 use Rattle.buffer_pool.specs.Buffer.{Buffer}
 use Rattle.buffer_pool.specs.declared.stash.TheConstants.{STASH_BUFFERS}
@@ -14,11 +14,11 @@ use Rattle.driver.specs.transmit.Frames.{frames_of, numbers_in, NeedsMore}
 use Rattle.driver.specs.transmit.Going.{WentOn, is_cleaning}
 use Rattle.driver.specs.transmit.Transmitter.{room_of, Sending}
 
--- Buffers were cleaned, and went into the stash in their order, by cleaning and looking for reports alone
+-- Buffers were cleaned and went into the stash in order. The only steps are cleaning and looking for reports.
 abbrev pub CleanedInto : DriverSide → List ℕ → DriverSide → List ℕ → Type 0
 CleanedInto = CleanedBy is_cleaning
 
--- all that was seen reported was cleaned, and then a load showed no report, or none was outstanding
+-- Everything seen reported was cleaned, and then a load showed no report, or none was outstanding.
 pub record FoundNoMore (old new : DriverSide) : Type 0 where
   pub last : DriverSide
   pub numbers : List ℕ
@@ -26,7 +26,8 @@ pub record FoundNoMore (old new : DriverSide) : Type 0 where
   pub all : length (cleaned last) ≡ seen_reported last
   pub none : Polled last false new
 
--- A cleaning: its steps, and what it leaves. It ends with a full stash, or where there is no more to clean. The state is as it was, nothing was reclaimed, and no report that was seen is forgotten
+-- A cleaning: its steps, and its result. It ends with a full stash, or when nothing more can be cleaned. The state is
+-- unchanged, nothing was reclaimed, and no seen report is forgotten.
 pub record CleanedAll (old : DriverSide) (had : List ℕ) (new : DriverSide) (has : List ℕ) : Type 0 where
   pub into : CleanedInto old had new has
   pub open into use *
@@ -36,12 +37,13 @@ pub record CleanedAll (old : DriverSide) (had : List ℕ) (new : DriverSide) (ha
   pub none_back : reclaimed new ≡ reclaimed old
   pub seen : seen_reported old ≤ seen_reported new
 
--- what is posted is published, once
+-- If anything was posted, it is published, once.
 abbrev pub published_after : ℕ → DriverSide → DriverSide
 published_after zero d = d
 published_after (suc k) d = driver_grown d (Published (fill_place d))
 
--- So many packets left the front, and were posted and published; the next one stays for want of room; none where a disabling is asked
+-- `count` packets left the front of the list and were posted and published, none if a disabling was asked. The next one
+-- stays for lack of room.
 pub record PostedFront (every frames count : ℕ) (old : DriverSide) (had : List (List Buffer)) (new : DriverSide) (has : List (List Buffer)) : Type 0 where
   pub filled : DriverSide
   pub posting : WentOn is_post old (frames_of every frames (take count had)) [] filled
@@ -54,7 +56,9 @@ pub record PostedFront (every frames count : ℕ) (old : DriverSide) (had : List
   pub none : is_on (driver_state old) ≡ false → count ≡ 0
   pub stays : is_on (driver_state old) ≡ true → NeedsMore (room_of new) has
 
--- First what is reported was cleaned, and then packets were posted, none while a disabling is asked. Of the buffers that were out and those that were posted, in this order, the first were cleaned and the others are out. The state is as it was, nothing was reclaimed, and posting teaches nothing
+-- First the reported buffers were cleaned, and then packets were posted, none if a disabling was asked. Of the buffers
+-- that were out, followed by those posted, the first were cleaned and the others are out. The state is unchanged,
+-- nothing was reclaimed, and posting changes nothing that is known of the controller.
 pub record Batched (count : ℕ) (old new : Sending) : Type 0 where
   pub between : DriverSide
   pub cleaning : CleanedAll old.driver.end old.stash between new.stash
@@ -69,7 +73,7 @@ pub record Batched (count : ℕ) (old new : Sending) : Type 0 where
   pub stays : is_on (driver_state old.driver.end) ≡ true → NeedsMore (room_of new.driver.end) new.packets
   pub counted : new.driver ≡ record old.driver { end = new.driver.end; frames = (old.driver.frames + count) % old.driver.every }
 
--- The first packet is too long for the ring: what is reported was cleaned, and nothing posted
+-- The first packet is too long for the ring. The reported buffers were cleaned, and nothing was posted.
 pub record OnlyCleaned (old new : Sending) : Type 0 where
   pub cleaning : CleanedAll old.driver.end old.stash new.driver.end new.stash
   pub driver : new.driver ≡ record old.driver { end = new.driver.end }

@@ -1,4 +1,4 @@
--- What a transmit driver gives back of a disabled queue.
+-- The buffers that a transmit driver returns from a disabled queue.
 use Rattle.std.specs.Prelude.{◌≡◌, ℕ, true, List, length}
 use Rattle.ring_model.specs.shared.Handshakes.{is_stopped}
 use Rattle.ring_model.specs.transmit.Ring.{number_of_posting}
@@ -6,12 +6,12 @@ use Rattle.tx_ring.specs.Ends.{driver_state, posted, returned}
 use Rattle.driver.specs.Reclaiming.{CameBack}
 use Rattle.driver.specs.transmit.Transmitter.{Transmitter}
 
--- no buffer of a disabled queue is out
+-- No buffer of a disabled queue is out.
 pub record IsEmptied (t : Transmitter) : Type 0 where
   pub stopped : is_stopped (driver_state t.end) ≡ true
   pub none_out : returned t.end ≡ length (posted t.end)
 
--- the buffers that were out went into the stash, as many of them as fit
+-- The buffers that were out went into the stash, as many as fit.
 pub record GaveBack (old : Transmitter) (had : List ℕ) (new : Transmitter) (has : List ℕ) : Type 0 where
   pub ring : CameBack number_of_posting old.end had new.end has
   pub rest : new ≡ record old { end = new.end }

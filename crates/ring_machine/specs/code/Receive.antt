@@ -29,7 +29,7 @@ rx_may p ClearHead = is_stopped p.queue.handshake.driver && are_all_back p.queue
 rx_may p ClearTail = is_cleared p.queue.handshake.driver
 rx_may p ClearQuiet = is_tailed p.queue.handshake.driver
 
--- the bits of a write-back's word
+-- The bits of a write-back's word.
 abbrev pub has_dd : ℕ → Bool
 has_dd word = word % 2 == 1
 
@@ -39,11 +39,11 @@ has_eop word = word / 2 % 2 == 1
 abbrev pub taken_told : ℕ → ℕ → Note
 taken_told word b = note.Taken (Some (record { buffer = b; len = word / 2 ^ 32; eop = has_eop word }))
 
--- the word at the next place to take
+-- The word at the next place to take.
 abbrev pub next_word : RxParts → ℕ
 next_word p = slice_index p.queue.words p.queue.next
 
--- the buffer in the slot there
+-- The buffer in the slot at that place.
 abbrev pub next_slot : RxParts → Option ℕ
 next_slot p = slot_at p.queue.slots p.queue.next
 
@@ -82,6 +82,6 @@ rx_moved p ClearHead = record p { queue = after_clear_head p.queue }
 rx_moved p ClearTail = record p { queue = after_clear_tail p.queue }
 rx_moved p ClearQuiet = record p { queue = after_renew p.queue; quiet = 0 }
 
--- a machine as it is made
+-- A new machine.
 abbrev pub rx_begun : ℕ → Bool → RxParts
 rx_begun n enabled = record { queue = begun n enabled; quiet = 0; still = false }

@@ -9,12 +9,12 @@ use Rattle.ring_model.specs.shared.Places.{place_next}
 use Rattle.refusals.specs.declared.errors.MachineError.{MachineError}
 use Rattle.refusals.specs.declared.errors.MachineError.TheVariants as refusal
 
--- the words, with this one stored at a place, if there is one to store
+-- The words after this one is stored at a place, if there is one to store.
 abbrev pub word_put : List ℕ → ℕ → Option ℕ → List ℕ
 word_put words place None = words
 word_put words place (Some x) = slice_set words place x
 
--- there is room for one more
+-- The driver is open, and there is room for one more.
 abbrev pub can_post : Wrapped ℕ → Bool
 can_post w = is_open w.handshake.driver && not (place_next w.size w.fill == w.next)
 
@@ -24,15 +24,15 @@ is_idle w = is_serving w.handshake.controller && is_none w.held
 abbrev pub can_fetch : Wrapped ℕ → Bool
 can_fetch w = is_idle w && not (w.serve == w.known)
 
--- all that was posted is with the driver again
+-- All posted buffers are back with the driver.
 abbrev pub are_all_back : Wrapped ℕ → Bool
 are_all_back w = w.next == w.fill
 
--- as far as the queue tells, a disabling may be answered
+-- A disabling may be answered, as far as the queue decides it.
 abbrev pub looks_settled : Wrapped ℕ → Bool
 looks_settled w = is_none w.held && (w.head == w.serve) && w.whole
 
--- a slot that is empty where a buffer must be is no step
+-- A step is refused if a slot that must have a buffer is empty.
 abbrev pub refused_empty : (ℕ → Note) → Option ℕ → Result Note MachineError
 refused_empty f None = Err refusal.NotEnabled
 refused_empty f (Some b) = Ok (f b)
@@ -46,12 +46,12 @@ after_publish w = record w { tail = w.fill }
 abbrev pub after_look : Wrapped ℕ → Wrapped ℕ
 after_look w = record w { known = w.tail }
 
--- with this buffer fetched
+-- After this buffer is fetched.
 abbrev pub after_fetch : Wrapped ℕ → Option ℕ → Wrapped ℕ
 after_fetch w None = w
 after_fetch w (Some b) = record w { slots = slice_set w.slots w.serve None; held = Some b }
 
--- with this buffer stored or sent, and perhaps its word written
+-- After this buffer is stored or sent, and its word written if there is one.
 abbrev pub after_serve : Wrapped ℕ → Option ℕ → Bool → Option ℕ → Wrapped ℕ
 after_serve w word ends None = w
 after_serve w word ends (Some b) = record w { words = word_put w.words w.serve word; slots = slice_set w.slots w.serve (Some b); serve = place_next w.size w.serve; held = None; whole = ends }
@@ -59,12 +59,12 @@ after_serve w word ends (Some b) = record w { words = word_put w.words w.serve w
 abbrev pub after_head : Wrapped ℕ → Wrapped ℕ
 after_head w = record w { head = w.serve }
 
--- with this buffer taken out, and perhaps its word written
+-- After this buffer is taken out, and its word written if there is one.
 abbrev pub after_out : Wrapped ℕ → Option ℕ → Option ℕ → Wrapped ℕ
 after_out w word None = w
 after_out w word (Some b) = record w { words = word_put w.words w.next word; slots = slice_set w.slots w.next None; next = place_next w.size w.next }
 
--- an answered enabling sets the controller's places back
+-- An answered enabling resets the controller's places.
 abbrev pub after_shake : Wrapped ℕ → ControlStep → Wrapped ℕ
 after_shake w c = record w { serve = if enables w.handshake c then 0 else w.serve; known = if enables w.handshake c then 0 else w.known; handshake = shaken w.handshake c }
 
@@ -77,7 +77,7 @@ after_clear_tail w = record w { tail = 0; handshake = record w.handshake { drive
 abbrev pub after_renew : Wrapped ℕ → Wrapped ℕ
 after_renew w = record w { fill = 0; next = 0; handshake = record w.handshake { driver = New } }
 
--- a machine as it is made
+-- A new machine.
 abbrev pub begun : ℕ → Bool → Wrapped ℕ
 begun n enabled = record {
   size = n;

@@ -3,7 +3,7 @@ use Rattle.std.specs.Prelude.{◌≡◌, ℕ, ◌<◌, ◌≤◌, length}
 use Rattle.limits.specs.declared.profile.TheConstants.{MOST_RING}
 use Rattle.ring_model.specs.shared.Agreement.{Wrapped}
 
--- every place is one of the ring's, and there is a word and a slot for each
+-- Every place is in the ring, and each place has a word and a slot.
 pub record IsSound (w : Wrapped ℕ) : Type 0 where
   pub some_places : 1 < w.size
   pub few_places : w.size ≤ MOST_RING

@@ -16,11 +16,11 @@ use Rattle.ring_machine.specs.code.Shared.{after_clear_head, after_clear_tail, a
 use Rattle.ring_machine.specs.transmit.Machine.{TxParts}
 use Rattle.ring_machine.specs.code.Words.{first_asking, place_before, word_eop, word_len, word_rs}
 
--- the place of the oldest report that was asked for and not seen
+-- The place of the oldest report that was asked for and not seen.
 abbrev pub oldest_place : TxParts → Option ℕ
 oldest_place p = first_asking p.queue.words p.queue.size p.rep (between_places p.queue.size p.rep p.queue.fill)
 
--- whether the report of this place is made: by the word of its descriptor, or by the head word
+-- Whether the report of this place is made: by its descriptor's word, or by the head word.
 abbrev pub is_made : TxParts → ℕ → Bool
 is_made p place = if by_head p.completion then nat_le (between_places p.queue.size p.rep (place_next p.queue.size place)) (between_places p.queue.size p.rep p.report) else (slice_index p.queue.words place == done_word)
 
@@ -39,11 +39,11 @@ tx_may p ClearHead = is_stopped p.queue.handshake.driver && are_all_back p.queue
 tx_may p ClearTail = is_cleared p.queue.handshake.driver
 tx_may p ClearReport = by_head p.completion && is_tailed p.queue.handshake.driver
 
--- the word at the controller's place
+-- The word at the controller's place.
 abbrev pub serve_word : TxParts → ℕ
 serve_word p = slice_index p.queue.words p.queue.serve
 
--- the buffer in the slot that is next to come out
+-- The buffer in the slot that comes out next.
 abbrev pub next_slot : TxParts → Option ℕ
 next_slot p = slot_at p.queue.slots p.queue.next
 
@@ -73,7 +73,7 @@ tx_told p ClearHead = Ok (note.Head 0)
 tx_told p ClearTail = Ok (note.Tail 0)
 tx_told p ClearReport = Ok (note.Head 0)
 
--- the buffer is given back and the head stored; the word is still the one that was fetched, since nothing but a report changes it
+-- The buffer is put back and the head stored. The word is still the fetched one, since only a report changes it.
 abbrev pub after_send : TxParts → ℕ → Option ℕ → TxParts
 after_send p word None = p
 after_send p word (Some b) = record p { queue = after_head (after_serve p.queue None (word_eop word) (Some b)); owed = word_rs word }
@@ -89,7 +89,7 @@ after_load p (Some place) = if is_made p place then record p { rep = place_next 
 abbrev pub tx_after_renew : TxParts → TxParts
 tx_after_renew p = record p { queue = after_renew p.queue; report = 0; rep = 0; ends = true }
 
--- a queue that reports by its descriptors has nothing more to clear
+-- A queue that reports in its descriptors has nothing more to clear.
 abbrev pub tx_after_clear : TxParts → Bool → TxParts
 tx_after_clear p false = tx_after_renew (record p { queue = after_clear_tail p.queue })
 tx_after_clear p true = record p { queue = after_clear_tail p.queue }
@@ -109,6 +109,6 @@ tx_moved p ClearHead = record p { queue = after_clear_head p.queue }
 tx_moved p ClearTail = tx_after_clear p (by_head p.completion)
 tx_moved p ClearReport = tx_after_renew p
 
--- a machine as it is made
+-- A new machine.
 abbrev pub tx_begun : ℕ → TxBeginning → TxParts
 tx_begun n b = record { queue = begun n b.enabled; completion = b.completion; report = 0; rep = 0; ends = true; owed = false }

@@ -12,7 +12,7 @@ use Rattle.refusals.specs.declared.errors.MachineError.{MachineError}
 use Rattle.ring_machine.specs.declared.machine.receive.RxMachine.TheInside.{Inside}
 use Rattle.ring_machine.specs.shared.Following.{Follows, Runs}
 
--- what both directions have, the quiet word, and whether the controller said that it stores no more
+-- The parts of both directions, the quiet word, and whether the controller said that it stores no more.
 pub record RxParts : Type 0 where
   pub queue : Wrapped ℕ
   pub quiet : ℕ
@@ -21,7 +21,7 @@ pub record RxParts : Type 0 where
 abbrev pub rx_parts_of : Inside → RxParts
 rx_parts_of m = record { queue = m.queue; quiet = m.quiet; still = m.still }
 
--- a payload is the number of its bytes, and a buffer its number
+-- A payload is its number of bytes, and a buffer its number.
 abbrev pub says_rx : ℕ → Option ℕ → Option (Segment ℕ) → ℕ
 says_rx = rx_says {Payload = ℕ} {Buffer = ℕ} (λ len. len) (λ b. b) (λ b len. b)
 
@@ -39,6 +39,6 @@ RxFollows = Follows RxAgrees (IsRxReachable ℕ) rx_can rx_changed rx_note_of
 unfoldable pub RxRuns : RxParts → List (RxStep ℕ) → ℕ → RxParts → Type 0
 RxRuns = Runs RxAgrees (IsRxReachable ℕ) rx_can rx_changed rx_note_of
 
--- the machine's answer is the owner that the ring's map has
+-- The machine returns the owner in the ring's map.
 unfoldable pub RxOwns : RxParts → ℕ → Owner → Type 0
 RxOwns p place owner = (n : ℕ) (r : RxRing ℕ) → IsRxReachable ℕ n r → RxAgrees p r → slice_get r.owners place ≡ Some owner

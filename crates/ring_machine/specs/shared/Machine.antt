@@ -6,7 +6,7 @@ use Rattle.ring_model.specs.shared.Agreement.{Wrapped}
 use Rattle.ring_model.specs.shared.Places.{between_places}
 use Rattle.ring_machine.specs.declared.machine.queue.QueueMachine.TheInside.{Inside}
 
--- a buffer is its number
+-- A buffer is its number.
 abbrev pub wrapped_of : Inside → Wrapped ℕ
 wrapped_of m = record {
   size = m.size;
@@ -23,7 +23,7 @@ wrapped_of m = record {
   handshake = m.handshake;
 }
 
--- who has a place, told from the places that lie between the next to take out and the next to post
+-- The owner of a place, computed from the places between the next to come out and the next to post.
 abbrev pub told_owner : Wrapped ℕ → ℕ → Owner
 told_owner w place = if not (is_none w.held) && (place == w.serve) then Controller else
     (if nat_lt (between_places w.size w.next place) (between_places w.size w.next w.fill) then Ring else Driver)

@@ -14,7 +14,7 @@ use Rattle.ring_model.specs.shared.Agreement.{bit}
 use Rattle.ring_machine.specs.text.Arguments.{IsDescriptor}
 use Rattle.ring_model.specs.transmit.Ring.{Posting}
 
--- the names of kinds
+-- The names of the kinds.
 abbrev pub control_kind : ControlStep → List ℕ
 control_kind AskEnable = codes "C1"
 control_kind LookAsked = codes "C2"
@@ -53,7 +53,7 @@ tx_kind tx.ClearHead = codes "C9"
 tx_kind tx.ClearTail = codes "C10"
 tx_kind tx.ClearReport = codes "C12"
 
--- the arguments in the order of the text
+-- The arguments, in the order of the text.
 abbrev pub rx_arguments : RxStep ℕ → List ℕ
 rx_arguments (rx.Post b) = b ∷ []
 rx_arguments (rx.Store len eop) = len ∷ bit eop ∷ []
@@ -75,15 +75,15 @@ abbrev pub arguments_of : Move → List ℕ
 arguments_of (Receive q s) = rx_arguments s
 arguments_of (Transmit q s) = tx_arguments s
 
--- queue and kind, as "r0 A1"
+-- Queue and kind, for example "r0 A1".
 abbrev pub name_of : Move → List ℕ
 name_of m = queue_of m ++ codes " " ++ kind_of m
 
--- a move's line: its name, and each argument after a space
+-- A move's line: its name, and each argument after a space.
 abbrev pub text_of : Move → List ℕ
 text_of m = name_of m ++ flat_map (λ n. codes " " ++ decimal n) (arguments_of m)
 
--- the arguments are in range
+-- The arguments are in range.
 abbrev pub IsRxInRange : RxStep ℕ → Type 0
 IsRxInRange (rx.Post b) = b < 2 ^ 16
 IsRxInRange (rx.Store len eop) = (0 < len) × (len ≤ BUFFER_BYTES)

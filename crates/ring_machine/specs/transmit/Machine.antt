@@ -13,7 +13,7 @@ use Rattle.refusals.specs.declared.errors.MachineError.{MachineError}
 use Rattle.ring_machine.specs.declared.machine.transmit.TxMachine.TheInside.{Inside}
 use Rattle.ring_machine.specs.shared.Following.{Follows, Runs}
 
--- what both directions have, and how the queue reports
+-- The parts of both directions, and those of reports.
 pub record TxParts : Type 0 where
   pub queue : Wrapped ℕ
   pub completion : Completion
@@ -25,7 +25,7 @@ pub record TxParts : Type 0 where
 abbrev pub tx_parts_of : Inside → TxParts
 tx_parts_of m = record { queue = m.queue; completion = m.completion; report = m.report; rep = m.rep; ends = m.ends; owed = m.owed }
 
--- a payload is the number of its bytes, and a buffer its number; `told` says whether the report of an item stands in its descriptor
+-- A payload is its number of bytes, and a buffer its number. `told` says whether an item's report is in its descriptor.
 abbrev pub says_tx : (ℕ → Bool) → ℕ → Option (Posting ℕ) → Option (Posting ℕ) → ℕ
 says_tx = tx_says {Payload = ℕ} {Buffer = ℕ} (λ len. len) (λ b. b.number)
 
@@ -39,7 +39,7 @@ pub record TxAgrees (p : TxParts) (r : TxRing ℕ) : Type 0 where
   pub rep : p.rep ≡ r.seen_reported % r.size
   pub ends : p.ends ≡ are_whole r.ledger.posted
   pub owed : p.owed ≡ r.owed
-  -- the length of each item that is out fits the descriptor's bits
+  -- The length of each item that is out fits the descriptor's bits.
   pub lengths : (k : ℕ) (q : Posting ℕ) → returned_count r.queue ≤ k → slice_get r.ledger.posted k ≡ Some q → q.payload < 2 ^ 16
 
 unfoldable pub TxFollows : TxParts → TxStep (Posting ℕ) → Result Note MachineError → TxParts → Type 0
@@ -48,6 +48,6 @@ TxFollows = Follows TxAgrees (IsTxReachable ℕ) tx_can tx_changed tx_note_of
 unfoldable pub TxRuns : TxParts → List (TxStep (Posting ℕ)) → ℕ → TxParts → Type 0
 TxRuns = Runs TxAgrees (IsTxReachable ℕ) tx_can tx_changed tx_note_of
 
--- the machine's answer is the owner that the ring's map has
+-- The machine returns the owner in the ring's map.
 unfoldable pub TxOwns : TxParts → ℕ → Owner → Type 0
 TxOwns p place owner = (n : ℕ) (r : TxRing ℕ) → IsTxReachable ℕ n r → TxAgrees p r → slice_get r.owners place ≡ Some owner

@@ -11,13 +11,13 @@ use Rattle.ring_model.specs.shared.Handshakes.{is_open, is_answered, is_serving,
 use Rattle.ring_model.specs.shared.Queue.{Queue, posted_count, served_count, given_count, next_head}
 use Rattle.ring_model.specs.shared.Lawful.{IsLawfulMap, window}
 
--- every buffer came back, and the driver clears the queue's words
+-- All buffers have come back, and the driver is clearing the queue's words.
 abbrev pub is_emptied : DriverState → Bool
 is_emptied Cleared = true
 is_emptied Tailed = true
 is_emptied _ = false
 
--- which control words and values seen go with the two states
+-- The control words and last seen control values that fit the two states.
 abbrev pub ShakesAs : DriverState → ControllerState → ℕ → ℕ → Type 0
 ShakesAs New Off control seen = (control ≡ 0) × (seen ≡ 0)
 ShakesAs New Serving control seen = ⊥
@@ -44,14 +44,14 @@ ShakesAs Tailed Ended control seen = (control ≡ 0) × (seen ≡ 0)
 pub record IsShaken (h : Handshake) : Type 0 where
   pub shakes : ShakesAs h.driver h.controller h.control h.seen
 
--- the counts of what went round in an epoch, in their order
+-- The counts of an epoch's items, in order.
 pub record InCount (n posted served given reclaimed : ℕ) : Type 0 where
   pub given_served : given ≤ served
   pub served_posted : served ≤ posted
   pub returned_posted : given + reclaimed ≤ posted
   pub room : posted < given + n
 
--- what is published of them, and what a controller that serves knows and holds of that
+-- The published count, and what a serving controller knows and holds of the published items.
 pub record InSight (posted served published known : ℕ) (held : Bool) (h : Handshake) : Type 0 where
   pub published_posted : published ≤ posted
   pub known_published : is_serving h.controller ≡ true → known ≤ published
@@ -59,14 +59,14 @@ pub record InSight (posted served published known : ℕ) (held : Bool) (h : Hand
   pub held_known : held ≡ true → served < known
   pub held_serving : held ≡ true → is_serving h.controller ≡ true
 
--- what the states of the handshake say of them
+-- What the states of the handshake imply for the counts.
 pub record InState (posted served given published reclaimed : ℕ) (h : Handshake) : Type 0 where
   pub not_reclaimed : is_answered h.driver ≡ false → reclaimed ≡ 0
   pub none_served : is_serving h.controller ≡ false → is_open h.driver ≡ true → served ≡ 0
   pub all_back : is_emptied h.driver ≡ true → given + reclaimed ≡ posted
   pub tail_cleared : is_tailed h.driver ≡ true → published ≡ 0
 
--- the counts of an epoch, in their order
+-- All facts about the counts of an epoch.
 pub record InOrder (n posted served given published known reclaimed : ℕ) (held : Bool) (h : Handshake) : Type 0 where
   pub count : InCount n posted served given reclaimed
   pub open count use *
@@ -75,7 +75,7 @@ pub record InOrder (n posted served given published known reclaimed : ℕ) (held
   pub state : InState posted served given published reclaimed h
   pub open state use *
 
--- `ends` says of what was served whether it ends a frame
+-- The invariant of a queue. `ends` says whether a served item ends a frame.
 pub record IsKept {Posted Served Given : Type 0} (n : ℕ) (ends : Served → Bool) (q : Queue Posted Served Given) : Type 0 where
   pub size_is : q.size ≡ n
   pub places : 1 < n

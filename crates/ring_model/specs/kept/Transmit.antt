@@ -8,7 +8,8 @@ use Rattle.ring_model.specs.transmit.Steps.{asks_report}
 use Rattle.ring_model.specs.transmit.Lawful.{IsLawfulTxLedger}
 use Rattle.ring_model.specs.kept.Queues.{IsKept}
 
--- the counts of reports, in their order. Of those that were sent and not reported, only the last may have asked for a report, and then one is owed
+-- The counts of reports, in order. Of the items sent but not reported, only the last may have asked for a report; that
+-- report is then owed.
 pub record InReports {Payload : Type 0} (sent : List (Posting Payload)) (given seen reported : ℕ) (held owed serving : Bool) : Type 0 where
   pub given_seen : given ≤ seen
   pub seen_reported : seen ≤ reported

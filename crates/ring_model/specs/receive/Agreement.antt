@@ -3,18 +3,18 @@ use Rattle.std.specs.Prelude.{ℕ, ◌+◌, ◌*◌, ◌^◌, Bool, Option, Some
 use Rattle.ring_model.specs.shared.Agreement.{bit}
 use Rattle.ring_model.specs.shared.Segments.{Segment}
 
--- the second word of a write-back (82599 datasheet, 7.1.6.2): DD in bit 0, EOP in bit 1, the length in bits 47:32
+-- The second word of a write-back (82599 datasheet, 7.1.6.2): DD in bit 0, EOP in bit 1, the length in bits 47:32.
 abbrev pub rx_word : ℕ → Bool → ℕ
 rx_word len eop = 1 + 2 * bit eop + len * 2 ^ 32
 
--- `size` counts a payload's bytes, `fresh` is the posted buffer with a number, and `filled` that buffer with a payload
+-- `size` counts a payload's bytes. `fresh` is the posted buffer with a number; `filled` is that buffer with a payload.
 module _ {Payload Buffer : Type 0} (size : Payload → ℕ) (fresh : ℕ → Buffer) (filled : ℕ → Payload → Buffer) where
-  -- the word at the place of an item: 0 as it was posted, else the write-back of the segment
+  -- The word at the place of an item: 0 once posted, the write-back once the segment is stored.
   abbrev pub rx_says : ℕ → Option ℕ → Option (Segment Payload) → ℕ
   rx_says k posted None = 0
   rx_says k posted (Some s) = rx_word (size s.payload) s.eop
 
-  -- its buffer, with the payload once it is stored
+  -- The item's buffer, with the payload once it is stored.
   abbrev pub rx_lies : Option ℕ → Option (Segment Payload) → Option Buffer
   rx_lies None served = None
   rx_lies (Some b) None = Some (fresh b)

@@ -5,7 +5,8 @@ use Rattle.ring_model.specs.shared.Lawful.{IsLawfulQueue}
 use Rattle.ring_model.specs.receive.Ring.{RxLedger, RxRing}
 use Rattle.ring_model.specs.shared.Segments.{number_of_segment}
 
--- Taken segments are a beginning of those stored, byte for byte and in order; the stored ones lie in the posted buffers, in order; and the driver never has more than n - 1 out
+-- The taken segments are a prefix of the stored ones, byte for byte and in order. The stored segments use the posted
+-- buffers in order. The driver never has more than n - 1 buffers out.
 pub record IsLawfulRxLedger (Payload : Type 0) (n : ℕ) (l : RxLedger Payload) : Type 0 where
   pub taken : IsBeginning l.given l.served
   pub stored : IsBeginning (map number_of_segment l.served) l.posted

@@ -5,11 +5,12 @@ use Rattle.ring_model.specs.shared.Laws.{IsConcluded, IsOrdered, Later}
 use Rattle.ring_model.specs.receive.Ring.{RxRing, is_whole}
 
 module _ {Payload : Type 0} where
-  -- the controller stores no more in this epoch: it answered the disabling, or it said that it is quiet
+  -- The controller stores no more in this epoch: it answered the disabling, or it said that it is quiet.
   abbrev pub rx_over : RxRing Payload → Bool
   rx_over r = has_ended r.handshake || (is_serving r.handshake.controller && r.still)
 
-  -- where the controller is over, no frame is left unfinished; and where the quiet word of this epoch is 1, it is over and has said so
+  -- Once the controller stores no more, no frame is unfinished. If the quiet word of this epoch is 1, the controller
+  -- said so and stores no more.
   pub record IsRxConcluded (r : RxRing Payload) : Type 0 where
     pub order : IsOrdered r.queue
     pub queue : IsConcluded r.queue

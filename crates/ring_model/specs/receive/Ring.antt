@@ -4,7 +4,7 @@ use Rattle.ring_model.specs.shared.Frames.{ends_frame}
 use Rattle.ring_model.specs.shared.Queue.{Ledger, Queue, opening, given_count, served_count}
 use Rattle.ring_model.specs.shared.Segments.{Segment, ends_segment}
 
--- The numbers of posted buffers, the segments that the controller stored, and those that the driver took
+-- The numbers of the posted buffers, the segments that the controller stored, and those that the driver took.
 abbrev pub RxLedger : Type 0 → Type 0
 RxLedger Payload = Ledger ℕ (Segment Payload) (Segment Payload)
 
@@ -17,19 +17,19 @@ pub record RxRing (Payload : Type 0) : Type 0 where
   pub quiet : ℕ  -- the quiet word
   pub still : Bool  -- the controller said that it stores no more
 
--- a ring of n places as it is made
+-- A new ring of `n` places.
 abbrev pub rx_opening : {Payload : Type 0} → ℕ → Bool → RxRing Payload
 rx_opening n enabled = record { queue = opening n enabled; quiet = 0; still = false }
 
 module _ {Payload : Type 0} where
-  -- whether the last stored segment ends a frame, or whether there is none
+  -- Whether the last stored segment ends a frame; true if there is none.
   abbrev pub is_whole : RxRing Payload → Bool
   is_whole r = ends_frame ends_segment true r.ledger.served
 
-  -- what would be stored next: a segment in the buffer that was posted as the next in order
+  -- The segment that a store adds now: it uses the next posted buffer in order.
   abbrev pub next_segment : RxRing Payload → Payload → Bool → Segment Payload
   next_segment r x eop = record { number = slice_index r.ledger.posted (served_count r.queue); payload = x; eop = eop }
 
-  -- the next segment to take, if it is stored yet
+  -- The next segment to take, if it is stored.
   abbrev pub due : RxRing Payload → Option (Segment Payload)
   due r = slice_get r.ledger.served (given_count r.queue)

@@ -13,7 +13,7 @@ use Rattle.ring_model.specs.receive.Ring.{RxRing, rx_opening, due, is_whole, nex
 use Rattle.ring_model.specs.shared.Segments.{Segment, ends_segment}
 
 module _ {Payload : Type 0} where
-  -- a load shows the next segment, if it is stored yet
+  -- The driver takes the next segment if its load shows that it is stored.
   abbrev pub took : RxRing Payload → Option (Segment Payload) → RxRing Payload
   took r None = r
   took r (Some s) = record r { queue = by r.queue (queue.Give s) }
@@ -37,7 +37,7 @@ module _ {Payload : Type 0} where
   rx_can r ClearTail = may r.queue queue.ClearTail
   rx_can r ClearQuiet = may r.queue queue.Renew
 
-  -- an answered enabling makes the controller store again
+  -- The ring after a step. After an answered enabling, the controller may store again.
   abbrev pub rx_changed : RxRing Payload → RxStep Payload → RxRing Payload
   rx_changed r (Post b) = record r { queue = by r.queue (queue.Post b) }
   rx_changed r Publish = record r { queue = by r.queue queue.Publish }
@@ -63,11 +63,11 @@ module _ {Payload : Type 0} where
   abbrev pub rx_happened : RxRing Payload → List (RxStep Payload) → ℕ
   rx_happened = happened rx_can rx_changed
 
--- some schedule makes the ring out of a ring of n places as it was made, enabled or never enabled
+-- Some schedule leads to the ring from a new ring of `n` places, enabled or never enabled.
 abbrev pub IsRxReachable : (Payload : Type 0) → ℕ → RxRing Payload → Type 0
 IsRxReachable Payload n r = IsReached (rx_can {Payload = Payload}) rx_changed (rx_opening n) r
 
--- what a step tells, where a segment's payload is the number of its bytes
+-- The note of a step. Here a segment's payload is its number of bytes.
 abbrev pub taken_segment : Option (Segment ℕ) → Option TakenSegment
 taken_segment None = None
 taken_segment (Some s) = Some (record { buffer = s.number; len = s.payload; eop = s.eop })

@@ -8,7 +8,7 @@ shape_of p = (length p.bytes, p.eop)
 abbrev shapes : List Piece → List (ℕ × Bool)
 shapes ps = map shape_of ps
 
--- a piece of so many bytes that goes on, or that ends its frame
+-- A piece of `len` bytes that does not end its frame (`on`) or ends it (`end`).
 abbrev on : ℕ → ℕ × Bool
 on len = (len, false)
 
@@ -27,14 +27,14 @@ pub record CutRows : Type 0 where
   pub fifteen : (f : Bytes) → length f ≡ 15000 → shapes (cut 1024 f)
       ≡ on 1024 ∷ on 1024 ∷ on 1024 ∷ on 1024 ∷ on 1024 ∷ on 1024 ∷ on 1024 ∷ on 1024 ∷ on 1024 ∷ on 1024 ∷ on 1024 ∷ on 1024 ∷ on 1024 ∷ on 1024 ∷ end 664 ∷ []
 
--- what may follow an unfinished frame of so many pieces with so many bytes, in a ring of n
+-- What may follow an unfinished frame of `count` pieces and `before` bytes, in a ring of `n`.
 abbrev MayGoOn : ℕ → ℕ → ℕ → ℕ → Bool → Type 0
 MayGoOn n count before len eop = (ps : List Piece) (f : Bytes) → length ps ≡ count → length (join itself ps) ≡ before → length f ≡ len → Follows itself n ps f eop
 
 abbrev MayNotGoOn : ℕ → ℕ → ℕ → ℕ → Bool → Type 0
 MayNotGoOn n count before len eop = (ps : List Piece) (f : Bytes) → length ps ≡ count → length (join itself ps) ≡ before → length f ≡ len → Follows itself n ps f eop → ⊥
 
--- the limits of frames, as plain numbers
+-- The limits of frames, as plain numbers.
 pub record FollowRows : Type 0 where
   pub shortest : MayGoOn 8 0 0 14 true
   pub too_short : MayNotGoOn 8 0 0 13 true

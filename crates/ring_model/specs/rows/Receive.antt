@@ -31,12 +31,12 @@ nothing = Some (note.Taken None)
 abbrev pub quiet : ℕ → Option Note
 quiet v = Some (note.Quiet v)
 
--- so many buffers, numbered from b
+-- Posts the given number of buffers, numbered from `b`.
 abbrev pub rx_posts : ℕ → ℕ → List (RxStep ℕ)
 rx_posts b zero = []
 rx_posts b (suc k) = Post b ∷ rx_posts (b + 1) k
 
--- frame after frame, each taken and a buffer posted before the next
+-- Frame after frame: each is taken and a buffer posted before the next.
 abbrev pub rx_turns : ℕ → ℕ → List (RxStep ℕ)
 rx_turns k zero = []
 rx_turns k (suc count) = Look ∷ Fetch ∷ Store (60 + k) true ∷ Head ∷ Take ∷ Post k ∷ Publish ∷ rx_turns (k + 1) count
@@ -44,7 +44,7 @@ rx_turns k (suc count) = Look ∷ Fetch ∷ Store (60 + k) true ∷ Head ∷ Tak
 abbrev pub seven_posted : List (RxStep ℕ)
 seven_posted = rx_posts 0 7 ++ Publish ∷ []
 
--- disabling asked in the middle of a frame is answered after the frame's last segment and head
+-- A disabling asked in the middle of a frame is answered after the frame's last segment and head.
 abbrev before_asking : List (RxStep ℕ)
 before_asking = Post 1 ∷ Post 2 ∷ Publish ∷ Look ∷ Fetch ∷ Store 1024 false ∷ Head ∷ []
 
@@ -54,14 +54,14 @@ after_asking = Control LookAsked ∷ Control Answer ∷ Fetch ∷ Store 10 true 
 abbrev pub disabling : List (RxStep ℕ)
 disabling = before_asking ++ Control AskDisable ∷ after_asking
 
--- the queue is cleared, enabled again, and one frame goes through
+-- The queue is cleared and enabled again, and one frame goes through.
 abbrev pub renewal : List (RxStep ℕ)
 renewal = ClearHead ∷ ClearTail ∷ ClearQuiet ∷ Post 9 ∷ Publish ∷ Control AskEnable ∷ Control LookAsked ∷ Control Answer ∷ Control LookAnswered ∷ Look ∷ Fetch ∷ Store 60 true ∷ Take ∷ []
 
 abbrev pub second_disabling : List (RxStep ℕ)
 second_disabling = ClearHead ∷ Control AskDisable ∷ Post 3 ∷ Control LookAsked ∷ Control Answer ∷ Head ∷ Control Answer ∷ Look ∷ Control LookAnswered ∷ Reclaim ∷ ClearHead ∷ ClearTail ∷ ClearQuiet ∷ []
 
--- a disabling asked before the step i of that list, or at its end: how many of the 20 steps happen
+-- Asks for disabling before step `i` of that list, or at its end. The row counts how many of the 20 steps happen.
 abbrev asked_at : ℕ → List (RxStep ℕ)
 asked_at i = take i (before_asking ++ after_asking) ++ Control AskDisable ∷ drop i (before_asking ++ after_asking)
 
@@ -76,26 +76,26 @@ abbrev after_quiet : List (RxStep ℕ)
 after_quiet = ClearHead ∷ ClearTail ∷ LoadQuiet ∷ ClearQuiet ∷ LoadQuiet ∷ Control AskEnable ∷ Control LookAsked ∷ Control Answer ∷ Control LookAnswered ∷ Post 7 ∷ Publish ∷ Fetch ∷ Look ∷ Fetch ∷ []
 
 pub record RxRows : Type 0 where
-  -- one frame: posted, published, seen, fetched, stored, taken
+  -- One frame: posted, published, seen, fetched, stored, taken.
   pub one_frame : rx_notes on_8 (Post 5 ∷ Publish ∷ Look ∷ Fetch ∷ Store 60 true ∷ Take ∷ []) ≡ place 0 ∷ tail 1 ∷ free 1 ∷ fetched 0 5 ∷ place 0 ∷ taken 5 60 true ∷ []
-  -- a load before the write-back shows nothing, and with nothing posted there is no load
+  -- A load before the write-back shows nothing. If nothing is out, there is no load.
   pub early_and_late_loads : rx_notes on_8 (Post 5 ∷ Publish ∷ Look ∷ Fetch ∷ Take ∷ Store 60 true ∷ Take ∷ Take ∷ [])
       ≡ place 0 ∷ tail 1 ∷ free 1 ∷ fetched 0 5 ∷ nothing ∷ place 0 ∷ taken 5 60 true ∷ None ∷ []
-  -- at most n - 1 buffers are out
+  -- At most n - 1 buffers are out.
   pub seven_places : rx_notes on_8 (rx_posts 0 8) ≡ place 0 ∷ place 1 ∷ place 2 ∷ place 3 ∷ place 4 ∷ place 5 ∷ place 6 ∷ None ∷ []
   pub seven_fit : rx_happened on_8 (rx_posts 0 8) ≡ 7
-  -- 21 frames go round a ring of 8 nearly three times, the last from place 4
+  -- 21 frames go round a ring of 8 nearly three times. The last one uses place 4.
   pub twenty_one : map (λ (s : Segment ℕ). s.payload) (rx_after_all on_8 (seven_posted ++ rx_turns 0 21)).ledger.given
       ≡ 60 ∷ 61 ∷ 62 ∷ 63 ∷ 64 ∷ 65 ∷ 66 ∷ 67 ∷ 68 ∷ 69 ∷ 70 ∷ 71 ∷ 72 ∷ 73 ∷ 74 ∷ 75 ∷ 76 ∷ 77 ∷ 78 ∷ 79 ∷ 80 ∷ []
   pub twenty_first : rx_notes (rx_after_all on_8 (seven_posted ++ rx_turns 0 20)) (rx_turns 20 1)
       ≡ free 7 ∷ fetched 4 13 ∷ place 4 ∷ head 5 ∷ taken 13 80 true ∷ place 3 ∷ tail 4 ∷ []
   pub twenty_one_head : (rx_after_all on_8 (seven_posted ++ rx_turns 0 21)).head ≡ 5
-  -- the head may be stored before anything is
+  -- The head may be stored before any segment is.
   pub head_alone : rx_notes on_8 (Head ∷ []) ≡ head 0 ∷ []
-  -- what is published is known after the next look, one buffer is fetched at a time, and the head waits for it
+  -- The controller knows of published buffers after its next look. It fetches one at a time, and the head waits for it.
   pub looks : rx_notes on_8 (Fetch ∷ Look ∷ Post 5 ∷ Fetch ∷ Publish ∷ Fetch ∷ Look ∷ Fetch ∷ Fetch ∷ Head ∷ Post 6 ∷ Publish ∷ Store 60 true ∷ Fetch ∷ Look ∷ Fetch ∷ [])
       ≡ None ∷ free 0 ∷ place 0 ∷ None ∷ tail 1 ∷ None ∷ free 1 ∷ fetched 0 5 ∷ None ∷ None ∷ place 1 ∷ tail 2 ∷ place 0 ∷ None ∷ free 1 ∷ fetched 1 6 ∷ []
-  -- a queue that was never enabled takes buffers, and does nothing more
+  -- A queue that was never enabled takes buffers and does nothing more.
   pub never_enabled : rx_notes off_8 (Post 3 ∷ Publish ∷ Look ∷ Fetch ∷ Head ∷ StoreQuiet ∷ Take ∷ Control Answer ∷ Control AskDisable ∷ Reclaim ∷ ClearHead ∷ ClearTail ∷ ClearQuiet ∷ LoadQuiet ∷ [])
       ≡ place 0 ∷ tail 1 ∷ None ∷ None ∷ None ∷ None ∷ None ∷ None ∷ None ∷ None ∷ None ∷ None ∷ None ∷ quiet 0 ∷ []
   pub disabling_in_a_frame : rx_notes on_8 disabling
@@ -104,31 +104,31 @@ pub record RxRows : Type 0 where
       ≡ head 0 ∷ tail 0 ∷ quiet 0 ∷ place 0 ∷ tail 1 ∷ control 1 ∷ control 1 ∷ control 2 ∷ control 2 ∷ free 1 ∷ fetched 0 9 ∷ place 0 ∷ taken 9 60 true ∷ []
   pub renewal_steps : length (disabling ++ renewal) ≡ 33
   pub renewal_count : rx_happened on_8 (disabling ++ renewal) ≡ 29
-  -- the second epoch is disabled as the first was, and is the second of the past ones
+  -- The second epoch is disabled like the first, and becomes the second past one.
   pub second_disabled : rx_notes (rx_after_all on_8 (disabling ++ renewal)) second_disabling
       ≡ None ∷ control 3 ∷ None ∷ control 3 ∷ None ∷ head 1 ∷ control 0 ∷ None ∷ control 0 ∷ None ∷ head 0 ∷ tail 0 ∷ quiet 0 ∷ []
   pub two_epochs : length (rx_after_all on_8 (disabling ++ renewal ++ second_disabling)).past ≡ 2
   pub asked_at_every_step : rx_counts_from 0 20 ≡ 6 ∷ 8 ∷ 10 ∷ 16 ∷ 16 ∷ 16 ∷ 16 ∷ 16 ∷ 14 ∷ 14 ∷ 14 ∷ 14 ∷ 14 ∷ 14 ∷ 14 ∷ 14 ∷ 14 ∷ 14 ∷ 14 ∷ 14 ∷ []
-  -- enabling, disabling, and no second enabling before the queue is cleared
+  -- Enabling and disabling, and no second enabling before the queue is cleared.
   pub on_and_off : rx_notes off_8 (Control AskEnable ∷ Control LookAsked ∷ Control Answer ∷ Control LookAnswered ∷ Control AskDisable ∷ Control LookAsked ∷ Control Answer ∷ Control LookAnswered ∷ Control AskEnable ∷ [])
       ≡ control 1 ∷ control 1 ∷ control 2 ∷ control 2 ∷ control 3 ∷ control 3 ∷ control 0 ∷ control 0 ∷ None ∷ []
-  -- a disabling is asked only once the enabling was seen answered
+  -- A disabling is asked only after the enabling was seen answered.
   pub asked_too_early : rx_notes off_8 (Control AskDisable ∷ Control AskEnable ∷ Control AskDisable ∷ Control LookAsked ∷ Control Answer ∷ Control AskDisable ∷ Control LookAnswered ∷ Control AskDisable ∷ [])
       ≡ None ∷ control 1 ∷ None ∷ control 1 ∷ control 2 ∷ None ∷ control 2 ∷ control 3 ∷ []
-  -- each asking is answered once, and only where it was seen
+  -- Each request is answered once, and only after the controller saw it.
   pub answered_once : rx_notes off_8 (Control AskEnable ∷ Control Answer ∷ Control LookAsked ∷ Control LookAnswered ∷ Control Answer ∷ Control Answer ∷ Control LookAsked ∷ Control Answer ∷ Control LookAnswered
       ∷ Control AskDisable ∷ Control Answer ∷ Control LookAnswered ∷ Control LookAsked ∷ Control Answer ∷ Control Answer ∷ Control LookAsked ∷ Control Answer ∷ [])
       ≡ control 1 ∷ None ∷ control 1 ∷ control 1 ∷ control 2 ∷ None ∷ control 2 ∷ None ∷ control 2 ∷ control 3 ∷ None ∷ control 3 ∷ control 3 ∷ control 0 ∷ None ∷ control 0 ∷ None ∷ []
-  -- the head is cleared once, after all buffers came back; an ended controller does nothing
+  -- The head is cleared once, after all buffers came back. A controller that has ended does nothing.
   pub cleared_once : rx_notes on_8 (Post 1 ∷ Publish ∷ Look ∷ Fetch ∷ Store 60 true ∷ Head ∷ ClearHead ∷ Control AskDisable ∷ ClearHead ∷ Control LookAsked ∷ Control Answer ∷ ClearHead ∷ Control LookAnswered ∷ ClearHead
       ∷ Reclaim ∷ ClearTail ∷ ClearHead ∷ ClearHead ∷ Look ∷ Fetch ∷ Head ∷ StoreQuiet ∷ [])
       ≡ place 0 ∷ tail 1 ∷ free 1 ∷ fetched 0 1 ∷ place 0 ∷ head 1 ∷ None ∷ control 3 ∷ None ∷ control 3 ∷ control 0 ∷ None ∷ control 0 ∷ None ∷ buffer 1 ∷ None ∷ head 0 ∷ None ∷ None ∷ None ∷ None ∷ None ∷ []
   pub head_before_clearing : (rx_after_all on_8 disabling).head ≡ 2
   pub head_after_clearing : (rx_after_all on_8 (disabling ++ ClearHead ∷ [])).head ≡ 0
-  -- quiet is said between frames alone; after it nothing is fetched, and the head is still stored
+  -- Quiet is stored only between frames. After it nothing is fetched, and the head can still be stored.
   pub quiet_between_frames : rx_notes on_8 (rx_posts 1 3 ++ Publish ∷ Look ∷ Fetch ∷ Store 1024 false ∷ StoreQuiet ∷ Fetch ∷ StoreQuiet ∷ Store 10 true ∷ StoreQuiet ∷ Fetch ∷ Head ∷ LoadQuiet ∷ StoreQuiet ∷ Look ∷ [])
       ≡ place 0 ∷ place 1 ∷ place 2 ∷ tail 3 ∷ free 3 ∷ fetched 0 1 ∷ place 0 ∷ None ∷ fetched 1 2 ∷ None ∷ place 1 ∷ quiet 1 ∷ None ∷ head 2 ∷ quiet 1 ∷ quiet 1 ∷ free 1 ∷ []
-  -- nothing of a quiet epoch holds back the next
+  -- A quiet epoch does not hold back the next one.
   pub quiet_and_renewed : rx_notes on_8 (until_quiet ++ after_quiet)
       ≡ place 0 ∷ place 1 ∷ tail 2 ∷ free 2 ∷ fetched 0 1 ∷ None ∷ place 0 ∷ quiet 0 ∷ quiet 1 ∷ None ∷ quiet 1 ∷ taken 1 60 true ∷ head 1 ∷ control 3 ∷ control 3 ∷ control 0 ∷ control 0 ∷ buffer 2
       ∷ head 0 ∷ tail 0 ∷ quiet 1 ∷ quiet 0 ∷ quiet 0 ∷ control 1 ∷ control 1 ∷ control 2 ∷ control 2 ∷ place 0 ∷ tail 1 ∷ None ∷ free 1 ∷ fetched 0 7 ∷ []

@@ -22,11 +22,11 @@ off = tx_opening 8 (record { enabled = false; completion = by.Status })
 abbrev pub off_by_head : TxRing ℕ
 off_by_head = tx_opening 8 (record { enabled = false; completion = by.Head })
 
--- a frame of 60 bytes in one segment
+-- A frame of 60 bytes in one segment.
 abbrev pub frame : ℕ → Bool → Posting ℕ
 frame b rs = new_posting b 60 true rs 60
 
--- the first 60 bytes of a frame of 120
+-- The first 60 bytes of a frame of 120.
 abbrev half : Posting ℕ
 half = new_posting 3 60 false false 120
 
@@ -48,15 +48,15 @@ unreported = Some (note.Reported None)
 abbrev pub reported : ℕ → Option Note
 reported k = Some (note.Reported (Some k))
 
--- posted, published, seen, fetched, sent, reported, cleaned; loads of the report before it is made show nothing
+-- Posted, published, seen, fetched, sent, reported, cleaned. Loads of the report before it is made show nothing.
 abbrev one_frame : List (TxStep (Posting ℕ))
 one_frame = Post (frame 7 true) ∷ Publish ∷ LoadReport ∷ Look ∷ Fetch ∷ Send ∷ LoadReport ∷ Report ∷ LoadReport ∷ Clean ∷ []
 
--- one report covers the descriptor before it, which asked for none
+-- One report also covers the descriptor before it, which asked for none.
 abbrev two_frames : List (TxStep (Posting ℕ))
 two_frames = Post (frame 1 false) ∷ Post (frame 2 true) ∷ Publish ∷ Look ∷ Fetch ∷ Send ∷ Fetch ∷ Send ∷ Report ∷ LoadReport ∷ Clean ∷ Clean ∷ Clean ∷ []
 
--- two reports are made before the first is seen
+-- Two reports are made before the first is seen.
 abbrev two_reports : List (TxStep (Posting ℕ))
 two_reports = Post (frame 1 true) ∷ Post (frame 2 true) ∷ Publish ∷ Look ∷ Fetch ∷ Send ∷ Report ∷ Fetch ∷ Send ∷ Report ∷ Report ∷ Clean ∷ LoadReport ∷ Clean ∷ Clean ∷ LoadReport ∷ LoadReport ∷ Clean ∷ []
 
@@ -64,17 +64,18 @@ abbrev pub tx_posts : ℕ → ℕ → List (TxStep (Posting ℕ))
 tx_posts b zero = []
 tx_posts b (suc k) = Post (frame b false) ∷ tx_posts (b + 1) k
 
--- frame after frame, each reported and cleaned before the next
+-- Frame after frame: each is reported and cleaned before the next.
 abbrev pub tx_turns : ℕ → ℕ → List (TxStep (Posting ℕ))
 tx_turns k zero = []
 tx_turns k (suc count) = Post (frame k true) ∷ Publish ∷ Look ∷ Fetch ∷ Send ∷ Report ∷ LoadReport ∷ Clean ∷ tx_turns (k + 1) count
 
--- three frames, of which one is sent; a disabling waits for the report that is owed, and the buffers come back
+-- Three frames, one of them sent. The disabling waits for the owed report, and the buffers come back.
 abbrev pub disabling : List (TxStep (Posting ℕ))
 disabling = Post (frame 1 true) ∷ Post (frame 2 false) ∷ Post (frame 3 false) ∷ Publish ∷ Look ∷ Fetch ∷ Send ∷ Control AskDisable ∷ Post (frame 4 false) ∷ Control LookAsked ∷ Control Answer ∷ Report
     ∷ Control Answer ∷ Fetch ∷ Control LookAnswered ∷ LoadReport ∷ Reclaim ∷ ClearHead ∷ Reclaim ∷ Reclaim ∷ Reclaim ∷ []
 
--- a ring that reports by its descriptors is New once the tail is cleared, and one that reports by a head word once that is cleared too
+-- A ring that reports in its descriptors is New once its tail is cleared. One that reports through a head word is New
+-- once that is cleared too.
 abbrev pub renewal : List (TxStep (Posting ℕ))
 renewal = ClearReport ∷ ClearHead ∷ ClearReport ∷ ClearTail ∷ ClearReport ∷ Post (frame 9 true) ∷ Publish ∷ Control AskEnable ∷ Control LookAsked ∷ Control Answer ∷ Control LookAnswered ∷ Look ∷ Fetch ∷ Send ∷ Report ∷ LoadReport ∷ Clean ∷ []
 
@@ -91,26 +92,28 @@ pub record TxRows : Type 0 where
       ≡ place 0 ∷ place 1 ∷ tail 2 ∷ ready 2 ∷ sending 0 1 false ∷ head 1 ∷ sending 1 2 true ∷ head 2 ∷ head 2 ∷ reported 1 ∷ buffer 1 ∷ buffer 2 ∷ None ∷ []
   pub two_frames_count : tx_happened by_status two_frames ≡ 12
   pub two_frames_count_by_head : tx_happened by_head_word two_frames ≡ 12
-  -- the reports are seen one after another, each buffer is cleaned below what is seen, and where none is outstanding none is loaded
+  -- Reports are seen one after another, and only buffers covered by a seen report are cleaned. If no report is
+  -- outstanding, none is loaded.
   pub two_reports_by_status : tx_notes by_status two_reports
       ≡ place 0 ∷ place 1 ∷ tail 2 ∷ ready 2 ∷ sending 0 1 true ∷ head 1 ∷ place 0 ∷ sending 1 2 true ∷ head 2 ∷ place 1 ∷ None ∷ None ∷ reported 0 ∷ buffer 1 ∷ None ∷ reported 1 ∷ None ∷ buffer 2 ∷ []
   pub two_reports_by_head : tx_notes by_head_word two_reports
       ≡ place 0 ∷ place 1 ∷ tail 2 ∷ ready 2 ∷ sending 0 1 true ∷ head 1 ∷ head 1 ∷ sending 1 2 true ∷ head 2 ∷ head 2 ∷ None ∷ None ∷ reported 0 ∷ buffer 1 ∷ None ∷ reported 1 ∷ None ∷ buffer 2 ∷ []
-  -- a report is not loaded where none is outstanding, a frame is published whole, and a report that is owed comes before the next fetch
+  -- If no report is outstanding, none is loaded. Only whole frames are published. An owed report comes before the next
+  -- fetch.
   pub in_turn : tx_notes by_status (LoadReport ∷ Post half ∷ Publish ∷ LoadReport ∷ Post (frame 4 true) ∷ Post (frame 5 true) ∷ Publish ∷ Look ∷ Fetch ∷ Send ∷ Clean ∷ Fetch ∷ Send ∷ Fetch ∷ Report ∷ Fetch ∷ [])
       ≡ None ∷ place 0 ∷ None ∷ None ∷ place 1 ∷ place 2 ∷ tail 3 ∷ ready 3 ∷ sending_half 0 ∷ head 1 ∷ None ∷ sending 1 4 true ∷ head 2 ∷ None ∷ place 1 ∷ sending 2 5 true ∷ []
-  -- at most n - 1 buffers are out
+  -- At most n - 1 buffers are out.
   pub seven_places : tx_notes by_status (tx_posts 0 8) ≡ place 0 ∷ place 1 ∷ place 2 ∷ place 3 ∷ place 4 ∷ place 5 ∷ place 6 ∷ None ∷ []
   pub seven_fit : tx_happened by_status (tx_posts 0 8) ≡ 7
-  -- what is published is known after the next look, and one buffer is fetched at a time
+  -- The controller knows of published postings after its next look, and fetches one at a time.
   pub looks : tx_notes by_status (Fetch ∷ Look ∷ Post (frame 1 false) ∷ Look ∷ Fetch ∷ Publish ∷ Fetch ∷ Look ∷ Fetch ∷ Fetch ∷ Look ∷ Post (frame 2 false) ∷ Publish ∷ Send ∷ Fetch ∷ Report ∷ Look ∷ Fetch ∷ [])
       ≡ None ∷ ready 0 ∷ place 0 ∷ ready 0 ∷ None ∷ tail 1 ∷ None ∷ ready 1 ∷ sending 0 1 false ∷ None ∷ ready 1 ∷ place 1 ∷ tail 2 ∷ head 1 ∷ None ∷ None ∷ ready 1 ∷ sending 1 2 false ∷ []
-  -- reports are loaded once the queue was seen enabled; a queue that is not enabled does nothing
+  -- Reports are loaded once the driver saw the queue enabled. A queue that is not enabled does nothing.
   pub enabled_late : tx_notes off (Post (frame 1 true) ∷ Publish ∷ Look ∷ Fetch ∷ Send ∷ Report ∷ LoadReport ∷ Clean ∷ Control Answer ∷ Control AskEnable ∷ Control Answer ∷ Control LookAsked ∷ Control Answer ∷ Control Answer ∷ Look ∷ Fetch ∷ Send ∷ Report
       ∷ LoadReport ∷ Clean ∷ Control LookAnswered ∷ LoadReport ∷ Clean ∷ [])
       ≡ place 0 ∷ tail 1 ∷ None ∷ None ∷ None ∷ None ∷ None ∷ None ∷ None ∷ control 1 ∷ None ∷ control 1 ∷ control 2 ∷ None ∷ ready 1 ∷ sending 0 1 true ∷ head 1 ∷ place 0
       ∷ None ∷ None ∷ control 2 ∷ reported 0 ∷ buffer 1 ∷ []
-  -- a head word wraps as the head does
+  -- A head word wraps like the head.
   pub wrapped_report : tx_notes (tx_after_all by_head_word (tx_turns 0 7)) (tx_turns 7 2)
       ≡ place 7 ∷ tail 0 ∷ ready 1 ∷ sending 7 7 true ∷ head 0 ∷ head 0 ∷ reported 7 ∷ buffer 7 ∷ place 0 ∷ tail 1 ∷ ready 1 ∷ sending 0 8 true ∷ head 1 ∷ head 1 ∷ reported 0 ∷ buffer 8 ∷ []
   pub disabled_by_status : tx_notes by_status disabling
@@ -119,7 +122,8 @@ pub record TxRows : Type 0 where
       ≡ None ∷ head 0 ∷ None ∷ tail 0 ∷ None ∷ place 0 ∷ tail 1 ∷ control 1 ∷ control 1 ∷ control 2 ∷ control 2 ∷ ready 1 ∷ sending 0 9 true ∷ head 1 ∷ place 0 ∷ reported 0 ∷ buffer 9 ∷ []
   pub renewed_by_head : tx_notes (tx_after_all by_head_word disabling) renewal
       ≡ None ∷ head 0 ∷ None ∷ tail 0 ∷ head 0 ∷ place 0 ∷ tail 1 ∷ control 1 ∷ control 1 ∷ control 2 ∷ control 2 ∷ ready 1 ∷ sending 0 9 true ∷ head 1 ∷ head 1 ∷ reported 0 ∷ buffer 9 ∷ []
-  -- the second epoch is disabled as the first was: its head is cleared once, after all buffers came back, and its tail is not stored
+  -- The second epoch is disabled like the first. Its head is cleared once, after all buffers came back, and no tail is
+  -- stored after the request.
   pub second_disabled_by_status : tx_notes (tx_after_all by_status (disabling ++ renewal)) second_disabling
       ≡ place 1 ∷ tail 2 ∷ None ∷ control 3 ∷ None ∷ control 3 ∷ ready 1 ∷ sending 1 5 false ∷ None ∷ head 2 ∷ control 0 ∷ None ∷ control 0 ∷ None ∷ buffer 5 ∷ head 0 ∷ None ∷ tail 0 ∷ None ∷ control 1 ∷ []
   pub second_disabled_by_head : tx_notes (tx_after_all by_head_word (disabling ++ renewal)) second_disabling

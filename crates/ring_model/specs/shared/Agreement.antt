@@ -7,30 +7,30 @@ use Rattle.ring_model.specs.shared.Frames.{ends_frame}
 use Rattle.ring_model.specs.shared.Handshakes.{is_between}
 use Rattle.ring_model.specs.shared.Queue.{Queue, posted_count, served_count, returned_count, next_head}
 
--- a number under an `if` has no type
+-- 1 for true, 0 for false. (A number under an `if` has no type.)
 abbrev pub bit : Bool → ℕ
 bit true = 1
 bit false = 0
 
--- `says` is the word of item k, of what was posted and what was served there; `lies` the buffer
+-- `says` is the word of item `k`, and `lies` its buffer, given what was posted and served there.
 module _ {Posted Served Given Buffer : Type 0} (says : ℕ → Option Posted → Option Served → ℕ) (lies : Option Posted → Option Served → Option Buffer) where
   abbrev pub wanted_word : Queue Posted Served Given → ℕ → ℕ
   wanted_word q k = says k (slice_get q.ledger.posted k) (slice_get q.ledger.served k)
 
-  -- the slot at the place of item k: its buffer, but for the one that the controller holds
+  -- The slot at the place of item `k`: its buffer, or empty while the controller holds it.
   abbrev pub wanted_slot : Queue Posted Served Given → ℕ → Option Buffer
   wanted_slot q k = if q.held && (k == served_count q) then None else lies (slice_get q.ledger.posted k) (slice_get q.ledger.served k)
 
-  -- each item that is out has its word and its buffer. Places of the driver may have anything
+  -- Each item that is out has its word and its buffer. The driver's own places may hold anything.
   pub record HasItems (n : ℕ) (q : Queue Posted Served Given) (word : ℕ → ℕ) (slot : ℕ → Option Buffer) : Type 0 where
     pub words : EachItem n (returned_count q) (posted_count q) word (wanted_word q)
     pub slots : EachItem n (returned_count q) (posted_count q) slot (wanted_slot q)
 
-  -- the buffer that the controller has fetched, if it has
+  -- The buffer that the controller has fetched, if any.
   abbrev pub held_buffer : Queue Posted Served Given → Option Buffer
   held_buffer q = if q.held then lies (slice_get q.ledger.posted (served_count q)) None else None
 
--- A queue as the two sides have it: places below n, one word a descriptor, and what each side keeps for itself
+-- A queue as the two sides store it: places below n, one word per descriptor, and each side's own fields.
 pub record Wrapped (Buffer : Type 0) : Type 0 where
   pub size : ℕ
   pub words : List ℕ
@@ -45,9 +45,10 @@ pub record Wrapped (Buffer : Type 0) : Type 0 where
   pub whole : Bool
   pub handshake : Handshake
 
--- `ends` says of what was served whether it ends a frame
+-- `ends` says whether a served item ends a frame.
 module _ {Posted Served Given Buffer : Type 0} (ends : Served → Bool) (says : ℕ → Option Posted → Option Served → ℕ) (lies : Option Posted → Option Served → Option Buffer) where
-  -- Each item that is out has its word and its buffer, and the driver's slots are empty. Between a renewal and the answer to it, the controller still has its places of the epoch before
+  -- Each item that is out has its word and its buffer, and the driver's slots are empty. Between a renewal and the
+  -- answered enabling, the controller still has its places of the previous epoch.
   pub record Agrees (w : Wrapped Buffer) (q : Queue Posted Served Given) : Type 0 where
     pub size_is : w.size ≡ q.size
     pub head : w.head ≡ q.head

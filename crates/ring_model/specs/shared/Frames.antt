@@ -3,22 +3,23 @@
 use Rattle.std.specs.Prelude.{◌≡◌, ℕ, zero, suc, ◌+◌, ◌-◌, ◌/◌, ◌<◌, ◌≤◌, Bool, true, false, List, [], ◌∷◌, ◌++◌, map, length, take, drop, Some, slice_get, if◌then◌else◌}
 use Rattle.limits.specs.declared.profile.TheConstants.{BUFFER_BYTES, LEAST_FRAME, MOST_FRAME, MOST_SEGMENTS}
 
--- The bytes of a segment in a running ring. In the pure machine a payload is their number
+-- The bytes of a segment in a running ring. In the pure machine a payload is their number.
 abbrev pub Bytes : Type 0
 Bytes = List ℕ
 
--- some bytes of a frame, and whether they end it
+-- Some bytes of a frame, and whether they end it.
 pub record Piece : Type 0 where
   pub bytes : Bytes
   pub eop : Bool
 
--- the bytes f in this many pieces of b bytes: the last has what is left, and it alone ends the frame
+-- The bytes `f` in the given number of pieces of `b` bytes. The last piece has the remaining bytes, and it alone ends
+-- the frame.
 abbrev pub pieces : ℕ → ℕ → Bytes → List Piece
 pieces b zero f = []
 pieces b (suc zero) f = record { bytes = f; eop = true } ∷ []
 pieces b (suc (suc k)) f = record { bytes = take b f; eop = false } ∷ pieces b (suc k) (drop b f)
 
--- how many buffers filled to b bytes so many bytes need
+-- The number of buffers, filled to `b` bytes each, that `len` bytes need.
 abbrev pub piece_count : ℕ → ℕ → ℕ
 piece_count b len = (len + b - 1) / b
 
@@ -28,19 +29,19 @@ cut b f = pieces b (piece_count b (length f)) f
 abbrev pub itself : Piece → Piece
 itself p = p
 
--- whether the last of them ends a frame, or whether there is none
+-- Whether the last item ends a frame, or `whole` if the list is empty.
 abbrev pub ends_frame : {X : Type 0} → (X → Bool) → Bool → List X → Bool
 ends_frame ends whole [] = whole
 ends_frame ends whole (x ∷ xs) = ends_frame ends (ends x) xs
 
--- `carries` is the piece that a segment or a posting carries
+-- `carries` is the piece that a segment or a posting carries.
 module _ {X : Type 0} (carries : X → Piece) where
-  -- their bytes, one after another
+  -- The bytes of the items, one after another.
   abbrev pub join : List X → Bytes
   join [] = []
   join (x ∷ xs) = (carries x).bytes ++ join xs
 
-  -- those after the last that ends a frame; `rest` are those of an unfinished frame before
+  -- The items after the last one that ends a frame. `rest` is an unfinished frame before the list.
   abbrev pub unfinished_from : List X → List X → List X
   unfinished_from rest [] = rest
   unfinished_from rest (x ∷ xs) = unfinished_from (if (carries x).eop then [] else rest ++ x ∷ []) xs
@@ -48,7 +49,7 @@ module _ {X : Type 0} (carries : X → Piece) where
   abbrev pub unfinished : List X → List X
   unfinished xs = unfinished_from [] xs
 
-  -- each stretch that ends with EOP; an unfinished rest is left out
+  -- Each run of items that ends with EOP. An unfinished rest is left out.
   abbrev pub chains_from : List X → List X → List (List X)
   chains_from rest [] = []
   chains_from rest (x ∷ xs) = if (carries x).eop then (rest ++ x ∷ []) ∷ chains_from [] xs else chains_from (rest ++ x ∷ []) xs
@@ -56,11 +57,12 @@ module _ {X : Type 0} (carries : X → Piece) where
   abbrev pub chains : List X → List (List X)
   chains xs = chains_from [] xs
 
-  -- the bytes of each chain
+  -- The bytes of each chain.
   abbrev pub frames : List X → List Bytes
   frames xs = map join (chains xs)
 
-  -- A chain of a ring of n places: 1 to 15 segments, no more than may be out at once, of 1 to 2,048 bytes each; the last of them ends the frame, and no other
+  -- A chain of a ring of `n` places: 1 to 15 segments, at most n - 1, of 1 to 2,048 bytes each. Only the last one ends
+  -- the frame.
   pub record IsChain (n : ℕ) (chain : List X) : Type 0 where
     pub some_segments : 0 < length chain
     pub few_segments : length chain ≤ MOST_SEGMENTS
@@ -70,7 +72,7 @@ module _ {X : Type 0} (carries : X → Piece) where
     pub goes_on : (i : ℕ) (x : X) → slice_get chain i ≡ Some x → i + 1 < length chain → (carries x).eop ≡ false
     pub ends : (i : ℕ) (x : X) → slice_get chain i ≡ Some x → i + 1 ≡ length chain → (carries x).eop ≡ true
 
-  -- In a ring of n places these bytes may follow the unfinished frame `before`, and end it where eop holds
+  -- In a ring of `n` places, these bytes may follow the unfinished frame `before`, and may end it if `eop` holds.
   pub record Follows (n : ℕ) (before : List X) (bytes : Bytes) (eop : Bool) : Type 0 where
     pub some_bytes : 0 < length bytes
     pub few_bytes : length bytes ≤ BUFFER_BYTES
@@ -79,15 +81,15 @@ module _ {X : Type 0} (carries : X → Piece) where
     pub most : length (join before) + length bytes ≤ MOST_FRAME
     pub least : eop ≡ true → LEAST_FRAME ≤ length (join before) + length bytes
 
-  -- each follows the unfinished frame of those before it: so every chain that ends is a lawful frame
+  -- Each item may follow the unfinished frame of the items before it, so every chain that ends is a lawful frame.
   abbrev pub AllFollow : ℕ → List X → Type 0
   AllFollow n xs = (k : ℕ) (x : X) → slice_get xs k ≡ Some x → Follows n (unfinished (take k xs)) (carries x).bytes (carries x).eop
 
--- no shorter and no longer than a frame may be
+-- The length is within the limits of a frame.
 abbrev pub HasFrameLength : Bytes → Type 0
 HasFrameLength f = (LEAST_FRAME ≤ length f) × (length f ≤ MOST_FRAME)
 
--- each piece but the last has b bytes and doesn't end the frame; the last has 1 to b bytes and ends it
+-- Each piece but the last has `b` bytes and does not end the frame. The last has 1 to `b` bytes and ends it.
 pub record IsCutBy (b : ℕ) (ps : List Piece) : Type 0 where
   pub full : (k : ℕ) (p : Piece) → slice_get ps k ≡ Some p → k + 1 < length ps → length p.bytes ≡ b
   pub goes_on : (k : ℕ) (p : Piece) → slice_get ps k ≡ Some p → k + 1 < length ps → p.eop ≡ false

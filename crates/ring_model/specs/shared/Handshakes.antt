@@ -9,20 +9,20 @@ use Rattle.ring_model.specs.declared.handshake.Handshake.{Handshake}
 use Rattle.ring_model.specs.declared.steps.ControlStep.{ControlStep}
 use Rattle.ring_model.specs.declared.steps.ControlStep.TheVariants.{AskEnable, LookAsked, Answer, LookAnswered, AskDisable}
 
--- the driver may post and publish
+-- The driver may post and publish.
 abbrev pub is_open : DriverState → Bool
 is_open New = true
 is_open Asked = true
 is_open On = true
 is_open _ = false
 
--- the driver may look for completed work
+-- The driver may look for completed work.
 abbrev pub is_live : DriverState → Bool
 is_live On = true
 is_live Stopping = true
 is_live _ = false
 
--- the driver has seen its disabling answered
+-- The driver has seen its disabling answered.
 abbrev pub is_answered : DriverState → Bool
 is_answered Stopped = true
 is_answered Cleared = true
@@ -57,34 +57,34 @@ abbrev pub is_ended : ControllerState → Bool
 is_ended Ended = true
 is_ended _ = false
 
--- how a queue begins: disabled, or enabled and seen enabled on both sides
+-- A new queue's handshake: enabled and seen enabled on both sides, or disabled.
 abbrev pub first_handshake : Bool → Handshake
 first_handshake true = record { control = 2; seen = 2; driver = On; controller = Serving }
 first_handshake false = record { control = 0; seen = 0; driver = New; controller = Off }
 
--- C1: the driver asks for enabling (1)
+-- C1: the driver asks for enabling (1).
 abbrev pub ask_enable : Handshake → Handshake
 ask_enable h = record h { control = 1; driver = Asked }
 
--- C2: the controller loads what is asked
+-- C2: the controller loads the control word.
 abbrev pub look_asked : Handshake → Handshake
 look_asked h = record h { seen = h.control }
 
--- C3, for an enabling that was asked
+-- C3, if enabling is asked.
 abbrev pub can_enable : Handshake → Bool
 can_enable h = (h.seen == 1) && not (is_serving h.controller)
 
 abbrev pub enable : Handshake → Handshake
 enable h = record h { control = 2; seen = 2; controller = Serving }
 
--- C3, for a disabling that was asked, as far as the handshake tells
+-- C3, if disabling is asked, as far as the handshake decides it.
 abbrev pub can_disable : Handshake → Bool
 can_disable h = (h.seen == 3) && is_serving h.controller
 
 abbrev pub disable : Handshake → Handshake
 disable h = record h { control = 0; seen = 0; controller = Ended }
 
--- C4: what the driver learns from the control word
+-- C4: the driver's state after it loads this control value.
 abbrev pub learned : DriverState → ℕ → DriverState
 learned Asked control = if control == 2 then On else Asked
 learned Stopping control = if control == 0 then Stopped else Stopping
@@ -93,11 +93,11 @@ learned state control = state
 abbrev pub look_answered : Handshake → Handshake
 look_answered h = record h { driver = learned h.driver h.control }
 
--- C5: the driver asks for disabling (3)
+-- C5: the driver asks for disabling (3).
 abbrev pub ask_disable : Handshake → Handshake
 ask_disable h = record h { control = 3; driver = Stopping }
 
--- C1 to C5. A disabling is answered where the queue is settled
+-- C1 to C5. A disabling is answered only if the queue is settled.
 abbrev pub may_shake : Handshake → ControlStep → Bool → Bool
 may_shake h AskEnable settled = is_new h.driver
 may_shake h LookAsked settled = true
@@ -112,12 +112,12 @@ shaken h Answer = if can_enable h then enable h else disable h
 shaken h LookAnswered = look_answered h
 shaken h AskDisable = ask_disable h
 
--- the step answers an enabling
+-- Whether the step answers an enabling.
 abbrev pub enables : Handshake → ControlStep → Bool
 enables h Answer = can_enable h
 enables h _ = false
 
--- the control value that the step stores or loads
+-- The control value that the step stores or loads.
 abbrev pub control_value : Handshake → ControlStep → ℕ
 control_value h AskEnable = 1
 control_value h LookAsked = h.control
@@ -125,10 +125,11 @@ control_value h Answer = if can_enable h then 2 else 0
 control_value h LookAnswered = h.control
 control_value h AskDisable = 3
 
--- the controller answered a disabling, and the driver has not gone on to another epoch
+-- The controller answered a disabling, and the driver has not begun another epoch.
 abbrev pub has_ended : Handshake → Bool
 has_ended h = is_ended h.controller && not (is_open h.driver)
 
--- the driver is in another epoch, and the controller has not answered yet: it still has the places of the epoch before
+-- The driver has begun another epoch, and the controller has not answered yet. The controller still has the places of
+-- the previous epoch.
 abbrev pub is_between : Handshake → Bool
 is_between h = is_ended h.controller && is_open h.driver

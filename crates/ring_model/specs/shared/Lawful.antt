@@ -4,7 +4,7 @@ use Rattle.ring_model.specs.declared.states.Owner.{Owner}
 use Rattle.ring_model.specs.declared.states.Owner.TheVariants.{Driver, Ring, Controller}
 use Rattle.ring_model.specs.shared.Queue.{Ledger, Queue, posted_count, served_count, returned_count}
 
--- Which items are out: from `first` up to `past`. The one at `serving` may be held by the controller
+-- The items that are out: from `first` up to, but not including, `past`. The controller may hold the item `serving`.
 pub record Window : Type 0 where
   pub size : ℕ
   pub first : ℕ
@@ -15,17 +15,18 @@ pub record Window : Type 0 where
 abbrev pub window : {Posted Served Given : Type 0} → Queue Posted Served Given → Window
 window q = record { size = q.size; first = returned_count q; serving = served_count q; past = posted_count q; held = q.held }
 
--- who has the place of an item that is out
+-- The owner of the place of an item that is out.
 abbrev pub holder : Window → ℕ → Owner
 holder w k = if w.held && (k == w.serving) then Controller else Ring
 
--- Every place is with exactly one of the three: the places of items that are out with Ring, but that of a fetched one with Controller, and all others with Driver
+-- Every place has exactly one owner. The places of items that are out belong to Ring, a fetched one to Controller, and
+-- all others to Driver.
 pub record IsLawfulMap (w : Window) (owners : List Owner) : Type 0 where
   pub places : length owners ≡ w.size
   pub out : (k : ℕ) → w.first ≤ k → k < w.past → slice_get owners (k % w.size) ≡ Some (holder w k)
   pub home : (place : ℕ) → place < w.size → ((k : ℕ) → w.first ≤ k → k < w.past → (k % w.size) ≢ place) → slice_get owners place ≡ Some Driver
 
--- Its ledger of this epoch is lawful for its size, and so is each of those that ended, and its owner map is lawful
+-- The ledgers of this epoch and of every ended one are lawful for the queue's size, and so is its owner map.
 pub record IsLawfulQueue {Posted Served Given : Type 0} (IsLawful : ℕ → Ledger Posted Served Given → Type 0) (q : Queue Posted Served Given) : Type 0 where
   pub ledger : IsLawful q.size q.ledger
   pub past : (k : ℕ) (l : Ledger Posted Served Given) → slice_get q.past k ≡ Some l → IsLawful q.size l

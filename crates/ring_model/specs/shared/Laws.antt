@@ -6,7 +6,8 @@ use Rattle.ring_model.specs.shared.Handshakes.{is_answered, is_ended, is_live, i
 use Rattle.ring_model.specs.shared.Queue.{Ledger, Queue, posted_count, served_count, given_count, returned_count, next_head}
 
 module _ {Posted Served Given : Type 0} where
-  -- what is given back was served, what is served was posted, and while the controller serves it knows of what it served and holds, and of no more than is published
+  -- Items given back were served, and served items were posted. While the controller serves, it knows of all items that
+  -- it served or holds, and of no more than are published. Nothing is reclaimed before a disabling is seen answered.
   pub record IsOrdered (q : Queue Posted Served Given) : Type 0 where
     pub given_served : given_count q ≤ served_count q
     pub served_posted : served_count q ≤ posted_count q
@@ -18,18 +19,20 @@ module _ {Posted Served Given : Type 0} where
     pub held_serving : q.held ≡ true → is_serving q.handshake.controller ≡ true
     pub not_reclaimed : is_answered q.handshake.driver ≡ false → q.reclaimed ≡ 0
 
-  -- where the driver saw its disabling answered, the controller has ended; and once it answered, the head tells how many were served, until it is cleared
+  -- If the driver saw its disabling answered, the controller has ended. Once the controller has answered, the head is
+  -- the place after the last served item until it is cleared.
   pub record IsConcluded (q : Queue Posted Served Given) : Type 0 where
     pub ended : is_answered q.handshake.driver ≡ true → is_ended q.handshake.controller ≡ true
     pub head : is_ended q.handshake.controller ≡ true → (is_live q.handshake.driver || is_stopped q.handshake.driver) ≡ true → q.head ≡ next_head q
 
-  -- nothing that a ledger has is ever changed or lost
+  -- Nothing in a ledger is ever changed or lost.
   pub record IsGrown (before later : Ledger Posted Served Given) : Type 0 where
     pub posted : IsBeginning before.posted later.posted
     pub served : IsBeginning before.served later.served
     pub given : IsBeginning before.given later.given
 
-  -- a later epoch: that of the first queue has ended, and lies among the past ones. What was fixed stayed so to its end. `over` says that its controller served no more
+  -- A later epoch: the first queue's epoch has ended and is among the past ones, with every list that was fixed
+  -- unchanged. `over` says that its controller serves no more.
   pub record NewEpoch (q : Queue Posted Served Given) (over : Bool) (later : Queue Posted Served Given) : Type 0 where
     pub ended : Ledger Posted Served Given
     pub more : List (Ledger Posted Served Given)
@@ -39,7 +42,8 @@ module _ {Posted Served Given : Type 0} where
     pub served : over ≡ true → ended.served ≡ q.ledger.served
     pub given : is_answered q.handshake.driver ≡ true → ended.given ≡ q.ledger.given
 
-  -- the same epoch: posted is fixed once the driver is no longer open, served once the controller is over, given back once the disabling was seen answered
+  -- The same epoch. Posted is fixed once the driver is no longer open, served once the controller is over, and given
+  -- once the disabling was seen answered.
   pub record SameEpoch (q : Queue Posted Served Given) (over : Bool) (later : Queue Posted Served Given) (still_over : Bool) : Type 0 where
     pub past : later.past ≡ q.past
     pub grown : IsGrown q.ledger later.ledger

@@ -1,15 +1,15 @@
 -- Lists, and the items of a ring: item k has the place k % n.
 use Rattle.std.specs.Prelude.{◌≡◌, ℕ, ◌%◌, ◌<◌, ◌≤◌, List, ◌++◌, Option, Some, None, slice_get}
 
--- ys is xs followed by something, perhaps by nothing
+-- `xs` is a prefix of `ys`.
 abbrev pub IsBeginning : {X : Type 0} → List X → List X → Type 0
 IsBeginning {X} xs ys = (rest : List X) × (xs ++ rest ≡ ys)
 
--- what lies at the place of each item from `first` up to `past`
+-- The contents of the place of each item from `first` up to, but not including, `past`.
 abbrev pub EachItem : {X : Type 0} → ℕ → ℕ → ℕ → (ℕ → X) → (ℕ → X) → Type 0
 EachItem n first past lies wanted = (k : ℕ) → first ≤ k → k < past → lies (k % n) ≡ wanted k
 
--- what lies in the slot at a place, if the place is there and the slot isn't empty
+-- The contents of the slot at a place, or `None` if there is no such place or the slot is empty.
 abbrev pub slot_at : {X : Type 0} → List (Option X) → ℕ → Option X
 slot_at slots place = within (slice_get slots place)
   where

@@ -9,7 +9,7 @@ use Rattle.ring_model.specs.shared.QueueSteps.{QueueStep, Post, Publish, Look, F
 use Rattle.ring_model.specs.shared.Frames.{ends_frame}
 use Rattle.ring_model.specs.shared.Handshakes.{first_handshake, is_cleared, is_live, is_open, is_serving, is_stopped, is_tailed, enables, may_shake, shaken}
 
--- what the driver posted; what the controller served, by storing or by sending; what was given back to the driver, taken or cleaned
+-- What the driver posted; what the controller served, by storing or sending; and what the driver took or cleaned.
 pub record Ledger (Posted Served Given : Type 0) : Type 0 where
   pub posted : List Posted
   pub served : List Served
@@ -31,7 +31,7 @@ module _ {Posted Served Given : Type 0} where
   abbrev pub no_ledger : Ledger Posted Served Given
   no_ledger = record { posted = []; served = []; given = [] }
 
-  -- n places as they are made: all are the driver's
+  -- A new queue of `n` places, all of them the driver's.
   abbrev pub opening : ℕ → Bool → Queue Posted Served Given
   opening n enabled = record {
     size = n;
@@ -55,19 +55,19 @@ module _ {Posted Served Given : Type 0} where
   abbrev pub given_count : Queue Posted Served Given → ℕ
   given_count q = length q.ledger.given
 
-  -- how many items are with the driver again: given back, or reclaimed
+  -- The number of items that are back with the driver: given back or reclaimed.
   abbrev pub returned_count : Queue Posted Served Given → ℕ
   returned_count q = given_count q + q.reclaimed
 
-  -- the place after that of the last served item
+  -- The place after the last served item.
   abbrev pub next_head : Queue Posted Served Given → ℕ
   next_head q = served_count q % q.size
 
-  -- a disabling may be answered: nothing is held, the head is stored, and the last that was served ends a frame
+  -- A disabling may be answered: nothing is held, the head is stored, and the last served item ends a frame.
   abbrev pub is_settled : (Served → Bool) → Queue Posted Served Given → Bool
   is_settled ends q = not q.held && (q.head == next_head q) && ends_frame ends true q.ledger.served
 
-  -- the owners, with the place of item k passed on
+  -- The owners after the place of item `k` passes to `who`.
   abbrev pub passed_to : Owner → Queue Posted Served Given → ℕ → List Owner
   passed_to who q k = slice_set q.owners (k % q.size) who
 

@@ -2,7 +2,7 @@
 use Rattle.std.specs.Prelude.{Bool}
 use Rattle.ring_model.specs.declared.steps.ControlStep.{ControlStep}
 
--- One step. A ring decides what is posted, served and given back, and whether a disabling may be answered
+-- One step. A ring decides what is posted, served and given back, and whether a disabling may be answered.
 pub data QueueStep (Posted Served Given : Type 0) : Type 0 where
   Post : Posted → QueueStep Posted Served Given
   Publish : QueueStep Posted Served Given

@@ -2,7 +2,7 @@
 -- queues side by side.
 use Rattle.std.specs.Prelude.{◌≡◌, ℕ, suc, Bool, List, [], ◌∷◌, Option, Some, None, if◌then◌else◌}
 
--- `can` says whether a step can happen, and `changed` what it makes
+-- `can` says whether a step can happen, and `changed` is the state after it.
 module _ {State Step : Type 0} (can : State → Step → Bool) (changed : State → Step → State) where
   abbrev pub next : State → Step → State
   next r s = if can r s then changed r s else r
@@ -11,17 +11,17 @@ module _ {State Step : Type 0} (can : State → Step → Bool) (changed : State 
   after_all r [] = r
   after_all r (s ∷ ss) = after_all (next r s) ss
 
-  -- how many of the steps happen
+  -- The number of steps that happen.
   abbrev pub happened : State → List Step → ℕ
   happened r [] = 0
   happened r (s ∷ ss) = if can r s then suc (happened (next r s) ss) else happened (next r s) ss
 
-  -- what each step tells; nothing where it can't happen
+  -- The note of each step, or `None` if it cannot happen.
   abbrev pub told_by : {Told : Type 0} → (State → Step → Told) → State → List Step → List (Option Told)
   told_by tells r [] = []
   told_by tells r (s ∷ ss) = (if can r s then Some (tells r s) else None) ∷ told_by tells (next r s) ss
 
-  -- some schedule makes the state out of one of those with which it may begin
+  -- Some schedule leads to the state from one of its possible beginnings.
   pub record IsReached {Beginning : Type 0} (opening : Beginning → State) (r : State) : Type 0 where
     pub beginning : Beginning
     pub schedule : List Step

@@ -2,13 +2,13 @@
 use Rattle.std.specs.Prelude.{ℕ, Bool}
 use Rattle.ring_model.specs.shared.Frames.{Bytes, Piece}
 
--- The buffer's number, its payload, and whether it ends its frame
+-- The buffer's number, its payload, and whether it ends its frame.
 pub record Segment (Payload : Type 0) : Type 0 where
   pub number : ℕ
   pub payload : Payload
   pub eop : Bool
 
--- what a segment carries, whatever its buffer
+-- The bytes and EOP of a segment, without its buffer.
 abbrev pub piece_of : Segment Bytes → Piece
 piece_of s = record { bytes = s.payload; eop = s.eop }
 

@@ -5,7 +5,7 @@ use Rattle.limits.specs.declared.profile.TheConstants.{LEAST_FRAME, MOST_FRAME}
 use Rattle.ring_model.specs.shared.Frames.{Bytes, Follows, join, unfinished}
 use Rattle.ring_model.specs.transmit.Ring.{Posting, carried}
 
--- In a ring of n places this posting may follow the unfinished frame `before`
+-- In a ring of `n` places, this posting may follow the unfinished frame `before`.
 pub record MayFollow (n : ℕ) (before : List (Posting Bytes)) (p : Posting Bytes) : Type 0 where
   pub follows : Follows carried n before p.payload p.eop
   pub asks_at_end : p.rs ≡ true → p.eop ≡ true
@@ -15,6 +15,6 @@ pub record MayFollow (n : ℕ) (before : List (Posting Bytes)) (p : Posting Byte
   pub within : length (join carried before) + length p.payload ≤ p.paylen
   pub whole : p.eop ≡ true → length (join carried before) + length p.payload ≡ p.paylen
 
--- each posting may follow the unfinished frame of those before it
+-- Each posting may follow the unfinished frame of the postings before it.
 abbrev pub AllMayFollow : ℕ → List (Posting Bytes) → Type 0
 AllMayFollow n ps = (k : ℕ) (p : Posting Bytes) → slice_get ps k ≡ Some p → MayFollow n (unfinished carried (take k ps)) p

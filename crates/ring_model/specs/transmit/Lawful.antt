@@ -4,7 +4,8 @@ use Rattle.ring_model.specs.shared.Lists.{IsBeginning}
 use Rattle.ring_model.specs.shared.Lawful.{IsLawfulQueue}
 use Rattle.ring_model.specs.transmit.Ring.{TxLedger, TxRing, number_of_posting}
 
--- Sent segments are a beginning of those posted, byte for byte and in order; the driver took back the buffers of a beginning of those sent; and it never has more than n - 1 out
+-- The sent segments are a prefix of the posted ones, byte for byte and in order. The driver took back the buffers of a
+-- prefix of the sent segments. It never has more than n - 1 buffers out.
 pub record IsLawfulTxLedger (Payload : Type 0) (n : ℕ) (l : TxLedger Payload) : Type 0 where
   pub sent : IsBeginning l.served l.posted
   pub cleaned : IsBeginning l.given (map number_of_posting l.served)

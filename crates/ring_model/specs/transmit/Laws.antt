@@ -6,18 +6,19 @@ use Rattle.ring_model.specs.shared.Laws.{IsConcluded, IsOrdered, Later}
 use Rattle.ring_model.specs.transmit.Ring.{TxRing, are_whole, number_of_posting}
 
 module _ {Payload : Type 0} where
-  -- the controller sends no more in this epoch: it answered the disabling
+  -- The controller sends no more in this epoch: it answered the disabling.
   abbrev pub tx_over : TxRing Payload → Bool
   tx_over r = has_ended r.handshake
 
-  -- what is cleaned was seen reported, what was seen reported was reported, and what was reported was sent
+  -- Cleaned items were seen reported, items seen reported were reported, and reported items were sent.
   pub record IsTxOrdered (r : TxRing Payload) : Type 0 where
     pub queue : IsOrdered r.queue
     pub cleaned_seen : given_count r.queue ≤ r.seen_reported
     pub seen_reported : r.seen_reported ≤ r.reported
     pub reported_sent : r.reported ≤ served_count r.queue
 
-  -- what is published ends with a whole frame; where the controller is over no frame is left unfinished and no report owed; and where all that was posted is cleaned, all was sent
+  -- The published postings end with a whole frame. Once the controller sends no more, no frame is unfinished and no
+  -- report is owed. If all postings are cleaned, all were sent and their buffers came back, in order.
   pub record IsTxConcluded (r : TxRing Payload) : Type 0 where
     pub order : IsTxOrdered r
     pub queue : IsConcluded r.queue

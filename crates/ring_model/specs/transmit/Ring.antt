@@ -5,7 +5,7 @@ use Rattle.ring_model.specs.shared.Frames.{Bytes, Piece, ends_frame}
 use Rattle.ring_model.specs.shared.Queue.{Ledger, Queue, opening, given_count, served_count}
 use Rattle.ring_model.specs.shared.Segments.{Segment, piece_of, ends_segment, number_of_segment}
 
--- What the driver posts: a segment, whether a report is asked for, and the length of the whole frame
+-- What the driver posts: a segment, whether it asks for a report (RS), and the length of the whole frame (PAYLEN).
 pub record Posting (Payload : Type 0) : Type 0 where
   pub segment : Segment Payload
   pub open segment use *
@@ -24,7 +24,7 @@ number_of_posting p = number_of_segment p.segment
 abbrev pub carried : Posting Bytes → Piece
 carried p = piece_of p.segment
 
--- What the driver posted, what of it the controller sent, and the numbers of the buffers that the driver took back
+-- The postings, those that the controller sent, and the numbers of the buffers that the driver took back.
 abbrev pub TxLedger : Type 0 → Type 0
 TxLedger Payload = Ledger (Posting Payload) (Posting Payload) ℕ
 
@@ -39,24 +39,24 @@ pub record TxRing (Payload : Type 0) : Type 0 where
   pub seen_reported : ℕ
   pub owed : Bool  -- a report, of the last that was sent
 
--- how a transmit ring begins
+-- How a transmit ring begins.
 pub record TxBeginning : Type 0 where
   pub enabled : Bool
   pub completion : Completion
 
--- a ring of n places as it is made
+-- A new ring of `n` places.
 abbrev pub tx_opening : {Payload : Type 0} → ℕ → TxBeginning → TxRing Payload
 tx_opening n b = record { queue = opening n b.enabled; completion = b.completion; reported = 0; seen_reported = 0; owed = false }
 
 module _ {Payload : Type 0} where
-  -- whether the last of these ends a frame, or whether there is none
+  -- Whether the last posting of the list ends a frame; true if there is none.
   abbrev pub are_whole : List (Posting Payload) → Bool
   are_whole ps = ends_frame ends_posting true ps
 
-  -- what is to be sent next: the posting that comes next in order
+  -- The next posting to send, in order.
   abbrev pub next_posting : TxRing Payload → Option (Posting Payload)
   next_posting r = slice_get r.ledger.posted (served_count r.queue)
 
-  -- what is to be cleaned next
+  -- The next posting to clean, in order.
   abbrev pub next_sent : TxRing Payload → Option (Posting Payload)
   next_sent r = slice_get r.ledger.served (given_count r.queue)

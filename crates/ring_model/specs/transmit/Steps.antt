@@ -13,7 +13,7 @@ use Rattle.ring_model.specs.shared.QueueSteps as queue
 use Rattle.ring_model.specs.shared.Schedules.{after_all, happened, next, told_by, IsReached}
 use Rattle.ring_model.specs.transmit.Ring.{Posting, TxRing, tx_opening, are_whole, ends_posting, next_posting, next_sent}
 
--- the controller reports by a head word
+-- The controller reports through a head word.
 abbrev pub by_head : Completion → Bool
 by_head completion.Status = false
 by_head completion.Head = true
@@ -23,29 +23,29 @@ is_there None = false
 is_there (Some j) = true
 
 module _ {Payload : Type 0} where
-  -- the first of so many items, from item k on, that asks for a report
   abbrev pub asks_report : Option (Posting Payload) → Bool
   asks_report None = false
   asks_report (Some p) = p.rs
 
+  -- The first item that asks for a report, among the given number of items from item `k` on.
   abbrev pub first_report : List (Posting Payload) → ℕ → ℕ → Option ℕ
   first_report ps k zero = None
   first_report ps k (suc more) = if asks_report (slice_get ps k) then Some k else first_report ps (k + 1) more
 
-  -- the oldest report that was asked for and not seen
+  -- The oldest report that was asked for and not yet seen.
   abbrev pub oldest_report : TxRing Payload → Option ℕ
   oldest_report r = first_report r.ledger.posted r.seen_reported (posted_count r.queue - r.seen_reported)
 
-  -- nothing is left to be answered or reported
+  -- Nothing is left to serve or report, so a disabling may be answered.
   abbrev pub tx_settled : TxRing Payload → Bool
   tx_settled r = is_settled ends_posting r.queue && not r.owed
 
-  -- the posting is served, the head stored, and a report owed if it asked for one
+  -- The posting is sent and the head stored. A report is owed if the posting asked for one.
   abbrev pub sent_one : TxRing Payload → Option (Posting Payload) → TxRing Payload
   sent_one r None = r
   sent_one r (Some p) = record r { queue = by (by r.queue (queue.Serve p)) queue.Head; owed = p.rs }
 
-  -- a load shows the report, if it is made; all up to it is then seen reported
+  -- If the load shows the report, all items up to it are seen reported.
   abbrev pub loaded_report : TxRing Payload → Option ℕ → TxRing Payload
   loaded_report r None = r
   loaded_report r (Some j) = if nat_lt j r.reported then record r { seen_reported = j + 1 } else r
@@ -54,16 +54,16 @@ module _ {Payload : Type 0} where
   cleaned_one r None = r
   cleaned_one r (Some p) = record r { queue = by r.queue (queue.Give p.number) }
 
-  -- the lists and the counts of reports begin anew
+  -- A new epoch: the lists and the counts of reports are empty again.
   abbrev pub tx_renewed : TxRing Payload → TxRing Payload
   tx_renewed r = record r { queue = by r.queue queue.Renew; reported = 0; seen_reported = 0 }
 
-  -- a ring that reports by its descriptors has nothing more to clear
+  -- After the tail is cleared. A ring that reports in its descriptors has no report word to clear.
   abbrev pub tx_cleared : TxRing Payload → Bool → TxRing Payload
   tx_cleared r false = tx_renewed (record r { queue = by r.queue queue.ClearTail })
   tx_cleared r true = record r { queue = by r.queue queue.ClearTail }
 
-  -- whole frames alone are published, and a report that is owed comes before the next fetch
+  -- Only whole frames are published. An owed report comes before the next fetch.
   abbrev pub tx_can : TxRing Payload → TxStep (Posting Payload) → Bool
   tx_can r (Post p) = may r.queue (queue.Post p)
   tx_can r Publish = may r.queue queue.Publish && are_whole r.ledger.posted
@@ -103,11 +103,11 @@ module _ {Payload : Type 0} where
   abbrev pub tx_happened : TxRing Payload → List (TxStep (Posting Payload)) → ℕ
   tx_happened = happened tx_can tx_changed
 
--- some schedule makes the ring out of a ring of n places as it was made, however it reports
+-- Some schedule leads to the ring from a new ring of `n` places, for either way to report.
 abbrev pub IsTxReachable : (Payload : Type 0) → ℕ → TxRing Payload → Type 0
 IsTxReachable Payload n r = IsReached (tx_can {Payload = Payload}) tx_changed (tx_opening n) r
 
--- where an item is there it is what the function makes of it; where there is none, the step can't happen
+-- `f` of the item, or `none` if there is no item; then the step cannot happen.
 abbrev pub told_of : {A B : Type 0} → B → (A → B) → Option A → B
 told_of none f None = none
 told_of none f (Some x) = f x
@@ -118,7 +118,7 @@ fetched_segment = told_of (record { buffer = 0; len = 0; eop = false; rs = false
 abbrev pub number_of : Option (Posting ℕ) → ℕ
 number_of = told_of 0 (λ p. p.number)
 
--- the place of the report that the driver sees, if it is made
+-- The place of the report that the driver sees, if it has been made.
 abbrev pub seen_place : TxRing ℕ → Option ℕ → Option ℕ
 seen_place r None = None
 seen_place r (Some j) = if nat_lt j r.reported then Some (j % r.size) else None
@@ -127,7 +127,7 @@ abbrev pub report_note : TxRing ℕ → Bool → Note
 report_note r false = note.Place ((served_count r.queue - 1) % r.size)
 report_note r true = note.Head (next_head r.queue)
 
--- what a step tells, where a posting's payload is the number of its bytes
+-- The note of a step. Here a posting's payload is its number of bytes.
 abbrev pub tx_note_of : TxRing ℕ → TxStep (Posting ℕ) → Note
 tx_note_of r (Post p) = note.Place (posted_count r.queue % r.size)
 tx_note_of r Publish = note.Tail (posted_count r.queue % r.size)
