@@ -1,4 +1,4 @@
-//! The program's commands, and what each of them takes among its words.
+//! The program's commands and their parameters.
 ghost use Rattle.std.specs.Prelude.{◌≡◌, IfOk};
 ghost use Rattle.clap.specs.Words.{app_of};
 ghost use Rattle.command_line.specs.Building.{IsJoined};
@@ -42,7 +42,7 @@ const HEAD: Param = Param::Flag {
     help: "Reports what was sent by a head word",
 };
 
-/// The commands, each with what it takes.
+/// The commands, each with its parameters.
 const COMMANDS: &[Entry] = &[
     Entry {
         name: "once",
@@ -243,14 +243,14 @@ const COMMANDS: &[Entry] = &[
     },
 ];
 
-/// The program's commands and their arguments.
+/// Builds the program with all its commands.
 pub(crate) fn program<'a>(alloc: Global) -> Result<Command<'a>, AllocError>
     ensures { IfOk result (λ c. IsProgram (app_of c)) }
 {
     joined(alloc, COMMANDS)
 }
 
-/// The program with these commands.
+/// Builds the program with these commands.
 fn joined<'a>(alloc: Global, entries: &[Entry<'a>]) -> Result<Command<'a>, AllocError>
     ensures { IfOk result (IsJoined entries.now) }
 {
@@ -261,7 +261,7 @@ fn joined<'a>(alloc: Global, entries: &[Entry<'a>]) -> Result<Command<'a>, Alloc
     program
 }
 
-/// The program before its commands are added.
+/// Builds the program without its commands.
 fn bare<'a>(alloc: Global) -> Result<Command<'a>, AllocError>
     ensures { IfOk result (λ c. app_of c ≡ bare_app) }
 {

@@ -1,4 +1,4 @@
-//! The command `replay`: transcripts of lists of moves, and lists that are refused or long.
+//! The command `replay`: transcripts of lists of moves, refused lists and long lists.
 
 mod drawn;
 mod lists;

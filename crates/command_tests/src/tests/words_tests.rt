@@ -1,10 +1,10 @@
-//! Words that ask for help, and words that are wrong.
+//! Words that ask for help, and mistaken words.
 
 use crate::tests::told::{Page, Row, each_comes_to, each_has_page, has_line};
 use buffer_pool::PoolError;
 use commands::Refusal::{
     self, Descriptor, FileNotRead, FileNotWritten, FrameLength, Hex, Input, Machine, Output, Ring,
-    Stock,
+    SameFile, Stock,
 };
 use descriptor::DescError;
 use ring_machine::MachineError;
@@ -24,13 +24,13 @@ const SCHEDULES: &str = "poll82599 schedules --seed 1 --moves 4\n";
 
 const COVER: &str = "poll82599 schedules --cover --device-only-real";
 
-/// What is told where an option for drawn lists stands beside `--cover`.
+/// The error for an option of drawn lists together with `--cover`.
 const NOT_DRAWN: &str = "--cover draws no lists";
 
-/// What is told where pictures can't be read, or stand beside objects.
+/// The error for a malformed `--picture`, or for `--picture` together with `--json`.
 const NOT_SHOWN: &str = "--picture stands alone or as --picture=last";
 
-/// Words that ask for help, and the example that it has to have.
+/// Words that ask for help, and an example that it must contain.
 const HELPED: &[(&[&str], &str)] = &[
     (&["--help"], ONCE),
     (&["--help"], DECODE),
@@ -54,7 +54,7 @@ const HELPED: &[(&[&str], &str)] = &[
     (&["schedules", "--help"], COVER),
 ];
 
-/// Words that are wrong, and what has to be told of them.
+/// Mistaken words, and a text that the error must contain.
 const WRONG: &[(&[&str], &str)] = &[
     (&[], ""),
     (&["twice"], "twice"),
@@ -131,6 +131,7 @@ const LINES: &[(Refusal, &str)] = &[
     (Output, "refused 84 output\n"),
     (FileNotRead, "refused 85 file not read\n"),
     (FileNotWritten, "refused 86 file not written\n"),
+    (SameFile, "refused 87 same file\n"),
 ];
 
 #[test]

@@ -1,4 +1,4 @@
-//! From captures to lines.
+//! The command `from-capture`.
 
 use crate::tests::forward::captured::{
     AT_0, AT_1, BIG_NANOS, BIG_SOME, BYTES, Content, HEADER, LETTERS, RAW, Refusing, SHORT,
@@ -33,7 +33,7 @@ const PLACED: &[(&str, &str, &[u8])] = &[
 
 const WORDS: &[&str] = &["from-capture", "0", "0"];
 
-/// Captures in another order and unit, and of no record.
+/// Captures in another byte order and time unit, and without a record.
 const OTHERS: &[Writing] = &[
     (
         &["from-capture", "1", "2"],
@@ -47,7 +47,7 @@ const OTHERS: &[Writing] = &[
 const NEXT: &[u8] =
     b"\x0a\x0d\x0d\x0a\x84\0\0\0\x4d\x3c\x2b\x1a\x01\0\0\0\xff\xff\xff\xff\xff\xff\xff\xff";
 
-/// A header of a record of 13 bytes, and a frame of as many.
+/// The header of a record of 13 bytes, and a frame of as many.
 const SMALL: &[u8] = b"\0\0\0\0\0\0\0\0\x0d\0\0\0\x0d\0\0\0";
 
 const THIRTEEN: &[u8] = b"abcdefghijklm";
@@ -80,7 +80,7 @@ const REFUSED: &[Refusing] = &[
     ),
 ];
 
-/// The frames are these lines at a port and a queue.
+/// At a port and a queue, the frames are these lines.
 fn are_placed<R: Host>(rt: &R, alloc: Global, (port, queue): (&str, &str), lines: &[u8]) {
     let words = ["from-capture", port, queue];
     let capture: Content = &[HEADER, AT_0, LETTERS, AT_1, BYTES];
