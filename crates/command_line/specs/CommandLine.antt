@@ -50,7 +50,7 @@ decode_app rings formats = with_rules (codes "decode") (choice_rule (codes "ring
 -- the command `replay`
 abbrev pub replay_app : App
 replay_app =
-    with_rules (codes "replay") (queue_rules ++ flag_rule (codes "json") ∷ flag_rule (codes "registers") ∷ optional_rule (codes "picture") (codes "each") ∷ [])
+    with_rules (codes "replay") (queue_rules ++ flag_rule (codes "lists") ∷ flag_rule (codes "json") ∷ flag_rule (codes "registers") ∷ optional_rule (codes "picture") (codes "each") ∷ [])
 
 -- the command `forward`: its queues and buffers, its workers, its behaviour on full rings, its reports, its output, and
 -- its files
@@ -103,7 +103,7 @@ pub record SaysDecode (words : List Text) (form : Form) (digits : Text) : Type 0
   pub no_option : slice_index digits 0 ≢ 45
 
 -- the words are `replay` and its options in this order: `--off` stands where the queues begin disabled, `--head` where
--- they report by a head word, `--json` where objects are printed, `--registers` where registers are shown, and `--picture` or
+-- they report by a head word, `--lists` where each list has fresh queues, `--json` where objects are printed, `--registers` where registers are shown, and `--picture` or
 -- `--picture=last` where queues are drawn, which are lines and stand with no objects
 pub record SaysReplay (words : List Text) (plan : QueuePlan) : Type 0 where
   pub ring : List Text
@@ -113,8 +113,9 @@ pub record SaysReplay (words : List Text) (plan : QueuePlan) : Type 0 where
   pub words_are : words ≡ codes "replay" ∷ (ring ++ (pairs
       ++ (flag_words (codes "--off") (not plan.enabled)
       ++ (flag_words (codes "--head") (is_head plan.completion)
+      ++ (flag_words (codes "--lists") plan.lists
       ++ (flag_words (codes "--json") plan.shown.json
-      ++ (flag_words (codes "--registers") plan.shown.registers ++ picture_words plan.shown.pictures))))))
+      ++ (flag_words (codes "--registers") plan.shown.registers ++ picture_words plan.shown.pictures)))))))
   pub all_lines : (plan.shown.json && draws_any plan.shown.pictures) ≡ false
 
 -- the words are `forward` and its options in this order: `--drop` if frames are dropped, `--no-retry` if packets are,
@@ -160,6 +161,7 @@ pub record HasReplay (rows : List Row) (plan : QueuePlan) : Type 0 where
   pub pairs : HasNumber rows (codes "pairs") plan.pairs
   pub off : HasFlag rows (codes "off") (not plan.enabled)
   pub head : HasFlag rows (codes "head") (is_head plan.completion)
+  pub lists : HasFlag rows (codes "lists") plan.lists
   pub json : HasFlag rows (codes "json") plan.shown.json
   pub registers : HasFlag rows (codes "registers") plan.shown.registers
   pub picture : first_of (codes "picture") rows ≡ picture_value plan.shown.pictures

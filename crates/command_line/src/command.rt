@@ -151,6 +151,7 @@ fn replay_in<'a>(replay: &ArgMatches<'a>) -> Option<Request<'a>>
     let pairs = number_in(replay, "pairs")?;
     let enabled = !flag_in(replay, "off");
     let completion = completion_in(replay);
+    let lists = flag_in(replay, "lists");
     let pictures = pictures_in(replay)?;
     let json = flag_in(replay, "json");
     if json && draws_any(pictures) {
@@ -167,6 +168,7 @@ fn replay_in<'a>(replay: &ArgMatches<'a>) -> Option<Request<'a>>
             ring,
             enabled,
             completion,
+            lists,
             shown,
         },
     })

@@ -84,6 +84,10 @@ const COMMANDS: &[Entry] = &[
             OFF,
             HEAD,
             Param::Flag {
+                id: "lists",
+                help: "Ends a list at each line `# end`, prints its count, and starts over with fresh queues, so that what schedules prints without --expect can be replayed as it is",
+            },
+            Param::Flag {
                 id: "json",
                 help: "Prints what each move tells as a JSON object",
             },

@@ -15,6 +15,7 @@ mod decode;
 mod digits;
 mod frame;
 mod input;
+mod lists;
 mod once;
 mod passing;
 mod refusal;

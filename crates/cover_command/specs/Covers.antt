@@ -1,5 +1,5 @@
 -- What `schedules --cover` prints.
-use Rattle.std.specs.Prelude.{◌≡◌, ◌⊎◌, ℕ, Bool, List, [], ◌∷◌, ◌++◌, codes, Option, Some, All}
+use Rattle.std.specs.Prelude.{◌≡◌, ◌⊎◌, ℕ, Bool, false, List, [], ◌∷◌, ◌++◌, codes, Option, Some, All}
 use Rattle.std.specs.List.{flat_map}
 use Rattle.std.specs.Io.KnownBytes.{Appends}
 use Rattle.ring_machine.specs.declared.moves.Move.{Move}
@@ -21,7 +21,7 @@ use Rattle.cover_command.specs.declared.request.CoverRequest.{CoverRequest}
 
 -- the queues that a list begins with, as `replay` makes them
 abbrev pub queues_of : Scope → QueuePlan
-queues_of s = record { pairs = 1; ring = 8; enabled = s.device_only; completion = completion_of s.side; shown = NOTES }
+queues_of s = record { pairs = 1; ring = 8; enabled = s.device_only; completion = completion_of s.side; lists = false; shown = NOTES }
 
 -- each move on a line of its own
 abbrev pub move_lines : List Move → List ℕ

@@ -17,6 +17,7 @@ fn queues_of(scope: Scope) -> QueuePlan
         ring: 8,
         enabled: scope.device_only,
         completion: scope.side.completion(),
+        lists: false,
         shown: NOTES,
     }
 }

@@ -17,7 +17,7 @@ use Rattle.schedule_command.specs.declared.request.ScheduleRequest.{ScheduleRequ
 
 -- the queues that the lists are drawn for, as `replay` makes them
 abbrev pub queues_of : ScheduleRequest → QueuePlan
-queues_of r = record { pairs = r.plan.pairs; ring = r.plan.ring; enabled = r.plan.enabled; completion = r.plan.completion; shown = NOTES }
+queues_of r = record { pairs = r.plan.pairs; ring = r.plan.ring; enabled = r.plan.enabled; completion = r.plan.completion; lists = false; shown = NOTES }
 
 -- each move on a line of its own
 abbrev pub move_lines : List Drawn → List ℕ

@@ -18,6 +18,7 @@ fn queues_of(request: &ScheduleRequest) -> QueuePlan
         ring: request.plan.ring,
         enabled: request.plan.enabled,
         completion: request.plan.completion,
+        lists: false,
         shown: NOTES,
     }
 }

@@ -13,5 +13,6 @@ const QUEUES: QueuePlan = QueuePlan {
     ring: 8,
     enabled: true,
     completion: Completion::Status,
+    lists: false,
     shown: NOTES,
 };

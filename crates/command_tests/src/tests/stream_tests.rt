@@ -113,6 +113,7 @@ fn want_of_memory(rt: HostRuntime) {
         ring: 8,
         enabled: true,
         completion: Completion::Status,
+        lists: false,
         shown: NOTES,
     };
     let mut input = "r0 A1 5\nt0 B2\n".as_bytes();
