@@ -12,7 +12,7 @@ returns-clause-page g c =
     IfOk-weaker c.page_for-page.result _ (λ p. IsPage c.args.config.now to c.args.sources.now (g.I.Read.remaining c.args.input.now) p.0.items)
     (λ p is. page-of c.args.config.now to c.args.sources.now (g.I.Read.remaining c.args.input.now) c.in_ok-script.script flows
     p.0.items c.in_ok-script.ensures.script c.in_ok-report.ensures.report
-    (is ∙ ap (λ (flows : _). output_bytes c.args.printing (streamed_port c.args.wires.now) c.args.config.now.pairs flows) c.as_slice.ensures.value)) c.page_for-page.ensures.page
+    (is ∙ ap (λ (flows : _). output_bytes c.args.printing (streamed_port c.args.wires.now) c.args.config.now.pairs flows) c.as_slice-flows.ensures.value)) c.page_for-page.ensures.page
 
 pub returns-clause-refused : goal.returns-clause-refused
 returns-clause-refused g c =
