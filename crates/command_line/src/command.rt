@@ -29,7 +29,7 @@ use schedule_command::ScheduleRequest;
 use std::alloc::Global;
 
 /// What is told where words are missing that `clap` doesn't miss.
-const NOT_SAID: &str = "schedules takes --seed and --moves, or --cover";
+const NOT_SAID: &str = "schedules takes --seed and --moves, --recommended, or --cover";
 
 /// What is told where pictures can't be read, or stand beside objects.
 const NOT_SHOWN: &str =
@@ -37,7 +37,15 @@ const NOT_SHOWN: &str =
 
 /// What is told where words stand beside `--cover` that say how lists are drawn.
 const NOT_DRAWN: &str =
-    "--cover draws no lists: it stands without --seed, --moves, --count, --ring, --pairs, --off and --refused";
+    "--cover draws no lists: it stands without --seed, --moves, --count, --ring, --pairs, --off, --refused and --recommended";
+
+/// What is told where words stand beside `--recommended` that say which lists are drawn.
+const NOT_CHOSEN: &str =
+    "--recommended has its own lists: it stands without --seed, --moves, --count, --refused and --cover";
+
+/// What is told where the form of what is expected stands without it.
+const NOT_EXPECTED: &str =
+    "--json and --registers say how --expect prints: they stand beside --expect";
 
 /// What the words ask for.
 #[derive(Clone, Copy)]
@@ -84,14 +92,26 @@ fn fault<'a>(program: &mut Command<'a>, matches: &ArgMatches<'a>) -> Error {
 /// What is wrong with matches that ask for nothing.
 fn fault_in<'a>(matches: &ArgMatches<'a>) -> (ErrorKind, &'static str) {
     match matches.subcommand() {
-        Some(("schedules", found)) if found.get_flag("cover") => {
-            (ErrorKind::ArgumentConflict, NOT_DRAWN)
-        }
+        Some(("schedules", found)) => schedules_fault_in(found),
         Some(("replay", found)) if found.get_flag("json") => {
             (ErrorKind::ArgumentConflict, NOT_SHOWN)
         }
         Some(("replay", _)) => (ErrorKind::InvalidValue, NOT_SHOWN),
         _ => (ErrorKind::MissingRequiredArgument, NOT_SAID),
+    }
+}
+
+/// The same of matches of `schedules`.
+fn schedules_fault_in<'a>(found: &ArgMatches<'a>) -> (ErrorKind, &'static str) {
+    let has_form = found.get_flag("json") || found.get_flag("registers");
+    if has_form && !found.get_flag("expect") {
+        (ErrorKind::ArgumentConflict, NOT_EXPECTED)
+    } else if found.get_flag("cover") {
+        (ErrorKind::ArgumentConflict, NOT_DRAWN)
+    } else if found.get_flag("recommended") {
+        (ErrorKind::ArgumentConflict, NOT_CHOSEN)
+    } else {
+        (ErrorKind::MissingRequiredArgument, NOT_SAID)
     }
 }
 

@@ -12,6 +12,7 @@ mod captures;
 mod command;
 mod covers;
 mod drawings;
+mod expects;
 mod files;
 mod lists;
 mod program;

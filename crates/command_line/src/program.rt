@@ -208,15 +208,15 @@ const COMMANDS: &[Entry] = &[
     Entry {
         name: "schedules",
         about: "Prints lists of moves drawn from a seed, the same for the same words on every machine, or lists that together meet all that a queue can do",
-        examples: "Examples:\n  poll82599 schedules --seed 1 --moves 4\n  prints r0 A1 50788\n  and t0 B1 4685 14 0 0 31\n  and t0 B1 44665 17 1 1 31\n  and t0 B7\n  and # end\n\n  poll82599 schedules --cover --device-only-real\n  prints first # r0 A4 driver On controller serving: not enabled\n  and r0 A4\n  and # end",
+        examples: "Examples:\n  poll82599 schedules --seed 1 --moves 4\n  prints r0 A1 50788\n  and t0 B1 4685 14 0 0 31\n  and t0 B1 44665 17 1 1 31\n  and t0 B7\n  and # end\n\n  poll82599 schedules --cover --device-only-real\n  prints first # r0 A4 driver On controller serving: not enabled\n  and r0 A4\n  and # end\n\nWhich lists to use:\n  The lists of --cover are short: each meets one pair of a state and a move, on a queue of 8, and they miss mistakes that only show\n  later in a long list. Of 14 real mistakes in an emulator that was written from the documentation alone, they found 5, the lists of\n  --recommended (without and with --head) 13, and drawn lists without refused moves 5. Use --recommended, and --cover beside it.",
         params: &[
             Param::Said {
                 id: "seed",
-                help: "Which lists are drawn, 0 to 4,294,967,295; has to be said without --cover",
+                help: "Which lists are drawn, 0 to 4,294,967,295; has to be said without --cover and --recommended",
             },
             Param::Said {
                 id: "moves",
-                help: "How many moves each list has, 0 to 4,294,967,295; has to be said without --cover",
+                help: "How many moves each list has, 0 to 4,294,967,295; has to be said without --cover and --recommended",
             },
             Param::Number {
                 id: "count",
@@ -236,12 +236,24 @@ const COMMANDS: &[Entry] = &[
                 help: "Prints below each list what replay prints of it",
             },
             Param::Flag {
+                id: "json",
+                help: "With --expect, prints what each move tells as a JSON object, as replay --json does",
+            },
+            Param::Flag {
+                id: "registers",
+                help: "With --expect, prints after each move the registers of its queue, as replay --registers does",
+            },
+            Param::Flag {
                 id: "device-only-real",
                 help: "Only moves that silicon and its driver make too",
             },
             Param::Flag {
                 id: "cover",
-                help: "Prints no drawn lists, but lists that together meet all that a queue of 8 can do, each below what it meets; beside it stand --head, --expect and --device-only-real alone. How far it is goes to standard error",
+                help: "Prints no drawn lists, but lists that together meet all that a queue of 8 can do, each below what it meets; beside it stand --head, --expect with its forms and --device-only-real alone. How far it is goes to standard error",
+            },
+            Param::Flag {
+                id: "recommended",
+                help: "Draws the recommended lists from a fixed seed: 4 lists of 2,000 moves, of which 10 in 100 at most don't happen. Run it once without and once with --head, for both ways to report; it stands without --seed, --moves, --count, --refused and --cover",
             },
         ],
     },

@@ -22,10 +22,18 @@ const REPLAY: &str = "echo 'r0 A1 5' | poll82599 replay --ring 16\n";
 
 const SCHEDULES: &str = "poll82599 schedules --seed 1 --moves 4\n";
 
+const RECOMMENDED: &str = "they found 5, the lists of\n  --recommended";
+
 const COVER: &str = "poll82599 schedules --cover --device-only-real";
 
 /// What is told where an option for drawn lists stands beside `--cover`.
 const NOT_DRAWN: &str = "--cover draws no lists";
+
+/// What is told where an option for other drawn lists stands beside `--recommended`.
+const NOT_CHOSEN: &str = "--recommended has its own lists";
+
+/// What is told where the form of what is expected stands without it.
+const NOT_EXPECTED: &str = "--json and --registers say how --expect prints";
 
 /// What is told where pictures can't be read, or stand beside objects.
 const NOT_SHOWN: &str = "--picture stands alone or as --picture=last";
@@ -52,6 +60,8 @@ const HELPED: &[(&[&str], &str)] = &[
     (&["help", "schedules"], SCHEDULES),
     (&["--help"], COVER),
     (&["schedules", "--help"], COVER),
+    (&["schedules", "--help"], RECOMMENDED),
+    (&["replay", "--help"], "--lists"),
 ];
 
 /// Words that are wrong, and what has to be told of them.
@@ -100,7 +110,22 @@ const WRONG: &[(&[&str], &str)] = &[
     (&["schedules", "--cover", "--pairs", "1"], NOT_DRAWN),
     (&["schedules", "--cover", "--off"], NOT_DRAWN),
     (&["schedules", "--cover", "--refused", "0"], NOT_DRAWN),
+    (&["schedules", "--cover", "--recommended"], NOT_DRAWN),
     (&["schedules", "--cover", "--cover"], "--cover"),
+    (&["schedules", "--recommended", "--seed", "1"], NOT_CHOSEN),
+    (&["schedules", "--moves", "4", "--recommended"], NOT_CHOSEN),
+    (&["schedules", "--recommended", "--count", "4"], NOT_CHOSEN),
+    (
+        &["schedules", "--recommended", "--refused", "10"],
+        NOT_CHOSEN,
+    ),
+    (&["schedules", "--recommended", "--json"], NOT_EXPECTED),
+    (&["schedules", "--cover", "--registers"], NOT_EXPECTED),
+    (
+        &["schedules", "--seed", "1", "--moves", "1", "--json"],
+        NOT_EXPECTED,
+    ),
+    (&["replay", "--lists", "--lists"], "--lists"),
 ];
 
 /// Each refusal, and its line.
