@@ -35,7 +35,7 @@ use Rattle.command_line.proofs.Endings.{capture-ends, capture-kept, cover-kept, 
 use Rattle.command_line.proofs.ForwardWords.{forward_found, forward_taken}
 use Rattle.command_line.proofs.OnceWords.{once_found, once_taken}
 use Rattle.command_line.proofs.ReplayWords.{replay_found, replay_taken}
-use Rattle.command_line.proofs.ScheduleWords.{schedules_found, schedules_taken}
+use Rattle.command_line.proofs.RecommendedWords.{lists_found, lists_taken}
 
 -- ---- clap's part
 
@@ -46,7 +46,7 @@ taken app words (replay plan) program says = replay_taken app words plan program
 taken app words (forward config printing files) program says = forward_taken app words config printing files program says
 taken app words (from_capture port queue) program says = from_taken app words port queue program says
 taken app words (to_capture port) program says = to_taken app words port program says
-taken app words (schedules request) program says = schedules_taken app words request program says
+taken app words (schedules request) program says = lists_taken app words request program says
 taken app words (cover request) program says = cover_taken app words request program says
 
 pub found : (app : App) (words : List Text) (saying : Saying) → IsProgram app → Says words saying
@@ -58,7 +58,7 @@ found app words (forward config printing files) program says =
     let all = forward_found app words config printing files program says in (all.0, all.1, (all.2, all.3))
 found app words (from_capture port queue) program says = from_found app words port queue program says
 found app words (to_capture port) program says = to_found app words port program says
-found app words (schedules request) program says = schedules_found app words request program says
+found app words (schedules request) program says = lists_found app words request program says
 found app words (cover request) program says = cover_found app words request program says
 
 -- one case for each command

@@ -21,7 +21,7 @@ use Rattle.command_line.specs.CommandLine.{HasDecode, HasForward, HasOnce, HasPr
 use Rattle.command_line.specs.CommandLine.{SaysDecode, SaysForward, SaysOnce, SaysReplay}
 use Rattle.command_line.specs.FileWords.{FileOptions}
 use Rattle.command_line.specs.Forwarding.{EndsForwarding}
-use Rattle.command_line.specs.ScheduleWords.{HasCover, HasSchedules, SaysCover, SaysSchedules}
+use Rattle.command_line.specs.ScheduleWords.{HasCover, HasLists, SaysCover, SaysLists}
 use Rattle.command_line.specs.declared.command.Asked.{Asked}
 
 pub data Saying : Type 0 where
@@ -42,7 +42,7 @@ Says words (replay plan) = SaysReplay words plan
 Says words (forward config printing files) = SaysForward words config printing files
 Says words (from_capture port queue) = SaysFromCapture words port queue
 Says words (to_capture port) = SaysToCapture words port
-Says words (schedules request) = SaysSchedules words request
+Says words (schedules request) = SaysLists words request
 Says words (cover request) = SaysCover words request
 
 -- the command's name
@@ -64,7 +64,7 @@ Holds rows (replay plan) = HasReplay rows plan
 Holds rows (forward config printing files) = HasForward rows config × HasPrinting rows printing
 Holds rows (from_capture port queue) = HasFromCapture rows port queue
 Holds rows (to_capture port) = HasToCapture rows port
-Holds rows (schedules request) = HasSchedules rows request
+Holds rows (schedules request) = HasLists rows request
 Holds rows (cover request) = HasCover rows request
 
 -- the request is this command line's, apart from files

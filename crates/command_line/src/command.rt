@@ -29,15 +29,22 @@ use schedule_command::ScheduleRequest;
 use std::alloc::Global;
 
 /// The error for missing options that `clap` does not require.
-const NOT_SAID: &str = "schedules takes --seed and --moves, or --cover";
+const NOT_SAID: &str = "schedules needs --seed and --moves, --recommended or --cover";
 
 /// The error for a malformed `--picture`, or for `--picture` together with `--json`.
 const NOT_SHOWN: &str =
-    "--picture stands alone or as --picture=last, and draws lines: it stands without --json";
+    "--picture takes no value, or each or last (--picture=last), and cannot be combined with --json";
 
 /// The error for options of drawn lists together with `--cover`.
 const NOT_DRAWN: &str =
-    "--cover draws no lists: it stands without --seed, --moves, --count, --ring, --pairs, --off and --refused";
+    "--cover cannot be combined with --seed, --moves, --count, --ring, --pairs, --off, --refused or --recommended";
+
+/// The error for options that select drawn lists together with `--recommended`.
+const NOT_CHOSEN: &str =
+    "--recommended cannot be combined with --seed, --moves, --count, --refused or --cover";
+
+/// The error for a form of the expected output without `--expect`.
+const NOT_EXPECTED: &str = "--json and --registers need --expect";
 
 /// The request of a command line.
 #[derive(Clone, Copy)]
@@ -84,14 +91,26 @@ fn fault<'a>(program: &mut Command<'a>, matches: &ArgMatches<'a>) -> Error {
 /// Returns the kind and the text of that error.
 fn fault_in<'a>(matches: &ArgMatches<'a>) -> (ErrorKind, &'static str) {
     match matches.subcommand() {
-        Some(("schedules", found)) if found.get_flag("cover") => {
-            (ErrorKind::ArgumentConflict, NOT_DRAWN)
-        }
+        Some(("schedules", found)) => schedules_fault_in(found),
         Some(("replay", found)) if found.get_flag("json") => {
             (ErrorKind::ArgumentConflict, NOT_SHOWN)
         }
         Some(("replay", _)) => (ErrorKind::InvalidValue, NOT_SHOWN),
         _ => (ErrorKind::MissingRequiredArgument, NOT_SAID),
+    }
+}
+
+/// Returns the same for matches of `schedules`.
+fn schedules_fault_in<'a>(found: &ArgMatches<'a>) -> (ErrorKind, &'static str) {
+    let has_form = found.get_flag("json") || found.get_flag("registers");
+    if has_form && !found.get_flag("expect") {
+        (ErrorKind::ArgumentConflict, NOT_EXPECTED)
+    } else if found.get_flag("cover") {
+        (ErrorKind::ArgumentConflict, NOT_DRAWN)
+    } else if found.get_flag("recommended") {
+        (ErrorKind::ArgumentConflict, NOT_CHOSEN)
+    } else {
+        (ErrorKind::MissingRequiredArgument, NOT_SAID)
     }
 }
 

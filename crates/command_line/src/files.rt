@@ -16,7 +16,7 @@ use std::alloc::{AllocError, Global};
 
 /// The error for an option's word that names no file in the required form.
 const NO_FILE: &str =
-    "a source is PORT:QUEUE=FILE, as in 0:3=x.pcap, and a wire file is PORT=FILE, as in 1=y.pcap";
+    "--capture takes PORT:QUEUE=FILE, for example 0:3=x.pcap; --wire-capture takes PORT=FILE, for example 1=y.pcap";
 
 /// The files of `forward`: captures whose frames come in, and files for the frames that leave a port.
 #[derive(Drop)]

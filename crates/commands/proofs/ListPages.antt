@@ -118,16 +118,3 @@ pages-skipped plan text pages list left rest cut p = record {
 pub pages-last : (plan : QueuePlan) (text pages : List ℕ) (rest : Option (Bor (List ℕ))) → rest ≡ None → PagesSoFar plan text pages rest → ArePages plan (lists_of (lines_of text)) pages
 pages-last plan text pages None e p = subst (ArePages plan (lists_of (lines_of text))) (append-nil pages) (p.follows [] refl)
 pages-last plan text pages (Some left) e p = let bad : ⊥ = cc e in absurd bad
-
--- ---- the text's page
-
-pub has-pages : (plan : QueuePlan) (text pages : List ℕ) → plan.lists ≡ true → AreQueues plan.pairs plan.ring → IsMoveList text → ArePages plan (lists_of (lines_of text)) pages → HasPage plan text pages
-has-pages plan text pages many queues (ms, says) are = record {
-  moves = ms;
-  replay = record { says = says; queues = queues };
-  printed = subst (λ (b : Bool). IsPrinted b plan text ms pages) (sym many) are;
-}
-
-pub lacks-memory : (plan : QueuePlan) (text : List ℕ) (e : Refusal) → ((moves : List Move) × IsReplay plan text moves) → LacksMemory e → ReplayRefused plan text e
-lacks-memory plan text e replay (inl is) = subst (ReplayRefused plan text) (sym is) replay
-lacks-memory plan text e replay (inr is) = subst (ReplayRefused plan text) (sym is) replay

@@ -2,6 +2,7 @@
 
 mod cover_tests;
 mod drawn_tests;
+mod form_tests;
 mod printed_tests;
 
 use commands::{NOTES, QueuePlan};

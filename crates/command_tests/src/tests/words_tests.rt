@@ -22,13 +22,21 @@ const REPLAY: &str = "echo 'r0 A1 5' | poll82599 replay --ring 16\n";
 
 const SCHEDULES: &str = "poll82599 schedules --seed 1 --moves 4\n";
 
+const RECOMMENDED: &str = "they found 5, the lists of\n  --recommended";
+
 const COVER: &str = "poll82599 schedules --cover --device-only-real";
 
 /// The error for an option of drawn lists together with `--cover`.
-const NOT_DRAWN: &str = "--cover draws no lists";
+const NOT_DRAWN: &str = "--cover cannot be combined with";
+
+/// The error for an option of other drawn lists together with `--recommended`.
+const NOT_CHOSEN: &str = "--recommended cannot be combined with";
+
+/// The error for the form of the expected output without that output.
+const NOT_EXPECTED: &str = "--json and --registers need --expect";
 
 /// The error for a malformed `--picture`, or for `--picture` together with `--json`.
-const NOT_SHOWN: &str = "--picture stands alone or as --picture=last";
+const NOT_SHOWN: &str = "--picture takes no value, or each or last";
 
 /// Words that ask for help, and an example that it must contain.
 const HELPED: &[(&[&str], &str)] = &[
@@ -52,6 +60,8 @@ const HELPED: &[(&[&str], &str)] = &[
     (&["help", "schedules"], SCHEDULES),
     (&["--help"], COVER),
     (&["schedules", "--help"], COVER),
+    (&["schedules", "--help"], RECOMMENDED),
+    (&["replay", "--help"], "--lists"),
 ];
 
 /// Mistaken words, and a text that the error must contain.
@@ -100,7 +110,22 @@ const WRONG: &[(&[&str], &str)] = &[
     (&["schedules", "--cover", "--pairs", "1"], NOT_DRAWN),
     (&["schedules", "--cover", "--off"], NOT_DRAWN),
     (&["schedules", "--cover", "--refused", "0"], NOT_DRAWN),
+    (&["schedules", "--cover", "--recommended"], NOT_DRAWN),
     (&["schedules", "--cover", "--cover"], "--cover"),
+    (&["schedules", "--recommended", "--seed", "1"], NOT_CHOSEN),
+    (&["schedules", "--moves", "4", "--recommended"], NOT_CHOSEN),
+    (&["schedules", "--recommended", "--count", "4"], NOT_CHOSEN),
+    (
+        &["schedules", "--recommended", "--refused", "10"],
+        NOT_CHOSEN,
+    ),
+    (&["schedules", "--recommended", "--json"], NOT_EXPECTED),
+    (&["schedules", "--cover", "--registers"], NOT_EXPECTED),
+    (
+        &["schedules", "--seed", "1", "--moves", "1", "--json"],
+        NOT_EXPECTED,
+    ),
+    (&["replay", "--lists", "--lists"], "--lists"),
 ];
 
 /// Each refusal, and its line.

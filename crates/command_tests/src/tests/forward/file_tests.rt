@@ -310,7 +310,7 @@ fn a_capture_has_standard_output_for_itself(rt: HostRuntime) {
     same(&rt, streamed.shown(), STREAMED_COUNTS);
 }
 
-const SOURCE: &str = "a source is PORT:QUEUE=FILE";
+const SOURCE: &str = "--capture takes PORT:QUEUE=FILE";
 
 const NO_SOURCES: &[(&[&str], &str)] = &[
     (&["forward", "--capture", "2:0=x.pcap"], SOURCE),

@@ -3,7 +3,7 @@
 use crate::tests::lists::QUEUES;
 use crate::tests::streams::Narrow;
 use crate::tests::wanted::{holds, same};
-use commands::replay_text;
+use commands::{NOTES, replay_text};
 use cover_command::{CoverRequest, answer};
 use ring_machine::Completion;
 use std::alloc::Global;
@@ -13,7 +13,7 @@ use std::str;
 /// Only silicon's moves, so that the searches are short.
 const REQUEST: CoverRequest = CoverRequest {
     completion: Completion::Status,
-    expect: true,
+    expect: Some(NOTES),
     device_only: true,
 };
 

@@ -3,7 +3,7 @@
 use crate::tests::lists::QUEUES;
 use crate::tests::streams::Narrow;
 use crate::tests::wanted::{holds, same};
-use commands::replay_text;
+use commands::{NOTES, replay_text};
 use ring_machine::Completion;
 use schedule_command::{ScheduleRequest, answer};
 use schedules::SchedulePlan;
@@ -24,7 +24,7 @@ const REQUEST: ScheduleRequest = ScheduleRequest {
     plan: PLAN,
     seed: 1,
     count: 2,
-    expect: false,
+    expect: None,
 };
 
 /// The output of that request.
@@ -52,7 +52,7 @@ const ONE: ScheduleRequest = ScheduleRequest {
 };
 
 const ONE_EXPECTED: ScheduleRequest = ScheduleRequest {
-    expect: true,
+    expect: Some(NOTES),
     ..ONE
 };
 
