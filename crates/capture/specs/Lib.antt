@@ -1,6 +1,9 @@
 pub mod Record
 pub mod CaptureError
 pub mod Layout
+pub mod Entries
+pub mod Choosing
+pub mod SoFar
 pub mod Reading
 pub mod Writing
 pub mod Frames

@@ -16,18 +16,23 @@
 #![tactic(auto)]
 
 mod content;
+mod entry;
 mod fields;
 mod from_capture;
+mod gathered;
 mod header;
+mod options;
 mod reading;
 mod record;
 mod to_capture;
 mod writing;
 
 pub use content::Capture;
+pub use entry::{Fault, FaultyRecord, Lengths};
 pub use from_capture::lines_at;
 pub use header::TimeUnit;
-pub use reading::read;
+pub use options::{ReadOptions, Skipped};
+pub use reading::{read, read_with};
 pub use record::CaptureRecord;
 pub use refusals::CaptureError;
 pub use to_capture::capture_of;

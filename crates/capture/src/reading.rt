@@ -1,23 +1,26 @@
 //! Reading a capture.
 
-ghost use Rattle.std.specs.Prelude.{◌≡◌, ◌<◌, ◌≤◌, ◌+◌, length, vec_len, Ok, Err, IfOk, MatchResult};
+ghost use Rattle.std.specs.Prelude.{◌≡◌, ◌≤◌, length, vec_len, IfOk};
 ghost use Rattle.limits.specs.declared.profile.TheConstants.{MOST_SCRIPT_FRAMES};
 ghost use Rattle.capture.specs.CaptureError.{Answers, AnswersAs};
-ghost use Rattle.capture.specs.Reading.{capture_in, checked_header, header_in, record_in, records_in};
+ghost use Rattle.capture.specs.Choosing.{chosen};
+ghost use Rattle.capture.specs.Entries.{entries_in};
+ghost use Rattle.capture.specs.Layout.{numbers_in};
+ghost use Rattle.capture.specs.Reading.{capture_in, capture_with, checked_header, header_in};
 
 use crate::content::Capture;
+use crate::entry::entry_of;
 use crate::fields::{half, word};
+use crate::gathered::Gathered;
 use crate::header::{Form, Order, form_of};
+use crate::options::{ReadOptions, Skipped};
 use crate::record::CaptureRecord;
-use byteorder::{BigEndian, ByteOrder, LittleEndian};
-use limits::{LEAST_FRAME, MOST_FRAME, MOST_SCRIPT_FRAMES};
+use byteorder::{BigEndian, ByteOrder};
 use refusals::CaptureError;
 use std::alloc::Global;
 
-// How many bytes a capture's header has, and how many each record has before the captured ones.
+// How many bytes a capture's header has.
 pub(crate) const HEADER: usize = 24;
-
-pub(crate) const RECORD_HEADER: usize = 16;
 
 /// What these bytes say as a capture, or its first fault: of the header, else of the first faulty
 /// record. Of the header's faults 91 comes before 92, and of a record's the lowest number (93 to 96,
@@ -31,13 +34,27 @@ pub(crate) const RECORD_HEADER: usize = 16;
 pub fn read(alloc: Global, bytes: &[u8]) -> Result<Capture<'_>, CaptureError>
     ensures { Answers result (capture_in bytes.now) }
 {
+    let (capture, _) = read_with(alloc, bytes, ReadOptions::default())?;
+    Ok(capture)
+}
+
+/// Reads a capture with options, and answers how many records were left out.
+///
+/// With `skip` a faulty record is left out, and not refused with 93 to 95; 96 stays a refusal. With
+/// `limit` reading stops after so many frames: what follows them is not looked at, and records that are
+/// left out do not count. The header is always checked. A refused record's number counts all records
+/// from 1, also those that are left out.
+pub fn read_with(
+    alloc: Global,
+    bytes: &[u8],
+    options: ReadOptions,
+) -> Result<(Capture<'_>, Skipped), CaptureError>
+    ensures { AnswersAs (λ p. (p.0, p.1)) result (capture_with options bytes.now) }
+{
     let form = header_of(bytes)?;
     let (_, rest) = bytes.split_at(HEADER);
-    let records = match form.order {
-        Order::Big => records_of::<BigEndian>(alloc, rest)?,
-        Order::Little => records_of::<LittleEndian>(alloc, rest)?,
-    };
-    Ok(Capture::new(form.unit, records))
+    let (records, skipped) = chosen_of(alloc, form.order, rest, options)?;
+    Ok((Capture::new(form.unit, records), skipped))
 }
 
 // The header that the bytes begin with.
@@ -52,79 +69,42 @@ fn header_of(bytes: &[u8]) -> Result<Form, CaptureError>
     let Some(form) = form_of(BigEndian::read_u32(bytes)) else {
         return Err(CaptureError::NotCapture);
     };
-    match form.order {
-        Order::Big => checked::<BigEndian>(form, bytes),
-        Order::Little => checked::<LittleEndian>(form, bytes),
-    }
+    checked(form, bytes)
 }
 
 // The rest of the header, where its numbers stand in this order.
 #[tactic(auto, unfolding(crate::specs::Reading::checked_header))]
-fn checked<O: ByteOrder>(form: Form, bytes: &[u8]) -> Result<Form, CaptureError>
+fn checked(form: Form, bytes: &[u8]) -> Result<Form, CaptureError>
     requires { HEADER ≤ length bytes.now }
-    ensures { result ≡ checked_header O.number_of form bytes.now }
+    ensures { result ≡ checked_header (numbers_in form.order) form bytes.now }
 {
-    if half::<O>(bytes, 4) != 2 || half::<O>(bytes, 6) != 4 {
+    let order = form.order;
+    if half(order, bytes, 4) != 2 || half(order, bytes, 6) != 4 {
         return Err(CaptureError::NotCapture);
     }
-    if word::<O>(bytes, 20) != 1 {
+    if word(order, bytes, 20) != 1 {
         return Err(CaptureError::LinkType);
     }
     Ok(form)
 }
 
-// The records after the header.
-fn records_of<O: ByteOrder>(
+// The frames of these bytes that the options choose, and what is left out.
+fn chosen_of<'a>(
     alloc: Global,
-    bytes: &[u8],
-) -> Result<Vec<CaptureRecord<'_>>, CaptureError>
-    ensures value { AnswersAs (λ v. v.items) result (records_in O.number_of MOST_SCRIPT_FRAMES 1 bytes.now) }
-    ensures most { IfOk result (λ v. vec_len v ≤ MOST_SCRIPT_FRAMES) }
+    order: Order,
+    bytes: &'a [u8],
+    options: ReadOptions,
+) -> Result<(Vec<CaptureRecord<'a>>, Skipped), CaptureError>
+    ensures value { AnswersAs (λ p. (p.0.items, p.1)) result (chosen options (entries_in order bytes.now)) }
+    ensures most { IfOk result (λ p. vec_len p.0 ≤ MOST_SCRIPT_FRAMES) }
 {
-    let mut records = Vec::new(alloc);
+    let len = bytes.len();
+    let mut gathered = Gathered::new(alloc);
     let mut rest = bytes;
-    while !rest.is_empty() {
-        let number = records.len() as u64 + 1;
-        let (found, after) = first_of::<O>(rest, number)?;
-        if records.len() == MOST_SCRIPT_FRAMES {
-            return Err(CaptureError::TooMany { number });
-        }
-        records.push(found).map_err(|_| CaptureError::Memory)?;
+    while !rest.is_empty() && options.wants_more(gathered.frames()) {
+        let (entry, after) = entry_of(order, rest);
+        gathered.add(options.skip, entry)?;
         rest = after;
     }
-    Ok(records)
-}
-
-// The record of this number, which the bytes begin with, and the bytes after it.
-#[tactic(auto, unfolding(crate::specs::Reading::record_in))]
-fn first_of<O: ByteOrder>(
-    bytes: &[u8],
-    number: u64,
-) -> Result<(CaptureRecord<'_>, &[u8]), CaptureError>
-    ensures value { MatchResult result (λ p. record_in O.number_of number bytes.now ≡ Ok (p.0, p.1.now)) (λ e. record_in O.number_of number bytes.now ≡ Err e) }
-    ensures shorter { IfOk result (λ p. length p.1.now < length bytes.now) }
-{
-    if bytes.len() < RECORD_HEADER {
-        return Err(CaptureError::CutShort { number });
-    }
-    let captured = word::<O>(bytes, 8) as usize;
-    let wire_len = word::<O>(bytes, 12);
-    let (_, rest) = bytes.split_at(RECORD_HEADER);
-    if rest.len() < captured {
-        return Err(CaptureError::CutShort { number });
-    }
-    if captured < wire_len as usize {
-        return Err(CaptureError::CapturedShort { number });
-    }
-    if captured < LEAST_FRAME || MOST_FRAME < captured {
-        return Err(CaptureError::FrameLength { number });
-    }
-    let (frame, after) = rest.split_at(captured);
-    let found = CaptureRecord::with_wire_len(
-        word::<O>(bytes, 0),
-        word::<O>(bytes, 4),
-        wire_len,
-        frame,
-    );
-    Ok((found, after))
+    Ok(gathered.into_parts())
 }

@@ -2,4 +2,5 @@
 
 mod captures;
 mod scripts;
+mod skipping;
 mod written;
