@@ -5,23 +5,21 @@ use Rattle.limits.specs.declared.profile.TheConstants.{MOST_SCRIPT_FRAMES}
 use Rattle.refusals.specs.declared.errors.CaptureError.{CaptureError}
 use Rattle.refusals.specs.declared.errors.CaptureError.TheVariants as errors
 use Rattle.capture.specs.declared.entry.Entry.{Entry}
-use Rattle.capture.specs.declared.entry.Entry.TheVariants.{Frame, Faulty}
+use Rattle.capture.specs.declared.entry.Entry.TheVariants.{Frame, Faulty, Unread}
 use Rattle.capture.specs.declared.entry.FaultyRecord.{FaultyRecord}
-use Rattle.capture.specs.declared.header.Order.{Order}
 use Rattle.capture.specs.declared.options.ReadOptions.{ReadOptions}
 use Rattle.capture.specs.declared.options.Skipped.{Skipped}
 use Rattle.capture.specs.CaptureError.{◌>>=◌, Fails}
 use Rattle.capture.specs.Choosing.{chosen, first_frames, is_below, skipped_of, within}
-use Rattle.capture.specs.Entries.{entries_from, entries_in, entry_in}
 use Rattle.capture.specs.Record.{Record}
 use Rattle.capture.specs.SoFar.{SoFar, nothing, with_entry}
-use Rattle.capture.proofs.Steps.{go, left, parts, picked, picked_faulty, picked_frame, picked_full, picked_none, picked_refused, plus, with_faulty, with_frame}
+use Rattle.capture.proofs.Steps.{go, left, parts, picked, picked_faulty, picked_frame, picked_full, picked_none, picked_refused, picked_unread, plus, with_faulty, with_frame}
 
 abbrev pub outcome : Result SoFar CaptureError → Result (List Record × Skipped) CaptureError
 outcome r = r >>= λ s. Ok (parts s)
 
 -- one step of `go`
-go_on : (skip : Bool) (limit : Option ℕ) (s : SoFar) (e : Entry) (entries : List Entry) → is_below limit (length s.records) ≡ true
+pub go_on : (skip : Bool) (limit : Option ℕ) (s : SoFar) (e : Entry) (entries : List Entry) → is_below limit (length s.records) ≡ true
     → go skip limit s (e ∷ entries) ≡ (with_entry skip s e >>= λ next. go skip limit next entries)
 unfolding go
 go_on skip limit s e entries below = rw (below, go) refl
@@ -31,7 +29,7 @@ unfolding go
 go_stop skip limit s [] enough = refl
 go_stop skip limit s (e ∷ entries) enough = rw (enough, go) refl
 
-go_none : (skip : Bool) (limit : Option ℕ) (s : SoFar) → go skip limit s [] ≡ Ok s
+pub go_none : (skip : Bool) (limit : Option ℕ) (s : SoFar) → go skip limit s [] ≡ Ok s
 unfolding go
 go_none skip limit s = refl
 
@@ -53,6 +51,12 @@ unfolding with_entry
 faulty_first true s f seen later rest = rest ∙ sym (picked_faulty s f seen)
 faulty_first false s f seen later rest = sym (picked_refused s f seen)
 
+unread_first : (skip : Bool) (s : SoFar) (e : CaptureError) (seen : List Entry) (later : SoFar → Result SoFar CaptureError)
+    → outcome (with_entry skip s (Unread e) >>= later) ≡ picked skip s (Unread e ∷ seen)
+unfolding with_entry
+unread_first true s e seen later = sym (picked_unread true s e seen)
+unread_first false s e seen later = sym (picked_unread false s e seen)
+
 -- the first frames
 first_frame : (n m : ℕ) (r : Record) (entries : List Entry) → n ≡ suc m → first_frames n (Frame r ∷ entries) ≡ Frame r ∷ first_frames m entries
 unfolding first_frames
@@ -61,6 +65,10 @@ first_frame n m r entries same = rw same refl
 first_fault : (n m : ℕ) (f : FaultyRecord) (entries : List Entry) → n ≡ suc m → first_frames n (Faulty f ∷ entries) ≡ Faulty f ∷ first_frames n entries
 unfolding first_frames
 first_fault n m f entries same = rw same refl
+
+first_unread : (n m : ℕ) (e : CaptureError) (entries : List Entry) → n ≡ suc m → first_frames n (Unread e ∷ entries) ≡ Unread e ∷ first_frames n entries
+unfolding first_frames
+first_unread n m e entries same = rw same refl
 
 first_of_none : (n : ℕ) (entries : List Entry) → n ≡ 0 → first_frames n entries ≡ []
 unfolding first_frames
@@ -105,6 +113,17 @@ limited_faulty skip limit s f entries rest true t =
     ∙ faulty_first skip s f (first_frames (limit - length s.records) entries) (λ next. go skip (Some limit) next entries) rest
     ∙ ap (picked skip s) (sym (first_fault (limit - length s.records) (limit - length s.records - 1) f entries some))
 
+limited_unread : (skip : Bool) (limit : ℕ) (s : SoFar) (e : CaptureError) (entries : List Entry) (b : Bool) → nat_lt (length s.records) limit ≡ b
+    → outcome (go skip (Some limit) s (Unread e ∷ entries)) ≡ picked skip s (first_frames (limit - length s.records) (Unread e ∷ entries))
+limited_unread skip limit s e entries false t =
+    let none : limit - length s.records ≡ 0 = omega (arith, ltb-false (length s.records) limit t) in
+    rw (go_stop skip (Some limit) s (Unread e ∷ entries) t, first_of_none (limit - length s.records) (Unread e ∷ entries) none, picked_none skip s) refl
+limited_unread skip limit s e entries true t =
+    let some : limit - length s.records ≡ suc (limit - length s.records - 1) = omega (arith, ltb-true (length s.records) limit t) in
+    ap outcome (go_on skip (Some limit) s (Unread e) entries t)
+    ∙ unread_first skip s e (first_frames (limit - length s.records) entries) (λ next. go skip (Some limit) next entries)
+    ∙ ap (picked skip s) (sym (first_unread (limit - length s.records) (limit - length s.records - 1) e entries some))
+
 gone : (skip : Bool) (limit : Option ℕ) (entries : List Entry) (s : SoFar) → length s.records ≤ MOST_SCRIPT_FRAMES
     → outcome (go skip limit s entries) ≡ picked skip s (within (left limit (length s.records)) entries)
 gone skip limit [] s most =
@@ -121,6 +140,10 @@ gone skip (Some limit) (Frame r ∷ entries) s most =
     (λ few. gone skip (Some limit) entries (with_frame s r) (omega (arith, length-append s.records (r ∷ [])))) (nat_lt (length s.records) limit) refl
 gone skip (Some limit) (Faulty f ∷ entries) s most =
     limited_faulty skip limit s f entries (gone skip (Some limit) entries (with_faulty s f) most) (nat_lt (length s.records) limit) refl
+gone skip None (Unread e ∷ entries) s most =
+    ap outcome (go_on skip None s (Unread e) entries refl)
+    ∙ unread_first skip s e entries (λ next. go skip None next entries)
+gone skip (Some limit) (Unread e ∷ entries) s most = limited_unread skip limit s e entries (nat_lt (length s.records) limit) refl
 
 left_all : (limit : Option ℕ) → left limit 0 ≡ limit
 left_all None = refl
@@ -137,68 +160,6 @@ unfolding chosen
 chosen_is options entries =
     sym (gone options.skip options.limit entries nothing (lit≤ tt)
     ∙ rw (left_all options.limit, plus_none (skipped_of (within options.limit entries))) refl)
-
--- what was read so far goes on in what is left as the whole does
-pub record Reads (options : ReadOptions) (order : Order) (total : Result SoFar CaptureError) (s : SoFar) (rest : List ℕ) : Type 0 where
-  pub steps : ℕ
-  pub enough : length rest ≤ steps
-  pub said : go options.skip options.limit s (entries_from order steps rest) ≡ total
-
-pub begins : (options : ReadOptions) (order : Order) (bytes : List ℕ)
-    → Reads options order (go options.skip options.limit nothing (entries_in order bytes)) nothing bytes
-begins options order bytes = record { steps = length bytes; enough = omega arith; said = refl }
-
-unrolled : (order : Order) (steps : ℕ) (rest : List ℕ) (e : Entry) (after : List ℕ) → 0 < length rest → length rest ≤ steps
-    → e ≡ (entry_in order rest).0 → after ≡ (entry_in order rest).1
-    → entries_from order steps rest ≡ e ∷ entries_from order (steps - 1) after
-unfolding entries_from
-unrolled order steps [] e after some enough is follows = absurd (omega arith)
-unrolled order zero (b ∷ bytes) e after some enough is follows = absurd (omega arith)
-unrolled order (suc steps) (b ∷ bytes) e after some enough is follows =
-    let same : suc steps - 1 ≡ steps = omega arith in
-    rw (same, is, follows) refl
-
--- one step of the loop
-stepped : (options : ReadOptions) (order : Order) (total : Result SoFar CaptureError) (s : SoFar) (rest : List ℕ) (e : Entry) (after : List ℕ)
-    (before : Reads options order total s rest) → 0 < length rest → is_below options.limit (length s.records) ≡ true
-    → e ≡ (entry_in order rest).0 → after ≡ (entry_in order rest).1
-    → (with_entry options.skip s e >>= λ next. go options.skip options.limit next (entries_from order (before.steps - 1) after)) ≡ total
-stepped options order total s rest e after before some below is follows =
-    sym (go_on options.skip options.limit s e (entries_from order (before.steps - 1) after) below)
-    ∙ ap (go options.skip options.limit s) (sym (unrolled order before.steps rest e after some before.enough is follows))
-    ∙ before.said
-
-pub goes_on : (options : ReadOptions) (order : Order) (total : Result SoFar CaptureError) (s next : SoFar) (rest : List ℕ) (e : Entry) (after : List ℕ)
-    → Reads options order total s rest → 0 < length rest → is_below options.limit (length s.records) ≡ true
-    → e ≡ (entry_in order rest).0 → after ≡ (entry_in order rest).1 → length after < length rest
-    → with_entry options.skip s e ≡ Ok next → Reads options order total next after
-goes_on options order total s next rest e after before some below is follows shorter good =
-    record {
-      steps = before.steps - 1;
-      enough = omega (arith, before.enough);
-      said = rw good at (stepped options order total s rest e after before some below is follows);
-    }
-
-pub stops : (options : ReadOptions) (order : Order) (total : Result SoFar CaptureError) (s : SoFar) (rest : List ℕ) (e : Entry) (after : List ℕ) (x : CaptureError)
-    → Reads options order total s rest → 0 < length rest → is_below options.limit (length s.records) ≡ true
-    → e ≡ (entry_in order rest).0 → after ≡ (entry_in order rest).1 → with_entry options.skip s e ≡ Err x → total ≡ Err x
-stops options order total s rest e after x before some below is follows bad =
-    sym (rw bad at (stepped options order total s rest e after before some below is follows))
-
-pub all_read : (options : ReadOptions) (order : Order) (total : Result SoFar CaptureError) (s : SoFar) (rest : List ℕ)
-    → Reads options order total s rest → length rest ≡ 0 → total ≡ Ok s
-unfolding entries_from
-all_read options order total s [] before none = sym before.said ∙ nothing_left before.steps
-  where
-    nothing_left : (steps : ℕ) → go options.skip options.limit s (entries_from order steps []) ≡ Ok s
-    nothing_left zero = go_none options.skip options.limit s
-    nothing_left (suc steps) = go_none options.skip options.limit s
-all_read options order total s (b ∷ bytes) before none = absurd (omega arith)
-
-pub enough_read : (options : ReadOptions) (order : Order) (total : Result SoFar CaptureError) (s : SoFar) (rest : List ℕ)
-    → Reads options order total s rest → is_below options.limit (length s.records) ≡ false → total ≡ Ok s
-enough_read options order total s rest before limit =
-    sym before.said ∙ go_stop options.skip options.limit s (entries_from order before.steps rest) limit
 
 -- a refusal is carried on
 pub carried : {X Y : Type 0} (e : CaptureError) (first : Result X CaptureError) (meant : Result Y CaptureError)

@@ -6,12 +6,14 @@ use Rattle.byteorder.specs.Endian.{little_bytes}
 use Rattle.byteorder.specs.Numbers.{little_number-reads_back}
 use Rattle.limits.specs.declared.profile.TheConstants.{MOST_SCRIPT_FRAMES}
 use Rattle.capture.specs.declared.entry.Entry.TheVariants.{Frame}
+use Rattle.capture.specs.declared.header.Format.TheVariants.{Classic}
 use Rattle.capture.specs.declared.header.Order.TheVariants.{Little}
 use Rattle.capture.specs.declared.header.TimeUnit.TheVariants.{Micros}
 use Rattle.capture.specs.Choosing.{chosen, first_refusal, frames_of, skipped_of}
-use Rattle.capture.specs.Entries.{entries_from, entry_in}
-use Rattle.capture.specs.Reading.{all_records, capture_in, capture_with, checked_header, header_in}
+use Rattle.capture.specs.Entries.{entry_in}
+use Rattle.capture.specs.Reading.{all_records, capture_in, capture_with, checked_header, classic_header_in, header_in}
 use Rattle.capture.specs.Record.{InRange, Record}
+use Rattle.capture.specs.Sources.{Source, entries_from}
 use Rattle.capture.specs.Writing.{capture_of, record_bytes}
 use Rattle.capture.proofs.Parts.{record_is}
 
@@ -30,9 +32,13 @@ record_again r rest fine =
     (little_number-reads_back 4 r.fraction (little_bytes 4 n ++ (little_bytes 4 r.wire_len ++ after)) fine.fraction)
     refl
 
+-- how they are read
+abbrev written_source : Source
+written_source = record { format = Classic; order = Little; interfaces = [] }
+
 -- all of them
 records_again : (steps : ℕ) (rs : List Record) → AllByRecursion InRange rs → length rs ≤ steps
-    → entries_from Little steps (flat_map record_bytes rs) ≡ map Frame rs
+    → entries_from written_source steps (flat_map record_bytes rs) ≡ map Frame rs
 unfolding entries_from record_bytes
 records_again zero [] fine enough = refl
 records_again (suc steps) [] fine enough = refl
@@ -67,7 +73,8 @@ chosen_again rs enough = rw (no_refusal MOST_SCRIPT_FRAMES 1 rs enough, frames_a
 
 pub read_back : (rs : List Record) → AllByRecursion InRange rs → length rs ≤ MOST_SCRIPT_FRAMES
     → capture_in (capture_of rs) ≡ Ok (record { unit = Micros; records = rs })
-unfolding capture_in capture_with header_in checked_header
+unfolding capture_in capture_with header_in classic_header_in checked_header
 read_back rs fine enough =
     let long : nat_lt (length (capture_of rs)) 24 ≡ false = le-ltb (length (capture_of rs)) 24 (omega arith) in
-    rw (long, records_again (length (flat_map record_bytes rs)) rs fine (as_many rs), chosen_again rs enough) refl
+    let some : nat_lt (length (capture_of rs)) 4 ≡ false = le-ltb (length (capture_of rs)) 4 (omega arith) in
+    rw (some, long, records_again (length (flat_map record_bytes rs)) rs fine (as_many rs), chosen_again rs enough) refl

@@ -6,7 +6,7 @@ use Rattle.limits.specs.declared.profile.TheConstants.{MOST_SCRIPT_FRAMES}
 use Rattle.refusals.specs.declared.errors.CaptureError.{CaptureError}
 use Rattle.refusals.specs.declared.errors.CaptureError.TheVariants as errors
 use Rattle.capture.specs.declared.entry.Entry.{Entry}
-use Rattle.capture.specs.declared.entry.Entry.TheVariants.{Frame, Faulty}
+use Rattle.capture.specs.declared.entry.Entry.TheVariants.{Frame, Faulty, Unread}
 use Rattle.std.specs.List.{count_by}
 use Rattle.capture.specs.declared.entry.Fault.{Fault}
 use Rattle.capture.specs.declared.entry.Lengths.{Lengths}
@@ -146,3 +146,14 @@ refused (suc room) k f seen = refl
 
 pub picked_refused : (s : SoFar) (f : FaultyRecord) (seen : List Entry) → picked false s (Faulty f ∷ seen) ≡ Err (refusal_of f.fault (s.number + 1))
 picked_refused s f seen = rw (refused (MOST_SCRIPT_FRAMES - length s.records) (s.number + 1) f seen) refl
+
+-- what cannot be read
+unread : (skip : Bool) (room k : ℕ) (e : CaptureError) (seen : List Entry) → first_refusal skip room k (Unread e ∷ seen) ≡ Some e
+unfolding first_refusal
+unread true zero k e seen = refl
+unread true (suc room) k e seen = refl
+unread false zero k e seen = refl
+unread false (suc room) k e seen = refl
+
+pub picked_unread : (skip : Bool) (s : SoFar) (e : CaptureError) (seen : List Entry) → picked skip s (Unread e ∷ seen) ≡ Err e
+picked_unread skip s e seen = rw (unread skip (MOST_SCRIPT_FRAMES - length s.records) (s.number + 1) e seen) refl

@@ -1,12 +1,12 @@
 -- The header, and what follows it.
-use Rattle.std.proofs.Common.{◌≡◌, List, ℕ, false, drop, None, Result, Ok, Err, refl, sym, ap, ◌∙◌}
+use Rattle.std.proofs.Common.{◌≡◌, List, ℕ, false, None, Result, Ok, Err, refl, sym, ap, ◌∙◌}
 use Rattle.refusals.specs.declared.errors.CaptureError.{CaptureError}
 use Rattle.capture.specs.CaptureError.{◌>>=◌, Fails}
 use Rattle.capture.specs.declared.header.Form.{Form}
 use Rattle.capture.specs.declared.options.ReadOptions.{ReadOptions}
 use Rattle.capture.specs.declared.options.Skipped.{Skipped}
 use Rattle.capture.specs.Choosing.{chosen}
-use Rattle.capture.specs.Entries.{entries_in}
+use Rattle.capture.specs.Sources.{entries_in, source_of}
 use Rattle.capture.specs.Reading.{Content, all_records, capture_in, capture_with, header_in}
 use Rattle.capture.specs.Record.{Record}
 use Rattle.capture.proofs.Chosen.{carried, refused}
@@ -21,17 +21,17 @@ unfolding capture_with
 header_faulty options bytes e bad = refused e (capture_with options bytes) (rw bad refl)
 
 -- the header is good
-pub read_on : (options : ReadOptions) (bytes rest : List ℕ) (form : Form) → header_in bytes ≡ Ok form → rest ≡ drop 24 bytes
-    → capture_with options bytes ≡ with_unit form (chosen options (entries_in form.order rest))
+pub read_on : (options : ReadOptions) (bytes rest : List ℕ) (form : Form) → header_in bytes ≡ Ok (form, rest)
+    → capture_with options bytes ≡ with_unit form (chosen options (entries_in (source_of form) rest))
 unfolding capture_with
-read_on options bytes rest form good after = rw (good, after) refl
+read_on options bytes rest form good = rw good refl
 
 -- a record is refused
-pub record_faulty : (options : ReadOptions) (bytes rest : List ℕ) (form : Form) (e : CaptureError) → header_in bytes ≡ Ok form → rest ≡ drop 24 bytes
-    → Fails e (chosen options (entries_in form.order rest)) → Fails e (capture_with options bytes)
-record_faulty options bytes rest form e good after bad =
-    carried e (chosen options (entries_in form.order rest)) (capture_with options bytes)
-    (λ same. read_on options bytes rest form good after ∙ ap (with_unit form) same) bad
+pub record_faulty : (options : ReadOptions) (bytes rest : List ℕ) (form : Form) (e : CaptureError) → header_in bytes ≡ Ok (form, rest)
+    → Fails e (chosen options (entries_in (source_of form) rest)) → Fails e (capture_with options bytes)
+record_faulty options bytes rest form e good bad =
+    carried e (chosen options (entries_in (source_of form) rest)) (capture_with options bytes)
+    (λ same. read_on options bytes rest form good ∙ ap (with_unit form) same) bad
 
 -- with no options
 as_all : (options : ReadOptions) → options.skip ≡ false → options.limit ≡ None → options ≡ all_records

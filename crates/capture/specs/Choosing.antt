@@ -5,7 +5,7 @@ use Rattle.limits.specs.declared.profile.TheConstants.{MOST_SCRIPT_FRAMES}
 use Rattle.refusals.specs.declared.errors.CaptureError.{CaptureError}
 use Rattle.refusals.specs.declared.errors.CaptureError.TheVariants.{TooMany}
 use Rattle.capture.specs.declared.entry.Entry.{Entry}
-use Rattle.capture.specs.declared.entry.Entry.TheVariants.{Frame, Faulty}
+use Rattle.capture.specs.declared.entry.Entry.TheVariants.{Frame, Faulty, Unread}
 use Rattle.capture.specs.declared.entry.Fault.TheVariants.{Truncated, Snapped, Long, Short}
 use Rattle.capture.specs.declared.options.ReadOptions.{ReadOptions}
 use Rattle.capture.specs.declared.options.Skipped.{Skipped}
@@ -18,6 +18,7 @@ first_frames n [] = []
 first_frames zero (e ∷ entries) = []
 first_frames (suc n) (Frame r ∷ entries) = Frame r ∷ first_frames n entries
 first_frames (suc n) (Faulty f ∷ entries) = Faulty f ∷ first_frames (suc n) entries
+first_frames (suc n) (Unread e ∷ entries) = Unread e ∷ first_frames (suc n) entries
 
 -- whether a limit leaves room for more frames than n
 abbrev pub is_below : Option ℕ → ℕ → Bool
@@ -37,11 +38,13 @@ first_refusal skip zero k (Frame r ∷ entries) = Some (TooMany k)
 first_refusal skip (suc room) k (Frame r ∷ entries) = first_refusal skip room (k + 1) entries
 first_refusal true room k (Faulty f ∷ entries) = first_refusal true room (k + 1) entries
 first_refusal false room k (Faulty f ∷ entries) = Some (refusal_of f.fault k)
+first_refusal skip room k (Unread e ∷ entries) = Some e
 
 -- the frames among records
 abbrev pub frame_in : Entry → Option Record
 frame_in (Frame r) = Some r
 frame_in (Faulty f) = None
+frame_in (Unread e) = None
 
 abbrev pub frames_of : List Entry → List Record
 frames_of entries = filter_map frame_in entries
@@ -49,18 +52,22 @@ frames_of entries = filter_map frame_in entries
 -- how many records have each fault
 abbrev pub is_truncated : Entry → Bool
 is_truncated (Frame r) = false
+is_truncated (Unread e) = false
 is_truncated (Faulty f) = elim f.fault [ Truncated ↦ true | _ ↦ false ]
 
 abbrev pub is_snapped : Entry → Bool
 is_snapped (Frame r) = false
+is_snapped (Unread e) = false
 is_snapped (Faulty f) = elim f.fault [ Snapped ↦ true | _ ↦ false ]
 
 abbrev pub is_long : Entry → Bool
 is_long (Frame r) = false
+is_long (Unread e) = false
 is_long (Faulty f) = elim f.fault [ Long ↦ true | _ ↦ false ]
 
 abbrev pub is_short : Entry → Bool
 is_short (Frame r) = false
+is_short (Unread e) = false
 is_short (Faulty f) = elim f.fault [ Short ↦ true | _ ↦ false ]
 
 abbrev pub skipped_of : List Entry → Skipped

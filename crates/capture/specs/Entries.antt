@@ -1,5 +1,5 @@
 -- What some bytes say as records: each is a frame, or has a fault.
-use Rattle.std.specs.Prelude.{ℕ, suc, zero, nat_lt, if◌then◌else◌, List, [], ◌∷◌, length, take, drop, Option, Some, None}
+use Rattle.std.specs.Prelude.{ℕ, nat_lt, if◌then◌else◌, List, [], length, take, drop, Option, Some, None}
 use Rattle.limits.specs.declared.profile.TheConstants.{LEAST_FRAME, MOST_FRAME}
 use Rattle.refusals.specs.declared.errors.CaptureError.{CaptureError}
 use Rattle.refusals.specs.declared.errors.CaptureError.TheVariants.{CutShort, CapturedShort, FrameLength}
@@ -37,17 +37,6 @@ entry_in order bytes =
       entry_with (fault_of lengths) lengths (record_of (seconds_in number bytes) (fraction_in number bytes) lengths.wire (take lengths.captured rest)),
       drop lengths.captured rest,
     )
-
--- all records of some bytes. Each has a byte at least, so as many steps as there are bytes are enough.
-unfoldable pub entries_from : Order → ℕ → List ℕ → List Entry
-entries_from order steps [] = []
-entries_from order zero (b ∷ bytes) = []
-entries_from order (suc steps) (b ∷ bytes) =
-    let first = entry_in order (b ∷ bytes) in
-    first.0 ∷ entries_from order steps first.1
-
-abbrev pub entries_in : Order → List ℕ → List Entry
-entries_in order bytes = entries_from order (length bytes) bytes
 
 -- the refusal of record k for a fault
 abbrev pub refusal_of : Fault → ℕ → CaptureError

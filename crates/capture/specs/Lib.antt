@@ -2,6 +2,8 @@ pub mod Record
 pub mod CaptureError
 pub mod Layout
 pub mod Entries
+pub mod Pcapng
+pub mod Sources
 pub mod Choosing
 pub mod SoFar
 pub mod Reading

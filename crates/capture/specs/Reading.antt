@@ -1,17 +1,23 @@
 -- What some bytes say as a capture.
-use Rattle.std.specs.Prelude.{ℕ, ◌==◌, nat_lt, ◌&&◌, not, false, if◌then◌else◌, List, length, drop, Option, Some, None, Result, Ok, Err}
+use Rattle.std.specs.Prelude.{ℕ, ◌==◌, nat_lt, ◌&&◌, not, Bool, false, if◌then◌else◌, List, [], length, drop, Option, Some, None, Result, Ok, Err}
 use Rattle.byteorder.specs.Endian.{big_number}
 use Rattle.refusals.specs.declared.errors.CaptureError.{CaptureError}
 use Rattle.refusals.specs.declared.errors.CaptureError.TheVariants.{NotCapture, LinkType}
 use Rattle.capture.specs.declared.header.Form.{Form}
+use Rattle.capture.specs.declared.header.Format.TheVariants.{Blocks}
+use Rattle.capture.specs.declared.header.Order.TheVariants.{Big}
 use Rattle.capture.specs.declared.header.TimeUnit.{TimeUnit}
+use Rattle.capture.specs.declared.header.TimeUnit.TheVariants.{Nanos}
 use Rattle.capture.specs.declared.options.ReadOptions.{ReadOptions}
 use Rattle.capture.specs.declared.options.Skipped.{Skipped}
+use Rattle.capture.specs.declared.piece.Piece.{Piece}
+use Rattle.capture.specs.declared.piece.Piece.TheVariants.{Packet, Section, Described, Other}
 use Rattle.capture.specs.CaptureError.{◌>>=◌}
 use Rattle.capture.specs.Choosing.{chosen}
-use Rattle.capture.specs.Entries.{entries_in}
 use Rattle.capture.specs.Layout.{Numbers, form_of, link_type_in, major_in, minor_in, numbers_in}
+use Rattle.capture.specs.Pcapng.{block_in, is_section}
 use Rattle.capture.specs.Record.{Record}
+use Rattle.capture.specs.Sources.{entries_in, source_of}
 
 -- what a capture has: the unit of its fractions of seconds, and its records
 pub record Content : Type 0 where
@@ -30,16 +36,37 @@ abbrev pub header_with : Option Form → List ℕ → Result Form CaptureError
 header_with None bytes = Err NotCapture
 header_with (Some form) bytes = checked_header (numbers_in form.order) form bytes
 
--- the header that bytes begin with
-unfoldable pub header_in : List ℕ → Result Form CaptureError
-header_in bytes = if nat_lt (length bytes) 24 then Err NotCapture else header_with (form_of (big_number 4 bytes)) bytes
+-- the header of classic pcap that bytes begin with
+unfoldable pub classic_header_in : List ℕ → Result Form CaptureError
+classic_header_in bytes = if nat_lt (length bytes) 24 then Err NotCapture else header_with (form_of (big_number 4 bytes)) bytes
+
+-- a file of pcapng begins with a section header, which tells the order; its times are read as nanoseconds
+abbrev pub is_blocks : List ℕ → Bool
+is_blocks bytes = not (nat_lt (length bytes) 4) && is_section bytes
+
+abbrev pub form_with : Piece → List ℕ → Result (Form × List ℕ) CaptureError
+form_with (Section order) rest = Ok (record { format = Blocks; order = order; unit = Nanos }, rest)
+form_with (Packet entry) rest = Err NotCapture
+form_with (Described interface) rest = Err NotCapture
+form_with Other rest = Err NotCapture
+
+unfoldable pub blocks_header_in : List ℕ → Result (Form × List ℕ) CaptureError
+blocks_header_in bytes = let p = block_in Big [] bytes in form_with p.0 p.1
+
+-- what the first bytes tell, and the bytes where the records or blocks begin
+unfoldable pub header_in : List ℕ → Result (Form × List ℕ) CaptureError
+header_in bytes =
+    if is_blocks bytes then blocks_header_in bytes
+    else do
+      form ← classic_header_in bytes
+      Ok (form, drop 24 bytes)
 
 -- what is read of a capture's bytes with these options, and how many records are left out; or their first fault
 unfoldable pub capture_with : ReadOptions → List ℕ → Result (Content × Skipped) CaptureError
 capture_with options bytes = do
-  form ← header_in bytes
-  found ← chosen options (entries_in form.order (drop 24 bytes))
-  Ok (record { unit = form.unit; records = found.0 }, found.1)
+  header ← header_in bytes
+  found ← chosen options (entries_in (source_of header.0) header.1)
+  Ok (record { unit = header.0.unit; records = found.0 }, found.1)
 
 -- with these options all records are read, and a fault is refused
 abbrev pub all_records : ReadOptions

@@ -4,10 +4,12 @@ use Rattle.limits.specs.declared.profile.TheConstants.{MOST_SCRIPT_FRAMES}
 use Rattle.refusals.specs.declared.errors.CaptureError.{CaptureError}
 use Rattle.refusals.specs.declared.errors.CaptureError.TheVariants.{TooMany}
 use Rattle.capture.specs.declared.entry.Entry.{Entry}
-use Rattle.capture.specs.declared.entry.Entry.TheVariants.{Frame, Faulty}
+use Rattle.capture.specs.declared.entry.Entry.TheVariants.{Frame, Faulty, Unread}
 use Rattle.capture.specs.declared.entry.Fault.{Fault}
 use Rattle.capture.specs.declared.entry.Fault.TheVariants.{Truncated, Snapped, Long, Short}
 use Rattle.capture.specs.declared.options.Skipped.{Skipped}
+use Rattle.capture.specs.declared.piece.Piece.{Piece}
+use Rattle.capture.specs.declared.piece.Piece.TheVariants.{Packet, Section, Described, Other}
 use Rattle.capture.specs.Entries.{refusal_of}
 use Rattle.capture.specs.Record.{Record}
 
@@ -38,4 +40,12 @@ with_entry skip s (Frame r) =
     if length s.records == MOST_SCRIPT_FRAMES then Err (TooMany (s.number + 1))
     else Ok (record { records = s.records ++ r ∷ []; skipped = s.skipped; number = s.number + 1 })
 with_entry true s (Faulty f) = Ok (record { records = s.records; skipped = with_fault s.skipped f.fault; number = s.number + 1 })
+with_entry skip s (Unread e) = Err e
 with_entry false s (Faulty f) = Err (refusal_of f.fault (s.number + 1))
+
+-- one piece more, which may be a packet
+abbrev pub with_piece : Bool → SoFar → Piece → Result SoFar CaptureError
+with_piece skip s (Packet entry) = with_entry skip s entry
+with_piece skip s (Section order) = Ok s
+with_piece skip s (Described interface) = Ok s
+with_piece skip s Other = Ok s

@@ -48,6 +48,8 @@ pub struct FaultyRecord {
 pub enum Entry<'a> {
     Frame(CaptureRecord<'a>),
     Faulty(FaultyRecord),
+    /// It cannot be read, nor what follows it.
+    Unread(CaptureError),
 }
 
 impl Fault {
@@ -64,7 +66,7 @@ impl Fault {
 }
 
 // What is wrong with a record of these lengths whose bytes are there.
-fn fault_of(lengths: Lengths) -> Option<Fault>
+pub fn fault_of(lengths: Lengths) -> Option<Fault>
     ensures { result ≡ fault_of lengths }
 {
     let captured = lengths.captured as usize;

@@ -69,6 +69,7 @@ impl<'a> Gathered<'a> {
                 }
                 self.skipped = self.skipped.with(faulty.fault);
             }
+            Entry::Unread(refused) => return Err(refused),
         }
         self.number = number;
         Ok(())

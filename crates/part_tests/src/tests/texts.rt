@@ -1,5 +1,6 @@
 //! Scripts of frames, and captures.
 
+mod blocks;
 mod captures;
 mod scripts;
 mod skipping;
