@@ -5,3 +5,4 @@ pub mod Whole
 pub mod Tsresol
 pub mod Parts
 pub mod RoundTrip
+pub mod Seeking

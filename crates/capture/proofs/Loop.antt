@@ -22,7 +22,7 @@ pub begins : (options : ReadOptions) (source : Source) (bytes : List ℕ)
     → Reads options (go options.skip options.limit nothing (entries_in source bytes)) source nothing bytes
 begins options source bytes = record { steps = length bytes; enough = omega arith; said = refl }
 
-unrolled : (source : Source) (steps : ℕ) (rest : List ℕ) (p : Piece) (after : List ℕ) → 0 < length rest → length rest ≤ steps
+pub unrolled : (source : Source) (steps : ℕ) (rest : List ℕ) (p : Piece) (after : List ℕ) → 0 < length rest → length rest ≤ steps
     → p ≡ (piece_in source rest).0 → after ≡ (piece_in source rest).1
     → entries_from source steps rest ≡ packets_of p ++ entries_from (source_after source p) (steps - 1) after
 unfolding entries_from

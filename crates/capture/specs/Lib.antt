@@ -10,3 +10,4 @@ pub mod Reading
 pub mod Writing
 pub mod Frames
 pub mod Records
+pub mod Telling

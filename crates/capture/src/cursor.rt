@@ -2,7 +2,7 @@
 
 ghost use Rattle.std.specs.Prelude.{◌≡◌, ◌<◌, ◌++◌, ◌∷◌, [], length, IfErr, OnOk};
 ghost use Rattle.refusals.specs.declared.errors.CaptureError.TheVariants.{Memory};
-ghost use Rattle.capture.specs.Sources.{Source, piece_in};
+ghost use Rattle.capture.specs.Sources.{Source, piece_in, source_after};
 
 use crate::blocks::block_of;
 use crate::entry::entry_of;
@@ -68,5 +68,20 @@ impl Cursor {
         self.interfaces
             .push(interface)
             .map_err(|_| CaptureError::Memory)
+    }
+
+    /// Goes on behind a piece.
+    pub fn turn(&mut self, piece: &Piece<'_>) -> Result<(), CaptureError>
+        ensures turned { OnOk result (self.new ≡ source_after self.old piece.now) }
+        ensures err { IfErr result (λ e. e ≡ Memory) }
+    {
+        match piece {
+            Piece::Packet(_) | Piece::Other => Ok(()),
+            Piece::Section(order) => {
+                self.begin(*order);
+                Ok(())
+            }
+            Piece::Described(interface) => self.push(*interface),
+        }
     }
 }

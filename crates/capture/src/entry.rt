@@ -53,6 +53,8 @@ pub enum Entry<'a> {
 }
 
 impl Fault {
+    ghost use Rattle.capture.specs.Telling.{limit_of};
+
     /// The refusal of a record of this number that has this fault.
     pub fn refusal(self, number: u64) -> CaptureError
         ensures { result ≡ refusal_of self number }
@@ -61,6 +63,18 @@ impl Fault {
             Fault::Truncated => CaptureError::CutShort { number },
             Fault::Snapped => CaptureError::CapturedShort { number },
             Fault::Long | Fault::Short => CaptureError::FrameLength { number },
+        }
+    }
+
+    /// The limit of a frame's length that is broken: [`MOST_FRAME`](limits::MOST_FRAME) or
+    /// [`LEAST_FRAME`](limits::LEAST_FRAME). A truncated or snapped record breaks none.
+    pub fn limit(self) -> Option<usize>
+        ensures { result ≡ limit_of self }
+    {
+        match self {
+            Fault::Truncated | Fault::Snapped => None,
+            Fault::Long => Some(MOST_FRAME),
+            Fault::Short => Some(LEAST_FRAME),
         }
     }
 }

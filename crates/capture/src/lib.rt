@@ -22,6 +22,7 @@
 mod blocks;
 mod content;
 mod cursor;
+mod details;
 mod entry;
 mod fields;
 mod from_capture;
@@ -31,10 +32,12 @@ mod options;
 mod piece;
 mod reading;
 mod record;
+mod telling;
 mod to_capture;
 mod writing;
 
 pub use content::Capture;
+pub use details::fault_details;
 pub use entry::{Fault, FaultyRecord, Lengths};
 pub use from_capture::lines_at;
 pub use header::TimeUnit;
@@ -42,5 +45,6 @@ pub use options::{ReadOptions, Skipped};
 pub use reading::{read, read_with};
 pub use record::CaptureRecord;
 pub use refusals::CaptureError;
+pub use telling::{is_gzip, link_type_name, link_type_of};
 pub use to_capture::capture_of;
 pub use writing::{write, write_header, write_record};

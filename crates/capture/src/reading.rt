@@ -69,7 +69,7 @@ pub fn read_with(
 
 // What the first bytes tell, and the bytes where the records or blocks begin.
 #[tactic(auto, unfolding(crate::specs::Reading::header_in))]
-fn header_of(bytes: &[u8]) -> Result<(Form, &[u8]), CaptureError>
+pub(crate) fn header_of(bytes: &[u8]) -> Result<(Form, &[u8]), CaptureError>
     ensures { MatchResult result (λ p. header_in bytes.now ≡ Ok (p.0, p.1.now)) (λ e. header_in bytes.now ≡ Err e) }
 {
     if 4 <= bytes.len() && begins_section(bytes) {

@@ -4,4 +4,5 @@ mod blocks;
 mod captures;
 mod scripts;
 mod skipping;
+mod telling;
 mod written;
