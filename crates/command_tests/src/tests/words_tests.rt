@@ -22,7 +22,7 @@ const REPLAY: &str = "echo 'r0 A1 5' | poll82599 replay --ring 16\n";
 
 const SCHEDULES: &str = "poll82599 schedules --seed 1 --moves 4\n";
 
-const RECOMMENDED: &str = "they found 5, the lists of\n  --recommended";
+const RECOMMENDED: &str = "they found 5; the\n  recommended lists (--recommended,";
 
 const COVER: &str = "poll82599 schedules --cover --device-only-real";
 
